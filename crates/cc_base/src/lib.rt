@@ -1,0 +1,28 @@
+//! What every layer of the caption suite stands on: sources and sinks of bytes with counts of their faults, the reasons
+//! of refusals and their places, the limits, and the frame rates of caption distribution packets.
+#![tactic(auto)]
+
+pub use crate::adapters::{ReaderSource, WriterSink};
+pub use crate::limit_of::LimitOf;
+pub use crate::memory_sink::MemorySink;
+pub use crate::memory_source::{MemorySource, SteadySource};
+pub use crate::pieces::put_pieces;
+pub use crate::rate::Rate;
+pub use crate::refusal::Refusal;
+pub use crate::streams::{Put, Sink, Source, Took};
+pub use crate::whole::{ReadError, read_whole};
+pub use crate::why::Why;
+
+mod adapters;
+mod copies;
+mod limit_of;
+mod memory_sink;
+mod memory_source;
+mod pieces;
+mod rate;
+mod refusal;
+mod streams;
+#[cfg(test)]
+mod tests;
+mod whole;
+mod why;

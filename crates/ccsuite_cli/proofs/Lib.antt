@@ -1,0 +1,4 @@
+mod GatheredLines
+mod Refusals
+mod ListLimits
+mod PrintedLines

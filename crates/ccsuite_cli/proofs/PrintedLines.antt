@@ -1,0 +1,42 @@
+-- What the lines of a plan's frames are, where its list is accepted.
+use Rattle.std.proofs.Common.{◌≡◌, ◌++◌, ℕ, List, Option, Some, None}
+use Rattle.std.specs.Prelude.{IfSome}
+use Rattle.cc_base.specs.Streams.{Puts}
+use Rattle.cc_base.specs.declared.streams.Put.TheVariants as put
+use Rattle.frame_scheduler.specs.Columns.{Columns}
+use Rattle.frame_scheduler.specs.Frames.{GivesFrom, frames_left}
+use Rattle.frame_scheduler.specs.Planned.{columns_of}
+use Rattle.frame_scheduler.specs.declared.frames.Plan.{Plan}
+use Rattle.frame_scheduler.proofs.ListDoublingLemmas.{columns_doubled}
+use Rattle.ccsuite_cli.specs.Answer.{PutsPairs, PutsPairsFront}
+use Rattle.ccsuite_cli.specs.Lines.{pair_lines}
+use Rattle.ccsuite_cli.specs.Reads.{IsPlanOf}
+
+-- the lines of a plan were put: they are those of its list
+pub lines_put : (left old new : Option (List ℕ)) (plan : Plan) → IfSome left (λ bytes. IsPlanOf bytes plan)
+    → ((columns : Columns) → GivesFrom columns 0 plan → Puts old new put.Done (pair_lines columns 0 (frames_left plan)))
+    → IfSome left (λ bytes. PutsPairs bytes old new)
+lines_put None old new plan is puts = tt
+lines_put (Some bytes) old new plan is puts =
+    let accepted = is.accepted in
+    let doubled = columns_doubled is.list is.placed accepted.formed accepted.ruled accepted.placement in
+    record {
+      list = is.list;
+      placed = is.placed;
+      accepted = accepted;
+      lines = rw is.frames at (puts (columns_of is.list is.placed) is.gives);
+      doubled_one = doubled.0;
+      doubled_two = doubled.1;
+    }
+
+-- a put of the lines failed: a front of those of its list was put
+pub front_put : (left old new : Option (List ℕ)) (plan : Plan) → IfSome left (λ bytes. IsPlanOf bytes plan)
+    → ((columns : Columns) → GivesFrom columns 0 plan → Puts old new put.Failed (pair_lines columns 0 (frames_left plan)))
+    → IfSome left (λ bytes. PutsPairsFront bytes old new)
+front_put None old new plan is puts = tt
+front_put (Some bytes) old new plan is puts = record {
+  list = is.list;
+  placed = is.placed;
+  accepted = is.accepted;
+  lines = rw is.frames at (puts (columns_of is.list is.placed) is.gives);
+}

@@ -1,0 +1,16 @@
+-- A text that is gathered before it is put: what is held, and what adding a piece does.
+use Rattle.std.specs.Prelude.{◌≡◌, ◌++◌, ℕ, List, Option}
+use Rattle.std.specs.Io.KnownBytes.{Appends}
+use Rattle.cc_base.specs.Streams.{Puts}
+use Rattle.cc_base.specs.declared.streams.Put.{Put}
+use Rattle.cc_base.specs.declared.streams.Put.TheVariants as put
+use Rattle.ccsuite_cli.specs.declared.gathered.Gathered.{Gathered}
+
+-- the bytes that are held
+abbrev pub held_of : Gathered → List ℕ
+held_of g = g.held.items
+
+-- a piece was added: a front of what was held and of the piece is put, and the rest is held
+abbrev pub Gathers : Option (List ℕ) → Option (List ℕ) → List ℕ → List ℕ → Put → List ℕ → Type 0
+Gathers old new before after put.Done piece = (sent : List ℕ) × Appends old new sent × (before ++ piece ≡ sent ++ after)
+Gathers old new before after put.Failed piece = Puts old new put.Failed before

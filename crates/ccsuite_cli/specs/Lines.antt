@@ -1,0 +1,22 @@
+-- The lines of `pairs`: one a frame, with the pairs of field 1 and of field 2.
+use Rattle.std.specs.Prelude.{ℕ, zero, suc, ◌/◌, ◌%◌, List, [], ◌∷◌, ◌++◌, codes, slice_index}
+use Rattle.line21_codes.specs.declared.pairs.Pair.{Pair}
+use Rattle.frame_scheduler.specs.Columns.{Columns}
+
+-- the upper-case hex digit of a number below 16
+abbrev pub hex_digit : ℕ → ℕ
+hex_digit n = slice_index (codes "0123456789ABCDEF") n
+
+-- two bytes as four upper-case hex digits
+abbrev pub pair_text : Pair → List ℕ
+pair_text pair =
+    hex_digit (pair.a / 16) ∷ hex_digit (pair.a % 16) ∷ hex_digit (pair.b / 16) ∷ hex_digit (pair.b % 16) ∷ []
+
+-- the line of a frame: `AAAA BBBB` and a line feed
+abbrev pub pair_line : Pair → Pair → List ℕ
+pair_line one two = pair_text one ++ codes " " ++ pair_text two ++ codes "\n"
+
+-- the lines of so many frames, from a frame on
+abbrev pub pair_lines : Columns → ℕ → ℕ → List ℕ
+pair_lines columns frame zero = []
+pair_lines columns frame (suc n) = pair_line (columns.one frame) (columns.two frame) ++ pair_lines columns (suc frame) n

@@ -1,0 +1,58 @@
+ghost use Rattle.std.specs.Prelude.{◌≡◌, ◌≤◌, length};
+ghost use Rattle.ccsuite_cli.specs.Accepted.{list_limit};
+ghost use Rattle.ccsuite_cli.specs.Reads.{Judges, ReadsPlan, form_status};
+
+use crate::status::{Place, Status};
+use cc_base::{LimitOf, ReadError, Source, read_whole};
+use cue_lists::{CueFault, check, parse};
+use frame_scheduler::{Plan, PlanFault, plan};
+use std::alloc::Global;
+
+/// The most bytes of a cue list.
+const LIST_LIMIT: usize = 67_108_864;
+
+/// Reads a cue list to its end and judges it: its bytes' number, its form and limits, its rules, its room. Gives the plan
+/// of its frames, or the status with which it is refused.
+pub fn read_plan<M: Source>(alloc: Global, input: &mut M) -> Result<Plan, Status>
+    ensures { ReadsPlan (M.left input.old) (M.left input.new) (M.faults input.old) (M.faults input.new) result }
+{
+    match read_whole(alloc, input, LIST_LIMIT) {
+        Ok(bytes) => judge(alloc, &bytes),
+        Err(ReadError::Memory) => Err(Status::Memory),
+        Err(ReadError::Fault) => Err(Status::ReadFault),
+        Err(ReadError::Limit) => Err(Status::Limit(LimitOf::Bytes)),
+    }
+}
+
+/// Judges the bytes of a cue list.
+fn judge(alloc: Global, bytes: &[u8]) -> Result<Plan, Status>
+    requires { length bytes.now ≤ list_limit }
+    ensures { Judges bytes.now result }
+{
+    let list = match parse(alloc, bytes) {
+        Ok(list) => list,
+        Err(fault) => return Err(status_of_form(fault)),
+    };
+    if let Err(fault) = check(&list) {
+        return Err(Status::Rule(fault));
+    }
+    match plan(alloc, &list) {
+        Ok(plan) => Ok(plan),
+        Err(PlanFault::Memory(_)) => Err(Status::Memory),
+        Err(PlanFault::NoRoom(cue)) => Err(Status::NoRoom(cue)),
+    }
+}
+
+/// The status of a list whose form is at fault.
+fn status_of_form(fault: CueFault) -> Status
+    ensures { result ≡ form_status fault }
+{
+    match fault {
+        CueFault::Memory(_) => Status::Memory,
+        CueFault::Limit(which) => Status::Limit(which),
+        CueFault::Malformed { rec, field, why } => Status::Malformed(
+            Place::Field { rec, field },
+            why,
+        ),
+    }
+}

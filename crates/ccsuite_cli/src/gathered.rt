@@ -1,0 +1,55 @@
+ghost use Rattle.std.specs.Prelude.{◌≡◌, ◌≤◌, [], length};
+ghost use Rattle.cc_base.specs.Streams.{PutCause, Puts};
+
+use arrayvec::ArrayVec;
+use cc_base::{Put, Sink};
+
+/// Bytes that are gathered before one put.
+pub const ROOM: usize = 32768;
+
+/// A text on its way to a sink, gathered so that a run's cost isn't its number of puts.
+#[derive(Drop)]
+pub struct Gathered {
+    held: ArrayVec<u8, ROOM>,
+}
+
+impl Gathered {
+    ghost use Rattle.ccsuite_cli.specs.Gathered.{Gathers, held_of};
+
+    /// A text of which nothing is held.
+    pub fn new() -> Gathered
+        ensures { held_of result ≡ [] }
+    {
+        Gathered {
+            held: ArrayVec::new(),
+        }
+    }
+
+    /// Adds a piece of at most `ROOM` bytes. What was held is put first where the piece doesn't fit behind it.
+    pub fn add<O: Sink>(&mut self, piece: &[u8], out: &mut O) -> Put
+        requires { length piece.now ≤ ROOM }
+        ensures bytes { Gathers (O.written out.old) (O.written out.new) (held_of self.old) (held_of self.new) result piece.now }
+        ensures cause { PutCause (O.faults out.old) (O.faults out.new) result }
+    {
+        if self.held.try_extend_from_slice(piece).is_ok() {
+            return Put::Done;
+        }
+        match out.put(self.held.as_slice()) {
+            Put::Done => {}
+            Put::Failed => return Put::Failed,
+        }
+        self.held.clear();
+        if self.held.try_extend_from_slice(piece).is_err() {
+            unreachable!();
+        }
+        Put::Done
+    }
+
+    /// Puts what is held.
+    pub fn finish<O: Sink>(self, out: &mut O) -> Put
+        ensures bytes { Puts (O.written out.old) (O.written out.new) result (held_of self) }
+        ensures cause { PutCause (O.faults out.old) (O.faults out.new) result }
+    {
+        out.put(self.held.as_slice())
+    }
+}

@@ -1,0 +1,13 @@
+//! The program `ccsuite`: its command lines, what each command reads and writes, and the status with which it ends.
+#![tactic(auto)]
+
+pub use crate::program::run;
+pub use crate::status::{Place, Status};
+
+mod accept;
+mod command;
+mod gathered;
+mod lines;
+mod pairs;
+mod program;
+mod status;

@@ -1,0 +1,53 @@
+ghost use Rattle.std.specs.Prelude.{◌≡◌, ◌⊎◌, map, string_bytes};
+ghost use Rattle.std.specs.Io.KnownBytes.{Appends};
+ghost use Rattle.cc_base.specs.Streams.{Rose};
+ghost use Rattle.ccsuite_cli.specs.Answer.{Answer};
+ghost use Rattle.ccsuite_cli.specs.Command.{command_of};
+ghost use Rattle.ccsuite_cli.specs.Ends.{ends};
+ghost use Rattle.ccsuite_cli.specs.StatusLine.{status_line};
+
+use crate::command::{Command, read_words};
+use crate::pairs::pairs;
+use crate::status::{Status, put_status};
+use cc_base::{Sink, Source};
+use std::alloc::Global;
+
+/// Runs the command of the words behind the program's name: reads `input`, puts to `out`, and ends with a status, whose
+/// one line is put to `err`. `side` is the file that a command names, and none does yet.
+pub fn run<M: Source, S: Source, O: Sink, E: Sink>(
+    alloc: Global,
+    words: &[String],
+    input: &mut M,
+    side: &mut S,
+    out: &mut O,
+    err: &mut E,
+) -> Status
+    ensures answer { Answer (command_of (map string_bytes words.now))
+        (ends (M.left input.old) (M.faults input.old) (O.written out.old) (O.faults out.old))
+        (ends (M.left input.new) (M.faults input.new) (O.written out.new) (O.faults out.new)) result }
+    ensures side { side.new ≡ side.old }
+    // Where the count of `err` didn't rise, it has the status's line.
+    ensures line { Rose (E.faults err.old) (E.faults err.new) ⊎ Appends (E.written err.old) (E.written err.new) (status_line result) }
+{
+    let _ = side;
+    let status = obey(alloc, read_words(words), input, out);
+    let _ = put_status(status, err);
+    status
+}
+
+/// Runs a command; words that are none are Usage.
+fn obey<M: Source, O: Sink>(
+    alloc: Global,
+    command: Option<Command>,
+    input: &mut M,
+    out: &mut O,
+) -> Status
+    ensures { Answer command
+        (ends (M.left input.old) (M.faults input.old) (O.written out.old) (O.faults out.old))
+        (ends (M.left input.new) (M.faults input.new) (O.written out.new) (O.faults out.new)) result }
+{
+    match command {
+        None => Status::Usage,
+        Some(Command::Pairs) => pairs(alloc, input, out),
+    }
+}

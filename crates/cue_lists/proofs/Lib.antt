@@ -1,0 +1,14 @@
+pub mod Faults
+pub mod FieldFacts
+pub mod NumberFacts
+pub mod Passing
+pub mod RecordFacts
+pub mod Rows
+pub mod RuleCells
+pub mod RuleJudging
+pub mod RuleKept
+pub mod RuleLists
+pub mod RuleNearest
+pub mod Steps
+pub mod TextFacts
+pub mod WordFacts

@@ -1,0 +1,141 @@
+-- Records that were read: what they have, and that they are the records that spell it.
+use Rattle.std.proofs.Common.{◌≡◌, ℕ, suc, ◌+◌, ◌<◌, ◌≤◌, ◌==◌, ◌^◌, ◌&&◌, Bool, true, false, nat_le, nat_lt, List, [], ◌∷◌, length, codes, bytes_eq, chars, encode_utf8_all, Option, Some, None, Result, Ok, Err, refl, sym, ap, ◌∙◌, arith, eqb-true, leb-true}
+use Rattle.line21_codes.specs.declared.channels.Chan.{Chan}
+use Rattle.cue_lists.specs.Line21Cues.{IsAuthored, IsLine21Run}
+use Rattle.cue_lists.specs.Listing.{IsListRate}
+use Rattle.cue_lists.specs.Fields.{channel_of, frame_of, number_of, number_within, pen_of, rate_of}
+use Rattle.cue_lists.specs.Reading.{head_of, run_of, shown_of, suits_row, text_of}
+use Rattle.cue_lists.specs.Records.{Field, Record, field}
+use Rattle.cue_lists.specs.Spelling.{channel_word, pen_word, rate_word}
+use Rattle.cue_lists.specs.Unbuilt.{is_built_channel, is_built_pen, is_built_run}
+use Rattle.cue_lists.specs.declared.cue.Cue.{Cue}
+use Rattle.cue_lists.specs.declared.cue.Pen.TheVariants as pen
+use Rattle.cue_lists.specs.declared.cue.Run.{Run}
+use Rattle.cue_lists.specs.declared.head.Head.{Head}
+use Rattle.cue_lists.specs.declared.records.Shown.{Shown}
+use Rattle.cue_lists.proofs.NumberFacts.{frame_passed, number_passed, within_passed}
+use Rattle.cue_lists.proofs.Passing.{passed, with_part, with_value}
+use Rattle.cue_lists.proofs.TextFacts.{text_passed}
+use Rattle.cue_lists.proofs.WordFacts.{channel_passed, is_word, pen_passed, rate_passed}
+use Rattle.std.specs.Prelude.{decimal}
+
+-- a record by its fields
+pub four_fields : (r : Record) → (length r == 4) ≡ true → r ≡ field r 0 ∷ field r 1 ∷ field r 2 ∷ field r 3 ∷ []
+four_fields (a ∷ b ∷ c ∷ d ∷ []) e = refl
+four_fields [] e = cc
+four_fields (a ∷ []) e = cc
+four_fields (a ∷ b ∷ []) e = cc
+four_fields (a ∷ b ∷ c ∷ []) e = cc
+four_fields (a ∷ b ∷ c ∷ d ∷ f ∷ fs) e = let q = eqb-true (length (a ∷ b ∷ c ∷ d ∷ f ∷ fs)) 4 e in absurd (omega arith)
+
+pub five_fields : (r : Record) → (length r == 5) ≡ true → r ≡ field r 0 ∷ field r 1 ∷ field r 2 ∷ field r 3 ∷ field r 4 ∷ []
+five_fields (a ∷ b ∷ c ∷ d ∷ f ∷ []) e = refl
+five_fields [] e = cc
+five_fields (a ∷ []) e = cc
+five_fields (a ∷ b ∷ []) e = cc
+five_fields (a ∷ b ∷ c ∷ []) e = cc
+five_fields (a ∷ b ∷ c ∷ d ∷ []) e = cc
+five_fields (a ∷ b ∷ c ∷ d ∷ f ∷ g ∷ fs) e = let q = eqb-true (length (a ∷ b ∷ c ∷ d ∷ f ∷ g ∷ fs)) 5 e in absurd (omega arith)
+
+-- what a head has
+pub record HeadPassed (r : Record) (head : Head) : Type 0 where
+  pub rate : IsListRate head.rate
+  pub some : 1 ≤ head.frames
+  pub frames : head.frames ≤ 1000000
+  pub fields : (word : Field) → field r 0 ≡ word → r ≡ word ∷ codes "1" ∷ rate_word head.rate ∷ decimal head.frames ∷ []
+
+pub head_passed : (r : Record) (head : Head) → head_of r ≡ Ok head → HeadPassed r head
+head_passed r head e =
+    let count = passed (length r == 4) (λ failed. let q = rw failed at e in cc) in
+    let e1 = rw count at e in
+    let one = passed (bytes_eq (field r 1) (codes "1")) (λ failed. let q = rw failed at e1 in cc) in
+    let e2 = rw one at e1 in
+    with_value _ (rate_of (field r 2)) (λ failed. let q = rw failed at e2 in cc) (λ rate is_rate.
+    let e3 = rw is_rate at e2 in
+    with_value _ (number_of (field r 3)) (λ failed. let q = rw failed at e3 in cc) (λ frames is_frames.
+    let e4 = rw is_frames at e3 in
+    let low = passed (nat_le 1 frames) (λ failed. let q = rw failed at e4 in cc) in
+    let e5 = rw low at e4 in
+    let high = passed (nat_le frames 1000000) (λ failed. let q = rw failed at e5 in cc) in
+    let e6 = rw high at e5 in
+    let same : record { rate = rate; frames = frames } ≡ head = cc in
+    let rated = rate_passed (field r 2) rate is_rate in
+    let numbered = number_passed (field r 3) frames is_frames in
+    rw (← same) (record {
+      rate = rated.0;
+      some = leb-true 1 frames low;
+      frames = leb-true frames 1000000 high;
+      fields = λ word is. four_fields r count ∙ rw (is, is_word (field r 1) _ one, rated.1, numbered.0) refl;
+    })))
+
+-- what a cue that is shown at once has
+pub record ShownPassed (r : Record) (shown : Shown) : Type 0 where
+  pub channel : IsAuthored shown.channel
+  pub built : is_built_channel shown.channel ≡ true
+  pub load : shown.load < 2 ^ 32
+  pub show : shown.show < 2 ^ 32
+  pub hide : shown.hide < 2 ^ 32
+  pub fields : (word : Field) → field r 0 ≡ word → r ≡ word ∷ channel_word shown.channel ∷ decimal shown.load ∷ decimal shown.show ∷ decimal shown.hide ∷ []
+
+pub shown_passed : (r : Record) (shown : Shown) → shown_of r ≡ Ok shown → ShownPassed r shown
+shown_passed r shown e =
+    let count = passed (length r == 5) (λ failed. let q = rw failed at e in cc) in
+    let e1 = rw count at e in
+    with_value _ (channel_of (field r 1)) (λ failed. let q = rw failed at e1 in cc) (λ channel is_channel.
+    let e2 = rw is_channel at e1 in
+    let built = passed (is_built_channel channel) (λ failed. let q = rw failed at e2 in cc) in
+    let e3 = rw built at e2 in
+    with_value _ (frame_of (field r 2)) (λ failed. let q = rw failed at e3 in cc) (λ load is_load.
+    let e4 = rw is_load at e3 in
+    with_value _ (frame_of (field r 3)) (λ failed. let q = rw failed at e4 in cc) (λ show is_show.
+    let e5 = rw is_show at e4 in
+    with_value _ (frame_of (field r 4)) (λ failed. let q = rw failed at e5 in cc) (λ hide is_hide.
+    let e6 = rw is_hide at e5 in
+    let same : record { channel = channel; load = load; show = show; hide = hide } ≡ shown = cc in
+    let at_channel = channel_passed (field r 1) channel is_channel in
+    let at_load = frame_passed (field r 2) load is_load in
+    let at_show = frame_passed (field r 3) show is_show in
+    let at_hide = frame_passed (field r 4) hide is_hide in
+    rw (← same) (record {
+      channel = at_channel.0;
+      built = built;
+      load = at_load.1;
+      show = at_show.1;
+      hide = at_hide.1;
+      fields = λ word is. five_fields r count ∙ rw (is, at_channel.1, at_load.0, at_show.0, at_hide.0) refl;
+    })))))
+
+-- what a run has
+pub record RunPassed (cue : Cue) (r : Record) (run : Run) : Type 0 where
+  pub formed : IsLine21Run run
+  pub suits : suits_row cue.kind cue.runs run.row ≡ true
+  pub built : is_built_run run ≡ true
+  pub fields : (word : Field) → field r 0 ≡ word → r ≡ word ∷ decimal run.row ∷ decimal run.col ∷ pen_word run.pen ∷ encode_utf8_all run.text ∷ []
+
+pub run_passed : (cue : Cue) (r : Record) (run : Run) → run_of cue r ≡ Ok run → RunPassed cue r run
+run_passed cue r run e =
+    let count = passed (length r == 5) (λ failed. let q = rw failed at e in cc) in
+    let e1 = rw count at e in
+    with_value _ (number_within 1 15 (field r 1)) (λ failed. let q = rw failed at e1 in cc) (λ row is_row.
+    let e2 = rw is_row at e1 in
+    let suits = passed (suits_row cue.kind cue.runs row) (λ failed. let q = rw failed at e2 in cc) in
+    let e3 = rw suits at e2 in
+    with_value _ (number_within 0 31 (field r 2)) (λ failed. let q = rw failed at e3 in cc) (λ col is_col.
+    let e4 = rw is_col at e3 in
+    with_value _ (pen_of (field r 3)) (λ failed. let q = rw failed at e4 in cc) (λ style is_pen.
+    let e5 = rw is_pen at e4 in
+    let built = passed (is_built_pen style) (λ failed. let q = rw failed at e5 in cc) in
+    let e6 = rw built at e5 in
+    with_part _ (text_of col (field r 4)) (λ error failed. let q = rw failed at e6 in cc) (λ text is_text.
+    let e7 = rw is_text at e6 in
+    let same : record { row = row; col = col; pen = pen.Line21 style; text = text } ≡ run = cc in
+    let at_row = within_passed 1 15 (field r 1) row is_row in
+    let at_col = within_passed 0 31 (field r 2) col is_col in
+    let at_pen = pen_passed (field r 3) style is_pen in
+    let at_text = text_passed col (field r 4) text is_text in
+    rw (← same) (record {
+      formed = record { row = (at_row.1, at_row.2); col = at_col.2; pen = at_pen.0; some = at_text.some; fits = at_text.fits; coded = at_text.coded };
+      suits = suits;
+      built = rw (built, at_text.built) refl;
+      fields = λ word is. five_fields r count ∙ rw (is, at_row.0, at_col.0, at_pen.1, at_text.spelled) refl;
+    })))))

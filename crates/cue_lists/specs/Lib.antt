@@ -1,0 +1,13 @@
+pub mod Answers
+pub mod Begun
+pub mod Cues
+pub mod Fields
+pub mod Line21Cues
+pub mod Listing
+pub mod Reading
+pub mod Records
+pub mod Rules
+pub mod Shares
+pub mod Spelling
+pub mod Unbuilt
+pub mod Windows

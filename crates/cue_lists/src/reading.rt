@@ -1,0 +1,40 @@
+ghost use Rattle.std.specs.Prelude.{◌≤◌, length};
+ghost use Rattle.cue_lists.specs.Answers.{Answers};
+ghost use Rattle.cue_lists.specs.Reading.{read_list};
+
+use crate::draft::Draft;
+use crate::fault::CueFault;
+use crate::list::CueList;
+use csv::ReaderBuilder;
+use std::alloc::{AllocError, Global};
+
+/// Reads a cue list of at most 67,108,864 bytes: CSV (RFC 4180) with records of differing length, no header row, and
+/// fields as they stand; a byte order mark at the start is taken off.
+///
+/// Records are taken one by one, none is kept, and the first fault ends the reading. `Malformed` has the record's number
+/// among the records that CSV finds (blank lines are none), the field's number, both from 1, and the reason; `Limit` comes
+/// where the list has more than 1,000,000 frames or 20,000 cues. Want of memory may come at any record, in place of what
+/// is due; so is any error of the CSV reader answered, which over bytes in memory has no other.
+pub fn parse(alloc: Global, bytes: &[u8]) -> Result<CueList, CueFault>
+    requires { length bytes.now ≤ 67108864 }
+    ensures { Answers (read_list bytes.now) result }
+{
+    let rdr = ReaderBuilder::new()
+        .has_headers(false)
+        .flexible(true)
+        .from_reader(alloc, bytes);
+    let mut draft = Draft::new(alloc);
+    let mut rec = 1u32;
+    for row in rdr.into_byte_records() {
+        match row {
+            Ok(row) => {
+                if let Err(offence) = draft.take(alloc, &row) {
+                    return Err(offence.in_record(rec));
+                }
+                rec += 1;
+            }
+            Err(_) => return Err(CueFault::Memory(AllocError)),
+        }
+    }
+    draft.finish(rec)
+}

@@ -1,0 +1,132 @@
+-- The events of a channel of a list that keeps the rules are apart, and within its frames.
+use Rattle.std.proofs.Common.{◌≡◌, ℕ, ◌+◌, ◌<◌, ◌≤◌, Bool, true, false, List, [], ◌∷◌, ◌++◌, refl, sym, ◌∙◌, arith}
+use Rattle.std.specs.Prelude.{Option, Some, None, All, IfSome, IsSome, MatchOption, if◌then◌else◌}
+use Rattle.std.specs.List.{AllByRecursion}
+use Rattle.std.proofs.lemmas.List.Elements.{All-from_recursion}
+use Rattle.line21_codes.specs.declared.channels.Chan.{Chan}
+use Rattle.line21_codes.specs.declared.codes.Control.TheVariants.{Eoc, Edm}
+use Rattle.cue_lists.specs.Listing.{Listing, IsFormed}
+use Rattle.cue_lists.specs.Rules.{IsRuled}
+use Rattle.cue_lists.specs.Rules.Lane.{is_pop, is_roll}
+use Rattle.cue_lists.specs.declared.cue.Cue.{Cue}
+use Rattle.cue_lists.specs.declared.cue.Kind.{Kind}
+use Rattle.cue_lists.specs.declared.cue.Kind.TheVariants as kind
+use Rattle.line21_author.specs.Channels.{is_in_second_field, cues_on}
+use Rattle.line21_author.specs.CueEvents.{event_of, is_pop_on, is_replaced_at, show_events, hide_events, events_of, channel_events}
+use Rattle.line21_author.specs.EventOrder.{AreApart, IsInTurn, Follows, AreInTurn}
+use Rattle.line21_author.specs.declared.event.Event.{Event}
+use Rattle.line21_author.proofs.CueEventsLemmas.{events_of_apart}
+use Rattle.frame_scheduler.specs.CueSequence.{ComesAfter, AreInSequence}
+use Rattle.frame_scheduler.specs.SoundCues.{IsSound}
+use Rattle.frame_scheduler.proofs.CueSequenceLemmas.{in_sequence, in_sequence_sound}
+
+-- the two tests for a pop-on cue agree
+pub pop_on_is_pop : (k : Kind) → is_pop_on k ≡ is_pop k
+pop_on_is_pop (kind.Pop channel) = refl
+pop_on_is_pop (kind.Paint channel) = refl
+pop_on_is_pop (kind.Roll channel rows) = refl
+pop_on_is_pop (kind.Win window) = refl
+
+-- a roll-up cue isn't pop-on
+pub roll_is_not_pop : (k : Kind) → is_roll k ≡ true → is_pop_on k ≡ false
+roll_is_not_pop (kind.Pop channel) roll = cc
+roll_is_not_pop (kind.Paint channel) roll = refl
+roll_is_not_pop (kind.Roll channel rows) roll = refl
+roll_is_not_pop (kind.Win window) roll = refl
+
+-- a pop-on cue isn't roll-up
+pub pop_is_not_roll : (k : Kind) → is_pop_on k ≡ true → is_roll k ≡ false
+pop_is_not_roll (kind.Pop channel) pop = refl
+pop_is_not_roll (kind.Paint channel) pop = refl
+pop_is_not_roll (kind.Roll channel rows) pop = cc
+pop_is_not_roll (kind.Win window) pop = refl
+
+-- a sound cue is in turn
+sound_in_turn : (frames : ℕ) (cue : Cue) → IsSound frames cue → IsInTurn cue
+sound_in_turn frames cue sound =
+    record {
+      shown = sound.loaded;
+      hidden = sound.hidden;
+      stays = λ pop. sound.stays (sym (pop_on_is_pop cue.kind) ∙ pop);
+    }
+
+-- a cue that comes after another follows it
+after_follows : (former cue : Cue) → ComesAfter former cue → Follows former cue
+after_follows former cue after =
+    record {
+      shown = after.shown;
+      apart = λ pop. after.apart (sym (pop_on_is_pop cue.kind) ∙ pop);
+      loaded = λ other. after.cleared (sym (pop_on_is_pop cue.kind) ∙ other);
+      behind = after.loaded;
+      stays = λ none. roll_is_not_pop cue.kind (after.continued none).roll;
+    }
+
+-- cues in sequence are in turn
+pub in_turn : (frames : ℕ) (cues : List Cue) → AreInSequence frames cues → AreInTurn cues
+in_turn frames [] sequence = tt
+in_turn frames (cue ∷ []) sequence = sound_in_turn frames cue sequence
+in_turn frames (cue ∷ (next ∷ later)) sequence =
+    (sound_in_turn frames cue sequence.0, after_follows cue next sequence.1, in_turn frames (next ∷ later) sequence.2)
+
+-- the events of a channel are apart
+pub events_apart : (list : Listing) → IsFormed list → IsRuled list → (channel : Chan)
+    → AreApart (channel_events channel list.cues)
+events_apart list formed ruled channel =
+    events_of_apart (is_in_second_field channel) (cues_on channel list.cues)
+    (in_turn list.frames (cues_on channel list.cues) (in_sequence list formed ruled channel))
+
+-- the event has ended when so many frames have
+abbrev pub HasEnded : ℕ → Event → Type 0
+HasEnded frames event = event.frame + 2 ≤ frames
+
+-- events before events
+ended-append : (frames : ℕ) (events more : List Event) → AllByRecursion (HasEnded frames) events
+    → AllByRecursion (HasEnded frames) more → AllByRecursion (HasEnded frames) (events ++ more)
+ended-append frames [] more all too = too
+ended-append frames (event ∷ events) more all too = (all.0, ended-append frames events more all.1 too)
+
+-- what shows a cue with a HIDE has ended
+show_ended_at : (frames show : ℕ) (hide : Option ℕ) → IsSome hide → IfSome hide (λ frame. show < frame)
+    → MatchOption hide (show < frames) (λ frame. frame + 2 ≤ frames) → show + 2 ≤ frames
+show_ended_at frames show None some hidden ended = cc
+show_ended_at frames show (Some frame) some hidden ended = omega arith
+
+show_ended : (second_field pop_on : Bool) (frames show : ℕ) → (pop_on ≡ true → show + 2 ≤ frames)
+    → AllByRecursion (HasEnded frames) (if pop_on then event_of second_field show Eoc ∷ [] else [])
+show_ended second_field true frames show ended = (ended refl, tt)
+show_ended second_field false frames show ended = tt
+
+-- what hides a cue has ended
+hide_ended_at : (second_field replaced : Bool) (frames hide : ℕ) → hide + 2 ≤ frames
+    → AllByRecursion (HasEnded frames) (if replaced then [] else event_of second_field hide Edm ∷ [])
+hide_ended_at second_field true frames hide ended = tt
+hide_ended_at second_field false frames hide ended = (ended, tt)
+
+hide_ended : (second_field : Bool) (frames show : ℕ) (hide : Option ℕ) (later : List Cue)
+    → MatchOption hide (show < frames) (λ frame. frame + 2 ≤ frames)
+    → AllByRecursion (HasEnded frames) (hide_events second_field hide later)
+hide_ended second_field frames show None later ended = tt
+hide_ended second_field frames show (Some hide) later ended =
+    hide_ended_at second_field (is_replaced_at hide later) frames hide ended
+
+-- the events of sound cues have ended when the list has
+events_ended : (second_field : Bool) (frames : ℕ) (cues : List Cue) → AllByRecursion (IsSound frames) cues
+    → AllByRecursion (HasEnded frames) (events_of second_field cues)
+events_ended second_field frames [] sound = tt
+events_ended second_field frames (cue ∷ later) sound =
+    ended-append frames (show_events second_field cue ++ hide_events second_field cue.hide later)
+    (events_of second_field later)
+    (ended-append frames (show_events second_field cue) (hide_events second_field cue.hide later)
+    (show_ended second_field (is_pop_on cue.kind) frames cue.show
+    (λ pop. show_ended_at frames cue.show cue.hide (sound.0.erased (pop_is_not_roll cue.kind pop))
+    sound.0.hidden sound.0.ended))
+    (hide_ended second_field frames cue.show cue.hide later sound.0.ended))
+    (events_ended second_field frames later sound.1)
+
+-- each event of a channel has ended when the list has, its repeat counted
+pub events_within : (list : Listing) → IsFormed list → IsRuled list → (channel : Chan)
+    → All (λ event. event.frame + 2 ≤ list.frames) (channel_events channel list.cues)
+events_within list formed ruled channel =
+    All-from_recursion (HasEnded list.frames) (channel_events channel list.cues)
+    (events_ended (is_in_second_field channel) list.frames (cues_on channel list.cues)
+    (in_sequence_sound list.frames (cues_on channel list.cues) (in_sequence list formed ruled channel)))

@@ -1,0 +1,17 @@
+pub mod PlacingLemmas
+pub mod FieldLaneLemmas
+pub mod LaneCursorLemmas
+pub mod NextLemmas
+pub mod CursorStepLemmas
+pub mod LaneFrontLemmas
+pub mod LaneRoomLemmas
+pub mod LanePlanLemmas
+pub mod ColumnLemmas
+pub mod DoublingLemmas
+pub mod OneCueLemmas
+pub mod BothFieldsLemmas
+pub mod ChannelCues
+pub mod ChannelOrderLemmas
+pub mod CueSequenceLemmas
+pub mod EventsApartLemmas
+pub mod ListDoublingLemmas

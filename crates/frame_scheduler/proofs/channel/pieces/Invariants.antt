@@ -1,0 +1,7 @@
+use Rattle.std.proofs.Common.{◌≡◌, ◌+◌, ◌++◌, drop}
+use Rattle.frame_scheduler.specs.ChannelLane.{channel_pieces, pieces_from}
+use Rattle.frame_scheduler.proofs.channel.pieces.Given as goal
+
+-- the units of the cues so far, and those of the cues to come
+abbrev pub invariant-loop-index : goal.invariant-loop-index
+invariant-loop-index l = l.pieces.items ++ pieces_from l.channel (l.index + 1) (drop l.index l.cues) ≡ channel_pieces l.channel l.cues

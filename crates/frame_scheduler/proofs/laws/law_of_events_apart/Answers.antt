@@ -1,0 +1,5 @@
+use Rattle.frame_scheduler.proofs.EventsApartLemmas.{events_apart}
+use Rattle.frame_scheduler.proofs.laws.law_of_events_apart.Goals as goal
+
+pub returns : goal.returns
+returns c = events_apart

@@ -1,0 +1,20 @@
+-- The front of the units placed so far in a field's lane.
+use Rattle.std.specs.Prelude.{ℕ, ◌+◌, ◌<◌, ◌≤◌, List, take, length}
+use Rattle.line21_author.specs.declared.event.Event.{Event}
+use Rattle.frame_scheduler.specs.declared.lane.front.Front.{Front}
+use Rattle.frame_scheduler.specs.LaneEvents.{IsFree, AreOver}
+
+-- the events that the front has passed are over by its end
+pub record IsFront (events : List Event) (front : Front) : Type 0 where
+  pub within : front.passed ≤ length events
+  pub passed : AreOver front.end (take front.passed events)
+
+-- so many slots from the frame on are free
+abbrev pub AreFree : List Event → ℕ → ℕ → Type 0
+AreFree events slots frame = (n : ℕ) → frame ≤ n → n < frame + slots → IsFree events n
+
+-- the first frame, from `start` on, from which on so many slots are free
+pub record IsFirstFree (events : List Event) (slots start frame : ℕ) : Type 0 where
+  pub behind : start ≤ frame
+  pub free : AreFree events slots frame
+  pub first : (other : ℕ) → start ≤ other → AreFree events slots other → frame ≤ other

@@ -1,0 +1,41 @@
+-- Timelines: what begins at each frame of a field, and the pair that its slot has by that (CTA-608-E, 47 CFR 79.101).
+use Rattle.std.specs.Prelude.{ℕ, List, [], ◌∷◌, ◌++◌, Option, Some, None, if◌then◌else◌, unwrap_or, suc, zero}
+use Rattle.std.specs.Option.{option_map}
+use Rattle.line21_codes.specs.declared.pairs.Pair.{Pair}
+use Rattle.line21_author.specs.declared.unit.Unit.{Unit}
+
+-- what begins at each frame
+abbrev pub Timeline : Type 0
+Timeline = ℕ → Option Unit
+
+-- the first of two that is there
+abbrev pub first_of : {T : Type 0} → Option T → Option T → Option T
+first_of None second = second
+first_of (Some x) second = Some x
+
+-- what begins at a frame in either timeline; where something does in both, that of the first
+abbrev pub over : Timeline → Timeline → Timeline
+over first second n = first_of (first n) (second n)
+
+-- the pair of a slot that carries nothing
+abbrev pub null_pair : Pair
+null_pair = record { a = 0x80; b = 0x80 }
+
+-- the pair that is due once more behind the slot in which a unit began
+abbrev pub repeat_of : Option Unit → Option Pair
+repeat_of None = None
+repeat_of (Some unit) = if unit.doubled then Some unit.pair else None
+
+-- the pair that is due at a frame as the repeat of a doubled unit that began one frame earlier
+abbrev pub repeat_at : Timeline → ℕ → Option Pair
+repeat_at timeline zero = None
+repeat_at timeline (suc n) = repeat_of (timeline n)
+
+-- the pair in the slot of a frame: the repeat that is due, else what begins there, else the null pair
+abbrev pub slot : Timeline → ℕ → Pair
+slot timeline n = unwrap_or (first_of (repeat_at timeline n) (option_map (λ unit. unit.pair) (timeline n))) null_pair
+
+-- the slots of the frames below n
+abbrev pub column : Timeline → ℕ → List Pair
+column timeline zero = []
+column timeline (suc n) = column timeline n ++ slot timeline n ∷ []

@@ -1,0 +1,45 @@
+ghost use Rattle.std.specs.Prelude.{◌≡◌, ◌≤◌, ◌++◌, All, IfOk, OnOk, length};
+ghost use Rattle.cue_lists.specs.Cues.{IsCueFormed};
+ghost use Rattle.frame_scheduler.specs.ChannelLane.{channel_pieces, cue_pieces};
+
+use crate::lane::piece::Piece;
+use cue_lists::Cue;
+use line21_author::{is_on, units};
+use line21_codes::Chan;
+use std::alloc::{AllocError, Global};
+
+/// The units of the cues on a channel, in the order of the cues.
+pub(crate) fn pieces(alloc: Global, cues: &[Cue], channel: Chan) -> Result<Vec<Piece>, AllocError>
+    requires formed { All IsCueFormed cues.now }
+    requires few { length cues.now ≤ 20000 }
+    ensures { IfOk result (λ pieces. pieces.items ≡ channel_pieces channel cues.now) }
+{
+    let mut pieces = Vec::new(alloc);
+    for (index, cue) in cues.iter().enumerate() {
+        if is_on(channel, cue.kind) {
+            push_cue(alloc, &mut pieces, index as u32 + 1, cue)?;
+        }
+    }
+    Ok(pieces)
+}
+
+/// Appends the units of the cue of this number.
+fn push_cue(
+    alloc: Global,
+    pieces: &mut Vec<Piece>,
+    number: u32,
+    cue: &Cue,
+) -> Result<(), AllocError>
+    requires { IsCueFormed cue.now }
+    ensures { OnOk result (pieces.new.items ≡ pieces.old.items ++ cue_pieces number cue.now) }
+{
+    for unit in units(alloc, cue)?.as_slice() {
+        pieces.push(Piece {
+            unit: *unit,
+            load: cue.load,
+            until: cue.show,
+            cue: number,
+        })?;
+    }
+    Ok(())
+}

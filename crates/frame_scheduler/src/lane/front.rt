@@ -1,0 +1,83 @@
+ghost use Rattle.std.specs.Prelude.{◌≡◌, ℕ, ◌+◌, ◌*◌, ◌^◌, ◌<◌, ◌≤◌, IfSome, IfNone, MatchOption};
+ghost use Rattle.frame_scheduler.specs.LaneEvents.{IsFree};
+ghost use Rattle.line21_author.specs.EventOrder.{AreApart};
+ghost use Rattle.frame_scheduler.specs.FieldLane.{IsAllowed, slots_of, lane};
+ghost use Rattle.frame_scheduler.specs.FirstFit.{IsFirstFrame};
+ghost use Rattle.frame_scheduler.specs.Placing.{HasEarliest};
+ghost use Rattle.frame_scheduler.specs.LaneRoom.{IsFirstWithoutRoom, AreInOrder};
+
+use crate::lane::piece::Piece;
+use line21_author::Event;
+
+/// How far units have been placed: the first frame behind them, and how many events are over by then.
+#[derive(Clone, Copy, Debug, PartialEq, Eq)]
+pub struct Front {
+    end: u64,
+    passed: usize,
+}
+
+impl Front {
+    ghost use Rattle.frame_scheduler.specs.LaneFront.{IsFront, IsFirstFree};
+
+    /// The front where no unit is placed.
+    pub fn start() -> Self
+        ensures { result ≡ record { end = 0; passed = 0 } }
+    {
+        Front { end: 0, passed: 0 }
+    }
+
+    /// Places the unit in the first frame that is allowed behind the front, and moves the front
+    /// behind it. `None` where no frame is allowed; the front is of no use then.
+    pub fn place(&mut self, piece: Piece, events: &[Event]) -> Option<u64>
+        requires small { self.old.end < 2 ^ 32 }
+        requires apart { AreApart events.now }
+        requires front { IsFront events.now self.old }
+        ensures first { IfSome result (IsFirstFrame events.now self.old.end piece) }
+        ensures end { IfSome result (λ frame. (self.new.end ≡ frame + slots_of piece) × (self.new.end < 2 ^ 32)) }
+        ensures front { IfSome result (λ _. IsFront events.now self.new) }
+        ensures none { IfNone result ((frame : ℕ) → IsAllowed events.now self.old.end piece frame → ⊥) }
+    {
+        let slots = piece.unit.slots();
+        self.end = self.end.max(u64::from(piece.load));
+        self.pass_events(slots, events);
+        let frame = self.end;
+        self.end += u64::from(slots);
+        (self.end <= u64::from(piece.until)).then_some(frame)
+    }
+
+    // Moves the front on to the first frame from which on so many slots are free.
+    fn pass_events(&mut self, slots: u32, events: &[Event])
+        requires small { self.old.end < 2 ^ 32 }
+        requires some { 1 ≤ slots }
+        requires few { slots ≤ 2 }
+        requires apart { AreApart events.now }
+        requires front { IsFront events.now self.old }
+        ensures small { self.new.end < 2 ^ 33 }
+        ensures first { IsFirstFree events.now slots self.old.end self.new.end }
+        ensures front { IsFront events.now self.new }
+    {
+        let slots = u64::from(slots);
+        while let Some(event) = events.get(self.passed)
+            && u64::from(event.frame) < self.end + slots
+        {
+            self.end = self.end.max(event.end());
+            self.passed += 1;
+        }
+    }
+}
+
+/// The number of the first cue that has no room among the lane's units, if there is one.
+pub fn cue_without_room(pieces: &[Piece], events: &[Event]) -> Option<u32>
+    requires order { AreInOrder pieces.now }
+    requires apart { AreApart events.now }
+    ensures { MatchOption result (HasEarliest (lane events.now) pieces.now)
+        (IsFirstWithoutRoom events.now pieces.now) }
+{
+    let mut front = Front::start();
+    for piece in pieces {
+        if front.place(*piece, events).is_none() {
+            return Some(piece.cue);
+        }
+    }
+    None
+}

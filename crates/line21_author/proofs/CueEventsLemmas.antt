@@ -1,0 +1,179 @@
+use Rattle.std.proofs.Common.{◌≡◌, ◌≢◌, ℕ, ◌+◌, ◌<◌, ◌≤◌, Bool, true, false, ◌==◌, ◌&&◌, List, [], ◌∷◌, ◌++◌, refl, sym, subst, arith}
+use Rattle.std.specs.Prelude.{Option, Some, None, All, IfSome, if◌then◌else◌}
+use Rattle.std.specs.List.{AllByRecursion}
+use Rattle.std.proofs.lemmas.Bool.Decides.{nat_tests}
+use Rattle.std.proofs.lemmas.List.Elements.{All-from_recursion, All-same}
+use Rattle.line21_codes.specs.declared.codes.Control.{Control}
+use Rattle.line21_codes.specs.declared.codes.Control.TheVariants.{Eoc, Edm}
+use Rattle.line21_codes.specs.Writable.{IsWritableControl}
+use Rattle.line21_codes.proofs.CodeLemmas.{written-odd, is_control-written}
+use Rattle.cue_lists.specs.declared.cue.Cue.{Cue}
+use Rattle.line21_author.specs.declared.event.Event.{Event}
+use Rattle.line21_codes.specs.declared.channels.Chan.{Chan}
+use Rattle.line21_author.specs.Channels.{is_in_second_field, cues_on}
+use Rattle.line21_author.specs.FirstChannel.{first_channel}
+use Rattle.line21_author.specs.CueEvents.{event_of, is_pop_on, show_events, hide_events, is_replaced_at, events_of, channel_events}
+use Rattle.line21_author.specs.EventPairs.{IsControlEvent}
+use Rattle.line21_author.specs.EventOrder.{AreFrom, AreApart, IsInTurn, Follows, AreInTurn}
+
+-- the event of a code that can be written has a control pair
+event_of_control : (second_field : Bool) (frame : ℕ) (control : Control) → IsWritableControl control
+    → IsControlEvent (event_of second_field frame control)
+event_of_control second_field frame control writable =
+    record {
+      parity = written-odd second_field (first_channel control) writable;
+      control = is_control-written second_field (first_channel control) writable;
+    }
+
+-- events before events
+controls-append : (events more : List Event) → AllByRecursion IsControlEvent events → AllByRecursion IsControlEvent more
+    → AllByRecursion IsControlEvent (events ++ more)
+controls-append [] more all too = too
+controls-append (event ∷ events) more all too = (all.0, controls-append events more all.1 too)
+
+-- what shows a cue has a control pair
+show_control : (second_field pop_on : Bool) (show : ℕ)
+    → AllByRecursion IsControlEvent (if pop_on then event_of second_field show Eoc ∷ [] else [])
+show_control second_field true show = (event_of_control second_field show Eoc tt, tt)
+show_control second_field false show = tt
+
+-- so has what hides it
+hide_control_at : (second_field replaced : Bool) (hide : ℕ)
+    → AllByRecursion IsControlEvent (if replaced then [] else event_of second_field hide Edm ∷ [])
+hide_control_at second_field true hide = tt
+hide_control_at second_field false hide = (event_of_control second_field hide Edm tt, tt)
+
+hide_control : (second_field : Bool) (hide : Option ℕ) (later : List Cue)
+    → AllByRecursion IsControlEvent (hide_events second_field hide later)
+hide_control second_field None later = tt
+hide_control second_field (Some hide) later = hide_control_at second_field (is_replaced_at hide later) hide
+
+-- every event has a control pair
+events_control : (second_field : Bool) (cues : List Cue) → AllByRecursion IsControlEvent (events_of second_field cues)
+events_control second_field [] = tt
+events_control second_field (cue ∷ later) =
+    controls-append (show_events second_field cue ++ hide_events second_field cue.hide later) (events_of second_field later)
+    (controls-append (show_events second_field cue) (hide_events second_field cue.hide later)
+    (show_control second_field (is_pop_on cue.kind) cue.show) (hide_control second_field cue.hide later))
+    (events_control second_field later)
+
+pub events_of_control : (second_field : Bool) (cues : List Cue) → All IsControlEvent (events_of second_field cues)
+events_of_control second_field cues = All-from_recursion IsControlEvent (events_of second_field cues) (events_control second_field cues)
+
+-- the first frame in which a cue's first event may be
+abbrev first_from : Bool → Cue → ℕ
+first_from pop_on cue = if pop_on then cue.show else cue.load + 2
+
+-- the first frame in which its HIDE may be
+abbrev hides_from : Bool → Cue → ℕ
+hides_from pop_on cue = if pop_on then cue.show + 2 else cue.load + 2
+
+-- the events are at frame n or later, and apart
+record IsFitFrom (n : ℕ) (events : List Event) : Type 0 where
+  from : AreFrom n events
+  apart : AreApart events
+
+-- events from a frame on are from an earlier frame on
+AreFrom-weaker : (n m : ℕ) (events : List Event) → m ≤ n → AreFrom n events → AreFrom m events
+AreFrom-weaker n m [] below from = tt
+AreFrom-weaker n m (event ∷ events) below from = (omega (arith, from.0), AreFrom-weaker n m events below from.1)
+
+IsFitFrom-weaker : (n m : ℕ) (events : List Event) → m ≤ n → IsFitFrom n events → IsFitFrom m events
+IsFitFrom-weaker n m events below fit = record { from = AreFrom-weaker n m events below fit.from; apart = fit.apart }
+
+-- one event two frames before others
+IsFitFrom-cons : (n : ℕ) (event : Event) (events : List Event) → n ≤ event.frame → IsFitFrom (event.frame + 2) events
+    → IsFitFrom n (event ∷ events)
+IsFitFrom-cons n event events below fit =
+    record {
+      from = (below, AreFrom-weaker (event.frame + 2) n events (omega arith) fit.from);
+      apart = (fit.from, fit.apart);
+    }
+
+-- a cue's HIDE is not before that frame
+hides_after : (pop_on : Bool) (cue : Cue) (hide : Option ℕ) → cue.load < cue.show → IfSome hide (λ frame. cue.show < frame)
+    → (pop_on ≡ true → IfSome hide (λ frame. frame ≢ cue.show + 1)) → IfSome hide (λ frame. hides_from pop_on cue ≤ frame)
+hides_after pop_on cue None shown hidden stays = tt
+hides_after true cue (Some frame) shown hidden stays = let other : frame ≢ cue.show + 1 = stays refl in omega arith
+hides_after false cue (Some frame) shown hidden stays = omega arith
+
+-- what hides a cue and the events of the next one
+hide_fit_at : (second_field pop_on same : Bool) (n hide : ℕ) (next : Cue) (events : List Event) → (next.show == hide) ≡ same
+    → n ≤ hide → hide ≤ next.show → (pop_on ≡ true → next.show ≢ hide + 1) → (pop_on ≡ false → hide ≤ next.load)
+    → IsFitFrom (first_from pop_on next) events
+    → IsFitFrom n ((if pop_on && same then [] else event_of second_field hide Edm ∷ []) ++ events)
+hide_fit_at second_field false same n hide next events test below shown apart loaded fit =
+    let after : hide ≤ next.load = loaded refl in
+    IsFitFrom-cons n (event_of second_field hide Edm) events below
+    (IsFitFrom-weaker (next.load + 2) (hide + 2) events (omega arith) fit)
+hide_fit_at second_field true true n hide next events test below shown apart loaded fit =
+    IsFitFrom-weaker next.show n events (omega arith) fit
+hide_fit_at second_field true false n hide next events test below shown apart loaded fit =
+    let other : next.show ≢ hide + 1 = apart refl in
+    let later : hide + 2 ≤ next.show = grind (arith, nat_tests) in
+    IsFitFrom-cons n (event_of second_field hide Edm) events below
+    (IsFitFrom-weaker next.show (hide + 2) events later fit)
+
+hide_fit : (second_field : Bool) (n : ℕ) (cue : Cue) (hide : Option ℕ) (next : Cue) (later : List Cue) (events : List Event)
+    → IfSome hide (λ frame. n ≤ frame) → n ≤ cue.show + 2 → cue.show ≤ next.load
+    → IfSome hide (λ frame. frame ≤ next.show) → (is_pop_on next.kind ≡ true → IfSome hide (λ frame. next.show ≢ frame + 1))
+    → (is_pop_on next.kind ≡ false → IfSome hide (λ frame. frame ≤ next.load))
+    → (hide ≡ None → is_pop_on next.kind ≡ false)
+    → IsFitFrom (first_from (is_pop_on next.kind) next) events
+    → IsFitFrom n (hide_events second_field hide (next ∷ later) ++ events)
+hide_fit second_field n cue None next later events below bound behind shown apart loaded stays fit =
+    IsFitFrom-weaker (next.load + 2) n events (omega arith)
+    (subst (λ (pop_on : Bool). IsFitFrom (first_from pop_on next) events) (stays refl) fit)
+hide_fit second_field n cue (Some hide) next later events below bound behind shown apart loaded stays fit =
+    hide_fit_at second_field (is_pop_on next.kind) (next.show == hide) n hide next events refl below shown apart loaded fit
+
+-- what shows a cue and the events behind it
+show_fit : (second_field pop_on : Bool) (cue : Cue) (hides events : List Event)
+    → IsFitFrom (hides_from pop_on cue) (hides ++ events)
+    → IsFitFrom (first_from pop_on cue) ((if pop_on then event_of second_field cue.show Eoc ∷ [] else []) ++ hides ++ events)
+show_fit second_field true cue hides events fit =
+    IsFitFrom-cons cue.show (event_of second_field cue.show Eoc) (hides ++ events) (omega arith) fit
+show_fit second_field false cue hides events fit = fit
+
+-- what hides the last cue
+last_fit : (second_field : Bool) (n : ℕ) (hide : Option ℕ) → IfSome hide (λ frame. n ≤ frame)
+    → IsFitFrom n (hide_events second_field hide [] ++ [])
+last_fit second_field n None below = record { from = tt; apart = tt }
+last_fit second_field n (Some hide) below = record { from = (below, tt); apart = (tt, tt) }
+
+-- that frame is two frames after SHOW at most
+hides_from_low : (pop_on : Bool) (cue : Cue) → cue.load < cue.show → hides_from pop_on cue ≤ cue.show + 2
+hides_from_low true cue shown = omega arith
+hides_from_low false cue shown = omega arith
+
+-- the events of cues in turn
+turn_fit : (second_field : Bool) (cue : Cue) (later : List Cue) → AreInTurn (cue ∷ later)
+    → IsFitFrom (first_from (is_pop_on cue.kind) cue) (events_of second_field (cue ∷ later))
+turn_fit second_field cue [] turn =
+    show_fit second_field (is_pop_on cue.kind) cue (hide_events second_field cue.hide []) []
+    (last_fit second_field (hides_from (is_pop_on cue.kind) cue) cue.hide
+    (hides_after (is_pop_on cue.kind) cue cue.hide turn.shown turn.hidden turn.stays))
+turn_fit second_field cue (next ∷ later) turn =
+    show_fit second_field (is_pop_on cue.kind) cue (hide_events second_field cue.hide (next ∷ later))
+    (events_of second_field (next ∷ later))
+    (hide_fit second_field (hides_from (is_pop_on cue.kind) cue) cue cue.hide next later (events_of second_field (next ∷ later))
+    (hides_after (is_pop_on cue.kind) cue cue.hide turn.0.shown turn.0.hidden turn.0.stays)
+    (hides_from_low (is_pop_on cue.kind) cue turn.0.shown)
+    turn.1.behind turn.1.shown turn.1.apart turn.1.loaded turn.1.stays (turn_fit second_field next later turn.2))
+
+-- the events of cues in turn are apart
+pub events_of_apart : (second_field : Bool) (cues : List Cue) → AreInTurn cues → AreApart (events_of second_field cues)
+events_of_apart second_field [] turn = tt
+events_of_apart second_field (cue ∷ later) turn = (turn_fit second_field cue later turn).apart
+
+-- the events of a channel have control pairs, and are apart where its cues are in turn
+pub channel_events_control : (channel : Chan) (cues : List Cue) (events : List Event) → events ≡ channel_events channel cues
+    → All IsControlEvent events
+channel_events_control channel cues events is =
+    All-same IsControlEvent events (channel_events channel cues) is
+    (events_of_control (is_in_second_field channel) (cues_on channel cues))
+
+pub channel_events_apart : (channel : Chan) (cues : List Cue) (events : List Event) → events ≡ channel_events channel cues
+    → AreInTurn (cues_on channel cues) → AreApart events
+channel_events_apart channel cues events is turn =
+    subst (λ (es : List Event). AreApart es) (sym is) (events_of_apart (is_in_second_field channel) (cues_on channel cues) turn)

@@ -1,0 +1,5 @@
+pub mod TextCodesLemmas
+pub mod RunCodesLemmas
+pub mod CueCodesLemmas
+pub mod CueUnitsLemmas
+pub mod CueEventsLemmas

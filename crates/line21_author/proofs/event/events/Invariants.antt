@@ -1,0 +1,12 @@
+use Rattle.std.proofs.Common.{◌≡◌, ◌++◌, drop}
+use Rattle.line21_author.specs.Channels.{cues_on}
+use Rattle.line21_author.specs.CueEvents.{hide_events, events_of, channel_events}
+use Rattle.line21_author.proofs.event.events.Given as goal
+
+-- the events so far, with those from the last cue's HIDE on, are the channel's
+abbrev pub invariant-loop-cue : goal.invariant-loop-cue
+invariant-loop-cue l =
+    l.events.items
+    ++ (hide_events l.second_field l.hide (cues_on l.channel (drop l.cue-index l.cues))
+    ++ events_of l.second_field (cues_on l.channel (drop l.cue-index l.cues)))
+    ≡ events_of l.second_field (cues_on l.channel l.cues)

@@ -1,0 +1,11 @@
+pub mod Channels
+pub mod FirstChannel
+pub mod TextCodes
+pub mod RunCodes
+pub mod CueCodes
+pub mod CueUnits
+pub mod UnitPairs
+pub mod UnitSlots
+pub mod CueEvents
+pub mod EventPairs
+pub mod EventOrder

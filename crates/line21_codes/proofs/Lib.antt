@@ -1,0 +1,9 @@
+pub mod Tables
+pub mod PreambleLemmas
+pub mod RepeatLemmas
+pub mod ParityLemmas
+pub mod Same
+pub mod WritableLemmas
+pub mod ControlLemmas
+pub mod CodeLemmas
+pub mod CharacterLemmas

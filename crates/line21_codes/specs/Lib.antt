@@ -1,0 +1,15 @@
+pub mod Parity
+pub mod MiscellaneousCodes
+pub mod MidRowCodes
+pub mod PreambleCodes
+pub mod TabOffsets
+pub mod ControlPairs
+pub mod BasicCharacters
+pub mod SpecialCharacters
+pub mod ExtendedCharacters
+pub mod Reading
+pub mod SkippedPairs
+pub mod Writing
+pub mod Writable
+pub mod Spellings
+pub mod Repeats

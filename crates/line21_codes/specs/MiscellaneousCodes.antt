@@ -1,0 +1,18 @@
+-- The miscellaneous control codes (CTA-608-E and 47 CFR 79.101, miscellaneous control codes).
+use Rattle.std.specs.Prelude.{ℕ, ◌-◌, Bool, if◌then◌else◌, List, [], ◌∷◌, slice_index_or}
+use Rattle.line21_codes.specs.declared.codes.Control.{Control}
+use Rattle.line21_codes.specs.declared.codes.Control.TheVariants.{Rcl, Bs, Der, Ru, Fon, Rdc, Tr, Rtd, Edm, Cr, Enm, Eoc, Skipped}
+
+-- the codes of the second bytes 20 to 2F; alarm off and alarm on, 22 and 23, are skipped
+abbrev pub miscellaneous_codes : List Control
+miscellaneous_codes =
+    Rcl ∷ Bs ∷ Skipped ∷ Skipped ∷ Der ∷ Ru 2 ∷ Ru 3 ∷ Ru 4
+    ∷ Fon ∷ Rdc ∷ Tr ∷ Rtd ∷ Edm ∷ Cr ∷ Enm ∷ Eoc ∷ []
+
+-- the code of the second byte; the second bytes 30 to 3F are skipped
+abbrev pub miscellaneous_at : ℕ → Control
+miscellaneous_at second = slice_index_or miscellaneous_codes (second - 0x20) Skipped
+
+-- the first byte with which a field writes them
+abbrev pub miscellaneous_first : Bool → ℕ
+miscellaneous_first second_field = if second_field then 0x15 else 0x14
