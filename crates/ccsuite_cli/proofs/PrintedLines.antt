@@ -1,8 +1,15 @@
 -- What the lines of a plan's frames are, where its list is accepted.
-use Rattle.std.proofs.Common.{◌≡◌, ◌++◌, ℕ, List, Option, Some, None}
+use Rattle.std.proofs.Common.{ap, false, All, ◌≡◌, ◌++◌, ℕ, List, Option, Some, None}
 use Rattle.std.specs.Prelude.{IfSome}
 use Rattle.cc_base.specs.Streams.{Puts}
 use Rattle.cc_base.specs.declared.streams.Put.TheVariants as put
+use Rattle.std.proofs.lemmas.List.Elements.{All-weaker}
+use Rattle.line21_codes.specs.declared.channels.Chan.TheVariants.{Cc3}
+use Rattle.cue_lists.specs.Listing.{Listing}
+use Rattle.cue_lists.specs.Unbuilt.{IsBuilt, IsBuiltCue}
+use Rattle.cue_lists.specs.declared.cue.Cue.{Cue}
+use Rattle.line21_author.specs.Channels.{is_on}
+use Rattle.frame_scheduler.proofs.NoCuesLemmas.{null_channel}
 use Rattle.frame_scheduler.specs.Columns.{Columns}
 use Rattle.frame_scheduler.specs.Frames.{GivesFrom, frames_left}
 use Rattle.frame_scheduler.specs.Planned.{columns_of}
@@ -12,6 +19,13 @@ use Rattle.ccsuite_cli.specs.Answer.{PutsPairs, PutsPairsFront}
 use Rattle.ccsuite_cli.specs.Lines.{pair_lines}
 use Rattle.ccsuite_cli.specs.Reads.{IsPlanOf}
 
+-- no cue that this version authors is on CC3
+off_cc3 : (cue : Cue) → IsBuiltCue cue → is_on Cc3 cue.kind ≡ false
+off_cc3 cue built = ap (λ k. is_on Cc3 k) built.kind
+
+built_off : (list : Listing) → IsBuilt list → All (λ cue. is_on Cc3 cue.kind ≡ false) list.cues
+built_off list built = All-weaker IsBuiltCue (λ cue. is_on Cc3 cue.kind ≡ false) off_cc3 list.cues built.cues
+
 -- the lines of a plan were put: they are those of its list
 pub lines_put : (left old new : Option (List ℕ)) (plan : Plan) → IfSome left (λ bytes. IsPlanOf bytes plan)
     → ((columns : Columns) → GivesFrom columns 0 plan → Puts old new put.Done (pair_lines columns 0 (frames_left plan)))
@@ -19,7 +33,7 @@ pub lines_put : (left old new : Option (List ℕ)) (plan : Plan) → IfSome left
 lines_put None old new plan is puts = tt
 lines_put (Some bytes) old new plan is puts =
     let accepted = is.accepted in
-    let doubled = columns_doubled is.list is.placed accepted.formed accepted.ruled accepted.placement in
+    let doubled = columns_doubled is.list is.placed accepted.spelled.1 accepted.ruled accepted.placement in
     record {
       list = is.list;
       placed = is.placed;
@@ -27,6 +41,7 @@ lines_put (Some bytes) old new plan is puts =
       lines = rw is.frames at (puts (columns_of is.list is.placed) is.gives);
       doubled_one = doubled.0;
       doubled_two = doubled.1;
+      null_two = null_channel Cc3 is.list.cues is.placed.two (built_off is.list accepted.built);
     }
 
 -- a put of the lines failed: a front of those of its list was put

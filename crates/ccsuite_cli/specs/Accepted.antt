@@ -1,9 +1,14 @@
 -- Which cue lists are accepted, and why another one is refused.
-use Rattle.std.specs.Prelude.{◌≡◌, ◌<◌, ◌≤◌, ℕ, List, length, Ok, Err}
+use Rattle.std.specs.Prelude.{◌≡◌, ◌<◌, ◌≤◌, ℕ, List, length, Err}
 use Rattle.cc_base.specs.declared.limit_of.LimitOf.TheVariants as limit
-use Rattle.cue_lists.specs.Listing.{IsFormed, Listing}
+use Rattle.cue_lists.specs.FirstFault.{IsFirstFault}
+use Rattle.cue_lists.specs.Listing.{Listing}
 use Rattle.cue_lists.specs.Reading.{read_list}
+use Rattle.cue_lists.specs.Records.{records_of}
 use Rattle.cue_lists.specs.Rules.{HasFault, IsRuled}
+use Rattle.cue_lists.specs.Spelling.{Spells}
+use Rattle.cue_lists.specs.Unbuilt.{IsBuilt}
+use Rattle.cue_lists.specs.declared.fault.CueFault.{CueFault}
 use Rattle.cue_lists.specs.declared.fault.CueFault.TheVariants as fault
 use Rattle.cue_lists.specs.declared.rules.RuleFault.{RuleFault}
 use Rattle.frame_scheduler.specs.Planned.{IsFirstWithoutRoom, IsPlaced, Placement}
@@ -15,37 +20,45 @@ use Rattle.ccsuite_cli.specs.declared.status.Status.TheVariants as status
 abbrev pub list_limit : ℕ
 list_limit = 67108864
 
--- the bytes spell a cue list that keeps the rules, and whose units have their earliest placement in these frames
+-- the records of the bytes spell a cue list that this version authors and that keeps the rules, and whose units have their
+-- earliest placement in these frames
 pub record IsAccepted (bytes : List ℕ) (list : Listing) (placed : Placement) : Type 0 where
   pub within : length bytes ≤ list_limit
-  pub spelled : read_list bytes ≡ Ok list
-  pub formed : IsFormed list
+  pub spelled : Spells (records_of bytes) list
+  pub built : IsBuilt list
   pub ruled : IsRuled list
   pub placement : IsPlaced list placed
 
--- the bytes spell a list that breaks a rule
+-- the records of the bytes spell no list that this version authors, and this is their first fault
+pub record IsFaulty (bytes : List ℕ) (fault : CueFault) : Type 0 where
+  pub within : length bytes ≤ list_limit
+  pub read : read_list bytes ≡ Err fault
+  pub first : IsFirstFault (records_of bytes) fault
+
+-- the records of the bytes spell a list that breaks a rule
 pub record BreaksRule (bytes : List ℕ) (fault : RuleFault) : Type 0 where
   pub list : Listing
   pub within : length bytes ≤ list_limit
-  pub spelled : read_list bytes ≡ Ok list
+  pub spelled : Spells (records_of bytes) list
+  pub built : IsBuilt list
   pub broken : HasFault list fault
 
--- the bytes spell a list that keeps the rules, and this cue is the first without a placement
+-- the records of the bytes spell a list that keeps the rules, and this cue is the first without a placement
 pub record LacksRoom (bytes : List ℕ) (cue : ℕ) : Type 0 where
   pub list : Listing
   pub within : length bytes ≤ list_limit
-  pub spelled : read_list bytes ≡ Ok list
+  pub spelled : Spells (records_of bytes) list
+  pub built : IsBuilt list
   pub ruled : IsRuled list
   pub first : IsFirstWithoutRoom list cue
 
 -- the bytes are refused with this status, and with no other
 abbrev pub IsRefused : List ℕ → Status → Type 0
 IsRefused bytes (status.Limit limit.Bytes) = list_limit < length bytes
-IsRefused bytes (status.Limit limit.Frames) = (length bytes ≤ list_limit) × (read_list bytes ≡ Err (fault.Limit limit.Frames))
-IsRefused bytes (status.Limit limit.Cues) = (length bytes ≤ list_limit) × (read_list bytes ≡ Err (fault.Limit limit.Cues))
+IsRefused bytes (status.Limit limit.Frames) = IsFaulty bytes (fault.Limit limit.Frames)
+IsRefused bytes (status.Limit limit.Cues) = IsFaulty bytes (fault.Limit limit.Cues)
 IsRefused bytes (status.Malformed (Byte byte) why) = ⊥
-IsRefused bytes (status.Malformed (Field rec field) why) =
-    (length bytes ≤ list_limit) × (read_list bytes ≡ Err (fault.Malformed rec field why))
+IsRefused bytes (status.Malformed (Field rec field) why) = IsFaulty bytes (fault.Malformed rec field why)
 IsRefused bytes (status.Rule fault) = BreaksRule bytes fault
 IsRefused bytes (status.NoRoom cue) = LacksRoom bytes cue
 IsRefused bytes _ = ⊥

@@ -7,6 +7,7 @@ use Rattle.cue_lists.specs.Listing.{Listing}
 use Rattle.frame_scheduler.specs.Columns.{first_pairs}
 use Rattle.frame_scheduler.specs.DoubledPairs.{IsDoubled}
 use Rattle.frame_scheduler.specs.Planned.{Placement, columns_of}
+use Rattle.frame_scheduler.specs.Timeline.{null_pair}
 use Rattle.ccsuite_cli.specs.Accepted.{IsAccepted, IsRefused, list_limit}
 use Rattle.ccsuite_cli.specs.Ends.{Ends, PutsNothing}
 use Rattle.ccsuite_cli.specs.Lines.{pair_lines}
@@ -16,7 +17,7 @@ use Rattle.ccsuite_cli.specs.declared.status.Status.{Status}
 use Rattle.ccsuite_cli.specs.declared.status.Status.TheVariants as status
 
 -- the lines of an accepted list were put, one a frame; in each field every longest stretch of equal control pairs has an
--- even number of pairs
+-- even number of pairs, and field 2 carries nothing
 pub record PutsPairs (bytes : List ℕ) (old new : Option (List ℕ)) : Type 0 where
   pub list : Listing
   pub placed : Placement
@@ -24,6 +25,7 @@ pub record PutsPairs (bytes : List ℕ) (old new : Option (List ℕ)) : Type 0 w
   pub lines : Appends old new (pair_lines (columns_of list placed) 0 list.frames)
   pub doubled_one : IsDoubled (first_pairs (columns_of list placed).one list.frames)
   pub doubled_two : IsDoubled (first_pairs (columns_of list placed).two list.frames)
+  pub null_two : (frame : ℕ) → (columns_of list placed).two frame ≡ null_pair
 
 -- a front of the lines of an accepted list was put
 pub record PutsPairsFront (bytes : List ℕ) (old new : Option (List ℕ)) : Type 0 where

@@ -11,3 +11,5 @@ mod lines;
 mod pairs;
 mod program;
 mod status;
+#[cfg(test)]
+mod tests;

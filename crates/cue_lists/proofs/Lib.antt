@@ -1,5 +1,7 @@
+pub mod Complete
 pub mod Faults
 pub mod FieldFacts
+pub mod Judged
 pub mod NumberFacts
 pub mod Passing
 pub mod RecordFacts
@@ -9,6 +11,8 @@ pub mod RuleJudging
 pub mod RuleKept
 pub mod RuleLists
 pub mod RuleNearest
+pub mod Spelled
 pub mod Steps
 pub mod TextFacts
+pub mod Unique
 pub mod WordFacts

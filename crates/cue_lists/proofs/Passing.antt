@@ -7,6 +7,11 @@ pub passed : (b : Bool) → (b ≡ false → ⊥) → b ≡ true
 passed true failed = refl
 passed false failed = absurd (failed refl)
 
+-- a test that can't have been passed
+pub denied : (b : Bool) → (b ≡ true → ⊥) → b ≡ false
+denied true failed = absurd (failed refl)
+denied false failed = refl
+
 -- a value that can't be missing
 pub some_of : {A : Type 0} (o : Option A) → (o ≡ None → ⊥) → (x : A) × (o ≡ Some x)
 some_of (Some x) missing = (x, refl)
@@ -36,3 +41,16 @@ either_of false b e = inr e
 pub not_of : (b : Bool) → not b ≡ true → b ≡ false
 not_of true e = cc
 not_of false e = refl
+
+-- by cases on a test, a value and a part
+pub on_test : (P : Type 0) (b : Bool) → (b ≡ false → P) → (b ≡ true → P) → P
+on_test P true failed held = held refl
+on_test P false failed held = failed refl
+
+pub on_value : {A : Type 0} (P : Type 0) (o : Option A) → (o ≡ None → P) → ((x : A) → o ≡ Some x → P) → P
+on_value P None none some = none refl
+on_value P (Some x) none some = some x refl
+
+pub on_part : {A E : Type 0} (P : Type 0) (r : Result A E) → ((error : E) → r ≡ Err error → P) → ((x : A) → r ≡ Ok x → P) → P
+on_part P (Err error) failed held = failed error refl
+on_part P (Ok x) failed held = held x refl

@@ -2,6 +2,7 @@ pub mod Answers
 pub mod Begun
 pub mod Cues
 pub mod Fields
+pub mod FirstFault
 pub mod Line21Cues
 pub mod Listing
 pub mod Reading

@@ -1,5 +1,5 @@
 -- What this version can't author yet. Each of these is good by the form of cue lists, and is refused as not built.
-use Rattle.std.specs.Prelude.{◌≡◌, ℕ, ◌≤◌, Bool, true, false, not, ◌&&◌, is_none, [], length, All, Option, Some, None}
+use Rattle.std.specs.Prelude.{◌≡◌, ⊤, ℕ, ◌≤◌, Bool, true, false, not, ◌&&◌, is_none, [], length, All, Option, Some, None}
 use Rattle.std.specs.List.{list_all}
 use Rattle.line21_codes.specs.declared.channels.Chan.{Chan}
 use Rattle.line21_codes.specs.declared.channels.Chan.TheVariants as chan
@@ -66,3 +66,14 @@ pub record IsBuilt (l : Listing) : Type 0 where
   pub shares : l.shares ≡ []
   pub one_cue : length l.cues ≤ 1
   pub cues : All IsBuiltCue l.cues
+
+-- a last cue that this version authors, or none
+abbrev pub IsBuiltLast : Option Cue → Type 0
+IsBuiltLast None = ⊤
+IsBuiltLast (Some cue) = IsBuiltCue cue
+
+-- a begun list that this version authors
+pub record IsBuiltBegun (b : Begun) : Type 0 where
+  pub shares : b.shares ≡ []
+  pub earlier : b.earlier ≡ []
+  pub last : IsBuiltLast b.last

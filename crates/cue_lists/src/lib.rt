@@ -14,6 +14,7 @@ mod draft;
 mod fault;
 mod fields;
 mod head;
+pub mod laws;
 mod list;
 mod offence;
 mod reading;

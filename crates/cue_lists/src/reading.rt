@@ -1,6 +1,10 @@
-ghost use Rattle.std.specs.Prelude.{◌≤◌, length};
+ghost use Rattle.std.specs.Prelude.{◌≤◌, IfErr, IfOk, length};
 ghost use Rattle.cue_lists.specs.Answers.{Answers};
+ghost use Rattle.cue_lists.specs.FirstFault.{FaultsFirst};
 ghost use Rattle.cue_lists.specs.Reading.{read_list};
+ghost use Rattle.cue_lists.specs.Records.{records_of};
+ghost use Rattle.cue_lists.specs.Spelling.{Spells};
+ghost use Rattle.cue_lists.specs.Unbuilt.{IsBuilt};
 
 use crate::draft::Draft;
 use crate::fault::CueFault;
@@ -17,7 +21,14 @@ use std::alloc::{AllocError, Global};
 /// is due; so is any error of the CSV reader answered, which over bytes in memory has no other.
 pub fn parse(alloc: Global, bytes: &[u8]) -> Result<CueList, CueFault>
     requires { length bytes.now ≤ 67108864 }
-    ensures { Answers (read_list bytes.now) result }
+    ensures answer { Answers (read_list bytes.now) result }
+
+    // The records spell the list that they gave, and this version authors it.
+    ensures spelled { IfOk result (λ list. Spells (records_of bytes.now) list) }
+    ensures built { IfOk result (λ list. IsBuilt list) }
+
+    // Where memory lasts, the fault is the first one.
+    ensures fault { IfErr result (λ fault. FaultsFirst (records_of bytes.now) fault) }
 {
     let rdr = ReaderBuilder::new()
         .has_headers(false)

@@ -98,6 +98,10 @@ placed_none events before (p ∷ ps) (f ∷ fs) n placed h =
 Contains-cons : (p : Piece) (ps : List Piece) (q : Piece) → Contains ps q → Contains (p ∷ ps) q
 Contains-cons p ps q c = Contains-append_right (p ∷ []) ps q c
 
+-- a doubled unit takes two slots
+two_slots : (p : Piece) (u : Unit) → p.unit ≡ u → u.doubled ≡ true → slots_of p ≡ 2
+two_slots p u is doubled = ap (λ (v : Unit). cond v.doubled 2 1) is ∙ ap (λ b. cond b 2 1) doubled
+
 -- a unit that begins at a frame: its piece is allowed there
 pub record Begins (events : List Event) (ps : List Piece) (n : ℕ) (u : Unit) : Type 0 where
   pub piece : Piece
@@ -122,7 +126,7 @@ unit_begins events before (p ∷ ps) (f ∷ fs) n u placed is = go (unit_begins 
         let next : eqb (n + 1) f ≡ false = grind (arith, nat_tests) in (
           record { piece = p; unit_is = it; allowed = subst (λ m. IsAllowed events 0 p m) here a; among = (0, omega arith, refl) },
           λ doubled.
-              let two : slots_of p ≡ 2 = ap (λ (v : Unit). cond v.doubled 2 1) it ∙ ap (λ b. cond b 2 1) doubled in
+              let two : slots_of p ≡ 2 = two_slots p u it doubled in
               at_unit p ps f fs (n + 1) false next ∙
               placed_none events (before ++ (p, f) ∷ []) ps fs (n + 1) placed.1 (omega (arith, end_push before p f)),
         )
@@ -182,10 +186,6 @@ held_none events pieces fs n placed held = go (stands pieces fs n) refl
     go (Some u) is =
         let b = (unit_begins events [] pieces fs n u placed is).0 in
         absurd (held (b.allowed.free n (omega arith) (some_slot n b.piece)))
-
--- a doubled unit takes two slots
-two_slots : (p : Piece) (u : Unit) → p.unit ≡ u → u.doubled ≡ true → slots_of p ≡ 2
-two_slots p u is doubled = ap (λ (v : Unit). cond v.doubled 2 1) is ∙ ap (λ b. cond b 2 1) doubled
 
 -- what is due behind a frame comes from a doubled unit that begins there
 due_from : (o : Option Unit) (p : Pair) → repeat_of o ≡ Some p → (u : Unit) × (o ≡ Some u) × (u.doubled ≡ true)

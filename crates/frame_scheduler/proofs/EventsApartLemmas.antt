@@ -12,7 +12,7 @@ use Rattle.cue_lists.specs.declared.cue.Cue.{Cue}
 use Rattle.cue_lists.specs.declared.cue.Kind.{Kind}
 use Rattle.cue_lists.specs.declared.cue.Kind.TheVariants as kind
 use Rattle.line21_author.specs.Channels.{is_in_second_field, cues_on}
-use Rattle.line21_author.specs.CueEvents.{event_of, is_pop_on, is_replaced_at, show_events, hide_events, events_of, channel_events}
+use Rattle.line21_author.specs.CueEvents.{event_of, is_replaced_at, show_events, hide_events, events_of, channel_events}
 use Rattle.line21_author.specs.EventOrder.{AreApart, IsInTurn, Follows, AreInTurn}
 use Rattle.line21_author.specs.declared.event.Event.{Event}
 use Rattle.line21_author.proofs.CueEventsLemmas.{events_of_apart}
@@ -20,22 +20,15 @@ use Rattle.frame_scheduler.specs.CueSequence.{ComesAfter, AreInSequence}
 use Rattle.frame_scheduler.specs.SoundCues.{IsSound}
 use Rattle.frame_scheduler.proofs.CueSequenceLemmas.{in_sequence, in_sequence_sound}
 
--- the two tests for a pop-on cue agree
-pub pop_on_is_pop : (k : Kind) → is_pop_on k ≡ is_pop k
-pop_on_is_pop (kind.Pop channel) = refl
-pop_on_is_pop (kind.Paint channel) = refl
-pop_on_is_pop (kind.Roll channel rows) = refl
-pop_on_is_pop (kind.Win window) = refl
-
 -- a roll-up cue isn't pop-on
-pub roll_is_not_pop : (k : Kind) → is_roll k ≡ true → is_pop_on k ≡ false
+pub roll_is_not_pop : (k : Kind) → is_roll k ≡ true → is_pop k ≡ false
 roll_is_not_pop (kind.Pop channel) roll = cc
 roll_is_not_pop (kind.Paint channel) roll = refl
 roll_is_not_pop (kind.Roll channel rows) roll = refl
 roll_is_not_pop (kind.Win window) roll = refl
 
 -- a pop-on cue isn't roll-up
-pub pop_is_not_roll : (k : Kind) → is_pop_on k ≡ true → is_roll k ≡ false
+pub pop_is_not_roll : (k : Kind) → is_pop k ≡ true → is_roll k ≡ false
 pop_is_not_roll (kind.Pop channel) pop = refl
 pop_is_not_roll (kind.Paint channel) pop = refl
 pop_is_not_roll (kind.Roll channel rows) pop = cc
@@ -47,7 +40,7 @@ sound_in_turn frames cue sound =
     record {
       shown = sound.loaded;
       hidden = sound.hidden;
-      stays = λ pop. sound.stays (sym (pop_on_is_pop cue.kind) ∙ pop);
+      stays = sound.stays;
     }
 
 -- a cue that comes after another follows it
@@ -55,8 +48,8 @@ after_follows : (former cue : Cue) → ComesAfter former cue → Follows former 
 after_follows former cue after =
     record {
       shown = after.shown;
-      apart = λ pop. after.apart (sym (pop_on_is_pop cue.kind) ∙ pop);
-      loaded = λ other. after.cleared (sym (pop_on_is_pop cue.kind) ∙ other);
+      apart = after.apart;
+      loaded = after.cleared;
       behind = after.loaded;
       stays = λ none. roll_is_not_pop cue.kind (after.continued none).roll;
     }
@@ -117,7 +110,7 @@ events_ended second_field frames (cue ∷ later) sound =
     ended-append frames (show_events second_field cue ++ hide_events second_field cue.hide later)
     (events_of second_field later)
     (ended-append frames (show_events second_field cue) (hide_events second_field cue.hide later)
-    (show_ended second_field (is_pop_on cue.kind) frames cue.show
+    (show_ended second_field (is_pop cue.kind) frames cue.show
     (λ pop. show_ended_at frames cue.show cue.hide (sound.0.erased (pop_is_not_roll cue.kind pop))
     sound.0.hidden sound.0.ended))
     (hide_ended second_field frames cue.show cue.hide later sound.0.ended))

@@ -8,7 +8,7 @@ use Rattle.line21_author.specs.declared.event.Event.{Event}
 use Rattle.frame_scheduler.specs.declared.lane.piece.Piece.{Piece}
 use Rattle.frame_scheduler.specs.FieldLane.{slots_of, end_of, IsAllowed, lane}
 use Rattle.frame_scheduler.specs.FirstFit.{IsFirstFrame}
-use Rattle.frame_scheduler.specs.Placing.{IsPlaced, IsEarliest, HasEarliest, HasNone}
+use Rattle.frame_scheduler.specs.Placing.{IsPlaced, IsEarliest, HasEarliest, HasNone, HasPlacement}
 use Rattle.frame_scheduler.specs.LaneRoom.{AreOfCuesFrom, AreInOrder, up_to, IsFirstWithoutRoom}
 use Rattle.frame_scheduler.proofs.PlacingLemmas.{placed_prefix, none_append}
 use Rattle.frame_scheduler.proofs.FieldLaneLemmas.{lane_one_more, end_push}
@@ -41,6 +41,18 @@ up_to_none cue (u ∷ us) h =
     let rest : up_to cue us ≡ [] = up_to_none cue us (λ k d i. h (suc k) d (omega arith)) in
     let test : leb u.cue cue ≡ false = grind (arith, nat_tests) in
     rw test rest
+
+-- the units up to a cue are the first ones
+pub up_to_first : (us : List Piece) (cue : ℕ) → AreInOrder us → (rest : List Piece) × (us ≡ up_to cue us ++ rest)
+up_to_first [] cue o = ([], refl)
+up_to_first (u ∷ us) cue o =
+    ⊎_elim
+    (λ (i : cue < u.cue). (u ∷ us, sym (ap (λ l. l ++ u ∷ us) (up_to_none cue (u ∷ us) (λ n e r. omega (arith, order_from u us o n e r, i))))))
+    (λ (i : u.cue ≤ cue).
+    let w = up_to_first us cue o.1 in
+    let test : leb u.cue cue ≡ true = grind (arith, nat_tests) in
+    (w.0, rw test (ap (λ l. u ∷ l) w.1)))
+    (cases_lt cue u.cue)
 
 -- the units up to an earlier cue are the first ones of those before a unit
 pub up_to_before : (us : List Piece) (k cue : ℕ) (d : Piece) → AreInOrder us → k < length us → cue < (get_or us k d).cue
@@ -136,3 +148,24 @@ reaches_next events us k d end new (Some f) is h r first after = (
 -- all of the lane's units are placed
 pub reaches_all : (events : List Event) (us : List Piece) (k end : ℕ) → length us ≤ k → Reaches events (take k us) end → HasEarliest (lane events) us
 reaches_all events us k end h r = (r.frames, subst (λ l. IsEarliest (lane events) l r.frames) (take_all k us h) r.earliest)
+
+-- where all units have a placement, each cue has room
+pub room_all : (events : List Event) (us : List Piece) → AreInOrder us → HasEarliest (lane events) us → (cue : ℕ) → HasPlacement (lane events) (up_to cue us)
+room_all events us o e cue =
+    let w = up_to_first us cue o in
+    placed_prefix (lane events) (up_to cue us) w.0 e.0 (subst (λ l. IsPlaced (lane events) [] l e.0) w.1 e.1.placed)
+
+-- no cue is without room where all units have a placement
+pub room_none : (events : List Event) (us : List Piece) → AreInOrder us → HasEarliest (lane events) us → (cue : ℕ) → IsFirstWithoutRoom events us cue → ⊥
+room_none events us o e cue without = let w = room_all events us o e cue in without.none w.0 w.1
+
+-- one cue is the first without room
+pub first_same : (events : List Event) (us : List Piece) (c d : ℕ) → IsFirstWithoutRoom events us c → IsFirstWithoutRoom events us d → c ≡ d
+first_same events us c d a b =
+    ⊎_elim
+    (λ (h : c < d). let w = b.first c h in absurd (a.none w.0 w.1))
+    (λ (h : d ≤ c). ⊎_elim
+    (λ (i : d < c). let w = a.first d i in absurd (b.none w.0 w.1))
+    (λ (i : c ≤ d). omega arith)
+    (cases_lt d c))
+    (cases_lt c d)

@@ -14,4 +14,5 @@ pub mod ChannelCues
 pub mod ChannelOrderLemmas
 pub mod CueSequenceLemmas
 pub mod EventsApartLemmas
+pub mod NoCuesLemmas
 pub mod ListDoublingLemmas

@@ -8,13 +8,14 @@ use Rattle.line21_codes.specs.declared.codes.Control.TheVariants.{Eoc, Edm}
 use Rattle.line21_codes.specs.Writable.{IsWritableControl}
 use Rattle.line21_codes.proofs.CodeLemmas.{written-odd, is_control-written}
 use Rattle.cue_lists.specs.declared.cue.Cue.{Cue}
+use Rattle.cue_lists.specs.Rules.Lane.{is_pop}
 use Rattle.line21_author.specs.declared.event.Event.{Event}
 use Rattle.line21_codes.specs.declared.channels.Chan.{Chan}
 use Rattle.line21_author.specs.Channels.{is_in_second_field, cues_on}
 use Rattle.line21_author.specs.FirstChannel.{first_channel}
-use Rattle.line21_author.specs.CueEvents.{event_of, is_pop_on, show_events, hide_events, is_replaced_at, events_of, channel_events}
+use Rattle.line21_author.specs.CueEvents.{event_of, show_events, hide_events, is_replaced_at, events_of, channel_events}
 use Rattle.line21_author.specs.EventPairs.{IsControlEvent}
-use Rattle.line21_author.specs.EventOrder.{AreFrom, AreApart, IsInTurn, Follows, AreInTurn}
+use Rattle.line21_author.specs.EventOrder.{AreFrom, AreApart, AreInTurn}
 
 -- the event of a code that can be written has a control pair
 event_of_control : (second_field : Bool) (frame : ℕ) (control : Control) → IsWritableControl control
@@ -54,7 +55,7 @@ events_control second_field [] = tt
 events_control second_field (cue ∷ later) =
     controls-append (show_events second_field cue ++ hide_events second_field cue.hide later) (events_of second_field later)
     (controls-append (show_events second_field cue) (hide_events second_field cue.hide later)
-    (show_control second_field (is_pop_on cue.kind) cue.show) (hide_control second_field cue.hide later))
+    (show_control second_field (is_pop cue.kind) cue.show) (hide_control second_field cue.hide later))
     (events_control second_field later)
 
 pub events_of_control : (second_field : Bool) (cues : List Cue) → All IsControlEvent (events_of second_field cues)
@@ -116,16 +117,16 @@ hide_fit_at second_field true false n hide next events test below shown apart lo
 
 hide_fit : (second_field : Bool) (n : ℕ) (cue : Cue) (hide : Option ℕ) (next : Cue) (later : List Cue) (events : List Event)
     → IfSome hide (λ frame. n ≤ frame) → n ≤ cue.show + 2 → cue.show ≤ next.load
-    → IfSome hide (λ frame. frame ≤ next.show) → (is_pop_on next.kind ≡ true → IfSome hide (λ frame. next.show ≢ frame + 1))
-    → (is_pop_on next.kind ≡ false → IfSome hide (λ frame. frame ≤ next.load))
-    → (hide ≡ None → is_pop_on next.kind ≡ false)
-    → IsFitFrom (first_from (is_pop_on next.kind) next) events
+    → IfSome hide (λ frame. frame ≤ next.show) → (is_pop next.kind ≡ true → IfSome hide (λ frame. next.show ≢ frame + 1))
+    → (is_pop next.kind ≡ false → IfSome hide (λ frame. frame ≤ next.load))
+    → (hide ≡ None → is_pop next.kind ≡ false)
+    → IsFitFrom (first_from (is_pop next.kind) next) events
     → IsFitFrom n (hide_events second_field hide (next ∷ later) ++ events)
 hide_fit second_field n cue None next later events below bound behind shown apart loaded stays fit =
     IsFitFrom-weaker (next.load + 2) n events (omega arith)
     (subst (λ (pop_on : Bool). IsFitFrom (first_from pop_on next) events) (stays refl) fit)
 hide_fit second_field n cue (Some hide) next later events below bound behind shown apart loaded stays fit =
-    hide_fit_at second_field (is_pop_on next.kind) (next.show == hide) n hide next events refl below shown apart loaded fit
+    hide_fit_at second_field (is_pop next.kind) (next.show == hide) n hide next events refl below shown apart loaded fit
 
 -- what shows a cue and the events behind it
 show_fit : (second_field pop_on : Bool) (cue : Cue) (hides events : List Event)
@@ -148,17 +149,17 @@ hides_from_low false cue shown = omega arith
 
 -- the events of cues in turn
 turn_fit : (second_field : Bool) (cue : Cue) (later : List Cue) → AreInTurn (cue ∷ later)
-    → IsFitFrom (first_from (is_pop_on cue.kind) cue) (events_of second_field (cue ∷ later))
+    → IsFitFrom (first_from (is_pop cue.kind) cue) (events_of second_field (cue ∷ later))
 turn_fit second_field cue [] turn =
-    show_fit second_field (is_pop_on cue.kind) cue (hide_events second_field cue.hide []) []
-    (last_fit second_field (hides_from (is_pop_on cue.kind) cue) cue.hide
-    (hides_after (is_pop_on cue.kind) cue cue.hide turn.shown turn.hidden turn.stays))
+    show_fit second_field (is_pop cue.kind) cue (hide_events second_field cue.hide []) []
+    (last_fit second_field (hides_from (is_pop cue.kind) cue) cue.hide
+    (hides_after (is_pop cue.kind) cue cue.hide turn.shown turn.hidden turn.stays))
 turn_fit second_field cue (next ∷ later) turn =
-    show_fit second_field (is_pop_on cue.kind) cue (hide_events second_field cue.hide (next ∷ later))
+    show_fit second_field (is_pop cue.kind) cue (hide_events second_field cue.hide (next ∷ later))
     (events_of second_field (next ∷ later))
-    (hide_fit second_field (hides_from (is_pop_on cue.kind) cue) cue cue.hide next later (events_of second_field (next ∷ later))
-    (hides_after (is_pop_on cue.kind) cue cue.hide turn.0.shown turn.0.hidden turn.0.stays)
-    (hides_from_low (is_pop_on cue.kind) cue turn.0.shown)
+    (hide_fit second_field (hides_from (is_pop cue.kind) cue) cue cue.hide next later (events_of second_field (next ∷ later))
+    (hides_after (is_pop cue.kind) cue cue.hide turn.0.shown turn.0.hidden turn.0.stays)
+    (hides_from_low (is_pop cue.kind) cue turn.0.shown)
     turn.1.behind turn.1.shown turn.1.apart turn.1.loaded turn.1.stays (turn_fit second_field next later turn.2))
 
 -- the events of cues in turn are apart

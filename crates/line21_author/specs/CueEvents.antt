@@ -1,23 +1,15 @@
 -- The events of a channel: the end-of-caption code that shows a pop-on cue, and the erasure of the
 -- displayed memory that hides a cue (CTA-608-E; 47 CFR 79.101).
-use Rattle.std.specs.Prelude.{ℕ, ◌==◌, ◌&&◌, Bool, true, false, if◌then◌else◌, Option, Some, None, List, [], ◌∷◌, ◌++◌}
+use Rattle.std.specs.Prelude.{ℕ, ◌==◌, ◌&&◌, Bool, false, if◌then◌else◌, Option, Some, None, List, [], ◌∷◌, ◌++◌}
 use Rattle.line21_codes.specs.declared.channels.Chan.{Chan}
 use Rattle.line21_codes.specs.declared.codes.Control.{Control}
 use Rattle.line21_codes.specs.declared.codes.Control.TheVariants.{Eoc, Edm}
 use Rattle.line21_codes.specs.Writing.{written}
-use Rattle.cue_lists.specs.declared.cue.Kind.{Kind}
-use Rattle.cue_lists.specs.declared.cue.Kind.TheVariants.{Pop, Paint, Roll, Win}
 use Rattle.cue_lists.specs.declared.cue.Cue.{Cue}
+use Rattle.cue_lists.specs.Rules.Lane.{is_pop}
 use Rattle.line21_author.specs.declared.event.Event.{Event}
 use Rattle.line21_author.specs.Channels.{is_in_second_field, cues_on}
 use Rattle.line21_author.specs.FirstChannel.{first_channel}
-
--- the kind is pop-on
-abbrev pub is_pop_on : Kind → Bool
-is_pop_on (Pop channel) = true
-is_pop_on (Paint channel) = false
-is_pop_on (Roll channel rows) = false
-is_pop_on (Win window) = false
 
 -- a control code at a frame, in a field
 abbrev pub event_of : Bool → ℕ → Control → Event
@@ -25,12 +17,12 @@ event_of second_field frame control = record { frame = frame; pair = written sec
 
 -- a pop-on cue is shown at its SHOW; other cues are written onto the screen
 abbrev pub show_events : Bool → Cue → List Event
-show_events second_field cue = if is_pop_on cue.kind then event_of second_field cue.show Eoc ∷ [] else []
+show_events second_field cue = if is_pop cue.kind then event_of second_field cue.show Eoc ∷ [] else []
 
 -- the next cue is a pop-on cue that is shown at the frame, and so takes the place of what was displayed
 abbrev pub is_replaced_at : ℕ → List Cue → Bool
 is_replaced_at frame [] = false
-is_replaced_at frame (next ∷ later) = is_pop_on next.kind && (next.show == frame)
+is_replaced_at frame (next ∷ later) = is_pop next.kind && (next.show == frame)
 
 -- a cue with a HIDE is erased there, unless the next cue replaces it then
 abbrev pub hide_events : Bool → Option ℕ → List Cue → List Event

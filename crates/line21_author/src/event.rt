@@ -1,7 +1,8 @@
 ghost use Rattle.std.specs.Prelude.{◌≡◌, ◌+◌, ◌^◌, ◌<◌, List, ◌∷◌, ◌++◌, [], All, IfOk, OnOk};
 ghost use Rattle.line21_codes.specs.Writable.{IsWritableControl};
+ghost use Rattle.cue_lists.specs.Rules.Lane.{is_pop};
 ghost use Rattle.line21_author.specs.Channels.{cues_on};
-ghost use Rattle.line21_author.specs.CueEvents.{event_of, is_pop_on, show_events, hide_events, channel_events};
+ghost use Rattle.line21_author.specs.CueEvents.{event_of, show_events, hide_events, channel_events};
 ghost use Rattle.line21_author.specs.EventOrder.{AreInTurn, AreApart};
 ghost use Rattle.line21_author.specs.EventPairs.{IsControlEvent};
 
@@ -60,7 +61,7 @@ fn push_change(
     ensures { OnOk result (events.new.items
         ≡ events.old.items ++ (hide_events second_field hide (next.now ∷ []) ++ show_events second_field next.now)) }
 {
-    let pop_on = is_pop_on(next.kind);
+    let pop_on = is_pop(next.kind);
     if let Some(frame) = hide {
         if !(pop_on && next.show == frame) {
             events.push(event_of(second_field, frame, Control::Edm))?;
@@ -98,8 +99,8 @@ fn event_of(second_field: bool, frame: u32, control: Control) -> Event
 }
 
 // Whether the kind is pop-on.
-fn is_pop_on(kind: Kind) -> bool
-    ensures { result ≡ is_pop_on kind }
+fn is_pop(kind: Kind) -> bool
+    ensures { result ≡ is_pop kind }
 {
     matches!(kind, Kind::Pop(_))
 }

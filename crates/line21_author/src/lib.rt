@@ -12,8 +12,7 @@ mod cue;
 mod event;
 mod opening;
 mod run;
-mod text;
-mod unit;
-
 #[cfg(test)]
 mod tests;
+mod text;
+mod unit;

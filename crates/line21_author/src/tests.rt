@@ -107,12 +107,12 @@ fn cue(kind: Kind, runs: Vec<Run>) -> Option<Cue>
 }
 
 // The units of a cue as they stand in a listing: the bytes of each pair, and how often it is sent.
-fn listing(alloc: Global, kind: Kind, runs: Vec<Run>) -> Result<Vec<(u8, u8, u8)>, Fail> {
+fn listing(alloc: Global, kind: Kind, runs: Vec<Run>) -> Result<Vec<(u8, u8, u32)>, Fail> {
     let cue = cue(kind, runs).ok_or("the runs go with the kind")?;
     let units = units(alloc, &cue)?;
     let mut listing = Vec::new(alloc);
     for unit in units.as_slice() {
-        listing.push((unit.pair.a, unit.pair.b, if unit.doubled { 2 } else { 1 }))?;
+        listing.push((unit.pair.a, unit.pair.b, unit.slots()))?;
     }
     Ok(listing)
 }
@@ -124,7 +124,7 @@ fn run_listing(
     col: u8,
     style: Style,
     text: &str,
-) -> Result<Vec<(u8, u8, u8)>, Fail> {
+) -> Result<Vec<(u8, u8, u32)>, Fail> {
     let runs = vec![in alloc; run(alloc, row, col, style, text)?]?;
     let listing = listing(alloc, Kind::Pop(Chan::Cc1), runs)?;
     Ok(Vec::from_slice(alloc, listing.get(2..).unwrap_or(&[]))?)

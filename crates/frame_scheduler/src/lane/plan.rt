@@ -32,6 +32,8 @@ impl Lane {
             (λ plan. plan ≡ record { pieces = self.pieces.items; events = self.events.items; frame = 0 }) }
         ensures earliest { IfOk result (λ _. HasEarliest (lane self.events.items) self.pieces.items) }
         ensures no_room { IfErr result (IsFirstWithoutRoom self.events.items self.pieces.items) }
+        ensures exact { (cue : ℕ) → IsFirstWithoutRoom self.events.items self.pieces.items cue
+            → result ≡ Err cue }
     {
         match cue_without_room(&self.pieces, &self.events) {
             Some(cue) => Err(cue),

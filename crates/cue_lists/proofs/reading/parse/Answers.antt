@@ -1,7 +1,10 @@
 use Rattle.std.proofs.Common.{Bor, List, [], ℕ, ◌≤◌, ◌∙◌, ◌+◌, length, refl, inl, inr, Some, arith}
 use Rattle.csv.specs.Reading.{default_config, strip_bom}
 use Rattle.csv.specs.Records.{fields_of}
-use Rattle.cue_lists.proofs.Faults.{refused}
+use Rattle.cue_lists.specs.Answers.{Answers}
+use Rattle.cue_lists.specs.Reading.{read_list}
+use Rattle.cue_lists.specs.Records.{records_of}
+use Rattle.cue_lists.proofs.Faults.{answered_fault, refused, says_built, says_fault, says_spelled}
 use Rattle.cue_lists.proofs.Rows.{bom_shorter, read_end, read_row}
 use Rattle.cue_lists.proofs.Steps.{IsBegun-next, IsBegun-nothing}
 use Rattle.cue_lists.proofs.reading.parse.Goals as goal
@@ -59,11 +62,18 @@ returns-in-Err-take c =
     let inv = c.loop-row.invariant in
     let s = rw (c.in-Some.is, c.in-Ok.is) at ((c.next.ensures.steps inv.2 inv.0).0 inv.1) in
     let row = read_row (λ (s : Bor (List ℕ)). Some s.now) c.loop-row.row-iterator.rdr c.next.new.self.rdr (fields_of c.in-Ok.row) default_config inv.5 inv.4 inv.3 inv.6 inv.7 s.0 in
-    refused _ c.loop-row.draft c.loop-row.rec _ _ (fields_of c.in-Ok.row) c.in-Err-take.offence _ inv.9 row.5 c.in-Err-take.ensures c.in_record.ensures
+    let answer = refused (read_list c.args.bytes.now) c.loop-row.draft c.loop-row.rec _ _ (fields_of c.in-Ok.row) c.in-Err-take.offence c.in_record.result inv.9 row.5 c.in-Err-take.ensures c.in_record.ensures in
+    record { answer = answer; spelled = tt; built = tt; fault = answered_fault (records_of c.args.bytes.now) c.in_record.result answer }
 
 pub returns : goal.returns
 returns c =
     let inv = c.loop-row.invariant in
     let s = rw c.in-None.is at ((c.next.ensures.steps inv.2 inv.0).0 inv.1) in
     let none = read_end (λ (s : Bor (List ℕ)). Some s.now) c.loop-row.row-iterator.rdr c.next.new.self.rdr [] default_config inv.5 inv.4 inv.3 inv.6 s in
-    rw (inv.9, none) c.finish.ensures
+    let answer : Answers (read_list c.args.bytes.now) c.finish.result = rw (inv.9, none) c.finish.ensures in
+    record {
+      answer = answer;
+      spelled = says_spelled (records_of c.args.bytes.now) c.finish.result answer;
+      built = says_built (records_of c.args.bytes.now) c.finish.result answer;
+      fault = says_fault (records_of c.args.bytes.now) c.finish.result answer;
+    }

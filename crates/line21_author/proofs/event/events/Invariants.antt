@@ -1,6 +1,6 @@
 use Rattle.std.proofs.Common.{◌≡◌, ◌++◌, drop}
 use Rattle.line21_author.specs.Channels.{cues_on}
-use Rattle.line21_author.specs.CueEvents.{hide_events, events_of, channel_events}
+use Rattle.line21_author.specs.CueEvents.{hide_events, events_of}
 use Rattle.line21_author.proofs.event.events.Given as goal
 
 -- the events so far, with those from the last cue's HIDE on, are the channel's

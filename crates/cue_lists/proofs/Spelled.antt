@@ -1,0 +1,180 @@
+-- A list that was read: its records spell it, and this version authors it.
+use Rattle.std.proofs.Common.{◌≡◌, ℕ, ◌+◌, ◌<◌, ◌≤◌, ◌==◌, ◌&&◌, Bool, not, nat_lt, nat_le, is_none, is_some, List, [], ◌∷◌, ◌++◌, map, true, false, length, All, codes, decimal, Option, Some, None, option_to_list, Result, Ok, Err, arith, refl, sym, ap, ◌∙◌, append_assoc, length-append}
+use Rattle.std.specs.List.{flat_map, list_all}
+use Rattle.std.proofs.lemmas.Grind.{flat_map-append}
+use Rattle.std.proofs.lemmas.List.{append-nil, map-append}
+use Rattle.std.proofs.lemmas.List.Elements.{All-cons, All-nil, All-push}
+use Rattle.line21_codes.specs.declared.channels.Chan.{Chan}
+use Rattle.line21_codes.specs.declared.channels.Chan.TheVariants as chan
+use Rattle.cue_lists.specs.Begun.{Begun, IsBegun, IsHeadOrNothing, IsLastOrNone, awaits_run, cue_with_run, cues_of, no_runs, nothing, with_cue}
+use Rattle.cue_lists.specs.Listing.{Listing, IsFormed}
+use Rattle.cue_lists.specs.Reading.{adds, head_of, list_of, may_stand, next, read_from, record_kind_of, run_of, shown_cue, shown_of}
+use Rattle.cue_lists.specs.Records.{Record, field}
+use Rattle.cue_lists.specs.Spelling.{Begins, Spells, begun_records, cue_record, cue_records, head_record, head_records, list_records, run_record, share_record}
+use Rattle.cue_lists.specs.Unbuilt.{IsBuilt, IsBuiltBegun, IsBuiltCue, IsBuiltLast, is_built_channel, is_built_kind, is_built_run}
+use Rattle.cue_lists.specs.declared.cue.Cue.{Cue}
+use Rattle.cue_lists.specs.declared.cue.Kind.{Kind}
+use Rattle.cue_lists.specs.declared.cue.Kind.TheVariants as kind
+use Rattle.cue_lists.specs.declared.cue.Run.{Run}
+use Rattle.cue_lists.specs.declared.head.Head.{Head}
+use Rattle.cue_lists.specs.declared.record_kind.RecordKind.{RecordKind}
+use Rattle.cue_lists.specs.declared.record_kind.RecordKind.TheVariants as record_kind
+use Rattle.cue_lists.specs.declared.records.Shown.{Shown}
+use Rattle.cue_lists.proofs.Passing.{denied, passed, with_part, with_value}
+use Rattle.cue_lists.proofs.RecordFacts.{head_passed, run_passed, shown_passed}
+use Rattle.cue_lists.proofs.Steps.{IsBegun-next, IsBegun-nothing, IsFormed-ended, next_passed}
+use Rattle.cue_lists.proofs.WordFacts.{kind_passed}
+
+-- what one element more adds at the end
+flat_more : {A B : Type 0} (f : A → List B) (xs : List A) (x : A) (h s : List B) → h ++ (s ++ flat_map f (xs ++ x ∷ [])) ≡ (h ++ (s ++ flat_map f xs)) ++ f x
+flat_more f xs x h s = rw (flat_map-append f xs (x ∷ []), append-nil (f x)) (simp append_assoc)
+
+-- a cue more
+begun_records-with_cue : (b : Begun) (cue : Cue) → begun_records (with_cue b cue) ≡ begun_records b ++ cue_records cue
+begun_records-with_cue b cue = flat_more cue_records (cues_of b) cue (head_records b.head) (map share_record b.shares)
+
+-- a cue's record doesn't tell its runs
+cue_record-with_run : (k : Kind) (cue : Cue) (run : Run) → cue_record k (cue_with_run cue run) ≡ cue_record k cue
+cue_record-with_run (kind.Pop channel) cue run = refl
+cue_record-with_run (kind.Paint channel) cue run = refl
+cue_record-with_run (kind.Roll channel rows) cue run = refl
+cue_record-with_run (kind.Win window) cue run = refl
+
+cue_records-with_run : (cue : Cue) (run : Run) → cue_records (cue_with_run cue run) ≡ cue_records cue ++ run_record run ∷ []
+cue_records-with_run cue run = rw (cue_record-with_run cue.kind cue run, map-append run_record cue.runs (run ∷ [])) refl
+
+-- a run more
+begun_records-with_run : (b : Begun) (cue : Cue) (run : Run) → b.last ≡ Some cue → begun_records (record b { last = Some (cue_with_run cue run) }) ≡ begun_records b ++ run_record run ∷ []
+begun_records-with_run b cue run last =
+    let h = head_records b.head in
+    let s = map share_record b.shares in
+    let old : begun_records b ≡ (h ++ (s ++ flat_map cue_records b.earlier)) ++ cue_records cue = rw last (flat_more cue_records b.earlier cue h s) in
+    let new = flat_more cue_records b.earlier (cue_with_run cue run) h s in
+    new ∙ (ap (λ rs. (h ++ (s ++ flat_map cue_records b.earlier)) ++ rs) (cue_records-with_run cue run)
+    ∙ (sym (append_assoc (h ++ (s ++ flat_map cue_records b.earlier)) (cue_records cue) (run_record run ∷ [])) ∙ ap (λ rs. rs ++ run_record run ∷ []) (sym old)))
+
+-- the head comes first
+nothing_before : (b : Begun) (head : Option Head) → is_none head ≡ true → IsHeadOrNothing b head → b ≡ nothing
+nothing_before b None none begun = begun
+nothing_before b (Some head) none begun = cc
+
+begun_records-with_head : (b : Begun) (head : Head) → b ≡ nothing → begun_records (record b { head = Some head }) ≡ begun_records b ++ head_record head ∷ []
+begun_records-with_head b head none = rw none refl
+
+-- the records, and what is built, after one more
+pub record Steps (b more : Begun) (r : Record) : Type 0 where
+  pub spelled : begun_records more ≡ begun_records b ++ r ∷ []
+  pub built : IsBuiltBegun more
+
+built_channel : (c : Chan) → is_built_channel c ≡ true → c ≡ chan.Cc1
+built_channel chan.Cc1 e = refl
+built_channel chan.Cc2 e = cc
+built_channel chan.Cc3 e = cc
+built_channel chan.Cc4 e = cc
+
+-- the first run of a cue
+one_run : (runs : List Run) (run : Run) → no_runs runs ≡ true → is_built_run run ≡ true → (length (runs ++ run ∷ []) ≤ 1) × All (λ run. is_built_run run ≡ true) (runs ++ run ∷ [])
+one_run [] run none built = (omega arith, All-cons (λ run. is_built_run run ≡ true) run [] built (All-nil _))
+one_run (first ∷ runs) run none built = cc
+
+IsBuiltCue-with_run : (cue : Cue) (run : Run) → IsBuiltCue cue → no_runs cue.runs ≡ true → is_built_run run ≡ true → IsBuiltCue (cue_with_run cue run)
+IsBuiltCue-with_run cue run cue_built none built =
+    let (one, each) = one_run cue.runs run none built in
+    record { kind = cue_built.kind; one_run = one; runs = each }
+
+-- the first cue has none before it
+none_earlier : (earlier : List Cue) (last : Option Cue) → is_none last ≡ true → earlier ≡ [] → earlier ++ option_to_list last ≡ []
+none_earlier earlier None none e = rw e refl
+none_earlier earlier (Some cue) none e = cc
+
+adds_steps : (b more : Begun) (k : RecordKind) (r : Record) → IsBegun b → IsBuiltBegun b → record_kind_of (field r 0) ≡ Some k → may_stand b k ≡ true → is_built_kind b k ≡ true → adds b k r ≡ Ok more → Steps b more r
+adds_steps b more record_kind.Ccsuite r begun ok is_kind may built taken =
+    with_part _ (head_of r) (λ error failed. let q = rw failed at taken in cc) (λ head is_head.
+    let t1 = rw is_head at taken in
+    let same : record b { head = Some head } ≡ more = cc in
+    let at = head_passed r head is_head in
+    let fields : r ≡ head_record head = at.fields _ (kind_passed (field r 0) record_kind.Ccsuite is_kind) in
+    let none = nothing_before b b.head may begun.head in
+    rw (← same) (record {
+      spelled = begun_records-with_head b head none ∙ ap (λ x. begun_records b ++ x ∷ []) (sym fields);
+      built = record { shares = ok.shares; earlier = ok.earlier; last = ok.last };
+    }))
+adds_steps b more record_kind.Pop r begun ok is_kind may built taken =
+    let few = passed (nat_lt (length (cues_of b)) 20000) (λ failed. let q = rw failed at taken in cc) in
+    let t1 = rw few at taken in
+    with_part _ (shown_of r) (λ error failed. let q = rw failed at t1 in cc) (λ shown is_shown.
+    let t2 = rw is_shown at t1 in
+    let same : with_cue b (shown_cue kind.Pop shown) ≡ more = cc in
+    let at = shown_passed r shown is_shown in
+    let fields : r ∷ [] ≡ cue_records (shown_cue kind.Pop shown) = ap (λ x. x ∷ []) (at.fields _ (kind_passed (field r 0) record_kind.Pop is_kind)) in
+    rw (← same) (record {
+      spelled = begun_records-with_cue b (shown_cue kind.Pop shown) ∙ ap (λ x. begun_records b ++ x) (sym fields);
+      built = record {
+        shares = ok.shares;
+        earlier = none_earlier b.earlier b.last built ok.earlier;
+        last = record { kind = ap kind.Pop (built_channel shown.channel at.built); one_run = omega arith; runs = All-nil _ };
+      };
+    }))
+adds_steps b more record_kind.Run r begun ok is_kind may built taken =
+    with_value _ b.last (λ none. let q = rw none at taken in cc) (λ cue last.
+    let t1 = rw last at taken in
+    with_part _ (run_of cue r) (λ error failed. let q = rw failed at t1 in cc) (λ run is_run.
+    let t2 = rw is_run at t1 in
+    let same : record b { last = Some (cue_with_run cue run) } ≡ more = cc in
+    let at = run_passed cue r run is_run in
+    let fields : r ≡ run_record run = at.fields _ (kind_passed (field r 0) record_kind.Run is_kind) in
+    let cue_built : IsBuiltCue cue = rw last at ok.last in
+    let none : no_runs cue.runs ≡ true = rw last at built in
+    rw (← same) (record {
+      spelled = begun_records-with_run b cue run last ∙ ap (λ x. begun_records b ++ x ∷ []) (sym fields);
+      built = record { shares = ok.shares; earlier = ok.earlier; last = IsBuiltCue-with_run cue run cue_built none at.built };
+    })))
+adds_steps b more record_kind.Share r begun ok is_kind may built taken = cc
+adds_steps b more record_kind.Paint r begun ok is_kind may built taken = cc
+adds_steps b more record_kind.Roll r begun ok is_kind may built taken = cc
+adds_steps b more record_kind.Win r begun ok is_kind may built taken = cc
+
+pub next_steps : (b more : Begun) (r : Record) → IsBegun b → IsBuiltBegun b → next b r ≡ Ok more → Steps b more r
+next_steps b more r begun ok taken = next_passed _ b more r taken (λ k is_kind may built added. adds_steps b more k r begun ok is_kind may built added)
+
+-- what the records so far are known to be
+pub record Read (before : List Record) (b : Begun) : Type 0 where
+  pub begins : Begins before b
+  pub built : IsBuiltBegun b
+
+pub read_more : (before : List Record) (b more : Begun) (r : Record) → Read before b → next b r ≡ Ok more → Read (before ++ r ∷ []) more
+read_more before b more r so_far taken =
+    let step = next_steps b more r so_far.begins.1 so_far.built taken in
+    record { begins = (ap (λ rs. rs ++ r ∷ []) so_far.begins.0 ∙ sym step.spelled, IsBegun-next b more r so_far.begins.1 taken); built = step.built }
+
+pub read_nothing : Read [] nothing
+read_nothing = record { begins = (refl, IsBegun-nothing); built = record { shares = refl; earlier = refl; last = tt } }
+
+-- all cues of a built list
+built_cues : (earlier : List Cue) (last : Option Cue) → earlier ≡ [] → IsBuiltLast last → (length (earlier ++ option_to_list last) ≤ 1) × All IsBuiltCue (earlier ++ option_to_list last)
+built_cues earlier None none built = rw none (omega arith, All-nil IsBuiltCue)
+built_cues earlier (Some cue) none built = rw none (omega arith, All-cons IsBuiltCue cue [] built (All-nil IsBuiltCue))
+
+-- a list that ended well
+ended_spells : (before : List Record) (b : Begun) (head : Head) → Read before b → b.head ≡ Some head → awaits_run b.last ≡ false
+    → Spells before (record { rate = head.rate; frames = head.frames; shares = b.shares; cues = cues_of b }) × IsBuilt (record { rate = head.rate; frames = head.frames; shares = b.shares; cues = cues_of b })
+ended_spells before b head so_far headed full =
+    let (one, each) = built_cues b.earlier b.last so_far.built.earlier so_far.built.last in
+    ((so_far.begins.0 ∙ rw headed refl, IsFormed-ended b head so_far.begins.1 headed full), record { shares = so_far.built.shares; one_cue = one; cues = each })
+
+pub spelled_from : (before rs : List Record) (b : Begun) (number : ℕ) (l : Listing) → Read before b → read_from b number rs ≡ Ok l → Spells (before ++ rs) l × IsBuilt l
+spelled_from before [] b number l so_far taken =
+    with_value _ b.head (λ none. let q = rw none at taken in cc) (λ head headed.
+    let t1 = rw headed at taken in
+    let full = denied (awaits_run b.last) (λ awaits. let q = rw awaits at t1 in cc) in
+    let t2 = rw full at t1 in
+    let same : record { rate = head.rate; frames = head.frames; shares = b.shares; cues = cues_of b } ≡ l = cc in
+    rw (append-nil, ← same) (ended_spells before b head so_far headed full))
+spelled_from before (r ∷ rs) b number l so_far taken =
+    with_part _ (next b r) (λ error failed. let q = rw failed at taken in cc) (λ more is_more.
+    let t1 = rw is_more at taken in
+    rw (← append_assoc before (r ∷ []) rs) (spelled_from (before ++ r ∷ []) rs more (number + 1) l (read_more before b more r so_far is_more) t1))
+
+-- records that were read as a list spell it, and this version authors it
+pub list_of_spelled : (rs : List Record) (l : Listing) → list_of rs ≡ Ok l → Spells rs l × IsBuilt l
+list_of_spelled rs l taken = spelled_from [] rs nothing 1 l read_nothing taken

@@ -1,0 +1,20 @@
+//! What holds of every cue list, whatever its records.
+
+ghost use Rattle.std.specs.Prelude.{◌≡◌, Err, List, Ok};
+ghost use Rattle.cue_lists.specs.FirstFault.{IsFirstFault};
+ghost use Rattle.cue_lists.specs.Listing.{Listing};
+ghost use Rattle.cue_lists.specs.Reading.{list_of};
+ghost use Rattle.cue_lists.specs.Records.{Record};
+ghost use Rattle.cue_lists.specs.Spelling.{Spells};
+ghost use Rattle.cue_lists.specs.Unbuilt.{IsBuilt};
+ghost use Rattle.cue_lists.specs.declared.fault.CueFault.{CueFault};
+
+/// Records that spell a list which this version authors are read as that list, and so have no fault.
+pub fn spelled_is_read()
+    ensures { (records : List Record) (list : Listing) → Spells records list → IsBuilt list → list_of records ≡ Ok list }
+{}
+
+/// Records that have a first fault are answered with it: there is one at most.
+pub fn first_fault_is_answered()
+    ensures { (records : List Record) (fault : CueFault) → IsFirstFault records fault → list_of records ≡ Err fault }
+{}
