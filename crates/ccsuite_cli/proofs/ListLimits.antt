@@ -7,8 +7,9 @@ use Rattle.cc_base.specs.declared.limit_of.LimitOf.{LimitOf}
 use Rattle.cc_base.specs.declared.limit_of.LimitOf.TheVariants as limit
 use Rattle.cue_lists.specs.Begun.{Begun, awaits_run, cues_of, nothing}
 use Rattle.cue_lists.specs.Fields.{channel_of, frame_of, number_of, number_within, pen_of, rate_of}
+use Rattle.cue_lists.specs.Form.{frame_or_none_of, is_coded, may_stand, record_kind_of, suits_row}
 use Rattle.cue_lists.specs.Listing.{Listing}
-use Rattle.cue_lists.specs.Reading.{adds, cue_of, ended, frame_or_none_of, head_of, in_record, is_coded, list_of, may_stand, next, on_ok, opens, read_from, read_list, read_on, record_kind_of, rolled_cue_of, run_of, runs_on, share_record_of, shown_of, suits_row, text_of}
+use Rattle.cue_lists.specs.Reading.{adds, cue_of, ended, head_of, in_record, list_of, next, on_ok, opens, read_from, read_list, read_on, rolled_cue_of, run_of, runs_on, share_record_of, shown_of, text_of}
 use Rattle.cue_lists.specs.Records.{Record, field, records_of}
 use Rattle.cue_lists.specs.Unbuilt.{is_built_channel, is_built_character, is_built_kind, is_built_pen}
 use Rattle.cue_lists.specs.declared.cue.Cue.{Cue}

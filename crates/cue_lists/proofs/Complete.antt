@@ -1,7 +1,7 @@
 -- Records that spell a list which this version authors are read as that list.
-use Rattle.std.proofs.Common.{◌≡◌, ℕ, ◌+◌, ◌<◌, ◌≤◌, ◌^◌, ◌&&◌, Bool, true, false, not, nat_lt, nat_le, List, [], ◌∷◌, ◌++◌, map, length, All, IsSome, codes, decimal, chars, encode_utf8_all, IsUtf8, Option, Some, None, Result, Ok, Err, arith, refl, sym, ap, ◌∙◌, le-leb, lt-ltb, subst}
+use Rattle.std.proofs.Common.{◌≡◌, ℕ, ◌+◌, ◌<◌, ◌≤◌, ◌^◌, ◌&&◌, Bool, true, false, not, nat_lt, List, [], ◌∷◌, ◌++◌, map, length, All, IsSome, codes, decimal, encode_utf8_all, IsUtf8, Option, Some, None, Ok, arith, refl, sym, ap, le-leb, lt-ltb, subst}
 use Rattle.std.specs.List.{flat_map, list_all}
-use Rattle.std.specs.Str.{all_scalars, is_utf8}
+use Rattle.std.specs.Str.{all_scalars}
 use Rattle.std.proofs.lemmas.List.Elements.{All-head, All-tail}
 use Rattle.std.proofs.lemmas.Str.{chars-encodes, is_utf8-from_IsUtf8, length-le-encodes}
 use lib.Utf8.{scalar}
@@ -18,12 +18,13 @@ use Rattle.line21_codes.specs.Spellings.{spelling_of}
 use Rattle.line21_codes.proofs.CharacterLemmas.{spelling_of-shows}
 use Rattle.line21_codes.proofs.Tables.{all_below, at_each}
 use Rattle.cue_lists.specs.Cues.{IsCueFormed}
-use Rattle.cue_lists.specs.Fields.{pen_of, rate_of}
+use Rattle.cue_lists.specs.Fields.{rate_of}
 use Rattle.cue_lists.specs.Line21Cues.{IsLine21Run}
-use Rattle.cue_lists.specs.Listing.{IsFormed, IsListRate, Listing}
-use Rattle.cue_lists.specs.Reading.{head_of, is_coded, list_of, run_of, shown_of, text_of}
+use Rattle.cue_lists.specs.Listing.{IsListRate, Listing}
+use Rattle.cue_lists.specs.Form.{is_coded}
+use Rattle.cue_lists.specs.Reading.{head_of, list_of, run_of, shown_of, text_of}
 use Rattle.cue_lists.specs.Records.{Record}
-use Rattle.cue_lists.specs.Spelling.{Spells, cue_records, head_record, list_records, pen_word, rate_word, run_record, share_record}
+use Rattle.cue_lists.specs.Spelling.{Spells, cue_records, head_record, pen_word, rate_word, run_record, share_record}
 use Rattle.cue_lists.specs.Unbuilt.{IsBuilt, IsBuiltCue, is_basic_spelling, is_white, is_built_character, is_built_pen, is_built_run}
 use Rattle.cue_lists.specs.declared.cue.Cue.{Cue}
 use Rattle.cue_lists.specs.declared.cue.Kind.{Kind}

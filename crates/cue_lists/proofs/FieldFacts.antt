@@ -1,7 +1,7 @@
 -- Fields of records.
 use Rattle.std.proofs.Common.{◌≡◌, Bor, ℕ, option_map, zero, suc, List, [], ◌∷◌, Option, Some, None, unwrap_or, refl, ap, ◌∙◌}
 use Rattle.csv.specs.Records.{field_at}
-use Rattle.cue_lists.specs.Records.{Field, Record, field}
+use Rattle.cue_lists.specs.Records.{Record, field}
 
 -- the field at a place, or an empty one
 unwrap_or-field_at : (r : Record) (place : ℕ) → unwrap_or (field_at r place) [] ≡ field r place

@@ -1,5 +1,5 @@
 -- A record is refused exactly at the first of its judgements that isn't good.
-use Rattle.std.proofs.Common.{◌≡◌, ℕ, ◌+◌, ◌==◌, ◌⊎◌, Bool, true, false, not, ◌&&◌, nat_lt, nat_le, List, [], ◌∷◌, ◌++◌, length, codes, bytes_eq, chars, Option, Some, None, is_some, Result, Ok, Err, refl, sym, ap, ◌∙◌, append_assoc, length-append, arith, inl, inr}
+use Rattle.std.proofs.Common.{◌≡◌, ℕ, ◌+◌, ◌==◌, false, ◌&&◌, nat_lt, nat_le, List, [], ◌∷◌, ◌++◌, length, codes, bytes_eq, chars, Option, Some, None, Result, Ok, Err, refl, sym, ◌∙◌, append_assoc, length-append, arith, inl, inr}
 use Rattle.std.proofs.lemmas.List.{append-nil}
 use Rattle.std.specs.List.{list_all, list_any}
 use Rattle.std.specs.Prelude.{sum_by}
@@ -7,11 +7,10 @@ use Rattle.std.specs.Str.{is_utf8}
 use Rattle.cc_base.specs.declared.why.Why.TheVariants as why
 use Rattle.cue_lists.specs.Begun.{Begun, awaits_run, cues_of, nothing}
 use Rattle.cue_lists.specs.Fields.{channel_of, frame_of, number_of, number_within, pen_of, rate_of}
-use Rattle.cue_lists.specs.FirstFault.{EndsEarly, IsFirstFault, Judgement, OffendsIn, field_judgements, first_offence, head_judgements, judge, judgements, judgements_by_kind, rolled_judgements, room_judgement, run_judgements, share_judgements, shown_judgements}
-use Rattle.cue_lists.specs.Listing.{Listing}
-use Rattle.cue_lists.specs.Reading.{adds, cue_of, ended, frame_or_none_of, head_of, in_record, is_coded, list_of, may_stand, next, on_ok, opens, read_from, record_kind_of, rolled_cue_of, run_of, runs_on, share_record_of, shown_of, suits_row, text_of}
-use Rattle.cue_lists.specs.Records.{Field, Record, field}
-use Rattle.cue_lists.specs.Spelling.{Begins}
+use Rattle.cue_lists.specs.FirstFault.{EndsEarly, IsFirstFault, Judgement, field_judgements, first_offence, head_judgements, judge, judgements, rolled_judgements, room_judgement, run_judgements, share_judgements, shown_judgements}
+use Rattle.cue_lists.specs.Form.{frame_or_none_of, is_coded, may_stand, record_kind_of, suits_row}
+use Rattle.cue_lists.specs.Reading.{adds, cue_of, ended, head_of, in_record, list_of, next, on_ok, opens, read_from, rolled_cue_of, run_of, runs_on, share_record_of, shown_of}
+use Rattle.cue_lists.specs.Records.{Record, field}
 use Rattle.cue_lists.specs.Unbuilt.{is_built_channel, is_built_character, is_built_kind, is_built_pen}
 use Rattle.cue_lists.specs.declared.cue.Cue.{Cue}
 use Rattle.cue_lists.specs.declared.fault.CueFault.{CueFault}

@@ -1,10 +1,10 @@
 -- Records that were read: what they have, and that they are the records that spell it.
-use Rattle.std.proofs.Common.{◌≡◌, ℕ, suc, ◌+◌, ◌<◌, ◌≤◌, ◌==◌, ◌^◌, ◌&&◌, Bool, true, false, nat_le, nat_lt, List, [], ◌∷◌, length, codes, bytes_eq, chars, encode_utf8_all, Option, Some, None, Result, Ok, Err, refl, sym, ap, ◌∙◌, arith, eqb-true, leb-true}
-use Rattle.line21_codes.specs.declared.channels.Chan.{Chan}
+use Rattle.std.proofs.Common.{◌≡◌, ◌<◌, ◌≤◌, ◌==◌, ◌^◌, true, nat_le, [], ◌∷◌, length, codes, bytes_eq, encode_utf8_all, Ok, refl, ◌∙◌, arith, eqb-true, leb-true}
 use Rattle.cue_lists.specs.Line21Cues.{IsAuthored, IsLine21Run}
 use Rattle.cue_lists.specs.Listing.{IsListRate}
 use Rattle.cue_lists.specs.Fields.{channel_of, frame_of, number_of, number_within, pen_of, rate_of}
-use Rattle.cue_lists.specs.Reading.{head_of, run_of, shown_of, suits_row, text_of}
+use Rattle.cue_lists.specs.Form.{suits_row}
+use Rattle.cue_lists.specs.Reading.{head_of, run_of, shown_of, text_of}
 use Rattle.cue_lists.specs.Records.{Field, Record, field}
 use Rattle.cue_lists.specs.Spelling.{channel_word, pen_word, rate_word}
 use Rattle.cue_lists.specs.Unbuilt.{is_built_channel, is_built_pen, is_built_run}

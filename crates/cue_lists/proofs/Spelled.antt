@@ -1,16 +1,17 @@
 -- A list that was read: its records spell it, and this version authors it.
-use Rattle.std.proofs.Common.{◌≡◌, ℕ, ◌+◌, ◌<◌, ◌≤◌, ◌==◌, ◌&&◌, Bool, not, nat_lt, nat_le, is_none, is_some, List, [], ◌∷◌, ◌++◌, map, true, false, length, All, codes, decimal, Option, Some, None, option_to_list, Result, Ok, Err, arith, refl, sym, ap, ◌∙◌, append_assoc, length-append}
-use Rattle.std.specs.List.{flat_map, list_all}
+use Rattle.std.proofs.Common.{◌≡◌, ℕ, ◌+◌, ◌≤◌, nat_lt, is_none, List, [], ◌∷◌, ◌++◌, map, true, false, length, All, Option, Some, None, option_to_list, Ok, arith, refl, sym, ap, ◌∙◌, append_assoc}
+use Rattle.std.specs.List.{flat_map}
 use Rattle.std.proofs.lemmas.Grind.{flat_map-append}
 use Rattle.std.proofs.lemmas.List.{append-nil, map-append}
-use Rattle.std.proofs.lemmas.List.Elements.{All-cons, All-nil, All-push}
+use Rattle.std.proofs.lemmas.List.Elements.{All-cons, All-nil}
 use Rattle.line21_codes.specs.declared.channels.Chan.{Chan}
 use Rattle.line21_codes.specs.declared.channels.Chan.TheVariants as chan
-use Rattle.cue_lists.specs.Begun.{Begun, IsBegun, IsHeadOrNothing, IsLastOrNone, awaits_run, cue_with_run, cues_of, no_runs, nothing, with_cue}
-use Rattle.cue_lists.specs.Listing.{Listing, IsFormed}
-use Rattle.cue_lists.specs.Reading.{adds, head_of, list_of, may_stand, next, read_from, record_kind_of, run_of, shown_cue, shown_of}
+use Rattle.cue_lists.specs.Begun.{Begun, IsBegun, IsHeadOrNothing, awaits_run, cue_with_run, cues_of, no_runs, nothing, with_cue}
+use Rattle.cue_lists.specs.Listing.{Listing}
+use Rattle.cue_lists.specs.Form.{may_stand, record_kind_of}
+use Rattle.cue_lists.specs.Reading.{adds, head_of, list_of, next, read_from, run_of, shown_cue, shown_of}
 use Rattle.cue_lists.specs.Records.{Record, field}
-use Rattle.cue_lists.specs.Spelling.{Begins, Spells, begun_records, cue_record, cue_records, head_record, head_records, list_records, run_record, share_record}
+use Rattle.cue_lists.specs.Spelling.{Begins, Spells, begun_records, cue_record, cue_records, head_record, head_records, run_record, share_record}
 use Rattle.cue_lists.specs.Unbuilt.{IsBuilt, IsBuiltBegun, IsBuiltCue, IsBuiltLast, is_built_channel, is_built_kind, is_built_run}
 use Rattle.cue_lists.specs.declared.cue.Cue.{Cue}
 use Rattle.cue_lists.specs.declared.cue.Kind.{Kind}
@@ -19,7 +20,6 @@ use Rattle.cue_lists.specs.declared.cue.Run.{Run}
 use Rattle.cue_lists.specs.declared.head.Head.{Head}
 use Rattle.cue_lists.specs.declared.record_kind.RecordKind.{RecordKind}
 use Rattle.cue_lists.specs.declared.record_kind.RecordKind.TheVariants as record_kind
-use Rattle.cue_lists.specs.declared.records.Shown.{Shown}
 use Rattle.cue_lists.proofs.Passing.{denied, passed, with_part, with_value}
 use Rattle.cue_lists.proofs.RecordFacts.{head_passed, run_passed, shown_passed}
 use Rattle.cue_lists.proofs.Steps.{IsBegun-next, IsBegun-nothing, IsFormed-ended, next_passed}

@@ -1,14 +1,13 @@
 -- From record to record: what a begun list keeps, and the records that spell it.
-use Rattle.std.proofs.Common.{◌≡◌, ℕ, ◌+◌, ◌<◌, ◌≤◌, ◌==◌, ◌&&◌, Bool, not, nat_lt, nat_le, if◌then◌else◌, is_none, is_some, List, [], ◌∷◌, ◌++◌, map, true, false, length, All, IsSome, Option, Some, None, option_to_list, Result, Ok, Err, arith, refl, sym, ap, ◌∙◌, append_assoc, length-append, ltb-true, leb-true, eqb-true}
-use Rattle.std.specs.List.{flat_map}
+use Rattle.std.proofs.Common.{◌≡◌, ℕ, ◌≤◌, ◌==◌, ◌&&◌, not, nat_lt, nat_le, if◌then◌else◌, is_some, List, [], ◌∷◌, ◌++◌, true, false, length, All, Option, Some, None, option_to_list, Ok, arith, refl, ap, length-append, ltb-true, leb-true, eqb-true}
 use Rattle.std.proofs.lemmas.List.{append-nil}
 use Rattle.std.proofs.lemmas.List.Elements.{All-cons, All-nil, All-push}
-use Rattle.line21_codes.specs.declared.channels.Chan.{Chan}
 use Rattle.cue_lists.specs.Begun.{Begun, IsBegun, IsCueBegun, IsHeadOrNothing, IsLastOrNone, awaits_run, cue_with_run, cues_of, no_runs, nothing, with_cue}
 use Rattle.cue_lists.specs.Cues.{IsCueFormed, IsOfKind}
 use Rattle.cue_lists.specs.Line21Cues.{IsLine21Run, IsRolled, base_row}
-use Rattle.cue_lists.specs.Listing.{Listing, IsFormed}
-use Rattle.cue_lists.specs.Reading.{adds, cue_of, head_of, may_stand, next, record_kind_of, run_of, runs_on, shown_cue, shown_of, suits_row}
+use Rattle.cue_lists.specs.Listing.{IsFormed}
+use Rattle.cue_lists.specs.Form.{may_stand, record_kind_of, suits_row}
+use Rattle.cue_lists.specs.Reading.{adds, head_of, next, run_of, shown_cue, shown_of}
 use Rattle.cue_lists.specs.Records.{Record, field}
 use Rattle.cue_lists.specs.Unbuilt.{is_built_kind}
 use Rattle.cue_lists.specs.declared.cue.Cue.{Cue}
@@ -16,12 +15,11 @@ use Rattle.cue_lists.specs.declared.cue.Kind.{Kind}
 use Rattle.cue_lists.specs.declared.cue.Kind.TheVariants as kind
 use Rattle.cue_lists.specs.declared.cue.Run.{Run}
 use Rattle.cue_lists.specs.declared.head.Head.{Head}
-use Rattle.cue_lists.specs.declared.offence.Offence.{Offence}
 use Rattle.cue_lists.specs.declared.record_kind.RecordKind.{RecordKind}
 use Rattle.cue_lists.specs.declared.record_kind.RecordKind.TheVariants as record_kind
 use Rattle.cue_lists.specs.declared.records.Shown.{Shown}
 use Rattle.cue_lists.proofs.Passing.{both_of, not_of, passed, with_part, with_value}
-use Rattle.cue_lists.proofs.RecordFacts.{RunPassed, ShownPassed, head_passed, run_passed, shown_passed}
+use Rattle.cue_lists.proofs.RecordFacts.{ShownPassed, head_passed, run_passed, shown_passed}
 
 -- a list without a record
 pub IsBegun-nothing : IsBegun nothing

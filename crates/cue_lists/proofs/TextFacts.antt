@@ -8,7 +8,8 @@ use Rattle.std.specs.Str.{is_utf8}
 use Rattle.cc_base.specs.declared.why.Why.TheVariants as why
 use Rattle.line21_codes.specs.Spellings.{spelling_of}
 use Rattle.cue_lists.proofs.Passing.{both_of, passed}
-use Rattle.cue_lists.specs.Reading.{text_of, is_coded}
+use Rattle.cue_lists.specs.Form.{is_coded}
+use Rattle.cue_lists.specs.Reading.{text_of}
 use Rattle.cue_lists.specs.Records.{Field}
 use Rattle.cue_lists.specs.Unbuilt.{is_built_character}
 use Rattle.cue_lists.specs.declared.offence.Offence.TheVariants as offence

@@ -1,13 +1,13 @@
 -- The first fault is one: records that have it are read up to it, and no further.
-use Rattle.std.proofs.Common.{◌≡◌, ℕ, ◌+◌, ◌<◌, ◌≤◌, ◌^◌, Bool, true, false, List, [], ◌∷◌, ◌++◌, length, All, IsSome, codes, decimal, Option, Some, None, Result, Ok, Err, arith, refl, sym, ap, ◌∙◌, le-leb, subst, inl, inr}
+use Rattle.std.proofs.Common.{◌≡◌, ℕ, ◌+◌, ◌<◌, ◌≤◌, ◌^◌, true, List, [], ◌∷◌, ◌++◌, length, Option, Some, None, Result, Ok, Err, arith, refl, sym, ap, ◌∙◌, le-leb, subst, inl, inr}
 use Rattle.std.proofs.lemmas.List.{append-nil}
 use Rattle.std.proofs.lemmas.List.Elements.{All-head}
 use Rattle.line21_codes.specs.declared.channels.Chan.TheVariants as chan
-use Rattle.cue_lists.specs.Begun.{Begun, IsBegun, IsCueBegun, IsHeadOrNothing, awaits_run, nothing}
-use Rattle.cue_lists.specs.FirstFault.{EndsEarly, IsFirstFault, OffendsIn, first_offence, judgements}
+use Rattle.cue_lists.specs.Begun.{Begun, IsBegun, IsCueBegun, awaits_run, nothing}
+use Rattle.cue_lists.specs.FirstFault.{IsFirstFault}
 use Rattle.cue_lists.specs.Line21Cues.{IsLine21Run}
-use Rattle.cue_lists.specs.Listing.{IsListRate, Listing}
-use Rattle.cue_lists.specs.Reading.{ended, in_record, list_of, next, read_from}
+use Rattle.cue_lists.specs.Listing.{IsListRate}
+use Rattle.cue_lists.specs.Reading.{ended, list_of, next, read_from}
 use Rattle.cue_lists.specs.Records.{Record}
 use Rattle.cue_lists.specs.Spelling.{Begins, begun_records, cue_record, head_record, run_record}
 use Rattle.cue_lists.specs.Unbuilt.{IsBuiltBegun, IsBuiltCue, IsBuiltLast, is_built_run}

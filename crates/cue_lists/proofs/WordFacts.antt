@@ -1,5 +1,5 @@
 -- Words in fields: a field is read as a rate, a channel or a pen exactly where it is its word.
-use Rattle.std.proofs.Common.{◌≡◌, ℕ, ◌-◌, Bool, true, false, List, [], ◌∷◌, ◌++◌, length, take, drop, Option, Some, None, codes, bytes_eq, refl, sym, ap, ◌∙◌, inl, inr}
+use Rattle.std.proofs.Common.{◌≡◌, ◌-◌, Bool, true, false, ◌++◌, length, take, drop, Some, codes, bytes_eq, refl, sym, ◌∙◌, inl, inr}
 use Rattle.std.proofs.lemmas.Bool.{cases_Bool}
 use Rattle.std.proofs.lemmas.List.{append-nil, take-append-drop}
 use Rattle.std.proofs.lemmas.Slice.Eq.{bytes_eq-Decides}
@@ -10,13 +10,12 @@ use Rattle.line21_codes.specs.declared.channels.Chan.TheVariants as chan
 use Rattle.line21_codes.specs.declared.styles.Colour.{Colour}
 use Rattle.line21_codes.specs.declared.styles.Colour.TheVariants as colour
 use Rattle.line21_codes.specs.declared.styles.Style.{Style}
-use Rattle.cue_lists.proofs.Passing.{passed}
 use Rattle.cue_lists.specs.Fields.{channel_of, pen_of, plain_pen_of, rate_of}
 use Rattle.cue_lists.specs.Line21Cues.{IsAuthored, IsLine21Pen}
 use Rattle.cue_lists.specs.Listing.{IsListRate}
 use Rattle.cue_lists.specs.Records.{Field}
-use Rattle.cue_lists.specs.Spelling.{channel_word, colour_word, italic_mark, pen_word, rate_word, underline_mark}
-use Rattle.cue_lists.specs.Reading.{record_kind_of}
+use Rattle.cue_lists.specs.Spelling.{channel_word, colour_word, italic_mark, pen_word, rate_word}
+use Rattle.cue_lists.specs.Form.{record_kind_of}
 use Rattle.cue_lists.specs.declared.cue.Pen.TheVariants as pen
 use Rattle.cue_lists.specs.declared.record_kind.RecordKind.{RecordKind}
 use Rattle.cue_lists.specs.declared.record_kind.RecordKind.TheVariants as record_kind

@@ -1,7 +1,7 @@
 -- A cue list that is begun: what its first records spell. Further runs belong to its last cue.
-use Rattle.std.specs.Prelude.{◌≡◌, ℕ, ◌+◌, ◌<◌, ◌≤◌, ◌^◌, Bool, true, false, List, [], ◌∷◌, ◌++◌, length, All, Option, Some, None, option_to_list}
+use Rattle.std.specs.Prelude.{◌≡◌, ◌<◌, ◌≤◌, ◌^◌, Bool, true, false, List, [], ◌∷◌, ◌++◌, length, All, Option, Some, None, option_to_list}
 use Rattle.cue_lists.specs.Cues.{IsOfKind, IsFrameOrNone, IsCueFormed}
-use Rattle.cue_lists.specs.Listing.{Listing, IsListRate}
+use Rattle.cue_lists.specs.Listing.{IsListRate}
 use Rattle.cue_lists.specs.Shares.{AreShares}
 use Rattle.cue_lists.specs.declared.cue.Cue.{Cue}
 use Rattle.cue_lists.specs.declared.cue.Run.{Run}

@@ -9,7 +9,8 @@ use Rattle.cc_base.specs.declared.why.Why.{Why}
 use Rattle.cc_base.specs.declared.why.Why.TheVariants as why
 use Rattle.cue_lists.specs.Begun.{Begun, awaits_run, cues_of}
 use Rattle.cue_lists.specs.Fields.{channel_of, frame_of, number_of, number_within, pen_of, rate_of}
-use Rattle.cue_lists.specs.Reading.{count_place, frame_or_none_of, in_record, is_coded, may_stand, record_kind_of, suits_row}
+use Rattle.cue_lists.specs.Form.{count_place, frame_or_none_of, is_coded, may_stand, record_kind_of, suits_row}
+use Rattle.cue_lists.specs.Reading.{in_record}
 use Rattle.cue_lists.specs.Records.{Record, field}
 use Rattle.cue_lists.specs.Spelling.{Begins}
 use Rattle.cue_lists.specs.Unbuilt.{IsBuiltBegun, is_built_channel, is_built_character, is_built_kind, is_built_pen}

@@ -3,6 +3,7 @@ pub mod Begun
 pub mod Cues
 pub mod Fields
 pub mod FirstFault
+pub mod Form
 pub mod Line21Cues
 pub mod Listing
 pub mod Reading

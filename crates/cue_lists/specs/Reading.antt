@@ -1,16 +1,14 @@
 -- Reading a cue list record by record: the list that they spell, or the first fault.
-use Rattle.std.specs.Prelude.{ℕ, ◌+◌, ◌==◌, Bool, true, false, not, ◌&&◌, nat_lt, nat_le, if◌then◌else◌, List, [], ◌∷◌, ◌++◌, length, sum_by, codes, bytes_eq, chars, Option, Some, None, option_map, is_some, is_none, Result, Ok, Err}
+use Rattle.std.specs.Prelude.{ℕ, ◌+◌, ◌==◌, Bool, not, ◌&&◌, nat_lt, nat_le, if◌then◌else◌, List, [], ◌∷◌, ◌++◌, length, sum_by, codes, bytes_eq, chars, Option, Some, None, Result, Ok, Err}
 use Rattle.std.specs.List.{list_any, list_all}
 use Rattle.std.specs.Str.{is_utf8}
 use Rattle.cc_base.specs.declared.limit_of.LimitOf.TheVariants as limit
 use Rattle.cc_base.specs.declared.why.Why.{Why}
 use Rattle.cc_base.specs.declared.why.Why.TheVariants as why
 use Rattle.line21_codes.specs.declared.channels.Chan.{Chan}
-use Rattle.line21_codes.specs.declared.styles.Style.{Style}
-use Rattle.line21_codes.specs.Spellings.{spelling_of}
-use Rattle.cue_lists.specs.Begun.{Begun, nothing, cues_of, with_cue, cue_with_run, no_runs, awaits_run}
+use Rattle.cue_lists.specs.Begun.{Begun, nothing, cues_of, with_cue, cue_with_run, awaits_run}
 use Rattle.cue_lists.specs.Fields.{number_of, number_within, frame_of, rate_of, channel_of, pen_of}
-use Rattle.cue_lists.specs.Line21Cues.{base_row}
+use Rattle.cue_lists.specs.Form.{count_place, frame_or_none_of, is_coded, may_stand, record_kind_of, suits_row}
 use Rattle.cue_lists.specs.Listing.{Listing}
 use Rattle.cue_lists.specs.Records.{Field, Record, field, records_of}
 use Rattle.cue_lists.specs.Unbuilt.{is_built_kind, is_built_channel, is_built_pen, is_built_character}
@@ -42,10 +40,6 @@ must good place why rest = if good then rest else Err (offence.At place why)
 abbrev pub reads : {A B : Type 0} → Option A → ℕ → (A → Result B Offence) → Result B Offence
 reads (Some value) place rest = rest value
 reads None place rest = Err (offence.At place why.Field)
-
--- the field at which a record of another number of fields than `count` offends: one past the last that it has, or that belongs
-abbrev pub count_place : ℕ → ℕ → ℕ
-count_place count given = if nat_lt given count then given + 1 else count + 1
 
 -- the number of fields
 abbrev pub counted : {A : Type 0} → Record → ℕ → Result A Offence → Result A Offence
@@ -83,10 +77,6 @@ shown_of r =
 abbrev pub shown_cue : (Chan → Kind) → Shown → Cue
 shown_cue kind shown = record { load = shown.load; show = shown.show; hide = Some shown.hide; kind = kind shown.channel; runs = [] }
 
--- the frame of a HIDE that may be empty
-abbrev pub frame_or_none_of : Field → Option (Option ℕ)
-frame_or_none_of text = if length text == 0 then Some None else option_map (λ frame. Some frame) (frame_of text)
-
 -- roll,CH,N,LOAD,SHOW,HIDE
 abbrev pub rolled_cue_of : Record → Result Cue Offence
 rolled_cue_of r =
@@ -97,17 +87,6 @@ rolled_cue_of r =
     reads (frame_of (field r 4)) 5 (λ show.
     reads (frame_or_none_of (field r 5)) 6 (λ hide.
     Ok (record { load = load; show = show; hide = hide; kind = kind.Roll channel rows; runs = [] }))))))))
-
--- the row of a line 21 run suits its cue: a roll-up cue's runs stand on the row of the first, with room for its rows
-abbrev pub suits_row : Kind → List Run → ℕ → Bool
-suits_row (kind.Pop channel) runs row = true
-suits_row (kind.Paint channel) runs row = true
-suits_row (kind.Roll channel rows) runs row = nat_le rows row && (if no_runs runs then true else row == base_row runs)
-suits_row (kind.Win window) runs row = false
-
--- line 21 has a code for the character
-unfoldable pub is_coded : ℕ → Bool
-is_coded ch = is_some (spelling_of ch)
 
 -- a text that begins at a column of line 21
 abbrev pub text_of : ℕ → Field → Result (List ℕ) Offence
@@ -128,25 +107,6 @@ run_of cue r =
     must (is_built_pen style) 4 why.NotBuilt
     (on_ok (text_of col (field r 4)) (λ text.
     Ok (record { row = row; col = col; pen = pen.Line21 style; text = text }))))))))
-
--- the kind of a record, by its first field
-abbrev pub record_kind_of : Field → Option RecordKind
-record_kind_of word =
-    if bytes_eq word (codes "ccsuite") then Some record_kind.Ccsuite
-    else if bytes_eq word (codes "share") then Some record_kind.Share
-    else if bytes_eq word (codes "pop") then Some record_kind.Pop
-    else if bytes_eq word (codes "paint") then Some record_kind.Paint
-    else if bytes_eq word (codes "roll") then Some record_kind.Roll
-    else if bytes_eq word (codes "win") then Some record_kind.Win
-    else if bytes_eq word (codes "run") then Some record_kind.Run
-    else None
-
--- where a record of a kind may stand: the head first, shares before the first cue, runs below a cue, cues below a run
-abbrev pub may_stand : Begun → RecordKind → Bool
-may_stand b record_kind.Ccsuite = is_none b.head
-may_stand b record_kind.Share = is_some b.head && is_none b.last
-may_stand b record_kind.Run = is_some b.last
-may_stand b _ = is_some b.head && not (awaits_run b.last)
 
 -- the cue of a record of its kind
 abbrev pub cue_of : RecordKind → Record → Result Cue Offence

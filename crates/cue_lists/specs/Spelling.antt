@@ -1,6 +1,6 @@
 -- The records that spell a cue list: its head, then its shares, then each cue with its runs. A number is spelled in
 -- decimal digits, a text in UTF-8.
-use Rattle.std.specs.Prelude.{◌≡◌, ℕ, Bool, true, false, if◌then◌else◌, List, [], ◌∷◌, ◌++◌, map, flat_map, codes, decimal, encode_utf8_all, Option, Some, None}
+use Rattle.std.specs.Prelude.{◌≡◌, ℕ, Bool, if◌then◌else◌, List, [], ◌∷◌, ◌++◌, map, flat_map, codes, decimal, encode_utf8_all, Option, Some, None}
 use Rattle.cc_base.specs.declared.rate.Rate.{Rate}
 use Rattle.cc_base.specs.declared.rate.Rate.TheVariants as rate
 use Rattle.line21_codes.specs.declared.channels.Chan.{Chan}

@@ -2,7 +2,8 @@ ghost use Rattle.std.specs.Prelude.{◌≡◌, ◌++◌, IfOk, option_to_list, t
 ghost use Rattle.csv.specs.Records.{fields_of};
 ghost use Rattle.cue_lists.specs.Answers.{Answers, Takes};
 ghost use Rattle.cue_lists.specs.Begun.{IsBegun, nothing, cues_of, with_cue, cue_with_run, awaits_run};
-ghost use Rattle.cue_lists.specs.Reading.{next, ended, may_stand, adds, opens, cue_of, shown_cue, runs_on};
+ghost use Rattle.cue_lists.specs.Form.{may_stand};
+ghost use Rattle.cue_lists.specs.Reading.{next, ended, adds, opens, cue_of, shown_cue, runs_on};
 ghost use Rattle.cue_lists.specs.Unbuilt.{is_built_kind};
 
 use crate::cue::{Cue, Kind};
@@ -123,6 +124,7 @@ impl Draft {
         }
     }
 
+    /// Adds what a record of a kind that may stand here spells.
     fn add(&mut self, alloc: Global, kind: RecordKind, row: &ByteRecord) -> Result<(), Offence>
         requires { is_built_kind self.old kind ≡ true }
         ensures { Takes (adds self.old kind (fields_of row.now)) result self.new }
@@ -130,11 +132,14 @@ impl Draft {
         match kind {
             RecordKind::Ccsuite => self.add_head(row),
             RecordKind::Run => self.add_run(alloc, row),
-            RecordKind::Pop => self.add_cue(alloc, kind, row),
-            _ => unreachable!(),
+            RecordKind::Pop | RecordKind::Paint | RecordKind::Roll => self.add_cue(
+                alloc, kind, row,
+            ),
+            RecordKind::Share | RecordKind::Win => unreachable!(),
         }
     }
 
+    /// Adds the head.
     fn add_head(&mut self, row: &ByteRecord) -> Result<(), Offence>
         ensures { Takes (adds self.old RecordKind.Ccsuite (fields_of row.now)) result self.new }
     {
@@ -147,6 +152,7 @@ impl Draft {
         }
     }
 
+    /// Adds a cue, of which there are 20,000 at most.
     fn add_cue(&mut self, alloc: Global, kind: RecordKind, row: &ByteRecord) -> Result<(), Offence>
         ensures { Takes (opens self.old kind (fields_of row.now)) result self.new }
     {
@@ -159,6 +165,7 @@ impl Draft {
         }
     }
 
+    /// Adds a run to the last cue.
     fn add_run(&mut self, alloc: Global, row: &ByteRecord) -> Result<(), Offence>
         ensures { Takes (runs_on self.old self.old.last (fields_of row.now)) result self.new }
     {
@@ -186,6 +193,7 @@ impl Draft {
         }
     }
 
+    /// Makes this cue the last.
     fn push_cue(&mut self, cue: Cue) -> Result<(), Offence>
         ensures { Takes (Ok (with_cue self.old cue)) result self.new }
     {

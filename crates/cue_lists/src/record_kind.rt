@@ -1,5 +1,5 @@
 ghost use Rattle.std.specs.Prelude.{◌≡◌};
-ghost use Rattle.cue_lists.specs.Reading.{record_kind_of};
+ghost use Rattle.cue_lists.specs.Form.{record_kind_of};
 
 use crate::fields::is_word;
 

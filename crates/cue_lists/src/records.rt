@@ -1,7 +1,8 @@
 ghost use Rattle.std.specs.Prelude.{◌≡◌, ◌<◌, ◌^◌, length};
 ghost use Rattle.csv.specs.Records.{fields_of};
 ghost use Rattle.cue_lists.specs.Answers.{Gives};
-ghost use Rattle.cue_lists.specs.Reading.{head_of, count_place, shown_of, frame_or_none_of, rolled_cue_of, suits_row, run_of};
+ghost use Rattle.cue_lists.specs.Form.{count_place, frame_or_none_of, suits_row};
+ghost use Rattle.cue_lists.specs.Reading.{head_of, shown_of, rolled_cue_of, run_of};
 
 use crate::cue::{Cue, Kind, Pen, Run};
 use crate::fields::{

@@ -1,7 +1,8 @@
 ghost use Rattle.std.specs.Prelude.{◌≡◌, ◌≤◌, length, chars};
 ghost use Rattle.std.specs.List.{list_all};
 ghost use Rattle.cue_lists.specs.Answers.{Gives};
-ghost use Rattle.cue_lists.specs.Reading.{text_of, is_coded};
+ghost use Rattle.cue_lists.specs.Form.{is_coded};
+ghost use Rattle.cue_lists.specs.Reading.{text_of};
 ghost use Rattle.cue_lists.specs.Unbuilt.{is_built_character};
 
 use crate::offence::{Offence, not_built, out_of_form};
@@ -64,7 +65,7 @@ fn count_of(text: &str) -> usize
 }
 
 /// Whether line 21 has a code for the character.
-#[tactic(auto, unfolding(crate::specs::Reading::is_coded))]
+#[tactic(auto, unfolding(crate::specs::Form::is_coded))]
 fn is_coded(ch: char) -> bool
     ensures { result ≡ is_coded ch }
 {

@@ -1,5 +1,5 @@
 -- The codes of a line 21 cue: those that set its caption mode, and those of its runs in order
--- (pop-on, paint-on and roll-up captions: CTA-608-E, section 7; 47 CFR 79.101).
+-- (pop-on, paint-on and roll-up captions: CTA-608-E; 47 CFR 79.101).
 use Rattle.std.specs.Prelude.{List, [], ◌∷◌, ◌++◌}
 use Rattle.std.specs.List.{flat_map}
 use Rattle.line21_codes.specs.declared.codes.Code.{Code}

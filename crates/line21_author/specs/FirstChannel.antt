@@ -1,5 +1,5 @@
 -- The data channel that captions are written for: a control code of data channel 1, which is CC1 in
--- field 1 and CC3 in field 2 (CTA-608-E, section 7; 47 CFR 79.101).
+-- field 1 and CC3 in field 2 (CTA-608-E; 47 CFR 79.101).
 use Rattle.std.specs.Prelude.{false}
 use Rattle.line21_codes.specs.declared.codes.Code.{Code}
 use Rattle.line21_codes.specs.declared.codes.Code.TheVariants.{Control}

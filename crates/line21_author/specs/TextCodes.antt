@@ -1,5 +1,5 @@
 -- The codes of a text: its characters from left to right, two basic characters to a text pair
--- (CTA-608-E, section 6.4; 47 CFR 79.101).
+-- (CTA-608-E; 47 CFR 79.101).
 use Rattle.std.specs.Prelude.{ℕ, Option, Some, None, List, [], ◌∷◌, ◌++◌}
 use Rattle.std.specs.List.{filter_map}
 use Rattle.line21_codes.specs.declared.codes.Code.{Code}

@@ -4,7 +4,7 @@ use line21_codes::Pair;
 use std::marker::Model;
 
 /// A pair to be sent in one field: a control pair is sent twice, in two slots that follow one
-/// another, and a text pair once (CTA-608-E, section 7; 47 CFR 79.101).
+/// another, and a text pair once (CTA-608-E; 47 CFR 79.101).
 #[derive(Clone, Copy, Debug, PartialEq, Eq)]
 pub struct Unit {
     pub pair: Pair,

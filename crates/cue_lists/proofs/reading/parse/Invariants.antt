@@ -1,5 +1,5 @@
 -- What is due is what the list so far and the records of the bytes that are left come to.
-use Rattle.std.proofs.Common.{Bor, ◌≡◌, ◌+◌, ◌<◌, ℕ, List, Some, length}
+use Rattle.std.proofs.Common.{◌≡◌, ◌+◌, ◌<◌, ℕ, List, Some, length}
 use Rattle.csv.specs.Reading.{Ready, default_config, records_from, source_of, strip_bom}
 use Rattle.csv.specs.declared.reader.Trim.TheVariants as trim
 use Rattle.cue_lists.specs.Begun.{IsBegun}

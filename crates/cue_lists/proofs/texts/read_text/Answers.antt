@@ -1,7 +1,7 @@
 use Rattle.std.proofs.Common.{◌≡◌, ◌+◌, ◌≤◌, ◌==◌, true, false, chars, length, sym, rules, arith}
 use Rattle.std.specs.List.{list_all}
 use Rattle.std.proofs.lemmas.Str.{chars_from_encodes}
-use Rattle.cue_lists.specs.Reading.{is_coded}
+use Rattle.cue_lists.specs.Form.{is_coded}
 use Rattle.cue_lists.specs.Unbuilt.{is_built_character}
 use Rattle.cue_lists.proofs.TextFacts.{text_good, text_not_built, text_not_coded, text_not_utf8}
 use Rattle.cue_lists.proofs.texts.read_text.Goals as goal
