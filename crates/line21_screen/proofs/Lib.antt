@@ -1,0 +1,5 @@
+pub mod GridLemmas
+pub mod CodeLemmas
+pub mod MeaningLemmas
+pub mod LawLemmas
+pub mod WindowLemmas

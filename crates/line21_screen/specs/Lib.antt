@@ -1,0 +1,12 @@
+pub mod Grid
+pub mod Windows
+pub mod Rows
+pub mod Pens
+pub mod Channels
+pub mod Editing
+pub mod Controls
+pub mod Codes
+pub mod Fields
+pub mod Meaning
+pub mod Objects
+pub mod Scrolling

@@ -1,0 +1,135 @@
+ghost use Rattle.std.specs.Prelude.{◌≡◌};
+ghost use Rattle.line21_codes.specs.Reading.{code_of};
+ghost use Rattle.line21_screen.specs.Codes.{IsPossibleCode};
+
+use crate::channel::Channel;
+use crate::modes::Mode;
+use line21_codes::{Cell, Code, Doubler, Pair, read_pair};
+use std::alloc::{AllocError, Global};
+
+/// The receiver of one field of line 21: the caption memories of its two data channels.
+#[derive(Drop)]
+pub struct Field {
+    second_field: bool,
+    first: Channel,
+    second: Channel,
+    // Whether data channel 2 is the selected one.
+    selected: bool,
+    // Whether extended data are under way.
+    xds: bool,
+    doubler: Doubler,
+}
+
+impl Field {
+    ghost use Rattle.std.specs.Prelude.{◌<◌, ◌≤◌, Bool, List, [], ◌∷◌, IfOk};
+    ghost use Rattle.line21_codes.specs.declared.pairs.Pair.{Pair};
+    ghost use Rattle.line21_codes.specs.Repeats.{Waits};
+    ghost use Rattle.line21_screen.specs.Fields.{channel, on_channel, after_text, after_code};
+    ghost use Rattle.line21_screen.specs.Controls.{after_control, IsPossible};
+    ghost use Rattle.line21_screen.specs.Meaning.{after};
+    ghost use Rattle.line21_screen.specs.Objects.{channel_of, field_of, Leads};
+
+    /// A field that had no pair yet: its memories are empty, no mode is set, and data channel 1 is
+    /// selected. All memory that it ever takes is taken here.
+    pub fn new(alloc: Global, second_field: bool) -> Result<Field, AllocError>
+        ensures { IfOk result (Leads second_field []) }
+    {
+        Ok(Field {
+            second_field,
+            first: Channel::new(alloc)?,
+            second: Channel::new(alloc)?,
+            selected: false,
+            xds: false,
+            doubler: Doubler::new(),
+        })
+    }
+
+    /// Takes the field's next pair, of whatever bytes: one with bad parity counts as null. The repeat
+    /// of a control pair is ignored, and each other pair does what its code says (CTA-608-E,
+    /// 47 CFR 79.101).
+    pub fn apply(&mut self, pair: Pair)
+        ensures { (second_field : Bool) (before : List Pair) → Leads second_field before self.old
+            → Leads second_field (pair ∷ before) self.new }
+    {
+        if !self.doubler.step(pair) {
+            self.act(code(pair));
+        }
+    }
+
+    /// The displayed cell of data channel 1 or 2 at a row, 1 to 15, and a column, 0 to 31.
+    pub fn cell(&self, second_channel: bool, row: u8, col: u8) -> Option<Cell>
+        requires row_from { 1 ≤ row }
+        requires row_to { row ≤ 15 }
+        requires col { col < 32 }
+        ensures { (second_field : Bool) (before : List Pair) → Leads second_field before self.now
+            → result ≡ (channel second_channel (after second_field before)).displayed row col }
+    {
+        self.channel(second_channel).displayed.cell(row, col)
+    }
+
+    /// The mode of data channel 1 or 2.
+    pub fn mode(&self, second_channel: bool) -> Mode
+        ensures { (second_field : Bool) (before : List Pair) → Leads second_field before self.now
+            → result ≡ (channel second_channel (after second_field before)).mode }
+    {
+        self.channel(second_channel).mode
+    }
+
+    // Data channel 1 or 2.
+    fn channel(&self, second: bool) -> &Channel
+        ensures { channel_of result.now ≡ channel second (field_of self.now) }
+    {
+        if second { &self.second } else { &self.first }
+    }
+
+    // What a code does.
+    fn act(&mut self, code: Code)
+        requires { IsPossibleCode code }
+        ensures state { field_of self.new ≡ after_code self.old.second_field code (field_of self.old) }
+        ensures of_field { self.new.second_field ≡ self.old.second_field }
+        ensures repeats { self.new.doubler ≡ self.old.doubler }
+    {
+        match code {
+            Code::Null => {}
+            Code::Text(first, second) => {
+                if !self.xds {
+                    self.text(first, second);
+                }
+            }
+            Code::Xds(first, _) => self.xds = self.second_field && first < 0x0F,
+            Code::Control { second, control } => {
+                self.selected = second;
+                self.xds = false;
+                if second {
+                    self.second.control(control);
+                } else {
+                    self.first.control(control);
+                }
+            }
+        }
+    }
+
+    // The two bytes of a text pair.
+    fn text(&mut self, first: u8, second: u8)
+        ensures state { field_of self.new ≡ on_channel self.old.selected (after_text first second) (field_of self.old) }
+        ensures of_field { self.new.second_field ≡ self.old.second_field }
+        ensures repeats { self.new.doubler ≡ self.old.doubler }
+    {
+        if self.selected {
+            self.second.text(first, second);
+        } else {
+            self.first.text(first, second);
+        }
+    }
+}
+
+// The code of a pair; one with bad parity counts as null.
+fn code(pair: Pair) -> Code
+    ensures code { result ≡ code_of pair }
+    ensures possible { IsPossibleCode result }
+{
+    match read_pair(pair) {
+        Ok(code) => code,
+        Err(_) => Code::Null,
+    }
+}

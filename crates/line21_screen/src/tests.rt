@@ -1,0 +1,637 @@
+use crate::{Field, Mode};
+use line21_codes::{Cell, Colour, Pair, Style};
+use std::alloc::{AllocError, Global};
+
+const WHITE: Style = Style {
+    colour: Colour::White,
+    italic: false,
+    underline: false,
+};
+
+const YELLOW: Style = Style {
+    colour: Colour::Yellow,
+    italic: false,
+    underline: false,
+};
+
+const RED: Style = Style {
+    colour: Colour::Red,
+    italic: false,
+    underline: false,
+};
+
+const RED_ITALIC: Style = Style {
+    colour: Colour::Red,
+    italic: true,
+    underline: false,
+};
+
+const ITALIC: Style = Style {
+    colour: Colour::White,
+    italic: true,
+    underline: false,
+};
+
+const GREEN_UNDERLINED: Style = Style {
+    colour: Colour::Green,
+    italic: false,
+    underline: true,
+};
+
+const ITALIC_UNDERLINED: Style = Style {
+    colour: Colour::White,
+    italic: true,
+    underline: true,
+};
+
+// Text that stands at a row and from a column on.
+type Run = (u8, u8, Style, &'static str);
+
+// A field that was fed these pairs, each written as caption files have it: first byte, second byte.
+fn fed(alloc: Global, second_field: bool, pairs: &[u16]) -> Result<Field, AllocError> {
+    let mut field = Field::new(alloc, second_field)?;
+    for pair in pairs {
+        let [a, b] = pair.to_be_bytes();
+        field.apply(Pair { a, b });
+    }
+    Ok(field)
+}
+
+// The cell that the runs have at a place.
+fn wanted(runs: &[Run], row: u8, col: u8) -> Option<Cell> {
+    for (run_row, from, style, text) in runs {
+        if *run_row == row && *from <= col {
+            if let Some(ch) = text.chars().nth(usize::from(col - *from)) {
+                return Some(Cell { ch, style: *style });
+            }
+        }
+    }
+    None
+}
+
+// Whether the field displays just these runs.
+fn displays(field: &Field, second_channel: bool, runs: &[Run]) -> bool {
+    for row in 1..16u8 {
+        for col in 0..32u8 {
+            if field.cell(second_channel, row, col) != wanted(runs, row, col) {
+                return false;
+            }
+        }
+    }
+    true
+}
+
+// Pairs, and the runs that a new field then displays.
+type Case = (&'static [u16], &'static [Run]);
+
+// The first of the cases, counted from 0, in which other cells are displayed.
+fn first_wrong(
+    alloc: Global,
+    second_field: bool,
+    second_channel: bool,
+    cases: &[Case],
+) -> Result<Option<usize>, AllocError> {
+    for (place, (pairs, runs)) in cases.iter().enumerate() {
+        let field = fed(alloc, second_field, pairs)?;
+        if !displays(&field, second_channel, runs) {
+            return Ok(Some(place));
+        }
+    }
+    Ok(None)
+}
+
+#[test]
+fn roll_up_of_2_keeps_two_rows(rt: HostRuntime) -> Result<(), AllocError> {
+    let alloc = rt.alloc();
+    let cases: [Case; 2] = [
+        (
+            &[
+                0x9425, 0x9425, 0x94AD, 0x94AD, 0x9470, 0x9470, 0xC180, 0x94AD, 0x94AD, 0xC280,
+                0x94AD, 0x94AD, 0x4380,
+            ],
+            &[(14, 0, WHITE, "B"), (15, 0, WHITE, "C")],
+        ),
+        (
+            &[0x9425, 0xC180, 0x94AD, 0xC280, 0x94AD, 0x4380],
+            &[(14, 0, WHITE, "B"), (15, 0, WHITE, "C")],
+        ),
+    ];
+    assert_eq!(rt; first_wrong(alloc, false, false, &cases)?, None);
+    Ok(())
+}
+
+#[test]
+fn third_end_of_caption_acts(rt: HostRuntime) -> Result<(), AllocError> {
+    let alloc = rt.alloc();
+    let cases: [Case; 2] = [
+        (
+            &[
+                0x9420, 0x9420, 0x94AE, 0x94AE, 0x9470, 0x9470, 0xC849, 0x942F, 0x942F, 0x942F,
+            ],
+            &[],
+        ),
+        (
+            &[
+                0x9420, 0x9420, 0x94AE, 0x94AE, 0x9470, 0x9470, 0xC849, 0x942F, 0x942F,
+            ],
+            &[(15, 0, WHITE, "HI")],
+        ),
+    ];
+    assert_eq!(rt; first_wrong(alloc, false, false, &cases)?, None);
+    Ok(())
+}
+
+#[test]
+fn extended_character_takes_back_its_fallback(rt: HostRuntime) -> Result<(), AllocError> {
+    let alloc = rt.alloc();
+    let cases: [Case; 6] = [
+        (
+            &[
+                0x9420, 0x9420, 0x94AE, 0x94AE, 0x9470, 0x9470, 0xC180, 0x9220, 0x9220, 0x942F,
+                0x942F,
+            ],
+            &[(15, 0, WHITE, "Á")],
+        ),
+        (
+            &[
+                0x9420, 0x9420, 0x94AE, 0x94AE, 0x94FE, 0x94FE, 0x9723, 0x9723, 0xC180, 0x9220,
+                0x9220, 0x942F, 0x942F,
+            ],
+            &[(15, 31, WHITE, "Á")],
+        ),
+        (&[0x9429, 0x9220], &[(15, 0, WHITE, "Á")]),
+        (&[0x9429, 0xC180, 0x9220, 0xC280], &[(15, 0, WHITE, "ÁB")]),
+        (
+            &[0x9429, 0x94FE, 0xC1C2, 0x43C4, 0x9220],
+            &[(15, 28, WHITE, "ABCÁ")],
+        ),
+        (
+            &[0x9429, 0x94FE, 0xC1C2, 0x43C4, 0x9220, 0x4580],
+            &[(15, 28, WHITE, "ABCE")],
+        ),
+    ];
+    assert_eq!(rt; first_wrong(alloc, false, false, &cases)?, None);
+    Ok(())
+}
+
+#[test]
+fn bad_parity_counts_as_null(rt: HostRuntime) -> Result<(), AllocError> {
+    let alloc = rt.alloc();
+    let cases: [Case; 3] = [
+        (&[0x9429, 0x4180], &[]),
+        (&[0x9429, 0xC180, 0xC142], &[(15, 0, WHITE, "A")]),
+        (&[0x9429, 0xC1C2, 0x94A1, 0x4141, 0x94A1], &[]),
+    ];
+    assert_eq!(rt; first_wrong(alloc, false, false, &cases)?, None);
+    let in_field_2: [Case; 1] = [(&[0x9429, 0x81C1, 0xC1C2], &[(15, 0, WHITE, "AB")])];
+    assert_eq!(rt; first_wrong(alloc, true, false, &in_field_2)?, None);
+    Ok(())
+}
+
+#[test]
+fn repeat_of_a_control_pair_is_ignored(rt: HostRuntime) -> Result<(), AllocError> {
+    let alloc = rt.alloc();
+    let cases: [Case; 6] = [
+        (&[0x9429, 0xC1C2, 0x94A1, 0x94A1], &[(15, 0, WHITE, "A")]),
+        (&[0x9429, 0xC1C2, 0x94A1, 0x8080, 0x94A1], &[]),
+        (
+            &[0x9429, 0xC1C2, 0x4380, 0x94A1, 0x94A1, 0x94A1],
+            &[(15, 0, WHITE, "A")],
+        ),
+        (&[0x9429, 0xC1C2, 0x94A1, 0x15A1], &[]),
+        (&[0x9429, 0xC1C2, 0xC1C2], &[(15, 0, WHITE, "ABAB")]),
+        (
+            &[0x9429, 0x9137, 0x9137, 0x9137, 0x9137],
+            &[(15, 0, WHITE, "♪♪")],
+        ),
+    ];
+    assert_eq!(rt; first_wrong(alloc, false, false, &cases)?, None);
+    Ok(())
+}
+
+#[test]
+fn control_pair_selects_its_data_channel(rt: HostRuntime) -> Result<(), AllocError> {
+    let alloc = rt.alloc();
+    let cases: [Case; 7] = [
+        (&[0x9429, 0x1C29, 0xC180], &[]),
+        (&[0x9429, 0x1CA2, 0xC180], &[]),
+        (&[0x9429, 0x1CA2, 0x9429, 0xC180], &[(15, 0, WHITE, "A")]),
+        (&[0x9429, 0x1C10, 0xC180], &[(15, 0, WHITE, "A")]),
+        (&[0x9429, 0xC1C2, 0x94A1, 0x9410, 0x94A1], &[]),
+        (&[0x9429, 0xC180, 0x1C2C], &[(15, 0, WHITE, "A")]),
+        (&[0x1C20, 0x194A, 0xC180, 0x1C2F], &[]),
+    ];
+    assert_eq!(rt; first_wrong(alloc, false, false, &cases)?, None);
+    let in_channel_2: [Case; 3] = [
+        (&[0x9429, 0x1C29, 0xC180], &[(15, 0, WHITE, "A")]),
+        (&[0x1C20, 0x194A, 0xC180, 0x1C2F], &[(1, 0, YELLOW, "A")]),
+        (&[0x1C29, 0xC180, 0x9429, 0xC280], &[(15, 0, WHITE, "A")]),
+    ];
+    assert_eq!(rt; first_wrong(alloc, false, true, &in_channel_2)?, None);
+    Ok(())
+}
+
+#[test]
+fn extended_data_print_nothing(rt: HostRuntime) -> Result<(), AllocError> {
+    let alloc = rt.alloc();
+    let in_field_2: [Case; 6] = [
+        (&[0x9429, 0x0183, 0xC1C2], &[]),
+        (
+            &[0x9429, 0x0183, 0xC1C2, 0x8F9D, 0x4380],
+            &[(15, 0, WHITE, "C")],
+        ),
+        (
+            &[0x9429, 0x0183, 0xC1C2, 0x9429, 0x43C4],
+            &[(15, 0, WHITE, "CD")],
+        ),
+        (
+            &[0x9429, 0x0183, 0xC1C2, 0x1CA2, 0x9429, 0x43C4],
+            &[(15, 0, WHITE, "CD")],
+        ),
+        (&[0x9429, 0x0183, 0x9410, 0xC1C2], &[]),
+        (&[0x9429, 0x0E83, 0xC1C2], &[]),
+    ];
+    assert_eq!(rt; first_wrong(alloc, true, false, &in_field_2)?, None);
+    let cases: [Case; 2] = [
+        (&[0x9429, 0x0183, 0xC1C2], &[(15, 0, WHITE, "AB")]),
+        (&[0x9429, 0x8F83, 0xC1C2], &[(15, 0, WHITE, "AB")]),
+    ];
+    assert_eq!(rt; first_wrong(alloc, false, false, &cases)?, None);
+    Ok(())
+}
+
+#[test]
+fn bytes_of_a_text_pair_are_characters(rt: HostRuntime) -> Result<(), AllocError> {
+    let alloc = rt.alloc();
+    let cases: [Case; 4] = [
+        (&[0x9429, 0x80C2], &[(15, 0, WHITE, "B")]),
+        (&[0x9429, 0xC185], &[(15, 0, WHITE, "A")]),
+        (&[0x9429, 0x2A7F], &[(15, 0, WHITE, "á█")]),
+        (&[0x9429, 0x9137], &[(15, 0, WHITE, "♪")]),
+    ];
+    assert_eq!(rt; first_wrong(alloc, false, false, &cases)?, None);
+    Ok(())
+}
+
+#[test]
+fn roll_up_code_changes_the_window(rt: HostRuntime) -> Result<(), AllocError> {
+    let alloc = rt.alloc();
+    let cases: [Case; 9] = [
+        (&[0x9429, 0xC180, 0x9425], &[]),
+        (&[0x9420, 0xC180, 0x9425, 0x942F], &[]),
+        (&[0x9425, 0xC180, 0x9420, 0x9425], &[]),
+        (&[0x9429, 0x91D0, 0x9425, 0xC180], &[(15, 0, WHITE, "A")]),
+        (
+            &[0x9426, 0xC180, 0x94AD, 0xC280, 0x94AD, 0x4380, 0x9425],
+            &[(14, 0, WHITE, "B"), (15, 0, WHITE, "C")],
+        ),
+        (
+            &[
+                0x9425, 0xC180, 0x94AD, 0xC280, 0x94A7, 0x94AD, 0x4380, 0x94AD, 0xC480,
+            ],
+            &[
+                (12, 0, WHITE, "A"),
+                (13, 0, WHITE, "B"),
+                (14, 0, WHITE, "C"),
+                (15, 0, WHITE, "D"),
+            ],
+        ),
+        (
+            &[
+                0x9425, 0x9425, 0x94AD, 0x94AD, 0x9170, 0x9170, 0xC180, 0x94A7, 0x94A7, 0xC280,
+            ],
+            &[(4, 0, WHITE, "AB")],
+        ),
+        (
+            &[0x9425, 0x9170, 0xC180, 0x94AD, 0xC280, 0x9426],
+            &[(2, 0, WHITE, "A"), (3, 0, WHITE, "B")],
+        ),
+        (
+            &[0x9425, 0xC180, 0x91A8, 0x9426, 0xC280],
+            &[(15, 0, WHITE, "A"), (15, 1, RED, " B")],
+        ),
+    ];
+    assert_eq!(rt; first_wrong(alloc, false, false, &cases)?, None);
+    Ok(())
+}
+
+#[test]
+fn text_mode_drops_captions(rt: HostRuntime) -> Result<(), AllocError> {
+    let alloc = rt.alloc();
+    let cases: [Case; 12] = [
+        (&[0x9429, 0xC180, 0x942A, 0xC280], &[(15, 0, WHITE, "A")]),
+        (&[0x9429, 0xC180, 0x94AB, 0xC280], &[(15, 0, WHITE, "A")]),
+        (&[0x9429, 0xC1C2, 0x942A, 0x94A1], &[(15, 0, WHITE, "AB")]),
+        (
+            &[0x9425, 0xC180, 0x942A, 0x94AD, 0xC280],
+            &[(15, 0, WHITE, "A")],
+        ),
+        (&[0x9429, 0xC180, 0x942A, 0x942C, 0xC280], &[]),
+        (&[0x9420, 0xC180, 0x942A, 0x94AE, 0x942F], &[]),
+        (
+            &[0x9420, 0xC180, 0x942A, 0x942F, 0x9429, 0xC280],
+            &[(15, 0, WHITE, "AB")],
+        ),
+        (
+            &[0x9420, 0xC180, 0x942A, 0x9420, 0xC280, 0x942F],
+            &[(15, 0, WHITE, "AB")],
+        ),
+        (
+            &[0x9429, 0xC180, 0x942A, 0x9429, 0xC280],
+            &[(15, 0, WHITE, "AB")],
+        ),
+        (
+            &[0x9425, 0xC180, 0x942A, 0x9425, 0xC280],
+            &[(15, 0, WHITE, "AB")],
+        ),
+        (
+            &[0x9429, 0xC180, 0x1C2A, 0x9429, 0xC280],
+            &[(15, 0, WHITE, "AB")],
+        ),
+        (&[0x9429, 0xC180, 0x942A, 0x1CA2, 0x942C, 0xC280], &[]),
+    ];
+    assert_eq!(rt; first_wrong(alloc, false, false, &cases)?, None);
+    Ok(())
+}
+
+#[test]
+fn memories_swap_and_are_erased(rt: HostRuntime) -> Result<(), AllocError> {
+    let alloc = rt.alloc();
+    let cases: [Case; 10] = [
+        (&[0x9420, 0xC180], &[]),
+        (&[0x9420, 0xC180, 0x942F], &[(15, 0, WHITE, "A")]),
+        (&[0x9420, 0xC180, 0x942F, 0x8080, 0x942F], &[]),
+        (&[0x9420, 0xC180, 0x942F, 0x942F, 0x942F, 0x942F], &[]),
+        (
+            &[0x9420, 0xC180, 0x942F, 0xC280, 0x8080, 0x942F],
+            &[(15, 1, WHITE, "B")],
+        ),
+        (&[0x9420, 0xC180, 0x94AE, 0x942F], &[]),
+        (
+            &[0x9420, 0xC180, 0x94AE, 0xC280, 0x942F],
+            &[(15, 1, WHITE, "B")],
+        ),
+        (&[0x9420, 0xC180, 0x942C, 0x942F], &[(15, 0, WHITE, "A")]),
+        (&[0x9429, 0xC180, 0x94AE], &[(15, 0, WHITE, "A")]),
+        (&[0x9429, 0xC180, 0x942C, 0xC280], &[(15, 1, WHITE, "B")]),
+    ];
+    assert_eq!(rt; first_wrong(alloc, false, false, &cases)?, None);
+    Ok(())
+}
+
+#[test]
+fn without_a_mode_captions_are_dropped(rt: HostRuntime) -> Result<(), AllocError> {
+    let alloc = rt.alloc();
+    let cases: [Case; 6] = [
+        (&[0xC180, 0x9429], &[]),
+        (&[0x91D0, 0x9429, 0xC180], &[(15, 0, WHITE, "A")]),
+        (&[0x91A8, 0x9429, 0xC180], &[(15, 0, WHITE, "A")]),
+        (&[0x97A1, 0x9429, 0xC180], &[(15, 0, WHITE, "A")]),
+        (
+            &[0x94A8, 0x9220, 0x9137, 0x9429, 0xC180],
+            &[(15, 0, WHITE, "A")],
+        ),
+        (&[0x942F, 0xC180, 0x8080, 0x942F], &[(15, 0, WHITE, "A")]),
+    ];
+    assert_eq!(rt; first_wrong(alloc, false, false, &cases)?, None);
+    Ok(())
+}
+
+#[test]
+fn behind_the_last_column_the_last_cell_is_replaced(rt: HostRuntime) -> Result<(), AllocError> {
+    let alloc = rt.alloc();
+    let cases: [Case; 5] = [
+        (
+            &[0x9429, 0x94FE, 0xC1C2, 0x43C4],
+            &[(15, 28, WHITE, "ABCD")],
+        ),
+        (
+            &[0x9429, 0x94FE, 0xC1C2, 0x43C4, 0x4546],
+            &[(15, 28, WHITE, "ABCF")],
+        ),
+        (
+            &[0x9429, 0x94FE, 0xC1C2, 0x43C4, 0x91A8],
+            &[(15, 28, WHITE, "ABC"), (15, 31, RED, " ")],
+        ),
+        (
+            &[0x9429, 0x94FE, 0xC1C2, 0x43C4, 0x94A8],
+            &[(15, 28, WHITE, "ABC ")],
+        ),
+        (
+            &[0x9429, 0x94FE, 0xC1C2, 0x43C4, 0x91B9],
+            &[(15, 28, WHITE, "ABC")],
+        ),
+    ];
+    assert_eq!(rt; first_wrong(alloc, false, false, &cases)?, None);
+    Ok(())
+}
+
+#[test]
+fn transparent_space_removes_the_cell(rt: HostRuntime) -> Result<(), AllocError> {
+    let alloc = rt.alloc();
+    let cases: [Case; 3] = [
+        (&[0x9429, 0xC1C2, 0x9470, 0x91B9], &[(15, 1, WHITE, "B")]),
+        (
+            &[0x9429, 0xC1C2, 0x9470, 0x91B9, 0x4380],
+            &[(15, 1, WHITE, "C")],
+        ),
+        (&[0x9429, 0x91B9, 0xC180], &[(15, 1, WHITE, "A")]),
+    ];
+    assert_eq!(rt; first_wrong(alloc, false, false, &cases)?, None);
+    Ok(())
+}
+
+#[test]
+fn backspace_and_delete_to_end_of_row(rt: HostRuntime) -> Result<(), AllocError> {
+    let alloc = rt.alloc();
+    let cases: [Case; 8] = [
+        (&[0x9429, 0x94A1, 0xC180], &[(15, 0, WHITE, "A")]),
+        (&[0x9429, 0xC180, 0x94A1, 0xC280], &[(15, 0, WHITE, "B")]),
+        (
+            &[0x9429, 0x94FE, 0xC1C2, 0x43C4, 0x94A1],
+            &[(15, 28, WHITE, "ABC")],
+        ),
+        (
+            &[0x9429, 0x94FE, 0xC1C2, 0x43C4, 0x94A1, 0x4580],
+            &[(15, 28, WHITE, "ABCE")],
+        ),
+        (
+            &[0x9429, 0xC1C2, 0x43C4, 0x9470, 0x97A2, 0x94A4],
+            &[(15, 0, WHITE, "AB")],
+        ),
+        (
+            &[0x9429, 0xC1C2, 0x94D0, 0x43C4, 0x9470, 0x94A4],
+            &[(14, 0, WHITE, "CD")],
+        ),
+        (
+            &[0x9429, 0x94FE, 0xC1C2, 0x43C4, 0x94A4],
+            &[(15, 28, WHITE, "ABCD")],
+        ),
+        (
+            &[0x9420, 0xC1C2, 0x9470, 0x97A1, 0x94A4, 0x942F],
+            &[(15, 0, WHITE, "A")],
+        ),
+    ];
+    assert_eq!(rt; first_wrong(alloc, false, false, &cases)?, None);
+    Ok(())
+}
+
+#[test]
+fn mid_row_codes_write_a_space(rt: HostRuntime) -> Result<(), AllocError> {
+    let alloc = rt.alloc();
+    let cases: [Case; 4] = [
+        (
+            &[0x9429, 0xC180, 0x91A8, 0xC280],
+            &[(15, 0, WHITE, "A"), (15, 1, RED, " B")],
+        ),
+        (
+            &[0x9429, 0x91A8, 0x91AE, 0xC180],
+            &[(15, 0, RED, " "), (15, 1, RED_ITALIC, " A")],
+        ),
+        (
+            &[0x9429, 0x91AE, 0x9123, 0xC180],
+            &[(15, 0, ITALIC, " "), (15, 1, GREEN_UNDERLINED, " A")],
+        ),
+        (&[0x9429, 0x91A8, 0x94A8, 0xC180], &[(15, 0, RED, "  A")]),
+    ];
+    assert_eq!(rt; first_wrong(alloc, false, false, &cases)?, None);
+    Ok(())
+}
+
+#[test]
+fn tab_offsets_stay_in_the_row(rt: HostRuntime) -> Result<(), AllocError> {
+    let alloc = rt.alloc();
+    let cases: [Case; 4] = [
+        (&[0x9429, 0x97A2, 0xC180], &[(15, 2, WHITE, "A")]),
+        (&[0x9429, 0x94FE, 0x9723, 0xC180], &[(15, 31, WHITE, "A")]),
+        (
+            &[0x9429, 0x94FE, 0x97A2, 0x9723, 0xC180],
+            &[(15, 31, WHITE, "A")],
+        ),
+        (
+            &[0x9429, 0x94FE, 0xC1C2, 0x43C4, 0x97A1, 0x4580],
+            &[(15, 28, WHITE, "ABCE")],
+        ),
+    ];
+    assert_eq!(rt; first_wrong(alloc, false, false, &cases)?, None);
+    Ok(())
+}
+
+#[test]
+fn preambles_set_the_pen(rt: HostRuntime) -> Result<(), AllocError> {
+    let alloc = rt.alloc();
+    let cases: [Case; 11] = [
+        (&[0x9429, 0x914A, 0xC180], &[(1, 0, YELLOW, "A")]),
+        (
+            &[0x9429, 0x944F, 0xC180],
+            &[(14, 0, ITALIC_UNDERLINED, "A")],
+        ),
+        (
+            &[0x9429, 0x91A8, 0x94F2, 0xC180],
+            &[(15, 0, RED, " "), (15, 4, WHITE, "A")],
+        ),
+        (&[0x9420, 0x10D0, 0xC180, 0x942F], &[(11, 0, WHITE, "A")]),
+        (
+            &[0x9425, 0xC180, 0x94AD, 0xC280, 0x15D0],
+            &[(4, 0, WHITE, "A"), (5, 0, WHITE, "B")],
+        ),
+        (
+            &[0x9425, 0xC180, 0x94AD, 0xC280, 0x15D0, 0x4380],
+            &[(4, 0, WHITE, "A"), (5, 0, WHITE, "C")],
+        ),
+        (
+            &[0x9425, 0xC180, 0x94AD, 0xC280, 0x15D0, 0x9470],
+            &[(14, 0, WHITE, "A"), (15, 0, WHITE, "B")],
+        ),
+        (
+            &[0x9426, 0xC180, 0x94AD, 0xC280, 0x94AD, 0x4380, 0x91D0],
+            &[(1, 0, WHITE, "A"), (2, 0, WHITE, "B"), (3, 0, WHITE, "C")],
+        ),
+        (&[0x9426, 0x91D0, 0xC180], &[(3, 0, WHITE, "A")]),
+        (
+            &[0x9426, 0x91D0, 0xC180, 0x94AD, 0xC280],
+            &[(2, 0, WHITE, "A"), (3, 0, WHITE, "B")],
+        ),
+        (
+            &[0x9425, 0xC180, 0x94F8, 0xC280],
+            &[(15, 0, WHITE, "A"), (15, 16, WHITE, "B")],
+        ),
+    ];
+    assert_eq!(rt; first_wrong(alloc, false, false, &cases)?, None);
+    Ok(())
+}
+
+#[test]
+fn carriage_return_rolls_up(rt: HostRuntime) -> Result<(), AllocError> {
+    let alloc = rt.alloc();
+    let cases: [Case; 7] = [
+        (&[0x9429, 0xC180, 0x94AD, 0xC280], &[(15, 0, WHITE, "AB")]),
+        (
+            &[0x9420, 0xC180, 0x94AD, 0xC280, 0x942F],
+            &[(15, 0, WHITE, "AB")],
+        ),
+        (
+            &[0x9425, 0x91A8, 0xC180, 0x94AD, 0xC280],
+            &[(14, 0, RED, " A"), (15, 0, WHITE, "B")],
+        ),
+        (
+            &[0x9426, 0xC180, 0x94AD, 0x8080, 0x94AD],
+            &[(13, 0, WHITE, "A")],
+        ),
+        (&[0x9425, 0xC180, 0x94AD, 0x8080, 0x94AD], &[]),
+        (
+            &[
+                0x94A7, 0xC180, 0x94AD, 0xC280, 0x94AD, 0x4380, 0x94AD, 0xC480, 0x94AD, 0x4580,
+            ],
+            &[
+                (12, 0, WHITE, "B"),
+                (13, 0, WHITE, "C"),
+                (14, 0, WHITE, "D"),
+                (15, 0, WHITE, "E"),
+            ],
+        ),
+        (
+            &[0x9425, 0x15D0, 0xC180, 0x94AD, 0xC280],
+            &[(4, 0, WHITE, "A"), (5, 0, WHITE, "B")],
+        ),
+    ];
+    assert_eq!(rt; first_wrong(alloc, false, false, &cases)?, None);
+    Ok(())
+}
+
+#[test]
+fn skipped_pairs_do_nothing(rt: HostRuntime) -> Result<(), AllocError> {
+    let alloc = rt.alloc();
+    let cases: [Case; 1] = [(
+        &[
+            0x9429, 0xC180, 0x94A2, 0x9423, 0x10A1, 0x16B0, 0x97A4, 0x9437, 0xC280,
+        ],
+        &[(15, 0, WHITE, "AB")],
+    )];
+    assert_eq!(rt; first_wrong(alloc, false, false, &cases)?, None);
+    Ok(())
+}
+
+#[test]
+fn modes_are_told(rt: HostRuntime) -> Result<(), AllocError> {
+    let alloc = rt.alloc();
+    let steps = [
+        (0x8080, Mode::Off),
+        (0x9420, Mode::PopOn),
+        (0x9429, Mode::PaintOn),
+        (0x94A7, Mode::RollUp(4)),
+        (0x9425, Mode::RollUp(2)),
+        (0x942A, Mode::RollUp(2)),
+        (0x942F, Mode::PopOn),
+        (0x1C26, Mode::PopOn),
+    ];
+    let mut field = Field::new(alloc, false)?;
+    for (pair, mode) in steps {
+        let pair: u16 = pair;
+        let [a, b] = pair.to_be_bytes();
+        field.apply(Pair { a, b });
+        assert_eq!(rt; field.mode(false), mode);
+    }
+    assert_eq!(rt; field.mode(true), Mode::RollUp(3));
+    Ok(())
+}
