@@ -1,5 +1,5 @@
 -- Lines on their way to a sink: what is put, what is held, and what is to come.
-use Rattle.std.proofs.Common.{◌≡◌, ◌∙◌, ◌++◌, ◌+◌, ap, append_assoc, append-nil, refl, sym, ℕ, List, [], Option, zero, suc, add-one}
+use Rattle.std.proofs.Common.{◌≡◌, ◌∙◌, ◌++◌, ◌+◌, ap, append_assoc, append-nil, refl, sym, ℕ, List, [], Option, add-one}
 use Rattle.std.specs.Io.KnownBytes.{Appends}
 use Rattle.std.proofs.KnownBytes.{Appends-trans}
 use Rattle.cc_base.specs.Streams.{Puts}

@@ -2,3 +2,4 @@ mod GatheredLines
 mod Refusals
 mod ListLimits
 mod PrintedLines
+mod VerdictLemmas

@@ -1,15 +1,16 @@
--- The records of a list pass no limits but those of frames and cues.
-use Rattle.std.proofs.Common.{◌≡◌, ℕ, ◌+◌, ◌==◌, Bool, true, false, not, ◌&&◌, nat_lt, nat_le, List, [], ◌∷◌, length, codes, bytes_eq, chars, Option, Some, None, Result, Ok, Err, refl, subst}
+-- What is due for the records of a list: no limit but those of frames and cues, and never want of memory.
+use Rattle.std.proofs.Common.{◌≡◌, ℕ, ◌+◌, ◌==◌, ◌&&◌, nat_lt, nat_le, List, [], ◌∷◌, length, codes, bytes_eq, chars, Option, Some, None, Result, Ok, Err, subst}
 use Rattle.std.specs.List.{list_all, list_any}
 use Rattle.std.specs.Prelude.{sum_by, ⊤}
 use Rattle.std.specs.Str.{is_utf8}
+use Rattle.std.specs.declared.alloc.AllocError.{AllocError}
 use Rattle.cc_base.specs.declared.limit_of.LimitOf.{LimitOf}
 use Rattle.cc_base.specs.declared.limit_of.LimitOf.TheVariants as limit
 use Rattle.cue_lists.specs.Begun.{Begun, awaits_run, cues_of, nothing}
 use Rattle.cue_lists.specs.Fields.{channel_of, frame_of, number_of, number_within, pen_of, rate_of}
 use Rattle.cue_lists.specs.Form.{frame_or_none_of, is_coded, may_stand, record_kind_of, suits_row}
 use Rattle.cue_lists.specs.Listing.{Listing}
-use Rattle.cue_lists.specs.Reading.{adds, cue_of, ended, head_of, in_record, list_of, next, on_ok, opens, read_from, read_list, read_on, rolled_cue_of, run_of, runs_on, share_record_of, shown_of, text_of}
+use Rattle.cue_lists.specs.Reading.{adds, cue_of, ended, head_of, next, on_ok, opens, read_from, read_list, read_on, rolled_cue_of, run_of, runs_on, share_record_of, shown_of, text_of}
 use Rattle.cue_lists.specs.Records.{Record, field, records_of}
 use Rattle.cue_lists.specs.Unbuilt.{is_built_channel, is_built_character, is_built_kind, is_built_pen}
 use Rattle.cue_lists.specs.declared.cue.Cue.{Cue}
@@ -21,16 +22,7 @@ use Rattle.cue_lists.specs.declared.offence.Offence.{Offence}
 use Rattle.cue_lists.specs.declared.offence.Offence.TheVariants as offence
 use Rattle.cue_lists.specs.declared.record_kind.RecordKind.{RecordKind}
 use Rattle.cue_lists.specs.declared.record_kind.RecordKind.TheVariants as record_kind
-
--- whatever a test says
-on_test : (P : Type 0) (b : Bool) → (b ≡ false → P) → (b ≡ true → P) → P
-on_test P true failed passed = passed refl
-on_test P false failed passed = failed refl
-
--- whether a value is there or not
-on_value : {A : Type 0} (P : Type 0) (o : Option A) → (o ≡ None → P) → ((x : A) → o ≡ Some x → P) → P
-on_value P (Some x) missing there = there x refl
-on_value P None missing there = missing refl
+use Rattle.cue_lists.proofs.Passing.{on_test, on_value}
 
 -- the limits that records can pass
 abbrev pub IsOfRecords : LimitOf → Type 0
@@ -38,12 +30,12 @@ IsOfRecords limit.Frames = ⊤
 IsOfRecords limit.Cues = ⊤
 IsOfRecords _ = ⊥
 
--- where a limit is passed, it is one of those
+-- a limit that is passed is one of those, and want of memory is never due
 abbrev Limits : {A : Type 0} → Result A Offence → Type 0
 Limits (Ok value) = ⊤
 Limits (Err (offence.At place why)) = ⊤
 Limits (Err (offence.Limit which)) = IsOfRecords which
-Limits (Err (offence.Memory error)) = ⊤
+Limits (Err (offence.Memory error)) = ⊥
 
 head_limits : (r : Record) → Limits (head_of r)
 head_limits r =
@@ -99,7 +91,7 @@ on_limits : {A B : Type 0} (r : Result A Offence) (rest : A → Result B Offence
 on_limits (Ok value) rest part behind = behind value
 on_limits (Err (offence.At place why)) rest part behind = tt
 on_limits (Err (offence.Limit which)) rest part behind = part
-on_limits (Err (offence.Memory error)) rest part behind = tt
+on_limits (Err (offence.Memory error)) rest part behind = part
 
 run_limits : (cue : Cue) (r : Record) → Limits (run_of cue r)
 run_limits cue r =
@@ -145,10 +137,10 @@ next_limits b r =
     on_test _ (is_built_kind b kind) (λ f. rw f tt) (λ t. rw t (adds_limits b kind r))
     ))))
 
--- where a list passes a limit, it is one of records
+-- the same for a list
 abbrev ListLimits : Result Listing CueFault → Type 0
 ListLimits (Ok list) = ⊤
-ListLimits (Err (fault.Memory error)) = ⊤
+ListLimits (Err (fault.Memory error)) = ⊥
 ListLimits (Err (fault.Limit which)) = IsOfRecords which
 ListLimits (Err (fault.Malformed number place why)) = ⊤
 
@@ -161,7 +153,7 @@ on_limits_of : (number : ℕ) (r : Result Begun Offence) (rest : Begun → Resul
 on_limits_of number (Ok b) rest part behind = behind b
 on_limits_of number (Err (offence.At place why)) rest part behind = tt
 on_limits_of number (Err (offence.Limit which)) rest part behind = part
-on_limits_of number (Err (offence.Memory error)) rest part behind = tt
+on_limits_of number (Err (offence.Memory error)) rest part behind = part
 
 from_limits : (b : Begun) (number : ℕ) (rs : List Record) → ListLimits (read_from b number rs)
 from_limits b number [] = ended_limits b b.head number
@@ -170,3 +162,7 @@ from_limits b number (r ∷ rs) = on_limits_of number (next b r) (λ more. read_
 -- the limit that the records of these bytes pass
 pub limit_of_records : (bytes : List ℕ) (which : LimitOf) → read_list bytes ≡ Err (fault.Limit which) → IsOfRecords which
 limit_of_records bytes which is = subst ListLimits is (from_limits nothing 1 (records_of bytes))
+
+-- want of memory is never due for these bytes
+pub no_want_of_memory : (bytes : List ℕ) (error : AllocError) → read_list bytes ≡ Err (fault.Memory error) → ⊥
+no_want_of_memory bytes error is = subst ListLimits is (from_limits nothing 1 (records_of bytes))

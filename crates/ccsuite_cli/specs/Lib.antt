@@ -6,3 +6,4 @@ pub mod Gathered
 pub mod Lines
 pub mod Reads
 pub mod StatusLine
+pub mod Verdict

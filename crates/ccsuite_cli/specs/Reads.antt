@@ -1,7 +1,6 @@
 -- Steps on the way from an input to a plan: reading the bytes of a list, and judging them.
-use Rattle.std.specs.Prelude.{◌≡◌, ◌≤◌, ◌<◌, ℕ, List, length, IfSome, Option, Result, Ok, Err, ⊤}
+use Rattle.std.specs.Prelude.{◌≡◌, ℕ, List, IfSome, Option, Result, Ok, Err, ⊤}
 use Rattle.cc_base.specs.Streams.{Rose, TakesWithin}
-use Rattle.cc_base.specs.declared.limit_of.LimitOf.TheVariants as limit
 use Rattle.cue_lists.specs.Listing.{Listing}
 use Rattle.cue_lists.specs.declared.fault.CueFault.{CueFault}
 use Rattle.cue_lists.specs.declared.fault.CueFault.TheVariants as fault

@@ -7,6 +7,7 @@ pub use crate::status::{Place, Status};
 mod accept;
 mod command;
 mod gathered;
+pub mod laws;
 mod lines;
 mod pairs;
 mod program;

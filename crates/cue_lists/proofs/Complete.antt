@@ -22,7 +22,7 @@ use Rattle.cue_lists.specs.Fields.{rate_of}
 use Rattle.cue_lists.specs.Line21Cues.{IsLine21Run}
 use Rattle.cue_lists.specs.Listing.{IsListRate, Listing}
 use Rattle.cue_lists.specs.Form.{is_coded}
-use Rattle.cue_lists.specs.Reading.{head_of, list_of, run_of, shown_of, text_of}
+use Rattle.cue_lists.specs.Reading.{list_of, run_of, shown_of, text_of}
 use Rattle.cue_lists.specs.Records.{Record}
 use Rattle.cue_lists.specs.Spelling.{Spells, cue_records, head_record, pen_word, rate_word, run_record, share_record}
 use Rattle.cue_lists.specs.Unbuilt.{IsBuilt, IsBuiltCue, is_basic_spelling, is_white, is_built_character, is_built_pen, is_built_run}
@@ -47,11 +47,6 @@ rate_of-rate_word rate.F25 is = absurd is
 rate_of-rate_word rate.F50 is = absurd is
 rate_of-rate_word rate.F5994 is = absurd is
 rate_of-rate_word rate.F60 is = absurd is
-
--- a head's record is read
-head_of-head_record : (head : Head) → IsListRate head.rate → 1 ≤ head.frames → head.frames ≤ 1000000 → head_of (head_record head) ≡ Ok head
-head_of-head_record head rated some few =
-    rw (rate_of-rate_word head.rate rated, number_of-decimal head.frames (omega arith), le-leb 1 head.frames some, le-leb head.frames 1000000 few) refl
 
 -- a pop-on cue's record on CC1 is read
 shown_of-pop : (load show hide : ℕ) → load < 2 ^ 32 → show < 2 ^ 32 → hide < 2 ^ 32

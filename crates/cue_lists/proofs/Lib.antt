@@ -11,6 +11,7 @@ pub mod RuleJudging
 pub mod RuleKept
 pub mod RuleLists
 pub mod RuleNearest
+pub mod RulesDecided
 pub mod Spelled
 pub mod Steps
 pub mod TextFacts

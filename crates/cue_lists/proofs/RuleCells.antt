@@ -9,10 +9,10 @@ use Rattle.std.proofs.lemmas.Bool.{cases_lt}
 use Rattle.std.proofs.lemmas.Nat.{one_shl}
 use Rattle.std.proofs.lemmas.List.{at_drop_all, get_or-set_same, get_or-set_other}
 use Rattle.std.proofs.lemmas.List.Folds.{list_any_none}
-use Rattle.std.proofs.lemmas.Bool.Decides.{eqb_tells, leb_tells, nat_tests}
+use Rattle.std.proofs.lemmas.Bool.Decides.{eqb_tells, leb_tells}
 use Rattle.std.proofs.lemmas.Nat.Bits.{bit_at_and, bit_at_or, bit_at-zero, same_from_bits, bit_at_mask_inside, bit_at_mask_below, bit_at_mask_above}
 use Rattle.cue_lists.specs.declared.cue.Run.{Run}
-use Rattle.cue_lists.specs.Rules.Cells.{covers, has_lead, first_column, end_column, share_cell, have_shared_cell}
+use Rattle.cue_lists.specs.Rules.Cells.{has_lead, first_column, end_column, share_cell, have_shared_cell}
 
 -- a run's first column is no further right than its text
 pub first_before_end : (run : Run) → first_column run ≤ end_column run
@@ -222,13 +222,3 @@ next_apart written runs i x columns within is bits none room =
 -- no run is left
 pub none_left : (written : List ℕ) (runs : List Run) (i : ℕ) → length runs ≤ i → meet_left written (drop i runs) ≡ false
 none_left written runs i past = at_drop_all (meet_left written) runs i past
-
--- two runs that share no cell have no cell that both write
-pub apart_in_cells : (a b : Run) (row column : ℕ) → share_cell a b ≡ false → covers a row column ≡ true
-    → covers b row column ≡ true → ⊥
-apart_in_cells a b row column apart in_a in_b = grind (arith, nat_tests)
-
--- two runs that share a cell both write the first column that both have
-pub meet_in_cell : (a b : Run) → share_cell a b ≡ true
-    → (covers a a.row (max (first_column a) (first_column b)) ≡ true) × (covers b a.row (max (first_column a) (first_column b)) ≡ true)
-meet_in_cell a b shared = (grind (arith, nat_tests), grind (arith, nat_tests))

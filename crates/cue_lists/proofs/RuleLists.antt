@@ -120,17 +120,3 @@ pub fault_err : (list : Listing) (r : Result (Unit {0}) RuleFault)
     → IsErrOf r fault
 fault_err list (Ok _) judged fault has = absurd (ruled_has_none list fault judged has)
 fault_err list (Err e) judged fault has = ap Err (one_fault list e fault judged has)
-
--- the cues behind others keep the rules too
-pub ruled_behind : (list : Listing) (later cues : List Cue) → AreRuled list (later ++ cues) → AreRuled list cues
-ruled_behind list [] cues ruled = ruled
-ruled_behind list (cue ∷ later) cues ruled = ruled_behind list later cues ruled.1
-
--- each cue of a list that keeps the rules has no fault behind the cues before it
-pub ruled_cue : (list : Listing) (earlier : List Cue) (cue : Cue) (later : List Cue) → IsRuled list
-    → list.cues ≡ reverse earlier ++ cue ∷ later → fault_of list earlier cue ≡ None
-ruled_cue list earlier cue later ruled split =
-    let all : AreRuled list (reverse later ++ cue ∷ earlier) =
-    subst (λ (cues : List Cue). AreRuled list cues) (ap reverse split ∙ newest_first earlier cue later) ruled in
-    let here : AreRuled list (cue ∷ earlier) = ruled_behind list (reverse later) (cue ∷ earlier) all in
-    here.0

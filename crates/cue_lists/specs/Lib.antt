@@ -1,4 +1,5 @@
 pub mod Answers
+pub mod AuthoredGrid
 pub mod Begun
 pub mod Cues
 pub mod Fields

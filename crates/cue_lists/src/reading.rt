@@ -30,22 +30,22 @@ pub fn parse(alloc: Global, bytes: &[u8]) -> Result<CueList, CueFault>
     // Where memory lasts, the fault is the first one.
     ensures fault { IfErr result (λ fault. FaultsFirst (records_of bytes.now) fault) }
 {
-    let rdr = ReaderBuilder::new()
+    let reader = ReaderBuilder::new()
         .has_headers(false)
         .flexible(true)
         .from_reader(alloc, bytes);
     let mut draft = Draft::new(alloc);
-    let mut rec = 1u32;
-    for row in rdr.into_byte_records() {
+    let mut record_number = 1u32;
+    for row in reader.into_byte_records() {
         match row {
             Ok(row) => {
                 if let Err(offence) = draft.take(alloc, &row) {
-                    return Err(offence.in_record(rec));
+                    return Err(offence.in_record(record_number));
                 }
-                rec += 1;
+                record_number += 1;
             }
             Err(_) => return Err(CueFault::Memory(AllocError)),
         }
     }
-    draft.finish(rec)
+    draft.finish(record_number)
 }

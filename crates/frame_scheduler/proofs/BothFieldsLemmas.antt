@@ -1,14 +1,12 @@
 -- What the lanes of both fields answer together.
-use Rattle.std.proofs.Common.{◌≡◌, ◌∙◌, ◌≤◌, ◌<◌, ◌++◌, ℕ, suc, List, [], ◌∷◌, length, get_or, ap, sym, subst, refl, arith, leb, true, false, inl, inr, ⊎_elim, min, Result, Ok, Err}
+use Rattle.std.proofs.Common.{◌≡◌, ◌∙◌, ◌≤◌, ◌<◌, ℕ, List, [], sym, subst, refl, arith, inl, inr, ⊎_elim, min, Result, Ok, Err}
 use Rattle.std.proofs.lemmas.Bool.{cases_lt}
-use Rattle.std.proofs.lemmas.Bool.Decides.{nat_tests}
 use Rattle.line21_codes.specs.declared.channels.Chan.{Chan}
 use Rattle.line21_codes.specs.declared.channels.Chan.TheVariants.{Cc1, Cc3}
 use Rattle.cue_lists.specs.Listing.{Listing}
 use Rattle.cue_lists.specs.declared.cue.Cue.{Cue}
 use Rattle.line21_author.specs.CueEvents.{channel_events}
 use Rattle.frame_scheduler.specs.declared.frames.Plan.{Plan}
-use Rattle.frame_scheduler.specs.declared.lane.piece.Piece.{Piece}
 use Rattle.frame_scheduler.specs.declared.planning.PlanFault.{PlanFault}
 use Rattle.frame_scheduler.specs.declared.planning.PlanFault.TheVariants.{Memory, NoRoom}
 use Rattle.frame_scheduler.specs.ChannelAnswer.{ChannelAnswer, channel_start, earlier_of}
@@ -16,34 +14,59 @@ use Rattle.frame_scheduler.specs.ChannelLane.{IsChannelPlaced, channel_pieces, c
 use Rattle.frame_scheduler.specs.FieldLane.{lane}
 use Rattle.frame_scheduler.specs.Frames.{GivesColumn, PlanAnswer}
 use Rattle.frame_scheduler.specs.LanePlan.{Planned}
-use Rattle.frame_scheduler.specs.LaneRoom.{AreInOrder, IsFirstWithoutRoom, up_to}
-use Rattle.frame_scheduler.specs.Placing.{HasPlacement, IsPlaced}
-use Rattle.frame_scheduler.specs.Planned.{HasRoom}
+use Rattle.frame_scheduler.specs.LaneRoom.{up_to}
+use Rattle.frame_scheduler.specs.Placing.{IsPlaced}
+use Rattle.frame_scheduler.specs.Planned.{HasRoom, Placement}
 use Rattle.frame_scheduler.specs.Planned as list
 use Rattle.frame_scheduler.proofs.ChannelOrderLemmas.{channel_in_order}
-use Rattle.frame_scheduler.proofs.LaneRoomLemmas.{of_cues_from, up_to_none}
-use Rattle.frame_scheduler.proofs.PlacingLemmas.{placed_prefix}
-
--- the units up to a cue are the first of the lane's units
-up_to_front : (cue : ℕ) (us : List Piece) → AreInOrder us → (rest : List Piece) × (us ≡ up_to cue us ++ rest)
-up_to_front cue [] order = ([], refl)
-up_to_front cue (u ∷ us) order =
-    ⊎_elim
-    (λ (above : cue < u.cue).
-    let none = up_to_none cue (u ∷ us) (λ k d lt. omega (arith, of_cues_from u.cue (u ∷ us) (omega arith, order.0) k d lt, above)) in
-    (u ∷ us, sym (ap (λ l. l ++ u ∷ us) none)))
-    (λ (within : u.cue ≤ cue).
-    let w = up_to_front cue us order.1 in
-    let test : leb u.cue cue ≡ true = grind (arith, nat_tests) in
-    (w.0, rw test (ap (λ l. u ∷ l) w.1)))
-    (cases_lt cue u.cue)
+use Rattle.frame_scheduler.proofs.LaneRoomLemmas.{up_to_first}
+use Rattle.frame_scheduler.proofs.PlacingLemmas.{earliest_same, placed_prefix}
 
 -- where all units of a channel have a placement, those up to a cue have one
 placed_room : (l : Listing) (channel : Chan) (fs : List ℕ) (cue : ℕ) → IsChannelPlaced channel l.cues fs → HasRoom l channel cue
 placed_room l channel fs cue placed =
-    let front = up_to_front cue (channel_pieces channel l.cues) (channel_in_order channel l.cues) in
+    let front = up_to_first (channel_pieces channel l.cues) cue (channel_in_order channel l.cues) in
     placed_prefix (lane (channel_events channel l.cues)) (up_to cue (channel_pieces channel l.cues)) front.0 fs
     (subst (λ us. IsPlaced (lane (channel_events channel l.cues)) [] us fs) front.1 placed.placed)
+
+-- a placement by its channels' frames
+placement_of : (one two three four : List ℕ) → one ≡ three → two ≡ four
+    → ◌≡◌ {A = Placement} (record { one = one; two = two }) (record { one = three; two = four })
+placement_of one two three four same_one same_two = rw (same_one, same_two) refl
+
+-- a list has one earliest placement
+pub one_placement : (l : Listing) (a b : Placement) → list.IsPlaced l a → list.IsPlaced l b → a ≡ b
+one_placement l a b first second = placement_of a.one a.two b.one b.two (same Cc1 a.one b.one first.one second.one) (same Cc3 a.two b.two first.two second.two)
+  where
+    same : (channel : Chan) (fs gs : List ℕ) → IsChannelPlaced channel l.cues fs → IsChannelPlaced channel l.cues gs → fs ≡ gs
+    same channel fs gs one other = earliest_same (lane (channel_events channel l.cues)) (channel_pieces channel l.cues) fs gs one other
+
+-- where all units of a list have a placement, no cue is without one
+pub placed_has_room : (l : Listing) (placed : Placement) (cue : ℕ) → list.IsPlaced l placed → list.IsFirstWithoutRoom l cue → ⊥
+placed_has_room l placed cue all without =
+    elim without.none [
+      | inl none ↦ let room = placed_room l Cc1 placed.one cue all.one in none room.0 room.1
+      | inr none ↦ let room = placed_room l Cc3 placed.two cue all.two in none room.0 room.1
+    ]
+
+-- where both channels' units up to a cue have a placement, it isn't without one
+room_of_both : (l : Listing) (cue : ℕ) → list.HasRoom l Cc1 cue → list.HasRoom l Cc3 cue → list.IsFirstWithoutRoom l cue → ⊥
+room_of_both l cue one two without =
+    elim without.none [
+      | inl none ↦ none one.0 one.1
+      | inr none ↦ none two.0 two.1
+    ]
+
+-- one cue is the first without a placement
+pub first_without_room : (l : Listing) (a b : ℕ) → list.IsFirstWithoutRoom l a → list.IsFirstWithoutRoom l b → a ≡ b
+first_without_room l a b first second =
+    elim (cases_lt a b) [
+      | inl less ↦ absurd (room_of_both l a (second.one a less) (second.two a less) first)
+      | inr most ↦ elim (cases_lt b a) [
+        | inl less ↦ absurd (room_of_both l b (first.one b less) (first.two b less) second)
+        | inr least ↦ omega arith
+      ]
+    ]
 
 -- a lane at frame 0 gives its channel's column
 lane_gives : (l : Listing) (channel : Chan) (fs : List ℕ) (planned : Planned) → planned ≡ channel_start channel l.cues

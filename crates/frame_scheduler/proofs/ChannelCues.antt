@@ -51,7 +51,7 @@ line21_on channel (kind.Roll own rows) on = refl
 line21_on channel (kind.Win window) on = cc
 
 -- a channel's lane has the cues on the channel
-on_lane_is : (channel : Chan) (k : Kind) → same_lane (lane.Channel channel) (lane_of k) ≡ is_on channel k
+pub on_lane_is : (channel : Chan) (k : Kind) → same_lane (lane.Channel channel) (lane_of k) ≡ is_on channel k
 on_lane_is channel (kind.Pop own) = same_number channel own
 on_lane_is channel (kind.Paint own) = same_number channel own
 on_lane_is channel (kind.Roll own rows) = same_number channel own

@@ -1,5 +1,5 @@
 -- The units of a channel stand in the order of their cues.
-use Rattle.std.proofs.Common.{◌≤◌, ◌++◌, ℕ, suc, List, [], ◌∷◌, map, arith, Bool, true, false}
+use Rattle.std.proofs.Common.{◌++◌, ℕ, suc, List, [], ◌∷◌, map, arith, true, false}
 use Rattle.std.specs.Prelude.{if◌then◌else◌}
 use Rattle.line21_codes.specs.declared.channels.Chan.{Chan}
 use Rattle.cue_lists.specs.declared.cue.Cue.{Cue}

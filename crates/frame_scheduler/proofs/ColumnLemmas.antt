@@ -53,7 +53,7 @@ abbrev pub IsSpaced : Timeline → Type 0
 IsSpaced t = (n : ℕ) (p : Pair) → repeat_of (t n) ≡ Some p → t (suc n) ≡ None
 
 -- the null pair is no control pair
-null_plain : is_control null_pair ≡ false
+pub null_plain : is_control null_pair ≡ false
 unfolding is_control ones
 null_plain = refl
 

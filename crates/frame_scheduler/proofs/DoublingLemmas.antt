@@ -22,7 +22,7 @@ use Rattle.frame_scheduler.proofs.LaneCursorLemmas.{event_none, some_slot}
 use Rattle.frame_scheduler.proofs.ColumnLemmas.{IsMarked, IsSpaced, column_doubled}
 
 -- what begins at a frame where an event does
-at_event : (e : Event) (es : List Event) (n : ℕ) → (b : Bool) → eqb n e.frame ≡ b → event_at (e ∷ es) n ≡ cond b (Some (record { pair = e.pair; doubled = true })) (event_at es n)
+pub at_event : (e : Event) (es : List Event) (n : ℕ) → (b : Bool) → eqb n e.frame ≡ b → event_at (e ∷ es) n ≡ cond b (Some (record { pair = e.pair; doubled = true })) (event_at es n)
 at_event e es n b is = ap (λ c. cond c (Some (record { pair = e.pair; doubled = true })) (event_at es n)) is
 
 -- where an event begins, two slots aren't free
@@ -81,7 +81,7 @@ event_over (e ∷ es) k a =
     at_event e es k false test ∙ event_over es k a.1
 
 -- what begins at a frame where a unit stands
-at_unit : (p : Piece) (ps : List Piece) (f : ℕ) (fs : List ℕ) (n : ℕ) → (b : Bool) → eqb n f ≡ b → stands (p ∷ ps) (f ∷ fs) n ≡ cond b (Some p.unit) (stands ps fs n)
+pub at_unit : (p : Piece) (ps : List Piece) (f : ℕ) (fs : List ℕ) (n : ℕ) → (b : Bool) → eqb n f ≡ b → stands (p ∷ ps) (f ∷ fs) n ≡ cond b (Some p.unit) (stands ps fs n)
 at_unit p ps f fs n b is = ap (λ c. cond c (Some p.unit) (stands ps fs n)) is
 
 -- no unit begins before the end of those before it
@@ -156,7 +156,7 @@ unit_all P (p ∷ ps) (f ∷ fs) n u all is = go (unit_all P ps fs n u (All-tail
     go rest false b = rest (sym (at_unit p ps f fs n false b) ∙ is)
 
 -- in the lane's timeline what begins is an event, or else a unit
-over_cases : (events : List Event) (pieces : List Piece) (fs : List ℕ) (n : ℕ) (u : Unit) → lane_timeline events pieces fs n ≡ Some u
+pub over_cases : (events : List Event) (pieces : List Piece) (fs : List ℕ) (n : ℕ) (u : Unit) → lane_timeline events pieces fs n ≡ Some u
     → (event_at events n ≡ Some u) ⊎ ((event_at events n ≡ None) × (stands pieces fs n ≡ Some u))
 over_cases events pieces fs n u is = go (event_at events n) refl
   where
@@ -170,7 +170,7 @@ over_none : (events : List Event) (pieces : List Piece) (fs : List ℕ) (n : ℕ
 over_none events pieces fs n a b = ap (λ o. first_of o (stands pieces fs n)) a ∙ b
 
 -- no event begins in a slot that is free
-free_none : (events : List Event) (n : ℕ) → IsFree events n → event_at events n ≡ None
+pub free_none : (events : List Event) (n : ℕ) → IsFree events n → event_at events n ≡ None
 free_none events n free = go (event_at events n) refl
   where
     go : (e : Option Unit) → event_at events n ≡ e → event_at events n ≡ None

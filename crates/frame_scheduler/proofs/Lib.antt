@@ -16,3 +16,4 @@ pub mod CueSequenceLemmas
 pub mod EventsApartLemmas
 pub mod NoCuesLemmas
 pub mod ListDoublingLemmas
+pub mod RoomDecided

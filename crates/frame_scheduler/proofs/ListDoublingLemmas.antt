@@ -1,5 +1,5 @@
 -- In the columns of a placed list every control pair is doubled.
-use Rattle.std.proofs.Common.{◌≡◌, ◌<◌, ◌≤◌, ◌+◌, ◌++◌, ℕ, zero, suc, List, [], ◌∷◌, map, ap, refl, sym, subst, arith, Bool, true, false, Option, Some, None, All}
+use Rattle.std.proofs.Common.{◌≡◌, ◌<◌, ◌≤◌, ◌+◌, ◌++◌, ℕ, zero, suc, List, [], ◌∷◌, ap, refl, sym, subst, arith, true, false, Option, Some, None, All}
 use Rattle.std.specs.Prelude.{if◌then◌else◌, IfSome, IsTrue, MatchOption}
 use Rattle.std.specs.List.{AllByRecursion}
 use Rattle.std.proofs.lemmas.List.Elements.{All-append, All-head, All-map, All-nil, All-tail, All-weaker}
@@ -70,25 +70,38 @@ column_is : (timeline : Timeline) (n : ℕ) → first_pairs (slot timeline) n �
 column_is timeline zero = refl
 column_is timeline (suc n) = ap (λ pairs. pairs ++ slot timeline n ∷ []) (column_is timeline n)
 
+-- the units of a channel's cues are within the list, and doubled where their pairs are control pairs
+channel_within : (list : Listing) (channel : Chan) → IsFormed list → IsRuled list → All (IsWithin list.frames) (channel_pieces channel list.cues)
+channel_within list channel formed ruled =
+    pieces_within channel list.frames 1 list.cues formed.cues
+    (in_sequence_sound list.frames (cues_on channel list.cues) (in_sequence list formed ruled channel))
+
+-- what begins on a channel is doubled exactly where it is a control pair
+pub channel_controls : (list : Listing) (channel : Chan) → IsFormed list → IsRuled list
+    → AreDoubledControls (channel_events channel list.cues) (channel_pieces channel list.cues)
+channel_controls list channel formed ruled =
+    let events = channel_events channel list.cues in
+    let pieces = channel_pieces channel list.cues in
+    record {
+      events_are = All-weaker IsControlEvent (λ event. IsTrue (is_control event.pair)) (λ event control. control.control) events
+          (channel_events_control channel list.cues events refl);
+      pieces_are = All-weaker (IsWithin list.frames) (λ piece. is_control piece.unit.pair ≡ piece.unit.doubled) (λ piece w. w.doubled) pieces
+          (channel_within list channel formed ruled);
+    }
+
 -- the pairs of a channel's field are doubled
 channel_doubled : (list : Listing) (channel : Chan) (placed : List ℕ) → IsFormed list → IsRuled list → IsChannelPlaced channel list.cues placed
     → IsDoubled (first_pairs (channel_slot channel list.cues placed) list.frames)
 channel_doubled list channel placed formed ruled earliest =
     let events = channel_events channel list.cues in
     let pieces = channel_pieces channel list.cues in
-    let within = pieces_within channel list.frames 1 list.cues formed.cues
-    (in_sequence_sound list.frames (cues_on channel list.cues) (in_sequence list formed ruled channel)) in
-    let controls : AreDoubledControls events pieces = record {
-      events_are = All-weaker IsControlEvent (λ event. IsTrue (is_control event.pair)) (λ event control. control.control) events
-          (channel_events_control channel list.cues events refl);
-      pieces_are = All-weaker (IsWithin list.frames) (λ piece. is_control piece.unit.pair ≡ piece.unit.doubled) (λ piece w. w.doubled) pieces within;
-    } in
     let ended : AreEnded events pieces list.frames = record {
       events_are = events_over list.frames events (events_within list formed ruled channel);
-      pieces_are = All-weaker (IsWithin list.frames) (λ piece. piece.until ≤ list.frames) (λ piece w. w.ended) pieces within;
+      pieces_are = All-weaker (IsWithin list.frames) (λ piece. piece.until ≤ list.frames) (λ piece w. w.ended) pieces
+          (channel_within list channel formed ruled);
     } in
     subst IsDoubled (sym (column_is (lane_timeline events pieces placed) list.frames))
-    (lane_doubled events pieces placed list.frames (events_apart list formed ruled channel) controls ended earliest.placed)
+    (lane_doubled events pieces placed list.frames (events_apart list formed ruled channel) (channel_controls list channel formed ruled) ended earliest.placed)
 
 -- both columns of a placed list are doubled
 pub columns_doubled : (list : Listing) (placed : Placement) → IsFormed list → IsRuled list → IsPlaced list placed

@@ -1,13 +1,12 @@
 -- A field without cues carries null pairs.
-use Rattle.std.proofs.Common.{◌≡◌, ◌∙◌, ◌++◌, ℕ, zero, suc, List, [], ◌∷◌, ap, refl, sym, Bool, true, false, None, All}
-use Rattle.std.specs.Prelude.{if◌then◌else◌}
+use Rattle.std.proofs.Common.{◌≡◌, ◌∙◌, ℕ, zero, suc, List, [], ◌∷◌, ap, refl, false, All}
 use Rattle.std.proofs.lemmas.List.Elements.{All-head, All-tail}
 use Rattle.line21_codes.specs.declared.channels.Chan.{Chan}
 use Rattle.cue_lists.specs.declared.cue.Cue.{Cue}
 use Rattle.line21_author.specs.Channels.{cues_on, is_on}
 use Rattle.line21_author.specs.CueEvents.{channel_events, events_of}
 use Rattle.line21_author.specs.Channels.{is_in_second_field}
-use Rattle.frame_scheduler.specs.ChannelLane.{channel_pieces, channel_slot, cue_pieces, pieces_from}
+use Rattle.frame_scheduler.specs.ChannelLane.{channel_pieces, channel_slot, pieces_from}
 use Rattle.frame_scheduler.specs.LaneTimeline.{lane_timeline}
 use Rattle.frame_scheduler.specs.Timeline.{null_pair, slot}
 

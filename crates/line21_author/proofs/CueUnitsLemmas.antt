@@ -1,7 +1,6 @@
-use Rattle.std.proofs.Common.{◌≡◌, ℕ, ◌+◌, Bool, List, ◌++◌, refl}
-use Rattle.std.specs.Prelude.{All, map, sum_by}
+use Rattle.std.proofs.Common.{◌≡◌, Bool, List, refl}
+use Rattle.std.specs.Prelude.{All, map}
 use Rattle.std.proofs.lemmas.List.Elements.{All-map, All-same, All-weaker}
-use Rattle.std.proofs.lemmas.List.Sums.{sum_by-append}
 use Rattle.line21_codes.specs.declared.codes.Code.{Code}
 use Rattle.line21_codes.specs.Writable.{IsWritable}
 use Rattle.line21_codes.proofs.CodeLemmas.{written-odd, is_control-written}
@@ -12,7 +11,6 @@ use Rattle.line21_author.specs.Channels.{is_for_second_field}
 use Rattle.line21_author.specs.CueCodes.{cue_codes}
 use Rattle.line21_author.specs.CueUnits.{unit_of, units_of}
 use Rattle.line21_author.specs.UnitPairs.{IsCarried}
-use Rattle.line21_author.specs.UnitSlots.{unit_slots}
 use Rattle.line21_author.proofs.CueCodesLemmas.{cue_codes_writable}
 
 -- the unit of a code that can be written can be carried
@@ -32,11 +30,3 @@ units_carried second_field codes units writable is =
 pub units_of_carried : (cue : Cue) → IsCueFormed cue → All IsCarried (units_of cue)
 units_of_carried cue formed =
     units_carried (is_for_second_field cue.kind) (cue_codes cue) (units_of cue) (cue_codes_writable cue formed) refl
-
--- the number of slots of units together
-abbrev pub slots_of : List Unit → ℕ
-slots_of units = sum_by unit_slots units
-
--- units behind units take their slots together
-pub slots_of-append : (units more : List Unit) → slots_of (units ++ more) ≡ slots_of units + slots_of more
-slots_of-append units more = sum_by-append unit_slots units more

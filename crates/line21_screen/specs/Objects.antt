@@ -24,7 +24,7 @@ grid_of cells row col = if in_grid row col then slice_index_or cells (place row 
 abbrev pub pen_of : Pen → PenState
 pen_of pen = record { row = pen.row; col = pen.col; style = pen.style }
 
--- a channel, whose spare memory is no part of its state
+-- a channel
 abbrev pub channel_of : Channel → ChannelState
 channel_of channel = record {
   displayed = grid_of channel.displayed.cells.items;

@@ -17,8 +17,6 @@ const LAST_ROW: u8 = 15;
 pub(crate) struct Channel {
     pub(crate) displayed: Memory,
     pub(crate) hidden: Memory,
-    // Takes the rows of a window that moves, and then becomes the displayed memory.
-    spare: Memory,
     pub(crate) mode: Mode,
     pub(crate) base: u8,
     pub(crate) text: bool,
@@ -46,7 +44,6 @@ impl Channel {
         Ok(Channel {
             displayed: Memory::new(alloc)?,
             hidden: Memory::new(alloc)?,
-            spare: Memory::new(alloc)?,
             mode: Mode::Off,
             base: LAST_ROW,
             text: false,
@@ -99,8 +96,7 @@ impl Channel {
             Control::Rcl => self.resume(Mode::PopOn),
             Control::Rdc => self.resume(Mode::PaintOn),
             Control::Ru(rows) => self.roll_up(rows),
-            Control::Tr => self.text = true,
-            Control::Rtd => self.text = true,
+            Control::Tr | Control::Rtd => self.text = true,
             Control::Eoc => self.flip(),
             Control::Enm => self.hidden.clear(),
             Control::Edm => self.displayed.clear(),
@@ -151,7 +147,6 @@ impl Channel {
 
     // Moves the rows that end at the base row, so that they end at another, and erases all else.
     fn move_window(&mut self, rows: u8, base: u8)
-        requires rows { rows ≤ 4 }
         requires from { 1 ≤ base }
         requires to { base ≤ 15 }
         ensures { channel_of self.new ≡ record (channel_of self.old) {
@@ -159,8 +154,7 @@ impl Channel {
           base = base;
         } }
     {
-        self.spare.set_moved(&self.displayed, rows, self.base, base);
-        mem::swap(&mut self.displayed, &mut self.spare);
+        self.displayed.move_rows(rows, self.base, base);
         self.base = base;
     }
 
@@ -182,8 +176,7 @@ impl Channel {
         match self.mode {
             Mode::Off => {}
             Mode::PopOn => self.hidden.put(row, col, cell),
-            Mode::PaintOn => self.displayed.put(row, col, cell),
-            Mode::RollUp(_) => self.displayed.put(row, col, cell),
+            Mode::PaintOn | Mode::RollUp(_) => self.displayed.put(row, col, cell),
         }
     }
 
@@ -244,8 +237,7 @@ impl Channel {
         match self.mode {
             Mode::Off => {}
             Mode::PopOn => self.hidden.clear_from(row, col),
-            Mode::PaintOn => self.displayed.clear_from(row, col),
-            Mode::RollUp(_) => self.displayed.clear_from(row, col),
+            Mode::PaintOn | Mode::RollUp(_) => self.displayed.clear_from(row, col),
         }
     }
 
@@ -264,9 +256,7 @@ impl Channel {
         ensures { channel_of self.new ≡ carriage_return self.old.mode (channel_of self.old) }
     {
         if let Mode::RollUp(rows) = self.mode {
-            self.spare
-                .set_moved(&self.displayed, rows - 1, self.base, self.base - 1);
-            mem::swap(&mut self.displayed, &mut self.spare);
+            self.displayed.move_rows(rows - 1, self.base, self.base - 1);
             self.pen = Pen::at_row(self.base);
         }
     }

@@ -1,5 +1,5 @@
-ghost use Rattle.std.specs.Prelude.{◌≡◌, ◌+◌, ◌-◌, ◌*◌, ◌≤◌, ◌<◌, vec_len};
-ghost use Rattle.line21_screen.specs.Windows.{in_window};
+ghost use Rattle.std.specs.Prelude.{◌≡◌, ◌+◌, ◌-◌, ◌*◌, ◌≤◌, ◌<◌, None, length, vec_len};
+ghost use Rattle.std.specs.List.{AllWithin, CopiedTo, SameBelow, SameFrom};
 
 use line21_codes::Cell;
 use std::alloc::{AllocError, Global};
@@ -17,7 +17,14 @@ const PLACES: usize = ROWS * COLUMNS;
 #[derive(Drop)]
 pub(crate) struct Memory {
     pub(crate) cells: Vec<Option<Cell>>,
+    // No place before this one has a cell.
+    first: usize,
+    // And none from this one on.
+    behind: usize,
     pub ghost length: { vec_len cells ≡ 480 },
+    pub ghost behind_to: { behind ≤ 480 },
+    pub ghost none_above: { AllWithin (λ cell. cell ≡ None) cells.items 0 first },
+    pub ghost none_below: { AllWithin (λ cell. cell ≡ None) cells.items behind 480 },
 }
 
 impl Memory {
@@ -34,7 +41,11 @@ impl Memory {
         for _ in 0..PLACES {
             cells.push(None)?;
         }
-        Ok(Memory { cells })
+        Ok(Memory {
+            cells,
+            first: PLACES,
+            behind: 0,
+        })
     }
 
     // The cell at a row and a column.
@@ -54,16 +65,19 @@ impl Memory {
         requires col { col < 32 }
         ensures { grid_of self.new.cells.items ≡ with_cell (grid_of self.old.cells.items) row col cell }
     {
-        self.cells[place(row, col)] = cell;
+        let at = place(row, col);
+        self.first = self.first.min(at);
+        self.behind = self.behind.max(at + 1);
+        self.cells[at] = cell;
     }
 
     // Removes all cells.
     pub(crate) fn clear(&mut self)
         ensures { grid_of self.new.cells.items ≡ empty_grid }
     {
-        for place in 0..PLACES {
-            self.cells[place] = None;
-        }
+        remove_cells(&mut self.cells, self.first, self.behind);
+        self.first = PLACES;
+        self.behind = 0;
     }
 
     // Removes the cells of a row from a column on.
@@ -78,53 +92,51 @@ impl Memory {
         }
     }
 
-    // The cell at a row and a column; row 0 has none.
-    fn cell_or_none(&self, row: u8, col: u8) -> Option<Cell>
-        requires row { row ≤ 15 }
-        requires col { col < 32 }
-        ensures { result ≡ grid_of self.now.cells.items row col }
-    {
-        if row == 0 { None } else { self.cell(row, col) }
-    }
-
-    // The cell that stands at a row and a column once the rows that ended at the row `old` end at `new`.
-    fn moved_cell(&self, rows: u8, old: u8, new: u8, row: u8, col: u8) -> Option<Cell>
-        requires rows { rows ≤ 15 }
+    // The rows that ended at the row `old` end at `new`, and all else is erased.
+    pub(crate) fn move_rows(&mut self, rows: u8, old: u8, new: u8)
         requires old { old ≤ 15 }
         requires new { new ≤ 15 }
-        requires row { row ≤ 15 }
-        requires col { col < 32 }
-        ensures { result ≡ moved (grid_of self.now.cells.items) rows old new row col }
+        ensures { grid_of self.new.cells.items ≡ moved (grid_of self.old.cells.items) rows old new }
     {
-        if in_window(rows, new, row) {
-            self.cell_or_none((row + old).saturating_sub(new), col)
-        } else {
-            None
-        }
-    }
-
-    // Becomes another memory in which the rows that ended at the row `old` end at `new`, and all else
-    // is erased.
-    pub(crate) fn set_moved(&mut self, from: &Memory, rows: u8, old: u8, new: u8)
-        requires rows { rows ≤ 15 }
-        requires old { old ≤ 15 }
-        requires new { new ≤ 15 }
-        ensures { grid_of self.new.cells.items ≡ moved (grid_of from.now.cells.items) rows old new }
-    {
-        for place in 0..PLACES {
-            let (row, col) = (place / COLUMNS + 1, place % COLUMNS);
-            self.cells[place] = from.moved_cell(rows, old, new, row as u8, col as u8);
-        }
+        let count = rows.min(old).min(new);
+        let first = usize::from(new - count) * COLUMNS;
+        let behind = usize::from(new) * COLUMNS;
+        let cells = self.cells.as_mut_slice();
+        copy_rows(cells, count, old, new);
+        remove_cells(cells, self.first, first);
+        remove_cells(cells, behind, self.behind);
+        self.first = first;
+        self.behind = behind;
     }
 }
 
-// Whether a row is one of the rows that end at a base row.
-fn in_window(rows: u8, base: u8, row: u8) -> bool
-    requires rows { rows ≤ 15 }
-    requires row { row ≤ 15 }
-    ensures { result ≡ in_window rows base row }
+// Copies so many rows that end at the row `old` to those that end at `new`.
+fn copy_rows(cells: &mut [Option<Cell>], count: u8, old: u8, new: u8)
+    requires length { length cells.old ≡ 480 }
+    requires old { count ≤ old }
+    requires old_to { old ≤ 15 }
+    requires new { count ≤ new }
+    requires new_to { new ≤ 15 }
+    ensures copied { CopiedTo cells.old cells.new ((old - count) * 32) ((new - count) * 32) (count * 32) }
+    ensures above { SameBelow cells.old cells.new ((new - count) * 32) }
+    ensures below { SameFrom cells.old cells.new (new * 32) }
 {
-    1 <= row && row <= base && base < row + rows
+    if old != new {
+        let rows = usize::from(old - count) * COLUMNS..usize::from(old) * COLUMNS;
+        cells.copy_within(rows, usize::from(new - count) * COLUMNS);
+    }
+}
+
+// Removes the cells from a place on, up to another, which is left out.
+fn remove_cells(cells: &mut [Option<Cell>], from: usize, to: usize)
+    requires { to ≤ length cells.old }
+    ensures removed { AllWithin (λ cell. cell ≡ None) cells.new from to }
+    ensures above { SameBelow cells.old cells.new from }
+    ensures below { SameFrom cells.old cells.new to }
+{
+    for place in from..to {
+        cells[place] = None;
+    }
 }
 
 // The place of a row and a column among all cells.

@@ -11,7 +11,7 @@ use Rattle.cue_lists.proofs.reading.parse.Goals as goal
 
 pub loop-row-init : goal.loop-row-init
 loop-row-init c =
-    let fr = c.from_reader-rdr.ensures in
+    let fr = c.from_reader-reader.ensures in
     let e = c.has_headers.ensures in
     let f = c.flexible.ensures in
     let start = c.into_iter-row-iterator.ensures.into_iter_gives ∙ refl in
@@ -31,8 +31,8 @@ loop-row-init c =
       IsBegun-nothing,
     )
 
-pub overflow_add-rec : goal.overflow_add-rec
-overflow_add-rec c =
+pub overflow_add-record_number : goal.overflow_add-record_number
+overflow_add-record_number c =
     let inv = c.loop-row.invariant in
     let fits : length (strip_bom c.args.bytes.now) ≤ length c.args.bytes.now = bom_shorter c.args.bytes.now in
     let s = rw (c.in-Some.is, c.in-Ok.is) at ((c.next.ensures.steps inv.2 inv.0).0 inv.1) in
@@ -62,7 +62,7 @@ returns-in-Err-take c =
     let inv = c.loop-row.invariant in
     let s = rw (c.in-Some.is, c.in-Ok.is) at ((c.next.ensures.steps inv.2 inv.0).0 inv.1) in
     let row = read_row (λ (s : Bor (List ℕ)). Some s.now) c.loop-row.row-iterator.rdr c.next.new.self.rdr (fields_of c.in-Ok.row) default_config inv.5 inv.4 inv.3 inv.6 inv.7 s.0 in
-    let answer = refused (read_list c.args.bytes.now) c.loop-row.draft c.loop-row.rec _ _ (fields_of c.in-Ok.row) c.in-Err-take.offence c.in_record.result inv.9 row.5 c.in-Err-take.ensures c.in_record.ensures in
+    let answer = refused (read_list c.args.bytes.now) c.loop-row.draft c.loop-row.record_number _ _ (fields_of c.in-Ok.row) c.in-Err-take.offence c.in_record.result inv.9 row.5 c.in-Err-take.ensures c.in_record.ensures in
     record { answer = answer; spelled = tt; built = tt; fault = answered_fault (records_of c.args.bytes.now) c.in_record.result answer }
 
 pub returns : goal.returns

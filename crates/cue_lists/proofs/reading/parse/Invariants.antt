@@ -10,6 +10,6 @@ use Rattle.cue_lists.proofs.reading.parse.Given as goal
 abbrev pub invariant-loop-row : goal.invariant-loop-row
 invariant-loop-row l = (l.row-iterator.rdr.trim ≡ trim.None) × Ready l.row-iterator.rdr × (0 < l.row-iterator.left) × (l.row-iterator.rdr.config ≡ default_config)
     × (y : List ℕ) × (n : ℕ) × (source_of (λ s. Some s.now) l.row-iterator.rdr ≡ Some y) × Enough n l.row-iterator.rdr.state y
-    × (l.rec + n ≡ length (strip_bom l.fn.bytes) + 2)
-    × (read_list l.fn.bytes ≡ read_from l.draft l.rec (records_from default_config n l.row-iterator.rdr.state y))
+    × (l.record_number + n ≡ length (strip_bom l.fn.bytes) + 2)
+    × (read_list l.fn.bytes ≡ read_from l.draft l.record_number (records_from default_config n l.row-iterator.rdr.state y))
     × IsBegun l.draft

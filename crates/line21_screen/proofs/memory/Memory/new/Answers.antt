@@ -1,5 +1,6 @@
 use Rattle.std.proofs.Common.{◌≡◌, ◌++◌, [], ◌∷◌, length, None, arith, ap, ◌∙◌}
 use Rattle.std.proofs.lemmas.List.{get_or-replicate, length-replicate, replicate_more}
+use Rattle.std.specs.List.{AllWithin}
 use Rattle.line21_screen.proofs.GridLemmas.{none_grid}
 use Rattle.line21_screen.proofs.memory.Memory.new.Goals as goal
 
@@ -13,9 +14,11 @@ loop-preserved c =
 pub invariant_of-result : goal.invariant_of-result
 invariant_of-result c =
     let long : length c.loop.cells.items ≡ c.loop.counter = ap length c.loop.invariant ∙ length-replicate c.loop.counter None in
-    record { length = omega arith }
+    let none : AllWithin (λ cell. cell ≡ None) c.loop.cells.items 0 480 =
+    λ k d from to. rw c.loop.invariant (get_or-replicate c.loop.counter k None d (omega arith)) in
+    record { length = omega arith; behind_to = omega arith; none_above = none; none_below = none }
 
 pub returns : goal.returns
 returns c =
     none_grid c.loop.cells.items
-    (λ k h. rw c.loop.invariant (get_or-replicate c.loop.counter k None None (omega arith)))
+    (λ k d from to. rw c.loop.invariant (get_or-replicate c.loop.counter k None d (omega arith)))

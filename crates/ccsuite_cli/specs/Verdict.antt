@@ -1,0 +1,37 @@
+-- The verdict on a cue list: it is accepted, or it is refused with one status, and never both.
+use Rattle.std.specs.Prelude.{◌≡◌, ◌⊎◌, ℕ, List, Some}
+use Rattle.cc_base.specs.Streams.{Rose}
+use Rattle.cue_lists.specs.Listing.{Listing}
+use Rattle.frame_scheduler.specs.Planned.{Placement}
+use Rattle.ccsuite_cli.specs.Accepted.{IsAccepted, IsRefused}
+use Rattle.ccsuite_cli.specs.Answer.{Answer}
+use Rattle.ccsuite_cli.specs.Ends.{Ends}
+use Rattle.ccsuite_cli.specs.declared.command.Command.TheVariants.{Pairs}
+use Rattle.ccsuite_cli.specs.declared.status.Status.{Status}
+use Rattle.ccsuite_cli.specs.declared.status.Status.TheVariants as status
+
+-- a list that is accepted is refused with no status
+abbrev pub AcceptedIsNotRefused : Type 0
+AcceptedIsNotRefused = (bytes : List ℕ) (list : Listing) (placed : Placement) (answer : Status)
+    → IsAccepted bytes list placed → IsRefused bytes answer → ⊥
+
+-- bytes that are accepted are accepted as one list, with one placement
+abbrev pub AcceptanceIsOne : Type 0
+AcceptanceIsOne = (bytes : List ℕ) (one other : Listing) (placed moved : Placement)
+    → IsAccepted bytes one placed → IsAccepted bytes other moved → (one ≡ other) × (placed ≡ moved)
+
+-- a list that is refused is refused with one status
+abbrev pub RefusalIsOne : Type 0
+RefusalIsOne = (bytes : List ℕ) (one other : Status) → IsRefused bytes one → IsRefused bytes other → one ≡ other
+
+-- every list is accepted or refused
+abbrev pub EveryListIsJudged : Type 0
+EveryListIsJudged = (bytes : List ℕ)
+    → ((list : Listing) × (placed : Placement) × IsAccepted bytes list placed) ⊎ ((answer : Status) × IsRefused bytes answer)
+
+-- where no count of faults rose, an input that is an accepted list is answered Ok, or want of memory
+abbrev pub AcceptedIsAnswered : Type 0
+AcceptedIsAnswered = (bytes : List ℕ) (list : Listing) (placed : Placement) (old new : Ends) (answer : Status)
+    → IsAccepted bytes list placed → old.left ≡ Some bytes
+    → (Rose old.read_faults new.read_faults → ⊥) → (Rose old.write_faults new.write_faults → ⊥)
+    → Answer (Some Pairs) old new answer → (answer ≡ status.Ok) ⊎ (answer ≡ status.Memory)

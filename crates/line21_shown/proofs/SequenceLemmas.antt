@@ -1,0 +1,199 @@
+-- The cues of a channel, one after another: at each settled frame the screen has what was authored.
+use Rattle.std.proofs.Common.{◌≡◌, ℕ, suc, ◌<◌, ◌≤◌, Bool, true, false, List, [], ◌∷◌, ◌++◌, Option, Some, None, All, filter, refl, sym, ap, ◌∙◌, subst, arith, ⊎_elim, append-nil, reverse}
+use Rattle.std.specs.Prelude.{⊤, IfSome, IsSome}
+use Rattle.std.specs.List.{AllByRecursion}
+use Rattle.std.proofs.Math.Path.{fun_ext}
+use Rattle.std.proofs.lemmas.Bool.{cases_lt}
+use Rattle.std.proofs.lemmas.List.Elements.{recursion_from_All}
+use Rattle.line21_codes.specs.declared.channels.Chan.{Chan}
+use Rattle.line21_codes.specs.declared.channels.Chan.TheVariants.{Cc1, Cc3}
+use Rattle.cue_lists.specs.AuthoredGrid.{IsSettled, IsSettledFor, authored_grid, channel_cues, shown_by, shown_from, shown_of_newest}
+use Rattle.cue_lists.specs.Cues.{IsCueFormed}
+use Rattle.cue_lists.specs.Listing.{IsFormed, Listing}
+use Rattle.cue_lists.specs.Rules.{IsRuled}
+use Rattle.cue_lists.specs.Rules.Lane.{is_line21, is_pop}
+use Rattle.cue_lists.specs.declared.cue.Cue.{Cue}
+use Rattle.line21_author.specs.Channels.{cues_on, is_in_second_field}
+use Rattle.line21_author.specs.CueEvents.{channel_events, hide_events}
+use Rattle.line21_screen.specs.Channels.{ChannelState}
+use Rattle.line21_screen.specs.Grid.{Grid, empty_grid}
+use Rattle.frame_scheduler.specs.ChannelLane.{IsChannelPlaced, channel_pieces, channel_slot}
+use Rattle.frame_scheduler.specs.CueSequence.{AreInSequence}
+use Rattle.frame_scheduler.specs.LaneEvents.{event_at}
+use Rattle.frame_scheduler.specs.LaneTimeline.{lane_timeline, stands}
+use Rattle.frame_scheduler.specs.Timeline.{Timeline, first_of}
+use Rattle.frame_scheduler.proofs.ChannelCues.{cues_on_are_on, cues_on_formed, line21_on, on_lane_is}
+use Rattle.frame_scheduler.proofs.CueSequenceLemmas.{in_sequence}
+use Rattle.frame_scheduler.proofs.EventsApartLemmas.{pop_is_not_roll}
+use Rattle.line21_shown.specs.Reading.{acts, first_alone}
+use Rattle.line21_shown.specs.Shown.{AuthoredIsSeen, ShowsField, state_at}
+use Rattle.line21_shown.proofs.CaptionedLemmas.{channel_captioned}
+use Rattle.line21_shown.proofs.HeadLemmas.{Continues, first_sound, rest_in_sequence}
+use Rattle.line21_shown.proofs.LoadingLemmas.{erases, loads, until}
+use Rattle.line21_shown.proofs.OnScreenLemmas.{screen_before, screen_continues, screen_shown}
+use Rattle.line21_shown.proofs.PopOnLemmas.{pop_before, pop_continues, pop_shown, showing_own}
+use Rattle.line21_shown.proofs.ReadingLemmas.{columns_read}
+use Rattle.line21_shown.proofs.ScreenLemmas.{AreBehind, IsShown, newest_first, newest_first-reverse}
+use Rattle.line21_shown.proofs.SuffixLemmas.{pieces_are, placed_from}
+
+-- a cue of line 21 in its ranges
+record IsCaption (cue : Cue) : Type 0 where
+  line21 : is_line21 cue.kind ≡ true
+  formed : IsCueFormed cue
+
+-- the first of the cues begins behind a frame: a pop-on cue is shown, and another one is written from it on
+abbrev BeginFrom : ℕ → List Cue → Type 0
+BeginFrom a [] = ⊤
+BeginFrom a (cue ∷ later) = (is_pop cue.kind ≡ false → a ≤ cue.load) × (a ≤ cue.show)
+
+-- the last cue stays on the screen until its HIDE
+last_shown : (second_field : Bool) (t : Timeline) (a from : ℕ) (hide : Option ℕ) (g : Grid) (earlier : List Cue)
+    → Continues second_field t a hide [] → IsShown t a from hide g earlier → a ≤ suc from → (f : ℕ) → from ≤ f
+    → (acts t (suc f)).displayed ≡ shown_of_newest f (shown_by f earlier)
+last_shown second_field t a from hide g earlier on is low f above =
+    ap (λ (s : ChannelState). s.displayed)
+    (loads second_field t hide a (suc f) (suc f) (omega arith) [] [] g (acts t a)
+    (λ n up high. on.same n up ∙ ap (λ u. first_of u (stands on.pieces on.frames n)) (only_hides hide n) ∙ ap (first_of (erases second_field hide n)) (nothing on.pieces on.frames n on.are))
+    tt tt (showing_own (acts t a) (until hide a g) is.displayed))
+    ∙ sym (is.on f above)
+  where
+    nothing : (pieces : List _) (frames : List ℕ) (n : ℕ) → pieces ≡ [] → stands pieces frames n ≡ None
+    nothing [] frames n are = refl
+    nothing (piece ∷ pieces) frames n are = cc
+
+    only_hides : (h : Option ℕ) (n : ℕ) → event_at (hide_events second_field h [] ++ []) n ≡ erases second_field h n
+    only_hides None n = refl
+    only_hides (Some h) n = refl
+
+-- a HIDE that is there is behind SHOW
+hidden_behind : (hide : Option ℕ) (show load : ℕ) → IsSome hide → IfSome hide (λ h. show < h) → IfSome hide (λ h. h ≤ load) → suc show ≤ load
+hidden_behind None show load some later cleared = cc
+hidden_behind (Some h) show load some later cleared = omega arith
+
+-- the cues behind a cue begin behind it
+begin_behind_pop : (frames : ℕ) (cue : Cue) (later : List Cue) → is_pop cue.kind ≡ true → AreInSequence frames (cue ∷ later) → BeginFrom (suc cue.show) later
+begin_behind_pop frames cue [] pop sequence = tt
+begin_behind_pop frames cue (next ∷ later) pop sequence =
+    let behind : cue.show ≤ next.load = sequence.1.loaded in
+    let shown : next.load < next.show = (first_sound frames next later sequence.2).loaded in (
+      λ plain. hidden_behind cue.hide cue.show next.load (sequence.0.erased (pop_is_not_roll cue.kind pop)) sequence.0.hidden (sequence.1.cleared plain),
+      omega arith,
+    )
+
+begin_behind : (frames : ℕ) (cue : Cue) (later : List Cue) → AreInSequence frames (cue ∷ later) → BeginFrom cue.show later
+begin_behind frames cue [] sequence = tt
+begin_behind frames cue (next ∷ later) sequence =
+    let behind : cue.show ≤ next.load = sequence.1.loaded in
+    let shown : next.load < next.show = (first_sound frames next later sequence.2).loaded in
+    (λ plain. behind, omega arith)
+
+-- and after it
+after_it : (frames : ℕ) (cue : Cue) (later earlier : List Cue) → AreInSequence frames (cue ∷ later) → AreBehind (cue ∷ earlier) later
+after_it frames cue [] earlier sequence = tt
+after_it frames cue (next ∷ later) earlier sequence = sequence.1
+
+-- cues in sequence: at each settled frame the screen has what they show
+cues_shown : (second_field : Bool) (t : Timeline) (frames a from : ℕ) (hide : Option ℕ) (g : Grid) (cues earlier : List Cue)
+    → AllByRecursion IsCaption cues → AreInSequence frames cues → BeginFrom a cues → AreBehind earlier cues
+    → Continues second_field t a hide cues → IsShown t a from hide g earlier → a ≤ suc from
+    → (f : ℕ) → from ≤ f → AllByRecursion (IsSettledFor f) cues
+    → (acts t (suc f)).displayed ≡ shown_of_newest f (shown_by f (newest_first cues earlier))
+cues_shown second_field t frames a from hide g [] earlier captions sequence begin link on is low f above settled =
+    last_shown second_field t a from hide g earlier on is low f above
+cues_shown second_field t frames a from hide g (cue ∷ later) earlier captions sequence begin link on is low f above settled =
+    by_kind (is_pop cue.kind) refl
+    (λ pop h. cues_shown second_field t frames (suc cue.show) cue.show cue.hide (shown_from cue.kind cue earlier) later (cue ∷ earlier) captions.1
+    (rest_in_sequence frames cue later sequence) (begin_behind_pop frames cue later pop sequence) (after_it frames cue later earlier sequence)
+    (pop_continues second_field t frames a from hide g earlier cue later pop captions.0.formed sequence on is link low begin.1)
+    (pop_shown second_field t frames a from hide g earlier cue later pop captions.0.formed sequence on is link low begin.1)
+    (omega arith) f h settled.1)
+    (λ plain h. cues_shown second_field t frames cue.show cue.show cue.hide (shown_from cue.kind cue earlier) later (cue ∷ earlier) captions.1
+    (rest_in_sequence frames cue later sequence) (begin_behind frames cue later sequence) (after_it frames cue later earlier sequence)
+    (screen_continues second_field t frames a from hide g earlier cue later plain captions.0.line21 captions.0.formed sequence on is link low (begin.0 plain))
+    (screen_shown second_field t frames a from hide g earlier cue later plain captions.0.line21 captions.0.formed sequence on is link low (begin.0 plain))
+    (omega arith) f h settled.1)
+  where
+    by_kind : (b : Bool) → is_pop cue.kind ≡ b
+        → (is_pop cue.kind ≡ true → cue.show ≤ f → (acts t (suc f)).displayed ≡ shown_of_newest f (shown_by f (newest_first later (cue ∷ earlier))))
+        → (is_pop cue.kind ≡ false → cue.show ≤ f → (acts t (suc f)).displayed ≡ shown_of_newest f (shown_by f (newest_first later (cue ∷ earlier))))
+        → (acts t (suc f)).displayed ≡ shown_of_newest f (shown_by f (newest_first later (cue ∷ earlier)))
+    by_kind true pop popped screened =
+        ⊎_elim
+        (λ (h : f < cue.show). pop_before second_field t frames a from hide g earlier cue later pop captions.0.formed sequence on is link low begin.1 f above h)
+        (popped pop)
+        (cases_lt f cue.show)
+    by_kind false plain popped screened =
+        ⊎_elim
+        (λ (h : f < cue.show).
+        screen_before second_field t frames a from hide g earlier cue later plain captions.0.line21 captions.0.formed sequence on is link low (begin.0 plain) f above h settled.0)
+        (screened plain)
+        (cases_lt f cue.show)
+
+-- the cues on a channel are those of its lane
+pub cues_are : (channel : Chan) (cues : List Cue) → channel_cues channel cues ≡ cues_on channel cues
+cues_are channel cues = ap (λ (test : Cue → Bool). filter test cues) (fun_ext (λ (cue : Cue). on_lane_is channel cue.kind))
+
+-- they are captions
+captions_are : (channel : Chan) (cues : List Cue) → All IsCueFormed cues → All IsCaption (cues_on channel cues)
+captions_are channel cues formed k d within = record {
+  line21 = line21_on channel _ (cues_on_are_on channel cues k d within);
+  formed = cues_on_formed channel cues formed k d within;
+}
+
+-- what they show is the authored grid
+pub authored_is : (channel : Chan) (cues : List Cue) (f : ℕ) → shown_of_newest f (shown_by f (newest_first (cues_on channel cues) [])) ≡ authored_grid channel cues f
+authored_is channel cues f =
+    ap (λ (back : List Cue). shown_of_newest f (shown_by f back))
+    (newest_first-reverse (cues_on channel cues) [] ∙ append-nil (reverse (cues_on channel cues)) ∙ ap reverse (sym (cues_are channel cues)))
+
+-- the timeline of a channel begins with its cues
+begins : (channel : Chan) (cues : List Cue) (placed : List ℕ) → IsChannelPlaced channel cues placed
+    → Continues (is_in_second_field channel) (lane_timeline (channel_events channel cues) (channel_pieces channel cues) placed) 0 None (cues_on channel cues)
+begins channel cues placed earliest = record {
+  pieces = channel_pieces channel cues;
+  frames = placed;
+  are = pieces_are channel 1 cues;
+  placed = placed_from (channel_events channel cues) [] 0 (channel_pieces channel cues) placed (omega arith) earliest.placed;
+  same = λ n above. refl;
+}
+
+-- at first the screen is empty
+empty_first : (t : Timeline) → IsShown t 0 0 None empty_grid []
+empty_first t = record { displayed = refl; newest = (refl, refl); on = λ f above. refl }
+
+-- and any cues may begin
+any_begin : (cues : List Cue) → BeginFrom 0 cues
+any_begin [] = tt
+any_begin (cue ∷ later) = (λ plain. omega arith, omega arith)
+
+-- a channel of a placed list that keeps the rules
+channel_shown : (list : Listing) (channel : Chan) (placed : List ℕ) → IsFormed list → IsRuled list → IsChannelPlaced channel list.cues placed
+    → (f : ℕ) → IsSettled channel list.cues f
+    → (acts (lane_timeline (channel_events channel list.cues) (channel_pieces channel list.cues) placed) (suc f)).displayed ≡ authored_grid channel list.cues f
+channel_shown list channel placed formed ruled earliest f settled =
+    let t = lane_timeline (channel_events channel list.cues) (channel_pieces channel list.cues) placed in
+    cues_shown (is_in_second_field channel) t list.frames 0 0 None empty_grid (cues_on channel list.cues) []
+    (recursion_from_All IsCaption (cues_on channel list.cues) (captions_are channel list.cues formed.cues))
+    (in_sequence list formed ruled channel) (any_begin (cues_on channel list.cues)) tt
+    (begins channel list.cues placed earliest) (empty_first t) (omega arith) f (omega arith)
+    (recursion_from_All (IsSettledFor f) (cues_on channel list.cues) (subst (All (IsSettledFor f)) (cues_are channel list.cues) settled))
+    ∙ authored_is channel list.cues f
+
+-- and the field that carries it
+field_shown : (list : Listing) (channel : Chan) (second_field : Bool) (placed : List ℕ) → IsFormed list → IsRuled list
+    → IsChannelPlaced channel list.cues placed → (f : ℕ) → ShowsField second_field (channel_slot channel list.cues placed) channel list.cues f
+field_shown list channel second_field placed formed ruled earliest f =
+    let t = lane_timeline (channel_events channel list.cues) (channel_pieces channel list.cues) placed in
+    let state : state_at second_field (channel_slot channel list.cues placed) f ≡ first_alone (acts t (suc f)) =
+    columns_read second_field t (channel_captioned list channel placed formed ruled earliest) (suc f) in
+    record {
+      first = λ settled. ap (λ s. s.first.displayed) state ∙ channel_shown list channel placed formed ruled earliest f settled;
+      second = ap (λ s. s.second.displayed) state;
+    }
+
+-- what is authored is what is seen
+pub authored_seen : AuthoredIsSeen
+authored_seen list placed formed ruled is f = record {
+  one = field_shown list Cc1 false placed.one formed ruled is.one f;
+  two = field_shown list Cc3 true placed.two formed ruled is.two f;
+}

@@ -1,0 +1,368 @@
+-- The lane of the cues of a channel from one of them on: its units, its events, and what begins at each frame.
+use Rattle.std.proofs.Common.{◌≡◌, ◌≢◌, ℕ, suc, ◌+◌, ◌<◌, ◌≤◌, max, Bool, true, false, cond, List, [], ◌∷◌, ◌++◌, Option, Some, None, All, refl, sym, ap, ◌∙◌, subst, arith}
+use Rattle.std.specs.Prelude.{⊤, ◌==◌, if◌then◌else◌, IfSome}
+use Rattle.std.proofs.lemmas.Bool.Decides.{nat_tests}
+use Rattle.std.proofs.lemmas.List.Elements.{All-append, All-head, All-map, All-nil, All-tail}
+use Rattle.line21_codes.specs.declared.channels.Chan.{Chan}
+use Rattle.line21_codes.specs.declared.codes.Control.TheVariants.{Eoc, Edm}
+use Rattle.line21_codes.specs.Writing.{written}
+use Rattle.cue_lists.specs.declared.cue.Cue.{Cue}
+use Rattle.cue_lists.specs.Rules.Lane.{is_pop}
+use Rattle.line21_author.specs.Channels.{cues_on, is_on}
+use Rattle.line21_author.specs.CueEvents.{event_of, events_of, hide_events, is_replaced_at, show_events}
+use Rattle.line21_author.specs.CueUnits.{units_of}
+use Rattle.line21_author.specs.EventOrder.{AreApart, AreFrom}
+use Rattle.line21_author.specs.FirstChannel.{first_channel}
+use Rattle.line21_author.specs.declared.event.Event.{Event}
+use Rattle.line21_author.specs.declared.unit.Unit.{Unit}
+use Rattle.frame_scheduler.specs.declared.lane.piece.Piece.{Piece}
+use Rattle.frame_scheduler.specs.ChannelLane.{cue_pieces, pieces_from}
+use Rattle.frame_scheduler.specs.CueSequence.{AreInSequence}
+use Rattle.frame_scheduler.specs.FieldLane.{end_of, lane}
+use Rattle.frame_scheduler.specs.LaneEvents.{IsFree, event_at}
+use Rattle.frame_scheduler.specs.LaneTimeline.{stands}
+use Rattle.frame_scheduler.specs.Placing.{IsPlaced}
+use Rattle.frame_scheduler.specs.Timeline.{first_of}
+use Rattle.frame_scheduler.proofs.DoublingLemmas.{free_none}
+use Rattle.frame_scheduler.proofs.FieldLaneLemmas.{end_push}
+use Rattle.frame_scheduler.proofs.LaneCursorLemmas.{event_none, from_earlier, some_slot}
+use Rattle.line21_shown.proofs.LoadingLemmas.{StandBeside, erases}
+
+-- the pieces are the units of the cues, in their order
+abbrev pub ArePieces : List Cue → List Piece → Type 0
+ArePieces [] pieces = pieces ≡ []
+ArePieces (cue ∷ later) pieces = (number : ℕ) × (rest : List Piece) × (pieces ≡ cue_pieces number cue ++ rest) × ArePieces later rest
+
+-- the pieces of a channel are those of its cues
+pub pieces_are : (channel : Chan) (number : ℕ) (cues : List Cue) → ArePieces (cues_on channel cues) (pieces_from channel number cues)
+pieces_are channel number [] = refl
+pieces_are channel number (cue ∷ cues) = by_test (is_on channel cue.kind) (pieces_are channel (suc number) cues)
+  where
+    by_test : (b : Bool) → ArePieces (cues_on channel cues) (pieces_from channel (suc number) cues)
+        → ArePieces (cond b (cue ∷ cues_on channel cues) (cues_on channel cues)) ((if b then cue_pieces number cue else []) ++ pieces_from channel (suc number) cues)
+    by_test true rest = (number, pieces_from channel (suc number) cues, refl, rest)
+    by_test false rest = rest
+
+-- the pieces stand one behind the other from frame a on, each within its time and in a free slot
+abbrev pub ArePlacedFrom : List Event → ℕ → List Piece → List ℕ → Type 0
+ArePlacedFrom events a [] [] = ⊤
+ArePlacedFrom events a [] (f ∷ fs) = ⊥
+ArePlacedFrom events a (piece ∷ pieces) [] = ⊥
+ArePlacedFrom events a (piece ∷ pieces) (f ∷ fs) =
+    (a ≤ f) × (piece.load ≤ f) × (f < piece.until) × IsFree events f × ArePlacedFrom events (suc f) pieces fs
+
+-- in a placement they do
+pub placed_from : (events : List Event) (before : List (Piece × ℕ)) (a : ℕ) (pieces : List Piece) (fs : List ℕ) → a ≤ end_of before
+    → IsPlaced (lane events) before pieces fs → ArePlacedFrom events a pieces fs
+placed_from events before a [] [] low placed = tt
+placed_from events before a [] (f ∷ fs) low placed = placed
+placed_from events before a (piece ∷ pieces) [] low placed = placed
+placed_from events before a (piece ∷ pieces) (f ∷ fs) low placed =
+    let behind : end_of before ≤ f = placed.0.behind in (
+      omega arith,
+      placed.0.loaded,
+      omega (arith, placed.0.ended, some_slot f piece),
+      placed.0.free f (omega arith) (some_slot f piece),
+      placed_from events (before ++ (piece, f) ∷ []) (suc f) pieces fs (omega (arith, end_push before piece f, some_slot f piece)) placed.1,
+    )
+
+-- pieces and those behind them, each with their frames
+pub record Parts (events : List Event) (a : ℕ) (pieces more : List Piece) (fs : List ℕ) : Type 0 where
+  pub front : List ℕ
+  pub back : List ℕ
+  pub is : fs ≡ front ++ back
+  pub first : ArePlacedFrom events a pieces front
+  pub rest : ArePlacedFrom events a more back
+
+-- pieces that stand from a frame on stand from an earlier one on
+lower : (events : List Event) (a b : ℕ) (pieces : List Piece) (fs : List ℕ) → b ≤ a → ArePlacedFrom events a pieces fs → ArePlacedFrom events b pieces fs
+lower events a b [] [] below placed = tt
+lower events a b [] (f ∷ fs) below placed = placed
+lower events a b (piece ∷ pieces) [] below placed = placed
+lower events a b (piece ∷ pieces) (f ∷ fs) below placed = (let from : a ≤ f = placed.0 in omega arith, placed.1, placed.2, placed.3, placed.4)
+
+pub parts : (events : List Event) (a : ℕ) (pieces more : List Piece) (fs : List ℕ) → ArePlacedFrom events a (pieces ++ more) fs → Parts events a pieces more fs
+parts events a [] more fs placed = record { front = []; back = fs; is = refl; first = tt; rest = placed }
+parts events a (piece ∷ pieces) more [] placed = absurd placed
+parts events a (piece ∷ pieces) more (f ∷ fs) placed =
+    let w = parts events (suc f) pieces more fs placed.4 in
+    let from : a ≤ f = placed.0 in
+    record {
+      front = f ∷ w.front;
+      back = w.back;
+      is = ap (λ frames. f ∷ frames) w.is;
+      first = (placed.0, placed.1, placed.2, placed.3, w.first);
+      rest = lower events (suc f) a more w.back (omega arith) w.rest;
+    }
+
+-- pieces whose frames are from b on, by what is known of a frame in which the first of them may stand
+pub raised : (events : List Event) (a b : ℕ) (P : Piece → Type 0) (pieces : List Piece) (fs : List ℕ)
+    → ((piece : Piece) (f : ℕ) → P piece → piece.load ≤ f → IsFree events f → b ≤ f)
+    → All P pieces → ArePlacedFrom events a pieces fs → ArePlacedFrom events b pieces fs
+raised events a b P [] [] from all placed = tt
+raised events a b P [] (f ∷ fs) from all placed = placed
+raised events a b P (piece ∷ pieces) [] from all placed = placed
+raised events a b P (piece ∷ pieces) (f ∷ fs) from all placed =
+    (from piece f (All-head P piece pieces all) placed.1 placed.3, placed.1, placed.2, placed.3, placed.4)
+
+-- what is free of events is free of those behind them
+free_behind : (events more : List Event) (n : ℕ) → IsFree (events ++ more) n → IsFree more n
+free_behind [] more n free = free
+free_behind (event ∷ events) more n free = free_behind events more n free.2
+
+pub placed_behind : (events more : List Event) (a : ℕ) (pieces : List Piece) (fs : List ℕ) → ArePlacedFrom (events ++ more) a pieces fs
+    → ArePlacedFrom more a pieces fs
+placed_behind events more a [] [] placed = tt
+placed_behind events more a [] (f ∷ fs) placed = placed
+placed_behind events more a (piece ∷ pieces) [] placed = placed
+placed_behind events more a (piece ∷ pieces) (f ∷ fs) placed =
+    (placed.0, placed.1, placed.2, free_behind events more f placed.3, placed_behind events more (suc f) pieces fs placed.4)
+
+-- what stands first, at its frame
+stands_at : (piece : Piece) (pieces : List Piece) (f : ℕ) (fs : List ℕ) (n : ℕ) (b : Bool) → (n == f) ≡ b
+    → stands (piece ∷ pieces) (f ∷ fs) n ≡ (if b then Some piece.unit else stands pieces fs n)
+stands_at piece pieces f fs n b test = rw test refl
+
+-- nothing stands before the first frame
+pub stands_low : (events : List Event) (a n : ℕ) (pieces : List Piece) (fs : List ℕ) → ArePlacedFrom events a pieces fs → n < a → stands pieces fs n ≡ None
+stands_low events a n [] fs placed below = refl
+stands_low events a n (piece ∷ pieces) [] placed below = refl
+stands_low events a n (piece ∷ pieces) (f ∷ fs) placed below =
+    let from : a ≤ f = placed.0 in
+    let test : (n == f) ≡ false = grind (arith, nat_tests) in
+    stands_at piece pieces f fs n false test ∙ stands_low events (suc f) n pieces fs placed.4 (omega arith)
+
+-- nothing stands when the pieces' time is over
+pub stands_high : (events : List Event) (a z n : ℕ) (pieces : List Piece) (fs : List ℕ) → ArePlacedFrom events a pieces fs
+    → All (λ piece. piece.until ≡ z) pieces → z ≤ n → stands pieces fs n ≡ None
+stands_high events a z n [] fs placed all above = refl
+stands_high events a z n (piece ∷ pieces) [] placed all above = refl
+stands_high events a z n (piece ∷ pieces) (f ∷ fs) placed all above =
+    let ends : piece.until ≡ z = All-head (λ (p : Piece). p.until ≡ z) piece pieces all in
+    let below : f < piece.until = placed.2 in
+    let test : (n == f) ≡ false = grind (arith, nat_tests) in
+    stands_at piece pieces f fs n false test
+    ∙ stands_high events (suc f) z n pieces fs placed.4 (All-tail (λ (p : Piece). p.until ≡ z) piece pieces all) above
+
+-- what stands of pieces and those behind them
+pub stands_parts : (events : List Event) (a n : ℕ) (pieces more : List Piece) (front back : List ℕ) → ArePlacedFrom events a pieces front
+    → stands (pieces ++ more) (front ++ back) n ≡ first_of (stands pieces front n) (stands more back n)
+stands_parts events a n [] more [] back placed = refl
+stands_parts events a n [] more (f ∷ front) back placed = absurd placed
+stands_parts events a n (piece ∷ pieces) more [] back placed = absurd placed
+stands_parts events a n (piece ∷ pieces) more (f ∷ front) back placed = go (n == f) refl (stands_parts events (suc f) n pieces more front back placed.4)
+  where
+    go : (b : Bool) → (n == f) ≡ b → stands (pieces ++ more) (front ++ back) n ≡ first_of (stands pieces front n) (stands more back n)
+        → stands (piece ∷ (pieces ++ more)) (f ∷ (front ++ back)) n ≡ first_of (stands (piece ∷ pieces) (f ∷ front) n) (stands more back n)
+    go true test rest = rw test refl
+    go false test rest = rw test rest
+
+-- pieces that are placed stand beside what hides, where that is all there is of the events before their time is over
+pub beside : (second_field : Bool) (hide : Option ℕ) (events : List Event) (a z : ℕ) (pieces : List Piece) (fs : List ℕ)
+    → ((n : ℕ) → n < z → event_at events n ≡ erases second_field hide n)
+    → All (λ piece. piece.until ≡ z) pieces → ArePlacedFrom events a pieces fs → StandBeside (erases second_field hide) a z pieces fs
+beside second_field hide events a z [] [] same all placed = tt
+beside second_field hide events a z [] (f ∷ fs) same all placed = placed
+beside second_field hide events a z (piece ∷ pieces) [] same all placed = placed
+beside second_field hide events a z (piece ∷ pieces) (f ∷ fs) same all placed =
+    let ends : piece.until ≡ z = All-head (λ (p : Piece). p.until ≡ z) piece pieces all in
+    let below : f < piece.until = placed.2 in
+    let early : f < z = omega arith in (
+      placed.0,
+      early,
+      sym (same f early) ∙ free_none events f placed.3,
+      beside second_field hide events (suc f) z pieces fs same (All-tail (λ (p : Piece). p.until ≡ z) piece pieces all) placed.4,
+    )
+
+-- the pieces of a cue have its SHOW for their end
+pub cue_until : (number : ℕ) (cue : Cue) → All (λ piece. piece.until ≡ cue.show) (cue_pieces number cue)
+cue_until number cue =
+    All-map (λ (piece : Piece). piece.until ≡ cue.show) (λ (unit : Unit). record { unit = unit; load = cue.load; until = cue.show; cue = number }) (units_of cue)
+    (λ k d within. refl)
+
+-- and its LOAD for their beginning
+pub cue_loads : (b number : ℕ) (cue : Cue) → b ≤ cue.load → All (λ piece. b ≤ piece.load) (cue_pieces number cue)
+cue_loads b number cue from =
+    All-map (λ (piece : Piece). b ≤ piece.load) (λ (unit : Unit). record { unit = unit; load = cue.load; until = cue.show; cue = number }) (units_of cue)
+    (λ k d within. from)
+
+-- the first of the cues begins to load at frame b or later
+abbrev pub LoadFrom : ℕ → List Cue → Type 0
+LoadFrom b [] = ⊤
+LoadFrom b (cue ∷ later) = b ≤ cue.load
+
+-- then all of them do
+pub loads_from : (frames b : ℕ) (cues : List Cue) (pieces : List Piece) → AreInSequence frames cues → LoadFrom b cues → ArePieces cues pieces
+    → All (λ piece. b ≤ piece.load) pieces
+loads_from frames b [] pieces sequence from are = subst (All (λ (piece : Piece). b ≤ piece.load)) (sym are) (All-nil (λ (piece : Piece). b ≤ piece.load))
+loads_from frames b (cue ∷ []) pieces sequence from are =
+    subst (All (λ (piece : Piece). b ≤ piece.load)) (sym are.2)
+    (All-append (λ (piece : Piece). b ≤ piece.load) (cue_pieces are.0 cue) are.1 (cue_loads b are.0 cue from) (loads_from frames b [] are.1 tt tt are.3))
+loads_from frames b (cue ∷ (next ∷ later)) pieces sequence from are =
+    let shown : cue.load < cue.show = sequence.0.loaded in
+    let behind : cue.show ≤ next.load = sequence.1.loaded in
+    subst (All (λ (piece : Piece). b ≤ piece.load)) (sym are.2)
+    (All-append (λ (piece : Piece). b ≤ piece.load) (cue_pieces are.0 cue) are.1 (cue_loads b are.0 cue from)
+    (loads_from frames b (next ∷ later) are.1 sequence.2 (omega arith) are.3))
+
+-- the unit that shows a pop-on cue
+abbrev pub showing_unit : Bool → Unit
+showing_unit second_field = record { pair = written second_field (first_channel Eoc); doubled = true }
+
+-- what begins at a frame of an event and those behind it
+event_first : (second_field : Bool) (frame : ℕ) (events : List Event) (n : ℕ) (b : Bool) → (n == frame) ≡ b
+    → event_at (event_of second_field frame Eoc ∷ events) n ≡ (if b then Some (showing_unit second_field) else event_at events n)
+event_first second_field frame events n b test = rw test refl
+
+-- what hides, and the events behind it: where the next cue replaces what is shown, nothing hides it
+hide_first : (second_field : Bool) (hide : Option ℕ) (cue : Cue) (later : List Cue) (events : List Event) (n : ℕ) → is_pop cue.kind ≡ true
+    → event_at events cue.show ≡ Some (showing_unit second_field)
+    → event_at (hide_events second_field hide (cue ∷ later) ++ events) n ≡ (if n == cue.show then Some (showing_unit second_field) else first_of (erases second_field hide n) (event_at events n))
+hide_first second_field None cue later events n pop shows = go (n == cue.show) refl
+  where
+    go : (b : Bool) → (n == cue.show) ≡ b → event_at events n ≡ (if n == cue.show then Some (showing_unit second_field) else event_at events n)
+    go true test = let here : n ≡ cue.show = grind (arith, nat_tests) in rw test (ap (event_at events) here ∙ shows)
+    go false test = rw test refl
+hide_first second_field (Some hide) cue later events n pop shows = rw pop (by_test (cue.show == hide) refl)
+  where
+    by_test : (r : Bool) → (cue.show == hide) ≡ r
+        → event_at ((if r then [] else event_of second_field hide Edm ∷ []) ++ events) n
+        ≡ (if n == cue.show then Some (showing_unit second_field) else first_of (erases second_field (Some hide) n) (event_at events n))
+    by_test true same = go (n == cue.show) refl
+      where
+        go : (b : Bool) → (n == cue.show) ≡ b → event_at events n ≡ (if n == cue.show then Some (showing_unit second_field) else first_of (erases second_field (Some hide) n) (event_at events n))
+        go true test = let here : n ≡ cue.show = grind (arith, nat_tests) in rw test (ap (event_at events) here ∙ shows)
+        go false test =
+            let other : (n == hide) ≡ false = grind (arith, nat_tests) in
+            rw (test, other) refl
+    by_test false apart = go (n == cue.show) refl (n == hide) refl
+      where
+        go : (b : Bool) → (n == cue.show) ≡ b → (c : Bool) → (n == hide) ≡ c
+            → event_at (event_of second_field hide Edm ∷ events) n
+            ≡ (if n == cue.show then Some (showing_unit second_field) else first_of (erases second_field (Some hide) n) (event_at events n))
+        go true test true at = let wrong : (cue.show == hide) ≡ true = grind (arith, nat_tests) in cc
+        go true test false at = let here : n ≡ cue.show = grind (arith, nat_tests) in rw (test, at) (ap (event_at events) here ∙ shows)
+        go false test true at = rw (test, at) refl
+        go false test false at = rw (test, at) refl
+
+-- the events behind what shows a pop-on cue
+abbrev pub events_behind : Bool → Cue → List Cue → List Event
+events_behind second_field cue later = hide_events second_field cue.hide later ++ events_of second_field later
+
+-- the events of a pop-on cue and of those behind it
+pub pop_events : (second_field : Bool) (cue : Cue) (later : List Cue) → is_pop cue.kind ≡ true
+    → events_of second_field (cue ∷ later) ≡ event_of second_field cue.show Eoc ∷ events_behind second_field cue later
+pop_events second_field cue later pop = rw pop refl
+
+module _ (second_field : Bool) (hide : Option ℕ) (cue : Cue) (later : List Cue) (pop : is_pop cue.kind ≡ true)
+    (apart : AreApart (events_of second_field (cue ∷ later))) where
+  abbrev rest : List Event
+  rest = events_behind second_field cue later
+
+  abbrev all_events : List Event
+  all_events = hide_events second_field hide (cue ∷ later) ++ events_of second_field (cue ∷ later)
+
+  apart_rest : AreFrom (cue.show + 2) rest
+  apart_rest = (subst AreApart (pop_events second_field cue later pop) apart).0
+
+  shows_at : (n : ℕ) (b : Bool) → (n == cue.show) ≡ b → event_at (events_of second_field (cue ∷ later)) n ≡ (if b then Some (showing_unit second_field) else event_at rest n)
+  shows_at n b test = ap (λ events. event_at events n) (pop_events second_field cue later pop) ∙ event_first second_field cue.show rest n b test
+
+  shows_here : event_at (events_of second_field (cue ∷ later)) cue.show ≡ Some (showing_unit second_field)
+  shows_here = shows_at cue.show true (grind (arith, nat_tests))
+
+  all_at : (n : ℕ) → event_at all_events n ≡ (if n == cue.show then Some (showing_unit second_field) else first_of (erases second_field hide n) (event_at (events_of second_field (cue ∷ later)) n))
+  all_at n = hide_first second_field hide cue later (events_of second_field (cue ∷ later)) n pop shows_here
+
+  -- before SHOW nothing begins but what hides the former cue
+  pub before_show : (n : ℕ) → n < cue.show → event_at all_events n ≡ erases second_field hide n
+  before_show n below =
+      let test : (n == cue.show) ≡ false = grind (arith, nat_tests) in
+      let none : event_at (events_of second_field (cue ∷ later)) n ≡ None =
+      shows_at n false test ∙ event_none (cue.show + 2) n rest apart_rest (omega arith) in
+      all_at n ∙ rw (test, none) (last (erases second_field hide n))
+    where
+      last : (u : Option Unit) → first_of u None ≡ u
+      last None = refl
+      last (Some unit) = refl
+
+  -- at SHOW it is shown
+  pub at_show : event_at all_events cue.show ≡ Some (showing_unit second_field)
+  at_show = let test : (cue.show == cue.show) ≡ true = grind (arith, nat_tests) in all_at cue.show ∙ rw test refl
+
+  -- behind SHOW the events behind it begin
+  pub behind_show : IfSome hide (λ h. h ≤ cue.show) → (n : ℕ) → cue.show < n → event_at all_events n ≡ event_at rest n
+  behind_show hidden n above =
+      let test : (n == cue.show) ≡ false = grind (arith, nat_tests) in
+      all_at n ∙ rw (test, over hide hidden) (shows_at n false test)
+    where
+      over : (h : Option ℕ) → IfSome h (λ x. x ≤ cue.show) → erases second_field h n ≡ None
+      over None hidden = refl
+      over (Some h) hidden = let other : (n == h) ≡ false = grind (arith, nat_tests) in rw other refl
+
+-- events and those behind them
+from-append : (n : ℕ) (events more : List Event) → AreFrom n events → AreFrom n more → AreFrom n (events ++ more)
+from-append n [] more from too = too
+from-append n (event ∷ events) more from too = (from.0, from-append n events more from.1 too)
+
+-- what shows a cue is at its SHOW
+shows_from : (second_field pop_on : Bool) (show : ℕ) → AreFrom show (if pop_on then event_of second_field show Eoc ∷ [] else [])
+shows_from second_field true show = (omega arith, tt)
+shows_from second_field false show = tt
+
+-- what hides it is later
+hides_from_at : (second_field replaced : Bool) (show hide : ℕ) → show < hide → AreFrom show (if replaced then [] else event_of second_field hide Edm ∷ [])
+hides_from_at second_field true show hide later = tt
+hides_from_at second_field false show hide later = (omega arith, tt)
+
+hides_from : (second_field : Bool) (show : ℕ) (hide : Option ℕ) (later : List Cue) → IfSome hide (λ h. show < h) → AreFrom show (hide_events second_field hide later)
+hides_from second_field show None later hidden = tt
+hides_from second_field show (Some hide) later hidden = hides_from_at second_field (is_replaced_at hide later) show hide hidden
+
+-- the events of cues in sequence are at the SHOW of the first of them or later
+pub events_from : (second_field : Bool) (frames : ℕ) (cue : Cue) (later : List Cue) → AreInSequence frames (cue ∷ later)
+    → AreFrom cue.show (events_of second_field (cue ∷ later))
+events_from second_field frames cue [] sequence =
+    from-append cue.show (show_events second_field cue ++ hide_events second_field cue.hide []) []
+    (from-append cue.show (show_events second_field cue) (hide_events second_field cue.hide []) (shows_from second_field (is_pop cue.kind) cue.show)
+    (hides_from second_field cue.show cue.hide [] sequence.hidden)) tt
+events_from second_field frames cue (next ∷ later) sequence =
+    from-append cue.show (show_events second_field cue ++ hide_events second_field cue.hide (next ∷ later)) (events_of second_field (next ∷ later))
+    (from-append cue.show (show_events second_field cue) (hide_events second_field cue.hide (next ∷ later)) (shows_from second_field (is_pop cue.kind) cue.show)
+    (hides_from second_field cue.show cue.hide (next ∷ later) sequence.0.hidden))
+    (from_earlier cue.show next.show (events_of second_field (next ∷ later)) (next_shown next later sequence.1.loaded sequence.2)
+    (events_from second_field frames next later sequence.2))
+  where
+    next_shown : (next : Cue) (later : List Cue) → cue.show ≤ next.load → AreInSequence frames (next ∷ later) → cue.show ≤ next.show
+    next_shown next [] behind sequence = let shown : next.load < next.show = sequence.loaded in omega arith
+    next_shown next (third ∷ later) behind sequence = let shown : next.load < next.show = sequence.0.loaded in omega arith
+
+-- the events of a cue that isn't pop-on, and of those behind it
+pub plain_events : (second_field : Bool) (cue : Cue) (later : List Cue) → is_pop cue.kind ≡ false
+    → events_of second_field (cue ∷ later) ≡ events_behind second_field cue later
+plain_events second_field cue later plain = rw plain refl
+
+-- what hides the former cue, and these events
+pub plain_at : (second_field : Bool) (hide : Option ℕ) (cue : Cue) (later : List Cue) (events : List Event) (n : ℕ) → is_pop cue.kind ≡ false
+    → event_at (hide_events second_field hide (cue ∷ later) ++ events) n ≡ first_of (erases second_field hide n) (event_at events n)
+plain_at second_field None cue later events n plain = refl
+plain_at second_field (Some hide) cue later events n plain = rw plain (by_test (n == hide) refl)
+  where
+    by_test : (b : Bool) → (n == hide) ≡ b
+        → event_at (event_of second_field hide Edm ∷ events) n ≡ first_of (erases second_field (Some hide) n) (event_at events n)
+    by_test true test = rw test refl
+    by_test false test = rw test refl
+
+-- the frame from which on a cue that isn't pop-on is written: its LOAD, or behind the HIDE of the former cue
+abbrev pub writes_from : Option ℕ → ℕ → ℕ
+writes_from None load = load
+writes_from (Some hide) load = max load (suc hide)
+
+-- a free frame from LOAD on is one of these
+pub plain_free : (second_field : Bool) (hide : Option ℕ) (cue : Cue) (later : List Cue) (events : List Event) (f : ℕ) → is_pop cue.kind ≡ false
+    → IfSome hide (λ h. h ≤ cue.load) → cue.load ≤ f → IsFree (hide_events second_field hide (cue ∷ later) ++ events) f → writes_from hide cue.load ≤ f
+plain_free second_field None cue later events f plain hidden from free = from
+plain_free second_field (Some hide) cue later events f plain hidden from free =
+    let held : hide ≢ f = (rw plain at free).0 in
+    let up : hide ≤ f = omega arith in
+    omega arith

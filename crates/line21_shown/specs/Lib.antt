@@ -1,0 +1,5 @@
+pub mod Doing
+pub mod Writing
+pub mod Reading
+pub mod Shown
+pub mod Sentences
