@@ -1,3 +1,7 @@
 pub mod Bytes
 pub mod Puts
+pub mod ReachedLemmas
+pub mod ReadingLemmas
+pub mod StepLemmas
 pub mod Takes
+pub mod Underway

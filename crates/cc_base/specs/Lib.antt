@@ -1,7 +1,9 @@
 pub mod Adapters
+pub mod Feeding
 pub mod LimitOf
 pub mod MemorySink
 pub mod MemorySource
 pub mod Rate
+pub mod Steps
 pub mod Streams
 pub mod Why

@@ -3,24 +3,35 @@
 #![tactic(auto)]
 
 pub use crate::adapters::{ReaderSource, WriterSink};
+pub use crate::feeding::feed_pieces;
 pub use crate::limit_of::LimitOf;
+pub use crate::machine::{Fed, Machine};
 pub use crate::memory_sink::MemorySink;
 pub use crate::memory_source::{MemorySource, SteadySource};
 pub use crate::pieces::put_pieces;
 pub use crate::rate::Rate;
 pub use crate::refusal::Refusal;
+pub use crate::resume::{Resume, Upward};
+pub use crate::stack::Stack;
+pub use crate::step::Step;
 pub use crate::streams::{Put, Sink, Source, Took};
 pub use crate::whole::{ReadError, read_whole};
 pub use crate::why::Why;
 
 mod adapters;
 mod copies;
+mod feeding;
+pub mod laws;
 mod limit_of;
+mod machine;
 mod memory_sink;
 mod memory_source;
 mod pieces;
 mod rate;
 mod refusal;
+mod resume;
+mod stack;
+mod step;
 mod streams;
 #[cfg(test)]
 mod tests;

@@ -1,3 +1,5 @@
+mod resuming;
+
 use crate::adapters::{ReaderSource, WriterSink};
 use crate::limit_of::LimitOf;
 use crate::memory_sink::MemorySink;

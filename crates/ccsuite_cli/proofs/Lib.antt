@@ -1,5 +1,6 @@
 mod GatheredLines
 mod Refusals
 mod ListLimits
-mod PrintedLines
+mod Outputs
 mod VerdictLemmas
+pub mod WordsLemmas

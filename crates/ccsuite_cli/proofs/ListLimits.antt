@@ -12,7 +12,7 @@ use Rattle.cue_lists.specs.Form.{frame_or_none_of, is_coded, may_stand, record_k
 use Rattle.cue_lists.specs.Listing.{Listing}
 use Rattle.cue_lists.specs.Reading.{adds, cue_of, ended, head_of, next, on_ok, opens, read_from, read_list, read_on, rolled_cue_of, run_of, runs_on, share_record_of, shown_of, text_of}
 use Rattle.cue_lists.specs.Records.{Record, field, records_of}
-use Rattle.cue_lists.specs.Unbuilt.{is_built_channel, is_built_character, is_built_kind, is_built_pen}
+use Rattle.cue_lists.specs.Unbuilt.{is_built_kind}
 use Rattle.cue_lists.specs.declared.cue.Cue.{Cue}
 use Rattle.cue_lists.specs.declared.fault.CueFault.{CueFault}
 use Rattle.cue_lists.specs.declared.fault.CueFault.TheVariants as fault
@@ -61,30 +61,27 @@ shown_limits : (r : Record) → Limits (shown_of r)
 shown_limits r =
     on_test _ (length r == 5) (λ f. rw f tt) (λ t. rw t (
     on_value _ (channel_of (field r 1)) (λ f. rw f tt) (λ channel is. rw is (
-    on_test _ (is_built_channel channel) (λ f. rw f tt) (λ t. rw t (
     on_value _ (frame_of (field r 2)) (λ f. rw f tt) (λ load is. rw is (
     on_value _ (frame_of (field r 3)) (λ f. rw f tt) (λ show is. rw is (
     on_value _ (frame_of (field r 4)) (λ f. rw f tt) (λ hide is. rw is tt)
-    ))))))))))
+    ))))))))
 
 rolled_limits : (r : Record) → Limits (rolled_cue_of r)
 rolled_limits r =
     on_test _ (length r == 6) (λ f. rw f tt) (λ t. rw t (
     on_value _ (channel_of (field r 1)) (λ f. rw f tt) (λ channel is. rw is (
-    on_test _ (is_built_channel channel) (λ f. rw f tt) (λ t. rw t (
     on_value _ (number_within 2 4 (field r 2)) (λ f. rw f tt) (λ rows is. rw is (
     on_value _ (frame_of (field r 3)) (λ f. rw f tt) (λ load is. rw is (
     on_value _ (frame_of (field r 4)) (λ f. rw f tt) (λ show is. rw is (
     on_value _ (frame_or_none_of (field r 5)) (λ f. rw f tt) (λ hide is. rw is tt)
-    ))))))))))))
+    ))))))))))
 
 text_limits : (col : ℕ) (text : List ℕ) → Limits (text_of col text)
 text_limits col text =
     on_test _ (is_utf8 text && nat_lt 0 (length text)) (λ f. rw f tt) (λ t. rw t (
-    on_test _ (list_all is_built_character (chars text)) (λ f. rw f tt) (λ t. rw t (
     on_test _ (list_all is_coded (chars text)) (λ f. rw f tt) (λ t. rw t (
     on_test _ (nat_le (col + length (chars text)) 32) (λ f. rw f tt) (λ t. rw t tt)
-    ))))))
+    ))))
 
 -- what goes on passes no other limit where the part before doesn't
 on_limits : {A B : Type 0} (r : Result A Offence) (rest : A → Result B Offence) → Limits r → ((value : A) → Limits (rest value)) → Limits (on_ok r rest)
@@ -100,9 +97,8 @@ run_limits cue r =
     on_test _ (suits_row cue.kind cue.runs row) (λ f. rw f tt) (λ t. rw t (
     on_value _ (number_within 0 31 (field r 2)) (λ f. rw f tt) (λ col is. rw is (
     on_value _ (pen_of (field r 3)) (λ f. rw f tt) (λ style is. rw is (
-    on_test _ (is_built_pen style) (λ f. rw f tt) (λ t. rw t (
     on_limits (text_of col (field r 4)) _ (text_limits col (field r 4)) (λ text. tt)
-    ))))))))))))
+    ))))))))))
 
 cue_limits : (kind : RecordKind) (r : Record) → Limits (cue_of kind r)
 cue_limits record_kind.Ccsuite r = tt
@@ -134,7 +130,7 @@ next_limits : (b : Begun) (r : Record) → Limits (next b r)
 next_limits b r =
     on_value _ (record_kind_of (field r 0)) (λ f. rw f tt) (λ kind is. rw is (
     on_test _ (may_stand b kind) (λ f. rw f tt) (λ t. rw t (
-    on_test _ (is_built_kind b kind) (λ f. rw f tt) (λ t. rw t (adds_limits b kind r))
+    on_test _ (is_built_kind kind) (λ f. rw f tt) (λ t. rw t (adds_limits b kind r))
     ))))
 
 -- the same for a list

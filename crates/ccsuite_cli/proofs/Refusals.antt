@@ -10,11 +10,13 @@ use Rattle.cue_lists.specs.Records.{records_of}
 use Rattle.cue_lists.specs.declared.fault.CueFault.{CueFault}
 use Rattle.cue_lists.specs.declared.fault.CueFault.TheVariants as fault
 use Rattle.ccsuite_cli.proofs.ListLimits.{limit_of_records}
-use Rattle.frame_scheduler.specs.declared.frames.Plan.{Plan}
+use Rattle.cue_lists.specs.Listing.{Listing}
+use Rattle.frame_scheduler.specs.Planned.{Placement}
 use Rattle.ccsuite_cli.specs.Accepted.{IsRefused, list_limit}
-use Rattle.ccsuite_cli.specs.Answer.{PairsAnswer}
+use Rattle.ccsuite_cli.specs.Answer.{ListAnswer}
 use Rattle.ccsuite_cli.specs.Ends.{ends}
-use Rattle.ccsuite_cli.specs.Reads.{IsPlanOf, Judges, ReadsPlan, form_status}
+use Rattle.ccsuite_cli.specs.Reads.{IsProgrammeOf, Judges, ReadsProgramme, form_status}
+use Rattle.ccsuite_cli.specs.declared.programme.Programme.{Programme}
 use Rattle.ccsuite_cli.specs.declared.status.Status.{Status}
 use Rattle.ccsuite_cli.specs.declared.status.Status.TheVariants as status
 
@@ -33,18 +35,19 @@ keeps_same : (w : Option (List ℕ)) → Keeps w w
 keeps_same None = tt
 keeps_same (Some xs) = refl
 
--- what isn't read to a plan is answered so, and nothing was put
-pub read_refused : (left now_left written : Option (List ℕ)) (before now faults : ℕ) (s : Status)
-    → ReadsPlan left now_left before now (Err s) → PairsAnswer (ends left before written faults) (ends now_left now written faults) s
-read_refused left now_left written before now faults status.Ok h = absurd h
-read_refused left now_left written before now faults status.Usage h = absurd h
-read_refused left now_left written before now faults status.ReadFault h = (h.0, h.1, (refl, keeps_same written))
-read_refused left now_left written before now faults status.WriteFault h = absurd h
-read_refused left now_left written before now faults status.Memory h = (h, (refl, keeps_same written))
-read_refused left now_left written before now faults (status.Limit which) h = (h.0, (refl, keeps_same written), h.1)
-read_refused left now_left written before now faults (status.Malformed place why) h = (h.0, (refl, keeps_same written), h.1)
-read_refused left now_left written before now faults (status.Rule fault) h = (h.0, (refl, keeps_same written), h.1)
-read_refused left now_left written before now faults (status.NoRoom cue) h = (h.0, (refl, keeps_same written), h.1)
+-- what isn't read to a programme is answered so, and nothing was put
+pub read_refused : (output : Listing → Placement → List ℕ) (IsSound : Listing → Placement → Type 0) (left now_left written : Option (List ℕ))
+    (before now faults : ℕ) (s : Status)
+    → ReadsProgramme left now_left before now (Err s) → ListAnswer output IsSound (ends left before written faults) (ends now_left now written faults) s
+read_refused output IsSound left now_left written before now faults status.Ok h = absurd h
+read_refused output IsSound left now_left written before now faults status.Usage h = absurd h
+read_refused output IsSound left now_left written before now faults status.ReadFault h = (h.0, h.1, (refl, keeps_same written))
+read_refused output IsSound left now_left written before now faults status.WriteFault h = absurd h
+read_refused output IsSound left now_left written before now faults status.Memory h = (h, (refl, keeps_same written))
+read_refused output IsSound left now_left written before now faults (status.Limit which) h = (h.0, (refl, keeps_same written), h.1)
+read_refused output IsSound left now_left written before now faults (status.Malformed place why) h = (h.0, (refl, keeps_same written), h.1)
+read_refused output IsSound left now_left written before now faults (status.Rule fault) h = (h.0, (refl, keeps_same written), h.1)
+read_refused output IsSound left now_left written before now faults (status.NoRoom cue) h = (h.0, (refl, keeps_same written), h.1)
 
 -- a fact of the bytes that were read is one of the bytes that were left
 of_left : (P : List ℕ → Type 0) (left : Option (List ℕ)) (bytes : List ℕ) → IfSome left (λ all. bytes ≡ all) → P bytes → IfSome left P
@@ -52,9 +55,9 @@ of_left P None bytes is fact = tt
 of_left P (Some all) bytes is fact = subst P is fact
 
 -- the judgement of the bytes that were read to their end
-pub judged : (left now_left : Option (List ℕ)) (before now : ℕ) (bytes : List ℕ) (r : Result Plan Status)
-    → IfSome left (λ all. bytes ≡ all) → now ≡ before → Judges bytes r → ReadsPlan left now_left before now r
-judged left now_left before now bytes (Ok plan) is same fact = (same, of_left (λ all. IsPlanOf all plan) left bytes is fact)
+pub judged : (left now_left : Option (List ℕ)) (before now : ℕ) (bytes : List ℕ) (r : Result Programme Status)
+    → IfSome left (λ all. bytes ≡ all) → now ≡ before → Judges bytes r → ReadsProgramme left now_left before now r
+judged left now_left before now bytes (Ok programme) is same fact = (same, of_left (λ all. IsProgrammeOf all programme) left bytes is fact)
 judged left now_left before now bytes (Err status.Ok) is same fact = absurd fact
 judged left now_left before now bytes (Err status.Usage) is same fact = absurd fact
 judged left now_left before now bytes (Err status.ReadFault) is same fact = absurd fact

@@ -4,6 +4,7 @@ pub mod Command
 pub mod Ends
 pub mod Gathered
 pub mod Lines
+pub mod Output
 pub mod Reads
 pub mod StatusLine
 pub mod Verdict

@@ -1,4 +1,4 @@
--- Steps on the way from an input to a plan: reading the bytes of a list, and judging them.
+-- Steps on the way from an input to a programme: reading the bytes of a list, and judging them.
 use Rattle.std.specs.Prelude.{◌≡◌, ℕ, List, IfSome, Option, Result, Ok, Err, ⊤}
 use Rattle.cc_base.specs.Streams.{Rose, TakesWithin}
 use Rattle.cue_lists.specs.Listing.{Listing}
@@ -6,7 +6,7 @@ use Rattle.cue_lists.specs.declared.fault.CueFault.{CueFault}
 use Rattle.cue_lists.specs.declared.fault.CueFault.TheVariants as fault
 use Rattle.frame_scheduler.specs.Frames.{GivesFrom, frames_left}
 use Rattle.frame_scheduler.specs.Planned.{Placement, columns_of}
-use Rattle.frame_scheduler.specs.declared.frames.Plan.{Plan}
+use Rattle.ccsuite_cli.specs.declared.programme.Programme.{Programme}
 use Rattle.ccsuite_cli.specs.Accepted.{IsAccepted, IsRefused, list_limit}
 use Rattle.ccsuite_cli.specs.declared.status.Place.TheVariants.{Field}
 use Rattle.ccsuite_cli.specs.declared.status.Status.{Status}
@@ -18,26 +18,27 @@ form_status (fault.Memory error) = status.Memory
 form_status (fault.Limit which) = status.Limit which
 form_status (fault.Malformed rec field why) = status.Malformed (Field rec field) why
 
--- the plan is that of the accepted list
-pub record IsPlanOf (bytes : List ℕ) (plan : Plan) : Type 0 where
+-- the programme is that of the accepted list
+pub record IsProgrammeOf (bytes : List ℕ) (programme : Programme) : Type 0 where
   pub list : Listing
   pub placed : Placement
   pub accepted : IsAccepted bytes list placed
-  pub gives : GivesFrom (columns_of list placed) 0 plan
-  pub frames : frames_left plan ≡ list.frames
+  pub rate : programme.rate ≡ list.rate
+  pub gives : GivesFrom (columns_of list placed) 0 programme.plan
+  pub frames : frames_left programme.plan ≡ list.frames
 
--- the bytes of a list give its plan, or are refused
-abbrev pub Judges : List ℕ → Result Plan Status → Type 0
-Judges bytes (Ok plan) = IsPlanOf bytes plan
+-- the bytes of a list give its programme, or are refused
+abbrev pub Judges : List ℕ → Result Programme Status → Type 0
+Judges bytes (Ok programme) = IsProgrammeOf bytes programme
 Judges bytes (Err status.Memory) = ⊤
 Judges bytes (Err refusal) = IsRefused bytes refusal
 
--- an input gives the plan of its list, or is refused
-abbrev pub ReadsPlan : Option (List ℕ) → Option (List ℕ) → ℕ → ℕ → Result Plan Status → Type 0
-ReadsPlan old new before now (Ok plan) = (now ≡ before) × IfSome old (λ bytes. IsPlanOf bytes plan)
-ReadsPlan old new before now (Err status.Ok) = ⊥
-ReadsPlan old new before now (Err status.Usage) = ⊥
-ReadsPlan old new before now (Err status.WriteFault) = ⊥
-ReadsPlan old new before now (Err status.ReadFault) = Rose before now × TakesWithin list_limit old new
-ReadsPlan old new before now (Err status.Memory) = now ≡ before
-ReadsPlan old new before now (Err refusal) = (now ≡ before) × IfSome old (λ bytes. IsRefused bytes refusal)
+-- an input gives the programme of its list, or is refused
+abbrev pub ReadsProgramme : Option (List ℕ) → Option (List ℕ) → ℕ → ℕ → Result Programme Status → Type 0
+ReadsProgramme old new before now (Ok programme) = (now ≡ before) × IfSome old (λ bytes. IsProgrammeOf bytes programme)
+ReadsProgramme old new before now (Err status.Ok) = ⊥
+ReadsProgramme old new before now (Err status.Usage) = ⊥
+ReadsProgramme old new before now (Err status.WriteFault) = ⊥
+ReadsProgramme old new before now (Err status.ReadFault) = Rose before now × TakesWithin list_limit old new
+ReadsProgramme old new before now (Err status.Memory) = now ≡ before
+ReadsProgramme old new before now (Err refusal) = (now ≡ before) × IfSome old (λ bytes. IsRefused bytes refusal)

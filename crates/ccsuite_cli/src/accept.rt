@@ -1,20 +1,21 @@
 ghost use Rattle.std.specs.Prelude.{◌≡◌, ◌≤◌, length};
 ghost use Rattle.ccsuite_cli.specs.Accepted.{list_limit};
-ghost use Rattle.ccsuite_cli.specs.Reads.{Judges, ReadsPlan, form_status};
+ghost use Rattle.ccsuite_cli.specs.Reads.{Judges, ReadsProgramme, form_status};
 
+use crate::programme::Programme;
 use crate::status::{Place, Status};
 use cc_base::{LimitOf, ReadError, Source, read_whole};
 use cue_lists::{CueFault, check, parse};
-use frame_scheduler::{Plan, PlanFault, plan};
+use frame_scheduler::{PlanFault, plan};
 use std::alloc::Global;
 
 /// The most bytes of a cue list.
 const LIST_LIMIT: usize = 67_108_864;
 
-/// Reads a cue list to its end and judges it: its bytes' number, its form and limits, its rules, its room. Gives the plan
-/// of its frames, or the status with which it is refused.
-pub fn read_plan<M: Source>(alloc: Global, input: &mut M) -> Result<Plan, Status>
-    ensures { ReadsPlan (M.left input.old) (M.left input.new) (M.faults input.old) (M.faults input.new) result }
+/// Reads a cue list to its end and judges it: its bytes' number, its form and limits, its rules, its room. Gives its
+/// programme, or the status with which it is refused.
+pub fn read_programme<M: Source>(alloc: Global, input: &mut M) -> Result<Programme, Status>
+    ensures { ReadsProgramme (M.left input.old) (M.left input.new) (M.faults input.old) (M.faults input.new) result }
 {
     match read_whole(alloc, input, LIST_LIMIT) {
         Ok(bytes) => judge(alloc, &bytes),
@@ -25,7 +26,7 @@ pub fn read_plan<M: Source>(alloc: Global, input: &mut M) -> Result<Plan, Status
 }
 
 /// Judges the bytes of a cue list.
-fn judge(alloc: Global, bytes: &[u8]) -> Result<Plan, Status>
+fn judge(alloc: Global, bytes: &[u8]) -> Result<Programme, Status>
     requires { length bytes.now ≤ list_limit }
     ensures { Judges bytes.now result }
 {
@@ -37,7 +38,10 @@ fn judge(alloc: Global, bytes: &[u8]) -> Result<Plan, Status>
         return Err(Status::Rule(fault));
     }
     match plan(alloc, &list) {
-        Ok(plan) => Ok(plan),
+        Ok(plan) => Ok(Programme {
+            rate: list.rate(),
+            plan,
+        }),
         Err(PlanFault::Memory(_)) => Err(Status::Memory),
         Err(PlanFault::NoRoom(cue)) => Err(Status::NoRoom(cue)),
     }

@@ -6,6 +6,8 @@ ghost use Rattle.ccsuite_cli.specs.Command.{command_of};
 pub enum Command {
     /// `pairs`: the pairs of each frame of a cue list.
     Pairs,
+    /// `build`: the ancillary words of each frame of a cue list.
+    Build,
 }
 
 /// The command of the words after the program's name; None where they are no command.
@@ -16,6 +18,8 @@ pub fn read_words(words: &[String]) -> Option<Command>
         [word] => {
             if word.as_str() == "pairs" {
                 Some(Command::Pairs)
+            } else if word.as_str() == "build" {
+                Some(Command::Build)
             } else {
                 None
             }

@@ -5,12 +5,14 @@ pub use crate::program::run;
 pub use crate::status::{Place, Status};
 
 mod accept;
+mod build;
 mod command;
 mod gathered;
 pub mod laws;
 mod lines;
 mod pairs;
 mod program;
+mod programme;
 mod status;
 #[cfg(test)]
 mod tests;

@@ -6,7 +6,7 @@ ghost use Rattle.ccsuite_cli.specs.Answer.{PairsAnswer};
 ghost use Rattle.ccsuite_cli.specs.Ends.{ends};
 ghost use Rattle.ccsuite_cli.specs.Lines.{pair_lines};
 
-use crate::accept::read_plan;
+use crate::accept::read_programme;
 use crate::gathered::Gathered;
 use crate::lines::line_of;
 use crate::status::Status;
@@ -20,8 +20,8 @@ pub fn pairs<M: Source, O: Sink>(alloc: Global, input: &mut M, out: &mut O) -> S
         (ends (M.left input.old) (M.faults input.old) (O.written out.old) (O.faults out.old))
         (ends (M.left input.new) (M.faults input.new) (O.written out.new) (O.faults out.new)) result }
 {
-    match read_plan(alloc, input) {
-        Ok(plan) => match put_lines(plan, out) {
+    match read_programme(alloc, input) {
+        Ok(programme) => match put_lines(programme.plan, out) {
             Put::Done => Status::Ok,
             Put::Failed => Status::WriteFault,
         },

@@ -6,6 +6,7 @@ ghost use Rattle.ccsuite_cli.specs.Command.{command_of};
 ghost use Rattle.ccsuite_cli.specs.Ends.{ends};
 ghost use Rattle.ccsuite_cli.specs.StatusLine.{status_line};
 
+use crate::build::build;
 use crate::command::{Command, read_words};
 use crate::pairs::pairs;
 use crate::status::{Status, put_status};
@@ -49,5 +50,6 @@ fn obey<M: Source, O: Sink>(
     match command {
         None => Status::Usage,
         Some(Command::Pairs) => pairs(alloc, input, out),
+        Some(Command::Build) => build(alloc, input, out),
     }
 }

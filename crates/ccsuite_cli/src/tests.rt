@@ -7,18 +7,14 @@ use cue_lists::RuleFault;
 use std::alloc::Global;
 use std::test::Fail;
 
+mod build;
+mod line21;
+mod pairs;
+
 /// The list of the caption HI on 30 frames.
 const HI: &[u8] = b"ccsuite,1,29.97,30\npop,CC1,0,7,20\nrun,15,0,white,HI\n";
 
-/// What its field 1 has before the frame that shows the caption: resume caption loading, erase non-displayed memory, the
-/// preamble of row 15, and the text.
-const LOADED: &[u8] =
-    b"9420 8080\n9420 8080\n94AE 8080\n94AE 8080\n9470 8080\n9470 8080\nC849 8080\n";
-
-/// A frame with nothing in either field.
-const NOTHING: &[u8] = b"8080 8080\n";
-
-/// What a run is given: its words, its input in pieces, and the takes and puts that fail.
+/// What a run is given: its words, its input in pieces, the takes and puts that fail, and the room of its output.
 #[derive(Clone, Copy)]
 struct Given<'a> {
     words: &'a [&'a str],
@@ -26,6 +22,7 @@ struct Given<'a> {
     piece: usize,
     failing_takes: &'a [u64],
     failing_puts: &'a [u64],
+    room: usize,
 }
 
 /// `pairs` on a text in pieces of a size, with no fault.
@@ -36,6 +33,15 @@ fn pairs_of(text: &[u8], piece: usize) -> Given<'_> {
         piece,
         failing_takes: &[],
         failing_puts: &[],
+        room: 200_000,
+    }
+}
+
+/// `build` on a text, with no fault.
+fn build_of(text: &[u8]) -> Given<'_> {
+    Given {
+        words: &["build"],
+        ..pairs_of(text, usize::MAX)
     }
 }
 
@@ -63,63 +69,23 @@ fn run_to_end(alloc: Global, given: Given<'_>) -> Result<Ended, Fail> {
         given.failing_takes.to_vec(alloc)?,
     );
     let mut side = SteadySource::new(Vec::new(alloc));
-    let mut out = MemorySink::new(alloc, 200_000, given.failing_puts.to_vec(alloc)?)?;
+    let mut out = MemorySink::new(alloc, given.room, given.failing_puts.to_vec(alloc)?)?;
     let mut err = MemorySink::new(alloc, 200, Vec::new(alloc))?;
     let status = run(alloc, &words, &mut input, &mut side, &mut out, &mut err);
     Ok(Ended { status, out, err })
 }
 
-#[test]
-fn a_caption_is_loaded_shown_and_erased_whatever_the_pieces(rt: HostRuntime) -> Result<(), Fail> {
-    let alloc = rt.alloc();
-    let mut lines = LOADED.to_vec(alloc)?;
-    lines.extend_from_slice(b"942F 8080\n942F 8080\n")?;
-    for _ in 9..20 {
-        lines.extend_from_slice(NOTHING)?;
-    }
-    lines.extend_from_slice(b"942C 8080\n942C 8080\n")?;
-    for _ in 22..30 {
-        lines.extend_from_slice(NOTHING)?;
-    }
-    for piece in [1, 2, 5, usize::MAX] {
-        let ended = run_to_end(alloc, pairs_of(HI, piece))?;
-        assert_eq!(rt; ended.status, Status::Ok, "pieces of {piece}");
-        assert_eq!(rt; ended.out.bytes(), lines.as_slice(), "pieces of {piece}");
-        assert_eq!(rt; ended.err.bytes(), b"".as_slice());
-    }
-    Ok(())
+fn malformed(rec: u32, field: u32, why: Why) -> Status {
+    Status::Malformed(Place::Field { rec, field }, why)
 }
 
-#[test]
-fn a_list_without_a_cue_has_nothing_in_any_frame(rt: HostRuntime) -> Result<(), Fail> {
-    let ended = run_to_end(rt.alloc(), pairs_of(b"ccsuite,1,30,2\n", 3))?;
-    assert_eq!(rt; ended.status, Status::Ok);
-    assert_eq!(rt; ended.out.bytes(), b"8080 8080\n8080 8080\n".as_slice());
-    Ok(())
-}
-
-#[test]
-fn units_stand_from_load_on_with_a_tab_where_the_column_asks_one(
-    rt: HostRuntime,
-) -> Result<(), Fail> {
-    let alloc = rt.alloc();
-    let text = b"ccsuite,1,30,40\npop,CC1,3,15,38\nrun,1,5,white,ABC\n";
-    let mut lines = Vec::new(alloc);
-    for pair in [
-        "8080", "8080", "8080", "9420", "9420", "94AE", "94AE", "9152", "9152", "97A1", "97A1",
-        "C1C2", "4380", "8080", "8080", "942F", "942F",
-    ] {
-        lines.extend_from_slice(pair.as_bytes())?;
-        lines.extend_from_slice(b" 8080\n")?;
-    }
-    let ended = run_to_end(alloc, pairs_of(text, usize::MAX))?;
-    assert_eq!(rt; ended.status, Status::Ok);
-    assert_eq!(rt; ended.out.bytes().get(..170), Some(lines.as_slice()));
-    assert_eq!(rt;
-        ended.out.bytes().get(370..),
-        Some(b"8080 8080\n942C 8080\n942C 8080\n".as_slice())
-    );
-    Ok(())
+/// The rule that cue 1 breaks by itself.
+fn broken(why: Why) -> Status {
+    Status::Rule(RuleFault {
+        why,
+        cue: 1,
+        other: None,
+    })
 }
 
 #[test]
@@ -127,13 +93,16 @@ fn words_that_are_no_command_are_usage(rt: HostRuntime) -> Result<(), Fail> {
     let usage =
         b"usage: ccsuite pairs|build|decode|show FRAME|verify CUES|insert CUES|import|export TIME|cues|load N\n";
     let none: [&str; 0] = [];
-    let lists: [&[&str]; 6] = [
+    let lists: [&[&str]; 9] = [
         &none,
         &["pairs", "x"],
         &["Pairs"],
         &[""],
-        &["build"],
+        &["decode"],
         &["pairs", ""],
+        &["build", "x"],
+        &["build "],
+        &["pairs", "build"],
     ];
     for words in lists {
         let ended = run_to_end(
@@ -152,11 +121,21 @@ fn words_that_are_no_command_are_usage(rt: HostRuntime) -> Result<(), Fail> {
 
 #[test]
 fn a_failing_take_ends_the_run_before_anything_is_put(rt: HostRuntime) -> Result<(), Fail> {
-    for (piece, take) in [(usize::MAX, 0), (usize::MAX, 1), (1, 0), (1, 20), (5, 11)] {
+    let takes: [(&[&str], usize, u64); 7] = [
+        (&["pairs"], usize::MAX, 0),
+        (&["pairs"], usize::MAX, 1),
+        (&["pairs"], 1, 0),
+        (&["pairs"], 1, 20),
+        (&["pairs"], 5, 11),
+        (&["build"], usize::MAX, 0),
+        (&["build"], 1, 20),
+    ];
+    for (words, piece, take) in takes {
         let failing = [take];
         let ended = run_to_end(
             rt.alloc(),
             Given {
+                words,
                 failing_takes: &failing,
                 ..pairs_of(HI, piece)
             },
@@ -172,36 +151,27 @@ fn a_failing_take_ends_the_run_before_anything_is_put(rt: HostRuntime) -> Result
     Ok(())
 }
 
-#[test]
-fn a_failing_put_leaves_a_front_of_the_lines(rt: HostRuntime) -> Result<(), Fail> {
-    let alloc = rt.alloc();
-    let text = b"ccsuite,1,29.97,10000\npop,CC1,0,7,20\nrun,15,0,white,HI\n";
-    let whole = run_to_end(alloc, pairs_of(text, usize::MAX))?;
-    assert_eq!(rt; whole.status, Status::Ok);
-    assert_eq!(rt; whole.out.bytes().len(), 100_000);
-    for (put, room) in [(0, 0), (1, 32_760), (3, 98_280)] {
-        let failing = [put];
-        let ended = run_to_end(
-            alloc,
-            Given {
-                failing_puts: &failing,
-                ..pairs_of(text, usize::MAX)
-            },
-        )?;
-        assert_eq!(rt; ended.status, Status::WriteFault, "put {put}");
-        assert_eq!(rt;
-            Some(ended.out.bytes()),
-            whole.out.bytes().get(..room),
-            "put {put}"
-        );
-        assert_eq!(rt; ended.err.bytes(), b"write fault\n".as_slice());
-    }
-    Ok(())
+/// A list, the status with which it is refused, and that status's line.
+type Refusal = (&'static [u8], Status, &'static [u8]);
+
+/// Whether `pairs` and `build` refuse the list so, and write nothing.
+fn is_refused(alloc: Global, refusal: Refusal) -> Result<bool, Fail> {
+    let (text, status, line) = refusal;
+    let printed = run_to_end(alloc, pairs_of(text, usize::MAX))?;
+    let built = run_to_end(alloc, build_of(text))?;
+    Ok(
+        printed.status == status
+            && printed.out.bytes().is_empty()
+            && printed.err.bytes() == line
+            && built.status == status
+            && built.out.bytes().is_empty()
+            && built.err.bytes() == line,
+    )
 }
 
 #[test]
-fn a_refused_list_writes_nothing_and_says_why(rt: HostRuntime) -> Result<(), Fail> {
-    let refusals: [(&[u8], Status, &[u8]); 9] = [
+fn a_list_out_of_form_writes_nothing_and_says_where(rt: HostRuntime) -> Result<(), Fail> {
+    let refusals: [Refusal; 5] = [
         (
             b"",
             malformed(1, 1, Why::Field),
@@ -218,10 +188,30 @@ fn a_refused_list_writes_nothing_and_says_why(rt: HostRuntime) -> Result<(), Fai
             b"malformed at record 3 field 2: Field\n",
         ),
         (
-            b"ccsuite,1,29.97,30\nroll,CC1,2,0,7,20\n",
+            b"ccsuite,1,29.97,30\nshare,1,31\n",
             malformed(2, 1, Why::NotBuilt),
             b"malformed at record 2 field 1: NotBuilt\n",
         ),
+        (
+            "ccsuite,1,29.97,30\npop,CC1,0,7,20\nrun,15,0,white,中\n".as_bytes(),
+            malformed(3, 5, Why::NoCode),
+            b"malformed at record 3 field 5: NoCode\n",
+        ),
+    ];
+    for (place, refusal) in refusals.iter().enumerate() {
+        assert!(rt; is_refused(rt.alloc(), *refusal)?, "refusal {place}");
+    }
+    Ok(())
+}
+
+#[test]
+fn a_list_that_breaks_a_rule_writes_nothing_and_names_the_cue(rt: HostRuntime) -> Result<(), Fail> {
+    let second_loaded_too_early = Status::Rule(RuleFault {
+        why: Why::Order,
+        cue: 2,
+        other: Some(1),
+    });
+    let refusals: [Refusal; 4] = [
         (
             b"ccsuite,1,29.97,30\npop,CC1,7,7,20\nrun,15,0,white,HI\n",
             broken(Why::Order),
@@ -238,6 +228,21 @@ fn a_refused_list_writes_nothing_and_says_why(rt: HostRuntime) -> Result<(), Fai
             b"rule PastEnd: cue 1\n",
         ),
         (
+            b"ccsuite,1,29.97,60\npop,CC1,0,7,20\nrun,15,0,white,HI\npop,CC1,5,30,40\nrun,15,0,white,HI\n",
+            second_loaded_too_early,
+            b"rule Order: cue 2 and cue 1\n",
+        ),
+    ];
+    for (place, refusal) in refusals.iter().enumerate() {
+        assert!(rt; is_refused(rt.alloc(), *refusal)?, "refusal {place}");
+    }
+    Ok(())
+}
+
+#[test]
+fn a_list_without_room_writes_nothing_and_names_the_cue(rt: HostRuntime) -> Result<(), Fail> {
+    let refusals: [Refusal; 3] = [
+        (
             b"ccsuite,1,29.97,30\npop,CC1,0,6,20\nrun,15,0,white,HI\n",
             Status::NoRoom(1),
             b"no room: cue 1\n",
@@ -247,26 +252,16 @@ fn a_refused_list_writes_nothing_and_says_why(rt: HostRuntime) -> Result<(), Fai
             Status::NoRoom(1),
             b"no room: cue 1\n",
         ),
+        (
+            "ccsuite,1,29.97,30\npop,CC1,0,10,20\nrun,15,31,white,Á\n".as_bytes(),
+            Status::NoRoom(1),
+            b"no room: cue 1\n",
+        ),
     ];
-    for (text, status, line) in refusals {
-        let ended = run_to_end(rt.alloc(), pairs_of(text, usize::MAX))?;
-        assert_eq!(rt; ended.status, status);
-        assert_eq!(rt; ended.out.bytes(), b"".as_slice());
-        assert_eq!(rt; ended.err.bytes(), line);
+    for (place, refusal) in refusals.iter().enumerate() {
+        assert!(rt; is_refused(rt.alloc(), *refusal)?, "refusal {place}");
     }
     Ok(())
-}
-
-fn malformed(rec: u32, field: u32, why: Why) -> Status {
-    Status::Malformed(Place::Field { rec, field }, why)
-}
-
-fn broken(why: Why) -> Status {
-    Status::Rule(RuleFault {
-        why,
-        cue: 1,
-        other: None,
-    })
 }
 
 /// A source without an end.

@@ -11,7 +11,7 @@ use Rattle.cue_lists.specs.FirstFault.{EndsEarly, IsFirstFault, Judgement, field
 use Rattle.cue_lists.specs.Form.{frame_or_none_of, is_coded, may_stand, record_kind_of, suits_row}
 use Rattle.cue_lists.specs.Reading.{adds, cue_of, ended, head_of, in_record, list_of, next, on_ok, opens, read_from, rolled_cue_of, run_of, runs_on, share_record_of, shown_of}
 use Rattle.cue_lists.specs.Records.{Record, field}
-use Rattle.cue_lists.specs.Unbuilt.{is_built_channel, is_built_character, is_built_kind, is_built_pen}
+use Rattle.cue_lists.specs.Unbuilt.{is_built_kind}
 use Rattle.cue_lists.specs.declared.cue.Cue.{Cue}
 use Rattle.cue_lists.specs.declared.fault.CueFault.{CueFault}
 use Rattle.cue_lists.specs.declared.fault.CueFault.TheVariants as malformed
@@ -42,22 +42,20 @@ shown_judged : (r : Record) → offence_of (shown_of r) ≡ first_offence (shown
 shown_judged r =
     on_test _ (length r == 5) (λ f. rw f refl) (λ t. rw t (
     on_value _ (channel_of (field r 1)) (λ f. rw f refl) (λ channel is. rw is (
-    on_test _ (is_built_channel channel) (λ f. rw f refl) (λ t. rw t (
     on_value _ (frame_of (field r 2)) (λ f. rw f refl) (λ load is. rw is (
     on_value _ (frame_of (field r 3)) (λ f. rw f refl) (λ show is. rw is (
     on_value _ (frame_of (field r 4)) (λ f. rw f refl) (λ hide is. rw is refl)
-    ))))))))))
+    ))))))))
 
 rolled_judged : (r : Record) → offence_of (rolled_cue_of r) ≡ first_offence (rolled_judgements r)
 rolled_judged r =
     on_test _ (length r == 6) (λ f. rw f refl) (λ t. rw t (
     on_value _ (channel_of (field r 1)) (λ f. rw f refl) (λ channel is. rw is (
-    on_test _ (is_built_channel channel) (λ f. rw f refl) (λ t. rw t (
     on_value _ (number_within 2 4 (field r 2)) (λ f. rw f refl) (λ rows is. rw is (
     on_value _ (frame_of (field r 3)) (λ f. rw f refl) (λ load is. rw is (
     on_value _ (frame_of (field r 4)) (λ f. rw f refl) (λ show is. rw is (
     on_value _ (frame_or_none_of (field r 5)) (λ f. rw f refl) (λ hide is. rw is refl)
-    ))))))))))))
+    ))))))))))
 
 share_judged : (shares : List Share) (r : Record) → offence_of (share_record_of shares r) ≡ first_offence (share_judgements shares r)
 share_judged shares r =
@@ -76,12 +74,10 @@ run_judged cue r =
     on_test _ (suits_row cue.kind cue.runs row) (λ f. rw f refl) (λ t. rw t (
     on_value _ (number_within 0 31 (field r 2)) (λ f. rw f refl) (λ col is. rw is (
     on_value _ (pen_of (field r 3)) (λ f. rw f refl) (λ style is. rw is (
-    on_test _ (is_built_pen style) (λ f. rw f refl) (λ t. rw t (
     on_test _ (is_utf8 (field r 4) && nat_lt 0 (length (field r 4))) (λ f. rw f refl) (λ t. rw t (
-    on_test _ (list_all is_built_character (chars (field r 4))) (λ f. rw f refl) (λ t. rw t (
     on_test _ (list_all is_coded (chars (field r 4))) (λ f. rw f refl) (λ t. rw t (
     on_test _ (nat_le (col + length (chars (field r 4))) 32) (λ f. rw f refl) (λ t. rw t refl)
-    ))))))))))))))))))
+    ))))))))))))))
 
 -- a part whose value is only carried on
 carried : {A B : Type 0} (part : Result A Offence) (rest : A → B) → offence_of (on_ok part (λ x. Ok (rest x))) ≡ offence_of part
@@ -109,7 +105,7 @@ pub next_judged : (b : Begun) (r : Record) → offence_of (next b r) ≡ first_o
 next_judged b r =
     on_value _ (record_kind_of (field r 0)) (λ f. rw f refl) (λ k is. rw is (
     on_test _ (may_stand b k) (λ f. rw f refl) (λ t. rw t (
-    on_test _ (is_built_kind b k) (λ f. rw f refl) (λ t. rw t (adds_judged b k r))
+    on_test _ (is_built_kind k) (λ f. rw f refl) (λ t. rw t (adds_judged b k r))
     ))))
 
 -- the place of the record after those before

@@ -1,3 +1,4 @@
+pub mod CodedFacts
 pub mod Complete
 pub mod Faults
 pub mod FieldFacts
@@ -17,3 +18,4 @@ pub mod Steps
 pub mod TextFacts
 pub mod Unique
 pub mod WordFacts
+pub mod WordsRead

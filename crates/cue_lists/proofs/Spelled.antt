@@ -1,18 +1,17 @@
 -- A list that was read: its records spell it, and this version authors it.
-use Rattle.std.proofs.Common.{◌≡◌, ℕ, ◌+◌, ◌≤◌, nat_lt, is_none, List, [], ◌∷◌, ◌++◌, map, true, false, length, All, Option, Some, None, option_to_list, Ok, arith, refl, sym, ap, ◌∙◌, append_assoc}
+use Rattle.std.proofs.Common.{◌≡◌, ℕ, ◌+◌, is_none, List, [], ◌∷◌, ◌++◌, map, true, false, Option, Some, None, Ok, refl, sym, ap, ◌∙◌, append_assoc}
 use Rattle.std.specs.List.{flat_map}
 use Rattle.std.proofs.lemmas.Grind.{flat_map-append}
 use Rattle.std.proofs.lemmas.List.{append-nil, map-append}
-use Rattle.std.proofs.lemmas.List.Elements.{All-cons, All-nil}
-use Rattle.line21_codes.specs.declared.channels.Chan.{Chan}
-use Rattle.line21_codes.specs.declared.channels.Chan.TheVariants as chan
-use Rattle.cue_lists.specs.Begun.{Begun, IsBegun, IsHeadOrNothing, awaits_run, cue_with_run, cues_of, no_runs, nothing, with_cue}
+use Rattle.std.proofs.lemmas.List.Elements.{All-nil, All-pop, All-push}
+use Rattle.cue_lists.specs.Begun.{Begun, IsBegun, IsHeadOrNothing, awaits_run, cue_with_run, cues_of, nothing, with_cue}
 use Rattle.cue_lists.specs.Listing.{Listing}
 use Rattle.cue_lists.specs.Form.{may_stand, record_kind_of}
-use Rattle.cue_lists.specs.Reading.{adds, head_of, list_of, next, read_from, run_of, shown_cue, shown_of}
+use Rattle.cue_lists.specs.Reading.{adds, head_of, list_of, next, opens, read_from, run_of}
 use Rattle.cue_lists.specs.Records.{Record, field}
 use Rattle.cue_lists.specs.Spelling.{Begins, Spells, begun_records, cue_record, cue_records, head_record, head_records, run_record, share_record}
-use Rattle.cue_lists.specs.Unbuilt.{IsBuilt, IsBuiltBegun, IsBuiltCue, IsBuiltLast, is_built_channel, is_built_kind, is_built_run}
+use Rattle.cue_lists.specs.Rules.Lane.{is_line21}
+use Rattle.cue_lists.specs.Unbuilt.{AreLine21, IsBuilt, IsBuiltBegun, is_built_kind}
 use Rattle.cue_lists.specs.declared.cue.Cue.{Cue}
 use Rattle.cue_lists.specs.declared.cue.Kind.{Kind}
 use Rattle.cue_lists.specs.declared.cue.Kind.TheVariants as kind
@@ -20,9 +19,9 @@ use Rattle.cue_lists.specs.declared.cue.Run.{Run}
 use Rattle.cue_lists.specs.declared.head.Head.{Head}
 use Rattle.cue_lists.specs.declared.record_kind.RecordKind.{RecordKind}
 use Rattle.cue_lists.specs.declared.record_kind.RecordKind.TheVariants as record_kind
-use Rattle.cue_lists.proofs.Passing.{denied, passed, with_part, with_value}
-use Rattle.cue_lists.proofs.RecordFacts.{head_passed, run_passed, shown_passed}
-use Rattle.cue_lists.proofs.Steps.{IsBegun-next, IsBegun-nothing, IsFormed-ended, next_passed}
+use Rattle.cue_lists.proofs.Passing.{denied, with_part, with_value}
+use Rattle.cue_lists.proofs.RecordFacts.{head_passed, run_passed}
+use Rattle.cue_lists.proofs.Steps.{IsBegun-next, IsBegun-nothing, IsFormed-ended, next_passed, opens_passed}
 use Rattle.cue_lists.proofs.WordFacts.{kind_passed}
 
 -- what one element more adds at the end
@@ -66,28 +65,30 @@ pub record Steps (b more : Begun) (r : Record) : Type 0 where
   pub spelled : begun_records more ≡ begun_records b ++ r ∷ []
   pub built : IsBuiltBegun more
 
-built_channel : (c : Chan) → is_built_channel c ≡ true → c ≡ chan.Cc1
-built_channel chan.Cc1 e = refl
-built_channel chan.Cc2 e = cc
-built_channel chan.Cc3 e = cc
-built_channel chan.Cc4 e = cc
+-- a list of line 21 cues stays one with a line 21 cue more, and with a run more of its last cue
+line21_with_cue : (cues : List Cue) (cue : Cue) → AreLine21 cues → is_line21 cue.kind ≡ true → AreLine21 (cues ++ cue ∷ [])
+line21_with_cue cues cue each line21 = All-push (λ cue. is_line21 cue.kind ≡ true) cues cue each line21
 
--- the first run of a cue
-one_run : (runs : List Run) (run : Run) → no_runs runs ≡ true → is_built_run run ≡ true → (length (runs ++ run ∷ []) ≤ 1) × All (λ run. is_built_run run ≡ true) (runs ++ run ∷ [])
-one_run [] run none built = (omega arith, All-cons (λ run. is_built_run run ≡ true) run [] built (All-nil _))
-one_run (first ∷ runs) run none built = cc
+line21_with_run : (earlier : List Cue) (cue : Cue) (run : Run) → AreLine21 (earlier ++ cue ∷ []) → AreLine21 (earlier ++ cue_with_run cue run ∷ [])
+line21_with_run earlier cue run each =
+    let IsLine21 : Cue → Type 0 = λ cue. is_line21 cue.kind ≡ true in
+    let (others, own) = All-pop IsLine21 (earlier ++ cue ∷ []) earlier (Some cue) refl each in
+    line21_with_cue earlier (cue_with_run cue run) others own
 
-IsBuiltCue-with_run : (cue : Cue) (run : Run) → IsBuiltCue cue → no_runs cue.runs ≡ true → is_built_run run ≡ true → IsBuiltCue (cue_with_run cue run)
-IsBuiltCue-with_run cue run cue_built none built =
-    let (one, each) = one_run cue.runs run none built in
-    record { kind = cue_built.kind; one_run = one; runs = each }
+-- a cue without a run is spelled by its record
+cue_records-opened : (cue : Cue) → cue.runs ≡ [] → cue_records cue ≡ cue_record cue.kind cue ∷ []
+cue_records-opened cue none = rw none refl
 
--- the first cue has none before it
-none_earlier : (earlier : List Cue) (last : Option Cue) → is_none last ≡ true → earlier ≡ [] → earlier ++ option_to_list last ≡ []
-none_earlier earlier None none e = rw e refl
-none_earlier earlier (Some cue) none e = cc
+opens_steps : (b more : Begun) (k : RecordKind) (r : Record) → IsBuiltBegun b → record_kind_of (field r 0) ≡ Some k → opens b k r ≡ Ok more → Steps b more r
+opens_steps b more k r ok is_kind taken =
+    opens_passed _ b more k r taken (λ cue few at same.
+    let fields = at.spelled (kind_passed (field r 0) k is_kind) in
+    rw (← same) (record {
+      spelled = begun_records-with_cue b cue ∙ ap (λ rs. begun_records b ++ rs) (cue_records-opened cue at.runs ∙ ap (λ x. x ∷ []) (sym fields));
+      built = record { shares = ok.shares; cues = line21_with_cue (cues_of b) cue ok.cues at.line21 };
+    }))
 
-adds_steps : (b more : Begun) (k : RecordKind) (r : Record) → IsBegun b → IsBuiltBegun b → record_kind_of (field r 0) ≡ Some k → may_stand b k ≡ true → is_built_kind b k ≡ true → adds b k r ≡ Ok more → Steps b more r
+adds_steps : (b more : Begun) (k : RecordKind) (r : Record) → IsBegun b → IsBuiltBegun b → record_kind_of (field r 0) ≡ Some k → may_stand b k ≡ true → is_built_kind k ≡ true → adds b k r ≡ Ok more → Steps b more r
 adds_steps b more record_kind.Ccsuite r begun ok is_kind may built taken =
     with_part _ (head_of r) (λ error failed. let q = rw failed at taken in cc) (λ head is_head.
     let t1 = rw is_head at taken in
@@ -97,24 +98,11 @@ adds_steps b more record_kind.Ccsuite r begun ok is_kind may built taken =
     let none = nothing_before b b.head may begun.head in
     rw (← same) (record {
       spelled = begun_records-with_head b head none ∙ ap (λ x. begun_records b ++ x ∷ []) (sym fields);
-      built = record { shares = ok.shares; earlier = ok.earlier; last = ok.last };
+      built = record { shares = ok.shares; cues = ok.cues };
     }))
-adds_steps b more record_kind.Pop r begun ok is_kind may built taken =
-    let few = passed (nat_lt (length (cues_of b)) 20000) (λ failed. let q = rw failed at taken in cc) in
-    let t1 = rw few at taken in
-    with_part _ (shown_of r) (λ error failed. let q = rw failed at t1 in cc) (λ shown is_shown.
-    let t2 = rw is_shown at t1 in
-    let same : with_cue b (shown_cue kind.Pop shown) ≡ more = cc in
-    let at = shown_passed r shown is_shown in
-    let fields : r ∷ [] ≡ cue_records (shown_cue kind.Pop shown) = ap (λ x. x ∷ []) (at.fields _ (kind_passed (field r 0) record_kind.Pop is_kind)) in
-    rw (← same) (record {
-      spelled = begun_records-with_cue b (shown_cue kind.Pop shown) ∙ ap (λ x. begun_records b ++ x) (sym fields);
-      built = record {
-        shares = ok.shares;
-        earlier = none_earlier b.earlier b.last built ok.earlier;
-        last = record { kind = ap kind.Pop (built_channel shown.channel at.built); one_run = omega arith; runs = All-nil _ };
-      };
-    }))
+adds_steps b more record_kind.Pop r begun ok is_kind may built taken = opens_steps b more record_kind.Pop r ok is_kind taken
+adds_steps b more record_kind.Paint r begun ok is_kind may built taken = opens_steps b more record_kind.Paint r ok is_kind taken
+adds_steps b more record_kind.Roll r begun ok is_kind may built taken = opens_steps b more record_kind.Roll r ok is_kind taken
 adds_steps b more record_kind.Run r begun ok is_kind may built taken =
     with_value _ b.last (λ none. let q = rw none at taken in cc) (λ cue last.
     let t1 = rw last at taken in
@@ -123,15 +111,11 @@ adds_steps b more record_kind.Run r begun ok is_kind may built taken =
     let same : record b { last = Some (cue_with_run cue run) } ≡ more = cc in
     let at = run_passed cue r run is_run in
     let fields : r ≡ run_record run = at.fields _ (kind_passed (field r 0) record_kind.Run is_kind) in
-    let cue_built : IsBuiltCue cue = rw last at ok.last in
-    let none : no_runs cue.runs ≡ true = rw last at built in
     rw (← same) (record {
       spelled = begun_records-with_run b cue run last ∙ ap (λ x. begun_records b ++ x ∷ []) (sym fields);
-      built = record { shares = ok.shares; earlier = ok.earlier; last = IsBuiltCue-with_run cue run cue_built none at.built };
+      built = record { shares = ok.shares; cues = line21_with_run b.earlier cue run (rw last at ok.cues) };
     })))
 adds_steps b more record_kind.Share r begun ok is_kind may built taken = cc
-adds_steps b more record_kind.Paint r begun ok is_kind may built taken = cc
-adds_steps b more record_kind.Roll r begun ok is_kind may built taken = cc
 adds_steps b more record_kind.Win r begun ok is_kind may built taken = cc
 
 pub next_steps : (b more : Begun) (r : Record) → IsBegun b → IsBuiltBegun b → next b r ≡ Ok more → Steps b more r
@@ -148,19 +132,13 @@ read_more before b more r so_far taken =
     record { begins = (ap (λ rs. rs ++ r ∷ []) so_far.begins.0 ∙ sym step.spelled, IsBegun-next b more r so_far.begins.1 taken); built = step.built }
 
 pub read_nothing : Read [] nothing
-read_nothing = record { begins = (refl, IsBegun-nothing); built = record { shares = refl; earlier = refl; last = tt } }
-
--- all cues of a built list
-built_cues : (earlier : List Cue) (last : Option Cue) → earlier ≡ [] → IsBuiltLast last → (length (earlier ++ option_to_list last) ≤ 1) × All IsBuiltCue (earlier ++ option_to_list last)
-built_cues earlier None none built = rw none (omega arith, All-nil IsBuiltCue)
-built_cues earlier (Some cue) none built = rw none (omega arith, All-cons IsBuiltCue cue [] built (All-nil IsBuiltCue))
+read_nothing = record { begins = (refl, IsBegun-nothing); built = record { shares = refl; cues = All-nil (λ cue. is_line21 cue.kind ≡ true) } }
 
 -- a list that ended well
 ended_spells : (before : List Record) (b : Begun) (head : Head) → Read before b → b.head ≡ Some head → awaits_run b.last ≡ false
     → Spells before (record { rate = head.rate; frames = head.frames; shares = b.shares; cues = cues_of b }) × IsBuilt (record { rate = head.rate; frames = head.frames; shares = b.shares; cues = cues_of b })
 ended_spells before b head so_far headed full =
-    let (one, each) = built_cues b.earlier b.last so_far.built.earlier so_far.built.last in
-    ((so_far.begins.0 ∙ rw headed refl, IsFormed-ended b head so_far.begins.1 headed full), record { shares = so_far.built.shares; one_cue = one; cues = each })
+    ((so_far.begins.0 ∙ rw headed refl, IsFormed-ended b head so_far.begins.1 headed full), record { shares = so_far.built.shares; cues = so_far.built.cues })
 
 pub spelled_from : (before rs : List Record) (b : Begun) (number : ℕ) (l : Listing) → Read before b → read_from b number rs ≡ Ok l → Spells (before ++ rs) l × IsBuilt l
 spelled_from before [] b number l so_far taken =

@@ -7,7 +7,7 @@ use Rattle.cue_lists.specs.Cues.{IsCueFormed, IsOfKind}
 use Rattle.cue_lists.specs.Line21Cues.{IsLine21Run, IsRolled, base_row}
 use Rattle.cue_lists.specs.Listing.{IsFormed}
 use Rattle.cue_lists.specs.Form.{may_stand, record_kind_of, suits_row}
-use Rattle.cue_lists.specs.Reading.{adds, head_of, next, run_of, shown_cue, shown_of}
+use Rattle.cue_lists.specs.Reading.{adds, cue_of, head_of, next, opens, run_of}
 use Rattle.cue_lists.specs.Records.{Record, field}
 use Rattle.cue_lists.specs.Unbuilt.{is_built_kind}
 use Rattle.cue_lists.specs.declared.cue.Cue.{Cue}
@@ -17,9 +17,8 @@ use Rattle.cue_lists.specs.declared.cue.Run.{Run}
 use Rattle.cue_lists.specs.declared.head.Head.{Head}
 use Rattle.cue_lists.specs.declared.record_kind.RecordKind.{RecordKind}
 use Rattle.cue_lists.specs.declared.record_kind.RecordKind.TheVariants as record_kind
-use Rattle.cue_lists.specs.declared.records.Shown.{Shown}
 use Rattle.cue_lists.proofs.Passing.{both_of, not_of, passed, with_part, with_value}
-use Rattle.cue_lists.proofs.RecordFacts.{ShownPassed, head_passed, run_passed, shown_passed}
+use Rattle.cue_lists.proofs.RecordFacts.{CuePassed, cue_passed, head_passed, run_passed}
 
 -- a list without a record
 pub IsBegun-nothing : IsBegun nothing
@@ -110,26 +109,33 @@ IsBegun-with_run b cue run begun last formed suits =
       few = rw length-append (rw length-append at few);
     }
 
--- a cue that is shown at once, still without a run
-pub IsCueBegun-shown : (r : Record) (shown : Shown) → ShownPassed r shown → IsCueBegun (shown_cue kind.Pop shown)
-IsCueBegun-shown r shown at = record { load = at.load; show = at.show; hide = at.hide; kind = (at.channel, refl, All-nil IsLine21Run) }
+-- what a cue's record passed: there is room for its cue
+pub opens_passed : (P : Type 0) (b more : Begun) (k : RecordKind) (r : Record) → opens b k r ≡ Ok more
+    → ((cue : Cue) → nat_lt (length (cues_of b)) 20000 ≡ true → CuePassed k r cue → with_cue b cue ≡ more → P) → P
+opens_passed P b more k r taken rest =
+    let few = passed (nat_lt (length (cues_of b)) 20000) (λ failed. let q = rw failed at taken in cc) in
+    let t1 = rw few at taken in
+    with_part P (cue_of k r) (λ error failed. let q = rw failed at t1 in cc) (λ cue is.
+    let t2 = rw is at t1 in
+    rest cue few (cue_passed k r cue is) cc)
+
+-- a cue more leaves a begun list
+IsBegun-opens : (b more : Begun) (k : RecordKind) (r : Record) → IsBegun b → (is_some b.head && not (awaits_run b.last)) ≡ true → opens b k r ≡ Ok more → IsBegun more
+IsBegun-opens b more k r begun may taken =
+    let (headed, full) = both_of (is_some b.head) (not (awaits_run b.last)) may in
+    opens_passed _ b more k r taken (λ cue few at same. rw (← same) (IsBegun-with_cue b cue begun headed (not_of (awaits_run b.last) full) few at.begun))
 
 -- a record of a kind more leaves a begun list
-IsBegun-adds : (b more : Begun) (k : RecordKind) (r : Record) → IsBegun b → may_stand b k ≡ true → is_built_kind b k ≡ true → adds b k r ≡ Ok more → IsBegun more
+IsBegun-adds : (b more : Begun) (k : RecordKind) (r : Record) → IsBegun b → may_stand b k ≡ true → is_built_kind k ≡ true → adds b k r ≡ Ok more → IsBegun more
 IsBegun-adds b more record_kind.Ccsuite r begun may built taken =
     with_part _ (head_of r) (λ error failed. let q = rw failed at taken in cc) (λ head is_head.
     let t1 = rw is_head at taken in
     let same : record b { head = Some head } ≡ more = cc in
     let at = head_passed r head is_head in
     rw (← same) (record { head = (at.rate, at.some, at.frames); shares = begun.shares; earlier = begun.earlier; last = begun.last; few = begun.few }))
-IsBegun-adds b more record_kind.Pop r begun may built taken =
-    let few = passed (nat_lt (length (cues_of b)) 20000) (λ failed. let q = rw failed at taken in cc) in
-    let t1 = rw few at taken in
-    with_part _ (shown_of r) (λ error failed. let q = rw failed at t1 in cc) (λ shown is_shown.
-    let t2 = rw is_shown at t1 in
-    let same : with_cue b (shown_cue kind.Pop shown) ≡ more = cc in
-    let (headed, full) = both_of (is_some b.head) (not (awaits_run b.last)) may in
-    rw (← same) (IsBegun-with_cue b (shown_cue kind.Pop shown) begun headed (not_of (awaits_run b.last) full) few (IsCueBegun-shown r shown (shown_passed r shown is_shown))))
+IsBegun-adds b more record_kind.Pop r begun may built taken = IsBegun-opens b more record_kind.Pop r begun may taken
+IsBegun-adds b more record_kind.Paint r begun may built taken = IsBegun-opens b more record_kind.Paint r begun may taken
+IsBegun-adds b more record_kind.Roll r begun may built taken = IsBegun-opens b more record_kind.Roll r begun may taken
 IsBegun-adds b more record_kind.Run r begun may built taken =
     with_value _ b.last (λ none. let q = rw none at taken in cc) (λ cue last.
     let t1 = rw last at taken in
@@ -139,19 +145,17 @@ IsBegun-adds b more record_kind.Run r begun may built taken =
     let at = run_passed cue r run is_run in
     rw (← same) (IsBegun-with_run b cue run begun last at.formed at.suits)))
 IsBegun-adds b more record_kind.Share r begun may built taken = cc
-IsBegun-adds b more record_kind.Paint r begun may built taken = cc
-IsBegun-adds b more record_kind.Roll r begun may built taken = cc
 IsBegun-adds b more record_kind.Win r begun may built taken = cc
 
 -- what the next record passed: its kind may stand here and is built
 pub next_passed : (P : Type 0) (b more : Begun) (r : Record) → next b r ≡ Ok more
-    → ((k : RecordKind) → record_kind_of (field r 0) ≡ Some k → may_stand b k ≡ true → is_built_kind b k ≡ true → adds b k r ≡ Ok more → P) → P
+    → ((k : RecordKind) → record_kind_of (field r 0) ≡ Some k → may_stand b k ≡ true → is_built_kind k ≡ true → adds b k r ≡ Ok more → P) → P
 next_passed P b more r taken rest =
     with_value P (record_kind_of (field r 0)) (λ failed. let q = rw failed at taken in cc) (λ k is_kind.
     let t1 = rw is_kind at taken in
     let may = passed (may_stand b k) (λ failed. let q = rw failed at t1 in cc) in
     let t2 = rw may at t1 in
-    let built = passed (is_built_kind b k) (λ failed. let q = rw failed at t2 in cc) in
+    let built = passed (is_built_kind k) (λ failed. let q = rw failed at t2 in cc) in
     rest k is_kind may built (rw built at t2))
 
 -- a record more leaves a begun list

@@ -11,7 +11,6 @@ use Rattle.cue_lists.proofs.Passing.{both_of, passed}
 use Rattle.cue_lists.specs.Form.{is_coded}
 use Rattle.cue_lists.specs.Reading.{text_of}
 use Rattle.cue_lists.specs.Records.{Field}
-use Rattle.cue_lists.specs.Unbuilt.{is_built_character}
 use Rattle.cue_lists.specs.declared.offence.Offence.TheVariants as offence
 
 not_utf8 : (text : Field) → ¬ (IsUtf8 text) → is_utf8 text ≡ false
@@ -26,21 +25,16 @@ some_byte : (text : Field) → (length text == 0) ≡ false → nat_lt 0 (length
 some_byte [] e = cc
 some_byte (c ∷ cs) e = lt-ltb 0 (length (c ∷ cs)) (omega arith)
 
--- a character that isn't built
-pub text_not_built : (col : ℕ) (text : Field) → IsUtf8 text → (length text == 0) ≡ false → list_all is_built_character (chars text) ≡ false
-    → text_of col text ≡ Err (offence.At 5 why.NotBuilt)
-text_not_built col text utf8 some built = rw (is_utf8-from_IsUtf8 text utf8, some_byte text some, built) refl
-
 -- a character without a code
-pub text_not_coded : (col : ℕ) (text : Field) → IsUtf8 text → (length text == 0) ≡ false → list_all is_built_character (chars text) ≡ true
-    → list_all is_coded (chars text) ≡ false → text_of col text ≡ Err (offence.At 5 why.NoCode)
-text_not_coded col text utf8 some built coded = rw (is_utf8-from_IsUtf8 text utf8, some_byte text some, built, coded) refl
+pub text_not_coded : (col : ℕ) (text : Field) → IsUtf8 text → (length text == 0) ≡ false → list_all is_coded (chars text) ≡ false
+    → text_of col text ≡ Err (offence.At 5 why.NoCode)
+text_not_coded col text utf8 some coded = rw (is_utf8-from_IsUtf8 text utf8, some_byte text some, coded) refl
 
 -- a good text
-pub text_good : (col : ℕ) (text : Field) → IsUtf8 text → (length text == 0) ≡ false → list_all is_built_character (chars text) ≡ true
-    → list_all is_coded (chars text) ≡ true → col + length (chars text) ≤ 32 → text_of col text ≡ Ok (chars text)
-text_good col text utf8 some built coded fits =
-    rw (is_utf8-from_IsUtf8 text utf8, some_byte text some, built, coded, le-leb (col + length (chars text)) 32 fits) refl
+pub text_good : (col : ℕ) (text : Field) → IsUtf8 text → (length text == 0) ≡ false → list_all is_coded (chars text) ≡ true
+    → col + length (chars text) ≤ 32 → text_of col text ≡ Ok (chars text)
+text_good col text utf8 some coded fits =
+    rw (is_utf8-from_IsUtf8 text utf8, some_byte text some, coded, le-leb (col + length (chars text)) 32 fits) refl
 
 -- each passes a test
 pub all_pass : {X : Type 0} (P : X → Type 0) (test : X → Bool) → ((x : X) → test x ≡ true → P x) → (xs : List X) → list_all test xs ≡ true → All P xs
@@ -55,7 +49,6 @@ coded_character ch e = e
 pub record TextPassed (col : ℕ) (bytes : Field) (text : List ℕ) : Type 0 where
   pub some : 1 ≤ length text
   pub fits : col + length text ≤ 32
-  pub built : list_all is_built_character text ≡ true
   pub coded : All (λ ch. IsSome (spelling_of ch)) text
   pub spelled : bytes ≡ encode_utf8_all text
 
@@ -68,19 +61,16 @@ pub text_passed : (col : ℕ) (bytes : Field) (text : List ℕ) → text_of col 
 text_passed col bytes text e =
     let written = passed (is_utf8 bytes && nat_lt 0 (length bytes)) (λ failed. let q = rw failed at e in cc) in
     let e1 = rw written at e in
-    let built = passed (list_all is_built_character (chars bytes)) (λ failed. let q = rw failed at e1 in cc) in
-    let e2 = rw built at e1 in
-    let coded = passed (list_all is_coded (chars bytes)) (λ failed. let q = rw failed at e2 in cc) in
-    let e3 = rw coded at e2 in
-    let fits = passed (nat_le (col + length (chars bytes)) 32) (λ failed. let q = rw failed at e3 in cc) in
-    let e4 = rw fits at e3 in
+    let coded = passed (list_all is_coded (chars bytes)) (λ failed. let q = rw failed at e1 in cc) in
+    let e2 = rw coded at e1 in
+    let fits = passed (nat_le (col + length (chars bytes)) 32) (λ failed. let q = rw failed at e2 in cc) in
+    let e3 = rw fits at e2 in
     let same : chars bytes ≡ text = cc in
     let (utf8, some) = both_of (is_utf8 bytes) (nat_lt 0 (length bytes)) written in
     let spelled = encodes-chars bytes (IsUtf8-from_is_utf8 bytes utf8) in
     rw (← same) (record {
       some = some_character bytes (chars bytes) spelled (ltb-true 0 (length bytes) some);
       fits = leb-true (col + length (chars bytes)) 32 fits;
-      built = built;
       coded = all_pass (λ ch. IsSome (spelling_of ch)) is_coded coded_character (chars bytes) coded;
       spelled = sym spelled;
     })

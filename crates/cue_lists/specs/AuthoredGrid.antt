@@ -1,7 +1,7 @@
 -- What a line 21 channel is to show at a frame, by the LOAD, SHOW and HIDE of its cues and the rows and columns of their
 -- runs alone (caption area, pop-on, paint-on and roll-up captions: CTA-608-E; 47 CFR 79.101). No byte and no receiver
 -- stands in it.
-use Rattle.std.specs.Prelude.{◌≡◌, ℕ, ◌+◌, ◌-◌, ◌≤◌, ◌<◌, ◌&&◌, nat_le, nat_lt, Bool, true, false, if◌then◌else◌, List, [], ◌∷◌, reverse, slice_get, slice_index_or, All, Option, Some, None}
+use Rattle.std.specs.Prelude.{◌≡◌, ℕ, ◌+◌, ◌-◌, ◌≤◌, ◌&&◌, nat_le, nat_lt, Bool, false, if◌then◌else◌, List, [], ◌∷◌, reverse, slice_get, slice_index_or, All, Option, Some, None}
 use Rattle.std.specs.List.{filter}
 use Rattle.line21_codes.specs.declared.channels.Chan.{Chan}
 use Rattle.line21_codes.specs.declared.styles.Cell.{Cell}

@@ -13,7 +13,7 @@ use Rattle.cue_lists.specs.Form.{count_place, frame_or_none_of, is_coded, may_st
 use Rattle.cue_lists.specs.Reading.{in_record}
 use Rattle.cue_lists.specs.Records.{Record, field}
 use Rattle.cue_lists.specs.Spelling.{Begins}
-use Rattle.cue_lists.specs.Unbuilt.{IsBuiltBegun, is_built_channel, is_built_character, is_built_kind, is_built_pen}
+use Rattle.cue_lists.specs.Unbuilt.{IsBuiltBegun, is_built_kind}
 use Rattle.cue_lists.specs.declared.cue.Cue.{Cue}
 use Rattle.cue_lists.specs.declared.fault.CueFault.{CueFault}
 use Rattle.cue_lists.specs.declared.fault.CueFault.TheVariants as malformed
@@ -70,7 +70,6 @@ abbrev pub shown_judgements : Record → List Judgement
 shown_judgements r =
     count_judgement r 5
     ∷ judge (is_some (channel_of (field r 1))) 2 why.Field
-    ∷ judge (passes is_built_channel (channel_of (field r 1))) 2 why.NotBuilt
     ∷ judge (is_some (frame_of (field r 2))) 3 why.Field
     ∷ judge (is_some (frame_of (field r 3))) 4 why.Field
     ∷ judge (is_some (frame_of (field r 4))) 5 why.Field
@@ -81,7 +80,6 @@ abbrev pub rolled_judgements : Record → List Judgement
 rolled_judgements r =
     count_judgement r 6
     ∷ judge (is_some (channel_of (field r 1))) 2 why.Field
-    ∷ judge (passes is_built_channel (channel_of (field r 1))) 2 why.NotBuilt
     ∷ judge (is_some (number_within 2 4 (field r 2))) 3 why.Field
     ∷ judge (is_some (frame_of (field r 3))) 4 why.Field
     ∷ judge (is_some (frame_of (field r 4))) 5 why.Field
@@ -97,9 +95,7 @@ run_judgements (Some cue) r =
     ∷ judge (passes (suits_row cue.kind cue.runs) (number_within 1 15 (field r 1))) 2 why.Field
     ∷ judge (is_some (number_within 0 31 (field r 2))) 3 why.Field
     ∷ judge (is_some (pen_of (field r 3))) 4 why.Field
-    ∷ judge (passes is_built_pen (pen_of (field r 3))) 4 why.NotBuilt
     ∷ judge (is_utf8 (field r 4) && nat_lt 0 (length (field r 4))) 5 why.Field
-    ∷ judge (list_all is_built_character (chars (field r 4))) 5 why.NotBuilt
     ∷ judge (list_all is_coded (chars (field r 4))) 5 why.NoCode
     ∷ judge (passes (λ col. nat_le (col + length (chars (field r 4))) 32) (number_within 0 31 (field r 2))) 5 why.Field
     ∷ []
@@ -122,7 +118,7 @@ field_judgements b record_kind.Run r = run_judgements b.last r
 abbrev pub judgements_by_kind : Begun → Option RecordKind → Record → List Judgement
 judgements_by_kind b None r = judge false 1 why.Field ∷ []
 judgements_by_kind b (Some kind) r =
-    judge (may_stand b kind) 1 why.Field ∷ judge (is_built_kind b kind) 1 why.NotBuilt ∷ field_judgements b kind r
+    judge (may_stand b kind) 1 why.Field ∷ judge (is_built_kind kind) 1 why.NotBuilt ∷ field_judgements b kind r
 
 abbrev pub judgements : Begun → Record → List Judgement
 judgements b r = judgements_by_kind b (record_kind_of (field r 0)) r

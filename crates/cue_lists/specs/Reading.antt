@@ -11,7 +11,7 @@ use Rattle.cue_lists.specs.Fields.{number_of, number_within, frame_of, rate_of, 
 use Rattle.cue_lists.specs.Form.{count_place, frame_or_none_of, is_coded, may_stand, record_kind_of, suits_row}
 use Rattle.cue_lists.specs.Listing.{Listing}
 use Rattle.cue_lists.specs.Records.{Field, Record, field, records_of}
-use Rattle.cue_lists.specs.Unbuilt.{is_built_kind, is_built_channel, is_built_pen, is_built_character}
+use Rattle.cue_lists.specs.Unbuilt.{is_built_kind}
 use Rattle.cue_lists.specs.declared.cue.Cue.{Cue}
 use Rattle.cue_lists.specs.declared.cue.Kind.{Kind}
 use Rattle.cue_lists.specs.declared.cue.Kind.TheVariants as kind
@@ -67,11 +67,10 @@ share_record_of shares r =
 abbrev pub shown_of : Record → Result Shown Offence
 shown_of r =
     counted r 5 (reads (channel_of (field r 1)) 2 (λ channel.
-    must (is_built_channel channel) 2 why.NotBuilt
-    (reads (frame_of (field r 2)) 3 (λ load.
+    reads (frame_of (field r 2)) 3 (λ load.
     reads (frame_of (field r 3)) 4 (λ show.
     reads (frame_of (field r 4)) 5 (λ hide.
-    Ok (record { channel = channel; load = load; show = show; hide = hide })))))))
+    Ok (record { channel = channel; load = load; show = show; hide = hide }))))))
 
 -- its cue, which has no run yet
 abbrev pub shown_cue : (Chan → Kind) → Shown → Cue
@@ -81,21 +80,19 @@ shown_cue kind shown = record { load = shown.load; show = shown.show; hide = Som
 abbrev pub rolled_cue_of : Record → Result Cue Offence
 rolled_cue_of r =
     counted r 6 (reads (channel_of (field r 1)) 2 (λ channel.
-    must (is_built_channel channel) 2 why.NotBuilt
-    (reads (number_within 2 4 (field r 2)) 3 (λ rows.
+    reads (number_within 2 4 (field r 2)) 3 (λ rows.
     reads (frame_of (field r 3)) 4 (λ load.
     reads (frame_of (field r 4)) 5 (λ show.
     reads (frame_or_none_of (field r 5)) 6 (λ hide.
-    Ok (record { load = load; show = show; hide = hide; kind = kind.Roll channel rows; runs = [] }))))))))
+    Ok (record { load = load; show = show; hide = hide; kind = kind.Roll channel rows; runs = [] })))))))
 
 -- a text that begins at a column of line 21
 abbrev pub text_of : ℕ → Field → Result (List ℕ) Offence
 text_of col text =
     must (is_utf8 text && nat_lt 0 (length text)) 5 why.Field
-    (must (list_all is_built_character (chars text)) 5 why.NotBuilt
     (must (list_all is_coded (chars text)) 5 why.NoCode
     (must (nat_le (col + length (chars text)) 32) 5 why.Field
-    (Ok (chars text)))))
+    (Ok (chars text))))
 
 -- run,ROW,COL,PEN,TEXT of a line 21 cue
 abbrev pub run_of : Cue → Record → Result Run Offence
@@ -104,9 +101,8 @@ run_of cue r =
     must (suits_row cue.kind cue.runs row) 2 why.Field
     (reads (number_within 0 31 (field r 2)) 3 (λ col.
     reads (pen_of (field r 3)) 4 (λ style.
-    must (is_built_pen style) 4 why.NotBuilt
-    (on_ok (text_of col (field r 4)) (λ text.
-    Ok (record { row = row; col = col; pen = pen.Line21 style; text = text }))))))))
+    on_ok (text_of col (field r 4)) (λ text.
+    Ok (record { row = row; col = col; pen = pen.Line21 style; text = text })))))))
 
 -- the cue of a record of its kind
 abbrev pub cue_of : RecordKind → Record → Result Cue Offence
@@ -139,7 +135,7 @@ abbrev pub next : Begun → Record → Result Begun Offence
 next b r =
     reads (record_kind_of (field r 0)) 1 (λ kind.
     must (may_stand b kind) 1 why.Field
-    (must (is_built_kind b kind) 1 why.NotBuilt
+    (must (is_built_kind kind) 1 why.NotBuilt
     (adds b kind r)))
 
 -- the fault of the record of this number

@@ -61,7 +61,7 @@ impl Draft {
         if !self.may_stand(kind) {
             return Err(out_of_form(1));
         }
-        if !self.is_built_kind(kind) {
+        if !kind.is_built() {
             return Err(not_built(1));
         }
         self.add(alloc, kind, row)
@@ -112,21 +112,9 @@ impl Draft {
         }
     }
 
-    /// Whether this version authors a record of a kind here.
-    fn is_built_kind(&self, kind: RecordKind) -> bool
-        ensures { result ≡ is_built_kind self.now kind }
-    {
-        match kind {
-            RecordKind::Ccsuite => true,
-            RecordKind::Pop => self.last.is_none(),
-            RecordKind::Run => self.awaits_run(),
-            _ => false,
-        }
-    }
-
-    /// Adds what a record of a kind that may stand here spells.
+    /// Adds what a record of a kind that this version reads, and that may stand here, spells.
     fn add(&mut self, alloc: Global, kind: RecordKind, row: &ByteRecord) -> Result<(), Offence>
-        requires { is_built_kind self.old kind ≡ true }
+        requires { is_built_kind kind ≡ true }
         ensures { Takes (adds self.old kind (fields_of row.now)) result self.new }
     {
         match kind {

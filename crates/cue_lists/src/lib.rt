@@ -26,4 +26,3 @@ mod runs;
 mod tests;
 mod text;
 mod texts;
-mod unbuilt;

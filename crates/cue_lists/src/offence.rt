@@ -39,7 +39,7 @@ pub fn out_of_form(field: u32) -> Offence
     }
 }
 
-/// The offence of a field that this version can't author yet.
+/// The offence of a field that this version doesn't read yet.
 pub fn not_built(field: u32) -> Offence
     ensures { result ≡ Offence.At field Why.NotBuilt }
 {

@@ -1,5 +1,6 @@
 ghost use Rattle.std.specs.Prelude.{◌≡◌};
 ghost use Rattle.cue_lists.specs.Form.{record_kind_of};
+ghost use Rattle.cue_lists.specs.Unbuilt.{is_built_kind};
 
 use crate::fields::is_word;
 
@@ -37,5 +38,12 @@ impl RecordKind {
         } else {
             None
         }
+    }
+
+    /// Whether this version reads records of the kind.
+    pub fn is_built(self) -> bool
+        ensures { result ≡ is_built_kind self }
+    {
+        !matches!(self, RecordKind::Share | RecordKind::Win)
     }
 }

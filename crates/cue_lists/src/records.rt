@@ -9,10 +9,9 @@ use crate::fields::{
     field, is_word, read_channel, read_frame, read_number, read_pen, read_rate, read_within,
 };
 use crate::head::Head;
-use crate::offence::{Offence, not_built, out_of_form};
+use crate::offence::{Offence, out_of_form};
 use crate::runs::Runs;
 use crate::texts::read_text;
-use crate::unbuilt::{is_built_channel, is_built_pen};
 use cc_base::LimitOf;
 use csv::ByteRecord;
 use line21_codes::Chan;
@@ -79,9 +78,6 @@ pub fn read_shown(row: &ByteRecord) -> Result<Shown, Offence>
     let Some(channel) = read_channel(field(row, 1)) else {
         return Err(out_of_form(2));
     };
-    if !is_built_channel(channel) {
-        return Err(not_built(2));
-    }
     let Some(load) = read_frame(field(row, 2)) else {
         return Err(out_of_form(3));
     };
@@ -109,9 +105,6 @@ pub fn read_rolled(alloc: Global, row: &ByteRecord) -> Result<Cue, Offence>
     let Some(channel) = read_channel(field(row, 1)) else {
         return Err(out_of_form(2));
     };
-    if !is_built_channel(channel) {
-        return Err(not_built(2));
-    }
     let Some(rows) = read_within(2, 4, field(row, 2)) else {
         return Err(out_of_form(3));
     };
@@ -165,9 +158,6 @@ pub fn read_run(alloc: Global, cue: &Cue, row: &ByteRecord) -> Result<Run, Offen
     let Some(style) = read_pen(field(row, 3)) else {
         return Err(out_of_form(4));
     };
-    if !is_built_pen(style) {
-        return Err(not_built(4));
-    }
     let text = match read_text(alloc, col as u8, field(row, 4)) {
         Ok(text) => text,
         Err(offence) => return Err(offence),

@@ -7,8 +7,11 @@ use std::alloc::Global;
 use std::process::Abort;
 use std::test::Fail;
 
+mod every_cue;
+mod many_cues;
+
 // The list has this fault.
-fn malformed(rt: &impl Abort, alloc: Global, text: &[u8], rec: u32, field: u32, why: Why) {
+pub fn malformed(rt: &impl Abort, alloc: Global, text: &[u8], rec: u32, field: u32, why: Why) {
     assert!(rt; text.len() <= 1000);
     match parse(alloc, text) {
         Err(
@@ -707,7 +710,7 @@ fn a_text_is_utf_8_with_a_character_and_fits(rt: HostRuntime) {
 }
 
 #[test]
-fn other_kinds_of_records_are_not_built(rt: HostRuntime) {
+fn records_of_services_are_not_built(rt: HostRuntime) {
     malformed(
         &rt,
         rt.alloc(),
@@ -727,15 +730,7 @@ fn other_kinds_of_records_are_not_built(rt: HostRuntime) {
     malformed(
         &rt,
         rt.alloc(),
-        b"ccsuite,1,29.97,300\npaint,CC1,10,60,120\n",
-        2,
-        1,
-        Why::NotBuilt,
-    );
-    malformed(
-        &rt,
-        rt.alloc(),
-        b"ccsuite,1,29.97,300\nroll,CC1,2,10,60,\n",
+        b"ccsuite,1,29.97,300\nshare,9,x,y\n",
         2,
         1,
         Why::NotBuilt,
@@ -751,31 +746,15 @@ fn other_kinds_of_records_are_not_built(rt: HostRuntime) {
     malformed(
         &rt,
         rt.alloc(),
-        b"ccsuite,1,29.97,300\npop,CC1,10,60,120\nrun,15,4,white,HELLO\npop,CC1,10,60,120\n",
-        4,
+        b"ccsuite,1,29.97,300\nwin,1,0,0,60,200,10,0,60,50,1,10,0,1,1\n",
+        2,
         1,
         Why::NotBuilt,
     );
     malformed(
         &rt,
         rt.alloc(),
-        b"ccsuite,1,29.97,300\npop,CC1,10,60,120\nrun,15,4,white,HELLO\nrun,15,4,white,HELLO\n",
-        4,
-        1,
-        Why::NotBuilt,
-    );
-    malformed(
-        &rt,
-        rt.alloc(),
-        b"ccsuite,1,29.97,300\npop,CC1,10,60,120\nrun,15,4,white,HELLO\npaint\n",
-        4,
-        1,
-        Why::NotBuilt,
-    );
-    malformed(
-        &rt,
-        rt.alloc(),
-        b"ccsuite,1,29.97,300\npop,CC1,10,60,120\nrun,15,4,white,HELLO\nrun\n",
+        b"ccsuite,1,29.97,300\npop,CC1,10,60,120\nrun,15,4,white,HELLO\nwin\n",
         4,
         1,
         Why::NotBuilt,
@@ -799,106 +778,30 @@ fn other_kinds_of_records_are_not_built(rt: HostRuntime) {
 }
 
 #[test]
-fn other_channels_and_pens_are_not_built(rt: HostRuntime) {
-    malformed(
-        &rt,
-        rt.alloc(),
-        b"ccsuite,1,29.97,300\npop,CC3,10,60,120\n",
-        2,
-        2,
-        Why::NotBuilt,
-    );
-    malformed(
-        &rt,
-        rt.alloc(),
-        b"ccsuite,1,29.97,300\npop,CC3,x,y,z\n",
-        2,
-        2,
-        Why::NotBuilt,
-    );
-    malformed(
-        &rt,
-        rt.alloc(),
-        b"ccsuite,1,29.97,300\npop,CC1,10,60,120\nrun,15,4,green,A\n",
-        3,
-        4,
-        Why::NotBuilt,
-    );
-    malformed(
-        &rt,
-        rt.alloc(),
-        b"ccsuite,1,29.97,300\npop,CC1,10,60,120\nrun,15,4,white-i,A\n",
-        3,
-        4,
-        Why::NotBuilt,
-    );
-    malformed(
-        &rt,
-        rt.alloc(),
-        b"ccsuite,1,29.97,300\npop,CC1,10,60,120\nrun,15,4,white-u,A\n",
-        3,
-        4,
-        Why::NotBuilt,
-    );
-    malformed(
-        &rt,
-        rt.alloc(),
-        b"ccsuite,1,29.97,300\npop,CC1,10,60,120\nrun,15,4,white-i-u,A\n",
-        3,
-        4,
-        Why::NotBuilt,
-    );
-    malformed(
-        &rt,
-        rt.alloc(),
-        b"ccsuite,1,29.97,300\npop,CC1,10,60,120\nrun,15,4,magenta-u,\n",
-        3,
-        4,
-        Why::NotBuilt,
-    );
-    malformed(
-        &rt,
-        rt.alloc(),
-        b"ccsuite,1,29.97,300\npop,CC1,10,60,120\nrun,15,32,red,A\n",
-        3,
-        3,
-        Why::Field,
-    );
-}
-
-#[test]
-fn other_characters_are_not_built(rt: HostRuntime) {
-    malformed(
-        &rt,
-        rt.alloc(),
-        b"ccsuite,1,29.97,300\npop,CC1,10,60,120\nrun,15,4,white,\xC2\xAE\n",
-        3,
-        5,
-        Why::NotBuilt,
-    );
-    malformed(
-        &rt,
-        rt.alloc(),
-        b"ccsuite,1,29.97,300\npop,CC1,10,60,120\nrun,15,4,white,A*\n",
-        3,
-        5,
-        Why::NotBuilt,
-    );
-    malformed(
-        &rt,
-        rt.alloc(),
-        b"ccsuite,1,29.97,300\npop,CC1,10,60,120\nrun,15,4,white,\xC3\x81\n",
-        3,
-        5,
-        Why::NotBuilt,
-    );
+fn a_character_without_a_code_is_refused(rt: HostRuntime) {
     malformed(
         &rt,
         rt.alloc(),
         b"ccsuite,1,29.97,300\npop,CC1,10,60,120\nrun,15,4,white,\xE4\xB8\xAD\n",
         3,
         5,
-        Why::NotBuilt,
+        Why::NoCode,
+    );
+    malformed(
+        &rt,
+        rt.alloc(),
+        b"ccsuite,1,29.97,300\npop,CC1,10,60,120\nrun,15,4,white,A\xE2\x80\x99\n",
+        3,
+        5,
+        Why::NoCode,
+    );
+    malformed(
+        &rt,
+        rt.alloc(),
+        b"ccsuite,1,29.97,300\npop,CC1,10,60,120\nrun,15,4,white,`\n",
+        3,
+        5,
+        Why::NoCode,
     );
     malformed(
         &rt,
@@ -906,7 +809,7 @@ fn other_characters_are_not_built(rt: HostRuntime) {
         b"ccsuite,1,29.97,300\npop,CC1,10,60,120\nrun,15,4,white,\x01\n",
         3,
         5,
-        Why::NotBuilt,
+        Why::NoCode,
     );
     malformed(
         &rt,
@@ -914,7 +817,15 @@ fn other_characters_are_not_built(rt: HostRuntime) {
         b"ccsuite,1,29.97,300\npop,CC1,10,60,120\nrun,15,4,white,\"A\nB\"\n",
         3,
         5,
-        Why::NotBuilt,
+        Why::NoCode,
+    );
+    malformed(
+        &rt,
+        rt.alloc(),
+        b"ccsuite,1,29.97,300\npop,CC1,10,60,120\nrun,15,31,white,\xE4\xB8\xAD\xE4\xB8\xAD\n",
+        3,
+        5,
+        Why::NoCode,
     );
     malformed(
         &rt,
@@ -922,12 +833,12 @@ fn other_characters_are_not_built(rt: HostRuntime) {
         b"ccsuite,1,29.97,300\npop,CC1,10,60,120\nrun,15,31,white,**\n",
         3,
         5,
-        Why::NotBuilt,
+        Why::Field,
     );
     malformed(
         &rt,
         rt.alloc(),
-        b"ccsuite,1,29.97,300\npop,CC1,10,60,120\nrun,15,4,white,*\xFF\n",
+        b"ccsuite,1,29.97,300\npop,CC1,10,60,120\nrun,15,4,white,\xE4\xB8\xAD\xFF\n",
         3,
         5,
         Why::Field,

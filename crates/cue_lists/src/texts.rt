@@ -3,11 +3,9 @@ ghost use Rattle.std.specs.List.{list_all};
 ghost use Rattle.cue_lists.specs.Answers.{Gives};
 ghost use Rattle.cue_lists.specs.Form.{is_coded};
 ghost use Rattle.cue_lists.specs.Reading.{text_of};
-ghost use Rattle.cue_lists.specs.Unbuilt.{is_built_character};
 
-use crate::offence::{Offence, not_built, out_of_form};
+use crate::offence::{Offence, out_of_form};
 use crate::text::Text;
-use crate::unbuilt::is_built_character;
 use cc_base::Why;
 use line21_codes::spell;
 use std::alloc::Global;
@@ -24,9 +22,6 @@ pub fn read_text(alloc: Global, col: u8, text: &[u8]) -> Result<Text, Offence>
     if text.is_empty() {
         return Err(out_of_form(5));
     }
-    if !are_built(text) {
-        return Err(not_built(5));
-    }
     if !are_coded(text) {
         return Err(Offence::At {
             field: 5,
@@ -40,13 +35,6 @@ pub fn read_text(alloc: Global, col: u8, text: &[u8]) -> Result<Text, Offence>
         Ok(chars) => Ok(Text::from_vec(chars)),
         Err(error) => Err(Offence::Memory(error)),
     }
-}
-
-/// Whether this version authors each character.
-fn are_built(text: &str) -> bool
-    ensures { result ≡ list_all is_built_character (chars text.now) }
-{
-    text.chars().all(|ch| is_built_character(ch))
 }
 
 /// Whether line 21 has a code for each character.

@@ -3,6 +3,9 @@ ghost use Rattle.std.specs.Prelude.{◌≡◌, ◌+◌, ◌≤◌, ℕ, IfSome, 
 use crate::lane::plan::Plan as LanePlan;
 use line21_codes::Pair;
 
+#[cfg(test)]
+mod tests;
+
 /// The pairs of one frame: that of field 1 and that of field 2.
 #[derive(Clone, Copy, Debug, PartialEq, Eq)]
 pub struct FramePairs {

@@ -1,5 +1,5 @@
 -- What begins on a channel of a placed list: captions in data channel 1, each control pair doubled.
-use Rattle.std.proofs.Common.{◌≡◌, ℕ, suc, Bool, true, false, eqb, List, [], ◌∷◌, ◌++◌, map, Option, Some, None, All, refl, sym, ◌∙◌, subst, ⊎_elim}
+use Rattle.std.proofs.Common.{◌≡◌, ℕ, suc, Bool, true, false, eqb, List, [], ◌∷◌, ◌++◌, map, Option, Some, None, All, zero, ◌<◌, refl, sym, ◌∙◌, subst, arith, ⊎_elim}
 use Rattle.std.specs.Prelude.{if◌then◌else◌}
 use Rattle.std.specs.List.{flat_map}
 use Rattle.std.proofs.lemmas.List.Elements.{All-append, All-cons, All-head, All-nil, All-tail}
@@ -11,7 +11,7 @@ use Rattle.line21_codes.specs.declared.pairs.Pair.{Pair}
 use Rattle.line21_codes.specs.Reading.{code_of}
 use Rattle.line21_codes.specs.Writable.{IsWritable, IsWritableControl}
 use Rattle.line21_codes.specs.Writing.{written}
-use Rattle.line21_codes.proofs.CodeLemmas.{written-code_of}
+use Rattle.line21_codes.proofs.CodeLemmas.{written-a, written-b, written-code_of}
 use Rattle.cue_lists.specs.Cues.{IsCueFormed}
 use Rattle.cue_lists.specs.Listing.{IsFormed, Listing}
 use Rattle.cue_lists.specs.Rules.{IsRuled}
@@ -29,24 +29,17 @@ use Rattle.line21_author.specs.declared.event.Event.{Event}
 use Rattle.line21_author.specs.declared.unit.Unit.{Unit}
 use Rattle.line21_author.proofs.CueCodesLemmas.{cue_codes_writable}
 use Rattle.frame_scheduler.specs.declared.lane.piece.Piece.{Piece}
-use Rattle.frame_scheduler.specs.ChannelLane.{IsChannelPlaced, channel_pieces, cue_pieces, pieces_from}
+use Rattle.frame_scheduler.specs.ChannelLane.{IsChannelPlaced, channel_pieces, channel_slot, cue_pieces, pieces_from}
 use Rattle.frame_scheduler.specs.LaneEvents.{event_at}
 use Rattle.frame_scheduler.specs.LaneTimeline.{lane_timeline, stands}
+use Rattle.frame_scheduler.specs.Timeline.{Timeline, null_pair, repeat_at, repeat_of, slot}
 use Rattle.frame_scheduler.proofs.DoublingLemmas.{at_event, at_unit, lane_marked, lane_spaced, over_cases}
 use Rattle.frame_scheduler.proofs.EventsApartLemmas.{events_apart}
 use Rattle.frame_scheduler.proofs.ListDoublingLemmas.{channel_controls}
 use Rattle.line21_shown.specs.Reading.{IsCaptioned, IsForFirst}
 use Rattle.line21_shown.proofs.BlindLemmas.{AreWriting, IsWriting, runs_writing, text, special_is, extended_is, preamble, tab, mid_row}
 
--- the pair is read as a code for data channel 1
-abbrev IsFirstPair : Pair → Type 0
-IsFirstPair pair = IsForFirst (code_of pair)
-
--- a code that is for it is written so
-written_first : (second_field : Bool) (code : Code) → IsWritable code → IsForFirst code → IsFirstPair (written second_field code)
-written_first second_field code writable first = subst IsForFirst (sym (written-code_of second_field code writable)) first
-
--- the codes of runs are
+-- the codes of runs are for data channel 1
 writing_first : (code : Code) → IsWriting code → IsForFirst code
 writing_first code (text first second) = tt
 writing_first code (special_is byte) = refl
@@ -75,83 +68,132 @@ cue_codes_first cue =
     All-append IsForFirst (opening_codes cue.kind) (flat_map run_codes cue.runs) (opening_first cue.kind)
     (all_writing_first (flat_map run_codes cue.runs) (runs_writing cue.runs))
 
--- so are the pairs of the units of a cue
-codes_first : (second_field : Bool) (number : ℕ) (cue : Cue) (codes : List Code) → All IsWritable codes → All IsForFirst codes
-    → All (λ (piece : Piece). IsFirstPair piece.unit.pair) (map (λ (unit : Unit). record { unit = unit; load = cue.load; until = cue.show; cue = number }) (map (unit_of second_field) codes))
-codes_first second_field number cue [] writable first = All-nil (λ (piece : Piece). IsFirstPair piece.unit.pair)
-codes_first second_field number cue (code ∷ codes) writable first =
-    All-cons (λ (piece : Piece). IsFirstPair piece.unit.pair) _ _
-    (written_first second_field code (All-head IsWritable code codes writable) (All-head IsForFirst code codes first))
-    (codes_first second_field number cue codes (All-tail IsWritable code codes writable) (All-tail IsForFirst code codes first))
+-- what holds of each pair that a code of data channel 1 is written as holds of all that begins on a channel
+module _ (P : Pair → Type 0) (written_is : (second_field : Bool) (code : Code) → IsWritable code → IsForFirst code → P (written second_field code)) where
+  abbrev OfPiece : Piece → Type 0
+  OfPiece piece = P piece.unit.pair
 
-pieces_first : (channel : Chan) (number : ℕ) (cues : List Cue) → All IsCueFormed cues
-    → All (λ (piece : Piece). IsFirstPair piece.unit.pair) (pieces_from channel number cues)
-pieces_first channel number [] formed = All-nil (λ (piece : Piece). IsFirstPair piece.unit.pair)
-pieces_first channel number (cue ∷ cues) formed = by_test (is_on channel cue.kind) (pieces_first channel (suc number) cues (All-tail IsCueFormed cue cues formed))
-  where
-    own : All (λ (piece : Piece). IsFirstPair piece.unit.pair) (cue_pieces number cue)
-    own = codes_first (is_for_second_field cue.kind) number cue (cue_codes cue) (cue_codes_writable cue (All-head IsCueFormed cue cues formed)) (cue_codes_first cue)
+  abbrev OfEvent : Event → Type 0
+  OfEvent event = P event.pair
 
-    by_test : (b : Bool) → All (λ (piece : Piece). IsFirstPair piece.unit.pair) (pieces_from channel (suc number) cues)
-        → All (λ (piece : Piece). IsFirstPair piece.unit.pair) ((if b then cue_pieces number cue else []) ++ pieces_from channel (suc number) cues)
-    by_test true rest = All-append (λ (piece : Piece). IsFirstPair piece.unit.pair) (cue_pieces number cue) (pieces_from channel (suc number) cues) own rest
-    by_test false rest = rest
+  -- the units of a cue
+  codes_all : (second_field : Bool) (number : ℕ) (cue : Cue) (codes : List Code) → All IsWritable codes → All IsForFirst codes
+      → All OfPiece (map (λ (unit : Unit). record { unit = unit; load = cue.load; until = cue.show; cue = number }) (map (unit_of second_field) codes))
+  codes_all second_field number cue [] writable first = All-nil OfPiece
+  codes_all second_field number cue (code ∷ codes) writable first =
+      All-cons OfPiece (record { unit = unit_of second_field code; load = cue.load; until = cue.show; cue = number }) (map (λ (unit : Unit). record { unit = unit; load = cue.load; until = cue.show; cue = number }) (map (unit_of second_field) codes))
+      (written_is second_field code (All-head IsWritable code codes writable) (All-head IsForFirst code codes first))
+      (codes_all second_field number cue codes (All-tail IsWritable code codes writable) (All-tail IsForFirst code codes first))
 
--- so are the pairs of events
-abbrev IsFirstEvent : Event → Type 0
-IsFirstEvent event = IsFirstPair event.pair
+  pieces_all : (channel : Chan) (number : ℕ) (cues : List Cue) → All IsCueFormed cues → All OfPiece (pieces_from channel number cues)
+  pieces_all channel number [] formed = All-nil OfPiece
+  pieces_all channel number (cue ∷ cues) formed = by_test (is_on channel cue.kind) (pieces_all channel (suc number) cues (All-tail IsCueFormed cue cues formed))
+    where
+      own : All OfPiece (cue_pieces number cue)
+      own = codes_all (is_for_second_field cue.kind) number cue (cue_codes cue) (cue_codes_writable cue (All-head IsCueFormed cue cues formed)) (cue_codes_first cue)
 
-event_first : (second_field : Bool) (frame : ℕ) (control : Control) → IsWritableControl control → IsFirstEvent (event_of second_field frame control)
-event_first second_field frame control writable = written_first second_field (first_channel control) writable refl
+      by_test : (b : Bool) → All OfPiece (pieces_from channel (suc number) cues)
+          → All OfPiece ((if b then cue_pieces number cue else []) ++ pieces_from channel (suc number) cues)
+      by_test true rest = All-append OfPiece (cue_pieces number cue) (pieces_from channel (suc number) cues) own rest
+      by_test false rest = rest
 
-one_event : (event : Event) → IsFirstEvent event → All IsFirstEvent (event ∷ [])
-one_event event first = All-cons IsFirstEvent event [] first (All-nil IsFirstEvent)
+  -- events
+  event_is : (second_field : Bool) (frame : ℕ) (control : Control) → IsWritableControl control → OfEvent (event_of second_field frame control)
+  event_is second_field frame control writable = written_is second_field (first_channel control) writable refl
 
-show_first : (second_field pop_on : Bool) (show : ℕ) → All IsFirstEvent (if pop_on then event_of second_field show Eoc ∷ [] else [])
-show_first second_field true show = one_event (event_of second_field show Eoc) (event_first second_field show Eoc tt)
-show_first second_field false show = All-nil IsFirstEvent
+  one_event : (event : Event) → OfEvent event → All OfEvent (event ∷ [])
+  one_event event is = All-cons OfEvent event [] is (All-nil OfEvent)
 
-hide_first_at : (second_field replaced : Bool) (hide : ℕ) → All IsFirstEvent (if replaced then [] else event_of second_field hide Edm ∷ [])
-hide_first_at second_field true hide = All-nil IsFirstEvent
-hide_first_at second_field false hide = one_event (event_of second_field hide Edm) (event_first second_field hide Edm tt)
+  show_all : (second_field pop_on : Bool) (show : ℕ) → All OfEvent (if pop_on then event_of second_field show Eoc ∷ [] else [])
+  show_all second_field true show = one_event (event_of second_field show Eoc) (event_is second_field show Eoc tt)
+  show_all second_field false show = All-nil OfEvent
 
-hide_first : (second_field : Bool) (hide : Option ℕ) (later : List Cue) → All IsFirstEvent (hide_events second_field hide later)
-hide_first second_field None later = All-nil IsFirstEvent
-hide_first second_field (Some hide) later = hide_first_at second_field (is_replaced_at hide later) hide
+  hide_all_at : (second_field replaced : Bool) (hide : ℕ) → All OfEvent (if replaced then [] else event_of second_field hide Edm ∷ [])
+  hide_all_at second_field true hide = All-nil OfEvent
+  hide_all_at second_field false hide = one_event (event_of second_field hide Edm) (event_is second_field hide Edm tt)
 
-events_first : (second_field : Bool) (cues : List Cue) → All IsFirstEvent (events_of second_field cues)
-events_first second_field [] = All-nil IsFirstEvent
-events_first second_field (cue ∷ later) =
-    All-append IsFirstEvent (show_events second_field cue ++ hide_events second_field cue.hide later) (events_of second_field later)
-    (All-append IsFirstEvent (show_events second_field cue) (hide_events second_field cue.hide later)
-    (show_first second_field (is_pop cue.kind) cue.show) (hide_first second_field cue.hide later))
-    (events_first second_field later)
+  hide_all : (second_field : Bool) (hide : Option ℕ) (later : List Cue) → All OfEvent (hide_events second_field hide later)
+  hide_all second_field None later = All-nil OfEvent
+  hide_all second_field (Some hide) later = hide_all_at second_field (is_replaced_at hide later) hide
 
--- what begins at an event
-event_is_first : (es : List Event) (n : ℕ) (u : Unit) → All IsFirstEvent es → event_at es n ≡ Some u → IsFirstPair u.pair
-event_is_first [] n u all is = cc
-event_is_first (e ∷ es) n u all is = go (event_is_first es n u (All-tail IsFirstEvent e es all)) (eqb n e.frame) refl
-  where
-    go : (event_at es n ≡ Some u → IsFirstPair u.pair) → (b : Bool) → eqb n e.frame ≡ b → IsFirstPair u.pair
-    go rest true b =
-        let same : Some (record { pair = e.pair; doubled = true }) ≡ Some u = sym (at_event e es n true b) ∙ is in
-        let it : record { pair = e.pair; doubled = true } ≡ u = cc in
-        subst (λ (v : Unit). IsFirstPair v.pair) it (All-head IsFirstEvent e es all)
-    go rest false b = rest (sym (at_event e es n false b) ∙ is)
+  events_all : (second_field : Bool) (cues : List Cue) → All OfEvent (events_of second_field cues)
+  events_all second_field [] = All-nil OfEvent
+  events_all second_field (cue ∷ later) =
+      All-append OfEvent (show_events second_field cue ++ hide_events second_field cue.hide later) (events_of second_field later)
+      (All-append OfEvent (show_events second_field cue) (hide_events second_field cue.hide later)
+      (show_all second_field (is_pop cue.kind) cue.show) (hide_all second_field cue.hide later))
+      (events_all second_field later)
 
--- what begins where a unit stands
-unit_is_first : (ps : List Piece) (fs : List ℕ) (n : ℕ) (u : Unit) → All (λ (piece : Piece). IsFirstPair piece.unit.pair) ps → stands ps fs n ≡ Some u → IsFirstPair u.pair
-unit_is_first [] fs n u all is = cc
-unit_is_first (p ∷ ps) [] n u all is = cc
-unit_is_first (p ∷ ps) (f ∷ fs) n u all is =
-    go (unit_is_first ps fs n u (All-tail (λ (piece : Piece). IsFirstPair piece.unit.pair) p ps all)) (eqb n f) refl
-  where
-    go : (stands ps fs n ≡ Some u → IsFirstPair u.pair) → (b : Bool) → eqb n f ≡ b → IsFirstPair u.pair
-    go rest true b =
-        let same : Some p.unit ≡ Some u = sym (at_unit p ps f fs n true b) ∙ is in
-        let it : p.unit ≡ u = cc in
-        subst (λ (v : Unit). IsFirstPair v.pair) it (All-head (λ (piece : Piece). IsFirstPair piece.unit.pair) p ps all)
-    go rest false b = rest (sym (at_unit p ps f fs n false b) ∙ is)
+  -- what begins at an event
+  at_events : (es : List Event) (n : ℕ) (u : Unit) → All OfEvent es → event_at es n ≡ Some u → P u.pair
+  at_events [] n u all is = cc
+  at_events (e ∷ es) n u all is = go (at_events es n u (All-tail OfEvent e es all)) (eqb n e.frame) refl
+    where
+      go : (event_at es n ≡ Some u → P u.pair) → (b : Bool) → eqb n e.frame ≡ b → P u.pair
+      go rest true b =
+          let same : Some (record { pair = e.pair; doubled = true }) ≡ Some u = sym (at_event e es n true b) ∙ is in
+          let it : record { pair = e.pair; doubled = true } ≡ u = cc in
+          subst (λ (v : Unit). P v.pair) it (All-head OfEvent e es all)
+      go rest false b = rest (sym (at_event e es n false b) ∙ is)
+
+  -- what begins where a unit stands
+  at_units : (ps : List Piece) (fs : List ℕ) (n : ℕ) (u : Unit) → All OfPiece ps → stands ps fs n ≡ Some u → P u.pair
+  at_units [] fs n u all is = cc
+  at_units (p ∷ ps) [] n u all is = cc
+  at_units (p ∷ ps) (f ∷ fs) n u all is = go (at_units ps fs n u (All-tail OfPiece p ps all)) (eqb n f) refl
+    where
+      go : (stands ps fs n ≡ Some u → P u.pair) → (b : Bool) → eqb n f ≡ b → P u.pair
+      go rest true b =
+          let same : Some p.unit ≡ Some u = sym (at_unit p ps f fs n true b) ∙ is in
+          let it : p.unit ≡ u = cc in
+          subst (λ (v : Unit). P v.pair) it (All-head OfPiece p ps all)
+      go rest false b = rest (sym (at_unit p ps f fs n false b) ∙ is)
+
+  -- what begins on a channel
+  pub channel_all : (list : Listing) (channel : Chan) (placed : List ℕ) → IsFormed list → (n : ℕ) (u : Unit)
+      → lane_timeline (channel_events channel list.cues) (channel_pieces channel list.cues) placed n ≡ Some u → P u.pair
+  channel_all list channel placed formed n u is =
+      let events = channel_events channel list.cues in
+      let pieces = channel_pieces channel list.cues in
+      ⊎_elim
+      (λ (at : event_at events n ≡ Some u). at_events events n u (events_all (is_in_second_field channel) (cues_on channel list.cues)) at)
+      (λ (at : (event_at events n ≡ None) × (stands pieces placed n ≡ Some u)). at_units pieces placed n u (pieces_all channel 1 list.cues formed.cues) at.1)
+      (over_cases events pieces placed n u is)
+
+  -- and so of the pairs of its slots, where it holds of the null pair
+  pub slots_all : (list : Listing) (channel : Chan) (placed : List ℕ) → IsFormed list → P null_pair → (n : ℕ) → P (channel_slot channel list.cues placed n)
+  slots_all list channel placed formed null n = at_slot (repeat_at t n) refl (t n) refl
+    where
+      t : Timeline
+      t = lane_timeline (channel_events channel list.cues) (channel_pieces channel list.cues) placed
+
+      begun : (m : ℕ) (o : Option Unit) (p : Pair) → t m ≡ o → repeat_of o ≡ Some p → P p
+      begun m None p is due = cc
+      begun m (Some u) p is due = by_doubled u.doubled refl
+        where
+          by_doubled : (b : Bool) → u.doubled ≡ b → P p
+          by_doubled true twice =
+              let same : Some u.pair ≡ Some p = sym (rw twice refl) ∙ due in
+              let it : u.pair ≡ p = cc in
+              subst P it (channel_all list channel placed formed m u is)
+          by_doubled false once = let wrong : None ≡ Some p = sym (rw once refl) ∙ due in absurd (cc)
+
+      repeated : (m : ℕ) (p : Pair) → repeat_at t m ≡ Some p → P p
+      repeated zero p due = cc
+      repeated (suc m) p due = begun m (t m) p refl due
+
+      at_slot : (r : Option Pair) → repeat_at t n ≡ r → (o : Option Unit) → t n ≡ o → P (slot t n)
+      at_slot (Some p) due o at = subst P (sym (rw due refl)) (repeated n p due)
+      at_slot None due (Some u) at = subst P (sym (rw (due, at) refl)) (channel_all list channel placed formed n u at)
+      at_slot None due None at = subst P (sym (rw (due, at) refl)) null
+
+-- the pair is read as a code for data channel 1
+abbrev IsFirstPair : Pair → Type 0
+IsFirstPair pair = IsForFirst (code_of pair)
+
+-- a code that is for it is written so
+written_first : (second_field : Bool) (code : Code) → IsWritable code → IsForFirst code → IsFirstPair (written second_field code)
+written_first second_field code writable first = subst IsForFirst (sym (written-code_of second_field code writable)) first
 
 -- the timeline of a channel of a list that keeps the rules and is placed
 pub channel_captioned : (list : Listing) (channel : Chan) (placed : List ℕ) → IsFormed list → IsRuled list → IsChannelPlaced channel list.cues placed
@@ -162,8 +204,16 @@ channel_captioned list channel placed formed ruled earliest =
     record {
       marked = lane_marked events pieces placed (channel_controls list channel formed ruled);
       spaced = lane_spaced events pieces placed (events_apart list formed ruled channel) earliest.placed;
-      first = λ n unit is. ⊎_elim
-          (λ (at : event_at events n ≡ Some unit). event_is_first events n unit (events_first (is_in_second_field channel) (cues_on channel list.cues)) at)
-          (λ (at : (event_at events n ≡ None) × (stands pieces placed n ≡ Some unit)). unit_is_first pieces placed n unit (pieces_first channel 1 list.cues formed.cues) at.1)
-          (over_cases events pieces placed n unit is);
+      first = channel_all IsFirstPair written_first list channel placed formed;
     }
+
+-- both of the pair are bytes
+abbrev pub AreBytes : Pair → Type 0
+AreBytes pair = (pair.a < 256) × (pair.b < 256)
+
+written_bytes : (second_field : Bool) (code : Code) → IsWritable code → IsForFirst code → AreBytes (written second_field code)
+written_bytes second_field code writable first = (written-a second_field code writable, written-b second_field code writable)
+
+-- the pairs of a channel's slots are of bytes
+pub slots_bytes : (list : Listing) (channel : Chan) (placed : List ℕ) → IsFormed list → (n : ℕ) → AreBytes (channel_slot channel list.cues placed n)
+slots_bytes list channel placed formed n = slots_all AreBytes written_bytes list channel placed formed (omega arith, omega arith) n

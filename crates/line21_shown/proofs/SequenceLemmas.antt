@@ -181,7 +181,7 @@ channel_shown list channel placed formed ruled earliest f settled =
 
 -- and the field that carries it
 field_shown : (list : Listing) (channel : Chan) (second_field : Bool) (placed : List ℕ) → IsFormed list → IsRuled list
-    → IsChannelPlaced channel list.cues placed → (f : ℕ) → ShowsField second_field (channel_slot channel list.cues placed) channel list.cues f
+    → IsChannelPlaced channel list.cues placed → (f : ℕ) → ShowsField (state_at second_field (channel_slot channel list.cues placed) f) channel list.cues f
 field_shown list channel second_field placed formed ruled earliest f =
     let t = lane_timeline (channel_events channel list.cues) (channel_pieces channel list.cues) placed in
     let state : state_at second_field (channel_slot channel list.cues placed) f ≡ first_alone (acts t (suc f)) =

@@ -10,7 +10,6 @@ use Rattle.cue_lists.specs.Rules.{IsRuled}
 use Rattle.cue_lists.specs.declared.cue.Cue.{Cue}
 use Rattle.line21_screen.specs.Fields.{FieldState}
 use Rattle.line21_screen.specs.Meaning.{after}
-use Rattle.frame_scheduler.specs.Columns.{Columns}
 use Rattle.frame_scheduler.specs.Planned.{IsPlaced, Placement, columns_of}
 use Rattle.line21_shown.specs.Reading.{pairs_before}
 
@@ -18,18 +17,17 @@ use Rattle.line21_shown.specs.Reading.{pairs_before}
 abbrev pub state_at : Bool → (ℕ → Pair) → ℕ → FieldState
 state_at second_field column frame = after second_field (pairs_before column (suc frame))
 
--- a field shows the cues of its first channel at a frame, where that is settled for the channel, and nothing on its second
-pub record ShowsField (second_field : Bool) (column : ℕ → Pair) (channel : Chan) (cues : List Cue) (frame : ℕ) : Type 0 where
-  pub first : IsSettled channel cues frame
-      → (state_at second_field column frame).first.displayed ≡ authored_grid channel cues frame
-  pub second : (state_at second_field column frame).second.displayed ≡ blank
+-- a field's state at a frame shows the cues of its first channel, where the frame is settled for it, and nothing on its second
+pub record ShowsField (state : FieldState) (channel : Chan) (cues : List Cue) (frame : ℕ) : Type 0 where
+  pub first : IsSettled channel cues frame → state.first.displayed ≡ authored_grid channel cues frame
+  pub second : state.second.displayed ≡ blank
 
--- both fields show a list's cues at a frame: field 1 those of CC1, with CC2 blank, and field 2 those of CC3, with CC4 blank
-pub record ShowsList (list : Listing) (columns : Columns) (frame : ℕ) : Type 0 where
-  pub one : ShowsField false columns.one Cc1 list.cues frame
-  pub two : ShowsField true columns.two Cc3 list.cues frame
+-- both fields' states at a frame show a list's cues: field 1 those of CC1, with CC2 blank, and field 2 those of CC3, with CC4 blank
+pub record ShowsList (list : Listing) (field_1 field_2 : FieldState) (frame : ℕ) : Type 0 where
+  pub one : ShowsField field_1 Cc1 list.cues frame
+  pub two : ShowsField field_2 Cc3 list.cues frame
 
--- what is authored is what is seen: a list that keeps the rules, in any placement that is its earliest, at every frame
+-- what is authored is what is seen: the pairs of a list that keeps the rules, in its earliest placement, at every frame
 abbrev pub AuthoredIsSeen : Type 0
-AuthoredIsSeen = (list : Listing) (placed : Placement) → IsFormed list → IsRuled list → IsPlaced list placed
-    → (frame : ℕ) → ShowsList list (columns_of list placed) frame
+AuthoredIsSeen = (list : Listing) (placed : Placement) → IsFormed list → IsRuled list → IsPlaced list placed → (frame : ℕ)
+    → ShowsList list (state_at false (columns_of list placed).one frame) (state_at true (columns_of list placed).two frame) frame

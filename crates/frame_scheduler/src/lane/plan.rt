@@ -13,6 +13,9 @@ use line21_author::Event;
 use line21_codes::Pair;
 use std::marker::Model;
 
+#[cfg(test)]
+mod tests;
+
 /// What a field carries: the units of its cues in file order, and its events in the order of their
 /// frames.
 #[derive(Drop)]

@@ -2,27 +2,18 @@ use Rattle.std.proofs.Common.{◌≡◌, ◌+◌, ◌≤◌, ◌==◌, true, fal
 use Rattle.std.specs.List.{list_all}
 use Rattle.std.proofs.lemmas.Str.{chars_from_encodes}
 use Rattle.cue_lists.specs.Form.{is_coded}
-use Rattle.cue_lists.specs.Unbuilt.{is_built_character}
-use Rattle.cue_lists.proofs.TextFacts.{text_good, text_not_built, text_not_coded, text_not_utf8}
+use Rattle.cue_lists.proofs.TextFacts.{text_good, text_not_coded, text_not_utf8}
 use Rattle.cue_lists.proofs.texts.read_text.Goals as goal
 
 pub returns-in_default : goal.returns-in_default
 returns-in_default c = rw c.out_of_form.ensures (text_not_utf8 _ _ c.in_default.ensures.cases.0)
 
-pub returns-then-not-are_built : goal.returns-then-not-are_built
-returns-then-not-are_built c =
-    let same = c.in-Ok.ensures.cases.0 in
-    let some : (length c.in-Ok.text.now == 0) ≡ false = sym (c.if-is_empty.ensures {u = tt}) in
-    let built : list_all is_built_character (chars c.in-Ok.text.now) ≡ false = sym (c.if-not-are_built.ensures {u = tt}) in
-    rw c.not_built.ensures (text_not_built _ _ c.in-Ok.ensures.cases.1 (rw same at some) (rw same at built))
-
 pub returns-then-not-are_coded : goal.returns-then-not-are_coded
 returns-then-not-are_coded c =
     let same = c.in-Ok.ensures.cases.0 in
     let some : (length c.in-Ok.text.now == 0) ≡ false = sym (c.if-is_empty.ensures {u = tt}) in
-    let built : list_all is_built_character (chars c.in-Ok.text.now) ≡ true = sym (c.if-not-are_built.ensures {u = tt}) in
     let coded : list_all is_coded (chars c.in-Ok.text.now) ≡ false = sym (c.if-not-are_coded.ensures {u = tt}) in
-    text_not_coded _ _ c.in-Ok.ensures.cases.1 (rw same at some) (rw same at built) (rw same at coded)
+    text_not_coded _ _ c.in-Ok.ensures.cases.1 (rw same at some) (rw same at coded)
 
 pub returns-in-Ok-collect : goal.returns-in-Ok-collect
 returns-in-Ok-collect c =
@@ -30,6 +21,5 @@ returns-in-Ok-collect c =
     let got : c.from_vec.result ≡ chars c.in-Ok.text.now = search (rules, chars_from_encodes) in
     let fits : c.args.col + length (chars c.in-Ok.text.now) ≤ 32 = omega arith in
     let some : (length c.in-Ok.text.now == 0) ≡ false = sym (c.if-is_empty.ensures {u = tt}) in
-    let built : list_all is_built_character (chars c.in-Ok.text.now) ≡ true = sym (c.if-not-are_built.ensures {u = tt}) in
     let coded : list_all is_coded (chars c.in-Ok.text.now) ≡ true = sym (c.if-not-are_coded.ensures {u = tt}) in
-    rw (got, same) (text_good _ _ c.in-Ok.ensures.cases.1 (rw same at some) (rw same at built) (rw same at coded) (rw same at fits))
+    rw (got, same) (text_good _ _ c.in-Ok.ensures.cases.1 (rw same at some) (rw same at coded) (rw same at fits))

@@ -1,0 +1,6 @@
+pub mod Words
+pub mod EightBitWords
+pub mod Checksums
+pub mod Packets
+pub mod WordsFiles
+pub mod Writing

@@ -1,0 +1,15 @@
+-- The ten-bit words of ancillary data (SMPTE ST 291-1) as bytes: each word is two bytes, the high byte
+-- first, with six zero bits on top. That a file writes them so is this project's choice.
+use Rattle.std.specs.Prelude.{◌≡◌, ℕ, ◌+◌, ◌*◌, ◌<◌, List, [], ◌∷◌, ⊤}
+
+-- the two bytes are the word, and the high one has six zero bits on top
+pub record IsWord (high low word : ℕ) : Type 0 where
+  pub zeros : high < 4
+  pub byte : low < 256
+  pub value : word ≡ 256 * high + low
+
+-- the bytes are the words, two bytes each
+abbrev pub AreWords : List ℕ → List ℕ → Type 0
+AreWords [] [] = ⊤
+AreWords (high ∷ low ∷ bytes) (word ∷ words) = IsWord high low word × AreWords bytes words
+AreWords _ _ = ⊥

@@ -1,0 +1,11 @@
+//! Triplets of cc_data (CTA-708-E): three bytes that carry two bytes of captions, their kind and
+//! whether they count, read and written.
+#![tactic(auto)]
+
+pub mod laws;
+mod triplet;
+
+pub use triplet::{Triplet, read_triplet, write_triplet};
+
+#[cfg(test)]
+mod tests;

@@ -1,0 +1,13 @@
+use Rattle.ccsuite_cli.specs.Output.{IsSoundWords, build_output}
+use Rattle.ccsuite_cli.proofs.Outputs.{words_front, words_put}
+use Rattle.ccsuite_cli.proofs.Refusals.{read_refused}
+use Rattle.ccsuite_cli.proofs.build.build.Goals as goal
+
+pub returns-in-Done : goal.returns-in-Done
+returns-in-Done g c = (c.in-Ok.ensures.0, c.in-Done.ensures.cause, words_put _ _ _ c.in-Ok.programme c.in-Ok.ensures.1 c.in-Done.ensures.bytes)
+
+pub returns-in-Failed : goal.returns-in-Failed
+returns-in-Failed g c = (c.in-Ok.ensures.0, c.in-Failed.ensures.cause.1, words_front _ _ _ c.in-Ok.programme c.in-Ok.ensures.1 c.in-Failed.ensures.bytes)
+
+pub returns-in-Err : goal.returns-in-Err
+returns-in-Err g c = read_refused build_output IsSoundWords _ _ _ _ _ _ c.in-Err.status c.in-Err.ensures

@@ -1,0 +1,4 @@
+pub mod Packets
+pub mod PacketTriplets
+pub mod Sections
+pub mod Written

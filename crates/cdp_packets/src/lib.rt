@@ -1,0 +1,14 @@
+//! Caption distribution packets (SMPTE ST 334-2): the packet of a frame with its rate, flags, counter
+//! and sections, among them the triplets of cc_data (CTA-708-E), and the sum that ends it.
+#![tactic(auto)]
+
+pub mod laws;
+mod packets;
+mod pieces;
+mod sections;
+
+pub use packets::write_cdp;
+pub use sections::{cc_section, section_len};
+
+#[cfg(test)]
+mod tests;

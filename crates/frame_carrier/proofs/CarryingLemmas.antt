@@ -1,0 +1,49 @@
+-- The triplets of a frame have kinds and a number, and what is written of them is the frame's packet.
+use Rattle.std.proofs.Common.{◌≡◌, ℕ, zero, suc, ◌+◌, ◌-◌, ◌<◌, ◌≤◌, List, [], ◌∷◌, ◌++◌, All, length, replicate, refl, sym, ap, ◌∙◌, subst, arith}
+use Rattle.std.proofs.lemmas.List.{length-append, length-replicate}
+use Rattle.std.proofs.lemmas.List.Elements.{All-append, All-cons, All-nil}
+use Rattle.cc_base.specs.Rate.{triplets_of}
+use Rattle.cc_base.specs.declared.rate.Rate.{Rate}
+use Rattle.cc_data.specs.declared.triplet.Triplet.{Triplet}
+use Rattle.cdp_packets.specs.Written.{cc_data_section, written_packet}
+use Rattle.anc_words.specs.Writing.{packet_bytes}
+use Rattle.frame_scheduler.specs.declared.frames.FramePairs.{FramePairs}
+use Rattle.frame_carrier.specs.Carrying.{caption_flags, counter_of, frame_bytes}
+use Rattle.frame_carrier.specs.FrameTriplets.{filler, frame_triplets, pair_triplet}
+
+-- a kind has two bits
+abbrev pub IsKind : Triplet → Type 0
+IsKind t = t.kind < 4
+
+-- triplets that don't count have one
+fillers_kind : (n : ℕ) → All IsKind (replicate n filler)
+fillers_kind zero = All-nil IsKind
+fillers_kind (suc n) = All-cons IsKind filler (replicate n filler) (omega arith) (fillers_kind n)
+
+-- the triplets of a frame have kinds
+pub frame_kinds : (rate : Rate) (pairs : FramePairs) (packet : List Triplet) → All IsKind packet → All IsKind (frame_triplets rate pairs packet)
+frame_kinds rate pairs packet kinds =
+    All-append IsKind (pair_triplet 0 pairs.one ∷ pair_triplet 1 pairs.two ∷ packet) (replicate (triplets_of rate - (2 + length packet)) filler)
+    (All-cons IsKind (pair_triplet 0 pairs.one) (pair_triplet 1 pairs.two ∷ packet) (omega arith)
+    (All-cons IsKind (pair_triplet 1 pairs.two) packet (omega arith) kinds))
+    (fillers_kind (triplets_of rate - (2 + length packet)))
+
+-- there are as many as the rate has
+pub frame_number : (rate : Rate) (pairs : FramePairs) (packet : List Triplet) → 2 + length packet ≤ triplets_of rate
+    → length (frame_triplets rate pairs packet) ≡ triplets_of rate
+frame_number rate pairs packet few =
+    let joined : length (frame_triplets rate pairs packet) ≡ suc (suc (length packet)) + length (replicate (triplets_of rate - (2 + length packet)) filler) =
+    length-append (pair_triplet 0 pairs.one ∷ pair_triplet 1 pairs.two ∷ packet) (replicate (triplets_of rate - (2 + length packet)) filler) in
+    let fillers : length (replicate (triplets_of rate - (2 + length packet)) filler) ≡ triplets_of rate - (2 + length packet) =
+    length-replicate (triplets_of rate - (2 + length packet)) filler in
+    omega arith
+
+-- what was written of a frame is its packet
+pub frame_written : (rate own : Rate) (frame counter : ℕ) (pairs : FramePairs) (triplets : List Triplet) (section packet words : List ℕ)
+    → own ≡ rate → counter ≡ counter_of frame → triplets ≡ frame_triplets rate pairs [] → section ≡ cc_data_section triplets
+    → packet ≡ written_packet own caption_flags counter section → words ≡ packet_bytes 0x61 0x01 packet → words ≡ frame_bytes rate frame pairs []
+frame_written rate own frame counter pairs triplets section packet words own_is counter_is triplets_are section_is packet_is words_are =
+    words_are ∙ ap (packet_bytes 0x61 0x01)
+    (packet_is ∙ ap (λ r. written_packet r caption_flags counter section) own_is
+    ∙ ap (λ n. written_packet rate caption_flags n section) counter_is
+    ∙ ap (written_packet rate caption_flags (counter_of frame)) (section_is ∙ ap cc_data_section triplets_are))

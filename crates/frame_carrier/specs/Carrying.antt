@@ -1,0 +1,53 @@
+-- How the frames of a programme are carried: the triplets of a frame in one cc_data section of a caption distribution packet
+-- (SMPTE ST 334-2) that says that captions are carried and active, with the frame's number as its counter; and that in an
+-- ancillary packet of captions (SMPTE ST 334-1).
+use Rattle.std.specs.Prelude.{◌≡◌, ℕ, zero, suc, ◌%◌, List, [], ◌∷◌, ◌++◌}
+use Rattle.cc_base.specs.declared.rate.Rate.{Rate}
+use Rattle.cc_data.specs.declared.triplet.Triplet.{Triplet}
+use Rattle.cdp_packets.specs.Packets.{Packet as Frame}
+use Rattle.cdp_packets.specs.Written.{cc_data_section, written_packet}
+use Rattle.anc_words.specs.Writing.{packet_bytes}
+use Rattle.frame_scheduler.specs.Columns.{Columns, pairs_at}
+use Rattle.frame_scheduler.specs.declared.frames.FramePairs.{FramePairs}
+use Rattle.frame_carrier.specs.FrameTriplets.{frame_triplets}
+use Rattle.frame_carrier.specs.declared.carrier.Carrier.{Carrier}
+
+-- the flags of a packet with cc_data and nothing else, of an active service: 0100 0011
+abbrev pub caption_flags : ℕ
+caption_flags = 0x43
+
+-- the counter of a frame's packet has 16 bits
+abbrev pub counter_of : ℕ → ℕ
+counter_of frame = frame % 65536
+
+-- the distribution packet of a frame with its pairs, and with the triplets of its channel packet
+abbrev pub frame_packet : Rate → ℕ → FramePairs → List Triplet → Frame
+frame_packet rate frame pairs packet = record {
+  rate = rate;
+  flags = caption_flags;
+  counter = counter_of frame;
+  sections = cc_data_section (frame_triplets rate pairs packet) ∷ [];
+}
+
+-- the bytes of the ancillary packet of a frame
+abbrev pub frame_bytes : Rate → ℕ → FramePairs → List Triplet → List ℕ
+frame_bytes rate frame pairs packet =
+    packet_bytes 0x61 0x01
+    (written_packet rate caption_flags (counter_of frame) (cc_data_section (frame_triplets rate pairs packet)))
+
+-- the distribution packets of so many frames of columns, from a frame on
+abbrev pub column_packets : Rate → Columns → ℕ → ℕ → List Frame
+column_packets rate columns frame zero = []
+column_packets rate columns frame (suc n) =
+    frame_packet rate frame (pairs_at columns frame) [] ∷ column_packets rate columns (suc frame) n
+
+-- the bytes of their ancillary packets
+abbrev pub column_bytes : Rate → Columns → ℕ → ℕ → List ℕ
+column_bytes rate columns frame zero = []
+column_bytes rate columns frame (suc n) =
+    frame_bytes rate frame (pairs_at columns frame) [] ++ column_bytes rate columns (suc frame) n
+
+-- the carrier is for this rate, and this frame is its next
+pub record IsAt (rate : Rate) (frame : ℕ) (carrier : Carrier) : Type 0 where
+  pub rate_is : carrier.rate ≡ rate
+  pub counter_is : carrier.counter ≡ counter_of frame

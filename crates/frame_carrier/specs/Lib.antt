@@ -1,0 +1,3 @@
+pub mod FrameTriplets
+pub mod Carrying
+pub mod Carried

@@ -1,0 +1,9 @@
+//! Laws of the definitions: functions without a body, whose contract is the law.
+
+ghost use Rattle.frame_carrier.specs.Carried.{FramesAreCarried};
+
+/// The frames of a programme are carried: their bytes are a words file of their packets, each frame has as many triplets as
+/// its rate asks, with one pair of each field and no service bytes, and a receiver gets just the pairs.
+pub fn frames_are_carried()
+    ensures { FramesAreCarried }
+{}

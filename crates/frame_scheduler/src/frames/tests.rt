@@ -1,0 +1,23 @@
+use crate::frames::Plan;
+use crate::lane::plan::Plan as LanePlan;
+use crate::plan;
+use cue_lists::{check, parse};
+use std::test::Fail;
+
+#[test]
+fn a_plan_keeps_two_lanes_and_the_number_of_frames_left(rt: HostRuntime) -> Result<(), Fail> {
+    let alloc = rt.alloc();
+    let Ok(list) = parse(alloc, b"ccsuite,1,29.97,30\n") else {
+        return Err(Fail::from("the list is good"));
+    };
+    let Ok(()) = check(&list) else {
+        return Err(Fail::from("the list keeps the rules"));
+    };
+    let Ok(plan) = plan(alloc, &list) else {
+        return Err(Fail::from("no cue lacks room"));
+    };
+    let Plan { one, two, left } = plan;
+    let _lanes: [LanePlan; 2] = [one, two];
+    assert_eq!(rt; left, 30);
+    Ok(())
+}

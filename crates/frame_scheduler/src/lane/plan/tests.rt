@@ -1,0 +1,32 @@
+use crate::lane::cursor::Cursor;
+use crate::lane::piece::Piece;
+use crate::lane::plan::{Lane, Plan};
+use line21_author::Event;
+use std::mem::size_of;
+use std::test::Fail;
+
+// Takes a value that can be copied.
+fn is_copied<T: Copy>(_value: T) {}
+
+#[test]
+fn a_lane_keeps_two_vectors_and_a_small_cursor_and_no_frame(rt: HostRuntime) -> Result<(), Fail> {
+    let alloc = rt.alloc();
+    let lane = Lane {
+        pieces: Vec::new(alloc),
+        events: Vec::new(alloc),
+    };
+    let Ok(plan) = lane.plan() else {
+        return Err(Fail::from("no unit lacks room"));
+    };
+    let Plan {
+        pieces,
+        events,
+        cursor,
+    } = plan;
+    let pieces: Vec<Piece> = pieces;
+    let events: Vec<Event> = events;
+    assert!(rt; pieces.is_empty() && events.is_empty());
+    is_copied(cursor);
+    assert!(rt; size_of::<Cursor>() <= 256);
+    Ok(())
+}

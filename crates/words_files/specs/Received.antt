@@ -1,0 +1,32 @@
+-- What a receiver gets of line 21 from the frames of a words file: the pairs of each field, and the screens that they leave
+-- in a receiver that was reset before the first frame (CTA-708-E, cc_data(); CTA-608-E; 47 CFR 79.101).
+use Rattle.std.specs.Prelude.{ℕ, suc, ◌==◌, ◌&&◌, Bool, true, false, if◌then◌else◌, List, [], ◌∷◌, reverse, take}
+use Rattle.std.specs.List.{flat_map}
+use Rattle.line21_codes.specs.declared.pairs.Pair.{Pair}
+use Rattle.line21_screen.specs.Fields.{FieldState}
+use Rattle.line21_screen.specs.Meaning.{after}
+use Rattle.cc_data.specs.declared.triplet.Triplet.{Triplet}
+use Rattle.cdp_packets.specs.Packets.{Packet as Frame}
+use Rattle.cdp_packets.specs.PacketTriplets.{packet_triplets}
+
+-- the kind of a field's triplets: 0 for field 1, and 1 for field 2
+abbrev pub field_kind : Bool → ℕ
+field_kind false = 0
+field_kind true = 1
+
+-- the pair of a field that a triplet has, if it counts and is of that kind
+abbrev pub field_pair : Bool → Triplet → List Pair
+field_pair second_field t =
+    if t.valid && (t.kind == field_kind second_field) then record { a = t.a; b = t.b } ∷ [] else []
+
+-- the pairs of a field in triplets, in order
+abbrev pub field_pairs : Bool → List Triplet → List Pair
+field_pairs second_field triplets = flat_map (field_pair second_field) triplets
+
+-- the pairs of a field in frames, in order
+abbrev pub received_pairs : Bool → List Frame → List Pair
+received_pairs second_field frames = flat_map (λ frame. field_pairs second_field (packet_triplets frame)) frames
+
+-- the state of a field at a frame: what the pairs of the frames up to this one leave in a receiver that was reset
+abbrev pub received_at : Bool → List Frame → ℕ → FieldState
+received_at second_field frames frame = after second_field (reverse (received_pairs second_field (take (suc frame) frames)))

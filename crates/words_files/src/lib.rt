@@ -1,0 +1,5 @@
+//! Words files as a whole: their frames, and what a receiver gets of them. Definitions, and the laws that join the
+//! layers (SMPTE ST 291-1, ST 334-1 and ST 334-2, CTA-708-E).
+#![tactic(auto)]
+
+pub mod laws;
