@@ -4,3 +4,9 @@ pub mod EightBitLemmas
 pub mod ChecksumLemmas
 pub mod PacketLemmas
 pub mod WordsFileLemmas
+pub mod ReadLemmas
+pub mod SoundLemmas
+pub mod CompleteLemmas
+pub mod ByteLemmas
+pub mod NextLemmas
+pub mod RefusedLemmas

@@ -4,3 +4,5 @@ pub mod Checksums
 pub mod Packets
 pub mod WordsFiles
 pub mod Writing
+pub mod Reading
+pub mod Readers

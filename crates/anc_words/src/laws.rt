@@ -1,11 +1,21 @@
 //! Laws of the definitions: functions without a body, whose contract is the law.
 
-ghost use Rattle.std.specs.Prelude.{◌≡◌, ◌<◌, ◌≤◌, ◌++◌, ℕ, List, [], ◌∷◌, length};
-ghost use Rattle.std.specs.List.{All};
+ghost use Rattle.std.specs.Prelude.{◌≡◌, ◌↔◌, ◌%◌, ◌<◌, ◌≤◌, ◌++◌, ℕ, List, [], ◌∷◌, Some, None, IsTrue, length};
+ghost use Rattle.std.specs.List.{All, flat_map};
+ghost use Rattle.cc_base.specs.declared.refusal.Refusal.{Refusal as Refused};
+ghost use Rattle.cc_base.specs.declared.step.Step.TheVariants.{Refuse};
+ghost use Rattle.cc_base.specs.declared.why.Why.{Why as Reason};
+ghost use Rattle.cc_base.specs.declared.why.Why.TheVariants as why;
+ghost use Rattle.cc_base.specs.Feeding.{Verdict};
+ghost use Rattle.cc_base.specs.Steps.{AreAccepted};
+ghost use Rattle.anc_words.specs.declared.parts.WordPart.{WordPart as Part};
+ghost use Rattle.anc_words.specs.EightBitWords.{IsEightBit};
+ghost use Rattle.anc_words.specs.Checksums.{IsChecksum};
+ghost use Rattle.anc_words.specs.Reading.{AllRead, HasRefusedWord, is_caption, is_eight_bit, judge_byte, judge_ten_bits, judge_word, nothing_open, open_behind, packet_parts, parts_of, read_under};
 ghost use Rattle.anc_words.specs.Words.{AreWords};
 ghost use Rattle.anc_words.specs.Packets.{Packet, IsCaption, IsUserWord, IsPacket, user_bytes};
 ghost use Rattle.anc_words.specs.WordsFiles.{ArePackets, IsPacketBytes, IsWordsFile};
-ghost use Rattle.anc_words.specs.Writing.{packet_bytes};
+ghost use Rattle.anc_words.specs.Writing.{checksum_word, packet_bytes};
 
 /// Bytes are at most one list of words, and words have one list of bytes.
 pub fn words_are_spelled_one_way()
@@ -76,4 +86,47 @@ pub fn files_are_joined()
         → IsWordsFile (packet ∷ packets) bytes
         → (front : List ℕ) × (rest : List ℕ) × (bytes ≡ front ++ rest)
         × IsPacketBytes packet front × IsWordsFile packets rest }
+{}
+
+/// A file is read: none of its words is refused, they make the parts of its packets, and nothing is open behind them. Under a
+/// layer that takes these parts they are handed upward, and there is no refusal.
+pub fn files_are_read()
+    ensures read { (packets : List Packet) (bytes : List ℕ) → IsWordsFile packets bytes
+        → AllRead bytes × (parts_of bytes ≡ flat_map packet_parts packets) × (open_behind bytes ≡ nothing_open) }
+    ensures handed { (verdict : Verdict Part) (packets : List Packet) (bytes : List ℕ) → IsWordsFile packets bytes
+        → AreAccepted verdict [] (flat_map packet_parts packets)
+        → read_under verdict bytes ≡ record { parts = flat_map packet_parts packets; refusal = None } }
+{}
+
+/// What is read is a file: bytes of which no word is refused and behind which nothing is open are packets. Where there is no
+/// refusal, no word was refused, and the layer above took all parts.
+pub fn what_is_read_is_a_file()
+    ensures file { (bytes : List ℕ) → All (λ byte. byte < 256) bytes → AllRead bytes → open_behind bytes ≡ nothing_open
+        → (packets : List Packet) × IsWordsFile packets bytes }
+    ensures unrefused { (verdict : Verdict Part) (bytes : List ℕ) → (read_under verdict bytes).refusal ≡ None
+        → AllRead bytes × AreAccepted verdict [] (parts_of bytes) }
+{}
+
+/// Words none of which is refused begin some file, and no file begins with words whose last one is refused.
+pub fn a_word_is_refused_where_no_file_goes_on()
+    ensures begun { (bytes words : List ℕ) → AreWords bytes words → AllRead bytes
+        → (more : List ℕ) × ((packets : List Packet) × IsWordsFile packets (bytes ++ more)) }
+    ensures refused { (bytes : List ℕ) (byte : ℕ) (reason : Reason) (more : List ℕ) (packets : List Packet)
+        → judge_byte (open_behind bytes) byte ≡ Refuse reason → IsWordsFile packets (bytes ++ byte ∷ more) → ⊥ }
+{}
+
+/// The tests by which words are judged say what they are named for, and a word's high bits come before all else.
+pub fn words_are_judged_by_the_standard()
+    ensures high_bits { (words : List ℕ) (word : ℕ) → 1024 ≤ word → judge_word words word ≡ Refuse why.HighBits }
+    ensures ten_bits { (words : List ℕ) (word : ℕ) → word < 1024 → judge_word words word ≡ judge_ten_bits words word }
+    ensures eight_bit { (word : ℕ) → IsTrue (is_eight_bit word) ↔ IsEightBit (word % 256) word }
+    ensures caption { (did sdid : ℕ) → IsTrue (is_caption did sdid) ↔ ((did % 256 ≡ 0x61) × (sdid % 256 ≡ 0x01)) }
+    ensures checksum { (words : List ℕ) (word : ℕ) → (word ≡ checksum_word words) ↔ IsChecksum words word }
+{}
+
+/// A refusal is that of the first refused word: its place is the number of the word's first byte, and its reason is the word's
+/// own, by the words before it, or that of the layer above for the part which the word completes.
+pub fn a_refusal_is_of_the_first_refused_word()
+    ensures { (verdict : Verdict Part) (bytes : List ℕ) (refused : Refused) → (read_under verdict bytes).refusal ≡ Some refused
+        → HasRefusedWord verdict bytes refused }
 {}

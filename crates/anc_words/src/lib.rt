@@ -4,10 +4,15 @@
 #![tactic(auto)]
 
 pub mod laws;
+mod open_packet;
 mod packets;
+mod parts;
+mod reader;
 mod words;
 
 pub use packets::write_packet;
+pub use parts::WordPart;
+pub use reader::WordReader;
 
 #[cfg(test)]
 mod tests;

@@ -1,3 +1,5 @@
+mod reading;
+
 use crate::write_packet;
 use arrayvec::ArrayVec;
 

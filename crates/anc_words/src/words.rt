@@ -1,4 +1,5 @@
 ghost use Rattle.std.specs.Prelude.{◌≡◌, ◌<◌, ◌%◌};
+ghost use Rattle.anc_words.specs.Reading.{is_eight_bit};
 ghost use Rattle.anc_words.specs.Writing.{eight_bit_word, nine_bit_word, word_bytes};
 
 /// A word of ancillary data: ten bits (SMPTE ST 291-1).
@@ -29,6 +30,14 @@ impl Word {
         Word {
             value: u16::from(byte) + high_bits,
         }
+    }
+
+    /// Whether this is the 8-bit word of its bits 7 to 0: bits 8 and 9 are as they must be, and there are none above.
+    #[inline]
+    pub(crate) fn is_eight_bit(value: u16) -> bool
+        ensures { result ≡ is_eight_bit value }
+    {
+        value == Word::eight_bit((value % 256) as u8).value
     }
 
     /// The checksum word of words with this sum: its low nine bits are those of the sum, and bit 9 is the inverse of

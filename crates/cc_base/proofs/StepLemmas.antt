@@ -88,7 +88,7 @@ refused_at-none place None none = refl
 refused_at-none place (Some why) none = absurd cc
 
 -- what is read where there is no refusal
-read_first-none : {P : Type 0} (refusal : Option Refusal) (parts : List P) (rest : Reading P) → (read_first refusal parts rest).refusal ≡ None
+pub read_first-none : {P : Type 0} (refusal : Option Refusal) (parts : List P) (rest : Reading P) → (read_first refusal parts rest).refusal ≡ None
     → (refusal ≡ None) × (rest.refusal ≡ None)
 read_first-none None parts rest none = (refl, none)
 read_first-none (Some refusal) parts rest none = absurd cc

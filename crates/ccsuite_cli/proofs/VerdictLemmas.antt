@@ -18,9 +18,14 @@ use Rattle.cue_lists.proofs.RulesDecided.{ruled_or_broken}
 use Rattle.frame_scheduler.specs.Planned.{IsFirstWithoutRoom, IsPlaced, Placement}
 use Rattle.frame_scheduler.proofs.BothFieldsLemmas.{first_without_room, one_placement, placed_has_room}
 use Rattle.frame_scheduler.proofs.RoomDecided.{list_decided}
-use Rattle.ccsuite_cli.specs.Accepted.{BreaksRule, IsAccepted, IsFaulty, IsRefused, LacksRoom, list_limit}
+use Rattle.cc_base.specs.Streams.{Rose}
+use Rattle.ccsuite_cli.specs.Accepted.{BreaksRule, IsAccepted, IsFaulty, IsGoodList, IsRefused, IsRefusedList, LacksRoom, list_limit}
+use Rattle.ccsuite_cli.specs.Answer.{ListAnswer, PutsFront, PutsList, PutsListFront, PutsOutput}
+use Rattle.ccsuite_cli.specs.Ends.{Ends}
+use Rattle.ccsuite_cli.specs.Output.{IsSoundPairs, IsSoundWords, build_output, pairs_output}
 use Rattle.ccsuite_cli.specs.Reads.{form_status}
-use Rattle.ccsuite_cli.specs.Verdict.{AcceptanceIsOne, AcceptedIsAnswered, AcceptedIsNotRefused, EveryListIsJudged, RefusalIsOne}
+use Rattle.ccsuite_cli.specs.Verdict.{AcceptanceIsOne, AcceptedIsAnswered, AcceptedIsNotRefused, EveryListIsJudged, GoodListIsWritten, RefusalIsOne}
+use Rattle.ccsuite_cli.specs.declared.command.Command.TheVariants.{Build, Cues, Pairs}
 use Rattle.ccsuite_cli.specs.declared.status.Place.TheVariants.{Field}
 use Rattle.ccsuite_cli.specs.declared.status.Status.{Status}
 use Rattle.ccsuite_cli.specs.declared.status.Status.TheVariants as status
@@ -49,21 +54,31 @@ spelled_unbroken bytes list fault spelled built ruled breaks =
     let same = spelled_one bytes breaks.list list breaks.spelled breaks.built spelled built in
     ruled_has_none list fault ruled (subst (λ l. HasFault l fault) same breaks.broken)
 
+-- a list that keeps the rules is refused with no status where room isn't asked
+good_not_refused : (bytes : List ℕ) (list : Listing) (answer : Status) → IsGoodList bytes list → IsRefusedList bytes answer → ⊥
+good_not_refused bytes list (status.Limit limit.Bytes) good long = let within = good.within in omega arith
+good_not_refused bytes list (status.Limit limit.Frames) good faulty =
+    spelled_faultless bytes list (fault.Limit limit.Frames) good.spelled good.built faulty
+good_not_refused bytes list (status.Limit limit.Cues) good faulty =
+    spelled_faultless bytes list (fault.Limit limit.Cues) good.spelled good.built faulty
+good_not_refused bytes list (status.Malformed (Field rec field) why) good faulty =
+    spelled_faultless bytes list (fault.Malformed rec field why) good.spelled good.built faulty
+good_not_refused bytes list (status.Rule fault) good breaks =
+    spelled_unbroken bytes list fault good.spelled good.built good.ruled breaks
+good_not_refused bytes list _ good refused = refused
+
+-- an accepted list keeps the rules
+accepted_good : (bytes : List ℕ) (list : Listing) (placed : Placement) → IsAccepted bytes list placed → IsGoodList bytes list
+accepted_good bytes list placed accepted =
+    record { within = accepted.within; spelled = accepted.spelled; built = accepted.built; ruled = accepted.ruled }
+
 -- an accepted list is refused with no status
 pub accepted_not_refused : AcceptedIsNotRefused
-accepted_not_refused bytes list placed (status.Limit limit.Bytes) accepted long = let within = accepted.within in omega arith
-accepted_not_refused bytes list placed (status.Limit limit.Frames) accepted faulty =
-    spelled_faultless bytes list (fault.Limit limit.Frames) accepted.spelled accepted.built faulty
-accepted_not_refused bytes list placed (status.Limit limit.Cues) accepted faulty =
-    spelled_faultless bytes list (fault.Limit limit.Cues) accepted.spelled accepted.built faulty
-accepted_not_refused bytes list placed (status.Malformed (Field rec field) why) accepted faulty =
-    spelled_faultless bytes list (fault.Malformed rec field why) accepted.spelled accepted.built faulty
-accepted_not_refused bytes list placed (status.Rule fault) accepted breaks =
-    spelled_unbroken bytes list fault accepted.spelled accepted.built accepted.ruled breaks
 accepted_not_refused bytes list placed (status.NoRoom cue) accepted lacks =
     let same = spelled_one bytes lacks.list list lacks.spelled lacks.built accepted.spelled accepted.built in
     placed_has_room list placed cue accepted.placement (subst (λ l. IsFirstWithoutRoom l cue) same lacks.first)
-accepted_not_refused bytes list placed _ accepted refused = refused
+accepted_not_refused bytes list placed answer accepted refused =
+    good_not_refused bytes list answer (accepted_good bytes list placed accepted) refused
 
 -- bytes are accepted as one list, with one placement
 pub accepted_once : AcceptanceIsOne
@@ -133,27 +148,42 @@ same_status bytes one other (inr (inr (inr (cue, lacks, is)))) (inr (inr (inr (o
 pub refused_once : RefusalIsOne
 refused_once bytes one other refused again = same_status bytes one other (cause_of bytes one refused) (cause_of bytes other again)
 
--- a refusal of what was left contradicts its acceptance
-left_refused : (bytes : List ℕ) (list : Listing) (placed : Placement) (left : Option (List ℕ)) (answer : Status) → IsAccepted bytes list placed → left ≡ Some bytes
-    → IfSome left (λ all. IsRefused all answer) → ⊥
-left_refused bytes list placed left answer accepted is refused =
-    accepted_not_refused bytes list placed answer accepted (subst (λ l. IfSome l (λ all. IsRefused all answer)) is refused)
+-- what holds of no bytes that were left holds of nothing that was left
+left_without : (P : List ℕ → Type 0) (bytes : List ℕ) (left : Option (List ℕ)) → (P bytes → ⊥) → left ≡ Some bytes → IfSome left P → ⊥
+left_without P bytes left never is fact = never (subst (λ l. IfSome l P) is fact)
 
--- where no count of faults rose, an accepted list is answered Ok, or want of memory
+-- where no count of faults rose, an input that isn't refused is answered Ok, or want of memory
+list_answered : (Whole Front : List ℕ → Option (List ℕ) → Option (List ℕ) → Type 0) (Refused : List ℕ → Status → Type 0) (bytes : List ℕ) (old new : Ends) (answer : Status)
+    → ((refusal : Status) → Refused bytes refusal → ⊥) → old.left ≡ Some bytes
+    → (Rose old.read_faults new.read_faults → ⊥) → (Rose old.write_faults new.write_faults → ⊥)
+    → ListAnswer Whole Front Refused old new answer → (answer ≡ status.Ok) ⊎ (answer ≡ status.Memory)
+list_answered Whole Front Refused bytes old new status.Ok never left steady_read steady_write answered = inl refl
+list_answered Whole Front Refused bytes old new status.Memory never left steady_read steady_write answered = inr refl
+list_answered Whole Front Refused bytes old new status.Usage never left steady_read steady_write answered = absurd answered
+list_answered Whole Front Refused bytes old new status.ReadFault never left steady_read steady_write answered = absurd (steady_read answered.0)
+list_answered Whole Front Refused bytes old new status.WriteFault never left steady_read steady_write answered = absurd (steady_write answered.1)
+list_answered Whole Front Refused bytes old new (status.Limit which) never left steady_read steady_write answered =
+    absurd (left_without (λ all. Refused all (status.Limit which)) bytes old.left (never (status.Limit which)) left answered.2)
+list_answered Whole Front Refused bytes old new (status.Malformed place why) never left steady_read steady_write answered =
+    absurd (left_without (λ all. Refused all (status.Malformed place why)) bytes old.left (never (status.Malformed place why)) left answered.2)
+list_answered Whole Front Refused bytes old new (status.Rule fault) never left steady_read steady_write answered =
+    absurd (left_without (λ all. Refused all (status.Rule fault)) bytes old.left (never (status.Rule fault)) left answered.2)
+list_answered Whole Front Refused bytes old new (status.NoRoom cue) never left steady_read steady_write answered =
+    absurd (left_without (λ all. Refused all (status.NoRoom cue)) bytes old.left (never (status.NoRoom cue)) left answered.2)
+
+-- a list that keeps the rules is written
+pub good_written : GoodListIsWritten
+good_written bytes list old new answer good left steady_read steady_write answered =
+    list_answered PutsList PutsListFront IsRefusedList bytes old new answer (λ refusal refused. good_not_refused bytes list refusal good refused) left steady_read steady_write answered
+
+-- an accepted list is answered by every command
 pub accepted_answered : AcceptedIsAnswered
-accepted_answered bytes list placed old new status.Ok accepted left steady_read steady_write answered = inl refl
-accepted_answered bytes list placed old new status.Memory accepted left steady_read steady_write answered = inr refl
-accepted_answered bytes list placed old new status.Usage accepted left steady_read steady_write answered = absurd answered
-accepted_answered bytes list placed old new status.ReadFault accepted left steady_read steady_write answered = absurd (steady_read answered.0)
-accepted_answered bytes list placed old new status.WriteFault accepted left steady_read steady_write answered = absurd (steady_write answered.1)
-accepted_answered bytes list placed old new (status.Limit which) accepted left steady_read steady_write answered =
-    absurd (left_refused bytes list placed old.left (status.Limit which) accepted left answered.2)
-accepted_answered bytes list placed old new (status.Malformed place why) accepted left steady_read steady_write answered =
-    absurd (left_refused bytes list placed old.left (status.Malformed place why) accepted left answered.2)
-accepted_answered bytes list placed old new (status.Rule fault) accepted left steady_read steady_write answered =
-    absurd (left_refused bytes list placed old.left (status.Rule fault) accepted left answered.2)
-accepted_answered bytes list placed old new (status.NoRoom cue) accepted left steady_read steady_write answered =
-    absurd (left_refused bytes list placed old.left (status.NoRoom cue) accepted left answered.2)
+accepted_answered bytes list placed Pairs old new answer accepted left steady_read steady_write answered =
+    list_answered (PutsOutput pairs_output IsSoundPairs) (PutsFront pairs_output) IsRefused bytes old new answer (λ refusal refused. accepted_not_refused bytes list placed refusal accepted refused) left steady_read steady_write answered
+accepted_answered bytes list placed Build old new answer accepted left steady_read steady_write answered =
+    list_answered (PutsOutput build_output IsSoundWords) (PutsFront build_output) IsRefused bytes old new answer (λ refusal refused. accepted_not_refused bytes list placed refusal accepted refused) left steady_read steady_write answered
+accepted_answered bytes list placed Cues old new answer accepted left steady_read steady_write answered =
+    good_written bytes list old new answer (accepted_good bytes list placed accepted) left steady_read steady_write answered
 
 -- what isn't read as a list is refused with its fault
 fault_refused : (bytes : List ℕ) (f : CueFault) → length bytes ≤ list_limit → read_list bytes ≡ Err f → IsRefused bytes (form_status f)

@@ -52,6 +52,13 @@ pub record LacksRoom (bytes : List ℕ) (cue : ℕ) : Type 0 where
   pub ruled : IsRuled list
   pub first : IsFirstWithoutRoom list cue
 
+-- the records of the bytes spell a cue list that this version authors and that keeps the rules; whether it has room isn't asked
+pub record IsGoodList (bytes : List ℕ) (list : Listing) : Type 0 where
+  pub within : length bytes ≤ list_limit
+  pub spelled : Spells (records_of bytes) list
+  pub built : IsBuilt list
+  pub ruled : IsRuled list
+
 -- the bytes are refused with this status, and with no other
 abbrev pub IsRefused : List ℕ → Status → Type 0
 IsRefused bytes (status.Limit limit.Bytes) = list_limit < length bytes
@@ -62,3 +69,8 @@ IsRefused bytes (status.Malformed (Field rec field) why) = IsFaulty bytes (fault
 IsRefused bytes (status.Rule fault) = BreaksRule bytes fault
 IsRefused bytes (status.NoRoom cue) = LacksRoom bytes cue
 IsRefused bytes _ = ⊥
+
+-- the same where room isn't asked: no list is refused for want of it
+abbrev pub IsRefusedList : List ℕ → Status → Type 0
+IsRefusedList bytes (status.NoRoom cue) = ⊥
+IsRefusedList bytes answer = IsRefused bytes answer

@@ -4,12 +4,15 @@ use Rattle.std.specs.Io.KnownBytes.{Appends}
 use Rattle.cc_base.specs.Streams.{Puts, Rose, TakesWithin}
 use Rattle.cc_base.specs.declared.streams.Put.TheVariants as put
 use Rattle.cue_lists.specs.Listing.{Listing}
+use Rattle.cue_lists.specs.Printing.{in_order, printed}
+use Rattle.cue_lists.specs.Records.{records_of}
+use Rattle.cue_lists.specs.Spelling.{list_records}
 use Rattle.frame_scheduler.specs.Planned.{Placement}
-use Rattle.ccsuite_cli.specs.Accepted.{IsAccepted, IsRefused, list_limit}
+use Rattle.ccsuite_cli.specs.Accepted.{IsAccepted, IsGoodList, IsRefused, IsRefusedList, list_limit}
 use Rattle.ccsuite_cli.specs.Ends.{Ends, PutsNothing}
 use Rattle.ccsuite_cli.specs.Output.{IsSoundPairs, IsSoundWords, build_output, pairs_output}
 use Rattle.ccsuite_cli.specs.declared.command.Command.{Command}
-use Rattle.ccsuite_cli.specs.declared.command.Command.TheVariants.{Build, Pairs}
+use Rattle.ccsuite_cli.specs.declared.command.Command.TheVariants.{Build, Cues, Pairs}
 use Rattle.ccsuite_cli.specs.declared.status.Status.{Status}
 use Rattle.ccsuite_cli.specs.declared.status.Status.TheVariants as status
 
@@ -28,31 +31,51 @@ pub record PutsFront (output : Listing → Placement → List ℕ) (bytes : List
   pub accepted : IsAccepted bytes list placed
   pub front : Puts old new put.Failed (output list placed)
 
--- what a command answers that reads a cue list and puts this output of an accepted one
-abbrev pub ListAnswer : (Listing → Placement → List ℕ) → (Listing → Placement → Type 0) → Ends → Ends → Status → Type 0
-ListAnswer output IsSound old new status.Ok =
+-- a cue list that keeps the rules was put as it is written, and is read so again
+pub record PutsList (bytes : List ℕ) (old new : Option (List ℕ)) : Type 0 where
+  pub list : Listing
+  pub good : IsGoodList bytes list
+  pub output_is : Appends old new (printed list)
+  pub again : records_of (printed list) ≡ list_records (in_order list)
+
+-- a front of it was put
+pub record PutsListFront (bytes : List ℕ) (old new : Option (List ℕ)) : Type 0 where
+  pub list : Listing
+  pub good : IsGoodList bytes list
+  pub front : Puts old new put.Failed (printed list)
+
+-- what a command answers that reads a cue list: on Ok the whole of its output was put, where a put failed a front of it, and
+-- what is refused is refused so
+abbrev pub ListAnswer : (List ℕ → Option (List ℕ) → Option (List ℕ) → Type 0) → (List ℕ → Option (List ℕ) → Option (List ℕ) → Type 0)
+    → (List ℕ → Status → Type 0) → Ends → Ends → Status → Type 0
+ListAnswer Whole Front Refused old new status.Ok =
     (new.read_faults ≡ old.read_faults) × (new.write_faults ≡ old.write_faults)
-    × IfSome old.left (λ bytes. PutsOutput output IsSound bytes old.written new.written)
-ListAnswer output IsSound old new status.Usage = ⊥
-ListAnswer output IsSound old new status.ReadFault =
+    × IfSome old.left (λ bytes. Whole bytes old.written new.written)
+ListAnswer Whole Front Refused old new status.Usage = ⊥
+ListAnswer Whole Front Refused old new status.ReadFault =
     Rose old.read_faults new.read_faults × TakesWithin list_limit old.left new.left × PutsNothing old new
-ListAnswer output IsSound old new status.WriteFault =
+ListAnswer Whole Front Refused old new status.WriteFault =
     (new.read_faults ≡ old.read_faults) × Rose old.write_faults new.write_faults
-    × IfSome old.left (λ bytes. PutsFront output bytes old.written new.written)
-ListAnswer output IsSound old new status.Memory = (new.read_faults ≡ old.read_faults) × PutsNothing old new
-ListAnswer output IsSound old new refusal =
-    (new.read_faults ≡ old.read_faults) × PutsNothing old new × IfSome old.left (λ bytes. IsRefused bytes refusal)
+    × IfSome old.left (λ bytes. Front bytes old.written new.written)
+ListAnswer Whole Front Refused old new status.Memory = (new.read_faults ≡ old.read_faults) × PutsNothing old new
+ListAnswer Whole Front Refused old new refusal =
+    (new.read_faults ≡ old.read_faults) × PutsNothing old new × IfSome old.left (λ bytes. Refused bytes refusal)
 
 -- what `pairs` answers
 abbrev pub PairsAnswer : Ends → Ends → Status → Type 0
-PairsAnswer old new answer = ListAnswer pairs_output IsSoundPairs old new answer
+PairsAnswer old new answer = ListAnswer (PutsOutput pairs_output IsSoundPairs) (PutsFront pairs_output) IsRefused old new answer
 
 -- what `build` answers
 abbrev pub BuildAnswer : Ends → Ends → Status → Type 0
-BuildAnswer old new answer = ListAnswer build_output IsSoundWords old new answer
+BuildAnswer old new answer = ListAnswer (PutsOutput build_output IsSoundWords) (PutsFront build_output) IsRefused old new answer
+
+-- what `cues` answers
+abbrev pub CuesAnswer : Ends → Ends → Status → Type 0
+CuesAnswer old new answer = ListAnswer PutsList PutsListFront IsRefusedList old new answer
 
 -- what a run answers
 abbrev pub Answer : Option Command → Ends → Ends → Status → Type 0
 Answer None old new answer = (answer ≡ status.Usage) × (new ≡ old)
 Answer (Some Pairs) old new answer = PairsAnswer old new answer
 Answer (Some Build) old new answer = BuildAnswer old new answer
+Answer (Some Cues) old new answer = CuesAnswer old new answer

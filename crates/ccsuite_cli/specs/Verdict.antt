@@ -3,10 +3,11 @@ use Rattle.std.specs.Prelude.{◌≡◌, ◌⊎◌, ℕ, List, Some}
 use Rattle.cc_base.specs.Streams.{Rose}
 use Rattle.cue_lists.specs.Listing.{Listing}
 use Rattle.frame_scheduler.specs.Planned.{Placement}
-use Rattle.ccsuite_cli.specs.Accepted.{IsAccepted, IsRefused}
+use Rattle.ccsuite_cli.specs.Accepted.{IsAccepted, IsGoodList, IsRefused}
 use Rattle.ccsuite_cli.specs.Answer.{Answer}
 use Rattle.ccsuite_cli.specs.Ends.{Ends}
-use Rattle.ccsuite_cli.specs.declared.command.Command.TheVariants.{Pairs}
+use Rattle.ccsuite_cli.specs.declared.command.Command.{Command}
+use Rattle.ccsuite_cli.specs.declared.command.Command.TheVariants.{Cues}
 use Rattle.ccsuite_cli.specs.declared.status.Status.{Status}
 use Rattle.ccsuite_cli.specs.declared.status.Status.TheVariants as status
 
@@ -29,9 +30,16 @@ abbrev pub EveryListIsJudged : Type 0
 EveryListIsJudged = (bytes : List ℕ)
     → ((list : Listing) × (placed : Placement) × IsAccepted bytes list placed) ⊎ ((answer : Status) × IsRefused bytes answer)
 
--- where no count of faults rose, an input that is an accepted list is answered Ok, or want of memory
+-- where no count of faults rose, every command answers an input that is an accepted list Ok, or want of memory
 abbrev pub AcceptedIsAnswered : Type 0
-AcceptedIsAnswered = (bytes : List ℕ) (list : Listing) (placed : Placement) (old new : Ends) (answer : Status)
+AcceptedIsAnswered = (bytes : List ℕ) (list : Listing) (placed : Placement) (command : Command) (old new : Ends) (answer : Status)
     → IsAccepted bytes list placed → old.left ≡ Some bytes
     → (Rose old.read_faults new.read_faults → ⊥) → (Rose old.write_faults new.write_faults → ⊥)
-    → Answer (Some Pairs) old new answer → (answer ≡ status.Ok) ⊎ (answer ≡ status.Memory)
+    → Answer (Some command) old new answer → (answer ≡ status.Ok) ⊎ (answer ≡ status.Memory)
+
+-- so does `cues` for a list that keeps the rules, whether it has room or not
+abbrev pub GoodListIsWritten : Type 0
+GoodListIsWritten = (bytes : List ℕ) (list : Listing) (old new : Ends) (answer : Status)
+    → IsGoodList bytes list → old.left ≡ Some bytes
+    → (Rose old.read_faults new.read_faults → ⊥) → (Rose old.write_faults new.write_faults → ⊥)
+    → Answer (Some Cues) old new answer → (answer ≡ status.Ok) ⊎ (answer ≡ status.Memory)

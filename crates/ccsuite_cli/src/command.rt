@@ -1,4 +1,4 @@
-ghost use Rattle.std.specs.Prelude.{◌≡◌, map, string_bytes};
+ghost use Rattle.std.specs.Prelude.{◌≡◌, [], ◌∷◌, map, string_bytes};
 ghost use Rattle.ccsuite_cli.specs.Command.{command_of};
 
 /// What the words of a command line ask for.
@@ -8,6 +8,8 @@ pub enum Command {
     Pairs,
     /// `build`: the ancillary words of each frame of a cue list.
     Build,
+    /// `cues`: a cue list as it is written.
+    Cues,
 }
 
 /// The command of the words after the program's name; None where they are no command.
@@ -15,15 +17,22 @@ pub fn read_words(words: &[String]) -> Option<Command>
     ensures { result ≡ command_of (map string_bytes words.now) }
 {
     match words {
-        [word] => {
-            if word.as_str() == "pairs" {
-                Some(Command::Pairs)
-            } else if word.as_str() == "build" {
-                Some(Command::Build)
-            } else {
-                None
-            }
-        }
+        [word] => read_word(word.as_str()),
         _ => None,
+    }
+}
+
+/// The command of one word.
+fn read_word(word: &str) -> Option<Command>
+    ensures { result ≡ command_of (word.now ∷ []) }
+{
+    if word == "pairs" {
+        Some(Command::Pairs)
+    } else if word == "build" {
+        Some(Command::Build)
+    } else if word == "cues" {
+        Some(Command::Cues)
+    } else {
+        None
     }
 }

@@ -1,5 +1,5 @@
 //! Laws of the verdict on a cue list: functions that do nothing, with the laws as their contracts.
-ghost use Rattle.ccsuite_cli.specs.Verdict.{AcceptanceIsOne, AcceptedIsAnswered, AcceptedIsNotRefused, EveryListIsJudged, RefusalIsOne};
+ghost use Rattle.ccsuite_cli.specs.Verdict.{AcceptanceIsOne, AcceptedIsAnswered, AcceptedIsNotRefused, EveryListIsJudged, GoodListIsWritten, RefusalIsOne};
 
 /// The law that a cue list which is accepted is refused with no status.
 pub fn accepted_is_not_refused()
@@ -21,8 +21,13 @@ pub fn every_list_is_judged()
     ensures { EveryListIsJudged }
 {}
 
-/// The law that `pairs` answers Ok to an input that is an accepted cue list, or Memory, where neither count of faults
-/// rose.
+/// The law that every command answers Ok to an input that is an accepted cue list, or Memory, where neither count of
+/// faults rose.
 pub fn accepted_is_answered()
     ensures { AcceptedIsAnswered }
+{}
+
+/// The law that `cues` does so for a cue list that keeps the rules, whether or not it has room.
+pub fn good_list_is_written()
+    ensures { GoodListIsWritten }
 {}

@@ -7,6 +7,7 @@ pub use crate::status::{Place, Status};
 mod accept;
 mod build;
 mod command;
+mod cues;
 mod gathered;
 pub mod laws;
 mod lines;

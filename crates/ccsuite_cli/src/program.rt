@@ -8,6 +8,7 @@ ghost use Rattle.ccsuite_cli.specs.StatusLine.{status_line};
 
 use crate::build::build;
 use crate::command::{Command, read_words};
+use crate::cues::cues;
 use crate::pairs::pairs;
 use crate::status::{Status, put_status};
 use cc_base::{Sink, Source};
@@ -51,5 +52,6 @@ fn obey<M: Source, O: Sink>(
         None => Status::Usage,
         Some(Command::Pairs) => pairs(alloc, input, out),
         Some(Command::Build) => build(alloc, input, out),
+        Some(Command::Cues) => cues(alloc, input, out),
     }
 }

@@ -8,8 +8,10 @@ use std::alloc::Global;
 use std::test::Fail;
 
 mod build;
+mod cues;
 mod line21;
 mod pairs;
+mod seen;
 
 /// The list of the caption HI on 30 frames.
 const HI: &[u8] = b"ccsuite,1,29.97,30\npop,CC1,0,7,20\nrun,15,0,white,HI\n";

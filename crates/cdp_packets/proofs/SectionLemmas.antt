@@ -99,11 +99,11 @@ pub no_sections : IsSectionList []
 no_sections = record { cut = []; are = tt; joined = refl }
 
 -- one more section behind a list of sections
-are-push : (ss : List (List ℕ)) (s : List ℕ) → AreSections ss → IsSection s → AreSections (ss ++ s ∷ [])
+pub are-push : (ss : List (List ℕ)) (s : List ℕ) → AreSections ss → IsSection s → AreSections (ss ++ s ∷ [])
 are-push [] s are is = (is, tt)
 are-push (t ∷ ss) s are is = (are.0, are-push ss s are.1 is)
 
-concat-push : (ss : List (List ℕ)) (s : List ℕ) → concat (ss ++ s ∷ []) ≡ concat ss ++ s
+pub concat-push : (ss : List (List ℕ)) (s : List ℕ) → concat (ss ++ s ∷ []) ≡ concat ss ++ s
 concat-push [] s = append-nil s
 concat-push (t ∷ ss) s = ap (λ xs. t ++ xs) (concat-push ss s) ∙ sym (append_assoc t (concat ss) s)
 

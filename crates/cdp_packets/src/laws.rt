@@ -1,12 +1,20 @@
 //! Laws of the definitions: functions without a body, whose contract is the law.
 
-ghost use Rattle.std.specs.Prelude.{◌≡◌, ℕ, ◌<◌, ◌≤◌, ◌++◌, List, [], ◌∷◌, All, length};
+ghost use Rattle.std.specs.Prelude.{◌≡◌, ◌↔◌, ℕ, ◌+◌, ◌<◌, ◌≤◌, ◌++◌, List, [], ◌∷◌, All, IsTrue, None, length};
 ghost use Rattle.std.specs.List.{concat};
 ghost use Rattle.cc_base.specs.declared.rate.Rate.{Rate};
+ghost use Rattle.cc_base.specs.declared.step.Step.TheVariants.{Refuse};
+ghost use Rattle.cc_base.specs.declared.why.Why.{Why as Reason};
+ghost use Rattle.cc_base.specs.Feeding.{Verdict};
+ghost use Rattle.cc_base.specs.Steps.{AreAccepted};
 ghost use Rattle.cc_data.specs.declared.triplet.Triplet.{Triplet};
-ghost use Rattle.cdp_packets.specs.Sections.{IsSection, AreSections};
+ghost use Rattle.cdp_packets.specs.declared.parts.CdpPart.{CdpPart as Part};
+ghost use Rattle.cdp_packets.specs.Sections.{IsSection, AreSections, is_id};
 ghost use Rattle.cdp_packets.specs.Packets.{Packet, IsCdp};
+ghost use Rattle.cdp_packets.specs.PacketParts.{packet_parts};
 ghost use Rattle.cdp_packets.specs.PacketTriplets.{section_triplets, packet_triplets};
+ghost use Rattle.cdp_packets.specs.Reading.{AllRead, GoesOn, IsPacketLength, count_fits, ended, id_fits, judge_cdp, open_behind, parts_of, read_under};
+ghost use Rattle.cdp_packets.specs.Beginnings.{CanBegin};
 ghost use Rattle.cdp_packets.specs.Written.{cc_data_section, written_packet};
 
 /// Bytes begin with one packet at most: whatever follows them, two packets at the head of one list
@@ -49,4 +57,45 @@ pub fn written_triplets_are_read_back()
         → packet_triplets
         (record { rate = rate; flags = flags; counter = counter; sections = cc_data_section triplets ∷ [] })
         ≡ triplets }
+{}
+
+/// A packet is read to its end: none of its bytes is refused, they make its parts, and no section is open behind them. Under a
+/// layer that takes these parts they are handed upward, and there is no refusal.
+pub fn packets_are_read()
+    ensures length { (packet : Packet) (bytes : List ℕ) → IsCdp packet bytes → IsPacketLength (length bytes) }
+    ensures read { (packet : Packet) (bytes : List ℕ) → IsCdp packet bytes → AllRead (length bytes) bytes
+        × (parts_of (length bytes) bytes ≡ packet_parts packet) × (open_behind (length bytes) bytes ≡ ended bytes) }
+    ensures handed { (verdict : Verdict Part) (packet : Packet) (bytes : List ℕ) → IsCdp packet bytes
+        → AreAccepted verdict [] (packet_parts packet)
+        → read_under (length bytes) verdict bytes ≡ record { parts = packet_parts packet; refusal = None } }
+{}
+
+/// What is read is a packet: as many bytes as the packet is to have, none of which is refused, are a packet, and make its parts.
+/// Bytes behind them change nothing. Where there is no refusal, no byte was refused, and the layer above took all parts.
+pub fn what_is_read_is_a_packet()
+    ensures packet { (size : ℕ) (bytes : List ℕ) → IsPacketLength size → length bytes ≡ size → AllRead size bytes
+        → (packet : Packet) × IsCdp packet bytes × (parts_of size bytes ≡ packet_parts packet) }
+    ensures behind { (size : ℕ) (bytes more : List ℕ) → IsPacketLength size → length bytes ≡ size → AllRead size bytes
+        → AllRead size (bytes ++ more) × (parts_of size (bytes ++ more) ≡ parts_of size bytes)
+        × (open_behind size (bytes ++ more) ≡ open_behind size bytes) }
+    ensures unrefused { (size : ℕ) (verdict : Verdict Part) (bytes : List ℕ) → (read_under size verdict bytes).refusal ≡ None
+        → AllRead size bytes × AreAccepted verdict [] (parts_of size bytes) }
+{}
+
+/// Bytes none of which is refused begin some packet of the length, also one whose further bytes only fill it; and no packet of
+/// the length begins with bytes whose last one is refused.
+pub fn a_byte_is_refused_where_no_packet_goes_on()
+    ensures begun { (size : ℕ) (bytes : List ℕ) → IsPacketLength size → size < 256 → All (λ byte. byte < 256) bytes
+        → length bytes ≤ size → AllRead size bytes → GoesOn size bytes }
+    ensures refused { (size : ℕ) (bytes : List ℕ) (byte : ℕ) (reason : Reason) (more : List ℕ) (packet : Packet)
+        → judge_cdp size (open_behind size bytes) byte ≡ Refuse reason → IsCdp packet (bytes ++ byte ∷ more)
+        → length (bytes ++ byte ∷ more) ≡ size → ⊥ }
+{}
+
+/// An id fits exactly where some list of sections of as many bytes as are left begins with it, and the second byte of a section
+/// exactly where some such list goes on with it.
+pub fn sections_fit_where_some_can_follow()
+    ensures id { (left id : ℕ) → left < 256 → IsTrue (id_fits left id) ↔ CanBegin left (id ∷ []) }
+    ensures count { (left id count : ℕ) → left < 256 → IsTrue (is_id id)
+        → IsTrue (count_fits left id count) ↔ CanBegin (left + 1) (id ∷ count ∷ []) }
 {}

@@ -3,11 +3,18 @@
 #![tactic(auto)]
 
 pub mod laws;
+mod open_packet;
+mod open_triplet;
 mod packets;
+mod parts;
 mod pieces;
+mod reader;
 mod sections;
+mod within;
 
 pub use packets::write_cdp;
+pub use parts::CdpPart;
+pub use reader::CdpReader;
 pub use sections::{cc_section, section_len};
 
 #[cfg(test)]

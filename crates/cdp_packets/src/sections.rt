@@ -39,7 +39,7 @@ pub fn section_len(sections: &[u8]) -> usize
 }
 
 // The number of bytes behind the first two of a section.
-fn rest_len(id: u8, second: u8) -> usize
+pub(crate) fn rest_len(id: u8, second: u8) -> usize
     ensures { result ≡ rest_of id second }
 {
     let second = usize::from(second);
@@ -52,11 +52,11 @@ fn rest_len(id: u8, second: u8) -> usize
 }
 
 // The ids of the sections that this version knows; every other section has its length in its second byte.
-const TIME_CODE: u8 = 0x71;
+pub(crate) const TIME_CODE: u8 = 0x71;
 
-const CC_DATA: u8 = 0x72;
+pub(crate) const CC_DATA: u8 = 0x72;
 
-const SERVICE_INFORMATION: u8 = 0x73;
+pub(crate) const SERVICE_INFORMATION: u8 = 0x73;
 
 // The three marker bits above the count of a cc_data section.
 const COUNT_MARKER: u8 = 0xE0;

@@ -1,5 +1,7 @@
 ghost use Rattle.std.specs.Prelude.{◌≡◌};
 
+mod reading;
+
 use crate::{cc_section, section_len, write_cdp};
 use arrayvec::ArrayVec;
 use cc_base::Rate;

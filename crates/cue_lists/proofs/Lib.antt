@@ -5,6 +5,7 @@ pub mod FieldFacts
 pub mod Judged
 pub mod NumberFacts
 pub mod Passing
+pub mod PrintedFacts
 pub mod RecordFacts
 pub mod Rows
 pub mod RuleCells

@@ -7,6 +7,7 @@ pub mod FirstFault
 pub mod Form
 pub mod Line21Cues
 pub mod Listing
+pub mod Printing
 pub mod Reading
 pub mod Records
 pub mod Rules

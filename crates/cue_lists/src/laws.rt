@@ -2,8 +2,9 @@
 
 ghost use Rattle.std.specs.Prelude.{◌≡◌, Err, List, Ok};
 ghost use Rattle.cue_lists.specs.FirstFault.{IsFirstFault};
-ghost use Rattle.cue_lists.specs.Listing.{Listing};
-ghost use Rattle.cue_lists.specs.Reading.{list_of};
+ghost use Rattle.cue_lists.specs.Listing.{IsFormed, Listing};
+ghost use Rattle.cue_lists.specs.Printing.{printed};
+ghost use Rattle.cue_lists.specs.Reading.{list_of, read_list};
 ghost use Rattle.cue_lists.specs.Records.{Record};
 ghost use Rattle.cue_lists.specs.Spelling.{Spells};
 ghost use Rattle.cue_lists.specs.Unbuilt.{IsBuilt};
@@ -17,4 +18,9 @@ pub fn spelled_is_read()
 /// Records that have a first fault are answered with it: there is one at most.
 pub fn first_fault_is_answered()
     ensures { (records : List Record) (fault : CueFault) → IsFirstFault records fault → list_of records ≡ Err fault }
+{}
+
+/// The bytes of a list which this version authors are read as that list.
+pub fn printed_is_read()
+    ensures { (list : Listing) → IsFormed list → IsBuilt list → read_list (printed list) ≡ Ok list }
 {}

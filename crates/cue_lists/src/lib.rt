@@ -4,6 +4,7 @@
 pub use crate::cue::{Cue, Kind, Pen, Run, WinCue};
 pub use crate::fault::CueFault;
 pub use crate::list::{CueList, Share};
+pub use crate::printing::print;
 pub use crate::reading::parse;
 pub use crate::rules::{RuleFault, check};
 pub use crate::runs::Runs;
@@ -17,11 +18,13 @@ mod head;
 pub mod laws;
 mod list;
 mod offence;
+mod printing;
 mod reading;
 mod record_kind;
 mod records;
 mod rules;
 mod runs;
+mod spelling;
 #[cfg(test)]
 mod tests;
 mod text;

@@ -9,6 +9,7 @@ use std::test::Fail;
 
 mod every_cue;
 mod many_cues;
+mod printed;
 
 // The list has this fault.
 pub fn malformed(rt: &impl Abort, alloc: Global, text: &[u8], rec: u32, field: u32, why: Why) {

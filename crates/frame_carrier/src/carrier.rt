@@ -12,6 +12,7 @@ use frame_scheduler::FramePairs;
 
 /// The identifiers of ancillary packets of captions (SMPTE ST 334-1).
 const CAPTION_DID: u8 = 0x61;
+
 const CAPTION_SDID: u8 = 0x01;
 
 /// The flags of a distribution packet with cc_data alone, of an active caption service (SMPTE ST 334-2).

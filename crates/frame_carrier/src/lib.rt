@@ -7,3 +7,6 @@ pub mod laws;
 mod triplets;
 
 pub use crate::carrier::Carrier;
+
+#[cfg(test)]
+mod tests;

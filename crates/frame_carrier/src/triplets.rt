@@ -10,7 +10,9 @@ use line21_codes::Pair;
 
 /// The kinds of triplets (CTA-708-E, cc_type): the pairs of both fields, and bytes of a caption channel packet.
 const FIELD_1: u8 = 0;
+
 const FIELD_2: u8 = 1;
+
 const PACKET_DATA: u8 = 2;
 
 /// The triplets of a frame: the pair of field 1, that of field 2, the triplets of the frame's caption channel packet, and

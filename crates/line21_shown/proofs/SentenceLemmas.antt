@@ -189,7 +189,7 @@ module _ (list : Listing) (formed : IsFormed list) (ruled : IsRuled list) (chann
   captioned : (cue : Cue) → Contains cues cue → is_roll cue.kind ≡ false → IsUp f cue → HasCells cue.runs (authored_grid channel list.cues f)
   captioned cue among plain up =
       let newest = All-contains (IsNewest f (newest_first cues [])) cues cue
-          (All-from_recursion (IsNewest f (newest_first cues [])) cues (each_newest list.frames f cues [] sequence)) among plain up in
+      (All-from_recursion (IsNewest f (newest_first cues [])) cues (each_newest list.frames f cues [] sequence)) among plain up in
       let sound : IsSound list.frames cue =
       All-contains (IsSound list.frames) cues cue (All-from_recursion (IsSound list.frames) cues (in_sequence_sound list.frames cues sequence)) among in
       let line21 : is_line21 cue.kind ≡ true =

@@ -3,3 +3,4 @@ pub mod Writing
 pub mod Reading
 pub mod Shown
 pub mod Sentences
+pub mod Examples

@@ -1,5 +1,7 @@
 //! Laws of the definitions: functions without a body, whose contract is the law.
 
+ghost use Rattle.std.specs.Prelude.{[], ◌∷◌, ◌++◌};
+ghost use Rattle.line21_shown.specs.Examples.{IsSent, Shows, two_colours, two_colours_screen, rolling, letter_row, empty_rows};
 ghost use Rattle.line21_shown.specs.Reading.{ColumnsAreRead};
 ghost use Rattle.line21_shown.specs.Sentences.{AuthoredGridIsSaid};
 ghost use Rattle.line21_shown.specs.Shown.{AuthoredIsSeen};
@@ -27,4 +29,24 @@ pub fn authored_is_seen()
 /// no others, a chain of roll-up cues its rows and no others, and where no cue is up nothing is shown.
 pub fn authored_grid_is_said()
     ensures { AuthoredGridIsSaid }
+{}
+
+/// A pop-on caption in two colours, worked out by hand: its pairs show it from SHOW up to HIDE, as it is authored, with the
+/// lead cell of the red run.
+pub fn colours_are_seen_with_lead_cells()
+    ensures sent { IsSent two_colours }
+    ensures before { Shows two_colours 14 (empty_rows 15) }
+    ensures from { Shows two_colours 15 two_colours_screen }
+    ensures to { Shows two_colours 16 two_colours_screen }
+    ensures behind { Shows two_colours 17 (empty_rows 15) }
+{}
+
+/// A chain of three roll-up captions of 2 rows, worked out by hand: its pairs show the last two of the captions, each a row
+/// higher when the next is shown, as they are authored.
+pub fn rolled_up_rows_are_seen()
+    ensures sent { IsSent rolling }
+    ensures one { Shows rolling 7 (empty_rows 10 ++ letter_row 65 ∷ empty_rows 4) }
+    ensures two { Shows rolling 15 (empty_rows 9 ++ letter_row 65 ∷ letter_row 66 ∷ empty_rows 4) }
+    ensures three { Shows rolling 24 (empty_rows 9 ++ letter_row 66 ∷ letter_row 67 ∷ empty_rows 4) }
+    ensures behind { Shows rolling 25 (empty_rows 15) }
 {}

@@ -27,7 +27,8 @@ impl Front {
     }
 
     /// Places the unit in the first frame that is allowed behind the front, and moves the front
-    /// behind it. `None` where no frame is allowed; the front is of no use then.
+    /// behind it. `None` where no frame is allowed; the front is of no use then. No event that was passed is
+    /// tried again.
     pub fn place(&mut self, piece: Piece, events: &[Event]) -> Option<u64>
         requires small { self.old.end < 2 ^ 32 }
         requires apart { AreApart events.now }
@@ -35,6 +36,7 @@ impl Front {
         ensures first { IfSome result (IsFirstFrame events.now self.old.end piece) }
         ensures end { IfSome result (λ frame. (self.new.end ≡ frame + slots_of piece) × (self.new.end < 2 ^ 32)) }
         ensures front { IfSome result (λ _. IsFront events.now self.new) }
+        ensures onward { self.old.passed ≤ self.new.passed }
         ensures none { IfNone result ((frame : ℕ) → IsAllowed events.now self.old.end piece frame → ⊥) }
     {
         let slots = piece.unit.slots();
@@ -55,6 +57,7 @@ impl Front {
         ensures small { self.new.end < 2 ^ 33 }
         ensures first { IsFirstFree events.now slots self.old.end self.new.end }
         ensures front { IsFront events.now self.new }
+        ensures onward { self.old.passed ≤ self.new.passed }
     {
         let slots = u64::from(slots);
         while let Some(event) = events.get(self.passed)

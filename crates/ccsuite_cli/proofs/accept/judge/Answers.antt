@@ -1,6 +1,5 @@
-use Rattle.ccsuite_cli.proofs.Refusals.{form_refused}
+use Rattle.ccsuite_cli.proofs.Refusals.{no_programme}
 use Rattle.ccsuite_cli.proofs.accept.judge.Goals as goal
 
 pub returns-in-Err : goal.returns-in-Err
-returns-in-Err c =
-    rw c.status_of_form.ensures (form_refused c.args.bytes.now c.in-Err.fault c.requires c.in-Err.ensures.answer c.in-Err.ensures.fault)
+returns-in-Err c = no_programme c.args.bytes.now c.in-Err.status c.in-Err.ensures

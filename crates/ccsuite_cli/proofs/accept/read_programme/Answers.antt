@@ -1,7 +1,12 @@
-use Rattle.ccsuite_cli.proofs.Refusals.{judged, ok_is_no_fault}
+use Rattle.ccsuite_cli.specs.Accepted.{IsGoodList, IsRefused, IsRefusedList}
+use Rattle.ccsuite_cli.specs.Reads.{IsProgrammeOf}
+use Rattle.ccsuite_cli.proofs.Refusals.{judged, refused_list, unread}
 use Rattle.ccsuite_cli.proofs.accept.read_programme.Goals as goal
 
 pub returns-in-Ok : goal.returns-in-Ok
 returns-in-Ok g c =
-    judged _ _ _ _ c.in-Ok.bytes.items c.judge.result c.in-Ok.ensures.bytes (c.in-Ok.ensures.steady (ok_is_no_fault _ _))
+    judged IsProgrammeOf IsRefused (λ bytes answer refused. refused) _ _ _ _ c.in-Ok.bytes.items c.judge.result c.in-Ok.ensures.bytes.1 c.in-Ok.ensures.bytes.0
     (rw c.deref.ensures.value at c.judge.ensures)
+
+pub returns-in-Err : goal.returns-in-Err
+returns-in-Err g c = unread IsProgrammeOf IsRefused (λ bytes long. long) _ _ _ _ c.in-Err.status c.in-Err.ensures.bytes

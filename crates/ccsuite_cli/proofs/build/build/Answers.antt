@@ -1,4 +1,7 @@
+use Rattle.ccsuite_cli.specs.Accepted.{IsRefused}
+use Rattle.ccsuite_cli.specs.Answer.{PutsFront, PutsOutput}
 use Rattle.ccsuite_cli.specs.Output.{IsSoundWords, build_output}
+use Rattle.ccsuite_cli.specs.Reads.{IsProgrammeOf}
 use Rattle.ccsuite_cli.proofs.Outputs.{words_front, words_put}
 use Rattle.ccsuite_cli.proofs.Refusals.{read_refused}
 use Rattle.ccsuite_cli.proofs.build.build.Goals as goal
@@ -10,4 +13,4 @@ pub returns-in-Failed : goal.returns-in-Failed
 returns-in-Failed g c = (c.in-Ok.ensures.0, c.in-Failed.ensures.cause.1, words_front _ _ _ c.in-Ok.programme c.in-Ok.ensures.1 c.in-Failed.ensures.bytes)
 
 pub returns-in-Err : goal.returns-in-Err
-returns-in-Err g c = read_refused build_output IsSoundWords _ _ _ _ _ _ c.in-Err.status c.in-Err.ensures
+returns-in-Err g c = read_refused (PutsOutput build_output IsSoundWords) (PutsFront build_output) IsProgrammeOf IsRefused _ _ _ _ _ _ c.in-Err.status c.in-Err.ensures

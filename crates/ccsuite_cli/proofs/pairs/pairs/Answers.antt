@@ -1,4 +1,7 @@
+use Rattle.ccsuite_cli.specs.Accepted.{IsRefused}
+use Rattle.ccsuite_cli.specs.Answer.{PutsFront, PutsOutput}
 use Rattle.ccsuite_cli.specs.Output.{IsSoundPairs, pairs_output}
+use Rattle.ccsuite_cli.specs.Reads.{IsProgrammeOf}
 use Rattle.ccsuite_cli.proofs.Outputs.{pairs_front, pairs_put}
 use Rattle.ccsuite_cli.proofs.Refusals.{read_refused}
 use Rattle.ccsuite_cli.proofs.pairs.pairs.Goals as goal
@@ -10,4 +13,4 @@ pub returns-in-Failed : goal.returns-in-Failed
 returns-in-Failed g c = (c.in-Ok.ensures.0, c.in-Failed.ensures.cause.1, pairs_front _ _ _ c.in-Ok.programme c.in-Ok.ensures.1 c.in-Failed.ensures.bytes)
 
 pub returns-in-Err : goal.returns-in-Err
-returns-in-Err g c = read_refused pairs_output IsSoundPairs _ _ _ _ _ _ c.in-Err.status c.in-Err.ensures
+returns-in-Err g c = read_refused (PutsOutput pairs_output IsSoundPairs) (PutsFront pairs_output) IsProgrammeOf IsRefused _ _ _ _ _ _ c.in-Err.status c.in-Err.ensures

@@ -21,6 +21,7 @@ loop-event-preserved c =
         within = omega (arith, here.within);
         passed = subst (λ n. AreOver n (take (front.passed + 1) events)) (sym is) (over_next events front.passed front.end c.in-Some.event.now here inv.front.passed);
       };
+      onward = omega (arith, inv.onward);
       first = λ f from free. subst (λ n. n ≤ f) (sym is)
           (first_next events c.from-slots.result c.args.self.now.end front.end front.passed c.in-Some.event.now (omega arith) here (omega arith) inv.first f from free);
     }

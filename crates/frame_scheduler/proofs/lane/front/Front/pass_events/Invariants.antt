@@ -7,6 +7,7 @@ invariant-loop-event l = record {
   small : l.self.end < 2 ^ 33;
   behind : l.fn.self.end ≤ l.self.end;
   front : IsFront l.events l.self;
+  onward : l.fn.self.passed ≤ l.self.passed;
   first : (other : ℕ) → l.fn.self.end ≤ other → AreFree l.events l.slots other → l.self.end ≤ other;
 }
 

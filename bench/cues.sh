@@ -1,0 +1,45 @@
+#!/usr/bin/env bash
+# What a cue list costs to read, check and plan, with 2,000 and with 20,000 pop-on cues, beside csv that only goes through
+# the records of the same bytes, by turns in one run. Proves and builds bench/cues in a folder of its own.
+set -eu
+cd "$(dirname "$0")/.."
+work=$(mktemp -d)
+trap 'rm -rf "$work"' EXIT
+mkdir -p "$work/crates/cues_bench/src"
+for crate in cc_base line21_codes cue_lists line21_author frame_scheduler; do
+    cp -r "crates/$crate" "$work/crates/"
+    grep "^$crate:" crates.txt >> "$work/crates.txt"
+done
+cp bench/cues/main.txt "$work/crates/cues_bench/src/main.rt"
+echo 'cues_bench: cc_base cue_lists frame_scheduler csv' >> "$work/crates.txt"
+
+# a list of so many cues, each of two rows, 50 frames apart
+list() {
+    echo "ccsuite,1,29.97,1000000"
+    awk -v cues="$1" 'BEGIN {
+        for (cue = 0; cue < cues; cue++) {
+            print "pop,CC1," cue * 50 "," cue * 50 + 35 "," cue * 50 + 45
+            print "run,14,4,white,CAPTIONS OF THIS"
+            print "run,15,8,yellow,PROGRAMME"
+        }
+    }'
+}
+list 2000 > "$work/2000"
+list 20000 > "$work/20000"
+(cd "$work/crates/cues_bench" && rt run -- plan < "$work/2000" > /dev/null)
+program=$work/crates/cues_bench/out/cues_bench
+
+# the least processor time of several runs, each of ten rounds, in tenths of a millisecond a round
+TIMEFORMAT=%U
+for cues in 2000 20000; do
+    "$program" plan < "$work/$cues" | head -n 1
+    for what in csv plan; do
+        best=
+        for _ in 1 2 3 4 5; do
+            took=$({ time "$program" "$what" < "$work/$cues" > /dev/null; } 2>&1 | tr -d .)
+            took=$((10#$took))
+            if [ -z "$best" ] || [ "$took" -lt "$best" ]; then best=$took; fi
+        done
+        printf '%-6s %-5s %d.%d ms\n' "$cues" "$what" $((best / 10)) $((best % 10))
+    done
+done

@@ -1,0 +1,84 @@
+ghost use Rattle.std.specs.Prelude.{◌≡◌, ◌%◌, ◌^◌, ℕ, List, [], Some, IfErr, IsOk, length};
+ghost use Rattle.std.specs.Result.{result_err};
+ghost use Rattle.cc_base.specs.declared.refusal.Refusal.{Refusal as Refused};
+ghost use Rattle.cc_base.specs.declared.why.Why.TheVariants as why;
+ghost use Rattle.cc_base.specs.Feeding.{place_by};
+ghost use Rattle.cc_base.specs.Steps.{judge_by};
+ghost use Rattle.anc_words.specs.Packets.{Packet};
+ghost use Rattle.anc_words.specs.Reading.{judge_byte, nothing_open, open_after};
+ghost use Rattle.anc_words.specs.WordsFiles.{IsWordsFile};
+
+use crate::open_packet::OpenPacket;
+use crate::parts::WordPart;
+use cc_base::{Fed, Refusal, Resume, Upward, Why};
+
+/// Reads the bytes of a words file, in any pieces: ancillary packets one after another, each ten-bit word as two bytes, the
+/// high one first (SMPTE ST 291-1). It hands the parts of the packets upward.
+///
+/// A word is refused with its low byte, in this order: `HighBits` above 3FF, `Flag` where one of the first three words is
+/// another one, `WordParity` where DID, SDID, the count, or a user word of captions (DID 61, SDID 01) has a wrong bit 8 or 9,
+/// `AncSum` where the checksum word is another one, and then for the reason of the layer above. The place is the number of
+/// the word's first byte. The reader keeps counts and a sum, and none of the words.
+#[derive(Clone, Copy, Debug)]
+pub struct WordReader {
+    fed: Fed<OpenPacket>,
+}
+
+impl WordReader {
+    ghost use Rattle.anc_words.specs.Readers.{HasRead, kept_refusal};
+
+    /// A reader that was fed nothing.
+    pub fn new() -> WordReader
+        ensures { HasRead [] result }
+    {
+        WordReader {
+            fed: Fed::new(OpenPacket::new()),
+        }
+    }
+
+    /// Says whether the bytes fed may end here: the kept refusal, if there is one; else `Truncated`, at the number of bytes
+    /// fed, where bytes were fed and the last of them doesn't end a packet.
+    pub fn finish(&self) -> Result<(), Refusal>
+        ensures kept { (refused : Refused) → kept_refusal self.now ≡ Some refused → result_err result ≡ Some refused }
+        ensures whole { (bytes : List ℕ) → HasRead bytes self.now → IsOk result → (packets : List Packet) × IsWordsFile packets bytes }
+        ensures file { (bytes : List ℕ) (packets : List Packet) → HasRead bytes self.now → IsWordsFile packets bytes → IsOk result }
+        ensures cut { (bytes : List ℕ) → HasRead bytes self.now
+            → IfErr result (λ refused. (refused.why ≡ why.Truncated) × (refused.place ≡ length bytes % 2 ^ 64)) }
+    {
+        if let Some(refusal) = self.fed.refusal {
+            return Err(refusal);
+        }
+        if self.fed.machine.is_closed() {
+            return Ok(());
+        }
+        Err(Refusal {
+            place: self.fed.taken,
+            why: Why::Truncated,
+        })
+    }
+}
+
+impl Resume<u8, WordPart> for WordReader {
+    ghost use Rattle.std.proofs.Common.{rules};
+    ghost use Rattle.anc_words.specs.Readers.{HasRead, kept_refusal};
+
+    ghost Given = { Unit {0} };
+
+    ghost usual = { tt };
+
+    ghost judge = { λ given. judge_by judge_byte open_after nothing_open };
+
+    ghost place = { place_by 2 };
+
+    ghost Leads = { λ given bytes reader. HasRead bytes reader };
+
+    ghost refusal = { λ reader. kept_refusal reader };
+
+    fn feed<U: Upward<WordPart>>(&mut self, input: &[u8], up: &mut U) -> Result<(), Refusal> {
+        self.fed.feed(input, up)
+    }
+
+    ghost is_open = { λ given bytes reader led. led.1.unrefused };
+
+    ghost item_fits = { Prim.search rules };
+}

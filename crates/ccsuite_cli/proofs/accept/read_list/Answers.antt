@@ -1,0 +1,12 @@
+use Rattle.ccsuite_cli.specs.Accepted.{IsGoodList, IsRefused, IsRefusedList}
+use Rattle.ccsuite_cli.specs.Reads.{IsProgrammeOf}
+use Rattle.ccsuite_cli.proofs.Refusals.{judged, refused_list, unread}
+use Rattle.ccsuite_cli.proofs.accept.read_list.Goals as goal
+
+pub returns-in-Ok : goal.returns-in-Ok
+returns-in-Ok g c =
+    judged IsGoodList IsRefusedList refused_list _ _ _ _ c.in-Ok.bytes.items c.judge_list.result c.in-Ok.ensures.bytes.1 c.in-Ok.ensures.bytes.0
+    (rw c.deref.ensures.value at c.judge_list.ensures)
+
+pub returns-in-Err : goal.returns-in-Err
+returns-in-Err g c = unread IsGoodList IsRefusedList (λ bytes long. long) _ _ _ _ c.in-Err.status c.in-Err.ensures.bytes
