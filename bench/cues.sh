@@ -32,7 +32,7 @@ program=$work/crates/cues_bench/out/cues_bench
 # the least processor time of several runs, each of ten rounds, in tenths of a millisecond a round
 TIMEFORMAT=%U
 for cues in 2000 20000; do
-    "$program" plan < "$work/$cues" | head -n 1
+    "$program" plan < "$work/$cues" | tail -n 1
     for what in csv plan; do
         best=
         for _ in 1 2 3 4 5; do

@@ -1,10 +1,9 @@
 -- What holds of the output of an accepted list.
-use Rattle.std.proofs.Common.{ap, refl, sym, subst, true, false, Bool, All, ◌≡◌, ◌∙◌, ◌≤◌, ℕ, zero, suc, List, [], ◌∷◌, reverse, take, arith, Option, Some, None}
+use Rattle.std.proofs.Common.{ap, refl, sym, subst, true, false, Bool, ◌≡◌, ◌∙◌, ℕ, zero, suc, List, [], ◌∷◌, reverse, take, arith, Option, Some, None}
 use Rattle.std.proofs.lemmas.List.{reverse-append}
 use Rattle.std.specs.Prelude.{IfSome}
 use Rattle.cc_base.specs.Streams.{Puts}
 use Rattle.cc_base.specs.declared.streams.Put.TheVariants as put
-use Rattle.line21_codes.specs.declared.channels.Chan.{Chan}
 use Rattle.line21_codes.specs.declared.pairs.Pair.{Pair}
 use Rattle.line21_screen.specs.Meaning.{after}
 use Rattle.cdp_packets.specs.Packets.{Packet as Frame}
@@ -12,7 +11,6 @@ use Rattle.words_files.specs.Received.{received_at, received_pairs}
 use Rattle.cc_base.specs.declared.streams.Put.{Put}
 use Rattle.line21_codes.specs.declared.channels.Chan.TheVariants.{Cc1, Cc3}
 use Rattle.cue_lists.specs.Listing.{IsFormed, Listing}
-use Rattle.cue_lists.specs.declared.cue.Cue.{Cue}
 use Rattle.frame_scheduler.specs.Columns.{Columns, first_pairs}
 use Rattle.frame_scheduler.specs.Frames.{GivesFrom, frames_left}
 use Rattle.frame_scheduler.specs.Planned.{Placement, columns_of}

@@ -1,7 +1,6 @@
 -- The frames of a programme are carried: each packet is one by the definitions of its layers, and a receiver gets its pairs.
-use Rattle.std.proofs.Common.{◌≡◌, ℕ, zero, suc, ◌+◌, ◌-◌, ◌*◌, ◌/◌, ◌%◌, ◌<◌, ◌≤◌, ◌==◌, ◌&&◌, Bool, true, false, List, [], ◌∷◌, ◌++◌, All, length, map, replicate, take, refl, sym, ap, ◌∙◌, subst, arith, append-nil, append_assoc}
-use Rattle.std.specs.Prelude.{if◌then◌else◌, sum}
-use Rattle.std.specs.List.{concat, flat_map}
+use Rattle.std.proofs.Common.{◌≡◌, ℕ, zero, suc, ◌+◌, ◌-◌, ◌*◌, ◌/◌, ◌%◌, ◌<◌, ◌≤◌, Bool, true, false, List, [], ◌∷◌, ◌++◌, All, length, replicate, take, refl, sym, ap, ◌∙◌, subst, arith, append-nil}
+use Rattle.std.specs.Prelude.{if◌then◌else◌}
 use Rattle.std.proofs.lemmas.List.{length-append}
 use Rattle.std.proofs.lemmas.List.Elements.{All-append, All-cons, All-from_recursion, All-head, All-nil, All-tail}
 use Rattle.cc_base.specs.Rate.{code_of, triplets_of}
@@ -12,21 +11,20 @@ use Rattle.cue_lists.specs.Listing.{IsListRate}
 use Rattle.cc_data.specs.declared.triplet.Triplet.{Triplet}
 use Rattle.cc_data.specs.Triplets.{all_written, written}
 use Rattle.cc_data.proofs.TripletLemmas.{length-all_written}
-use Rattle.cdp_packets.specs.Packets.{IsCdp, Packet as Frame}
+use Rattle.cdp_packets.specs.Packets.{IsCdp}
 use Rattle.cdp_packets.specs.PacketTriplets.{packet_triplets}
 use Rattle.cdp_packets.specs.Written.{cc_data_section, checksum_of, unsummed_packet, written_packet}
 use Rattle.cdp_packets.proofs.PacketLemmas.{written-is_packet}
 use Rattle.cdp_packets.proofs.SectionLemmas.{cc_data_section-is, cc_data_section-triplets}
-use Rattle.anc_words.specs.Packets.{Packet, user_bytes}
 use Rattle.anc_words.specs.Writing.{packet_bytes, packet_of}
 use Rattle.anc_words.proofs.PacketLemmas.{packet_bytes-is, user_bytes-packet_of}
 use Rattle.anc_words.proofs.WordsFileLemmas.{IsWordsFile-nil, IsWordsFile-one}
 use Rattle.words_files.specs.Frames.{IsFileOf, none, caption}
-use Rattle.words_files.specs.Received.{field_kind, field_pair, field_pairs, received_pairs}
+use Rattle.words_files.specs.Received.{field_pairs, received_pairs}
 use Rattle.words_files.proofs.FrameLemmas.{joined}
 use Rattle.frame_scheduler.specs.Columns.{Columns, first_pairs, pairs_at}
 use Rattle.frame_scheduler.specs.declared.frames.FramePairs.{FramePairs}
-use Rattle.frame_carrier.specs.Carried.{AreBytePairs, AreCarried, FramesAreCarried, IsBytePair, IsWithinRoom}
+use Rattle.frame_carrier.specs.Carried.{AreBytePairs, FramesAreCarried, IsBytePair, IsWithinRoom}
 use Rattle.frame_carrier.specs.Carrying.{caption_flags, column_bytes, column_packets, counter_of, frame_bytes, frame_packet}
 use Rattle.frame_carrier.specs.FrameTriplets.{filler, frame_triplets, pair_triplet}
 use Rattle.frame_carrier.proofs.CarryingLemmas.{IsKind, frame_kinds, frame_number}

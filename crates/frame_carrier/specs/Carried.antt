@@ -1,6 +1,6 @@
 -- What is carried of a programme's frames: their bytes are a words file of their packets, each frame has the triplets that
 -- its rate asks, with one pair of each field, and a receiver gets just these pairs.
-use Rattle.std.specs.Prelude.{◌≡◌, ℕ, ◌<◌, ◌≤◌, true, false, List, [], ◌∷◌, length, take, All}
+use Rattle.std.specs.Prelude.{◌≡◌, ℕ, ◌<◌, ◌≤◌, true, false, [], ◌∷◌, length, take, All}
 use Rattle.cc_base.specs.Rate.{triplets_of}
 use Rattle.cc_base.specs.declared.rate.Rate.{Rate}
 use Rattle.line21_codes.specs.declared.pairs.Pair.{Pair}

@@ -1,6 +1,6 @@
 -- The sentences on the authored grid of a channel.
-use Rattle.std.proofs.Common.{◌≡◌, ℕ, zero, suc, ◌+◌, ◌-◌, ◌<◌, ◌≤◌, ◌&&◌, ◌||◌, nat_le, nat_lt, Bool, true, false, List, [], ◌∷◌, ◌++◌, Option, Some, None, All, refl, sym, ap, ◌∙◌, subst, arith, reverse, append-nil, length}
-use Rattle.std.specs.Prelude.{⊤, IfSome, IsSome, if◌then◌else◌, slice_get}
+use Rattle.std.proofs.Common.{◌≡◌, ℕ, ◌+◌, ◌-◌, ◌<◌, ◌≤◌, ◌&&◌, ◌||◌, nat_le, nat_lt, Bool, true, false, List, [], ◌∷◌, ◌++◌, Option, Some, None, All, refl, sym, ap, ◌∙◌, subst, arith, reverse, append-nil, length}
+use Rattle.std.specs.Prelude.{IfSome, IsSome, if◌then◌else◌, slice_get}
 use Rattle.std.specs.List.{AllByRecursion, Contains, list_any}
 use Rattle.std.proofs.lemmas.Bool.Decides.{nat_tests}
 use Rattle.std.proofs.lemmas.List.{reverse-append, reverse-reverse}
@@ -8,7 +8,7 @@ use Rattle.std.proofs.lemmas.List.Elements.{All-contains, All-contains_itself, A
 use Rattle.line21_codes.specs.declared.channels.Chan.{Chan}
 use Rattle.cue_lists.specs.AuthoredGrid.{Picture, authored_grid, blank, cell_in, cells_of, cells_of_cue, chain_of, channel_cues, is_past, rolled_up, shown_by, shown_from, shown_of_newest}
 use Rattle.cue_lists.specs.Cues.{IsCueFormed, IsOfKind}
-use Rattle.cue_lists.specs.Line21Cues.{IsRolled, base_row}
+use Rattle.cue_lists.specs.Line21Cues.{base_row}
 use Rattle.cue_lists.specs.Listing.{IsFormed, Listing}
 use Rattle.cue_lists.specs.Rules.{IsRuled}
 use Rattle.cue_lists.specs.Rules.Cells.{covers, have_shared_cell, share_cell}
@@ -22,7 +22,7 @@ use Rattle.frame_scheduler.specs.CueSequence.{AreInSequence}
 use Rattle.frame_scheduler.specs.SoundCues.{IsSound}
 use Rattle.frame_scheduler.proofs.ChannelCues.{cues_on_are_on, cues_on_formed, line21_on}
 use Rattle.frame_scheduler.proofs.CueSequenceLemmas.{in_sequence, in_sequence_sound}
-use Rattle.line21_shown.specs.Sentences.{AuthoredGridIsSaid, HasCells, HasRows, IsAuthored, IsUp}
+use Rattle.line21_shown.specs.Sentences.{AuthoredGridIsSaid, HasCells, HasRows, IsUp}
 use Rattle.line21_shown.proofs.ChainLemmas.{chain_at}
 use Rattle.line21_shown.proofs.CueWritingLemmas.{apart_in_cells}
 use Rattle.line21_shown.proofs.HeadLemmas.{first_sound, rest_in_sequence}

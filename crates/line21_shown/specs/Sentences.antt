@@ -1,6 +1,6 @@
 -- The authored grid of a channel, sentence by sentence: what a cue list that is in form and keeps the rules is to show, cue
 -- by cue, wherever the cue stands in the list (CTA-608-E; 47 CFR 79.101, pop-on, paint-on and roll-up captions).
-use Rattle.std.specs.Prelude.{◌≡◌, ℕ, ◌-◌, ◌<◌, ◌≤◌, true, false, List, ◌∷◌, ◌++◌, reverse, slice_get, All, IfSome, Option, Some, None}
+use Rattle.std.specs.Prelude.{◌≡◌, ℕ, ◌-◌, ◌<◌, ◌≤◌, true, false, List, ◌∷◌, ◌++◌, reverse, slice_get, All, IfSome, Some, None}
 use Rattle.std.specs.List.{Contains}
 use Rattle.line21_codes.specs.declared.channels.Chan.{Chan}
 use Rattle.cue_lists.specs.AuthoredGrid.{Picture, authored_grid, cell_in, cells_of, chain_of, channel_cues}

@@ -1,8 +1,8 @@
 -- The frames of a words file: the bytes have one list of them, and files behind one another are a file.
-use Rattle.std.proofs.Common.{◌≡◌, ℕ, List, [], ◌∷◌, ◌++◌, refl, ap, ◌∙◌, subst}
-use Rattle.anc_words.specs.Packets.{IsCaption, Packet, user_bytes}
+use Rattle.std.proofs.Common.{◌≡◌, ℕ, List, [], ◌++◌, refl, subst}
+use Rattle.anc_words.specs.Packets.{Packet, user_bytes}
 use Rattle.anc_words.proofs.WordsFileLemmas.{IsWordsFile-append, IsWordsFile-unique}
-use Rattle.cdp_packets.specs.Packets.{IsCdp, Packet as Frame}
+use Rattle.cdp_packets.specs.Packets.{Packet as Frame}
 use Rattle.cdp_packets.proofs.PacketLemmas.{packet_once}
 use Rattle.words_files.specs.Frames.{CarryFrames, IsFileOf, none, caption, foreign}
 
