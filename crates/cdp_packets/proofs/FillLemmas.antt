@@ -1,5 +1,5 @@
 -- Bytes that are read, short of the packet's length, go on to a packet: with sections of bytes 00, and the footer.
-use Rattle.std.proofs.Common.{◌≡◌, ◌≢◌, ℕ, zero, suc, ◌+◌, ◌-◌, ◌*◌, ◌/◌, ◌%◌, ◌<◌, ◌≤◌, ◌==◌, ◌&&◌, ◌||◌, ◌⊎◌, inl, inr, not, nat_le, nat_lt, if◌then◌else◌, Bool, true, false, Option, Some, None, List, [], ◌∷◌, ◌++◌, length, sum, refl, sym, ap, subst, ◌∙◌, append_assoc, append-nil, length-append, lit<, lit≤, arith}
+use Rattle.std.proofs.Common.{◌≡◌, ◌≢◌, ℕ, zero, suc, ◌+◌, ◌-◌, ◌*◌, ◌%◌, ◌<◌, ◌≤◌, ◌==◌, ◌||◌, ◌⊎◌, inl, inr, nat_le, if◌then◌else◌, Bool, true, false, List, [], ◌∷◌, ◌++◌, length, sum, refl, sym, ap, subst, ◌∙◌, append-nil, length-append, lit<, lit≤, arith}
 use Rattle.std.proofs.lemmas.Bool.Decides.{nat_tests}
 use Rattle.std.proofs.lemmas.List.Elements.{All-append, All-cons, All-head, All-nil, All-tail}
 use Rattle.std.specs.List.{All, concat}
@@ -15,7 +15,7 @@ use Rattle.cc_data.specs.Triplets.{triplet_of}
 use Rattle.cdp_packets.specs.declared.parts.CdpPart.{CdpPart}
 use Rattle.cdp_packets.specs.declared.parts.CdpPart.TheVariants as part
 use Rattle.cdp_packets.specs.Reading.{AllRead, GoesOn, IsFilling, IsPacketLength, Open, count_fits, id_fits, is_in_sections, judge_cdp, judge_triplet, nothing_open, open_after, open_behind, triplet_behind}
-use Rattle.cdp_packets.specs.Sections.{is_id, rest_of}
+use Rattle.cdp_packets.specs.Sections.{rest_of}
 use Rattle.cdp_packets.specs.Written.{checksum_of}
 use Rattle.cdp_packets.proofs.BegunLemmas.{CanGoOn, InFooter, InSections, IsBegun, IsFoot}
 use Rattle.cdp_packets.proofs.FitLemmas.{count_fits-section, id_fits-choice, or-second}

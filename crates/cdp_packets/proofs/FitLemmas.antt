@@ -1,12 +1,12 @@
 -- Which ids and counts fit: those with which some list of sections of so many bytes goes on.
-use Rattle.std.proofs.Common.{◌≡◌, ◌≢◌, ◌↔◌, ℕ, ◌+◌, ◌-◌, ◌*◌, ◌%◌, ◌<◌, ◌≤◌, ◌==◌, ◌&&◌, ◌||◌, not, nat_le, if◌then◌else◌, Bool, true, false, List, [], ◌∷◌, ◌++◌, length, replicate, refl, sym, ap, subst, ◌∙◌, append-nil, length-append, lit<, arith}
+use Rattle.std.proofs.Common.{◌≡◌, ◌≢◌, ◌↔◌, ℕ, ◌+◌, ◌-◌, ◌*◌, ◌%◌, ◌<◌, ◌≤◌, ◌==◌, ◌&&◌, ◌||◌, not, nat_le, if◌then◌else◌, Bool, true, false, List, [], ◌∷◌, ◌++◌, length, replicate, refl, sym, ap, subst, ◌∙◌, length-append, lit<, arith}
 use Rattle.std.proofs.lemmas.Bool.Decides.{nat_tests}
 use Rattle.std.proofs.lemmas.List.{length-replicate}
 use Rattle.std.proofs.lemmas.List.Elements.{All-append, All-cons, All-nil, All-replicate}
 use Rattle.std.specs.List.{All, concat}
 use Rattle.cdp_packets.specs.Reading.{count_fits, id_fits}
-use Rattle.cdp_packets.specs.Beginnings.{CanBegin}
-use Rattle.cdp_packets.specs.Sections.{AreSections, IsSection, IsSectionList, is_id, rest_of}
+use Rattle.cdp_packets.specs.Refusals.{CanBegin}
+use Rattle.cdp_packets.specs.Sections.{AreSections, IsSectionList, is_id, rest_of}
 use Rattle.cdp_packets.proofs.BegunLemmas.{and-left, count_tells, id_fits-is_id, test-same}
 
 -- a list of sections never has one byte

@@ -1,5 +1,5 @@
 -- A packet is read: none of its bytes is refused, and they make its parts.
-use Rattle.std.proofs.Common.{◌≡◌, ◌≢◌, ℕ, ◌+◌, ◌-◌, ◌*◌, ◌/◌, ◌%◌, ◌<◌, ◌≤◌, ◌==◌, ◌&&◌, ◌||◌, not, nat_le, nat_lt, if◌then◌else◌, Bool, true, false, Option, Some, None, List, [], ◌∷◌, ◌++◌, length, map, sum, refl, sym, ap, subst, ◌∙◌, append_assoc, append-nil, length-append, lit<, lit≤, arith}
+use Rattle.std.proofs.Common.{◌≡◌, ◌≢◌, ℕ, ◌+◌, ◌-◌, ◌*◌, ◌/◌, ◌%◌, ◌<◌, ◌≤◌, ◌==◌, nat_le, nat_lt, if◌then◌else◌, Bool, true, false, Some, None, List, [], ◌∷◌, ◌++◌, length, map, sum, refl, sym, ap, subst, ◌∙◌, append_assoc, append-nil, length-append, lit<, lit≤, arith}
 use Rattle.std.proofs.lemmas.Bool.Decides.{nat_tests}
 use Rattle.std.specs.List.{concat, flat_map}
 use Rattle.cc_base.specs.declared.rate.Rate.{Rate}
@@ -14,8 +14,8 @@ use Rattle.cdp_packets.specs.declared.parts.CdpPart.{CdpPart}
 use Rattle.cdp_packets.specs.declared.parts.CdpPart.TheVariants as part
 use Rattle.cdp_packets.specs.Packets.{Packet, IsCdp}
 use Rattle.cdp_packets.specs.PacketParts.{packet_parts, section_parts, triplet_parts}
-use Rattle.cdp_packets.specs.Reading.{IsPacketLength, Open, bytes_behind, count_fits, id_fits, is_in_sections, judge_behind, judge_cdp, judge_footer, judge_rate, judge_section, judge_triplet, nothing_open, open_after, read_under, section_behind, triplet_behind}
-use Rattle.cdp_packets.specs.Sections.{AreSections, IsSection, is_id, rest_of}
+use Rattle.cdp_packets.specs.Reading.{IsPacketLength, Open, bytes_behind, count_fits, is_in_sections, judge_behind, judge_cdp, judge_footer, judge_rate, judge_section, judge_triplet, nothing_open, open_after, read_under, section_behind, triplet_behind}
+use Rattle.cdp_packets.specs.Sections.{AreSections, is_id, rest_of}
 use Rattle.cdp_packets.proofs.BegunLemmas.{test-same}
 use Rattle.cdp_packets.proofs.FitLemmas.{count_fits-section, id_fits-section, no_single_byte, or-second}
 use Rattle.cdp_packets.proofs.PacketLemmas.{rate_of-code}

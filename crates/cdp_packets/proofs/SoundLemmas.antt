@@ -1,10 +1,10 @@
 -- Bytes that are read to the packet's end are a packet.
-use Rattle.std.proofs.Common.{◌≡◌, ◌≢◌, ℕ, ◌+◌, ◌-◌, ◌*◌, ◌/◌, ◌%◌, ◌<◌, ◌≤◌, ◌==◌, ◌⊎◌, inl, inr, nat_lt, if◌then◌else◌, Bool, true, false, Option, Some, None, List, [], ◌∷◌, ◌++◌, length, sum, refl, sym, ap, subst, ◌∙◌, append_assoc, append-nil, length-append, lit<, arith}
+use Rattle.std.proofs.Common.{◌≡◌, ℕ, ◌+◌, ◌-◌, ◌*◌, ◌/◌, ◌%◌, ◌<◌, ◌≤◌, ◌==◌, inl, inr, nat_lt, if◌then◌else◌, Bool, true, false, Some, List, [], ◌∷◌, ◌++◌, length, sum, refl, sym, ap, subst, ◌∙◌, append_assoc, append-nil, length-append, arith}
 use Rattle.std.proofs.lemmas.Bool.Decides.{nat_tests}
 use Rattle.std.proofs.lemmas.Grind.{common_steps}
 use Rattle.std.specs.List.{concat}
 use Rattle.cc_base.specs.declared.rate.Rate.{Rate}
-use Rattle.cc_base.specs.declared.step.Step.TheVariants.{Nothing, One, Refuse}
+use Rattle.cc_base.specs.declared.step.Step.TheVariants.{One}
 use Rattle.cc_base.specs.declared.why.Why.TheVariants as why
 use Rattle.cc_base.specs.Rate.{code_of, rate_of}
 use Rattle.cc_base.specs.Steps.{AllTaken, IsTaken, front_from}
@@ -12,7 +12,7 @@ use Rattle.cdp_packets.specs.declared.parts.CdpPart.TheVariants as part
 use Rattle.cdp_packets.specs.Packets.{Packet, IsCdp}
 use Rattle.cdp_packets.specs.Reading.{AllRead, IsPacketLength, Open, is_in_sections, judge_behind, judge_cdp, judge_footer, judge_section, nothing_open, open_after, open_behind, section_behind, triplet_behind}
 use Rattle.cdp_packets.specs.Sections.{AreSections}
-use Rattle.cdp_packets.proofs.BegunLemmas.{InFooter, InSections, IsBegun, IsFoot, IsHead, grows, taken-if, test-same}
+use Rattle.cdp_packets.proofs.BegunLemmas.{IsBegun, IsFoot, IsHead, grows, taken-if, test-same}
 
 -- one more byte in a sum
 pub sum-push : (bytes : List ℕ) (byte : ℕ) → sum (bytes ++ byte ∷ []) ≡ sum bytes + byte

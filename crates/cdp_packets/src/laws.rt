@@ -14,7 +14,7 @@ ghost use Rattle.cdp_packets.specs.Packets.{Packet, IsCdp};
 ghost use Rattle.cdp_packets.specs.PacketParts.{packet_parts};
 ghost use Rattle.cdp_packets.specs.PacketTriplets.{section_triplets, packet_triplets};
 ghost use Rattle.cdp_packets.specs.Reading.{AllRead, GoesOn, IsPacketLength, count_fits, ended, id_fits, judge_cdp, open_behind, parts_of, read_under};
-ghost use Rattle.cdp_packets.specs.Beginnings.{CanBegin};
+ghost use Rattle.cdp_packets.specs.Refusals.{CanBegin, StandsAt};
 ghost use Rattle.cdp_packets.specs.Written.{cc_data_section, written_packet};
 
 /// Bytes begin with one packet at most: whatever follows them, two packets at the head of one list
@@ -98,4 +98,10 @@ pub fn sections_fit_where_some_can_follow()
     ensures id { (left id : ℕ) → left < 256 → IsTrue (id_fits left id) ↔ CanBegin left (id ∷ []) }
     ensures count { (left id count : ℕ) → left < 256 → IsTrue (is_id id)
         → IsTrue (count_fits left id count) ↔ CanBegin (left + 1) (id ∷ count ∷ []) }
+{}
+
+/// A refusal stands at its place: each reason comes at the byte that it speaks of, and there is no other reason.
+pub fn refusals_stand_at_their_places()
+    ensures { (size : ℕ) (bytes : List ℕ) (byte : ℕ) (reason : Reason) → IsPacketLength size → length bytes ≤ size → AllRead size bytes
+        → judge_cdp size (open_behind size bytes) byte ≡ Refuse reason → StandsAt size (length bytes) reason }
 {}
