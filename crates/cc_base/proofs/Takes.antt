@@ -1,5 +1,5 @@
 -- Bytes that are taken one piece after another.
-use Rattle.std.proofs.Common.{◌≡◌, ◌∙◌, ◌++◌, ap, sym, ℕ, List, Option, Some, None}
+use Rattle.std.proofs.Common.{◌∙◌, ◌++◌, ap, sym, ℕ, List, Option, Some, None}
 use Rattle.std.specs.Io.KnownBytes.{Consumes, Keeps}
 
 -- what was taken stays so where nothing more is taken

@@ -1,5 +1,5 @@
 -- What the sources over memory hold: the bytes left, the sizes of their pieces, the calls that fail, and their counts.
-use Rattle.std.specs.Prelude.{◌≡◌, ℕ, ◌-◌, ◌%◌, ◌^◌, ◌<◌, max, List, [], ◌∷◌, drop, length, slice_index, Contains}
+use Rattle.std.specs.Prelude.{ℕ, ◌-◌, ◌%◌, ◌^◌, ◌<◌, max, List, [], ◌∷◌, drop, length, slice_index, Contains}
 use Rattle.cc_base.specs.declared.memory_source.MemorySource.{MemorySource}
 use Rattle.cc_base.specs.declared.memory_source.SteadySource.{SteadySource}
 

@@ -11,7 +11,8 @@ use Rattle.cue_lists.specs.Rules.Lane.{is_pop, is_roll}
 use Rattle.cue_lists.specs.declared.cue.Cue.{Cue}
 use Rattle.cue_lists.specs.declared.cue.Kind.{Kind}
 use Rattle.cue_lists.specs.declared.cue.Kind.TheVariants as kind
-use Rattle.line21_author.specs.Channels.{is_in_second_field, cues_on}
+use Rattle.line21_codes.specs.Channels.{is_in_second_field}
+use Rattle.line21_author.specs.Channels.{cues_on}
 use Rattle.line21_author.specs.CueEvents.{event_of, is_replaced_at, show_events, hide_events, events_of, channel_events}
 use Rattle.line21_author.specs.EventOrder.{AreApart, IsInTurn, Follows, AreInTurn}
 use Rattle.line21_author.specs.declared.event.Event.{Event}

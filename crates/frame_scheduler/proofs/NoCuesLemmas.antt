@@ -5,7 +5,7 @@ use Rattle.line21_codes.specs.declared.channels.Chan.{Chan}
 use Rattle.cue_lists.specs.declared.cue.Cue.{Cue}
 use Rattle.line21_author.specs.Channels.{cues_on, is_on}
 use Rattle.line21_author.specs.CueEvents.{channel_events, events_of}
-use Rattle.line21_author.specs.Channels.{is_in_second_field}
+use Rattle.line21_codes.specs.Channels.{is_in_second_field}
 use Rattle.frame_scheduler.specs.ChannelLane.{channel_pieces, channel_slot, pieces_from}
 use Rattle.frame_scheduler.specs.LaneTimeline.{lane_timeline}
 use Rattle.frame_scheduler.specs.Timeline.{null_pair, slot}

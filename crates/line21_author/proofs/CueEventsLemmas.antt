@@ -11,7 +11,8 @@ use Rattle.cue_lists.specs.declared.cue.Cue.{Cue}
 use Rattle.cue_lists.specs.Rules.Lane.{is_pop}
 use Rattle.line21_author.specs.declared.event.Event.{Event}
 use Rattle.line21_codes.specs.declared.channels.Chan.{Chan}
-use Rattle.line21_author.specs.Channels.{is_in_second_field, cues_on}
+use Rattle.line21_codes.specs.Channels.{is_in_second_field}
+use Rattle.line21_author.specs.Channels.{cues_on}
 use Rattle.line21_author.specs.FirstChannel.{first_channel}
 use Rattle.line21_author.specs.CueEvents.{event_of, show_events, hide_events, is_replaced_at, events_of, channel_events}
 use Rattle.line21_author.specs.EventPairs.{IsControlEvent}

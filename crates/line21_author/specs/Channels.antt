@@ -1,19 +1,12 @@
--- The caption channels of line 21 and their cues: CC1 and CC2 are in field 1, CC3 and CC4 in field 2
--- (CTA-608-E; 47 CFR 79.101).
+-- The caption channels of line 21 and their cues (CTA-608-E; 47 CFR 79.101).
 use Rattle.std.specs.Prelude.{Bool, true, false, List}
 use Rattle.std.specs.List.{filter}
 use Rattle.line21_codes.specs.declared.channels.Chan.{Chan}
 use Rattle.line21_codes.specs.declared.channels.Chan.TheVariants.{Cc1, Cc2, Cc3, Cc4}
+use Rattle.line21_codes.specs.Channels.{is_in_second_field}
 use Rattle.cue_lists.specs.declared.cue.Kind.{Kind}
 use Rattle.cue_lists.specs.declared.cue.Kind.TheVariants.{Pop, Paint, Roll, Win}
 use Rattle.cue_lists.specs.declared.cue.Cue.{Cue}
-
--- the channel is in field 2
-abbrev pub is_in_second_field : Chan → Bool
-is_in_second_field Cc1 = false
-is_in_second_field Cc2 = false
-is_in_second_field Cc3 = true
-is_in_second_field Cc4 = true
 
 -- the cue is for field 2; a window cue isn't
 abbrev pub is_for_second_field : Kind → Bool

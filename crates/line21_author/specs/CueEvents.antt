@@ -8,7 +8,8 @@ use Rattle.line21_codes.specs.Writing.{written}
 use Rattle.cue_lists.specs.declared.cue.Cue.{Cue}
 use Rattle.cue_lists.specs.Rules.Lane.{is_pop}
 use Rattle.line21_author.specs.declared.event.Event.{Event}
-use Rattle.line21_author.specs.Channels.{is_in_second_field, cues_on}
+use Rattle.line21_codes.specs.Channels.{is_in_second_field}
+use Rattle.line21_author.specs.Channels.{cues_on}
 use Rattle.line21_author.specs.FirstChannel.{first_channel}
 
 -- a control code at a frame, in a field

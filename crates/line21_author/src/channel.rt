@@ -1,6 +1,6 @@
 ghost use Rattle.std.specs.Prelude.{◌≡◌};
 ghost use Rattle.line21_author.specs.FirstChannel.{first_channel};
-ghost use Rattle.line21_author.specs.Channels.{is_in_second_field, is_for_second_field, same_channel, is_on};
+ghost use Rattle.line21_author.specs.Channels.{is_for_second_field, same_channel, is_on};
 
 use cue_lists::Kind;
 use line21_codes::{Chan, Code, Control};
@@ -21,17 +21,10 @@ pub(crate) fn is_for_second_field(kind: Kind) -> bool
 {
     match kind {
         Kind::Pop(channel) | Kind::Paint(channel) | Kind::Roll(channel, _) => {
-            is_in_second_field(channel)
+            channel.is_in_second_field()
         }
         Kind::Win(_) => false,
     }
-}
-
-/// Whether a channel is in field 2.
-pub(crate) fn is_in_second_field(channel: Chan) -> bool
-    ensures { result ≡ is_in_second_field channel }
-{
-    matches!(channel, Chan::Cc3 | Chan::Cc4)
 }
 
 /// Whether a cue of the kind is on a channel; a window cue is on none.

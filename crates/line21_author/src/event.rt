@@ -6,7 +6,7 @@ ghost use Rattle.line21_author.specs.CueEvents.{event_of, show_events, hide_even
 ghost use Rattle.line21_author.specs.EventOrder.{AreInTurn, AreApart};
 ghost use Rattle.line21_author.specs.EventPairs.{IsControlEvent};
 
-use crate::channel::{first_channel, is_in_second_field, is_on};
+use crate::channel::{first_channel, is_on};
 use cue_lists::{Cue, Kind};
 use line21_codes::{Chan, Control, Pair, write_code};
 use std::alloc::{AllocError, Global};
@@ -38,7 +38,7 @@ pub fn events(alloc: Global, cues: &[Cue], channel: Chan) -> Result<Vec<Event>, 
     ensures control { IfOk result (λ events. All IsControlEvent events.items) }
     ensures apart { IfOk result (λ events. AreInTurn (cues_on channel cues.now) → AreApart events.items) }
 {
-    let second_field = is_in_second_field(channel);
+    let second_field = channel.is_in_second_field();
     let mut events = Vec::new(alloc);
     let mut hide = None;
     for cue in cues {

@@ -1,3 +1,4 @@
+pub mod Channels
 pub mod Parity
 pub mod MiscellaneousCodes
 pub mod MidRowCodes

@@ -2,7 +2,7 @@ ghost use Rattle.std.specs.Prelude.{◌≡◌, ◌<◌, IsTrue};
 ghost use Rattle.line21_codes.specs.Parity.{with_parity, low_bits, is_odd};
 
 /// The two bytes that line 21 carries in one field of one frame, with their parity bits.
-#[derive(Clone, Copy, Debug, PartialEq, Eq)]
+#[derive(Clone, Copy, Debug, Default, PartialEq, Eq)]
 pub struct Pair {
     /// The first byte.
     pub a: u8,

@@ -19,7 +19,8 @@ use Rattle.cue_lists.specs.Rules.Lane.{is_pop}
 use Rattle.cue_lists.specs.declared.cue.Cue.{Cue}
 use Rattle.cue_lists.specs.declared.cue.Kind.{Kind}
 use Rattle.cue_lists.specs.declared.cue.Kind.TheVariants as kind
-use Rattle.line21_author.specs.Channels.{cues_on, is_for_second_field, is_in_second_field, is_on}
+use Rattle.line21_codes.specs.Channels.{is_in_second_field}
+use Rattle.line21_author.specs.Channels.{cues_on, is_for_second_field, is_on}
 use Rattle.line21_author.specs.CueCodes.{cue_codes, opening_codes}
 use Rattle.line21_author.specs.CueEvents.{channel_events, event_of, events_of, hide_events, is_replaced_at, show_events}
 use Rattle.line21_author.specs.CueUnits.{unit_of}

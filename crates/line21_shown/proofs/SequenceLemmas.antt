@@ -13,7 +13,8 @@ use Rattle.cue_lists.specs.Listing.{IsFormed, Listing}
 use Rattle.cue_lists.specs.Rules.{IsRuled}
 use Rattle.cue_lists.specs.Rules.Lane.{is_line21, is_pop}
 use Rattle.cue_lists.specs.declared.cue.Cue.{Cue}
-use Rattle.line21_author.specs.Channels.{cues_on, is_in_second_field}
+use Rattle.line21_codes.specs.Channels.{is_in_second_field}
+use Rattle.line21_author.specs.Channels.{cues_on}
 use Rattle.line21_author.specs.CueEvents.{channel_events, hide_events}
 use Rattle.line21_screen.specs.Channels.{ChannelState}
 use Rattle.line21_screen.specs.Grid.{Grid, empty_grid}
