@@ -12,7 +12,7 @@ use Rattle.line21_screen.specs.Windows.{in_window, moved}
 use Rattle.line21_screen.specs.Objects.{place, grid_of}
 
 -- a choice that falls away where the test fails
-chosen : (b : Bool) (x y : Option Cell) → (b ≡ true → x ≡ y) → (b ≡ false → y ≡ None) → (if b then x else None) ≡ y
+pub chosen : (b : Bool) (x y : Option Cell) → (b ≡ true → x ≡ y) → (b ≡ false → y ≡ None) → (if b then x else None) ≡ y
 chosen true x y inside outside = inside refl
 chosen false x y inside outside = sym (outside refl)
 
@@ -32,13 +32,13 @@ unfolding grid_of
 grid_outside cells r c outside = rw outside refl
 
 -- what the test of a place says
-row_from : (r c : ℕ) → in_grid r c ≡ true → 1 ≤ r
+pub row_from : (r c : ℕ) → in_grid r c ≡ true → 1 ≤ r
 row_from r c inside = grind (arith, nat_tests)
 
-row_to : (r c : ℕ) → in_grid r c ≡ true → r ≤ 15
+pub row_to : (r c : ℕ) → in_grid r c ≡ true → r ≤ 15
 row_to r c inside = grind (arith, nat_tests)
 
-col_to : (r c : ℕ) → in_grid r c ≡ true → c < 32
+pub col_to : (r c : ℕ) → in_grid r c ≡ true → c < 32
 col_to r c inside = grind (arith, nat_tests)
 
 -- and what makes one

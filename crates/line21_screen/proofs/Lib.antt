@@ -3,3 +3,5 @@ pub mod CodeLemmas
 pub mod MeaningLemmas
 pub mod LawLemmas
 pub mod WindowLemmas
+pub mod MemoryLemmas
+pub mod DifferenceLemmas

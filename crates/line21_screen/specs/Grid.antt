@@ -1,6 +1,7 @@
 -- The grid of a caption memory: what stands at each row, 1 to 15, and column, 0 to 31
 -- (CTA-608-E and 47 CFR 79.101, caption area).
-use Rattle.std.specs.Prelude.{ℕ, ◌==◌, ◌&&◌, nat_le, nat_lt, Bool, if◌then◌else◌, Option, None}
+use Rattle.std.specs.Prelude.{ℕ, ◌==◌, ◌&&◌, nat_le, nat_lt, Bool, if◌then◌else◌, List, Option, None, map}
+use Rattle.std.specs.List.{range_with_len}
 use Rattle.line21_codes.specs.declared.styles.Cell.{Cell}
 
 -- the cell at a row and a column, where there is one
@@ -22,3 +23,14 @@ with_cell g row col cell r c = if r == row && c == col then cell else g r c
 -- the cells of a row from one column up to another, which is left out, are removed
 abbrev pub without_cells : Grid → ℕ → ℕ → ℕ → Grid
 without_cells g row from to r c = if r == row && nat_le from c && nat_lt c to then None else g r c
+
+-- the rows and the columns
+abbrev pub rows : List ℕ
+rows = range_with_len 1 15
+
+abbrev pub columns : List ℕ
+columns = range_with_len 0 32
+
+-- what stands in a row, column by column
+unfoldable pub row_cells : Grid → ℕ → List (Option Cell)
+row_cells g row = map (g row) columns

@@ -1,4 +1,5 @@
 pub mod Grid
+pub mod Differences
 pub mod Windows
 pub mod Rows
 pub mod Pens

@@ -6,6 +6,7 @@ use Rattle.line21_codes.specs.Repeats.{Waits}
 use Rattle.line21_screen.specs.declared.pens.Pen.{Pen}
 use Rattle.line21_screen.specs.declared.channel.Channel.{Channel}
 use Rattle.line21_screen.specs.declared.field.Field.{Field}
+use Rattle.line21_screen.specs.declared.memory.Memory.{Memory}
 use Rattle.line21_screen.specs.Grid.{Grid, in_grid}
 use Rattle.line21_screen.specs.Pens.{PenState}
 use Rattle.line21_screen.specs.Channels.{ChannelState}
@@ -19,6 +20,10 @@ place row col = (row - 1) * 32 + col
 -- the grid of a list of all cells
 unfoldable pub grid_of : List (Option Cell) → Grid
 grid_of cells row col = if in_grid row col then slice_index_or cells (place row col) None else None
+
+-- the grid of a memory
+abbrev pub grid_in : Memory → Grid
+grid_in memory = grid_of memory.cells.items
 
 -- a pen
 abbrev pub pen_of : Pen → PenState

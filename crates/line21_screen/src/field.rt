@@ -3,6 +3,7 @@ ghost use Rattle.line21_codes.specs.Reading.{code_of};
 ghost use Rattle.line21_screen.specs.Codes.{IsPossibleCode};
 
 use crate::channel::Channel;
+use crate::memory::Memory;
 use crate::modes::Mode;
 use line21_codes::{Cell, Code, Doubler, Pair, read_pair};
 use std::alloc::{AllocError, Global};
@@ -27,7 +28,7 @@ impl Field {
     ghost use Rattle.line21_screen.specs.Fields.{channel, on_channel, after_text, after_code};
     ghost use Rattle.line21_screen.specs.Controls.{after_control, IsPossible};
     ghost use Rattle.line21_screen.specs.Meaning.{after};
-    ghost use Rattle.line21_screen.specs.Objects.{channel_of, field_of, Leads};
+    ghost use Rattle.line21_screen.specs.Objects.{channel_of, field_of, grid_in, Leads};
 
     /// A field that had no pair yet: its memories are empty, no mode is set, and data channel 1 is
     /// selected. All memory that it ever takes is taken here.
@@ -61,10 +62,18 @@ impl Field {
         requires row_from { 1 ≤ row }
         requires row_to { row ≤ 15 }
         requires col { col < 32 }
-        ensures { (second_field : Bool) (before : List Pair) → Leads second_field before self.now
+        ensures shown { result ≡ (channel second_channel (field_of self.now)).displayed row col }
+        ensures after { (second_field : Bool) (before : List Pair) → Leads second_field before self.now
             → result ≡ (channel second_channel (after second_field before)).displayed row col }
     {
         self.channel(second_channel).displayed.cell(row, col)
+    }
+
+    /// The displayed memory of data channel 1 or 2.
+    pub fn displayed(&self, second_channel: bool) -> &Memory
+        ensures { grid_in result.now ≡ (channel second_channel (field_of self.now)).displayed }
+    {
+        &self.channel(second_channel).displayed
     }
 
     /// The mode of data channel 1 or 2.

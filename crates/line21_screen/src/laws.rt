@@ -1,13 +1,15 @@
 //! Laws of the definitions: functions without a body, whose contract is the law.
 
-ghost use Rattle.std.specs.Prelude.{◌≡◌, ℕ, Bool, true, false, List, ◌∷◌};
+ghost use Rattle.std.specs.Prelude.{◌≡◌, ◌↔◌, ℕ, Bool, true, false, List, ◌∷◌};
 ghost use Rattle.line21_codes.specs.declared.codes.Code.{Code};
 ghost use Rattle.line21_codes.specs.declared.codes.Control.{Control};
 ghost use Rattle.line21_codes.specs.declared.pairs.Pair.{Pair};
 ghost use Rattle.line21_codes.specs.ControlPairs.{is_control};
 ghost use Rattle.line21_codes.specs.Reading.{code_of};
 ghost use Rattle.line21_codes.specs.Repeats.{is_ignored};
+ghost use Rattle.line21_screen.specs.Differences.{HasOther, differs};
 ghost use Rattle.line21_screen.specs.Fields.{channel, after_code};
+ghost use Rattle.line21_screen.specs.Grid.{Grid};
 ghost use Rattle.line21_screen.specs.Meaning.{after};
 ghost use Rattle.line21_screen.specs.Scrolling.{IsInWindow};
 
@@ -43,4 +45,9 @@ pub fn two_flips_bring_memories_back()
 pub fn roll_up_stays_in_window()
     ensures { (second_field second : Bool) (pairs : List Pair)
         → IsInWindow (channel second (after second_field pairs)) }
+{}
+
+/// Two grids differ just where some place has another cell.
+pub fn grids_differ_where_a_place_has_another_cell()
+    ensures { (old new : Grid) → (differs old new ≡ true) ↔ HasOther old new }
 {}

@@ -11,6 +11,7 @@ mod pens;
 mod rules;
 
 pub use field::Field;
+pub use memory::Memory;
 pub use modes::Mode;
 
 #[cfg(test)]

@@ -3,6 +3,7 @@ ghost use Rattle.std.specs.List.{AllWithin, CopiedTo, SameBelow, SameFrom};
 
 use line21_codes::Cell;
 use std::alloc::{AllocError, Global};
+use std::ops::Range;
 
 // The rows of the caption area.
 const ROWS: usize = 15;
@@ -13,9 +14,11 @@ const COLUMNS: usize = 32;
 // The places of the caption area.
 const PLACES: usize = ROWS * COLUMNS;
 
-/// A caption memory: the cells of 15 rows, of 32 columns each, row by row.
+/// A caption memory: the cells of 15 rows, of 32 columns each (CTA-608-E and 47 CFR 79.101, caption area).
+///
+/// It keeps the places between which all cells stand, so that a look at a memory with few cells costs little.
 #[derive(Drop)]
-pub(crate) struct Memory {
+pub struct Memory {
     pub(crate) cells: Vec<Option<Cell>>,
     // No place before this one has a cell.
     first: usize,
@@ -28,14 +31,15 @@ pub(crate) struct Memory {
 }
 
 impl Memory {
-    ghost use Rattle.std.specs.Prelude.{IfOk};
-    ghost use Rattle.line21_screen.specs.Grid.{empty_grid, with_cell, without_cells};
+    ghost use Rattle.std.specs.Prelude.{ℕ, false, IfOk};
+    ghost use Rattle.line21_screen.specs.Differences.{differs};
+    ghost use Rattle.line21_screen.specs.Grid.{empty_grid, row_cells, with_cell, without_cells};
     ghost use Rattle.line21_screen.specs.Windows.{moved};
-    ghost use Rattle.line21_screen.specs.Objects.{grid_of, place};
+    ghost use Rattle.line21_screen.specs.Objects.{grid_in, grid_of, place};
 
-    // A memory without a cell.
-    pub(crate) fn new(alloc: Global) -> Result<Memory, AllocError>
-        ensures { IfOk result (λ memory. grid_of memory.cells.items ≡ empty_grid) }
+    /// A memory without a cell. All memory that it ever takes is taken here.
+    pub fn new(alloc: Global) -> Result<Memory, AllocError>
+        ensures { IfOk result (λ memory. grid_in memory ≡ empty_grid) }
     {
         let mut cells = Vec::with_capacity(alloc, PLACES)?;
         for _ in 0..PLACES {
@@ -56,6 +60,54 @@ impl Memory {
         ensures { result ≡ grid_of self.now.cells.items row col }
     {
         self.cells[place(row, col)]
+    }
+
+    /// The rows that can have a cell, of 1 to 15: all others have none.
+    pub fn rows(&self) -> Range<u8>
+        ensures from { 1 ≤ result.start }
+        ensures order { result.start ≤ result.end }
+        ensures to { result.end ≤ 16 }
+        ensures above { (row col : ℕ) → row < result.start → grid_in self.now row col ≡ None }
+        ensures below { (row col : ℕ) → result.end ≤ row → grid_in self.now row col ≡ None }
+    {
+        if self.first >= self.behind {
+            return 1..1;
+        }
+        let first = (self.first / COLUMNS) as u8;
+        let last = ((self.behind - 1) / COLUMNS) as u8;
+        first + 1..last + 2
+    }
+
+    /// What stands in a row, 1 to 15, column by column, 0 to 31.
+    pub fn row(&self, row: u8) -> &[Option<Cell>]
+        requires from { 1 ≤ row }
+        requires to { row ≤ 15 }
+        ensures cells { result.now ≡ row_cells (grid_in self.now) row }
+        ensures long { length result.now ≡ 32 }
+    {
+        let from = usize::from(row - 1) * COLUMNS;
+        &self.cells[from..from + COLUMNS]
+    }
+
+    /// Whether some place of another memory has another cell.
+    pub fn differs(&self, other: &Memory) -> bool
+        ensures told { result ≡ differs (grid_in self.now) (grid_in other.now) }
+        ensures same { result ≡ false → grid_in self.now ≡ grid_in other.now }
+    {
+        let from = self.first.min(other.first);
+        let to = self.behind.max(other.behind);
+        from < to && self.cells[from..to] != other.cells[from..to]
+    }
+
+    /// Takes over the cells of another memory.
+    pub fn copy_from(&mut self, other: &Memory)
+        ensures { grid_in self.new ≡ grid_in other.now }
+    {
+        let from = self.first.min(other.first);
+        let to = self.behind.max(other.behind);
+        copy_places(&mut self.cells, &other.cells, from, to);
+        self.first = other.first;
+        self.behind = other.behind;
     }
 
     // Writes a cell, or removes it.
@@ -107,6 +159,20 @@ impl Memory {
         remove_cells(cells, behind, self.behind);
         self.first = first;
         self.behind = behind;
+    }
+}
+
+// Copies what stands at the places from one on, up to another, which is left out.
+fn copy_places(cells: &mut [Option<Cell>], other: &[Option<Cell>], from: usize, to: usize)
+    requires length { length cells.old ≡ 480 }
+    requires other_length { length other.now ≡ 480 }
+    requires within { to ≤ 480 }
+    ensures copied { CopiedTo other.now cells.new from from (to - from) }
+    ensures above { SameBelow cells.old cells.new from }
+    ensures below { SameFrom cells.old cells.new to }
+{
+    if from < to {
+        cells[from..to].copy_from_slice(&other[from..to]);
     }
 }
 

@@ -1,4 +1,4 @@
-use crate::{Field, Mode};
+use crate::{Field, Memory, Mode};
 use line21_codes::{Cell, Colour, Pair, Style};
 use std::alloc::{AllocError, Global};
 
@@ -633,5 +633,82 @@ fn modes_are_told(rt: HostRuntime) -> Result<(), AllocError> {
         assert_eq!(rt; field.mode(false), mode);
     }
     assert_eq!(rt; field.mode(true), Mode::RollUp(3));
+    Ok(())
+}
+
+// HI at row 15, column 0, of data channel 1.
+const HI: &[u16] = &[0x9429, 0x9470, 0xC849];
+
+#[test]
+fn memory_tells_its_rows(rt: HostRuntime) -> Result<(), AllocError> {
+    let alloc = rt.alloc();
+    let empty = Field::new(alloc, false)?;
+    let rows = empty.displayed(false).rows();
+    assert_eq!(rt; rows.end - rows.start, 0);
+    let one = fed(alloc, false, HI)?;
+    assert_eq!(rt; one.displayed(false).rows(), 15..16);
+    // The preambles of row 3, column 28, and of row 2, column 0.
+    let two = fed(alloc, false, &[0x9429, 0x92FE, 0xC180, 0x9170, 0xC280])?;
+    let rows = two.displayed(false).rows();
+    assert!(rt; rows.start <= 1 + 1);
+    assert!(rt; rows.end >= 3 + 1);
+    Ok(())
+}
+
+#[test]
+fn memory_gives_the_cells_of_a_row(rt: HostRuntime) -> Result<(), AllocError> {
+    let alloc = rt.alloc();
+    let field = fed(alloc, false, HI)?;
+    let row = field.displayed(false).row(15);
+    assert_eq!(rt; row.len(), 32);
+    for (col, cell) in row.iter().enumerate() {
+        let ch = match col {
+            0 => Some('H'),
+            1 => Some('I'),
+            _ => None,
+        };
+        assert_eq!(rt; *cell, ch.map(|ch| Cell { ch, style: WHITE }));
+    }
+    for cell in field.displayed(false).row(14) {
+        assert_eq!(rt; *cell, None);
+    }
+    for cell in field.displayed(true).row(15) {
+        assert_eq!(rt; *cell, None);
+    }
+    Ok(())
+}
+
+#[test]
+fn memories_differ_in_one_cell(rt: HostRuntime) -> Result<(), AllocError> {
+    let alloc = rt.alloc();
+    let empty = Field::new(alloc, false)?;
+    let hi = fed(alloc, false, HI)?;
+    let again = fed(alloc, false, &[0x9429, 0x9470, 0xC849])?;
+    let ho = fed(alloc, false, &[0x9429, 0x9470, 0xC84F])?;
+    // The same in yellow, by the preamble's style.
+    let yellow = fed(alloc, false, &[0x9429, 0x94EA, 0xC849])?;
+    assert!(rt; !hi.displayed(false).differs(hi.displayed(false)));
+    assert!(rt; !hi.displayed(false).differs(again.displayed(false)));
+    assert!(rt; !empty.displayed(false).differs(hi.displayed(true)));
+    assert!(rt; hi.displayed(false).differs(empty.displayed(false)));
+    assert!(rt; empty.displayed(false).differs(hi.displayed(false)));
+    assert!(rt; hi.displayed(false).differs(ho.displayed(false)));
+    assert!(rt; hi.displayed(false).differs(yellow.displayed(false)));
+    Ok(())
+}
+
+#[test]
+fn copied_memory_has_the_same_cells(rt: HostRuntime) -> Result<(), AllocError> {
+    let alloc = rt.alloc();
+    let hi = fed(alloc, false, HI)?;
+    let high = fed(alloc, false, &[0x9429, 0x9170, 0xC849])?;
+    let mut kept = Memory::new(alloc)?;
+    kept.copy_from(hi.displayed(false));
+    assert!(rt; !kept.differs(hi.displayed(false)));
+    kept.copy_from(high.displayed(false));
+    assert!(rt; !kept.differs(high.displayed(false)));
+    assert!(rt; kept.differs(hi.displayed(false)));
+    kept.copy_from(high.displayed(true));
+    assert!(rt; !kept.differs(&Memory::new(alloc)?));
     Ok(())
 }
