@@ -7,3 +7,4 @@ pub mod ReadLemmas
 pub mod SectionLemmas
 pub mod SoundLemmas
 mod TestSections
+pub mod WholeLemmas

@@ -120,34 +120,33 @@ bytes_behind-is size (byte ∷ items) front room =
 code_of-rate : (n : ℕ) (r : Rate) → rate_of n ≡ Some r → code_of r ≡ n
 code_of-rate n r is = grind (arith, nat_tests)
 
--- a packet, where all its bytes have come
-packet_ended : (size : ℕ) (mark second long rate flags high low : ℕ) (cut : List (List ℕ)) (last : ℕ) → IsHead size mark second long rate → AreSections cut
+-- bytes with the head, the sections and the footer of a packet are this packet
+pub is_packet : (size : ℕ) (mark second long rate flags high low : ℕ) (cut : List (List ℕ)) (last : ℕ) (head : IsHead size mark second long rate) → AreSections cut
     → length (concat cut) + 11 ≡ size
     → sum (mark ∷ second ∷ long ∷ rate ∷ flags ∷ high ∷ low ∷ (concat cut ++ 0x74 ∷ high ∷ low ∷ last ∷ [])) % 256 ≡ 0
-    → (packet : Packet) × IsCdp packet (mark ∷ second ∷ long ∷ rate ∷ flags ∷ high ∷ low ∷ (concat cut ++ 0x74 ∷ high ∷ low ∷ last ∷ []))
-packet_ended size mark second long rate flags high low cut last head are whole zero =
+    → IsCdp (record { rate = head.code; flags = flags; counter = 256 * high + low; sections = cut })
+    (mark ∷ second ∷ long ∷ rate ∷ flags ∷ high ∷ low ∷ (concat cut ++ 0x74 ∷ high ∷ low ∷ last ∷ []))
+is_packet size mark second long rate flags high low cut last head are whole zero =
     let code = code_of-rate (rate / 16) head.code head.rate_is in
     let spelled_rate : rate ≡ 16 * code_of head.code + rate % 16 = omega arith in
     let rest = concat cut ++ 0x74 ∷ high ∷ low ∷ last ∷ [] in
-    let size_is : long ≡ length (mark ∷ second ∷ long ∷ rate ∷ flags ∷ high ∷ low ∷ rest) = omega (arith, head.long_is, length-append (concat cut) (0x74 ∷ high ∷ low ∷ last ∷ [])) in (
-      record { rate = head.code; flags = flags; counter = 256 * high + low; sections = cut },
-      record {
-        marker = rate % 16;
-        high = high;
-        low = low;
-        last = last;
-        four_bits = omega arith;
-        counter = refl;
-        sections = are;
-        spelled = ap (λ n. n ∷ second ∷ long ∷ rate ∷ flags ∷ high ∷ low ∷ rest) head.mark_is
-            ∙ ap (λ n. 0x96 ∷ n ∷ long ∷ rate ∷ flags ∷ high ∷ low ∷ rest) head.second_is
-            ∙ ap (λ n. 0x96 ∷ 0x69 ∷ n ∷ rate ∷ flags ∷ high ∷ low ∷ rest) size_is
-            ∙ ap (λ n. 0x96 ∷ 0x69 ∷ length (mark ∷ second ∷ long ∷ rate ∷ flags ∷ high ∷ low ∷ rest) ∷ n ∷ flags ∷ high ∷ low ∷ rest) spelled_rate;
-        total = zero;
-      },
-    )
+    let size_is : long ≡ length (mark ∷ second ∷ long ∷ rate ∷ flags ∷ high ∷ low ∷ rest) = omega (arith, head.long_is, length-append (concat cut) (0x74 ∷ high ∷ low ∷ last ∷ [])) in
+    record {
+      marker = rate % 16;
+      high = high;
+      low = low;
+      last = last;
+      four_bits = omega arith;
+      counter = refl;
+      sections = are;
+      spelled = ap (λ n. n ∷ second ∷ long ∷ rate ∷ flags ∷ high ∷ low ∷ rest) head.mark_is
+          ∙ ap (λ n. 0x96 ∷ n ∷ long ∷ rate ∷ flags ∷ high ∷ low ∷ rest) head.second_is
+          ∙ ap (λ n. 0x96 ∷ 0x69 ∷ n ∷ rate ∷ flags ∷ high ∷ low ∷ rest) size_is
+          ∙ ap (λ n. 0x96 ∷ 0x69 ∷ length (mark ∷ second ∷ long ∷ rate ∷ flags ∷ high ∷ low ∷ rest) ∷ n ∷ flags ∷ high ∷ low ∷ rest) spelled_rate;
+      total = zero;
+    }
 
--- the same, where the footer's bytes are told
+-- a packet, where the footer's bytes are told
 packet_by_foot : (size : ℕ) (mark second long rate flags high low : ℕ) (cut : List (List ℕ)) (foot body : List ℕ) → IsHead size mark second long rate → AreSections cut
     → body ≡ concat cut ++ foot → IsFoot high low foot → length foot ≡ 4 → length (concat cut) + 11 ≡ size
     → sum (mark ∷ second ∷ long ∷ rate ∷ flags ∷ high ∷ low ∷ body) % 256 ≡ 0
@@ -161,7 +160,7 @@ packet_by_foot size mark second long rate flags high low cut (id ∷ one ∷ two
     let is : body ≡ concat cut ++ 0x74 ∷ high ∷ low ∷ last ∷ [] = spelled ∙ ap (λ foot. concat cut ++ foot) foot_is in
     let here = subst (λ bs. sum (mark ∷ second ∷ long ∷ rate ∷ flags ∷ high ∷ low ∷ bs) % 256 ≡ 0) is zero in
     subst (λ bs. (packet : Packet) × IsCdp packet (mark ∷ second ∷ long ∷ rate ∷ flags ∷ high ∷ low ∷ bs)) (sym is)
-    (packet_ended size mark second long rate flags high low cut last head are whole here)
+    (record { rate = head.code; flags = flags; counter = 256 * high + low; sections = cut }, is_packet size mark second long rate flags high low cut last head are whole here)
 packet_by_foot size mark second long rate flags high low cut (_ ∷ _ ∷ _ ∷ _ ∷ _ ∷ more) body head are spelled begun four whole zero = absurd begun
 
 -- bytes that begin a packet of their length, and whose sum is 0, are one

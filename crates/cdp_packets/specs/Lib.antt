@@ -6,3 +6,4 @@ pub mod Reading
 pub mod Refusals
 pub mod Sections
 pub mod Written
+pub mod WholePackets

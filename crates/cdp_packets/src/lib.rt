@@ -10,12 +10,14 @@ mod parts;
 mod pieces;
 mod reader;
 mod sections;
+mod whole_packet;
 mod within;
 
 pub use packets::write_cdp;
 pub use parts::CdpPart;
 pub use reader::CdpReader;
 pub use sections::{cc_section, section_len};
+pub use whole_packet::{WholePacket, read_packet, split_section, triplet_bytes};
 
 #[cfg(test)]
 mod tests;

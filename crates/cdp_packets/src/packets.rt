@@ -33,7 +33,7 @@ pub fn write_cdp(rate: Rate, flags: u8, counter: u16, sections: &[u8], out: &mut
 }
 
 // The byte that makes the sum of these bytes and itself 0 modulo 256.
-fn checksum(bytes: &[u8]) -> u8
+pub(crate) fn checksum(bytes: &[u8]) -> u8
     ensures { result ≡ checksum_of bytes.now }
 {
     let mut total = 0u8;
@@ -53,4 +53,4 @@ const AROUND_SECTIONS: usize = 7 + 4;
 const RATE_MARKER: u8 = 0x0F;
 
 // The id of the footer.
-const FOOTER: u8 = 0x74;
+pub(crate) const FOOTER: u8 = 0x74;

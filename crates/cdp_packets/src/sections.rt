@@ -58,5 +58,10 @@ pub(crate) const CC_DATA: u8 = 0x72;
 
 pub(crate) const SERVICE_INFORMATION: u8 = 0x73;
 
+// The ids that are kept for the future: the second byte of their sections says how many come behind it.
+pub(crate) const FIRST_FUTURE: u8 = 0x75;
+
+pub(crate) const LAST_FUTURE: u8 = 0xEF;
+
 // The three marker bits above the count of a cc_data section.
 const COUNT_MARKER: u8 = 0xE0;

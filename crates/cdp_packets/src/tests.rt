@@ -1,6 +1,7 @@
 ghost use Rattle.std.specs.Prelude.{◌≡◌};
 
 mod reading;
+mod whole;
 
 use crate::{cc_section, section_len, write_cdp};
 use arrayvec::ArrayVec;

@@ -8,7 +8,9 @@ ghost use Rattle.cdp_packets.specs.Sections.{rest_of};
 
 use crate::open_triplet::{OpenTriplet, read_triplet_byte};
 use crate::parts::CdpPart;
-use crate::sections::{CC_DATA, SERVICE_INFORMATION, TIME_CODE, rest_len};
+use crate::sections::{
+    CC_DATA, FIRST_FUTURE, LAST_FUTURE, SERVICE_INFORMATION, TIME_CODE, rest_len,
+};
 use cc_base::{Step, Why};
 
 /// A byte of the sections.
@@ -92,8 +94,3 @@ pub(crate) fn read_section_byte(within: Within, left: u8, item: u8) -> (Step<Cdp
         }
     }
 }
-
-// The ids that are kept for the future: the second byte of their sections says how many come behind it.
-const FIRST_FUTURE: u8 = 0x75;
-
-const LAST_FUTURE: u8 = 0xEF;
