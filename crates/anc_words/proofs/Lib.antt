@@ -1,12 +1,14 @@
 pub mod PutWords
 pub mod WordLemmas
 pub mod EightBitLemmas
+pub mod EndingLemmas
 pub mod ChecksumLemmas
 pub mod PacketLemmas
 pub mod WordsFileLemmas
 pub mod ReadLemmas
 pub mod SoundLemmas
 pub mod CompleteLemmas
+pub mod CaptionLemmas
 pub mod ByteLemmas
 pub mod NextLemmas
 pub mod RefusedLemmas

@@ -12,7 +12,7 @@ use Rattle.anc_words.proofs.ChecksumLemmas.{checksum_word-is, IsChecksum-word}
 use Rattle.anc_words.proofs.WordLemmas.{words_of, AreWords-flat_map, AreWords-bytes, words_of-append}
 
 -- lists of one length at the heads of one list are one list
-same_heads : (xs ys rest after : List ℕ) → length xs ≡ length ys → xs ++ rest ≡ ys ++ after → (xs ≡ ys) × (rest ≡ after)
+pub same_heads : (xs ys rest after : List ℕ) → length xs ≡ length ys → xs ++ rest ≡ ys ++ after → (xs ≡ ys) × (rest ≡ after)
 same_heads [] [] rest after long same = (refl, same)
 same_heads [] (y ∷ ys) rest after long same = absurd (omega arith)
 same_heads (x ∷ xs) [] rest after long same = absurd (omega arith)

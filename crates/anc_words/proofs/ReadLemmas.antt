@@ -59,7 +59,7 @@ judge_word-below words word below =
     ap (λ (t : Bool). if t then judge_ten_bits words word else Refuse why.HighBits) test
 
 -- 8-bit words pass
-is_eight_bit-true : (word : ℕ) → IsEightBit (word % 256) word → is_eight_bit word ≡ true
+pub is_eight_bit-true : (word : ℕ) → IsEightBit (word % 256) word → is_eight_bit word ≡ true
 is_eight_bit-true word is = eq-eqb word (eight_bit_word (word % 256)) (IsEightBit-word (word % 256) word is)
 
 -- the word may be a user word behind these identifiers

@@ -33,7 +33,7 @@ test-same : (a b : ℕ) → (a == b) ≡ true → a ≡ b
 test-same a b is = grind (arith, nat_tests)
 
 -- a word that passes is an 8-bit word
-IsEightBit-passed : (word : ℕ) → is_eight_bit word ≡ true → IsEightBit (word % 256) word
+pub IsEightBit-passed : (word : ℕ) → is_eight_bit word ≡ true → IsEightBit (word % 256) word
 IsEightBit-passed word is =
     subst (IsEightBit (word % 256)) (sym (test-same word (eight_bit_word (word % 256)) is)) (eight_bit_word-is (word % 256) (omega arith))
 

@@ -3,13 +3,8 @@ use Rattle.std.proofs.Common.{◌≡◌, ℕ, ◌+◌, ◌*◌, ◌%◌, ◌/◌
 use Rattle.std.proofs.lemmas.List.Elements.{All-head, All-tail}
 use Rattle.std.specs.List.{All, flat_map}
 use Rattle.anc_words.specs.Words.{IsWord, AreWords}
+pub use Rattle.anc_words.specs.Words.{words_of}
 use Rattle.anc_words.specs.Writing.{word_bytes}
-
--- the words of bytes, pair by pair; a single byte at the end is no word
-abbrev pub words_of : List ℕ → List ℕ
-words_of [] = []
-words_of (high ∷ []) = []
-words_of (high ∷ low ∷ bytes) = (256 * high + low) ∷ words_of bytes
 
 -- the bytes of a word are it
 pub word_bytes-is : (word : ℕ) → word < 1024 → IsWord (word / 256) (word % 256) word

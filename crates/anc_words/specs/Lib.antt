@@ -6,3 +6,6 @@ pub mod WordsFiles
 pub mod Writing
 pub mod Reading
 pub mod Readers
+pub mod Ending
+pub mod CaptionWords
+pub mod CaptionPackets

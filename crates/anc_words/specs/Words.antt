@@ -13,3 +13,9 @@ abbrev pub AreWords : List ℕ → List ℕ → Type 0
 AreWords [] [] = ⊤
 AreWords (high ∷ low ∷ bytes) (word ∷ words) = IsWord high low word × AreWords bytes words
 AreWords _ _ = ⊥
+
+-- the words of bytes, pair by pair, whatever the high bytes have on top; a single byte at the end is no word
+abbrev pub words_of : List ℕ → List ℕ
+words_of [] = []
+words_of (high ∷ []) = []
+words_of (high ∷ low ∷ bytes) = (256 * high + low) ∷ words_of bytes

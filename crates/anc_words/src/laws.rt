@@ -12,6 +12,7 @@ ghost use Rattle.anc_words.specs.declared.parts.WordPart.{WordPart as Part};
 ghost use Rattle.anc_words.specs.EightBitWords.{IsEightBit};
 ghost use Rattle.anc_words.specs.Checksums.{IsChecksum};
 ghost use Rattle.anc_words.specs.Reading.{AllRead, HasRefusedWord, is_caption, is_eight_bit, judge_byte, judge_ten_bits, judge_word, nothing_open, open_behind, packet_parts, parts_of, read_under};
+ghost use Rattle.anc_words.specs.Ending.{bytes_to_end};
 ghost use Rattle.anc_words.specs.Words.{AreWords};
 ghost use Rattle.anc_words.specs.Packets.{Packet, IsCaption, IsUserWord, IsPacket, user_bytes};
 ghost use Rattle.anc_words.specs.WordsFiles.{ArePackets, IsPacketBytes, IsWordsFile};
@@ -113,6 +114,12 @@ pub fn a_word_is_refused_where_no_file_goes_on()
         → (more : List ℕ) × ((packets : List Packet) × IsWordsFile packets (bytes ++ more)) }
     ensures refused { (bytes : List ℕ) (byte : ℕ) (reason : Reason) (more : List ℕ) (packets : List Packet)
         → judge_byte (open_behind bytes) byte ≡ Refuse reason → IsWordsFile packets (bytes ++ byte ∷ more) → ⊥ }
+{}
+
+/// A packet ends no sooner than its count says: fewer bytes than come at least, down to the last one of a packet, end none.
+pub fn a_packet_ends_no_sooner()
+    ensures { (bytes more : List ℕ) (packets : List Packet) → 0 < length more → length more < bytes_to_end (open_behind bytes)
+        → IsWordsFile packets (bytes ++ more) → ⊥ }
 {}
 
 /// The tests by which words are judged say what they are named for, and a word's high bits come before all else.

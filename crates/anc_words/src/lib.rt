@@ -3,6 +3,8 @@
 //! SDID 01.
 #![tactic(auto)]
 
+mod caption_packet;
+mod caption_words;
 pub mod laws;
 mod open_packet;
 mod packets;
@@ -10,6 +12,7 @@ mod parts;
 mod reader;
 mod words;
 
+pub use caption_packet::CaptionPacket;
 pub use packets::write_packet;
 pub use parts::WordPart;
 pub use reader::WordReader;

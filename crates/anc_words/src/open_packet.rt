@@ -55,7 +55,8 @@ fn users(is_caption: bool, left: u8) -> Next
 }
 
 impl OpenPacket {
-    ghost use Rattle.anc_words.specs.Readers.{next_of, sum_of};
+    ghost use Rattle.anc_words.specs.Ending.{bytes_to_end};
+    ghost use Rattle.anc_words.specs.Readers.{Keeps, next_of, sum_of};
 
     /// No packet is open.
     pub(crate) fn new() -> OpenPacket
@@ -75,6 +76,27 @@ impl OpenPacket {
         ensures { IsTrue result ↔ ((self.now.high ≡ None) × (self.now.next ≡ next.Zeros)) }
     {
         matches!((self.high, self.next), (None, Next::Zeros))
+    }
+
+    /// The number of bytes that come at least, down to the last one of a packet: this one where one is open.
+    pub(crate) fn bytes_to_end(&self) -> usize
+        ensures least { (front : Open) → Keeps front self.now → result ≡ bytes_to_end front }
+        ensures some { 0 < result }
+    {
+        let words = match self.next {
+            Next::Zeros => 7,
+            Next::Ones => 6,
+            Next::MoreOnes => 5,
+            Next::Did => 4,
+            Next::Sdid { .. } => 3,
+            Next::Count { .. } => 2,
+            Next::User { more, .. } => usize::from(more) + 2,
+            Next::Checksum => 1,
+        };
+        match self.high {
+            None => 2 * words,
+            Some(_) => 2 * words - 1,
+        }
     }
 
     // Judges a word of the flag.

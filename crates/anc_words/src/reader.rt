@@ -1,13 +1,14 @@
-ghost use Rattle.std.specs.Prelude.{◌≡◌, ◌%◌, ◌^◌, ℕ, List, [], Some, IfErr, IsOk, length};
+ghost use Rattle.std.specs.Prelude.{◌≡◌, ◌↔◌, ◌<◌, ◌%◌, ◌^◌, ◌++◌, ℕ, List, [], None, Some, IfErr, IsOk, IsTrue, length};
 ghost use Rattle.std.specs.Result.{result_err};
 ghost use Rattle.cc_base.specs.declared.refusal.Refusal.{Refusal as Refused};
 ghost use Rattle.cc_base.specs.declared.why.Why.TheVariants as why;
 ghost use Rattle.cc_base.specs.Feeding.{place_by};
 ghost use Rattle.cc_base.specs.Steps.{judge_by};
 ghost use Rattle.anc_words.specs.Packets.{Packet};
-ghost use Rattle.anc_words.specs.Reading.{judge_byte, nothing_open, open_after};
-ghost use Rattle.anc_words.specs.WordsFiles.{IsWordsFile};
+ghost use Rattle.anc_words.specs.Reading.{judge_byte, nothing_open, open_after, open_behind};
+ghost use Rattle.anc_words.specs.WordsFiles.{IsPacketBytes, IsWordsFile};
 
+use crate::caption_packet::CaptionPacket;
 use crate::open_packet::OpenPacket;
 use crate::parts::WordPart;
 use cc_base::{Fed, Refusal, Resume, Upward, Why};
@@ -25,6 +26,8 @@ pub struct WordReader {
 }
 
 impl WordReader {
+    ghost use Rattle.anc_words.specs.Ending.{bytes_to_end};
+    ghost use Rattle.anc_words.specs.CaptionPackets.{size_of};
     ghost use Rattle.anc_words.specs.Readers.{HasRead, kept_refusal};
 
     /// A reader that was fed nothing.
@@ -34,6 +37,40 @@ impl WordReader {
         WordReader {
             fed: Fed::new(OpenPacket::new()),
         }
+    }
+
+    /// The number of bytes that come at least, down to the last one of an ancillary packet: of the open one, or of the next one
+    /// where none is open. Fewer bytes end no packet.
+    pub fn bytes_to_end(&self) -> usize
+        ensures least { (bytes : List ℕ) → HasRead bytes self.now → result ≡ bytes_to_end (open_behind bytes) }
+        ensures some { 0 < result }
+    {
+        self.fed.machine.bytes_to_end()
+    }
+
+    /// Whether nothing is open: no word was refused, and the bytes fed may end here.
+    pub fn is_closed(&self) -> bool
+        ensures closed { (bytes : List ℕ) → HasRead bytes self.now → IsTrue result ↔ (open_behind bytes ≡ nothing_open) }
+        ensures unrefused { IsTrue result → kept_refusal self.now ≡ None }
+    {
+        self.fed.refusal.is_none() && self.fed.machine.is_closed()
+    }
+
+    /// Passes over the bytes of a whole packet of captions, as if they were fed, where nothing is open: their number is
+    /// counted, and nothing is handed upward.
+    pub fn pass_over(&mut self, packet: &CaptionPacket<'_>)
+        ensures passed { (before piece : List ℕ) (said : Packet) → HasRead before self.old → open_behind before ≡ nothing_open
+            → IsPacketBytes said piece → length piece ≡ size_of packet.now → HasRead (before ++ piece) self.new }
+        ensures refusal { kept_refusal self.new ≡ kept_refusal self.old }
+    {
+        self.fed.taken = self.fed.taken.wrapping_add(packet.size() as u64);
+    }
+
+    /// The kept refusal, if a word was refused.
+    pub fn refusal(&self) -> Option<Refusal>
+        ensures { result ≡ kept_refusal self.now }
+    {
+        self.fed.refusal
     }
 
     /// Says whether the bytes fed may end here: the kept refusal, if there is one; else `Truncated`, at the number of bytes

@@ -1,4 +1,5 @@
 mod reading;
+mod whole;
 
 use crate::write_packet;
 use arrayvec::ArrayVec;

@@ -60,7 +60,7 @@ fn read(bytes: &[u8], size: usize) -> (Result<(), Refusal>, Result<(), Refusal>,
 }
 
 // The packet of the first frame without captions at 29.97.
-fn first_packet() -> ArrayVec<u8, 524> {
+pub(super) fn first_packet() -> ArrayVec<u8, 524> {
     let front = [
         0x000, 0x3FF, 0x3FF, 0x161, 0x101, 0x149, 0x296, 0x269, 0x149, 0x14F, 0x143, 0x200, 0x200,
         0x272, 0x1F4, 0x2FC, 0x180, 0x180, 0x1FD, 0x180, 0x180,
@@ -94,7 +94,7 @@ fn a_packet_is_read_in_any_pieces(rt: HostRuntime) {
 }
 
 // The bytes with the word of this number made another one.
-fn with_word(bytes: &[u8], at: usize, word: u16) -> ArrayVec<u8, 524> {
+pub(super) fn with_word(bytes: &[u8], at: usize, word: u16) -> ArrayVec<u8, 524> {
     let mut changed = ArrayVec::new();
     for (i, byte) in bytes.iter().enumerate() {
         let [high, low] = word.to_be_bytes();
