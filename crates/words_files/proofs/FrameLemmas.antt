@@ -23,7 +23,7 @@ one_list frames others bytes is other =
     carry_once other.packets frames others (subst (λ packets. CarryFrames packets frames) same is.carried) other.carried
 
 -- packets behind packets carry frames behind frames
-carry-append : (packets more : List Packet) (frames others : List Frame) → CarryFrames packets frames → CarryFrames more others
+pub carry-append : (packets more : List Packet) (frames others : List Frame) → CarryFrames packets frames → CarryFrames more others
     → CarryFrames (packets ++ more) (frames ++ others)
 carry-append _ more _ others none rest = rest
 carry-append _ more _ others (caption packet packets frame frames is carries behind) rest =

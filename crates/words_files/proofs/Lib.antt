@@ -1,1 +1,12 @@
+pub mod BeginsLemmas
+pub mod CatchingLemmas
+pub mod CaughtLemmas
+pub mod EndingLemmas
+pub mod FinishLemmas
 pub mod FrameLemmas
+pub mod FramesOfLemmas
+pub mod GotLemmas
+pub mod LastPacketLemmas
+pub mod OffenceLemmas
+pub mod TestWords
+pub mod WordLemmas

@@ -1,2 +1,6 @@
+pub mod Examples
 pub mod Frames
 pub mod Received
+pub mod Catching
+pub mod Offences
+pub mod FramesOf

@@ -27,6 +27,10 @@ field_pairs second_field triplets = flat_map (field_pair second_field) triplets
 abbrev pub received_pairs : Bool → List Frame → List Pair
 received_pairs second_field frames = flat_map (λ frame. field_pairs second_field (packet_triplets frame)) frames
 
--- the state of a field at a frame: what the pairs of the frames up to this one leave in a receiver that was reset
+-- the state of a field behind frames: what their pairs leave in a receiver that was reset
+abbrev pub received : Bool → List Frame → FieldState
+received second_field frames = after second_field (reverse (received_pairs second_field frames))
+
+-- the state of a field at a frame: behind the frames up to this one
 abbrev pub received_at : Bool → List Frame → ℕ → FieldState
-received_at second_field frames frame = after second_field (reverse (received_pairs second_field (take (suc frame) frames)))
+received_at second_field frames frame = received second_field (take (suc frame) frames)

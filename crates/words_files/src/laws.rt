@@ -1,8 +1,18 @@
 //! Laws of the definitions: functions without a body, whose contract is the law.
 
-ghost use Rattle.std.specs.Prelude.{◌≡◌, ℕ, List, ◌++◌};
+ghost use Rattle.std.specs.Prelude.{◌≡◌, ◌⊎◌, ◌%◌, ◌^◌, ◌<◌, ℕ, List, [], ◌++◌, All, None, Some, length, map, reverse};
+ghost use Rattle.cc_base.specs.declared.refusal.Refusal.{Refusal as Refused};
+ghost use Rattle.cc_base.specs.declared.why.Why.TheVariants as why;
+ghost use Rattle.cc_base.specs.Feeding.{Verdict};
+ghost use Rattle.cc_base.specs.Steps.{AreAccepted};
+ghost use Rattle.anc_words.specs.Reading.{nothing_open, open_behind};
+ghost use Rattle.cdp_packets.specs.declared.parts.CdpPart.{CdpPart as Part};
+ghost use Rattle.cdp_packets.specs.PacketParts.{packet_parts};
 ghost use Rattle.cdp_packets.specs.Packets.{Packet};
+ghost use Rattle.words_files.specs.Catching.{caught_in, never, refusal_of};
 ghost use Rattle.words_files.specs.Frames.{IsFileOf};
+ghost use Rattle.words_files.specs.FramesOf.{AreFramesOf};
+ghost use Rattle.words_files.specs.Offences.{AreWholeWords, Begins, HasOffence, IsCutShort, IsFileUnder, IsUnoffending, TakesFilling};
 
 /// The bytes of a words file are a file of one list of frames alone.
 pub fn files_have_one_list_of_frames()
@@ -14,4 +24,90 @@ pub fn files_have_one_list_of_frames()
 pub fn files_are_joined()
     ensures { (frames others : List Packet) (bytes more : List ℕ) → IsFileOf frames bytes → IsFileOf others more
         → IsFileOf (frames ++ others) (bytes ++ more) }
+{}
+
+/// Bytes have one list of frames, that of the longest file with which they begin; more bytes bring these frames and more; and
+/// their parts are what is caught of the bytes, up to the first refused word.
+pub fn bytes_have_one_list_of_frames()
+    ensures some { (verdict : Verdict Part) (bytes : List ℕ) → All (λ byte. byte < 256) bytes
+        → (frames : List Packet) × AreFramesOf verdict frames bytes }
+    ensures one { (verdict : Verdict Part) (frames others : List Packet) (bytes : List ℕ)
+        → AreFramesOf verdict frames bytes → AreFramesOf verdict others bytes → frames ≡ others }
+    ensures file { (verdict : Verdict Part) (frames : List Packet) (bytes : List ℕ) → IsFileUnder verdict frames bytes
+        → AreFramesOf verdict frames bytes }
+    ensures more { (verdict : Verdict Part) (frames others : List Packet) (bytes more : List ℕ)
+        → AreFramesOf verdict frames bytes → AreFramesOf verdict others (bytes ++ more)
+        → (behind : List Packet) × (others ≡ frames ++ behind) }
+    ensures caught { (verdict : Verdict Part) (frames : List Packet) (bytes : List ℕ) → All (λ byte. byte < 256) bytes
+        → AreFramesOf verdict frames bytes → (caught_in verdict bytes).frames ≡ reverse (map packet_parts frames) }
+{}
+
+/// A file is caught to its end: the parts of its frames, nothing that is open, and no refusal. And bytes that aren't refused and
+/// leave nothing open are a file, of whose frames the layers above take all parts.
+pub fn files_are_caught()
+    ensures caught { (verdict : Verdict Part) (frames : List Packet) (bytes : List ℕ) → IsFileUnder verdict frames bytes
+        → caught_in verdict bytes ≡ record { open_caption = None; frames = reverse (map packet_parts frames); refused = None } }
+    ensures unrefused { (verdict : Verdict Part) (frames : List Packet) (bytes : List ℕ) → IsFileUnder verdict frames bytes
+        → (refusal_of verdict bytes ≡ None) × (open_behind bytes ≡ nothing_open) }
+    ensures file { (verdict : Verdict Part) (bytes : List ℕ) → All (λ byte. byte < 256) bytes
+        → refusal_of verdict bytes ≡ None → open_behind bytes ≡ nothing_open
+        → (frames : List Packet) × IsFileUnder verdict frames bytes }
+{}
+
+/// The bytes of a file are whole words, and what begins some file is begun by its own first bytes: where no file begins with
+/// bytes, none begins with these and more.
+pub fn files_begin_with_their_first_bytes()
+    ensures whole { (verdict : Verdict Part) (frames : List Packet) (bytes : List ℕ) → IsFileUnder verdict frames bytes → AreWholeWords bytes }
+    ensures begins { (verdict : Verdict Part) (bytes more : List ℕ) → Begins verdict (bytes ++ more) → Begins verdict bytes }
+{}
+
+/// A word offends where no file goes on with it: bytes are refused exactly where they have an offending word, at the place of
+/// the first and for its reason, and they aren't refused exactly where no word of them offends.
+pub fn a_word_offends_where_no_file_goes_on()
+    ensures refused { (verdict : Verdict Part) → TakesFilling verdict → (bytes : List ℕ) (refused : Refused) → All (λ byte. byte < 256) bytes
+        → refusal_of verdict bytes ≡ Some refused → HasOffence verdict bytes refused }
+    ensures offends { (verdict : Verdict Part) (bytes : List ℕ) (refused : Refused) → HasOffence verdict bytes refused
+        → refusal_of verdict bytes ≡ Some refused }
+    ensures unrefused { (verdict : Verdict Part) → TakesFilling verdict → (bytes : List ℕ) → All (λ byte. byte < 256) bytes
+        → refusal_of verdict bytes ≡ None → IsUnoffending verdict bytes }
+    ensures unoffending { (verdict : Verdict Part) (bytes : List ℕ) → IsUnoffending verdict bytes → refusal_of verdict bytes ≡ None }
+{}
+
+/// The first offending word of bytes is one, with one place and one reason, and it stays the first, whatever bytes follow.
+pub fn an_offence_is_one()
+    ensures one { (verdict : Verdict Part) (bytes : List ℕ) (refused other : Refused)
+        → HasOffence verdict bytes refused → HasOffence verdict bytes other → refused ≡ other }
+    ensures stays { (verdict : Verdict Part) (bytes more : List ℕ) (refused : Refused)
+        → HasOffence verdict bytes refused → HasOffence verdict (bytes ++ more) refused }
+{}
+
+/// Bytes are cut short exactly where none of their words is refused and something is open behind them: half a word, or a packet
+/// that isn't whole.
+pub fn bytes_are_cut_short_where_something_is_open()
+    ensures cut_short { (verdict : Verdict Part) → TakesFilling verdict → (bytes : List ℕ) → All (λ byte. byte < 256) bytes
+        → refusal_of verdict bytes ≡ None → (open_behind bytes ≡ nothing_open → ⊥)
+        → IsCutShort verdict bytes (record { place = length bytes % 2 ^ 64; why = why.Truncated }) }
+    ensures unrefused { (verdict : Verdict Part) (bytes : List ℕ) (refused : Refused) → IsCutShort verdict bytes refused
+        → refusal_of verdict bytes ≡ None }
+    ensures open { (verdict : Verdict Part) (bytes : List ℕ) (refused : Refused) → All (λ byte. byte < 256) bytes
+        → IsCutShort verdict bytes refused → open_behind bytes ≡ nothing_open → ⊥ }
+{}
+
+/// Bytes are a file, or cut short, or they have an offending word, and never two of these.
+pub fn every_input_is_a_file_or_cut_short_or_offends()
+    ensures each { (verdict : Verdict Part) → TakesFilling verdict → (bytes : List ℕ) → All (λ byte. byte < 256) bytes
+        → ((frames : List Packet) × IsFileUnder verdict frames bytes)
+        ⊎ (((refused : Refused) × IsCutShort verdict bytes refused) ⊎ ((refused : Refused) × HasOffence verdict bytes refused)) }
+    ensures file { (verdict : Verdict Part) (frames : List Packet) (bytes : List ℕ) (refused : Refused)
+        → IsFileUnder verdict frames bytes → IsCutShort verdict bytes refused ⊎ HasOffence verdict bytes refused → ⊥ }
+    ensures cut_short { (verdict : Verdict Part) (bytes : List ℕ) (refused other : Refused)
+        → IsCutShort verdict bytes refused → HasOffence verdict bytes other → ⊥ }
+{}
+
+/// Where there is no layer above, all parts of distribution packets are taken, those that fill a packet among them, and each
+/// words file is one.
+pub fn no_layer_above_takes_all()
+    ensures filling { TakesFilling never }
+    ensures all { (above parts : List Part) → AreAccepted never above parts }
+    ensures file { (frames : List Packet) (bytes : List ℕ) → IsFileOf frames bytes → IsFileUnder never frames bytes }
 {}

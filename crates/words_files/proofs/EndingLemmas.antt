@@ -1,0 +1,116 @@
+-- How bytes end: as a file, cut short, or with an offending word, and never as two of these.
+use Rattle.std.proofs.Common.{◌≡◌, ℕ, ◌%◌, ◌^◌, ◌<◌, ◌⊎◌, inl, inr, List, [], ◌∷◌, ◌++◌, length, Option, Some, None, refl, ap, sym, ◌∙◌, append_assoc}
+use Rattle.std.specs.List.{All, flat_map}
+use Rattle.cc_base.specs.declared.refusal.Refusal.{Refusal}
+use Rattle.cc_base.specs.declared.why.Why.TheVariants as why
+use Rattle.cc_base.specs.Feeding.{Verdict}
+use Rattle.cc_base.specs.Steps.{AreAccepted, parts_by}
+use Rattle.anc_words.specs.Reading.{Open, nothing_open, open_behind}
+use Rattle.anc_words.proofs.ByteLemmas.{file_is_read}
+use Rattle.cdp_packets.specs.declared.parts.CdpPart.{CdpPart}
+use Rattle.cdp_packets.specs.PacketParts.{packet_parts}
+use Rattle.cdp_packets.specs.Packets.{Packet as Frame}
+use Rattle.cdp_packets.specs.Reading.{judge_cdp, open_after, open_behind as packet_behind, parts_of}
+use Rattle.words_files.specs.Catching.{never, refusal_of}
+use Rattle.words_files.specs.Frames.{IsFileOf}
+use Rattle.words_files.specs.Offences.{AreWholeWords, HasOffence, IsCutShort, IsFileUnder, TakesFilling}
+use Rattle.words_files.proofs.CaughtLemmas.{caught_file, file_caught}
+use Rattle.words_files.proofs.OffenceLemmas.{offence_refused, refused_offends, same_refusal, some_or_none, unoffending_is_unrefused, unrefused_is_unoffending}
+use Rattle.words_files.proofs.WordLemmas.{AreWords-whole}
+
+-- where there is no layer above, all parts are taken
+pub never_refuses : (above parts : List CdpPart) → AreAccepted never above parts
+never_refuses above [] = tt
+never_refuses above (part ∷ parts) = (refl, never_refuses (above ++ part ∷ []) parts)
+
+pub never_takes : TakesFilling never
+never_takes size handed bytes more all read accepted filling =
+    never_refuses (handed ++ parts_of size bytes) (parts_by (judge_cdp size) (open_after size) (packet_behind size bytes) more)
+
+pub file_under_never : (frames : List Frame) (bytes : List ℕ) → IsFileOf frames bytes → IsFileUnder never frames bytes
+file_under_never frames bytes file = record { file = file; accepted = never_refuses [] (flat_map packet_parts frames) }
+
+-- the bytes of a file are whole words, and leave nothing open
+pub file_whole : (v : Verdict CdpPart) (frames : List Frame) (bytes : List ℕ) → IsFileUnder v frames bytes → AreWholeWords bytes
+file_whole v frames bytes is = AreWords-whole bytes is.file.file.words is.file.file.spelled
+
+pub file_closed : (v : Verdict CdpPart) (frames : List Frame) (bytes : List ℕ) → IsFileUnder v frames bytes → open_behind bytes ≡ nothing_open
+file_closed v frames bytes is = (file_is_read is.file.packets bytes is.file.file).leads
+
+-- where the bytes are cut short
+abbrev pub truncated : List ℕ → Refusal
+truncated bytes = record { place = length bytes % 2 ^ 64; why = why.Truncated }
+
+-- bytes that aren't refused and leave something open are cut short
+pub open_is_cut_short : (v : Verdict CdpPart) → TakesFilling v → (bytes : List ℕ) → All (λ byte. byte < 256) bytes → refusal_of v bytes ≡ None
+    → (open_behind bytes ≡ nothing_open → ⊥) → IsCutShort v bytes (truncated bytes)
+open_is_cut_short v takes bytes are none opens = record {
+  unoffending = unrefused_is_unoffending v takes bytes are none;
+  no_file = λ frames is. opens (file_closed v frames bytes is);
+  place_is = refl;
+  why_is = refl;
+}
+
+-- and the other way round
+pub cut_short_is_open : (v : Verdict CdpPart) (bytes : List ℕ) (refusal : Refusal) → All (λ byte. byte < 256) bytes → IsCutShort v bytes refusal
+    → (refusal_of v bytes ≡ None) × (open_behind bytes ≡ nothing_open → ⊥) × (refusal ≡ truncated bytes)
+cut_short_is_open v bytes refusal are is =
+    let none = unoffending_is_unrefused v bytes is.unoffending in (
+      none,
+      λ nothing. let (frames, file) = caught_file v bytes are none nothing in is.no_file frames file,
+      ap (λ n. let r : Refusal = record { place = n; why = refusal.why } in r) is.place_is
+          ∙ ap (λ w. let r : Refusal = record { place = length bytes % 2 ^ 64; why = w } in r) is.why_is,
+    )
+
+-- something is open, or nothing
+pub nothing_or_some : (front : Open) → (front ≡ nothing_open) ⊎ (front ≡ nothing_open → ⊥)
+nothing_or_some front =
+    let by_words : (high : Option ℕ) (words : List ℕ) → front.high ≡ high → front.words ≡ words → (front ≡ nothing_open) ⊎ (front ≡ nothing_open → ⊥) = elim [
+      | None ↦ elim [
+        | [] ↦ λ high words. inl (ap (λ h. let o : Open = record { high = h; words = front.words } in o) high
+            ∙ ap (λ ws. let o : Open = record { high = None; words = ws } in o) words)
+        | word ∷ rest ↦ λ high words. inr (λ same. let clash : word ∷ rest ≡ [] = sym words ∙ ap (λ (o : Open). o.words) same in absurd cc)
+      ]
+      | Some byte ↦ λ words high is. inr (λ same. let clash : Some byte ≡ None = sym high ∙ ap (λ (o : Open). o.high) same in absurd cc)
+    ] in by_words _ _ refl refl
+
+-- bytes are a file, cut short, or have an offending word
+pub each_ends : (v : Verdict CdpPart) → TakesFilling v → (bytes : List ℕ) → All (λ byte. byte < 256) bytes
+    → ((frames : List Frame) × IsFileUnder v frames bytes) ⊎ (((refusal : Refusal) × IsCutShort v bytes refusal) ⊎ ((refusal : Refusal) × HasOffence v bytes refusal))
+each_ends v takes bytes are =
+    let cases : (r : Option Refusal) → refusal_of v bytes ≡ r
+    → ((frames : List Frame) × IsFileUnder v frames bytes) ⊎ (((refusal : Refusal) × IsCutShort v bytes refusal) ⊎ ((refusal : Refusal) × HasOffence v bytes refusal)) = elim [
+      | None ↦ λ none. elim (nothing_or_some (open_behind bytes)) [
+        | inl nothing ↦ inl (caught_file v bytes are none nothing)
+        | inr some ↦ inr (inl (truncated bytes, open_is_cut_short v takes bytes are none some))
+      ]
+      | Some refusal ↦ λ some. inr (inr (refusal, refused_offends v takes bytes refusal are some))
+    ] in cases _ refl
+
+-- never two of these
+pub file_has_no_offence : (v : Verdict CdpPart) (frames : List Frame) (bytes : List ℕ) (refusal : Refusal) → IsFileUnder v frames bytes → HasOffence v bytes refusal → ⊥
+file_has_no_offence v frames bytes refusal file offence =
+    some_or_none (refusal_of v bytes) refusal (offence_refused v bytes refusal offence) (file_caught v frames bytes file).1
+
+pub cut_short_has_no_offence : (v : Verdict CdpPart) (bytes : List ℕ) (refusal other : Refusal) → IsCutShort v bytes refusal → HasOffence v bytes other → ⊥
+cut_short_has_no_offence v bytes refusal other cut offence =
+    some_or_none (refusal_of v bytes) other (offence_refused v bytes other offence) (unoffending_is_unrefused v bytes cut.unoffending)
+
+-- an offence is one, whatever bytes follow
+pub offence_is_one : (v : Verdict CdpPart) (bytes : List ℕ) (refusal other : Refusal) → HasOffence v bytes refusal → HasOffence v bytes other → refusal ≡ other
+offence_is_one v bytes refusal other one two =
+    same_refusal refusal other (sym (offence_refused v bytes refusal one) ∙ offence_refused v bytes other two)
+
+pub offence_stays : (v : Verdict CdpPart) (bytes more : List ℕ) (refusal : Refusal) → HasOffence v bytes refusal → HasOffence v (bytes ++ more) refusal
+offence_stays v bytes more refusal has = record {
+  before = has.before;
+  high = has.high;
+  low = has.low;
+  rest = has.rest ++ more;
+  spelled = ap (λ bs. bs ++ more) has.spelled ∙ append_assoc has.before (has.high ∷ has.low ∷ has.rest) more;
+  whole = has.whole;
+  begins = has.begins;
+  offends = has.offends;
+  place_is = has.place_is;
+  why_is = has.why_is;
+}

@@ -1,0 +1,266 @@
+-- The first word that is refused is the first that offends: a file begins with the words before it, and none with these and it.
+use Rattle.std.proofs.Common.{◌≡◌, ℕ, ◌+◌, ◌-◌, ◌*◌, ◌%◌, ◌^◌, ◌<◌, ◌≤◌, List, [], ◌∷◌, ◌++◌, length, Option, Some, None, refl, ap, sym, subst, ◌∙◌, arith, append_assoc, append-nil, length-append, lit≤}
+use Rattle.std.specs.List.{All}
+use Rattle.cc_base.specs.declared.refusal.Refusal.{Refusal}
+use Rattle.cc_base.specs.declared.why.Why.{Why}
+use Rattle.cc_base.specs.Feeding.{Handed, Judge, Reading, Verdict, hand, place_by, read_first, reading, refused_at}
+use Rattle.cc_base.specs.Steps.{judge_by}
+use Rattle.cc_base.proofs.ReadingLemmas.{reading-append, reading-taken}
+use Rattle.cc_base.proofs.StepLemmas.{front_from-append, read_first-none, reading-accepted, reading-none}
+use Rattle.anc_words.specs.declared.parts.WordPart.{WordPart}
+use Rattle.anc_words.specs.Reading.{Open, judge_byte, nothing_open, open_after, open_behind, parts_of, read_under}
+use Rattle.anc_words.proofs.ByteLemmas.{last_high, open-words_of}
+use Rattle.cdp_packets.specs.declared.parts.CdpPart.{CdpPart}
+use Rattle.words_files.specs.Catching.{caption_verdict, refusal_of}
+use Rattle.words_files.specs.Offences.{AreWholeWords, Begins, HasOffence, IsFileUnder, IsUnoffending, TakesFilling, reason_of}
+use Rattle.words_files.proofs.BeginsLemmas.{goes_on}
+use Rattle.words_files.proofs.CaughtLemmas.{file_caught}
+use Rattle.words_files.proofs.WordLemmas.{All-split}
+
+-- a refusal is no other, and none is none
+pub same_refusal : (one other : Refusal) → Some one ≡ Some other → one ≡ other
+same_refusal one other same = cc
+
+pub some_or_none : (refusal : Option Refusal) (one : Refusal) → refusal ≡ Some one → refusal ≡ None → ⊥
+some_or_none refusal one some none = let clash : Some one ≡ None = sym some ∙ none in absurd cc
+
+abbrev refusal_at : ℕ → Why → Refusal
+refusal_at place why = record { place = place; why = why }
+
+-- how bytes are judged
+abbrev judge_of : Judge ℕ WordPart
+judge_of = judge_by judge_byte open_after nothing_open
+
+-- a refusal stays, whatever bytes follow
+pub refusal-stays : (v : Verdict CdpPart) (before more : List ℕ) (refusal : Refusal) → refusal_of v before ≡ Some refusal → refusal_of v (before ++ more) ≡ Some refusal
+refusal-stays v before more refusal is =
+    let one = read_under (caption_verdict v) before in
+    ap (λ (r : Reading WordPart). r.refusal) (reading-append judge_of (caption_verdict v) (place_by 2) [] [] before more)
+    ∙ ap (λ r. (read_first r one.parts (reading judge_of (caption_verdict v) (place_by 2) before one.parts more)).refusal) is
+
+-- so none was refused before, where none is
+pub refusal-before : (v : Verdict CdpPart) (before more : List ℕ) → refusal_of v (before ++ more) ≡ None → refusal_of v before ≡ None
+refusal-before v before more none =
+    let one = read_under (caption_verdict v) before in
+    let whole = ap (λ (r : Reading WordPart). r.refusal) (reading-append judge_of (caption_verdict v) (place_by 2) [] [] before more) in
+    (read_first-none one.refusal one.parts (reading judge_of (caption_verdict v) (place_by 2) before one.parts more) (sym whole ∙ none)).0
+
+-- bytes that begin a file aren't refused
+pub begins_unrefused : (v : Verdict CdpPart) (bytes : List ℕ) → Begins v bytes → refusal_of v bytes ≡ None
+begins_unrefused v bytes begins = refusal-before v bytes begins.more (file_caught v begins.frames (bytes ++ begins.more) begins.is_file).1
+
+-- the first bytes of those that begin a file begin it
+pub Begins-before : (v : Verdict CdpPart) (bytes more : List ℕ) → Begins v (bytes ++ more) → Begins v bytes
+Begins-before v bytes more begins = record {
+  more = more ++ begins.more;
+  frames = begins.frames;
+  is_file = subst (IsFileUnder v begins.frames) (append_assoc bytes more begins.more) begins.is_file;
+}
+
+-- whole words leave no high byte
+last_high-whole : (bytes : List ℕ) → AreWholeWords bytes → last_high bytes ≡ None
+last_high-whole [] whole = refl
+last_high-whole (high ∷ []) whole = absurd (omega (arith, whole))
+last_high-whole (high ∷ low ∷ bytes) whole = last_high-whole bytes (omega (arith, whole))
+
+-- what is open behind them
+abbrev at_words : List ℕ → Open
+at_words words = record { high = None; words = words }
+
+open-whole : (bytes : List ℕ) → AreWholeWords bytes → open_behind bytes ≡ at_words (open_behind bytes).words
+open-whole bytes whole =
+    let none : (open_behind bytes).high ≡ None = ap (λ (o : Open). o.high) (open-words_of [] bytes) ∙ last_high-whole bytes whole in
+    ap (λ h. let o : Open = record { high = h; words = (open_behind bytes).words } in o) none
+
+-- what is read of bytes that aren't refused
+read-unrefused : (v : Verdict CdpPart) (bytes : List ℕ) → refusal_of v bytes ≡ None
+    → read_under (caption_verdict v) bytes ≡ record { parts = parts_of bytes; refusal = None }
+read-unrefused v bytes none =
+    let (all, accepted) = reading-none judge_byte open_after nothing_open (caption_verdict v) (place_by 2) [] [] bytes none in
+    reading-accepted judge_byte open_after nothing_open (caption_verdict v) (place_by 2) [] [] bytes all accepted
+
+-- and of more bytes
+read-more : (v : Verdict CdpPart) (before more : List ℕ) → refusal_of v before ≡ None
+    → refusal_of v (before ++ more) ≡ (reading judge_of (caption_verdict v) (place_by 2) before (parts_of before) more).refusal
+read-more v before more none =
+    ap (λ (r : Reading WordPart). r.refusal) (reading-append judge_of (caption_verdict v) (place_by 2) [] [] before more)
+    ∙ ap (λ (r : Reading WordPart). (read_first r.refusal r.parts (reading judge_of (caption_verdict v) (place_by 2) before r.parts more)).refusal) (read-unrefused v before none)
+
+-- the refusal of one byte
+refused-one : (place : ℕ) (why : Option Why) (parts : List WordPart) → (read_first (refused_at place why) parts (record { parts = []; refusal = None })).refusal ≡ refused_at place why
+refused-one place None parts = refl
+refused-one place (Some why) parts = refl
+
+-- a high byte makes nothing
+high_hand : (v : Verdict CdpPart) (before : List ℕ) (high : ℕ) → AreWholeWords before
+    → hand (caption_verdict v) (parts_of before) (judge_of before high) ≡ record { parts = []; why = None }
+high_hand v before high whole = ap (λ (o : Open). hand (caption_verdict v) (parts_of before) (judge_byte o high)) (open-whole before whole)
+
+high_read : (v : Verdict CdpPart) (before : List ℕ) (high : ℕ) (rest : List ℕ) → AreWholeWords before
+    → (reading judge_of (caption_verdict v) (place_by 2) before (parts_of before) (high ∷ rest)).refusal
+    ≡ (reading judge_of (caption_verdict v) (place_by 2) (before ++ high ∷ []) (parts_of before) rest).refusal
+high_read v before high rest whole =
+    let nothing = high_hand v before high whole in
+    ap (λ (r : Reading WordPart). r.refusal)
+    (reading-taken judge_of (caption_verdict v) (place_by 2) before (parts_of before) high rest (ap (λ (h : Handed WordPart). h.why) nothing))
+    ∙ ap (λ (h : Handed WordPart). (reading judge_of (caption_verdict v) (place_by 2) (before ++ high ∷ []) (parts_of before ++ h.parts) rest).refusal) nothing
+    ∙ ap (λ ps. (reading judge_of (caption_verdict v) (place_by 2) (before ++ high ∷ []) ps rest).refusal) (append-nil (parts_of before))
+
+-- so a single byte behind whole words isn't refused
+pub high_unrefused : (v : Verdict CdpPart) (before : List ℕ) (high : ℕ) → AreWholeWords before → refusal_of v before ≡ None → refusal_of v (before ++ high ∷ []) ≡ None
+high_unrefused v before high whole none = read-more v before (high ∷ []) none ∙ high_read v before high [] whole
+
+-- the place of a word's low byte is that of its high byte
+place-low : (before : List ℕ) (high : ℕ) → AreWholeWords before → place_by 2 (before ++ high ∷ []) ≡ length before % 2 ^ 64
+place-low before high whole =
+    let even : (n : ℕ) → n % 2 ≡ 0 → (n + 1) % 2 ^ 64 - (n + 1) % 2 ^ 64 % 2 ≡ n % 2 ^ 64 = λ n is. omega arith in
+    ap (λ n. n % 2 ^ 64 - n % 2 ^ 64 % 2) (length-append before (high ∷ [])) ∙ even (length before) whole
+
+-- what is open between the bytes of a word
+open-low : (before : List ℕ) (high : ℕ) → AreWholeWords before → open_behind (before ++ high ∷ []) ≡ record { high = Some high; words = (open_behind before).words }
+open-low before high whole =
+    front_from-append open_after nothing_open before (high ∷ []) ∙ ap (λ (o : Open). open_after o high) (open-whole before whole)
+
+-- a word behind unrefused words is refused for its reason, at their number
+pub word_read : (v : Verdict CdpPart) (before : List ℕ) (high low : ℕ) → AreWholeWords before → refusal_of v before ≡ None
+    → refusal_of v (before ++ high ∷ low ∷ []) ≡ refused_at (length before % 2 ^ 64) (reason_of v before (256 * high + low))
+word_read v before high low whole none =
+    let verdict = caption_verdict v in
+    let why_is = λ (o : Open). (hand verdict (parts_of before) (judge_byte o low)).why in
+    let last = hand verdict (parts_of before) (judge_of (before ++ high ∷ []) low) in
+    read-more v before (high ∷ low ∷ []) none
+    ∙ high_read v before high (low ∷ []) whole
+    ∙ refused-one (place_by 2 (before ++ high ∷ [])) last.why last.parts
+    ∙ ap (λ n. refused_at n last.why) (place-low before high whole)
+    ∙ ap (λ (o : Open). refused_at (length before % 2 ^ 64) (why_is o)) (open-low before high whole)
+
+-- a word and whole words are whole words
+whole-word : (before : List ℕ) (high low : ℕ) → AreWholeWords before → AreWholeWords (before ++ high ∷ low ∷ [])
+whole-word before high low whole = omega (arith, length-append before (high ∷ low ∷ []), whole)
+
+-- the first word that is refused
+record HasFirst (v : Verdict CdpPart) (bytes : List ℕ) (refusal : Refusal) : Type 0 where
+  pub before : List ℕ
+  pub high : ℕ
+  pub low : ℕ
+  pub rest : List ℕ
+  pub spelled : bytes ≡ before ++ high ∷ low ∷ rest
+  pub whole : AreWholeWords before
+  pub unrefused : refusal_of v before ≡ None
+  pub place_is : refusal.place ≡ length before % 2 ^ 64
+  pub why_is : reason_of v before (256 * high + low) ≡ Some refusal.why
+
+-- it is this word
+first-here : (v : Verdict CdpPart) (before : List ℕ) (high low : ℕ) (rest : List ℕ) (refusal : Refusal) (why : Why) → AreWholeWords before → refusal_of v before ≡ None
+    → reason_of v before (256 * high + low) ≡ Some why → refusal_of v (before ++ high ∷ low ∷ rest) ≡ Some refusal → HasFirst v (before ++ high ∷ low ∷ rest) refusal
+first-here v before high low rest refusal why whole none reason some =
+    let here = refusal_at (length before % 2 ^ 64) why in
+    let stays = refusal-stays v (before ++ high ∷ low ∷ []) rest here (word_read v before high low whole none ∙ ap (refused_at (length before % 2 ^ 64)) reason) in
+    let same : Some here ≡ Some refusal = sym stays ∙ ap (refusal_of v) (append_assoc before (high ∷ low ∷ []) rest) ∙ some in
+    let is = same_refusal here refusal same in record {
+      before = before;
+      high = high;
+      low = low;
+      rest = rest;
+      spelled = refl;
+      whole = whole;
+      unrefused = none;
+      place_is = ap (λ (r : Refusal). r.place) (sym is);
+      why_is = reason ∙ ap (λ (r : Refusal). Some r.why) is;
+    }
+
+-- or a later one
+first-from : (v : Verdict CdpPart) (before bytes : List ℕ) (refusal : Refusal) → AreWholeWords before → refusal_of v before ≡ None
+    → refusal_of v (before ++ bytes) ≡ Some refusal → HasFirst v (before ++ bytes) refusal
+first-from v before [] refusal whole none some =
+    absurd (some_or_none (refusal_of v before) refusal (ap (refusal_of v) (sym (append-nil before)) ∙ some) none)
+first-from v before (high ∷ []) refusal whole none some =
+    absurd (some_or_none (refusal_of v (before ++ high ∷ [])) refusal some (high_unrefused v before high whole none))
+first-from v before (high ∷ low ∷ rest) refusal whole none some =
+    let same = append_assoc before (high ∷ low ∷ []) rest in
+    let cases : (w : Option Why) → reason_of v before (256 * high + low) ≡ w → HasFirst v (before ++ high ∷ low ∷ rest) refusal = elim [
+      | None ↦ λ reason. subst (λ bs. HasFirst v bs refusal) same
+          (first-from v (before ++ high ∷ low ∷ []) rest refusal (whole-word before high low whole)
+          (word_read v before high low whole none ∙ ap (refused_at (length before % 2 ^ 64)) reason) (ap (refusal_of v) same ∙ some))
+      | Some why ↦ λ reason. first-here v before high low rest refusal why whole none reason some
+    ] in cases _ refl
+
+-- no file goes on with a word that is refused
+nowhere : (v : Verdict CdpPart) (before : List ℕ) (high low : ℕ) (why : Why) → AreWholeWords before → refusal_of v before ≡ None
+    → reason_of v before (256 * high + low) ≡ Some why → Begins v (before ++ high ∷ low ∷ []) → ⊥
+nowhere v before high low why whole none reason begins =
+    some_or_none (refusal_of v (before ++ high ∷ low ∷ [])) (refusal_at (length before % 2 ^ 64) why)
+    (word_read v before high low whole none ∙ ap (refused_at (length before % 2 ^ 64)) reason) (begins_unrefused v (before ++ high ∷ low ∷ []) begins)
+
+-- a refusal is that of the first offending word
+pub refused_offends : (v : Verdict CdpPart) → TakesFilling v → (bytes : List ℕ) (refusal : Refusal) → All (λ byte. byte < 256) bytes
+    → refusal_of v bytes ≡ Some refusal → HasOffence v bytes refusal
+refused_offends v takes bytes refusal are some =
+    let first = first-from v [] bytes refusal refl refl some in
+    let (before_are, _) = All-split (λ byte. byte < 256) first.before (first.high ∷ first.low ∷ first.rest) (subst (All (λ byte. byte < 256)) first.spelled are) in record {
+      before = first.before;
+      high = first.high;
+      low = first.low;
+      rest = first.rest;
+      spelled = first.spelled;
+      whole = first.whole;
+      begins = goes_on v takes first.before before_are first.whole first.unrefused;
+      offends = nowhere v first.before first.high first.low refusal.why first.whole first.unrefused first.why_is;
+      place_is = first.place_is;
+      why_is = first.why_is;
+    }
+
+-- and the first offending word is refused
+pub offence_refused : (v : Verdict CdpPart) (bytes : List ℕ) (refusal : Refusal) → HasOffence v bytes refusal → refusal_of v bytes ≡ Some refusal
+offence_refused v bytes refusal has =
+    let place = length has.before % 2 ^ 64 in
+    let none = begins_unrefused v has.before has.begins in
+    let here = refusal_at place refusal.why in
+    let some = word_read v has.before has.high has.low has.whole none ∙ ap (refused_at place) has.why_is in
+    let stays = refusal-stays v (has.before ++ has.high ∷ has.low ∷ []) has.rest here some in
+    ap (refusal_of v) (has.spelled ∙ sym (append_assoc has.before (has.high ∷ has.low ∷ []) has.rest)) ∙ stays
+    ∙ ap (λ n. Some (refusal_at n refusal.why)) (sym has.place_is)
+
+-- bytes as whole words, and a single byte or none
+record Halves (bytes : List ℕ) : Type 0 where
+  pub words : List ℕ
+  pub half : List ℕ
+  pub spelled : bytes ≡ words ++ half
+  pub whole : AreWholeWords words
+  pub single : length half ≤ 1
+
+halves : (bytes : List ℕ) → Halves bytes
+halves [] = record { words = []; half = []; spelled = refl; whole = refl; single = lit≤ tt }
+halves (high ∷ []) = record { words = []; half = high ∷ []; spelled = refl; whole = refl; single = lit≤ tt }
+halves (high ∷ low ∷ bytes) =
+    let rest = halves bytes in
+    let whole = rest.whole in record {
+      words = high ∷ low ∷ rest.words;
+      half = rest.half;
+      spelled = ap (λ bs. high ∷ low ∷ bs) rest.spelled;
+      whole = omega (arith, whole);
+      single = rest.single;
+    }
+
+-- bytes that aren't refused have no offending word
+pub unrefused_is_unoffending : (v : Verdict CdpPart) → TakesFilling v → (bytes : List ℕ) → All (λ byte. byte < 256) bytes → refusal_of v bytes ≡ None → IsUnoffending v bytes
+unrefused_is_unoffending v takes bytes are none =
+    let cut = halves bytes in
+    let (words_are, _) = All-split (λ byte. byte < 256) cut.words cut.half (subst (All (λ byte. byte < 256)) cut.spelled are) in record {
+      words = cut.words;
+      half = cut.half;
+      spelled = cut.spelled;
+      whole = cut.whole;
+      single = cut.single;
+      begins = goes_on v takes cut.words words_are cut.whole (refusal-before v cut.words cut.half (ap (refusal_of v) (sym cut.spelled) ∙ none));
+    }
+
+-- a single byte or none is never refused behind whole words
+half_unrefused : (v : Verdict CdpPart) (words half : List ℕ) → AreWholeWords words → length half ≤ 1 → refusal_of v words ≡ None → refusal_of v (words ++ half) ≡ None
+half_unrefused v words [] whole single none = ap (refusal_of v) (append-nil words) ∙ none
+half_unrefused v words (high ∷ []) whole single none = high_unrefused v words high whole none
+half_unrefused v words (high ∷ low ∷ rest) whole single none = absurd (omega (arith, single))
+
+pub unoffending_is_unrefused : (v : Verdict CdpPart) (bytes : List ℕ) → IsUnoffending v bytes → refusal_of v bytes ≡ None
+unoffending_is_unrefused v bytes is =
+    ap (refusal_of v) is.spelled ∙ half_unrefused v is.words is.half is.whole is.single (begins_unrefused v is.words is.begins)

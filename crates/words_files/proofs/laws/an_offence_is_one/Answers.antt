@@ -1,0 +1,8 @@
+use Rattle.words_files.proofs.EndingLemmas.{offence_is_one, offence_stays}
+use Rattle.words_files.proofs.laws.an_offence_is_one.Goals as goal
+
+pub returns-clause-one : goal.returns-clause-one
+returns-clause-one c = offence_is_one
+
+pub returns-clause-stays : goal.returns-clause-stays
+returns-clause-stays c = offence_stays

@@ -1,0 +1,78 @@
+-- Where the bytes of a words file offend (SMPTE ST 291-1, ST 334-1 and ST 334-2; CTA-708-E). The layers above distribution
+-- packets are a parameter, as what they say of a part after the parts before it.
+use Rattle.std.specs.Prelude.{◌≡◌, ℕ, ◌+◌, ◌*◌, ◌%◌, ◌^◌, ◌≤◌, ◌⊎◌, List, [], ◌∷◌, ◌++◌, length, Option, Some}
+use Rattle.std.specs.List.{All, flat_map}
+use Rattle.cc_base.specs.declared.refusal.Refusal.{Refusal}
+use Rattle.cc_base.specs.declared.why.Why.{Why}
+use Rattle.cc_base.specs.declared.why.Why.TheVariants as why
+use Rattle.cc_base.specs.Feeding.{Verdict, hand}
+use Rattle.cc_base.specs.Steps.{AreAccepted, parts_by}
+use Rattle.anc_words.specs.Reading.{judge_word, open_behind, parts_of}
+use Rattle.cdp_packets.specs.declared.parts.CdpPart.{CdpPart}
+use Rattle.cdp_packets.specs.PacketParts.{packet_parts}
+use Rattle.cdp_packets.specs.Packets.{Packet as Frame}
+use Rattle.cdp_packets.specs.Reading.{AllRead, IsFilling, judge_cdp, open_after, open_behind as packet_behind, parts_of as packet_parts_of}
+use Rattle.words_files.specs.Catching.{caption_verdict}
+use Rattle.words_files.specs.Frames.{IsFileOf}
+
+-- the bytes are a words file of the frames, and the layers above take all that the frames say
+pub record IsFileUnder (verdict : Verdict CdpPart) (frames : List Frame) (bytes : List ℕ) : Type 0 where
+  pub file : IsFileOf frames bytes
+  pub accepted : AreAccepted verdict [] (flat_map packet_parts frames)
+
+-- some such file begins with the bytes
+pub record Begins (verdict : Verdict CdpPart) (bytes : List ℕ) : Type 0 where
+  pub more : List ℕ
+  pub frames : List Frame
+  pub is_file : IsFileUnder verdict frames (bytes ++ more)
+
+-- the bytes are whole words, two bytes each
+abbrev pub AreWholeWords : List ℕ → Type 0
+AreWholeWords bytes = length bytes % 2 ≡ 0
+
+-- why a word is refused behind these bytes: its own reason, in the order high bits, flag, word parity, checksum; else that of
+-- the layer above whose field it carries
+abbrev pub reason_of : Verdict CdpPart → List ℕ → ℕ → Option Why
+reason_of verdict before word =
+    (hand (caption_verdict verdict) (parts_of before) (judge_word (open_behind before).words word)).why
+
+-- the bytes have a first offending word: some file begins with the words before it, and none with these and the word itself;
+-- its place is the number of its first byte, modulo 2^64
+pub record HasOffence (verdict : Verdict CdpPart) (bytes : List ℕ) (refusal : Refusal) : Type 0 where
+  pub before : List ℕ
+  pub high : ℕ
+  pub low : ℕ
+  pub rest : List ℕ
+  pub spelled : bytes ≡ before ++ high ∷ low ∷ rest
+  pub whole : AreWholeWords before
+  pub begins : Begins verdict before
+  pub offends : Begins verdict (before ++ high ∷ low ∷ []) → ⊥
+  pub place_is : refusal.place ≡ length before % 2 ^ 64
+  pub why_is : reason_of verdict before (256 * high + low) ≡ Some refusal.why
+
+-- no word of the bytes offends: some file begins with their words. A single last byte is no word
+pub record IsUnoffending (verdict : Verdict CdpPart) (bytes : List ℕ) : Type 0 where
+  pub words : List ℕ
+  pub half : List ℕ
+  pub spelled : bytes ≡ words ++ half
+  pub whole : AreWholeWords words
+  pub single : length half ≤ 1
+  pub begins : Begins verdict words
+
+-- the bytes are cut short: no word offends, and they are no file; the place is their number, modulo 2^64
+pub record IsCutShort (verdict : Verdict CdpPart) (bytes : List ℕ) (refusal : Refusal) : Type 0 where
+  pub unoffending : IsUnoffending verdict bytes
+  pub no_file : (frames : List Frame) → IsFileUnder verdict frames bytes → ⊥
+  pub place_is : refusal.place ≡ length bytes % 2 ^ 64
+  pub why_is : refusal.why ≡ why.Truncated
+
+-- the bytes are no file: a word of them offends, or they are cut short
+abbrev pub IsMalformed : Verdict CdpPart → List ℕ → Refusal → Type 0
+IsMalformed verdict bytes refusal = HasOffence verdict bytes refusal ⊎ IsCutShort verdict bytes refusal
+
+-- the layers above take what only fills the open packet, wherever they took what came before
+abbrev pub TakesFilling : Verdict CdpPart → Type 0
+TakesFilling verdict = (size : ℕ) (handed : List CdpPart) (bytes more : List ℕ)
+    → AreAccepted verdict [] handed → AllRead size bytes → AreAccepted verdict handed (packet_parts_of size bytes)
+    → All IsFilling (parts_by (judge_cdp size) (open_after size) (packet_behind size bytes) more)
+    → AreAccepted verdict (handed ++ packet_parts_of size bytes) (parts_by (judge_cdp size) (open_after size) (packet_behind size bytes) more)
