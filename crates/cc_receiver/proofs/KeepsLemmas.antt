@@ -1,0 +1,50 @@
+-- What is gathered while no packet is open matters to nothing.
+use Rattle.std.specs.Prelude.{is_some}
+use Rattle.std.proofs.Common.{◌≡◌, true, List, Option, Some, None, refl, sym, subst, ◌∙◌}
+use Rattle.cdp_packets.specs.declared.reader.CdpReader.{CdpReader}
+use Rattle.cdp_packets.specs.declared.parts.CdpPart.{CdpPart}
+use Rattle.words_files.specs.Catching.{Caught, OpenCaption, ended, ended_with}
+use Rattle.cc_receiver.specs.Gatherers.{HasGathered}
+use Rattle.cc_receiver.specs.declared.captions.Captions.{Captions}
+use Rattle.cc_receiver.specs.declared.frame.Frame.{Frame}
+use Rattle.cc_receiver.specs.Catchers.{Keeps, KeepsOpen, with_frame}
+
+-- no reader is open
+none_open : (reader : Option CdpReader) (frame : Frame) → KeepsOpen None reader frame → reader ≡ None
+none_open None frame kept = refl
+none_open (Some reader) frame kept = absurd kept
+
+pub is_idle : (caught : Caught) (captions : Captions) → Keeps caught captions → caught.open_caption ≡ None → caught.refused ≡ None → captions.open ≡ None
+is_idle caught captions keeps idle fine =
+    none_open captions.open captions.gathered (subst (λ (o : Option OpenCaption). KeepsOpen o captions.open captions.gathered) idle (keeps.is_open fine))
+
+-- it may say anything
+open_free : (o : Option OpenCaption) (reader : Option CdpReader) (now : Frame) → o ≡ None → reader ≡ None → KeepsOpen o reader now
+open_free o reader now idle none =
+    subst (λ (x : Option OpenCaption). KeepsOpen x reader now) (sym idle) (subst (λ (r : Option CdpReader). KeepsOpen None r now) (sym none) tt)
+
+pub keeps_free : (caught : Caught) (captions : Captions) (now : Frame) → Keeps caught captions → caught.open_caption ≡ None → caught.refused ≡ None
+    → Keeps caught (record captions { gathered = now })
+keeps_free caught captions now keeps idle fine = record {
+  refused = keeps.refused;
+  is_open = λ _. open_free caught.open_caption captions.open now idle (is_idle caught captions keeps idle fine);
+  last = keeps.last;
+  first = keeps.first;
+  second = keeps.second;
+  count = keeps.count;
+}
+
+-- a reader that is open has the open packet's parts
+some_open : (o : Option OpenCaption) (reader : Option CdpReader) (frame : Frame) → KeepsOpen o reader frame → is_some reader ≡ true
+    → (x : OpenCaption) × (o ≡ Some x) × HasGathered x.parts frame
+some_open None None frame kept some = absurd cc
+some_open None (Some reader) frame kept some = absurd kept
+some_open (Some o) None frame kept some = absurd kept
+some_open (Some o) (Some reader) frame kept some = (o, refl, kept.1)
+
+-- an open packet that ends is a frame
+pub frame_ends : (caught : Caught) (captions next : Captions) → Keeps caught captions → captions.refused ≡ None → is_some captions.open ≡ true
+    → ((parts : List CdpPart) → HasGathered parts captions.gathered → Keeps (with_frame parts caught) next) → Keeps (ended caught) next
+frame_ends caught captions next keeps fine some acts =
+    let (o, is, took) = some_open caught.open_caption captions.open captions.gathered (keeps.is_open (sym keeps.refused ∙ fine)) some in
+    subst (λ (x : Option OpenCaption). Keeps (ended_with x caught) next) (sym is) (acts o.parts took)

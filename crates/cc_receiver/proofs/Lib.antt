@@ -1,0 +1,11 @@
+pub mod TakenLemmas
+pub mod FeedLemmas
+pub mod RefusedLemmas
+pub mod ByteLemmas
+pub mod GatheredLemmas
+pub mod FilledLemmas
+pub mod HeardLemmas
+pub mod ReceivedLemmas
+pub mod FinishLemmas
+pub mod WholeLemmas
+pub mod KeepsLemmas

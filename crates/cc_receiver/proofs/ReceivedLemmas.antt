@@ -1,0 +1,79 @@
+-- What a receiver shows, and what it keeps of the last frame.
+use Rattle.std.proofs.Common.{◌≡◌, ℕ, ◌++◌, Bool, true, false, List, [], ◌∷◌, map, reverse, Option, Some, None, refl, ap, subst, ◌∙◌}
+use Rattle.std.proofs.lemmas.List.{map-append, reverse-append}
+use Rattle.std.specs.List.{concat}
+use Rattle.cc_base.specs.declared.refusal.Refusal.{Refusal}
+use Rattle.cdp_packets.specs.declared.parts.CdpPart.{CdpPart}
+use Rattle.cdp_packets.specs.PacketParts.{packet_parts}
+use Rattle.cdp_packets.specs.PacketTriplets.{packet_triplets}
+use Rattle.cdp_packets.specs.Packets.{Packet as Frame}
+use Rattle.line21_codes.specs.declared.channels.Chan.{Chan}
+use Rattle.line21_codes.specs.Channels.{is_in_second_field, is_second_channel}
+use Rattle.line21_screen.specs.Fields.{FieldState, channel}
+use Rattle.line21_screen.specs.Meaning.{after}
+use Rattle.line21_screen.specs.Objects.{field_of}
+use Rattle.words_files.specs.Catching.{caught_in, never, refusal_of}
+use Rattle.words_files.specs.FramesOf.{AreFramesOf}
+use Rattle.words_files.specs.Received.{field_pairs, received, received_pairs}
+use Rattle.words_files.proofs.GotLemmas.{frames_are_caught}
+use Rattle.cc_receiver.specs.declared.receiver.Receiver.{Receiver}
+use Rattle.cc_receiver.specs.Gathering.{Gathered}
+use Rattle.cc_receiver.specs.Gatherers.{Holds}
+use Rattle.cc_receiver.specs.Catchers.{KeepsLast}
+use Rattle.cc_receiver.specs.Hearing.{heard}
+use Rattle.cc_receiver.specs.Receivers.{HasReceived, field_in, receiver_refusal, shown}
+use Rattle.cc_receiver.proofs.GatheredLemmas.{packet_gathered}
+use Rattle.cc_receiver.proofs.HeardLemmas.{AllFit, Fits, frames_of_fit, heard_frames}
+
+-- the refusal that is kept is that of the bytes
+pub kept_is : (bytes : List ℕ) (receiver : Receiver) → HasReceived bytes receiver → receiver_refusal receiver ≡ refusal_of never bytes
+kept_is bytes receiver had =
+    let cases : (refusal : Option Refusal) → refusal_of never bytes ≡ refusal → receiver_refusal receiver ≡ refusal = elim [
+      | None ↦ λ none. (had.reached.leads none).1.unrefused
+      | Some refused ↦ λ some. had.reached.kept refused some
+    ] in cases _ refl
+
+-- what is heard of bytes are the pairs of their frames
+heard_of : (second_field : Bool) (frames : List Frame) (bytes : List ℕ) (receiver : Receiver) → HasReceived bytes receiver → AreFramesOf never frames bytes
+    → heard second_field (caught_in never bytes).frames ≡ reverse (received_pairs second_field frames)
+heard_of second_field frames bytes receiver had are =
+    ap (heard second_field) (frames_are_caught never frames bytes had.bytes_are are) ∙ heard_frames second_field frames (frames_of_fit never frames bytes are)
+
+-- the state of a field
+field_received : (second_field : Bool) (frames : List Frame) (bytes : List ℕ) (receiver : Receiver) → HasReceived bytes receiver → AreFramesOf never frames bytes
+    → field_of (field_in second_field receiver) ≡ received second_field frames
+field_received false frames bytes receiver had are = had.reached.took.first.state ∙ ap (after false) (heard_of false frames bytes receiver had are)
+field_received true frames bytes receiver had are = had.reached.took.second.state ∙ ap (after true) (heard_of true frames bytes receiver had are)
+
+-- a receiver shows what its frames leave on the screens
+pub shown_received : (frames : List Frame) (bytes : List ℕ) (receiver : Receiver) (chan : Chan) → HasReceived bytes receiver → AreFramesOf never frames bytes
+    → shown receiver chan ≡ (channel (is_second_channel chan) (received (is_in_second_field chan) frames)).displayed
+shown_received frames bytes receiver chan had are =
+    ap (λ (s : FieldState). (channel (is_second_channel chan) s).displayed) (field_received (is_in_second_field chan) frames bytes receiver had are)
+
+-- the last of frames that fit
+last_fits : (earlier : List Frame) (last : Frame) → AllFit (earlier ++ last ∷ []) → Fits last
+last_fits [] last (fits, fit) = fits
+last_fits (frame ∷ earlier) last (fits, fit) = last_fits earlier last fit
+
+-- what the last frame says
+abbrev pub said : Frame → Gathered
+said frame = record {
+  rate = frame.rate;
+  flags = frame.flags;
+  counter = frame.counter;
+  sections = concat frame.sections;
+  triplets = packet_triplets frame;
+  pairs_one = field_pairs false (packet_triplets frame);
+  pairs_two = field_pairs true (packet_triplets frame);
+}
+
+-- the last frame is kept
+pub last_received : (earlier : List Frame) (last : Frame) (bytes : List ℕ) (receiver : Receiver) → HasReceived bytes receiver
+    → AreFramesOf never (earlier ++ last ∷ []) bytes → Holds (said last) receiver.captions.last
+last_received earlier last bytes receiver had are =
+    let newest : reverse (map packet_parts (earlier ++ last ∷ [])) ≡ packet_parts last ∷ reverse (map packet_parts earlier) =
+    ap reverse (map-append packet_parts earlier (last ∷ [])) ∙ reverse-append (map packet_parts earlier) (packet_parts last ∷ []) in
+    let kept = subst (λ (fs : List (List CdpPart)). KeepsLast fs receiver.captions.last) (frames_are_caught never (earlier ++ last ∷ []) bytes had.bytes_are are ∙ newest) had.reached.took.last in
+    let fits = last_fits earlier last (frames_of_fit never (earlier ++ last ∷ []) bytes are) in
+    subst (λ (g : Gathered). Holds g receiver.captions.last) (packet_gathered last fits.are fits.few) kept

@@ -1,0 +1,43 @@
+-- Bytes behind a refused word change nothing.
+use Rattle.std.proofs.lemmas.List.Elements.{All-append}
+use Rattle.std.specs.List.{All}
+use Rattle.std.proofs.Common.{◌≡◌, ◌<◌, ℕ, ◌++◌, List, [], length, Some, ap, sym, subst, ◌∙◌}
+use Rattle.cc_base.specs.declared.refusal.Refusal.{Refusal}
+use Rattle.cc_base.specs.Feeding.{Reading, place_by, read_first, reading}
+use Rattle.cc_base.specs.Steps.{judge_by}
+use Rattle.cc_base.proofs.ReadingLemmas.{reading-append}
+use Rattle.anc_words.specs.declared.parts.WordPart.{WordPart}
+use Rattle.anc_words.specs.Reading.{judge_byte, nothing_open, open_after, read_under}
+use Rattle.cc_receiver.specs.declared.receiver.Receiver.{Receiver}
+use Rattle.words_files.specs.Catching.{caption_verdict, caught_of, refusal_of, never}
+use Rattle.cc_receiver.specs.Catchers.{HasCaught}
+use Rattle.cc_receiver.specs.Receivers.{HasReceived}
+
+-- what is read of them
+read-refused : (before more : List ℕ) (refused : Refusal) → refusal_of never before ≡ Some refused
+    → read_under (caption_verdict never) (before ++ more) ≡ record { parts = (read_under (caption_verdict never) before).parts; refusal = Some refused }
+read-refused before more refused some =
+    let judge = judge_by judge_byte open_after nothing_open in
+    let one = read_under (caption_verdict never) before in
+    let rest = reading judge (caption_verdict never) (place_by 2) before one.parts more in
+    reading-append judge (caption_verdict never) (place_by 2) [] [] before more ∙ ap (λ a. read_first a one.parts rest) some
+
+-- the refusal stays
+pub refusal-stays : (before more : List ℕ) (refused : Refusal) → refusal_of never before ≡ Some refused → refusal_of never (before ++ more) ≡ Some refused
+refusal-stays before more refused some = ap (λ (r : Reading WordPart). r.refusal) (read-refused before more refused some)
+
+-- and so does the receiver
+pub received-refused : (before more : List ℕ) (refused : Refusal) (receiver : Receiver) → refusal_of never before ≡ Some refused → All (λ byte. byte < 256) more → HasReceived before receiver
+    → HasReceived (before ++ more) receiver
+received-refused before more refused receiver some bytes had =
+    let parts = sym (ap (λ (r : Reading WordPart). r.parts) (read-refused before more refused some)) in
+    let stays = refusal-stays before more refused some in
+    record {
+      reached = record {
+        took = subst (λ ps. HasCaught ps receiver.captions) parts had.reached.took;
+        leads = λ none. absurd (let clash = sym stays ∙ none in cc);
+        kept = λ other is. had.reached.kept other (some ∙ sym stays ∙ is);
+      };
+      bytes_are = All-append (λ byte. byte < 256) before more had.bytes_are bytes;
+      counted = had.counted ∙ ap (λ ps. length (caught_of never ps).frames) parts;
+    }

@@ -1,0 +1,9 @@
+use Rattle.cc_receiver.proofs.ReceivedLemmas.{shown_received}
+use Rattle.cc_receiver.proofs.TakenLemmas.{frames_count}
+use Rattle.cc_receiver.proofs.laws.a_receiver_shows_its_frames.Goals as goal
+
+pub returns-clause-count : goal.returns-clause-count
+returns-clause-count c = λ bytes frames receiver had are. frames_count frames bytes receiver had are
+
+pub returns-clause-shown : goal.returns-clause-shown
+returns-clause-shown c = λ bytes frames receiver chan had are. shown_received frames bytes receiver chan had are

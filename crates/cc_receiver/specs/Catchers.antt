@@ -1,0 +1,41 @@
+-- What is kept of the parts of ancillary packets: the reader of the open packet of captions with what it says so far, what
+-- the last whole frame says, both fields of line 21 (CTA-608-E), and the number of whole frames.
+use Rattle.std.specs.Prelude.{◌≡◌, ◌%◌, ◌^◌, true, false, List, [], ◌∷◌, length, Option, Some, None}
+use Rattle.anc_words.specs.declared.parts.WordPart.{WordPart}
+use Rattle.cdp_packets.specs.declared.parts.CdpPart.{CdpPart}
+use Rattle.cdp_packets.specs.declared.reader.CdpReader.{CdpReader}
+use Rattle.cdp_packets.specs.Readers.{HasRead}
+use Rattle.line21_screen.specs.Objects.{Leads}
+use Rattle.cc_receiver.specs.declared.captions.Captions.{Captions}
+use Rattle.cc_receiver.specs.declared.frame.Frame.{Frame}
+use Rattle.words_files.specs.Catching.{Caught, OpenCaption, caught_of, never}
+use Rattle.cc_receiver.specs.Hearing.{heard}
+use Rattle.cc_receiver.specs.Gatherers.{HasGathered}
+
+-- the reader has read the bytes of the open packet, and the frame took the parts that they make
+abbrev pub KeepsOpen : Option OpenCaption → Option CdpReader → Frame → Type 0
+KeepsOpen None None frame = Unit {0}
+KeepsOpen (Some o) (Some reader) frame = HasRead o.size o.bytes reader × HasGathered o.parts frame
+KeepsOpen _ _ frame = ⊥
+
+-- the frame took the parts of the newest one, if there is one
+abbrev pub KeepsLast : List (List CdpPart) → Frame → Type 0
+KeepsLast [] frame = Unit {0}
+KeepsLast (parts ∷ frames) frame = HasGathered parts frame
+
+-- it keeps what was caught
+pub record Keeps (caught : Caught) (captions : Captions) : Type 0 where
+  pub refused : captions.refused ≡ caught.refused
+  pub is_open : caught.refused ≡ None → KeepsOpen caught.open_caption captions.open captions.gathered
+  pub last : KeepsLast caught.frames captions.last
+  pub first : Leads false (heard false caught.frames) captions.first
+  pub second : Leads true (heard true caught.frames) captions.second
+  pub count : captions.frames ≡ length caught.frames % 2 ^ 32
+
+-- one more frame of these parts was caught, and nothing is open
+abbrev pub with_frame : List CdpPart → Caught → Caught
+with_frame parts caught = record { open_caption = None; frames = parts ∷ caught.frames; refused = caught.refused }
+
+-- it was handed these parts
+abbrev pub HasCaught : List WordPart → Captions → Type 0
+HasCaught parts captions = Keeps (caught_of never parts) captions

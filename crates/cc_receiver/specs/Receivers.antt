@@ -1,0 +1,40 @@
+-- What a receiver is, behind the bytes that it was fed.
+use Rattle.std.specs.Prelude.{◌≡◌, ℕ, ◌<◌, Bool, if◌then◌else◌, List, [], length, Option}
+use Rattle.std.specs.List.{All}
+use Rattle.cc_base.specs.declared.refusal.Refusal.{Refusal}
+use Rattle.cc_base.specs.Feeding.{Reached, place_by}
+use Rattle.cc_base.specs.Steps.{judge_by}
+use Rattle.anc_words.specs.Readers.{HasRead, kept_refusal}
+use Rattle.anc_words.specs.Reading.{judge_byte, nothing_open, open_after}
+use Rattle.line21_codes.specs.Channels.{is_in_second_field, is_second_channel}
+use Rattle.line21_codes.specs.declared.channels.Chan.{Chan}
+use Rattle.line21_screen.specs.Fields.{channel}
+use Rattle.line21_screen.specs.Grid.{Grid}
+use Rattle.line21_screen.specs.Objects.{field_of}
+use Rattle.line21_screen.specs.declared.field.Field.{Field}
+use Rattle.cc_receiver.specs.declared.receiver.Receiver.{Receiver}
+use Rattle.words_files.specs.Catching.{caption_verdict, caught_in, never}
+use Rattle.cc_receiver.specs.Catchers.{HasCaught}
+
+-- the number of whole frames that it counts
+abbrev pub frame_count : Receiver → ℕ
+frame_count receiver = receiver.captions.frames
+
+-- the refusal that it keeps
+abbrev pub receiver_refusal : Receiver → Option Refusal
+receiver_refusal receiver = kept_refusal receiver.words
+
+-- a field of line 21
+abbrev pub field_in : Bool → Receiver → Field
+field_in second_field receiver = if second_field then receiver.captions.second else receiver.captions.first
+
+-- the displayed cells of a channel
+abbrev pub shown : Receiver → Chan → Grid
+shown receiver chan = (channel (is_second_channel chan) (field_of (field_in (is_in_second_field chan) receiver))).displayed
+
+-- it was fed these bytes, those too behind a refused word, and counts their frames
+pub record HasReceived (bytes : List ℕ) (receiver : Receiver) : Type 0 where
+  pub reached : Reached (judge_by judge_byte open_after nothing_open) (caption_verdict never) (place_by 2) HasRead kept_refusal HasCaught
+      [] [] bytes receiver.words receiver.captions
+  pub bytes_are : All (λ byte. byte < 256) bytes
+  pub counted : frame_count receiver ≡ length (caught_in never bytes).frames

@@ -1,0 +1,146 @@
+ghost use Rattle.std.specs.Prelude.{◌≡◌, ℕ, ◌≤◌, List, [], length};
+ghost use Rattle.std.specs.List.{concat, flat_map};
+ghost use Rattle.cc_data.specs.Triplets.{triplets_of};
+ghost use Rattle.cdp_packets.specs.Packets.{Packet};
+ghost use Rattle.cdp_packets.specs.PacketParts.{packet_parts};
+ghost use Rattle.cdp_packets.specs.PacketTriplets.{section_triplets};
+ghost use Rattle.cdp_packets.specs.Sections.{AreSections};
+ghost use Rattle.cdp_packets.specs.WholePackets.{SaysPacket};
+ghost use Rattle.cc_receiver.specs.Gathering.{Gathered, gather, with_triplet, with_all};
+
+use arrayvec::ArrayVec;
+use cc_base::{Rate, Upward, Why};
+use cc_data::{Triplet, read_triplet};
+use cdp_packets::{CdpPart, WholePacket, split_section, triplet_bytes};
+use line21_codes::Pair;
+
+/// What a caption distribution packet says, gathered from its parts (SMPTE ST 334-2; CTA-708-E, cc_data()).
+#[derive(Drop)]
+pub(crate) struct Frame {
+    pub(crate) rate: Rate,
+    pub(crate) flags: u8,
+    pub(crate) counter: u16,
+    /// The bytes of the sections, one section behind another. A packet has at most 255 bytes, eleven of them around the
+    /// sections.
+    pub(crate) sections: ArrayVec<u8, 244>,
+    /// The triplets, in order, of three bytes each.
+    pub(crate) triplets: ArrayVec<Triplet, 81>,
+    /// The pairs of field 1 among the triplets that count, in order.
+    pub(crate) pairs_one: ArrayVec<Pair, 81>,
+    /// The pairs of field 2 among the triplets that count, in order.
+    pub(crate) pairs_two: ArrayVec<Pair, 81>,
+}
+
+impl Frame {
+    ghost use Rattle.cc_receiver.specs.Gatherers.{HasGathered, Holds};
+
+    /// A frame of no parts.
+    pub(crate) fn new() -> Frame
+        ensures { HasGathered [] result }
+    {
+        Frame {
+            rate: Rate::F23976,
+            flags: 0,
+            counter: 0,
+            sections: ArrayVec::new(),
+            triplets: ArrayVec::new(),
+            pairs_one: ArrayVec::new(),
+            pairs_two: ArrayVec::new(),
+        }
+    }
+
+    /// Goes back to a frame of no parts.
+    pub(crate) fn clear(&mut self)
+        ensures { HasGathered [] self.new }
+    {
+        self.rate = Rate::F23976;
+        self.flags = 0;
+        self.counter = 0;
+        self.sections.clear();
+        self.triplets.clear();
+        self.pairs_one.clear();
+        self.pairs_two.clear();
+    }
+
+    /// Says what a whole packet says.
+    pub(crate) fn fill(&mut self, packet: WholePacket<'_>)
+        ensures { (said : Packet) → AreSections said.sections → SaysPacket packet.entry said → length packet.entry.sections.now ≤ 244
+            → HasGathered (packet_parts said) self.new }
+    {
+        self.clear();
+        self.rate = packet.rate;
+        self.flags = packet.flags;
+        self.counter = packet.counter;
+        let _ = self.sections.try_extend_from_slice(packet.sections);
+        self.take_sections(packet.sections);
+    }
+
+    // Takes the triplets of sections.
+    fn take_sections(&mut self, sections: &[u8])
+        ensures { (gathered : Gathered) (cut : List (List ℕ)) → AreSections cut → concat cut ≡ sections.now → Holds gathered self.old
+            → Holds (with_all (flat_map section_triplets cut) gathered) self.new }
+    {
+        let mut rest = sections;
+        while let Some((section, behind)) = split_section(rest) {
+            self.take_triplets(triplet_bytes(section));
+            rest = behind;
+        }
+    }
+
+    // Takes the triplets of these bytes.
+    fn take_triplets(&mut self, bytes: &[u8])
+        ensures { (gathered : Gathered) → Holds gathered self.old → Holds (with_all (triplets_of bytes.now) gathered) self.new }
+    {
+        let (triplets, _) = bytes.as_chunks::<3>();
+        for triplet in triplets {
+            self.triplet(read_triplet(*triplet));
+        }
+    }
+
+    // Takes the next triplet, and its pair where it counts and is of line 21.
+    fn triplet(&mut self, triplet: Triplet)
+        ensures { (gathered : Gathered) → Holds gathered self.old → Holds (with_triplet triplet gathered) self.new }
+    {
+        let _ = self.triplets.try_push(triplet);
+        let pair = Pair {
+            a: triplet.a,
+            b: triplet.b,
+        };
+        if triplet.valid && triplet.kind == 0 {
+            let _ = self.pairs_one.try_push(pair);
+        }
+        if triplet.valid && triplet.kind == 1 {
+            let _ = self.pairs_two.try_push(pair);
+        }
+    }
+
+    // Takes the next part.
+    fn gather(&mut self, part: CdpPart)
+        ensures { (gathered : Gathered) → Holds gathered self.old → Holds (gather gathered part) self.new }
+    {
+        match part {
+            CdpPart::Rate(rate) => self.rate = rate,
+            CdpPart::Flags(flags) => self.flags = flags,
+            CdpPart::Counter(counter) => self.counter = counter,
+            CdpPart::SectionByte(byte) => {
+                let _ = self.sections.try_push(byte);
+            }
+            CdpPart::Triplet(triplet) => self.triplet(triplet),
+            CdpPart::Half(_) | CdpPart::End => {}
+        }
+    }
+}
+
+impl Upward<CdpPart> for Frame {
+    ghost use Rattle.cc_receiver.specs.Gatherers.{HasGathered};
+    ghost use Rattle.words_files.specs.Catching.{never};
+
+    ghost Took = { λ parts frame. HasGathered parts frame };
+
+    ghost verdict = { never };
+
+    fn part(&mut self, part: CdpPart) -> Result<(), Why> {
+        self.gather(part);
+        Ok(())
+    }
+}

@@ -1,0 +1,13 @@
+//! The receiver of captions: from the bytes of a words file, in any pieces, to the screens of line 21 (SMPTE ST 291-1,
+//! ST 334-1 and ST 334-2; CTA-708-E, cc_data(); CTA-608-E; 47 CFR 79.101).
+#![tactic(auto)]
+
+mod captions;
+mod frame;
+pub mod laws;
+mod receiver;
+
+pub use receiver::{Ended, Fed, Receiver};
+
+#[cfg(test)]
+mod tests;

@@ -1,0 +1,303 @@
+ghost use Rattle.std.specs.Prelude.{◌≡◌, ◌≢◌, false, ◌<◌, ◌≤◌, ◌+◌, ◌++◌, ℕ, List, [], ◌∷◌, None, Some, IfErr, IfOk, IfSome, IsNone, IsOk, IsSome, length, take};
+ghost use Rattle.std.specs.List.{concat};
+ghost use Rattle.std.specs.Result.{result_err};
+ghost use Rattle.cc_base.specs.declared.refusal.Refusal.{Refusal as Refused};
+ghost use Rattle.anc_words.specs.Ending.{bytes_to_end};
+ghost use Rattle.anc_words.specs.Packets.{Packet};
+ghost use Rattle.anc_words.specs.Reading.{open_behind};
+ghost use Rattle.anc_words.specs.WordsFiles.{IsWordsFile};
+ghost use Rattle.cdp_packets.specs.Packets.{Packet as FrameOf};
+ghost use Rattle.cdp_packets.specs.PacketTriplets.{packet_triplets};
+ghost use Rattle.line21_codes.specs.Channels.{is_in_second_field, is_second_channel};
+ghost use Rattle.line21_screen.specs.Fields.{channel};
+ghost use Rattle.words_files.specs.Catching.{never, refusal_of};
+ghost use Rattle.words_files.specs.FramesOf.{AreFramesOf};
+ghost use Rattle.words_files.specs.Offences.{HasOffence, IsFileUnder, IsMalformed, IsUnoffending};
+ghost use Rattle.words_files.specs.Received.{field_pairs, received};
+ghost use Rattle.cc_receiver.specs.declared.receiver.Ended.TheVariants as ended;
+ghost use Rattle.cc_receiver.specs.Receiving.{EndsBy};
+
+use crate::captions::Captions;
+use anc_words::{CaptionPacket, WordReader};
+use cc_base::{Rate, Refusal, Resume};
+use cc_data::Triplet;
+use line21_codes::{Cell, Chan, Pair};
+use line21_screen::Memory;
+use std::alloc::{AllocError, Global};
+
+/// Whether an ancillary packet ended, and which.
+#[derive(Clone, Copy, Debug, PartialEq, Eq)]
+pub enum Ended {
+    /// No packet ended.
+    No,
+    /// A packet ended that isn't one of captions.
+    Foreign,
+    /// A packet of captions ended, and with it a frame (SMPTE ST 334-1).
+    Caption,
+}
+
+/// How far the bytes of one call were read.
+#[derive(Clone, Copy, Debug, PartialEq, Eq)]
+pub struct Fed {
+    /// The number of bytes that were read.
+    pub used: usize,
+    /// Whether they end with an ancillary packet.
+    pub ended: Ended,
+}
+
+/// The receiver of a words file, whose bytes come in any pieces: the screens of line 21 behind the last whole frame, and
+/// what that frame says (SMPTE ST 291-1, ST 334-1 and ST 334-2; CTA-608-E; 47 CFR 79.101).
+///
+/// A packet of captions acts when it ends, behind a good checksum word, and other packets change nothing. After a refusal the
+/// receiver stays at the last whole frame. All memory that it ever takes is taken by `new`.
+#[derive(Drop)]
+pub struct Receiver {
+    words: WordReader,
+    captions: Captions,
+}
+
+impl Receiver {
+    ghost use Rattle.line21_screen.specs.Objects.{grid_in};
+    ghost use Rattle.cc_receiver.specs.Receivers.{HasReceived, frame_count, receiver_refusal, shown};
+    ghost use Rattle.cc_receiver.specs.Wholes.{ReadsWhole};
+
+    /// A receiver that was fed nothing.
+    pub fn new(alloc: Global) -> Result<Receiver, AllocError>
+        ensures { IfOk result (HasReceived []) }
+    {
+        Ok(Receiver {
+            words: WordReader::new(),
+            captions: Captions::new(alloc)?,
+        })
+    }
+
+    /// Reads the next bytes, up to the end of an ancillary packet: it stops behind the word that ends one. Fewer than
+    /// 4,294,967,295 frames have ended before.
+    ///
+    /// A word is refused where no file goes on with it: for its high bits, the flag, its parity or the checksum (SMPTE
+    /// ST 291-1), in this order, or, in a packet of captions, as a byte of its distribution packet (SMPTE ST 334-2). The
+    /// place is the number of the word's first byte. A refusal is kept and answered from then on, with nothing read.
+    pub fn feed(&mut self, bytes: &[u8]) -> Result<Fed, Refusal>
+        requires few { frame_count self.now < 4294967295 }
+        ensures received { (before : List ℕ) → HasReceived before self.old
+            → IfOk result (λ fed. HasReceived (before ++ take fed.used bytes.now) self.new) }
+        ensures unoffending { (before : List ℕ) → HasReceived before self.old
+            → IfOk result (λ fed. IsUnoffending never (before ++ take fed.used bytes.now)) }
+        ensures refused { (before : List ℕ) → HasReceived before self.old
+            → IfErr result (λ refused. HasReceived (before ++ bytes.now) self.new) }
+        ensures offence { (before : List ℕ) → HasReceived before self.old
+            → IfErr result (λ refused. HasOffence never (before ++ bytes.now) refused) }
+        ensures kept { (refused : Refused) → receiver_refusal self.old ≡ Some refused
+            → (result_err result ≡ Some refused) × (self.new ≡ self.old) }
+        ensures told { receiver_refusal self.new ≡ result_err result }
+        ensures within { IfOk result (λ fed. fed.used ≤ length bytes.now) }
+        ensures all { IfOk result (λ fed. fed.ended ≡ ended.No → fed.used ≡ length bytes.now) }
+        ensures some { IfOk result (λ fed. fed.ended ≢ ended.No → 0 < fed.used) }
+        ensures ended { (before : List ℕ) → HasReceived before self.old
+            → IfOk result (λ fed. 0 < fed.used → EndsBy fed.ended (before ++ take fed.used bytes.now)) }
+        ensures first { (before : List ℕ) (packets : List Packet) (fewer : ℕ) → HasReceived before self.old
+            → IfOk result (λ fed. 0 < fewer → fewer < fed.used → IsWordsFile packets (before ++ take fewer bytes.now) → ⊥) }
+        ensures more { (before : List ℕ) → HasReceived before self.old
+            → IfOk result (λ fed. fed.ended ≡ ended.Caption → frame_count self.new ≡ frame_count self.old + 1) }
+        ensures same { (before : List ℕ) → HasReceived before self.old
+            → IfOk result (λ fed. fed.ended ≢ ended.Caption → frame_count self.new ≡ frame_count self.old) }
+    {
+        if let Some(refusal) = self.words.refusal() {
+            return Err(refusal);
+        }
+        if let Some(used) = self.whole(bytes) {
+            return Ok(Fed {
+                used,
+                ended: Ended::Caption,
+            });
+        }
+        let mut used = 0;
+        while used < bytes.len() {
+            let behind = used + self.words.bytes_to_end().min(bytes.len() - used);
+            let ended = self.read(&bytes[used..behind])?;
+            used = behind;
+            if ended != Ended::No {
+                return Ok(Fed { used, ended });
+            }
+        }
+        Ok(Fed {
+            used,
+            ended: Ended::No,
+        })
+    }
+
+    // Reads a whole packet of captions in one pass, where no packet is open and the bytes begin with one that no word of is
+    // refused. Gives the number of its bytes; `None` elsewhere, and then nothing has changed.
+    fn whole(&mut self, bytes: &[u8]) -> Option<usize>
+        requires few { frame_count self.now < 4294967295 }
+        ensures reads { (before : List ℕ) → HasReceived before self.old
+            → IfSome result (λ used. ReadsWhole before bytes.now used self.old self.new) }
+        ensures within { IfSome result (λ used. used ≤ length bytes.now) }
+        ensures some { IfSome result (λ used. 0 < used) }
+        ensures told { IsSome result → receiver_refusal self.new ≡ None }
+        ensures none { IsNone result → self.new ≡ self.old }
+    {
+        if !self.words.is_closed() {
+            return None;
+        }
+        let packet = CaptionPacket::at_front(bytes)?;
+        let mut user = [0; 255];
+        let count = packet.user_bytes(&mut user);
+        if !self.captions.whole(&user[..count]) {
+            return None;
+        }
+        self.words.pass_over(&packet);
+        Some(packet.size())
+    }
+
+    // Reads the next bytes, no more than come before the end of a packet, and says whether they end it.
+    fn read(&mut self, piece: &[u8]) -> Result<Ended, Refusal>
+        requires some { 0 < length piece.now }
+        requires few { frame_count self.now < 4294967295 }
+        ensures received { (before : List ℕ) → HasReceived before self.old → length piece.now ≤ bytes_to_end (open_behind before)
+            → HasReceived (before ++ piece.now) self.new }
+        ensures refusal { (before : List ℕ) → HasReceived before self.old → length piece.now ≤ bytes_to_end (open_behind before)
+            → result_err result ≡ refusal_of never (before ++ piece.now) }
+        ensures ended { (before : List ℕ) → HasReceived before self.old → length piece.now ≤ bytes_to_end (open_behind before)
+            → IfOk result (λ answer. EndsBy answer (before ++ piece.now)) }
+        ensures told { receiver_refusal self.new ≡ result_err result }
+        ensures more { (before : List ℕ) → HasReceived before self.old → length piece.now ≤ bytes_to_end (open_behind before)
+            → IfOk result (λ answer. answer ≡ ended.Caption → frame_count self.new ≡ frame_count self.old + 1) }
+        ensures same { IfOk result (λ answer. answer ≢ ended.Caption → frame_count self.new ≡ frame_count self.old) }
+    {
+        let frames = self.captions.frames;
+        self.take(piece)?;
+        if self.captions.frames != frames {
+            Ok(Ended::Caption)
+        } else if self.words.finish().is_ok() {
+            Ok(Ended::Foreign)
+        } else {
+            Ok(Ended::No)
+        }
+    }
+
+    // Takes the next bytes, no more than come before the end of a packet.
+    fn take(&mut self, piece: &[u8]) -> Result<(), Refusal>
+        requires some { 0 < length piece.now }
+        requires few { frame_count self.now < 4294967295 }
+        ensures received { (before : List ℕ) → HasReceived before self.old → length piece.now ≤ bytes_to_end (open_behind before)
+            → HasReceived (before ++ piece.now) self.new }
+        ensures refusal { (before : List ℕ) → HasReceived before self.old → length piece.now ≤ bytes_to_end (open_behind before)
+            → result_err result ≡ refusal_of never (before ++ piece.now) }
+        ensures told { receiver_refusal self.new ≡ result_err result }
+    {
+        self.words.feed(piece, &mut self.captions)
+    }
+
+    /// Says whether the bytes fed may end here: the kept refusal, if there is one; else `Truncated`, at the number of bytes
+    /// fed, where bytes were fed and the last of them doesn't end a packet.
+    pub fn finish(&self) -> Result<(), Refusal>
+        ensures kept { (refused : Refused) → receiver_refusal self.now ≡ Some refused → result_err result ≡ Some refused }
+        ensures whole { (bytes : List ℕ) → HasReceived bytes self.now → IsOk result
+            → (frames : List FrameOf) × IsFileUnder never frames bytes }
+        ensures file { (bytes : List ℕ) (frames : List FrameOf) → HasReceived bytes self.now → IsFileUnder never frames bytes
+            → IsOk result }
+        ensures malformed { (bytes : List ℕ) → HasReceived bytes self.now → IfErr result (λ refused. IsMalformed never bytes refused) }
+    {
+        self.words.finish()
+    }
+
+    /// The number of whole frames.
+    pub fn frames(&self) -> u32
+        ensures count { result ≡ frame_count self.now }
+        ensures frames { (bytes : List ℕ) (frames : List FrameOf) → HasReceived bytes self.now → AreFramesOf never frames bytes
+            → result ≡ length frames }
+    {
+        self.captions.frames
+    }
+
+    /// The displayed cell of a channel at a row, 1 to 15, and a column, 0 to 31, behind the last whole frame (CTA-608-E; 47
+    /// CFR 79.101).
+    pub fn cell(&self, chan: Chan, row: u8, col: u8) -> Option<Cell>
+        requires row_from { 1 ≤ row }
+        requires row_to { row ≤ 15 }
+        requires col { col < 32 }
+        ensures shown { result ≡ shown self.now chan row col }
+        ensures received { (bytes : List ℕ) (frames : List FrameOf) → HasReceived bytes self.now → AreFramesOf never frames bytes
+            → result ≡ (channel (is_second_channel chan) (received (is_in_second_field chan) frames)).displayed row col }
+    {
+        self.captions
+            .field(chan.is_in_second_field())
+            .cell(chan.is_second_channel(), row, col)
+    }
+
+    /// The displayed memory of a channel behind the last whole frame (CTA-608-E; 47 CFR 79.101).
+    pub fn displayed(&self, chan: Chan) -> &Memory
+        ensures { grid_in result.now ≡ shown self.now chan }
+    {
+        self.captions
+            .field(chan.is_in_second_field())
+            .displayed(chan.is_second_channel())
+    }
+
+    /// The frame rate of the last whole frame, where there is one (SMPTE ST 334-2, 5.3).
+    pub fn rate(&self) -> Rate
+        requires { 0 < frame_count self.now }
+        ensures { (bytes : List ℕ) (earlier : List FrameOf) (last : FrameOf) → HasReceived bytes self.now
+            → AreFramesOf never (earlier ++ last ∷ []) bytes → result ≡ last.rate }
+    {
+        self.captions.last.rate
+    }
+
+    /// The flags of the last whole frame, where there is one (SMPTE ST 334-2, 5.3).
+    pub fn flags(&self) -> u8
+        requires { 0 < frame_count self.now }
+        ensures { (bytes : List ℕ) (earlier : List FrameOf) (last : FrameOf) → HasReceived bytes self.now
+            → AreFramesOf never (earlier ++ last ∷ []) bytes → result ≡ last.flags }
+    {
+        self.captions.last.flags
+    }
+
+    /// The counter of the last whole frame, where there is one (SMPTE ST 334-2, 5.3).
+    pub fn counter(&self) -> u16
+        requires { 0 < frame_count self.now }
+        ensures { (bytes : List ℕ) (earlier : List FrameOf) (last : FrameOf) → HasReceived bytes self.now
+            → AreFramesOf never (earlier ++ last ∷ []) bytes → result ≡ last.counter }
+    {
+        self.captions.last.counter
+    }
+
+    /// The number of triplets of the last whole frame, where there is one, of those too that don't count (CTA-708-E,
+    /// cc_data()).
+    pub fn triplet_count(&self) -> u16
+        requires { 0 < frame_count self.now }
+        ensures { (bytes : List ℕ) (earlier : List FrameOf) (last : FrameOf) → HasReceived bytes self.now
+            → AreFramesOf never (earlier ++ last ∷ []) bytes → result ≡ length (packet_triplets last) }
+    {
+        self.captions.last.triplets.len() as u16
+    }
+
+    /// The bytes of the sections of the last whole frame, where there is one, one section behind another (SMPTE ST 334-2).
+    pub fn sections(&self) -> &[u8]
+        requires { 0 < frame_count self.now }
+        ensures { (bytes : List ℕ) (earlier : List FrameOf) (last : FrameOf) → HasReceived bytes self.now
+            → AreFramesOf never (earlier ++ last ∷ []) bytes → result.now ≡ concat last.sections }
+    {
+        self.captions.last.sections.as_slice()
+    }
+
+    /// The triplets of the last whole frame, where there is one, in order, those too that don't count (CTA-708-E,
+    /// cc_data()).
+    pub fn triplets(&self) -> &[Triplet]
+        requires { 0 < frame_count self.now }
+        ensures { (bytes : List ℕ) (earlier : List FrameOf) (last : FrameOf) → HasReceived bytes self.now
+            → AreFramesOf never (earlier ++ last ∷ []) bytes → result.now ≡ packet_triplets last }
+    {
+        self.captions.last.triplets.as_slice()
+    }
+
+    /// The pairs of field 1 of the last whole frame, where there is one, in order: those of its triplets that count
+    /// (CTA-708-E, cc_data()).
+    pub fn pairs_one(&self) -> &[Pair]
+        requires { 0 < frame_count self.now }
+        ensures { (bytes : List ℕ) (earlier : List FrameOf) (last : FrameOf) → HasReceived bytes self.now
+            → AreFramesOf never (earlier ++ last ∷ []) bytes → result.now ≡ field_pairs false (packet_triplets last) }
+    {
+        self.captions.last.pairs_one.as_slice()
+    }
+}
