@@ -4,7 +4,7 @@ use Rattle.std.proofs.lemmas.List.{length-map, length-take-le, map-append, take-
 use Rattle.std.proofs.lemmas.List.Elements.{All-drop, All-from_recursion, All-weaker, recursion_from_All}
 use Rattle.std.proofs.lemmas.Grind.{take_at_read}
 use Rattle.std.proofs.Math.Seq.{drop-cons, set-append_seam}
-use Rattle.std.proofs.lemmas.List.Sums.{AllPass-from_list_all, list_all-from_AllPass, sum_by-cons}
+use Rattle.std.proofs.lemmas.List.Sums.{AllPass-from_list_all, list_all-from_AllPass}
 use Rattle.std.specs.List.{All, AllByRecursion, flat_map}
 use Rattle.std.specs.Simd.{first_chunks}
 use Rattle.anc_words.specs.CaptionPackets.{IsCaptionAhead}

@@ -1,11 +1,11 @@
 -- A packet ends no sooner than its count says: fewer bytes leave something open.
-use Rattle.std.proofs.Common.{◌≡◌, ◌≢◌, ℕ, ◌+◌, ◌-◌, ◌*◌, ◌%◌, ◌<◌, ◌≤◌, nat_lt, if◌then◌else◌, Bool, true, false, List, [], ◌∷◌, ◌++◌, length, Option, Some, None, refl, ap, sym, subst, ◌∙◌, length-append, arith}
+use Rattle.std.proofs.Common.{◌≡◌, ◌≢◌, ℕ, ◌+◌, ◌-◌, ◌*◌, ◌%◌, ◌<◌, ◌≤◌, nat_lt, if◌then◌else◌, Bool, true, false, List, [], ◌∷◌, ◌++◌, length, Option, Some, None, refl, ap, sym, ◌∙◌, length-append, arith}
 use Rattle.std.proofs.lemmas.Bool.Decides.{nat_tests}
 use Rattle.cc_base.specs.Steps.{front_from}
 use Rattle.cc_base.proofs.StepLemmas.{front_from-append}
 use Rattle.anc_words.specs.Packets.{Packet}
 use Rattle.anc_words.specs.WordsFiles.{IsWordsFile}
-use Rattle.anc_words.specs.Ending.{bytes_to_end, half_of_word, words_to_end}
+use Rattle.anc_words.specs.Ending.{bytes_to_end, words_to_end}
 use Rattle.anc_words.specs.Reading.{Open, nothing_open, open_after, open_behind, words_after}
 use Rattle.anc_words.proofs.ByteLemmas.{file_is_read}
 

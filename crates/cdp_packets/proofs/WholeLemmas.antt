@@ -1,5 +1,5 @@
 -- Lists of sections are walked section by section, and what is compared of bytes says that they are a packet.
-use Rattle.std.proofs.Common.{◌≡◌, ℕ, zero, suc, ◌+◌, ◌-◌, ◌*◌, ◌/◌, ◌%◌, ◌<◌, ◌≤◌, ◌==◌, ◌++◌, Bool, true, false, MatchBool, Some, List, [], ◌∷◌, length, get_or, take, drop, sum, refl, sym, ap, subst, ◌∙◌, length-append, arith}
+use Rattle.std.proofs.Common.{◌≡◌, ℕ, zero, suc, ◌+◌, ◌-◌, ◌*◌, ◌/◌, ◌%◌, ◌≤◌, ◌==◌, ◌++◌, Bool, true, false, MatchBool, Some, List, [], ◌∷◌, length, get_or, take, drop, sum, refl, sym, ap, subst, ◌∙◌, length-append, arith}
 use Rattle.std.proofs.lemmas.List.{get_or-append-add}
 use Rattle.std.proofs.Math.Seq.{take-append_seam}
 use Rattle.std.specs.List.{concat}
@@ -9,7 +9,7 @@ use Rattle.cdp_packets.specs.Packets.{Packet, IsCdp}
 use Rattle.cdp_packets.specs.Sections.{IsSection, IsSectionList}
 use Rattle.cdp_packets.proofs.BegunLemmas.{IsHead, test-same}
 use Rattle.cdp_packets.proofs.SoundLemmas.{is_packet}
-use Rattle.cdp_packets.proofs.SectionLemmas.{First, first_section, length-section, no_sections, split_same, two_bytes}
+use Rattle.cdp_packets.proofs.SectionLemmas.{first_section, length-section, no_sections, split_same, two_bytes}
 
 -- bytes are a list of sections where others are, and the other way about
 pub record SameList (bytes rest : List ℕ) : Type 0 where

@@ -4,7 +4,7 @@ use Rattle.std.proofs.lemmas.Slice.Eq.{slice_eq-Decides}
 use Rattle.std.proofs.lemmas.List.Elements.{All-from_get_or}
 use Rattle.std.specs.Simd.{first_chunks}
 use Rattle.anc_words.specs.CaptionWords.{word_of}
-use Rattle.anc_words.proofs.CaptionLemmas.{ArePairs, begins-head, begins-pairs, head_bytes, not_is, pairs-count, pairs-low_bytes, pairs-more}
+use Rattle.anc_words.proofs.CaptionLemmas.{begins-head, begins-pairs, head_bytes, not_is, pairs-count, pairs-low_bytes, pairs-more}
 use Rattle.anc_words.proofs.PacketLemmas.{IsByte}
 use Rattle.anc_words.proofs.caption_words.CaptionWords.at_front.Goals as goal
 

@@ -18,11 +18,11 @@ returns-clause-reads c = λ before had.
     let right : IsTrue c.whole.result = Prim.search rules in
     let size = length-take (size_of packet) bytes in
     let user : take c.user_bytes-count.result c.user_bytes-count.new.out ≡ user_bytes ahead.packet =
-        front_of c.user_bytes-count.new.out (carried_by packet) _ c.user_bytes-count.result c.user_bytes-count.ensures.bytes c.user_bytes-count.ensures.len ∙ sym ahead.user_is in
+    front_of c.user_bytes-count.new.out (carried_by packet) _ c.user_bytes-count.result c.user_bytes-count.ensures.bytes c.user_bytes-count.ensures.len ∙ sym ahead.user_is in
     subst (λ n. ReadsWhole before bytes n c.args.self.now (record { words = c.pass_over.new.self; captions = c.whole.new.self })) (sym c.size.ensures)
     (reads_whole before bytes (size_of packet) ahead.packet c.args.self.now (record { words = c.pass_over.new.self; captions = c.whole.new.self }) c.requires.few
     (bytes_fit bytes (λ k below. omega (arith, c.type_inv.bytes k))) had (c.is_closed.ensures.unrefused closed)
     (λ read. (c.is_closed.ensures.closed before read).0 closed) ahead.is_caption ahead.within ahead.is
     (λ caught keeps idle fine. let (frame, is, kept) = c.whole.ensures.frame caught keeps idle fine right in
-      record { frame = frame; is_cdp = subst (IsCdp frame) user is; keeps = kept })
+    record { frame = frame; is_cdp = subst (IsCdp frame) user is; keeps = kept })
     (λ read nothing. c.pass_over.ensures.passed before (take (size_of packet) bytes) ahead.packet read nothing ahead.is (omega (arith, size, ahead.within))))
