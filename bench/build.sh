@@ -3,13 +3,7 @@
 # 160,000,000 bytes ready in memory, and beside `cat` of these bytes, by turns in one run: the time until the writer has
 # ended, and the processor time that the writer took. Then the number of write calls, and the peak memory of `pairs` and of
 # `build` on 1,000 and on 1,000,000 frames. Needs build/ccsuite (make) and gcc.
-set -eu
-cd "$(dirname "$0")/.."
-program=$PWD/build/ccsuite
-work=$(mktemp -d)
-trap 'rm -rf "$work"' EXIT
-printf 'ccsuite,1,29.97,1000000\npop,CC1,0,7,20\nrun,15,0,white,HI\n' > "$work/long.csv"
-printf 'ccsuite,1,29.97,1000\npop,CC1,0,7,20\nrun,15,0,white,HI\n' > "$work/short.csv"
+. "$(dirname "$0")/lists.sh"
 "$program" build < "$work/long.csv" > "$work/words"
 
 gcc -O2 -o "$work/write_loop" -x c - <<'END'

@@ -1,13 +1,7 @@
 #!/usr/bin/env bash
 # `pairs` on a list of 1,000,000 frames, through a pipe, beside `cat` of the same 10,000,000 bytes, in one run; then its
 # peak memory on 1,000 and on 1,000,000 frames, and its number of write calls. Needs build/ccsuite (make).
-set -eu
-cd "$(dirname "$0")/.."
-program=$PWD/build/ccsuite
-work=$(mktemp -d)
-trap 'rm -rf "$work"' EXIT
-printf 'ccsuite,1,29.97,1000000\npop,CC1,0,7,20\nrun,15,0,white,HI\n' > "$work/long.csv"
-printf 'ccsuite,1,29.97,1000\npop,CC1,0,7,20\nrun,15,0,white,HI\n' > "$work/short.csv"
+. "$(dirname "$0")/lists.sh"
 "$program" pairs < "$work/long.csv" > "$work/lines"
 
 # the least of several runs, in milliseconds

@@ -11,14 +11,14 @@ use Rattle.anc_words.specs.CaptionPackets.{IsCaptionAhead}
 use Rattle.anc_words.specs.CaptionWords.{AreRight, BeginsWith, low_of, word_of}
 use Rattle.anc_words.specs.Checksums.{IsChecksum}
 use Rattle.anc_words.specs.EightBitWords.{IsEightBit}
-use Rattle.anc_words.specs.Packets.{Packet, IsPacket, IsUserWord}
+use Rattle.anc_words.specs.Packets.{Packet, IsPacket, IsUserWord, user_bytes}
 use Rattle.anc_words.specs.Reading.{is_eight_bit}
 use Rattle.anc_words.specs.Words.{AreWords, words_of}
 use Rattle.anc_words.specs.WordsFiles.{IsPacketBytes}
 use Rattle.anc_words.specs.Writing.{eight_bit_word, checksum_word, word_bytes}
 use Rattle.anc_words.proofs.ChecksumLemmas.{checksum_word-is, IsChecksum-word}
 use Rattle.anc_words.proofs.EightBitLemmas.{eight_bit_word-is, IsEightBit-word}
-use Rattle.anc_words.proofs.PacketLemmas.{IsByte, IsPacket-ten_bits, same_heads}
+use Rattle.anc_words.proofs.PacketLemmas.{IsByte, IsPacket-ten_bits, IsPacketBytes-unique, same_heads}
 use Rattle.anc_words.proofs.ReadLemmas.{is_eight_bit-true}
 use Rattle.anc_words.proofs.SoundLemmas.{IsEightBit-passed}
 use Rattle.anc_words.proofs.WordLemmas.{words_of-append}
@@ -301,3 +301,33 @@ words-are_bytes (high ∷ low ∷ bytes) (word ∷ words) (is, are) = (omega (ar
 -- and so is a packet
 pub packet-are_bytes : (packet : Packet) (bytes : List ℕ) → IsPacketBytes packet bytes → All IsByte bytes
 packet-are_bytes packet bytes is = All-from_recursion IsByte bytes (words-are_bytes bytes is.words is.spelled)
+
+-- bytes begin with at most one packet of captions
+pub ahead-one_way : (bytes : List ℕ) (size other : ℕ) (user others : List ℕ) → IsCaptionAhead bytes size user → IsCaptionAhead bytes other others
+    → (size ≡ other) × (user ≡ others)
+ahead-one_way bytes size other user others first second =
+    let (packets, fronts, _) = IsPacketBytes-unique first.packet second.packet (take size bytes) (take other bytes) (drop size bytes) (drop other bytes) first.is second.is
+    (take-append-drop size bytes ∙ sym (take-append-drop other bytes)) in (
+      sym (length-take-le size bytes first.within) ∙ ap length fronts ∙ length-take-le other bytes second.within,
+      sym first.user_is ∙ ap user_bytes packets ∙ second.user_is,
+    )
+
+-- words have two bytes each
+length-words : (bytes words : List ℕ) → AreWords bytes words → length bytes ≡ 2 * length words
+length-words [] [] are = refl
+length-words [] (word ∷ words) are = absurd are
+length-words (high ∷ []) words are = absurd are
+length-words (high ∷ low ∷ bytes) [] are = absurd are
+length-words (high ∷ low ∷ bytes) (word ∷ words) (_, are) =
+    let more = length-words bytes words are in
+    omega (arith, more)
+
+-- it is as long as its user bytes say
+pub ahead-size : (bytes : List ℕ) (size : ℕ) (user : List ℕ) → IsCaptionAhead bytes size user → size ≡ 2 * length user + 14
+ahead-size bytes size user ahead =
+    let packet = ahead.packet in
+    let is = ahead.is.is_packet in
+    let carried : length user ≡ length packet.user = ap length (sym ahead.user_is) ∙ length-map packet.user (λ word. word % 256) in
+    let long = ap length is.spelled in
+    let twice = length-words (take size bytes) ahead.is.words ahead.is.spelled in
+    omega (arith, carried, long, twice, length-take-le size bytes ahead.within, length-append packet.user (is.checksum ∷ []))

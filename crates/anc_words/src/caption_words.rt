@@ -5,7 +5,7 @@ ghost use Rattle.anc_words.specs.Reading.{is_eight_bit};
 
 use crate::words::Word;
 
-/// The first five words of each packet of captions: the flag 000 3FF 3FF, DID 61 and SDID 01.
+/// The first five words of each packet of captions (SMPTE ST 291-1, SMPTE ST 334-1): the flag 000 3FF 3FF, DID 61, SDID 01.
 const HEAD: [u8; 10] = [0x00, 0x00, 0x03, 0xFF, 0x03, 0xFF, 0x01, 0x61, 0x01, 0x01];
 
 /// The sum of the words DID and SDID of captions.

@@ -1,6 +1,6 @@
 //! Laws of the definitions: functions without a body, whose contract is the law.
 
-ghost use Rattle.std.specs.Prelude.{◌≡◌, ◌↔◌, ◌%◌, ◌<◌, ◌≤◌, ◌++◌, ℕ, List, [], ◌∷◌, Some, None, IsTrue, length};
+ghost use Rattle.std.specs.Prelude.{◌≡◌, ◌↔◌, ◌+◌, ◌*◌, ◌%◌, ◌<◌, ◌≤◌, ◌++◌, ℕ, List, [], ◌∷◌, Some, None, IsTrue, length};
 ghost use Rattle.std.specs.List.{All, flat_map};
 ghost use Rattle.cc_base.specs.declared.refusal.Refusal.{Refusal as Refused};
 ghost use Rattle.cc_base.specs.declared.step.Step.TheVariants.{Refuse};
@@ -15,6 +15,7 @@ ghost use Rattle.anc_words.specs.Reading.{AllRead, HasRefusedWord, is_caption, i
 ghost use Rattle.anc_words.specs.Ending.{bytes_to_end};
 ghost use Rattle.anc_words.specs.Words.{AreWords};
 ghost use Rattle.anc_words.specs.Packets.{Packet, IsCaption, IsUserWord, IsPacket, user_bytes};
+ghost use Rattle.anc_words.specs.CaptionPackets.{IsCaptionAhead};
 ghost use Rattle.anc_words.specs.WordsFiles.{ArePackets, IsPacketBytes, IsWordsFile};
 ghost use Rattle.anc_words.specs.Writing.{checksum_word, packet_bytes};
 
@@ -55,6 +56,14 @@ pub fn packets_have_bytes()
 pub fn captions_are_written()
     ensures { (packet : Packet) (bytes : List ℕ) → IsCaption packet → IsPacketBytes packet bytes
         → bytes ≡ packet_bytes packet.did packet.sdid (user_bytes packet) }
+{}
+
+/// Bytes begin with at most one packet of captions. It is as long as its user bytes say: two bytes for each of them, and 14 for
+/// the other words.
+pub fn captions_ahead_are_found_one_way()
+    ensures one { (bytes : List ℕ) (size other : ℕ) (user others : List ℕ)
+        → IsCaptionAhead bytes size user → IsCaptionAhead bytes other others → (size ≡ other) × (user ≡ others) }
+    ensures size { (bytes : List ℕ) (size : ℕ) (user : List ℕ) → IsCaptionAhead bytes size user → size ≡ 2 * length user + 14 }
 {}
 
 /// What was written is read back: where a packet stands at the front of the bytes written and of any bytes behind

@@ -50,7 +50,7 @@ impl WordReader {
 
     /// Whether nothing is open: no word was refused, and the bytes fed may end here.
     pub fn is_closed(&self) -> bool
-        ensures closed { (bytes : List ℕ) → HasRead bytes self.now → IsTrue result ↔ (open_behind bytes ≡ nothing_open) }
+        ensures closed { (bytes : List ℕ) → HasRead bytes self.now → (IsTrue result ↔ (open_behind bytes ≡ nothing_open)) }
         ensures unrefused { IsTrue result → kept_refusal self.now ≡ None }
     {
         self.fed.refusal.is_none() && self.fed.machine.is_closed()

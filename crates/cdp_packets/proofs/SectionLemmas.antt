@@ -121,8 +121,3 @@ cc_data_section-is ts few = (refl, omega (arith, length-all_written ts))
 -- and its triplets are these
 pub cc_data_section-triplets : (ts : List Triplet) → All (λ t. t.kind < 4) ts → section_triplets (cc_data_section ts) ≡ ts
 cc_data_section-triplets ts kinds = triplets_of-triplets ts (all_written ts) (all_written-are ts kinds)
-
--- there is room for one more triplet
-pub one_more_fits : (ts : List Triplet) (i : ℕ) (old out : List ℕ) → i < length ts → length old + (2 + 3 * length ts) ≤ 244 → out ≡ old ++ 0x72 ∷ (0xE0 + length ts) ∷ all_written (take i ts) → length out + 3 ≤ 244
-one_more_fits ts i old out below room same =
-    omega (arith, ap length same, length-append old (0x72 ∷ (0xE0 + length ts) ∷ all_written (take i ts)), length-all_written (take i ts), length-take-le i ts (omega arith))

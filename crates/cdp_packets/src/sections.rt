@@ -17,9 +17,11 @@ pub fn cc_section(triplets: &[Triplet], out: &mut ArrayVec<u8, 244>)
     ensures list { IsSectionList out.old.items → IsSectionList out.new.items }
 {
     append(out, &[CC_DATA, COUNT_MARKER + triplets.len() as u8]);
+    let mut written: ArrayVec<[u8; 3], 31> = ArrayVec::new();
     for triplet in triplets {
-        append(out, &write_triplet(*triplet));
+        written.push(write_triplet(*triplet));
     }
+    append(out, written.as_flattened());
 }
 
 /// The number of bytes of the first section of a list of sections that isn't empty (SMPTE ST 334-2).

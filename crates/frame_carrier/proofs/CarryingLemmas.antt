@@ -1,6 +1,6 @@
 -- The triplets of a frame have kinds and a number, and what is written of them is the frame's packet.
-use Rattle.std.proofs.Common.{◌≡◌, ℕ, zero, suc, ◌+◌, ◌-◌, ◌<◌, ◌≤◌, List, [], ◌∷◌, All, length, replicate, ap, ◌∙◌, arith}
-use Rattle.std.proofs.lemmas.List.{length-append, length-replicate}
+use Rattle.std.proofs.Common.{◌≡◌, ℕ, zero, suc, ◌+◌, ◌-◌, ◌<◌, ◌≤◌, List, [], ◌∷◌, All, length, drop, replicate, ap, ◌∙◌, arith}
+use Rattle.std.proofs.lemmas.List.{drop-replicate, length-append, length-replicate}
 use Rattle.std.proofs.lemmas.List.Elements.{All-append, All-cons, All-nil}
 use Rattle.cc_base.specs.Rate.{triplets_of}
 use Rattle.cc_base.specs.declared.rate.Rate.{Rate}
@@ -37,6 +37,12 @@ frame_number rate pairs packet few =
     let fillers : length (replicate (triplets_of rate - (2 + length packet)) filler) ≡ triplets_of rate - (2 + length packet) =
     length-replicate (triplets_of rate - (2 + length packet)) filler in
     omega arith
+
+-- of twenty triplets that don't count, those behind the pairs and a packet of so many are left
+pub fillers_left : (n : ℕ) → drop n (replicate 18 filler) ≡ replicate (20 - (2 + n)) filler
+fillers_left n =
+    let left : 18 - n ≡ 20 - (2 + n) = omega arith in
+    drop-replicate n 18 filler ∙ ap (λ k. replicate k filler) left
 
 -- what was written of a frame is its packet
 pub frame_written : (rate own : Rate) (frame counter : ℕ) (pairs : FramePairs) (triplets : List Triplet) (section packet words : List ℕ)

@@ -47,8 +47,15 @@ impl Carrier {
         ensures kinds { All (λ t. t.kind < 4) result.items }
         ensures next { (rate : Rate) (frame : ℕ) → IsAt rate frame self.old → IsAt rate (frame + 1) self.new }
     {
-        self.counter = self.counter.wrapping_add(1);
-        frame_triplets(self.rate, pairs, &[])
+        self.pass();
+        let mut triplets = ArrayVec::new();
+        if triplets
+            .try_extend_from_slice(&frame_triplets(pairs, &[]))
+            .is_err()
+        {
+            unreachable!();
+        }
+        triplets
     }
 
     /// The bytes of the next frame's ancillary packet: its triplets in a caption distribution packet, whose counter is the
@@ -58,13 +65,33 @@ impl Carrier {
             → result.items ≡ frame_bytes rate frame pairs.now [] }
         ensures next { (rate : Rate) (frame : ℕ) → IsAt rate frame self.old → IsAt rate (frame + 1) self.new }
     {
+        let mut words = ArrayVec::new();
+        self.put_words(pairs, &mut words);
+        words
+    }
+
+    /// Writes the bytes of the next frame's ancillary packet, those that `words` gives, into an empty `out`. A caller that
+    /// puts each frame at once is spared the copying of the whole vector.
+    pub fn put_words(&mut self, pairs: &FramePairs, out: &mut ArrayVec<u8, 524>)
+        requires empty { out.old.items ≡ [] }
+        ensures bytes { (rate : Rate) (frame : ℕ) → IsAt rate frame self.old
+            → out.new.items ≡ frame_bytes rate frame pairs.now [] }
+        ensures next { (rate : Rate) (frame : ℕ) → IsAt rate frame self.old → IsAt rate (frame + 1) self.new }
+    {
         let counter = self.counter;
+        self.pass();
         let mut section = ArrayVec::new();
-        cc_section(&self.triplets(pairs), &mut section);
+        cc_section(&frame_triplets(pairs, &[]), &mut section);
         let mut packet = ArrayVec::new();
         write_cdp(self.rate, CAPTION_FLAGS, counter, &section, &mut packet);
-        let mut words = ArrayVec::new();
-        write_packet(CAPTION_DID, CAPTION_SDID, &packet, &mut words);
-        words
+        write_packet(CAPTION_DID, CAPTION_SDID, &packet, out);
+    }
+
+    /// Passes to the next frame.
+    fn pass(&mut self)
+        ensures next { (rate : Rate) (frame : ℕ) → IsAt rate frame self.old → IsAt rate (frame + 1) self.new }
+        ensures rate { self.new.rate ≡ self.old.rate }
+    {
+        self.counter = self.counter.wrapping_add(1);
     }
 }

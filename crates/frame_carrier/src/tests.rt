@@ -1,4 +1,5 @@
 use crate::Carrier;
+use arrayvec::ArrayVec;
 use cc_base::Rate;
 use cc_data::Triplet;
 use frame_scheduler::FramePairs;
@@ -194,6 +195,22 @@ fn a_call_of_triplets_is_a_frame(rt: HostRuntime) -> Result<(), AllocError> {
     let _ = carrier.triplets(&RESUME);
     let words = carrier.words(&SILENCE);
     assert_eq!(rt; words.as_slice(), bytes_of(rt.alloc(), second)?.as_slice());
+    Ok(())
+}
+
+#[test]
+fn words_are_put_into_a_buffer_of_the_callers(rt: HostRuntime) -> Result<(), AllocError> {
+    let second = Frame {
+        counter: [0x0200, 0x0101],
+        sums: [0x02BD, 0x02AB],
+        ..FIRST
+    };
+    let mut carrier = Carrier::new(Rate::F2997);
+    for frame in [FIRST, second] {
+        let mut words = ArrayVec::new();
+        carrier.put_words(&SILENCE, &mut words);
+        assert_eq!(rt; words.as_slice(), bytes_of(rt.alloc(), frame)?.as_slice());
+    }
     Ok(())
 }
 
