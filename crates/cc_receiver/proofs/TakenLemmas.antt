@@ -1,5 +1,5 @@
 -- What a receiver is after more bytes.
-use Rattle.std.proofs.Common.{arith, ◌≡◌, ◌≢◌, ℕ, ◌+◌, ◌%◌, ◌^◌, ◌<◌, ◌≤◌, ◌⊎◌, inl, inr, ◌++◌, List, [], ◌∷◌, length, map, Option, None, ap, sym, subst, ◌∙◌, length-append}
+use Rattle.std.proofs.Common.{Some, arith, ◌≡◌, ◌≢◌, ℕ, ◌+◌, ◌%◌, ◌^◌, ◌<◌, ◌≤◌, ◌⊎◌, inl, inr, ◌++◌, List, [], ◌∷◌, length, map, Option, None, ap, sym, subst, ◌∙◌, length-append}
 use Rattle.std.proofs.lemmas.List.{length-map, length-reverse}
 use Rattle.std.proofs.lemmas.List.Elements.{All-append}
 use Rattle.std.specs.List.{All}
@@ -16,10 +16,12 @@ use Rattle.cdp_packets.specs.PacketParts.{packet_parts}
 use Rattle.cdp_packets.specs.Packets.{Packet as Frame}
 use Rattle.words_files.specs.Catching.{caption_verdict, caught_in, never, refusal_of}
 use Rattle.words_files.specs.FramesOf.{AreFramesOf}
+use Rattle.words_files.specs.Offences.{IsFileUnder}
 use Rattle.anc_words.proofs.ByteLemmas.{file_is_read}
-use Rattle.words_files.proofs.CaughtLemmas.{caught_file}
+use Rattle.words_files.proofs.CaughtLemmas.{caught_file, file_caught}
 use Rattle.words_files.proofs.FramesOfLemmas.{file_frames}
 use Rattle.words_files.proofs.GotLemmas.{file_or_none, frames_are_caught, got}
+use Rattle.words_files.proofs.OffenceLemmas.{some_or_none}
 use Rattle.words_files.proofs.LastPacketLemmas.{at_most_one, ends_bringing, no_end}
 use Rattle.cc_receiver.specs.declared.receiver.Receiver.{Receiver}
 use Rattle.cc_receiver.specs.declared.receiver.Ended.TheVariants as ended
@@ -136,3 +138,13 @@ piece_ends before piece old new some few had has =
             one = λ differs. absurd (differs (is ∙ sym was));
           }
     ]
+
+-- no frame ends with a piece that is refused
+pub refused_counts : (before piece : List ℕ) (refusal : Refusal) (old new : Receiver) → length piece ≤ bytes_to_end (open_behind before)
+    → refusal_of never (before ++ piece) ≡ Some refusal → HasReceived before old → HasReceived (before ++ piece) new → frame_count new ≡ frame_count old
+refused_counts before piece refusal old new few some had has =
+    let first = got never before had.bytes_are in
+    let no_file : (others : List Frame) → IsFileUnder never others (before ++ piece) → ⊥ =
+    λ others is. some_or_none (refusal_of never (before ++ piece)) refusal some (file_caught never others (before ++ piece) is).1 in
+    let are = no_end never first.frames before piece few no_file first.are in
+    frames_count first.frames (before ++ piece) new has are ∙ sym (frames_count first.frames before old had first.are)

@@ -101,6 +101,8 @@ impl Receiver {
             → IfOk result (λ fed. fed.ended ≡ ended.Caption → frame_count self.new ≡ frame_count self.old + 1) }
         ensures same { (before : List ℕ) → HasReceived before self.old
             → IfOk result (λ fed. fed.ended ≢ ended.Caption → frame_count self.new ≡ frame_count self.old) }
+        ensures stays { (before : List ℕ) → HasReceived before self.old
+            → IfErr result (λ refused. frame_count self.new ≡ frame_count self.old) }
     {
         if let Some(refusal) = self.words.refusal() {
             return Err(refusal);

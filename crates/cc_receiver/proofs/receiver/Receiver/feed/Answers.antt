@@ -11,6 +11,7 @@ use Rattle.cc_receiver.specs.Receivers.{HasReceived}
 use Rattle.cc_receiver.proofs.FeedLemmas.{bytes-cut, bytes_fit, piece_few, piece_is, piece_most, up_to, within_piece}
 use Rattle.cc_receiver.proofs.ReceivedLemmas.{kept_is}
 use Rattle.cc_receiver.proofs.RefusedLemmas.{received-refused, refusal-stays}
+use Rattle.cc_receiver.proofs.TakenLemmas.{refused_counts}
 use Rattle.cc_receiver.proofs.receiver.Receiver.feed.Goals as goal
 
 pub returns-in-Some-clause-refused : goal.returns-in-Some-clause-refused
@@ -131,6 +132,17 @@ returns-in_err-ended-clause-offence c = λ before had.
     ∙ refusal-stays (before ++ take (c.loop-used.used + c.min.result) c.args.bytes.now) (drop (c.loop-used.used + c.min.result) c.args.bytes.now) c.in_err-ended.field-0.0 refused in
     let fit = bytes_fit c.args.bytes.now (λ k below. omega (arith, c.type_inv.bytes k)) in
     let offence = refused_offends never never_takes (before ++ c.args.bytes.now) c.in_err-ended.field-0.0 (All-append (λ b. b < 256) before c.args.bytes.now had.bytes_are fit) whole in
+    Prim.search rules
+
+pub returns-in_err-ended-clause-stays : goal.returns-in_err-ended-clause-stays
+returns-in_err-ended-clause-stays c = λ before had.
+    let u = c.loop-used.invariant.underway before had in
+    let behind = before ++ take c.loop-used.used c.args.bytes.now in
+    let few = piece_few c.loop-used.used c.min.result c.bytes_to_end.result (bytes_to_end (open_behind behind)) c.args.bytes.now c.min.ensures
+    (c.bytes_to_end.ensures.least behind (u.received.reached.leads u.none)) in
+    let counts = refused_counts behind _ c.in_err-ended.field-0.0 c.loop-used.self c.read.new.self few (sym (c.in_err-ended.ensures.refusal behind u.received few)) u.received
+    (c.read.ensures.received behind u.received few) in
+    let same = counts ∙ c.loop-used.invariant.frames in
     Prim.search rules
 
 pub returns-in-Some-whole-clause-unoffending : goal.returns-in-Some-whole-clause-unoffending
