@@ -1,0 +1,4 @@
+pub mod RunLemmas
+pub mod TextLemmas
+pub mod RowLemmas
+pub mod LengthLemmas

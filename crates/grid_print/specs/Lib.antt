@@ -1,0 +1,4 @@
+pub mod Runs
+pub mod GridTexts
+pub mod Texts
+pub mod Shown

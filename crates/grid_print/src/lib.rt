@@ -1,0 +1,14 @@
+//! The texts of the grids of line 21's captions channels CC1 to CC4: all that a frame shows, and what changes from frame to frame.
+#![tactic(auto)]
+
+mod names;
+mod print;
+mod runs;
+mod shown;
+mod text;
+
+pub use print::put_all;
+pub use shown::Shown;
+
+#[cfg(test)]
+mod tests;
