@@ -4,3 +4,9 @@ mod ListLimits
 mod Outputs
 mod VerdictLemmas
 pub mod WordsLemmas
+pub mod FramesLemmas
+pub mod PrintingLemmas
+pub mod ReadingLemmas
+pub mod StopLemmas
+pub mod WordsAnswerLemmas
+pub mod WordsVerdictLemmas

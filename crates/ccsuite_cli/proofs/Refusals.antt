@@ -57,6 +57,7 @@ read_refused Whole Front Is Refused left now_left written before now faults (sta
 read_refused Whole Front Is Refused left now_left written before now faults (status.Malformed place why) h = (h.0, (refl, keeps_same written), h.1)
 read_refused Whole Front Is Refused left now_left written before now faults (status.Rule fault) h = (h.0, (refl, keeps_same written), h.1)
 read_refused Whole Front Is Refused left now_left written before now faults (status.NoRoom cue) h = (h.0, (refl, keeps_same written), h.1)
+read_refused Whole Front Is Refused left now_left written before now faults (status.Short frames) h = (h.0, (refl, keeps_same written), h.1)
 
 -- a fact of the bytes that were read is one of the bytes that were left
 of_left : (P : List ℕ → Type 0) (left : Option (List ℕ)) (bytes : List ℕ) → IfSome left (λ all. bytes ≡ all) → P bytes → IfSome left P
@@ -90,6 +91,8 @@ judged Is Refused are left now_left before now bytes (Err (status.Rule fault)) i
     (same, of_left (λ all. Refused all (status.Rule fault)) left bytes is fact)
 judged Is Refused are left now_left before now bytes (Err (status.NoRoom cue)) is same fact =
     (same, of_left (λ all. Refused all (status.NoRoom cue)) left bytes is fact)
+judged Is Refused are left now_left before now bytes (Err (status.Short frames)) is same fact =
+    (same, of_left (λ all. Refused all (status.Short frames)) left bytes is fact)
 
 -- bytes that weren't read to their end
 pub unread : {A : Type 0} (Is : List ℕ → A → Type 0) (Refused : List ℕ → Status → Type 0)
@@ -108,6 +111,8 @@ unread Is Refused long left now_left before now (status.Rule fault) h =
     (h.0, if_left _ (λ bytes. Refused bytes (status.Rule fault)) left (λ bytes too. subst (Refused bytes) (sym too.0) (long bytes too.1)) h.1)
 unread Is Refused long left now_left before now (status.NoRoom cue) h =
     (h.0, if_left _ (λ bytes. Refused bytes (status.NoRoom cue)) left (λ bytes too. subst (Refused bytes) (sym too.0) (long bytes too.1)) h.1)
+unread Is Refused long left now_left before now (status.Short frames) h =
+    (h.0, if_left _ (λ bytes. Refused bytes (status.Short frames)) left (λ bytes too. subst (Refused bytes) (sym too.0) (long bytes too.1)) h.1)
 
 -- what was read is no fault
 pub ok_is_no_fault : {A E : Type 0} (value : A) (error : E) → Ok value ≢ Err error

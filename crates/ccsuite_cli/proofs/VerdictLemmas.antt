@@ -25,7 +25,7 @@ use Rattle.ccsuite_cli.specs.Ends.{Ends}
 use Rattle.ccsuite_cli.specs.Output.{IsSoundPairs, IsSoundWords, build_output, pairs_output}
 use Rattle.ccsuite_cli.specs.Reads.{form_status}
 use Rattle.ccsuite_cli.specs.Verdict.{AcceptanceIsOne, AcceptedIsAnswered, AcceptedIsNotRefused, EveryListIsJudged, GoodListIsWritten, RefusalIsOne}
-use Rattle.ccsuite_cli.specs.declared.command.Command.TheVariants.{Build, Cues, Pairs}
+use Rattle.ccsuite_cli.specs.declared.command.Command.TheVariants.{Build, Cues, Decode, Pairs, Show}
 use Rattle.ccsuite_cli.specs.declared.status.Place.TheVariants.{Field}
 use Rattle.ccsuite_cli.specs.declared.status.Status.{Status}
 use Rattle.ccsuite_cli.specs.declared.status.Status.TheVariants as status
@@ -170,6 +170,8 @@ list_answered Whole Front Refused bytes old new (status.Rule fault) never left s
     absurd (left_without (λ all. Refused all (status.Rule fault)) bytes old.left (never (status.Rule fault)) left answered.2)
 list_answered Whole Front Refused bytes old new (status.NoRoom cue) never left steady_read steady_write answered =
     absurd (left_without (λ all. Refused all (status.NoRoom cue)) bytes old.left (never (status.NoRoom cue)) left answered.2)
+list_answered Whole Front Refused bytes old new (status.Short frames) never left steady_read steady_write answered =
+    absurd (left_without (λ all. Refused all (status.Short frames)) bytes old.left (never (status.Short frames)) left answered.2)
 
 -- a list that keeps the rules is written
 pub good_written : GoodListIsWritten
@@ -178,12 +180,14 @@ good_written bytes list old new answer good left steady_read steady_write answer
 
 -- an accepted list is answered by every command
 pub accepted_answered : AcceptedIsAnswered
-accepted_answered bytes list placed Pairs old new answer accepted left steady_read steady_write answered =
+accepted_answered bytes list placed Pairs old new answer reads accepted left steady_read steady_write answered =
     list_answered (PutsOutput pairs_output IsSoundPairs) (PutsFront pairs_output) IsRefused bytes old new answer (λ refusal refused. accepted_not_refused bytes list placed refusal accepted refused) left steady_read steady_write answered
-accepted_answered bytes list placed Build old new answer accepted left steady_read steady_write answered =
+accepted_answered bytes list placed Build old new answer reads accepted left steady_read steady_write answered =
     list_answered (PutsOutput build_output IsSoundWords) (PutsFront build_output) IsRefused bytes old new answer (λ refusal refused. accepted_not_refused bytes list placed refusal accepted refused) left steady_read steady_write answered
-accepted_answered bytes list placed Cues old new answer accepted left steady_read steady_write answered =
+accepted_answered bytes list placed Cues old new answer reads accepted left steady_read steady_write answered =
     good_written bytes list old new answer (accepted_good bytes list placed accepted) left steady_read steady_write answered
+accepted_answered bytes list placed Decode old new answer reads accepted left steady_read steady_write answered = absurd reads
+accepted_answered bytes list placed (Show frame) old new answer reads accepted left steady_read steady_write answered = absurd reads
 
 -- what isn't read as a list is refused with its fault
 fault_refused : (bytes : List ℕ) (f : CueFault) → length bytes ≤ list_limit → read_list bytes ≡ Err f → IsRefused bytes (form_status f)

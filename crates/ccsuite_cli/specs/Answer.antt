@@ -11,8 +11,9 @@ use Rattle.frame_scheduler.specs.Planned.{Placement}
 use Rattle.ccsuite_cli.specs.Accepted.{IsAccepted, IsGoodList, IsRefused, IsRefusedList, list_limit}
 use Rattle.ccsuite_cli.specs.Ends.{Ends, PutsNothing}
 use Rattle.ccsuite_cli.specs.Output.{IsSoundPairs, IsSoundWords, build_output, pairs_output}
+use Rattle.ccsuite_cli.specs.WordsAnswer.{DecodeAnswer, ShowAnswer}
 use Rattle.ccsuite_cli.specs.declared.command.Command.{Command}
-use Rattle.ccsuite_cli.specs.declared.command.Command.TheVariants.{Build, Cues, Pairs}
+use Rattle.ccsuite_cli.specs.declared.command.Command.TheVariants.{Build, Cues, Decode, Pairs, Show}
 use Rattle.ccsuite_cli.specs.declared.status.Status.{Status}
 use Rattle.ccsuite_cli.specs.declared.status.Status.TheVariants as status
 
@@ -79,3 +80,5 @@ Answer None old new answer = (answer ≡ status.Usage) × (new ≡ old)
 Answer (Some Pairs) old new answer = PairsAnswer old new answer
 Answer (Some Build) old new answer = BuildAnswer old new answer
 Answer (Some Cues) old new answer = CuesAnswer old new answer
+Answer (Some Decode) old new answer = DecodeAnswer old new answer
+Answer (Some (Show frame)) old new answer = ShowAnswer frame old new answer

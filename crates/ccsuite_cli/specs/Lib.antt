@@ -5,6 +5,11 @@ pub mod Ends
 pub mod Gathered
 pub mod Lines
 pub mod Output
+pub mod Printing
 pub mod Reads
+pub mod Screens
 pub mod StatusLine
 pub mod Verdict
+pub mod WordsAnswer
+pub mod WordsReading
+pub mod WordsVerdict

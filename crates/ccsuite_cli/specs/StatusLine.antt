@@ -20,6 +20,7 @@ status_code (status.Limit limit) = 5
 status_code (status.Malformed place why) = 6
 status_code (status.Rule fault) = 7
 status_code (status.NoRoom cue) = 8
+status_code (status.Short frames) = 10
 
 -- a text made of pieces
 abbrev pub text : List (List ℕ) → List ℕ
@@ -49,3 +50,4 @@ status_line (status.Limit limit) = text (codes "limit " ∷ limit_name_of limit 
 status_line (status.Malformed place why) = malformed_line place why
 status_line (status.Rule fault) = rule_line fault.why fault.cue fault.other
 status_line (status.NoRoom cue) = text (codes "no room: cue " ∷ decimal cue ∷ codes "\n" ∷ [])
+status_line (status.Short frames) = text (codes "short: " ∷ decimal frames ∷ codes " frames\n" ∷ [])

@@ -7,7 +7,7 @@ use Rattle.ccsuite_cli.specs.Accepted.{IsAccepted, IsGoodList, IsRefused}
 use Rattle.ccsuite_cli.specs.Answer.{Answer}
 use Rattle.ccsuite_cli.specs.Ends.{Ends}
 use Rattle.ccsuite_cli.specs.declared.command.Command.{Command}
-use Rattle.ccsuite_cli.specs.declared.command.Command.TheVariants.{Cues}
+use Rattle.ccsuite_cli.specs.declared.command.Command.TheVariants.{Build, Cues, Decode, Pairs, Show}
 use Rattle.ccsuite_cli.specs.declared.status.Status.{Status}
 use Rattle.ccsuite_cli.specs.declared.status.Status.TheVariants as status
 
@@ -30,10 +30,19 @@ abbrev pub EveryListIsJudged : Type 0
 EveryListIsJudged = (bytes : List ℕ)
     → ((list : Listing) × (placed : Placement) × IsAccepted bytes list placed) ⊎ ((answer : Status) × IsRefused bytes answer)
 
--- where no count of faults rose, every command answers an input that is an accepted list Ok, or want of memory
+-- the commands that read a cue list
+abbrev pub ReadsCueList : Command → Type 0
+ReadsCueList Pairs = Unit {0}
+ReadsCueList Build = Unit {0}
+ReadsCueList Cues = Unit {0}
+ReadsCueList Decode = ⊥
+ReadsCueList (Show frame) = ⊥
+
+-- where no count of faults rose, every command that reads a cue list answers an input that is an accepted one Ok, or want of
+-- memory
 abbrev pub AcceptedIsAnswered : Type 0
 AcceptedIsAnswered = (bytes : List ℕ) (list : Listing) (placed : Placement) (command : Command) (old new : Ends) (answer : Status)
-    → IsAccepted bytes list placed → old.left ≡ Some bytes
+    → ReadsCueList command → IsAccepted bytes list placed → old.left ≡ Some bytes
     → (Rose old.read_faults new.read_faults → ⊥) → (Rose old.write_faults new.write_faults → ⊥)
     → Answer (Some command) old new answer → (answer ≡ status.Ok) ⊎ (answer ≡ status.Memory)
 

@@ -9,6 +9,7 @@ ghost use Rattle.ccsuite_cli.specs.Ends.{ends};
 use crate::accept::read_programme;
 use crate::programme::Programme;
 use crate::status::Status;
+use arrayvec::ArrayVec;
 use cc_base::{Put, Sink, Source};
 use frame_carrier::Carrier;
 use std::alloc::Global;
@@ -38,7 +39,9 @@ fn put_words<O: Sink>(programme: Programme, out: &mut O) -> Put
     let mut carrier = Carrier::new(programme.rate);
     let mut plan = programme.plan;
     while let Some(pairs) = plan.next() {
-        match out.put(&carrier.words(&pairs)) {
+        let mut words = ArrayVec::new();
+        carrier.put_words(&pairs, &mut words);
+        match out.put(&words) {
             Put::Done => {}
             Put::Failed => return Put::Failed,
         }

@@ -5,7 +5,7 @@ use arrayvec::ArrayVec;
 use cc_base::{Put, Sink};
 
 /// Bytes that are gathered before one put.
-pub const ROOM: usize = 32768;
+pub const ROOM: usize = 65_536;
 
 /// A text on its way to a sink, gathered so that a run's cost isn't its number of puts.
 #[derive(Drop)]
@@ -14,7 +14,7 @@ pub struct Gathered {
 }
 
 impl Gathered {
-    ghost use Rattle.ccsuite_cli.specs.Gathered.{Gathers, held_of};
+    ghost use Rattle.ccsuite_cli.specs.Gathered.{Flushes, Gathers, held_of};
 
     /// A text of which nothing is held.
     pub fn new() -> Gathered
@@ -34,15 +34,31 @@ impl Gathered {
         if self.held.try_extend_from_slice(piece).is_ok() {
             return Put::Done;
         }
-        match out.put(self.held.as_slice()) {
+        match self.flush(out) {
             Put::Done => {}
             Put::Failed => return Put::Failed,
         }
-        self.held.clear();
         if self.held.try_extend_from_slice(piece).is_err() {
             unreachable!();
         }
         Put::Done
+    }
+
+    /// Puts what is held, if anything is.
+    pub fn flush<O: Sink>(&mut self, out: &mut O) -> Put
+        ensures bytes { Flushes (O.written out.old) (O.written out.new) (held_of self.old) (held_of self.new) result }
+        ensures cause { PutCause (O.faults out.old) (O.faults out.new) result }
+    {
+        if self.held.is_empty() {
+            return Put::Done;
+        }
+        match out.put(self.held.as_slice()) {
+            Put::Done => {
+                self.held.clear();
+                Put::Done
+            }
+            Put::Failed => Put::Failed,
+        }
     }
 
     /// Puts what is held.

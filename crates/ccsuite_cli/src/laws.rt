@@ -1,5 +1,6 @@
-//! Laws of the verdict on a cue list: functions that do nothing, with the laws as their contracts.
+//! Laws of the verdict on an input: functions that do nothing, with the laws as their contracts.
 ghost use Rattle.ccsuite_cli.specs.Verdict.{AcceptanceIsOne, AcceptedIsAnswered, AcceptedIsNotRefused, EveryListIsJudged, GoodListIsWritten, RefusalIsOne};
+ghost use Rattle.ccsuite_cli.specs.WordsVerdict.{FaultsAreTold, FileIsDecoded, FileIsShown, MalformedIsRefused};
 
 /// The law that a cue list which is accepted is refused with no status.
 pub fn accepted_is_not_refused()
@@ -21,7 +22,7 @@ pub fn every_list_is_judged()
     ensures { EveryListIsJudged }
 {}
 
-/// The law that every command answers Ok to an input that is an accepted cue list, or Memory, where neither count of
+/// The law that every command that reads a cue list answers Ok to an input that is an accepted cue list, or Memory, where neither count of
 /// faults rose.
 pub fn accepted_is_answered()
     ensures { AcceptedIsAnswered }
@@ -30,4 +31,28 @@ pub fn accepted_is_answered()
 /// The law that `cues` does so for a cue list that keeps the rules, whether or not it has room.
 pub fn good_list_is_written()
     ensures { GoodListIsWritten }
+{}
+
+/// The law that `decode` answers Ok to an input that is a words file within the limit, or Memory, where neither count of
+/// faults rose.
+pub fn file_is_decoded()
+    ensures { FileIsDecoded }
+{}
+
+/// The law that `show` answers such an input Ok where it has the frame, Short with the number of its frames where it hasn't,
+/// or Memory.
+pub fn file_is_shown()
+    ensures { FileIsShown }
+{}
+
+/// The law that both answer an input whose words are malformed with the place and the reason of the first offending word, or of
+/// its end, or Memory.
+pub fn malformed_is_refused()
+    ensures { MalformedIsRefused }
+{}
+
+/// The law that every run answers ReadFault where the input's count of faults is greater than before, and WriteFault where the
+/// output's is.
+pub fn faults_are_told()
+    ensures { FaultsAreTold }
 {}

@@ -8,12 +8,17 @@ mod accept;
 mod build;
 mod command;
 mod cues;
+mod decode;
 mod gathered;
 pub mod laws;
 mod lines;
 mod pairs;
+mod printer;
 mod program;
 mod programme;
+mod reading;
+mod show;
 mod status;
 #[cfg(test)]
 mod tests;
+mod words;

@@ -9,7 +9,9 @@ ghost use Rattle.ccsuite_cli.specs.StatusLine.{status_line};
 use crate::build::build;
 use crate::command::{Command, read_words};
 use crate::cues::cues;
+use crate::decode::decode;
 use crate::pairs::pairs;
+use crate::show::show;
 use crate::status::{Status, put_status};
 use cc_base::{Sink, Source};
 use std::alloc::Global;
@@ -53,5 +55,7 @@ fn obey<M: Source, O: Sink>(
         Some(Command::Pairs) => pairs(alloc, input, out),
         Some(Command::Build) => build(alloc, input, out),
         Some(Command::Cues) => cues(alloc, input, out),
+        Some(Command::Decode) => decode(alloc, input, out),
+        Some(Command::Show(frame)) => show(alloc, frame, input, out),
     }
 }

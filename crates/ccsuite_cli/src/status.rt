@@ -37,6 +37,8 @@ pub enum Status {
     Rule(RuleFault),
     /// The cue of this number, counted from 1, is the first without a placement.
     NoRoom(u32),
+    /// The words file has only so many frames.
+    Short(u32),
 }
 
 impl Status {
@@ -54,6 +56,7 @@ impl Status {
             Status::Malformed(..) => 6,
             Status::Rule(_) => 7,
             Status::NoRoom(_) => 8,
+            Status::Short(_) => 10,
         }
     }
 }
@@ -81,6 +84,14 @@ pub fn put_status<E: Sink>(status: Status, err: &mut E) -> Put
                 b"no room: cue ",
                 Buffer::new().format(cue).as_bytes(),
                 b"\n",
+            ],
+            err,
+        ),
+        Status::Short(frames) => put_pieces(
+            &[
+                b"short: ",
+                Buffer::new().format(frames).as_bytes(),
+                b" frames\n",
             ],
             err,
         ),

@@ -9,9 +9,12 @@ use std::test::Fail;
 
 mod build;
 mod cues;
+mod decode;
 mod line21;
 mod pairs;
 mod seen;
+mod show;
+mod words;
 
 /// The list of the caption HI on 30 frames.
 const HI: &[u8] = b"ccsuite,1,29.97,30\npop,CC1,0,7,20\nrun,15,0,white,HI\n";
@@ -43,6 +46,14 @@ fn pairs_of(text: &[u8], piece: usize) -> Given<'_> {
 fn build_of(text: &[u8]) -> Given<'_> {
     Given {
         words: &["build"],
+        ..pairs_of(text, usize::MAX)
+    }
+}
+
+/// `decode` on words, with no fault.
+fn decode_of(text: &[u8]) -> Given<'_> {
+    Given {
+        words: &["decode"],
         ..pairs_of(text, usize::MAX)
     }
 }
@@ -95,12 +106,20 @@ fn words_that_are_no_command_are_usage(rt: HostRuntime) -> Result<(), Fail> {
     let usage =
         b"usage: ccsuite pairs|build|decode|show FRAME|verify CUES|insert CUES|import|export TIME|cues|load N\n";
     let none: [&str; 0] = [];
-    let lists: [&[&str]; 9] = [
+    let lists: [&[&str]; 17] = [
         &none,
         &["pairs", "x"],
         &["Pairs"],
         &[""],
-        &["decode"],
+        &["decode", "x"],
+        &["decode "],
+        &["show"],
+        &["show", ""],
+        &["show", "01"],
+        &["show", "+1"],
+        &["show", "4294967295"],
+        &["show", "4294967296"],
+        &["show", "1", "2"],
         &["pairs", ""],
         &["build", "x"],
         &["build "],
@@ -305,6 +324,7 @@ fn each_status_has_its_code(rt: HostRuntime) {
         (Status::Malformed(Place::Byte(0), Why::Flag), 6),
         (broken(Why::Share), 7),
         (Status::NoRoom(1), 8),
+        (Status::Short(3), 10),
     ] {
         assert_eq!(rt; status.code(), code);
     }

@@ -3,6 +3,7 @@
 
 pub use crate::cue::{Cue, Kind, Pen, Run, WinCue};
 pub use crate::fault::CueFault;
+pub use crate::fields::read_within;
 pub use crate::list::{CueList, Share};
 pub use crate::printing::print;
 pub use crate::reading::parse;

@@ -72,7 +72,7 @@ fn a_failing_put_leaves_a_front_of_the_lines(rt: HostRuntime) -> Result<(), Fail
     let whole = run_to_end(alloc, pairs_of(text, usize::MAX))?;
     assert_eq!(rt; whole.status, Status::Ok);
     assert_eq!(rt; whole.out.bytes().len(), 100_000);
-    for (put, room) in [(0, 0), (1, 32_760), (3, 98_280)] {
+    for (put, room) in [(0, 0), (1, 65_530)] {
         let failing = [put];
         let ended = run_to_end(
             alloc,

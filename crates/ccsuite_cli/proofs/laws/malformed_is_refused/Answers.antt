@@ -1,0 +1,5 @@
+use Rattle.ccsuite_cli.proofs.WordsVerdictLemmas.{malformed_refused}
+use Rattle.ccsuite_cli.proofs.laws.malformed_is_refused.Goals as goal
+
+pub returns : goal.returns
+returns c = malformed_refused

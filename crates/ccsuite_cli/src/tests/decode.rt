@@ -1,0 +1,234 @@
+//! What `decode` puts: the changed screens of each frame, and then the number of frames.
+
+use crate::status::{Place, Status};
+use crate::tests::words::{FOREIGN, SECTIONS, SILENT, bytes_of, hi_words, three_frames};
+use crate::tests::{Ended, Given, decode_of, run_to_end};
+use cc_base::Why;
+use std::alloc::Global;
+use std::test::Fail;
+
+/// The block of the frame in which HI appears, and that of the one in which it is erased.
+const SHOWN: &[u8] = b"frame 7\nCC1 1\n15 0 white HI\n";
+
+const BOTH: &[u8] = b"frame 7\nCC1 1\n15 0 white HI\nframe 20\nCC1 0\n";
+
+const ALL: &[u8] = b"frame 7\nCC1 1\n15 0 white HI\nframe 20\nCC1 0\nframes 30\n";
+
+fn refused_at(byte: u64, why: Why) -> Status {
+    Status::Malformed(Place::Byte(byte), why)
+}
+
+/// `decode` on these words as bytes.
+fn decoded(alloc: Global, words: &[u16]) -> Result<Ended, Fail> {
+    run_to_end(alloc, decode_of(&bytes_of(alloc, words)?))
+}
+
+#[test]
+fn words_of_a_caption_give_its_two_changes_in_any_pieces(rt: HostRuntime) -> Result<(), Fail> {
+    let alloc = rt.alloc();
+    let words = hi_words(alloc)?;
+    for piece in [1, 2, 159, usize::MAX] {
+        let ended = run_to_end(
+            alloc,
+            Given {
+                piece,
+                ..decode_of(&words)
+            },
+        )?;
+        assert_eq!(rt; ended.status, Status::Ok, "pieces of {piece}");
+        assert_eq!(rt; ended.out.bytes(), ALL, "pieces of {piece}");
+        assert_eq!(rt; ended.err.bytes(), b"".as_slice());
+    }
+    Ok(())
+}
+
+#[test]
+fn a_failing_take_leaves_the_changes_of_the_frames_before_it(rt: HostRuntime) -> Result<(), Fail> {
+    let alloc = rt.alloc();
+    let words = hi_words(alloc)?;
+    for frame in 0..31u64 {
+        let failing = [160 * frame];
+        let ended = run_to_end(
+            alloc,
+            Given {
+                piece: 1,
+                failing_takes: &failing,
+                ..decode_of(&words)
+            },
+        )?;
+        let due = if frame <= 7 {
+            b""
+        } else if frame <= 20 {
+            SHOWN
+        } else {
+            BOTH
+        };
+        assert_eq!(rt; ended.status, Status::ReadFault, "frame {frame}");
+        assert_eq!(rt; ended.out.bytes(), due, "frame {frame}");
+        assert_eq!(rt; ended.err.bytes(), b"read fault\n".as_slice());
+    }
+    Ok(())
+}
+
+#[test]
+fn a_failing_put_leaves_the_text_before_it(rt: HostRuntime) -> Result<(), Fail> {
+    let alloc = rt.alloc();
+    let words = hi_words(alloc)?;
+    let puts: [(usize, u64, &[u8]); 6] = [
+        (usize::MAX, 0, b""),
+        (usize::MAX, 1, BOTH),
+        (1, 0, b""),
+        (1, 1, SHOWN),
+        (1, 2, BOTH),
+        (
+            1,
+            4,
+            b"frame 7\nCC1 1\n15 0 white HI\nframe 20\nCC1 0\nframes 30",
+        ),
+    ];
+    for (piece, put, due) in puts {
+        let failing = [put];
+        let ended = run_to_end(
+            alloc,
+            Given {
+                piece,
+                failing_puts: &failing,
+                ..decode_of(&words)
+            },
+        )?;
+        assert_eq!(rt;
+            ended.status,
+            Status::WriteFault,
+            "put {put} of pieces of {piece}"
+        );
+        assert_eq!(rt; ended.out.bytes(), due, "put {put} of pieces of {piece}");
+        assert_eq!(rt; ended.err.bytes(), b"write fault\n".as_slice());
+    }
+    Ok(())
+}
+
+#[test]
+fn a_refused_word_is_told_by_its_place_and_reason(rt: HostRuntime) -> Result<(), Fail> {
+    let refusals: [(usize, u16, Status, &[u8]); 4] = [
+        (
+            14,
+            0x02F5,
+            refused_at(28, Why::Count),
+            b"malformed at byte 28: Count\n",
+        ),
+        (
+            5,
+            0x020C,
+            refused_at(10, Why::Length),
+            b"malformed at byte 10: Length\n",
+        ),
+        (
+            0,
+            0x0400,
+            refused_at(0, Why::HighBits),
+            b"malformed at byte 0: HighBits\n",
+        ),
+        (
+            79,
+            0x01AA,
+            refused_at(158, Why::AncSum),
+            b"malformed at byte 158: AncSum\n",
+        ),
+    ];
+    for (place, word, status, line) in refusals {
+        let mut words = SILENT;
+        words[place] = word;
+        let ended = decoded(rt.alloc(), &words)?;
+        assert_eq!(rt; ended.status, status, "word {place}");
+        assert_eq!(rt; ended.out.bytes(), b"".as_slice());
+        assert_eq!(rt; ended.err.bytes(), line);
+    }
+    Ok(())
+}
+
+#[test]
+fn the_changes_before_a_refused_word_are_put(rt: HostRuntime) -> Result<(), Fail> {
+    let alloc = rt.alloc();
+    let mut words = hi_words(alloc)?;
+    let last = words.len() - 1;
+    words[last] ^= 1;
+    for piece in [1, usize::MAX] {
+        let ended = run_to_end(
+            alloc,
+            Given {
+                piece,
+                ..decode_of(&words)
+            },
+        )?;
+        assert_eq!(rt; ended.status, refused_at(4798, Why::AncSum));
+        assert_eq!(rt; ended.out.bytes(), BOTH);
+    }
+    let unwritten = run_to_end(
+        alloc,
+        Given {
+            failing_puts: &[0],
+            ..decode_of(&words)
+        },
+    )?;
+    assert_eq!(rt; unwritten.status, Status::WriteFault);
+    assert_eq!(rt; unwritten.out.bytes(), b"".as_slice());
+    Ok(())
+}
+
+#[test]
+fn a_frame_cut_short_is_truncated_at_its_end(rt: HostRuntime) -> Result<(), Fail> {
+    let alloc = rt.alloc();
+    let mut bytes = bytes_of(alloc, &SILENT)?;
+    for cut in 1..160 {
+        let ended = run_to_end(alloc, decode_of(&bytes[..cut]))?;
+        assert_eq!(rt; ended.status, refused_at(cut as u64, Why::Truncated));
+        assert_eq!(rt; ended.out.bytes(), b"".as_slice());
+    }
+    let none = run_to_end(alloc, decode_of(&[]))?;
+    assert_eq!(rt;
+        (none.status, none.out.bytes()),
+        (Status::Ok, b"frames 0\n".as_slice())
+    );
+    let one = run_to_end(alloc, decode_of(&bytes))?;
+    assert_eq!(rt;
+        (one.status, one.out.bytes()),
+        (Status::Ok, b"frames 1\n".as_slice())
+    );
+    bytes.push(0xFF)?;
+    let half = run_to_end(alloc, decode_of(&bytes))?;
+    assert_eq!(rt; half.status, refused_at(161, Why::Truncated));
+    assert_eq!(rt;
+        half.err.bytes(),
+        b"malformed at byte 161: Truncated\n".as_slice()
+    );
+    Ok(())
+}
+
+#[test]
+fn packets_of_other_kinds_are_judged_and_are_no_frames(rt: HostRuntime) -> Result<(), Fail> {
+    let alloc = rt.alloc();
+    let good = three_frames(alloc, FOREIGN)?;
+    let ended = run_to_end(alloc, decode_of(&good))?;
+    assert_eq!(rt;
+        (ended.status, ended.out.bytes()),
+        (Status::Ok, b"frames 3\n".as_slice())
+    );
+    let mut foreign = FOREIGN;
+    foreign[4] = 0x0202;
+    let bad = three_frames(alloc, foreign)?;
+    let ended = run_to_end(alloc, decode_of(&bad))?;
+    assert_eq!(rt; ended.status, refused_at(168, Why::WordParity));
+    assert_eq!(rt; ended.out.bytes(), b"".as_slice());
+    Ok(())
+}
+
+#[test]
+fn sections_of_every_kind_in_any_order_are_read(rt: HostRuntime) -> Result<(), Fail> {
+    let ended = decoded(rt.alloc(), &SECTIONS)?;
+    assert_eq!(rt; ended.status, Status::Ok);
+    assert_eq!(rt;
+        ended.out.bytes(),
+        b"frame 7\nCC1 1\n15 0 white HI\nframes 10\n".as_slice()
+    );
+    Ok(())
+}

@@ -1,0 +1,125 @@
+//! What `show` puts: all screens at a frame.
+
+use crate::status::{Place, Status};
+use crate::tests::words::{FOREIGN, hi_words, three_frames};
+use crate::tests::{Ended, Given, decode_of, run_to_end};
+use cc_base::Why;
+use std::alloc::Global;
+use std::test::Fail;
+
+/// The screens at the frame in which HI appears.
+const SHOWN: &[u8] = b"frame 7\nCC1 1\n15 0 white HI\n";
+
+/// `show` of a frame of words.
+fn shown(alloc: Global, frame: &str, text: &[u8]) -> Result<Ended, Fail> {
+    let words = ["show", frame];
+    run_to_end(
+        alloc,
+        Given {
+            words: &words,
+            ..decode_of(text)
+        },
+    )
+}
+
+#[test]
+fn a_frame_is_shown_with_the_screens_that_have_something(rt: HostRuntime) -> Result<(), Fail> {
+    let alloc = rt.alloc();
+    let words = hi_words(alloc)?;
+    let frames: [(&str, &[u8]); 5] = [
+        ("0", b"frame 0\n"),
+        ("6", b"frame 6\n"),
+        ("7", SHOWN),
+        ("19", b"frame 19\nCC1 1\n15 0 white HI\n"),
+        ("29", b"frame 29\n"),
+    ];
+    for (frame, due) in frames {
+        let ended = shown(alloc, frame, &words)?;
+        assert_eq!(rt; ended.status, Status::Ok, "frame {frame}");
+        assert_eq!(rt; ended.out.bytes(), due, "frame {frame}");
+        assert_eq!(rt; ended.err.bytes(), b"".as_slice());
+    }
+    Ok(())
+}
+
+#[test]
+fn a_file_without_the_frame_is_short(rt: HostRuntime) -> Result<(), Fail> {
+    let alloc = rt.alloc();
+    let words = three_frames(alloc, FOREIGN)?;
+    let none: [u8; 0] = [];
+    let files: [(&str, &[u8], u32, &[u8]); 4] = [
+        ("3", &words, 3, b"short: 3 frames\n"),
+        ("4", &words, 3, b"short: 3 frames\n"),
+        ("4294967294", &words, 3, b"short: 3 frames\n"),
+        ("0", &none, 0, b"short: 0 frames\n"),
+    ];
+    for (frame, text, count, line) in files {
+        let ended = shown(alloc, frame, text)?;
+        assert_eq!(rt; ended.status, Status::Short(count), "frame {frame}");
+        assert_eq!(rt; ended.out.bytes(), b"".as_slice());
+        assert_eq!(rt; ended.err.bytes(), line);
+    }
+    Ok(())
+}
+
+#[test]
+fn words_behind_the_frame_are_judged_too(rt: HostRuntime) -> Result<(), Fail> {
+    let alloc = rt.alloc();
+    let mut words = hi_words(alloc)?;
+    let last = words.len() - 1;
+    words[last] ^= 1;
+    let ended = shown(alloc, "7", &words)?;
+    assert_eq!(rt;
+        ended.status,
+        Status::Malformed(Place::Byte(4798), Why::AncSum)
+    );
+    assert_eq!(rt; ended.out.bytes(), SHOWN);
+    let cut = shown(alloc, "7", &words[..4799])?;
+    assert_eq!(rt;
+        cut.status,
+        Status::Malformed(Place::Byte(4799), Why::Truncated)
+    );
+    assert_eq!(rt; cut.out.bytes(), SHOWN);
+    let early = shown(alloc, "29", &words)?;
+    assert_eq!(rt;
+        early.status,
+        Status::Malformed(Place::Byte(4798), Why::AncSum)
+    );
+    assert_eq!(rt; early.out.bytes(), b"".as_slice());
+    Ok(())
+}
+
+#[test]
+fn faults_end_a_showing(rt: HostRuntime) -> Result<(), Fail> {
+    let alloc = rt.alloc();
+    let text = hi_words(alloc)?;
+    let unwritten = run_to_end(
+        alloc,
+        Given {
+            words: &["show", "7"],
+            failing_puts: &[0],
+            ..decode_of(&text)
+        },
+    )?;
+    assert_eq!(rt;
+        (unwritten.status, unwritten.out.bytes()),
+        (Status::WriteFault, b"".as_slice())
+    );
+    for (take, due) in [(1279, b"".as_slice()), (1280, SHOWN)] {
+        let failing = [take];
+        let unread = run_to_end(
+            alloc,
+            Given {
+                words: &["show", "7"],
+                piece: 1,
+                failing_takes: &failing,
+                ..decode_of(&text)
+            },
+        )?;
+        assert_eq!(rt;
+            (unread.status, unread.out.bytes()),
+            (Status::ReadFault, due)
+        );
+    }
+    Ok(())
+}
