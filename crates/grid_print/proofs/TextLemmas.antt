@@ -29,7 +29,7 @@ pub front_stop : (style : Style) (cells : List (Option Cell)) (i : ℕ) → i < 
 front_stop style cells i within other = at_drop_more (front_text style) cells i None within ∙ rw other refl
 
 -- one element more of a list
-take_one_more : {X : Type 0} (n : ℕ) (x : X) (xs : List X) → take (1 + n) (x ∷ xs) ≡ x ∷ take n xs
+pub take_one_more : {X : Type 0} (n : ℕ) (x : X) (xs : List X) → take (1 + n) (x ∷ xs) ≡ x ∷ take n xs
 take_one_more n x xs = rw (add_comm 1 n, add-one) refl
 
 -- and goes on with a cell of it

@@ -2,3 +2,4 @@ pub mod Runs
 pub mod GridTexts
 pub mod Texts
 pub mod Shown
+pub mod RunsOf

@@ -1,6 +1,7 @@
-//! The texts of the grids of line 21's captions channels CC1 to CC4: all that a frame shows, and what changes from frame to frame.
+//! The texts of the grids of line 21's caption channels CC1 to CC4: all that a frame shows, and what changes from frame to frame.
 #![tactic(auto)]
 
+pub mod laws;
 mod names;
 mod print;
 mod runs;

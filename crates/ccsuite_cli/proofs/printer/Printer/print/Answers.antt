@@ -20,4 +20,5 @@ returns-else-frame-wanted-clause-text g c texts start frames next printed screen
 
 pub returns-in-Changes-clause-prints : goal.returns-in-Changes-clause-prints
 returns-in-Changes-clause-prints g c texts frames next printed screens =
-    let was = rw c.in-Changes.is at printed in (was.0, c.compare.ensures.now ∙ screens)
+    let was = rw c.in-Changes.is at printed in
+    (was.0, c.compare.ensures.now ∙ screens)
