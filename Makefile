@@ -1,7 +1,7 @@
 # make          proves and builds the program: build/ccsuite
 # make demo     proves, builds and runs `ccsuite pairs` on a cue list of examples/
 # make check    the gate: every proof from nothing, the must-fail edits, the tests, the program by two compilers
-# make bench    how fast `pairs` and `build` write, what a cue list costs to plan, and what a pair costs a receiver
+# make bench    how fast `pairs` and `build` write and `decode` reads, and what cue lists and the receiver's pairs cost
 # make install  copies the program to PREFIX/bin (PREFIX=/usr/local)
 
 PREFIX ?= /usr/local
@@ -23,6 +23,7 @@ check:
 bench: build/ccsuite
 	bench/pairs.sh
 	bench/build.sh
+	bench/decode.sh
 	bench/cues.sh
 	bench/screen.sh
 

@@ -1,4 +1,4 @@
--- What is gathered while no packet is open matters to nothing.
+-- An open packet of captions that ends is a frame.
 use Rattle.std.specs.Prelude.{is_some}
 use Rattle.std.proofs.Common.{◌≡◌, true, List, Option, Some, None, refl, sym, subst, ◌∙◌}
 use Rattle.cdp_packets.specs.declared.reader.CdpReader.{CdpReader}
@@ -8,31 +8,6 @@ use Rattle.cc_receiver.specs.Gatherers.{HasGathered}
 use Rattle.cc_receiver.specs.declared.captions.Captions.{Captions}
 use Rattle.cc_receiver.specs.declared.frame.Frame.{Frame}
 use Rattle.cc_receiver.specs.Catchers.{Keeps, KeepsOpen, with_frame}
-
--- no reader is open
-none_open : (reader : Option CdpReader) (frame : Frame) → KeepsOpen None reader frame → reader ≡ None
-none_open None frame kept = refl
-none_open (Some reader) frame kept = absurd kept
-
-pub is_idle : (caught : Caught) (captions : Captions) → Keeps caught captions → caught.open_caption ≡ None → caught.refused ≡ None → captions.open ≡ None
-is_idle caught captions keeps idle fine =
-    none_open captions.open captions.gathered (subst (λ (o : Option OpenCaption). KeepsOpen o captions.open captions.gathered) idle (keeps.is_open fine))
-
--- it may say anything
-open_free : (o : Option OpenCaption) (reader : Option CdpReader) (now : Frame) → o ≡ None → reader ≡ None → KeepsOpen o reader now
-open_free o reader now idle none =
-    subst (λ (x : Option OpenCaption). KeepsOpen x reader now) (sym idle) (subst (λ (r : Option CdpReader). KeepsOpen None r now) (sym none) tt)
-
-pub keeps_free : (caught : Caught) (captions : Captions) (now : Frame) → Keeps caught captions → caught.open_caption ≡ None → caught.refused ≡ None
-    → Keeps caught (record captions { gathered = now })
-keeps_free caught captions now keeps idle fine = record {
-  refused = keeps.refused;
-  is_open = λ _. open_free caught.open_caption captions.open now idle (is_idle caught captions keeps idle fine);
-  last = keeps.last;
-  first = keeps.first;
-  second = keeps.second;
-  count = keeps.count;
-}
 
 -- a reader that is open has the open packet's parts
 some_open : (o : Option OpenCaption) (reader : Option CdpReader) (frame : Frame) → KeepsOpen o reader frame → is_some reader ≡ true

@@ -9,3 +9,4 @@ pub mod ReceivedLemmas
 pub mod FinishLemmas
 pub mod WholeLemmas
 pub mod KeepsLemmas
+pub mod IdleLemmas

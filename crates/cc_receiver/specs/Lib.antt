@@ -5,3 +5,4 @@ pub mod Gatherers
 pub mod Catchers
 pub mod Receivers
 pub mod Wholes
+pub mod Idle

@@ -54,6 +54,7 @@ fn apply_all(field: &mut Field, pairs: &[Pair])
 impl Captions {
     ghost use Rattle.cc_receiver.specs.Catchers.{HasCaught, Keeps, with_frame};
     ghost use Rattle.cc_receiver.specs.Gatherers.{HasGathered};
+    ghost use Rattle.cc_receiver.specs.declared.frame.Frame.{Frame as Said};
 
     /// It was handed nothing. All memory that it ever takes is taken here.
     pub(crate) fn new(alloc: Global) -> Result<Captions, AllocError>
@@ -119,17 +120,17 @@ impl Captions {
         ensures { (caught : Caught) → Keeps caught self.old → self.old.refused ≡ None → Keeps (ended caught) self.new }
     {
         if self.open.is_some() {
+            mem::swap(&mut self.gathered, &mut self.last);
             self.act();
         }
     }
 
-    // What was gathered is a frame, whose pairs act now, and no packet is open.
+    // A frame ended, and `last` is what it says: its pairs act now, and no packet is open.
     fn act(&mut self)
-        ensures { (caught : Caught) (parts : List Part) → Keeps caught self.old → HasGathered parts self.old.gathered
-            → Keeps (with_frame parts caught) self.new }
+        ensures { (caught : Caught) (parts : List Part) (gathered last : Said) → Keeps caught (record self.old { gathered = gathered; last = last })
+            → HasGathered parts self.old.last → Keeps (with_frame parts caught) self.new }
     {
         self.open = None;
-        mem::swap(&mut self.gathered, &mut self.last);
         apply_all(&mut self.first, self.last.pairs_one.as_slice());
         apply_all(&mut self.second, self.last.pairs_two.as_slice());
         self.frames = self.frames.wrapping_add(1);
@@ -144,7 +145,7 @@ impl Captions {
     {
         match read_packet(bytes) {
             Some(packet) => {
-                self.gathered.fill(packet);
+                self.last.fill(packet);
                 self.act();
                 true
             }

@@ -1,5 +1,5 @@
 ghost use Rattle.std.specs.Prelude.{◌≡◌, ℕ, ◌≤◌, List, [], length};
-ghost use Rattle.std.specs.List.{concat, flat_map};
+ghost use Rattle.std.specs.List.{concat, flat_map, list_all};
 ghost use Rattle.cc_data.specs.Triplets.{triplets_of};
 ghost use Rattle.cdp_packets.specs.Packets.{Packet};
 ghost use Rattle.cdp_packets.specs.PacketParts.{packet_parts};
@@ -7,12 +7,20 @@ ghost use Rattle.cdp_packets.specs.PacketTriplets.{section_triplets};
 ghost use Rattle.cdp_packets.specs.Sections.{AreSections};
 ghost use Rattle.cdp_packets.specs.WholePackets.{SaysPacket};
 ghost use Rattle.cc_receiver.specs.Gathering.{Gathered, gather, with_triplet, with_all};
+ghost use Rattle.cc_receiver.specs.Idle.{are_null, is_null};
 
 use arrayvec::ArrayVec;
 use cc_base::{Rate, Upward, Why};
 use cc_data::{Triplet, read_triplet};
 use cdp_packets::{CdpPart, WholePacket, split_section, triplet_bytes};
 use line21_codes::Pair;
+
+// Whether all pairs are null pairs: two bytes 00, with odd parity (CTA-608-E).
+fn are_null(pairs: &[Pair]) -> bool
+    ensures { result ≡ list_all is_null pairs.now }
+{
+    pairs.iter().all(|pair| pair.a == 0x80 && pair.b == 0x80)
+}
 
 /// What a caption distribution packet says, gathered from its parts (SMPTE ST 334-2; CTA-708-E, cc_data()).
 #[derive(Drop)]
@@ -73,6 +81,13 @@ impl Frame {
         self.counter = packet.counter;
         let _ = self.sections.try_extend_from_slice(packet.sections);
         self.take_sections(packet.sections);
+    }
+
+    /// Whether the pairs of both fields are null pairs.
+    pub(crate) fn is_idle(&self) -> bool
+        ensures { result ≡ are_null self.now.pairs_one.items self.now.pairs_two.items }
+    {
+        are_null(self.pairs_one.as_slice()) && are_null(self.pairs_two.as_slice())
     }
 
     // Takes the triplets of sections.

@@ -1,4 +1,4 @@
-ghost use Rattle.std.specs.Prelude.{◌≡◌, ◌≢◌, false, ◌<◌, ◌≤◌, ◌+◌, ◌++◌, ℕ, List, [], ◌∷◌, None, Some, IfErr, IfOk, IfSome, IsNone, IsOk, IsSome, length, take};
+ghost use Rattle.std.specs.Prelude.{◌≡◌, ◌≢◌, false, ◌<◌, ◌≤◌, ◌+◌, ◌++◌, ℕ, List, [], ◌∷◌, None, Some, IfErr, IfOk, IfSome, IsNone, IsOk, IsSome, IsTrue, length, take};
 ghost use Rattle.std.specs.List.{concat};
 ghost use Rattle.std.specs.Result.{result_err};
 ghost use Rattle.cc_base.specs.declared.refusal.Refusal.{Refusal as Refused};
@@ -16,6 +16,8 @@ ghost use Rattle.words_files.specs.Offences.{HasOffence, IsFileUnder, IsMalforme
 ghost use Rattle.words_files.specs.Received.{field_pairs, received};
 ghost use Rattle.cc_receiver.specs.declared.receiver.Ended.TheVariants as ended;
 ghost use Rattle.cc_receiver.specs.Receiving.{EndsBy};
+ghost use Rattle.cc_receiver.specs.Idle.{is_idle};
+ghost use Rattle.line21_codes.specs.declared.channels.Chan.{Chan as Channel};
 
 use crate::captions::Captions;
 use anc_words::{CaptionPacket, WordReader};
@@ -235,6 +237,19 @@ impl Receiver {
         self.captions
             .field(chan.is_in_second_field())
             .displayed(chan.is_second_channel())
+    }
+
+    /// Whether all pairs of line 21 of the last whole frame, where there is one, are null pairs, 80 80: such a frame leaves all
+    /// screens as they were (CTA-608-E).
+    pub fn is_idle(&self) -> bool
+        requires { 0 < frame_count self.now }
+        ensures idle { (bytes : List ℕ) (earlier : List FrameOf) (last : FrameOf) → HasReceived bytes self.now
+            → AreFramesOf never (earlier ++ last ∷ []) bytes → result ≡ is_idle last }
+        ensures still { (bytes : List ℕ) (earlier : List FrameOf) (last : FrameOf) → HasReceived bytes self.now
+            → AreFramesOf never (earlier ++ last ∷ []) bytes → IsTrue result → (chan : Channel)
+            → shown self.now chan ≡ (channel (is_second_channel chan) (received (is_in_second_field chan) earlier)).displayed }
+    {
+        self.captions.last.is_idle()
     }
 
     /// The frame rate of the last whole frame, where there is one (SMPTE ST 334-2, 5.3).

@@ -1,13 +1,12 @@
 -- The frames of bytes that are fed piece by piece.
-use Rattle.std.proofs.Common.{◌≡◌, ◌∙◌, ◌+◌, ◌++◌, ap, append-nil, arith, length, length-append, refl, subst, sym, ℕ, List, [], ◌∷◌}
+use Rattle.std.proofs.Common.{◌≡◌, ◌∙◌, ◌+◌, ◌++◌, ap, append-nil, arith, length, length-append, refl, subst, ℕ, List, [], ◌∷◌}
 use Rattle.cc_receiver.specs.Receivers.{HasReceived, frame_count, shown}
 use Rattle.cc_receiver.specs.declared.receiver.Receiver.{Receiver}
 use Rattle.cdp_packets.specs.Packets.{Packet as Frame}
 use Rattle.words_files.specs.Catching.{never}
-use Rattle.words_files.specs.Frames.{IsFileOf}
 use Rattle.words_files.specs.Frames.CarryFrames.{none}
 use Rattle.words_files.specs.FramesOf.{AreFramesOf}
-use Rattle.words_files.specs.Offences.{Begins, IsFileUnder, IsUnoffending}
+use Rattle.words_files.specs.Offences.{IsFileUnder, IsUnoffending}
 use Rattle.ccsuite_cli.specs.Screens.{screens_behind}
 use Rattle.std.proofs.Math.Path.{fun_ext}
 use Rattle.cc_receiver.proofs.ReceivedLemmas.{shown_received}
@@ -16,7 +15,7 @@ use Rattle.words_files.proofs.FramesOfLemmas.{frames_grow}
 use Rattle.words_files.proofs.GotLemmas.{got}
 
 -- a receiver shows what the pairs of the frames leave
-frames_shown : (bytes : List ℕ) (frames : List Frame) (receiver : Receiver) → HasReceived bytes receiver → AreFramesOf never frames bytes
+pub frames_shown : (bytes : List ℕ) (frames : List Frame) (receiver : Receiver) → HasReceived bytes receiver → AreFramesOf never frames bytes
     → shown receiver ≡ screens_behind frames
 frames_shown bytes frames receiver had are = fun_ext (λ chan. shown_received frames bytes receiver chan had are)
 
@@ -34,7 +33,6 @@ no_item (item ∷ items) is = absurd (omega arith)
 pub record IsNextFrame (frames : List Frame) (bytes : List ℕ) (receiver : Receiver) : Type 0 where
   pub frame : Frame
   pub frames_are : AreFramesOf never (frames ++ frame ∷ []) bytes
-  pub screens : shown receiver ≡ screens_behind (frames ++ frame ∷ [])
 
 -- where a receiver counted a frame more, the bytes brought one more
 pub frame_more : (before more : List ℕ) (old new : Receiver) (frames : List Frame) → AreFramesOf never frames before → HasReceived before old
@@ -50,7 +48,6 @@ frame_more before more old new frames are was now counted =
     record {
       frame = frame;
       frames_are = subst (λ l. AreFramesOf never l (before ++ more)) spelled all.are;
-      screens = frames_shown (before ++ more) all.frames new now all.are ∙ ap screens_behind spelled;
     }
 
 -- where it counted none more, they brought none

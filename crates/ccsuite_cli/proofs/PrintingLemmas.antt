@@ -1,10 +1,9 @@
 -- The text of frames, one frame after another.
-use Rattle.std.proofs.Common.{◌≡◌, ◌≢◌, ◌∙◌, ◌++◌, ◌+◌, ◌<◌, ◌≤◌, ap, append_assoc, append-nil, arith, false, length, length-append, nat_lt, inl, inr, refl, suc, subst, sym, take, true, ℕ, List, [], ◌∷◌, Option}
+use Rattle.std.proofs.Common.{◌≡◌, ◌≢◌, ◌∙◌, ◌++◌, ◌≤◌, ap, append_assoc, append-nil, arith, false, length, length-append, nat_lt, inl, inr, refl, suc, subst, sym, true, ℕ, List, [], ◌∷◌, Option}
 use Rattle.std.proofs.lemmas.Bool.{cases_lt}
 use Rattle.std.proofs.lemmas.Bool.Decides.{nat_tests}
 use Rattle.std.proofs.lemmas.List.{take-append-le, take_all}
 use Rattle.std.proofs.KnownBytes.{Appends-trans}
-use Rattle.std.specs.Io.KnownBytes.{Appends}
 use Rattle.cc_base.specs.Streams.{Puts}
 use Rattle.cc_base.specs.declared.streams.Put.{Put}
 use Rattle.cc_base.specs.declared.streams.Put.TheVariants as put
@@ -16,8 +15,16 @@ use Rattle.line21_codes.specs.declared.channels.Chan.TheVariants.{Cc1, Cc2, Cc3,
 use Rattle.line21_screen.specs.Meaning.{after}
 use Rattle.line21_screen.specs.Grid.{Grid, empty_grid}
 use Rattle.ccsuite_cli.specs.Gathered.{Gathers, GathersText, IsGathered}
-use Rattle.grid_print.specs.GridTexts.{all_text, changes_text}
+use Rattle.grid_print.specs.GridTexts.{all_text, changes_text, channels}
+use Rattle.grid_print.proofs.TextLemmas.{no_changes}
+use Rattle.line21_screen.specs.Differences.{differs}
+use Rattle.line21_screen.proofs.DifferenceLemmas.{differs-itself}
+use Rattle.std.specs.List.{list_any}
 use Rattle.ccsuite_cli.specs.Screens.{changes_behind, changes_of, screens_behind, show_output}
+
+-- no screen differs from itself
+none_differs : (screens : Chan → Grid) → list_any (λ chan. differs (screens chan) (screens chan)) channels ≡ false
+none_differs screens = rw (differs-itself (screens Cc1), differs-itself (screens Cc2), differs-itself (screens Cc3), differs-itself (screens Cc4)) refl
 
 -- the changes of a frame behind others
 abbrev next_changes : List Frame → Frame → List ℕ
@@ -117,6 +124,19 @@ changes_gathered texts a b c r before after piece frames next frame last now are
     ap (λ (t : List Frame → List ℕ). t (frames ++ next ∷ [])) are ∙ changes_more frames next
     ∙ ap (λ l. changes_of frames ++ l) (sym changed) ∙ sym (ap (λ (t : List Frame → List ℕ). t frames ++ piece) are) in
     subst (λ l. GathersText a c after l r) (sym more) (gathered_more a b c r before after piece (texts frames) way gathered)
+
+-- a frame that leaves the screens as they were has no changes
+pub idle_gathered : (texts : List Frame → List ℕ) (a b : Option (List ℕ)) (held : List ℕ) (frames : List Frame) (next : Frame)
+    → texts ≡ changes_of → screens_behind (frames ++ next ∷ []) ≡ screens_behind frames → IsGathered a b held (texts frames)
+    → GathersText a b held (texts (frames ++ next ∷ [])) put.Done
+idle_gathered texts a b held frames next are same way =
+    let none : changes_text (length frames) (screens_behind frames) (screens_behind (frames ++ next ∷ [])) ≡ [] =
+    ap (λ s. changes_text (length frames) (screens_behind frames) s) same
+    ∙ no_changes (length frames) (screens_behind frames) (screens_behind frames) (none_differs (screens_behind frames)) in
+    let more : texts (frames ++ next ∷ []) ≡ texts frames =
+    ap (λ (t : List Frame → List ℕ). t (frames ++ next ∷ [])) are ∙ changes_more frames next ∙ ap (λ l. changes_of frames ++ l) none
+    ∙ append-nil (changes_of frames) ∙ sym (ap (λ (t : List Frame → List ℕ). t frames) are) in
+    gathered_still a b held (texts frames) (texts (frames ++ next ∷ [])) way more
 
 -- the screens of the wanted frame were put
 pub screens_put : (texts : List Frame → List ℕ) (a b c : Option (List ℕ)) (r : Put) (held : List ℕ) (frames : List Frame) (next : Frame)

@@ -8,7 +8,7 @@ use Rattle.cc_base.specs.Streams.{Puts}
 use Rattle.cc_base.specs.declared.refusal.Refusal.{Refusal}
 use Rattle.cc_base.specs.declared.streams.Put.TheVariants as put
 use Rattle.cc_base.proofs.Puts.{puts_then}
-use Rattle.cc_receiver.specs.Receivers.{HasReceived, frame_count, shown}
+use Rattle.cc_receiver.specs.Receivers.{HasReceived, frame_count}
 use Rattle.cc_receiver.specs.declared.receiver.Ended.{Ended}
 use Rattle.cc_receiver.specs.declared.receiver.Ended.TheVariants as ended
 use Rattle.cc_receiver.specs.declared.receiver.Fed.{Fed}
@@ -20,7 +20,6 @@ use Rattle.words_files.specs.Offences.{HasOffence, IsCutShort, IsMalformed, IsUn
 use Rattle.words_files.proofs.OffenceLemmas.{offence_refused, some_or_none, unoffending_is_unrefused}
 use Rattle.ccsuite_cli.specs.Gathered.{Flushes, IsGathered, held_of}
 use Rattle.ccsuite_cli.specs.Printing.{Prints}
-use Rattle.ccsuite_cli.specs.Screens.{screens_behind}
 use Rattle.ccsuite_cli.specs.WordsAnswer.{words_limit}
 use Rattle.ccsuite_cli.specs.WordsReading.{Counts, HasFailed, HasJudged, HasOffended, HasPut, HasRead, MayBeFed, Receives}
 use Rattle.ccsuite_cli.specs.declared.gathered.Gathered.{Gathered}

@@ -1,13 +1,11 @@
 -- Where the reading of a words file ends, and why.
-use Rattle.std.proofs.Common.{◌≡◌, ◌∙◌, ◌+◌, ◌-◌, ◌++◌, ◌<◌, ◌≤◌, ap, append_assoc, append-nil, arith, drop, inl, inr, length, length-append, min, refl, subst, sym, take, ℕ, List, [], ◌∷◌, IfSome, Option, Some, None, Result, Ok, Err}
-use Rattle.std.proofs.lemmas.List.{length-drop, length-take, length-take-le, take-append-drop, take-take}
+use Rattle.std.proofs.Common.{◌≡◌, ◌∙◌, ◌+◌, ◌-◌, ◌++◌, ◌<◌, ◌≤◌, ap, append_assoc, append-nil, arith, drop, inl, inr, length, length-append, min, refl, subst, sym, take, ℕ, List, [], ◌∷◌, IfSome, Option, Some, None, Ok, Err}
+use Rattle.std.proofs.lemmas.List.{length-drop, length-take-le, take-append-drop, take-take}
 use Rattle.std.specs.Io.KnownBytes.{Appends, Consumes, IsAtEnd, Keeps}
 use Rattle.std.proofs.KnownBytes.{Consumes-trans}
 use Rattle.cc_base.proofs.Takes.{consumes_kept}
 use Rattle.cc_base.specs.Streams.{Rose}
 use Rattle.cc_base.specs.declared.limit_of.LimitOf.TheVariants as limit
-use Rattle.cc_base.specs.declared.refusal.Refusal.{Refusal}
-use Rattle.cc_base.specs.declared.streams.Put.TheVariants as put
 use Rattle.cc_receiver.specs.Receivers.{HasReceived}
 use Rattle.cc_receiver.proofs.TakenLemmas.{frames_count}
 use Rattle.cdp_packets.specs.Packets.{Packet as Frame}
@@ -17,8 +15,8 @@ use Rattle.words_files.specs.Offences.{IsFileUnder, IsUnoffending}
 use Rattle.ccsuite_cli.specs.Ends.{Ends, ends}
 use Rattle.ccsuite_cli.specs.Gathered.{IsGathered, held_of}
 use Rattle.ccsuite_cli.specs.Printing.{Prints}
-use Rattle.ccsuite_cli.specs.WordsAnswer.{HasNoOffence, IsAnyhow, IsRefusedWith, IsSteady, IsWholeFile, PassesLimit, Stops, StopsEarly, words_limit}
-use Rattle.ccsuite_cli.specs.WordsReading.{EndsAt, HasFailed, HasJudged, HasPut, HasStopped, IsFileOfCount, JudgesAndPuts, MayBeFed, ReadsWords, StopCause, stop_status}
+use Rattle.ccsuite_cli.specs.WordsAnswer.{StopsEarly, words_limit}
+use Rattle.ccsuite_cli.specs.WordsReading.{EndsAt, HasJudged, HasPut, HasStopped, ReadsWords, StopCause, stop_status}
 use Rattle.ccsuite_cli.specs.declared.printer.Printer.{Printer}
 use Rattle.ccsuite_cli.specs.declared.reading.Reading.{Reading}
 use Rattle.ccsuite_cli.specs.declared.reading.Stop.{Stop}

@@ -1,18 +1,16 @@
 -- What `decode` and `show` answer where a words file was read, or the reading of it stopped before.
-use Rattle.std.proofs.Common.{◌≡◌, ◌∙◌, ◌<◌, ◌≤◌, ◌++◌, ap, arith, inl, inr, length, refl, subst, sym, ℕ, List, [], Option, Result, Ok, Err}
+use Rattle.std.proofs.Common.{◌≡◌, ◌∙◌, ◌<◌, ◌≤◌, ◌++◌, arith, inl, inr, subst, ℕ, List, Option, Ok, Err}
 use Rattle.cc_base.proofs.Puts.{puts_then}
-use Rattle.cc_base.specs.Streams.{PutCause, Puts, Rose}
+use Rattle.cc_base.specs.Streams.{Puts, Rose}
 use Rattle.cc_base.specs.declared.streams.Put.{Put}
 use Rattle.cc_base.specs.declared.streams.Put.TheVariants as put
 use Rattle.cdp_packets.specs.Packets.{Packet as Frame}
 use Rattle.ccsuite_cli.specs.Ends.{Ends, ends}
 use Rattle.ccsuite_cli.specs.Screens.{changes_of, decode_output, frames_line, show_output}
-use Rattle.ccsuite_cli.specs.WordsAnswer.{Cause, DecodeAnswer, HasFrame, IsSteady, IsWholeFile, LacksFrame, ShowAnswer, Stops, StopsEarly}
+use Rattle.ccsuite_cli.specs.WordsAnswer.{Cause, DecodeAnswer, HasFrame, IsWholeFile, LacksFrame, ShowAnswer, Stops}
 use Rattle.ccsuite_cli.specs.WordsReading.{IsFileOfCount, ReadsWords}
-use Rattle.ccsuite_cli.specs.declared.status.Place.TheVariants.{Byte, Field}
 use Rattle.ccsuite_cli.specs.declared.status.Status.{Status}
 use Rattle.ccsuite_cli.specs.declared.status.Status.TheVariants as status
-use Rattle.cc_base.specs.declared.limit_of.LimitOf.TheVariants as limit
 
 -- a run stopped for one cause, and so for another that follows from it
 pub stops_so : (text : List Frame → List ℕ) (Why Other : Cause) (answer : Put) (old new : Ends)

@@ -1,7 +1,6 @@
 -- A words file is printed, other words are refused with one status, and faults are told.
-use Rattle.std.proofs.Common.{◌≡◌, ◌∙◌, ◌<◌, ◌≤◌, ◌++◌, ◌⊎◌, ap, append_assoc, append-nil, arith, inl, inr, length, length-append, refl, subst, sym, ℕ, List, [], IfSome, Option, Some, None}
+use Rattle.std.proofs.Common.{◌≡◌, ◌∙◌, ◌<◌, ◌++◌, ◌⊎◌, ap, append_assoc, arith, inl, inr, length, length-append, refl, subst, sym, ℕ, List, IfSome, Option, Some, None}
 use Rattle.std.specs.Io.KnownBytes.{Consumes}
-use Rattle.cc_base.specs.Streams.{Rose}
 use Rattle.cc_base.specs.declared.limit_of.LimitOf.TheVariants as limit
 use Rattle.cc_base.specs.declared.refusal.Refusal.{Refusal}
 use Rattle.cc_base.specs.declared.why.Why.{Why}
@@ -12,17 +11,16 @@ use Rattle.words_files.proofs.EndingLemmas.{cut_short_has_no_offence, file_has_n
 use Rattle.words_files.proofs.FrameLemmas.{one_list}
 use Rattle.words_files.specs.Catching.{never}
 use Rattle.words_files.specs.Offences.{HasOffence, IsCutShort, IsFileUnder, IsMalformed}
-use Rattle.ccsuite_cli.specs.Answer.{Answer, ListAnswer, PutsFront, PutsList, PutsListFront, PutsOutput}
+use Rattle.ccsuite_cli.specs.Answer.{ListAnswer, PutsFront, PutsList, PutsListFront, PutsOutput}
 use Rattle.ccsuite_cli.specs.Accepted.{IsRefused, IsRefusedList}
 use Rattle.ccsuite_cli.specs.Ends.{Ends}
 use Rattle.ccsuite_cli.specs.Output.{IsSoundPairs, IsSoundWords, build_output, pairs_output}
 use Rattle.ccsuite_cli.specs.Screens.{changes_of, decode_output, show_output}
-use Rattle.ccsuite_cli.specs.WordsAnswer.{Cause, DecodeAnswer, HasFrame, IsRefusedWith, IsSteady, IsWholeFile, LacksFrame, PassesLimit, ShowAnswer, Stops, StopsEarly, words_limit}
-use Rattle.ccsuite_cli.specs.WordsVerdict.{FaultsAreTold, FileIsDecoded, FileIsShown, IsReadOf, IsShown, MalformedIsRefused, TellsFaults}
+use Rattle.ccsuite_cli.specs.WordsAnswer.{DecodeAnswer, HasFrame, IsRefusedWith, IsWholeFile, LacksFrame, PassesLimit, ShowAnswer, Stops, StopsEarly}
+use Rattle.ccsuite_cli.specs.WordsVerdict.{FaultsAreTold, FileIsDecoded, FileIsShown, IsReadOf, MalformedIsRefused, TellsFaults}
 use Rattle.ccsuite_cli.proofs.WordsAnswerLemmas.{stops_so}
-use Rattle.ccsuite_cli.specs.declared.command.Command.{Command}
 use Rattle.ccsuite_cli.specs.declared.command.Command.TheVariants.{Build, Cues, Decode, Pairs, Show}
-use Rattle.ccsuite_cli.specs.declared.status.Place.TheVariants.{Byte, Field}
+use Rattle.ccsuite_cli.specs.declared.status.Place.TheVariants.{Byte}
 use Rattle.ccsuite_cli.specs.declared.status.Status.{Status}
 use Rattle.ccsuite_cli.specs.declared.status.Status.TheVariants as status
 

@@ -13,7 +13,7 @@ use Rattle.words_files.specs.FramesOf.{AreFramesOf}
 use Rattle.words_files.specs.Offences.{HasOffence, IsCutShort, IsFileUnder, IsUnoffending}
 use Rattle.ccsuite_cli.specs.Ends.{Ends}
 use Rattle.ccsuite_cli.specs.Screens.{changes_of, decode_output, show_output}
-use Rattle.ccsuite_cli.specs.declared.status.Place.TheVariants.{Byte, Field}
+use Rattle.ccsuite_cli.specs.declared.status.Place.TheVariants.{Byte}
 use Rattle.ccsuite_cli.specs.declared.status.Status.{Status}
 use Rattle.ccsuite_cli.specs.declared.status.Status.TheVariants as status
 

@@ -1,10 +1,11 @@
-ghost use Rattle.std.specs.Prelude.{◌≡◌, ◌+◌, ◌∷◌, [], ◌++◌, ℕ, List, Option, length};
+ghost use Rattle.std.specs.Prelude.{◌≡◌, ◌<◌, ◌+◌, ◌∷◌, [], ◌++◌, ℕ, List, Option, length};
 ghost use Rattle.cc_base.specs.Streams.{PutCause};
 ghost use Rattle.cdp_packets.specs.Packets.{Packet as Frame};
-ghost use Rattle.cc_receiver.specs.Receivers.{frame_count, shown};
+ghost use Rattle.cc_receiver.specs.Receivers.{HasReceived, frame_count};
 ghost use Rattle.ccsuite_cli.specs.Gathered.{GathersText, IsGathered, held_of};
 ghost use Rattle.ccsuite_cli.specs.Printing.{Prints};
-ghost use Rattle.ccsuite_cli.specs.Screens.{screens_behind};
+ghost use Rattle.words_files.specs.Catching.{never};
+ghost use Rattle.words_files.specs.FramesOf.{AreFramesOf};
 
 use crate::gathered::Gathered;
 use cc_base::{Put, Sink};
@@ -29,18 +30,23 @@ impl Printer {
         text: &mut Gathered,
         out: &mut O,
     ) -> Put
-        ensures prints { (texts : List Frame → List ℕ) (frames : List Frame) (next : Frame) → Prints texts frames self.old
-            → shown receiver.now ≡ screens_behind (frames ++ next ∷ []) → Prints texts (frames ++ next ∷ []) self.new }
-        ensures text { (texts : List Frame → List ℕ) (start : Option (List ℕ)) (frames : List Frame) (next : Frame)
-            → Prints texts frames self.old → shown receiver.now ≡ screens_behind (frames ++ next ∷ []) → frame ≡ length frames
-            → IsGathered start (O.written out.old) (held_of text.old) (texts frames)
+        requires { 0 < frame_count receiver.now }
+        ensures prints { (texts : List Frame → List ℕ) (bytes : List ℕ) (frames : List Frame) (next : Frame) → Prints texts frames self.old
+            → HasReceived bytes receiver.now → AreFramesOf never (frames ++ next ∷ []) bytes → Prints texts (frames ++ next ∷ []) self.new }
+        ensures text { (texts : List Frame → List ℕ) (start : Option (List ℕ)) (bytes : List ℕ) (frames : List Frame) (next : Frame)
+            → Prints texts frames self.old → HasReceived bytes receiver.now → AreFramesOf never (frames ++ next ∷ []) bytes
+            → frame ≡ length frames → IsGathered start (O.written out.old) (held_of text.old) (texts frames)
             → GathersText start (O.written out.new) (held_of text.new) (texts (frames ++ next ∷ [])) result }
         ensures cause { PutCause (O.faults out.old) (O.faults out.new) result }
     {
         match self {
             Printer::Changes(shown) => {
-                shown.compare(receiver, frame);
-                text.add(shown.text(), out)
+                if receiver.is_idle() {
+                    Put::Done
+                } else {
+                    shown.compare(receiver, frame);
+                    text.add(shown.text(), out)
+                }
             }
             Printer::Screens(wanted) => {
                 if frame == *wanted {

@@ -1,7 +1,9 @@
 //! What `decode` puts: the changed screens of each frame, and then the number of frames.
 
 use crate::status::{Place, Status};
-use crate::tests::words::{FOREIGN, SECTIONS, SILENT, bytes_of, hi_words, three_frames};
+use crate::tests::words::{
+    FOREIGN, SECTIONS, SILENT, bytes_of, hi_words, hi_words_ended_wrong, three_frames,
+};
 use crate::tests::{Ended, Given, decode_of, run_to_end};
 use cc_base::Why;
 use std::alloc::Global;
@@ -149,9 +151,7 @@ fn a_refused_word_is_told_by_its_place_and_reason(rt: HostRuntime) -> Result<(),
 #[test]
 fn the_changes_before_a_refused_word_are_put(rt: HostRuntime) -> Result<(), Fail> {
     let alloc = rt.alloc();
-    let mut words = hi_words(alloc)?;
-    let last = words.len() - 1;
-    words[last] ^= 1;
+    let words = hi_words_ended_wrong(alloc)?;
     for piece in [1, usize::MAX] {
         let ended = run_to_end(
             alloc,
@@ -178,22 +178,27 @@ fn the_changes_before_a_refused_word_are_put(rt: HostRuntime) -> Result<(), Fail
 #[test]
 fn a_frame_cut_short_is_truncated_at_its_end(rt: HostRuntime) -> Result<(), Fail> {
     let alloc = rt.alloc();
-    let mut bytes = bytes_of(alloc, &SILENT)?;
-    for cut in 1..160 {
-        let ended = run_to_end(alloc, decode_of(&bytes[..cut]))?;
+    let bytes = bytes_of(alloc, &SILENT)?;
+    assert_eq!(rt; bytes.len(), 160);
+    for cut in 1..bytes.len() {
+        let ended = run_to_end(alloc, decode_of(&bytes.as_slice()[..cut]))?;
         assert_eq!(rt; ended.status, refused_at(cut as u64, Why::Truncated));
         assert_eq!(rt; ended.out.bytes(), b"".as_slice());
     }
-    let none = run_to_end(alloc, decode_of(&[]))?;
-    assert_eq!(rt;
-        (none.status, none.out.bytes()),
-        (Status::Ok, b"frames 0\n".as_slice())
-    );
-    let one = run_to_end(alloc, decode_of(&bytes))?;
-    assert_eq!(rt;
-        (one.status, one.out.bytes()),
-        (Status::Ok, b"frames 1\n".as_slice())
-    );
+    let nothing: [u8; 0] = [];
+    let none = run_to_end(alloc, decode_of(&nothing))?;
+    assert_eq!(rt; none.status, Status::Ok);
+    assert_eq!(rt; none.out.bytes(), b"frames 0\n".as_slice());
+    let one = run_to_end(alloc, decode_of(bytes.as_slice()))?;
+    assert_eq!(rt; one.status, Status::Ok);
+    assert_eq!(rt; one.out.bytes(), b"frames 1\n".as_slice());
+    Ok(())
+}
+
+#[test]
+fn half_a_word_behind_a_frame_is_truncated(rt: HostRuntime) -> Result<(), Fail> {
+    let alloc = rt.alloc();
+    let mut bytes = bytes_of(alloc, &SILENT)?;
     bytes.push(0xFF)?;
     let half = run_to_end(alloc, decode_of(&bytes))?;
     assert_eq!(rt; half.status, refused_at(161, Why::Truncated));

@@ -90,6 +90,15 @@ pub(super) fn hi_words(alloc: Global) -> Result<Vec<u8>, Fail> {
     Ok(built.out.bytes().to_vec(alloc)?)
 }
 
+/// The same with a wrong checksum word at their end.
+pub(super) fn hi_words_ended_wrong(alloc: Global) -> Result<Vec<u8>, Fail> {
+    let mut words = hi_words(alloc)?;
+    if let Some(last) = words.last_mut() {
+        *last ^= 1;
+    }
+    Ok(words)
+}
+
 /// Three frames without captions, with a packet of another kind behind the first of them.
 pub(super) fn three_frames(alloc: Global, foreign: [u16; 8]) -> Result<Vec<u8>, Fail> {
     let mut bytes = bytes_of(alloc, &silent(0))?;

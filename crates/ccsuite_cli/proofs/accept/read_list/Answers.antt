@@ -1,5 +1,4 @@
-use Rattle.ccsuite_cli.specs.Accepted.{IsGoodList, IsRefused, IsRefusedList}
-use Rattle.ccsuite_cli.specs.Reads.{IsProgrammeOf}
+use Rattle.ccsuite_cli.specs.Accepted.{IsGoodList, IsRefusedList}
 use Rattle.ccsuite_cli.proofs.Refusals.{judged, refused_list, unread}
 use Rattle.ccsuite_cli.proofs.accept.read_list.Goals as goal
 

@@ -1,6 +1,6 @@
-use Rattle.ccsuite_cli.specs.Accepted.{IsGoodList, IsRefused, IsRefusedList}
+use Rattle.ccsuite_cli.specs.Accepted.{IsRefused}
 use Rattle.ccsuite_cli.specs.Reads.{IsProgrammeOf}
-use Rattle.ccsuite_cli.proofs.Refusals.{judged, refused_list, unread}
+use Rattle.ccsuite_cli.proofs.Refusals.{judged, unread}
 use Rattle.ccsuite_cli.proofs.accept.read_programme.Goals as goal
 
 pub returns-in-Ok : goal.returns-in-Ok

@@ -1,6 +1,6 @@
-use Rattle.std.proofs.Common.{◌∙◌, ◌+◌, ◌-◌, ap, Err, arith, drop, length, refl, subst, sym, take}
+use Rattle.std.proofs.Common.{◌∙◌, ◌-◌, Err, arith, refl, subst}
 use Rattle.cc_base.specs.Streams.{Rose}
-use Rattle.ccsuite_cli.specs.WordsReading.{ReadsWords, StopCause}
+use Rattle.ccsuite_cli.specs.WordsReading.{StopCause}
 use Rattle.ccsuite_cli.proofs.ReadingLemmas.{may_end}
 use Rattle.ccsuite_cli.proofs.StopLemmas.{file_cut, file_ended, piece_judged, piece_of, piece_passes, piece_stopped, reads_stopped, take_failed, underway_begun}
 use Rattle.ccsuite_cli.proofs.words.read_words.Goals as goal

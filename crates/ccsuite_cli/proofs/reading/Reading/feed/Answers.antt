@@ -1,4 +1,4 @@
-use Rattle.std.proofs.Common.{◌≡◌, ◌∙◌, ◌+◌, ◌-◌, ◌++◌, ap, arith, length, subst, sym, take}
+use Rattle.std.proofs.Common.{◌∙◌, ◌+◌, ◌++◌, ap, arith, length, subst, sym, take}
 use Rattle.ccsuite_cli.specs.Gathered.{held_of}
 use Rattle.ccsuite_cli.specs.WordsReading.{HasJudged, HasStopped}
 use Rattle.ccsuite_cli.proofs.ReadingLemmas.{front_all, front_more, may_end, rest_size}

@@ -23,8 +23,8 @@ returns-in-Done-clause-judges g c text start before had =
     let way = subst (λ t. IsGathered start (g.O.Sink.written c.args.out.now) (held_of t) (text had.frames)) (sym c.receive.ensures.text) had.way in
     let number = c.frames-frame.ensures.count ∙ frames_count had.frames before c.args.self.now.receiver had.received had.frames_are in
     step_done text start _ _ before c.args.bytes.now c.args.self.now c.receive.new.self.receiver c.in-Ok.fed _ _ had read c.in-Caption.is c.requires.some next
-    (c.print.ensures.prints text had.frames next.frame prints next.screens)
-    (c.in-Done.ensures.text text start had.frames next.frame prints next.screens number way)
+    (c.print.ensures.prints text _ had.frames next.frame prints read.received next.frames_are)
+    (c.in-Done.ensures.text text start _ had.frames next.frame prints read.received next.frames_are number way)
 
 pub returns-in-Failed-clause-judges : goal.returns-in-Failed-clause-judges
 returns-in-Failed-clause-judges g c text start before had =
@@ -34,7 +34,7 @@ returns-in-Failed-clause-judges g c text start before had =
     let way = subst (λ t. IsGathered start (g.O.Sink.written c.args.out.now) (held_of t) (text had.frames)) (sym c.receive.ensures.text) had.way in
     let number = c.frames-frame.ensures.count ∙ frames_count had.frames before c.args.self.now.receiver had.received had.frames_are in
     step_failed text start _ before c.args.bytes.now c.in-Ok.fed.used (had.frames ++ next.frame ∷ []) next.frames_are
-    (c.in-Failed.ensures.text text start had.frames next.frame prints next.screens number way)
+    (c.in-Failed.ensures.text text start _ had.frames next.frame prints read.received next.frames_are number way)
 
 pub returns-in_default-clause-more : goal.returns-in_default-clause-more
 returns-in_default-clause-more g c more may =

@@ -1,0 +1,87 @@
+#!/usr/bin/env bash
+# `decode` of 100,000 built frames with captions all along, beside a pass in C that only reads the same 16,000,000 bytes and
+# sums them, and beside `cat` of them, by turns in one run: the least processor time of ten runs each, for a frame. First of
+# captions as most programmes have them (pop-on captions of two rows on CC1, paint-on ones on CC3), then of a live programme
+# (pop-on and paint-on captions on CC1, roll-up captions on CC3 without a rest), where two of five frames change a screen. Then
+# the peak memory of `decode` and `show` on 1,000 and on 1,000,000 frames. Needs build/ccsuite (make) and gcc.
+source "$(dirname "$0")/lists.sh"
+
+# every 190 frames a pop-on caption on CC1 and a paint-on one on CC3
+awk 'BEGIN {
+    print "ccsuite,1,29.97,100000"
+    for (b = 0; b < 99800; b += 190) {
+        printf "pop,CC1,%d,%d,%d\n", b, b + 90, b + 180
+        print "run,14,0,white,THE QUICK BROWN FOX JUMPS OVER"
+        print "run,15,0,white,THE QUICK BROWN FOX JUMPS OVER"
+        printf "paint,CC3,%d,%d,%d\n", b, b + 60, b + 170
+        print "run,14,2,yellow,THE QUICK BROWN FOX JUMP"
+        print "run,15,2,white,THE QUICK BROWN FOX JUMP"
+    }
+}' > "$work/usual.csv"
+
+# every 200 frames a pop-on and a paint-on caption on CC1; every 40 frames a row of roll-up captions on CC3
+awk 'BEGIN {
+    print "ccsuite,1,29.97,100000"
+    for (b = 0; b < 99800; b += 200) {
+        printf "pop,CC1,%d,%d,%d\n", b, b + 60, b + 110
+        print "run,14,0,white,THE COUNCIL VOTED LATE ON MONDAY"
+        print "run,15,0,yellow,TO REOPEN THE NORTH BRIDGES."
+        printf "paint,CC1,%d,%d,%d\n", b + 114, b + 150, b + 190
+        print "run,15,4,cyan-u,ENGINEERS FOUND NO CRACKS"
+        for (r = b; r < b + 200; r += 40) {
+            printf "roll,CC3,3,%d,%d,%s\n", r, r + 36, (r + 40 >= 99800) ? r + 60 : ""
+            print "run,15,0,white,>> GOOD EVENING AND WELCOME."
+        }
+    }
+}' > "$work/live.csv"
+
+gcc -O2 -o "$work/read_loop" -x c - <<'END'
+// Reads standard input in pieces of 32,768 bytes, and prints the sum of its bytes.
+#include <stdio.h>
+#include <unistd.h>
+
+int main(void) {
+    static unsigned char bytes[32768];
+    unsigned long sum = 0;
+    for (ssize_t count; (count = read(0, bytes, sizeof bytes)) > 0;)
+        for (ssize_t at = 0; at < count; at++) sum += bytes[at];
+    printf("%lu\n", sum);
+    return 0;
+}
+END
+
+# keeps the least processor time of each name, in microseconds
+declare -A least
+TIMEFORMAT='%3U %3S'
+timed() {
+    { time "${@:2}" < "$work/words" > /dev/null; } 2> "$work/took"
+    read -r user system < "$work/took"
+    took=$(((10#${user/./} + 10#${system/./}) * 1000))
+    if [ -z "${least[$1]-}" ] || [ "$took" -lt "${least[$1]}" ]; then least[$1]=$took; fi
+}
+
+for programme in usual live; do
+    "$program" build < "$work/$programme.csv" > "$work/words"
+    for name in "${!least[@]}"; do unset "least[$name]"; done
+    blocks=$("$program" decode < "$work/words" | grep -c '^frame ')
+    printf '%-32s %s\n' "$programme: bytes read" "$(wc -c < "$work/words")" "$programme: frames that change" "$blocks"
+    for _ in 1 2 3 4 5 6 7 8 9 10; do
+        timed cat cat
+        timed 'read loop' "$work/read_loop"
+        timed decode "$program" decode
+        timed show "$program" show 99999
+    done
+    for name in cat 'read loop' decode show; do
+        printf '%-32s %s ns a frame\n' "$programme: $name" $((least[$name] / 100))
+    done
+done
+
+# at fixed addresses, since the pages that are touched differ a little with the places of the stack and the heap
+for list in short long; do
+    "$program" build < "$work/$list.csv" > "$work/words"
+    for command in 'decode' 'show 999'; do
+        # shellcheck disable=SC2086
+        setarch -R /usr/bin/time -f %M -o "$work/peak" "$program" $command < "$work/words" > /dev/null
+        printf '%-32s %s KB\n' "peak, $command, $list list" "$(cat "$work/peak")"
+    done
+done
