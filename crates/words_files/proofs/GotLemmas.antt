@@ -255,13 +255,13 @@ got_more v bytes byte are got =
     let after : open_behind (bytes ++ byte ∷ []) ≡ open_after front byte = front_from-append open_after nothing_open bytes (byte ∷ []) in
     let refused : (refusal : Option Refusal) → refusal_of v (bytes ++ byte ∷ []) ≡ refusal → Got v (bytes ++ byte ∷ []) = elim [
       | None ↦ λ unrefused. got_unrefused v bytes byte are got unrefused (λ some. elim (byte_ends front.high front.words byte) [
-          | inl inside ↦ inside_byte v bytes byte inside
-          | inr (ends, closed) ↦ absurd (some (after ∙ closed))
-        ])
+        | inl inside ↦ inside_byte v bytes byte inside
+        | inr (ends, closed) ↦ absurd (some (after ∙ closed))
+      ])
       | Some refusal ↦ λ some. got_same v bytes byte got (refused_no_file v (bytes ++ byte ∷ []) refusal some) (elim (byte_ends front.high front.words byte) [
-          | inl inside ↦ inside_byte v bytes byte inside
-          | inr (ends, closed) ↦ refused_before v bytes byte refusal some ends
-        ])
+        | inl inside ↦ inside_byte v bytes byte inside
+        | inr (ends, closed) ↦ refused_before v bytes byte refusal some ends
+      ])
     ] in refused _ refl
 
 -- every list of bytes
@@ -281,11 +281,11 @@ pub file_or_none : (v : Verdict CdpPart) (bytes : List ℕ) → All (λ b. b < 2
 file_or_none v bytes are =
     let front = open_behind bytes in
     let refused : (refusal : Option Refusal) → refusal_of v bytes ≡ refusal
-        → ((frames : List Frame) × IsFileUnder v frames bytes) ⊎ ((frames : List Frame) → IsFileUnder v frames bytes → ⊥) = elim [
+    → ((frames : List Frame) × IsFileUnder v frames bytes) ⊎ ((frames : List Frame) → IsFileUnder v frames bytes → ⊥) = elim [
       | None ↦ λ unrefused. elim (nothing_or_some front) [
-          | inl closed ↦ inl (caught_file v bytes are unrefused closed)
-          | inr some ↦ inr (open_no_file v bytes some)
-        ]
+        | inl closed ↦ inl (caught_file v bytes are unrefused closed)
+        | inr some ↦ inr (open_no_file v bytes some)
+      ]
       | Some refusal ↦ λ some. inr (refused_no_file v bytes refusal some)
     ] in refused _ refl
 
