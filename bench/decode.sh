@@ -6,32 +6,32 @@
 # the peak memory of `decode` and `show` on 1,000 and on 1,000,000 frames. Needs build/ccsuite (make) and gcc.
 source "$(dirname "$0")/lists.sh"
 
-# every 190 frames a pop-on caption on CC1 and a paint-on one on CC3
-awk 'BEGIN {
-    print "ccsuite,1,29.97,100000"
-    for (b = 0; b < 99800; b += 190) {
-        printf "pop,CC1,%d,%d,%d\n", b, b + 90, b + 180
-        print "run,14,0,white,THE QUICK BROWN FOX JUMPS OVER"
-        print "run,15,0,white,THE QUICK BROWN FOX JUMPS OVER"
-        printf "paint,CC3,%d,%d,%d\n", b, b + 60, b + 170
-        print "run,14,2,yellow,THE QUICK BROWN FOX JUMP"
-        print "run,15,2,white,THE QUICK BROWN FOX JUMP"
-    }
+# a list of 100,000 frames: every so many frames the captions that an awk function puts, which is given the first of them
+list() {
+    awk -v every="$1" "$2"'
+    BEGIN { print "ccsuite,1,29.97,100000"; for (b = 0; b < 99800; b += every) captions(b) }'
+}
+
+# a pop-on caption on CC1 and a paint-on one on CC3
+list 190 'function captions(b) {
+    printf "pop,CC1,%d,%d,%d\n", b, b + 90, b + 180
+    print "run,14,0,white,THE QUICK BROWN FOX JUMPS OVER"
+    print "run,15,0,white,THE QUICK BROWN FOX JUMPS OVER"
+    printf "paint,CC3,%d,%d,%d\n", b, b + 60, b + 170
+    print "run,14,2,yellow,THE QUICK BROWN FOX JUMP"
+    print "run,15,2,white,THE QUICK BROWN FOX JUMP"
 }' > "$work/usual.csv"
 
-# every 200 frames a pop-on and a paint-on caption on CC1; every 40 frames a row of roll-up captions on CC3
-awk 'BEGIN {
-    print "ccsuite,1,29.97,100000"
-    for (b = 0; b < 99800; b += 200) {
-        printf "pop,CC1,%d,%d,%d\n", b, b + 60, b + 110
-        print "run,14,0,white,THE COUNCIL VOTED LATE ON MONDAY"
-        print "run,15,0,yellow,TO REOPEN THE NORTH BRIDGES."
-        printf "paint,CC1,%d,%d,%d\n", b + 114, b + 150, b + 190
-        print "run,15,4,cyan-u,ENGINEERS FOUND NO CRACKS"
-        for (r = b; r < b + 200; r += 40) {
-            printf "roll,CC3,3,%d,%d,%s\n", r, r + 36, (r + 40 >= 99800) ? r + 60 : ""
-            print "run,15,0,white,>> GOOD EVENING AND WELCOME."
-        }
+# a pop-on and a paint-on caption on CC1, and every 40 frames a row of roll-up captions on CC3
+list 200 'function captions(b,    r) {
+    printf "pop,CC1,%d,%d,%d\n", b, b + 60, b + 110
+    print "run,14,0,white,THE COUNCIL VOTED LATE ON MONDAY"
+    print "run,15,0,yellow,TO REOPEN THE NORTH BRIDGES."
+    printf "paint,CC1,%d,%d,%d\n", b + 114, b + 150, b + 190
+    print "run,15,4,cyan-u,ENGINEERS FOUND NO CRACKS"
+    for (r = b; r < b + 200; r += 40) {
+        printf "roll,CC3,3,%d,%d,%s\n", r, r + 36, (r + 40 >= 99800) ? r + 60 : ""
+        print "run,15,0,white,>> GOOD EVENING AND WELCOME."
     }
 }' > "$work/live.csv"
 
