@@ -39,8 +39,6 @@ pub record IsWhole (before piece : List ℕ) (packet : Packet) (frame : Frame) :
 
 -- what is caught of them
 pub record CatchesWhole (before piece : List ℕ) (packet : Packet) (frame : Frame) : Type 0 where
-  pub idle : (caught_in never before).open_caption ≡ None
-  pub fine : (caught_in never before).refused ≡ None
   pub caught : caught_in never (before ++ piece) ≡ with_frame (packet_parts frame) (caught_in never before)
   pub unrefused : refusal_of never (before ++ piece) ≡ None
   pub earlier : List Packet
@@ -58,8 +56,6 @@ catches_whole before piece packet frame is =
     let newest : reverse (map packet_parts (frames ++ frame ∷ [])) ≡ packet_parts frame ∷ reverse (map packet_parts frames) =
     ap reverse (map-append packet_parts frames (frame ∷ [])) ∙ reverse-append (map packet_parts frames) (packet_parts frame ∷ []) in
     record {
-      idle = ap (λ (c : Caught). c.open_caption) was;
-      fine = ap (λ (c : Caught). c.refused) was;
       caught = now ∙ ap (λ fs. let c : Caught = record { open_caption = None; frames = fs; refused = None } in c) newest ∙ sym (ap (with_frame (packet_parts frame)) was);
       unrefused = unrefused;
       earlier = file.file.packets;
@@ -140,15 +136,13 @@ pub record TakesFrame (bytes : List ℕ) (caught : Caught) (captions : Captions)
 pub reads_whole : (before bytes : List ℕ) (size : ℕ) (packet : Packet) (old new : Receiver) → frame_count old < 4294967295 → All (λ b. b < 256) bytes
     → HasReceived before old → receiver_refusal old ≡ None → (HasRead before old.words → open_behind before ≡ nothing_open)
     → IsCaption packet → size ≤ length bytes → IsPacketBytes packet (take size bytes)
-    → ((caught : Caught) → Keeps caught old.captions → caught.open_caption ≡ None → caught.refused ≡ None → TakesFrame (user_bytes packet) caught new.captions)
+    → ((caught : Caught) → Keeps caught old.captions → TakesFrame (user_bytes packet) caught new.captions)
     → (HasRead before old.words → open_behind before ≡ nothing_open → HasRead (before ++ take size bytes) new.words) → ReadsWhole before bytes size old new
 reads_whole before bytes size packet old new few all had kept closes is_caption within is_packet takes passes =
     let unrefused : refusal_of never before ≡ None = sym (kept_is before old had) ∙ kept in
     let read = had.reached.leads unrefused in
     let closed = closes read in
-    let (frames, file) = caught_file never before had.bytes_are unrefused closed in
-    let was = (file_caught never frames before file).0 in
-    let took = takes (caught_in never before) had.reached.took (ap (λ (c : Caught). c.open_caption) was) (ap (λ (c : Caught). c.refused) was) in
+    let took = takes (caught_in never before) had.reached.took in
     let whole : IsWhole before (take size bytes) packet took.frame = record {
       bytes_are = had.bytes_are;
       unrefused = unrefused;

@@ -136,11 +136,11 @@ impl Captions {
         self.frames = self.frames.wrapping_add(1);
     }
 
-    /// Takes the bytes that a whole packet of captions carries, where no packet is open and no part was refused. Says whether
-    /// they are a distribution packet: it is a frame then, whose pairs act now, and else nothing has changed.
+    /// Takes the bytes that a whole packet of captions carries. Says whether they are a distribution packet: it is a frame then,
+    /// whose pairs act now, and no packet is open; else nothing has changed.
     pub(crate) fn whole(&mut self, bytes: &[u8]) -> bool
-        ensures frame { (caught : Caught) → Keeps caught self.old → caught.open_caption ≡ None → caught.refused ≡ None
-            → IsTrue result → (frame : FrameOf) × IsCdp frame bytes.now × Keeps (with_frame (packet_parts frame) caught) self.new }
+        ensures frame { (caught : Caught) → Keeps caught self.old → IsTrue result
+            → (frame : FrameOf) × IsCdp frame bytes.now × Keeps (with_frame (packet_parts frame) caught) self.new }
         ensures none { result ≡ false → self.new ≡ self.old }
     {
         match read_packet(bytes) {

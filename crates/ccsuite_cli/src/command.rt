@@ -23,7 +23,7 @@ pub enum Command {
 const LAST_FRAME: u64 = 4_294_967_294;
 
 /// The command of the words after the program's name; None where they are no command.
-pub fn read_words(words: &[String]) -> Option<Command>
+pub fn read_command(words: &[String]) -> Option<Command>
     ensures { result ≡ command_of (map string_bytes words.now) }
 {
     match words {

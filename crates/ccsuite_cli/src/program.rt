@@ -7,7 +7,7 @@ ghost use Rattle.ccsuite_cli.specs.Ends.{ends};
 ghost use Rattle.ccsuite_cli.specs.StatusLine.{status_line};
 
 use crate::build::build;
-use crate::command::{Command, read_words};
+use crate::command::{Command, read_command};
 use crate::cues::cues;
 use crate::decode::decode;
 use crate::pairs::pairs;
@@ -34,7 +34,7 @@ pub fn run<M: Source, S: Source, O: Sink, E: Sink>(
     ensures line { Rose (E.faults err.old) (E.faults err.new) ⊎ Appends (E.written err.old) (E.written err.new) (status_line result) }
 {
     let _ = side;
-    let status = obey(alloc, read_words(words), input, out);
+    let status = obey(alloc, read_command(words), input, out);
     let _ = put_status(status, err);
     status
 }

@@ -4,8 +4,8 @@ use Rattle.std.proofs.lemmas.Bool.{cases_Bool}
 use Rattle.std.specs.List.{prefix_len}
 use Rattle.line21_codes.specs.declared.styles.Cell.{Cell}
 use Rattle.line21_codes.specs.declared.styles.Style.{Style}
-use Rattle.line21_screen.specs.Differences.{same_style}
-use Rattle.line21_screen.proofs.DifferenceLemmas.{Decides-same_style}
+use Rattle.line21_codes.specs.SameStyles.{same_style}
+use Rattle.line21_codes.proofs.SameStyleLemmas.{Decides-same_style}
 use Rattle.grid_print.specs.Runs.{front_text, has_style}
 use Rattle.grid_print.proofs.TextLemmas.{take_one_more}
 

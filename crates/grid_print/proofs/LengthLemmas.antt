@@ -13,9 +13,10 @@ use Rattle.line21_codes.specs.declared.styles.Cell.{Cell}
 use Rattle.line21_codes.specs.declared.styles.Colour.{Colour}
 use Rattle.line21_codes.specs.declared.styles.Colour.TheVariants.{White, Green, Blue, Cyan, Red, Yellow, Magenta}
 use Rattle.line21_codes.specs.declared.styles.Style.{Style}
-use Rattle.line21_screen.specs.Differences.{differs, same_style}
+use Rattle.line21_codes.specs.SameStyles.{same_style}
+use Rattle.line21_screen.specs.Differences.{differs}
 use Rattle.line21_screen.specs.Grid.{Grid, row_cells}
-use Rattle.line21_screen.proofs.DifferenceLemmas.{Decides-same_style}
+use Rattle.line21_codes.proofs.SameStyleLemmas.{Decides-same_style}
 use Rattle.grid_print.specs.GridTexts.{all_text, changes_text, channels, chan_name, colour_name, frame_line, grid_text, italic_mark, pen_text, run_line, underline_mark}
 use Rattle.grid_print.specs.Runs.{Run, front_text, has_style, left_of, row_runs, run_at, run_from, runs, runs_in}
 use Rattle.grid_print.proofs.RowLemmas.{length-row_cells, runs_by_rows}

@@ -9,7 +9,7 @@ use Rattle.line21_codes.specs.declared.styles.Cell.{Cell}
 use Rattle.line21_codes.specs.declared.styles.Colour.TheVariants.{White}
 use Rattle.line21_codes.specs.declared.styles.Style.{Style}
 use Rattle.line21_screen.specs.Grid.{Grid, in_grid, row_cells, rows}
-use Rattle.line21_screen.proofs.DifferenceLemmas.{Decides-same_style}
+use Rattle.line21_codes.proofs.SameStyleLemmas.{Decides-same_style}
 use Rattle.line21_screen.proofs.GridLemmas.{col_to, is_inside, row_from, row_to}
 use Rattle.grid_print.specs.Runs.{Run, begun_style, front_text, has_style, left_of, row_runs, run_at, run_from, runs, runs_in}
 use Rattle.grid_print.specs.RunsOf.{AreInOrder, AreRunsOf, IsBefore, IsRun, StandsIn}

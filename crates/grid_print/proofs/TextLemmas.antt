@@ -1,10 +1,11 @@
 -- What a text that is being made holds, step by step.
-use Rattle.std.proofs.Common.{◌≡◌, ◌==◌, if◌then◌else◌, ◌<◌, ◌+◌, ◌++◌, ℕ, true, false, List, [], ◌∷◌, Option, Some, None, drop, encode_utf8_all, decimal, get_or, length, take, refl, sym, ap, ◌∙◌, subst, append_assoc, add_comm, add-one}
+use Rattle.std.proofs.Common.{◌≡◌, ◌==◌, ◌||◌, Bool, if◌then◌else◌, ◌<◌, ◌+◌, ◌++◌, ℕ, true, false, List, [], ◌∷◌, Option, Some, None, drop, encode_utf8_all, decimal, get_or, length, take, refl, sym, ap, ◌∙◌, subst, append_assoc, add_comm, add-one}
 use Rattle.std.proofs.lemmas.List.{append-nil, at_drop_more, flat_map_more, take_more}
 use Rattle.std.specs.List.{flat_map, list_any, prefix_len}
 use Rattle.line21_codes.specs.declared.styles.Cell.{Cell}
 use Rattle.line21_codes.specs.declared.styles.Style.{Style}
-use Rattle.line21_screen.specs.Differences.{differs, same_style}
+use Rattle.line21_codes.specs.SameStyles.{same_style}
+use Rattle.line21_screen.specs.Differences.{differs}
 use Rattle.line21_codes.specs.declared.channels.Chan.{Chan}
 use Rattle.line21_codes.specs.declared.channels.Chan.TheVariants.{Cc1, Cc2, Cc3, Cc4}
 use Rattle.line21_screen.specs.Grid.{Grid}
@@ -50,6 +51,21 @@ pub grid_joined : (before name number lines : List ℕ) (chan : Chan) (grid : Gr
     → before ++ (name ++ 32 ∷ (number ++ 10 ∷ [])) ++ lines ≡ before ++ grid_text chan grid
 unfolding grid_text
 grid_joined before name number lines chan grid is_name is_number are_lines = rw (is_name, is_number, are_lines) (simp (append_assoc, append-nil))
+
+-- of four tests one passes
+any_of_four : (a b c d : Bool) → (a || (b || (c || (d || false)))) ≡ (((a || b) || c) || d)
+any_of_four true b c d = refl
+any_of_four false true c d = refl
+any_of_four false false true d = refl
+any_of_four false false false true = refl
+any_of_four false false false false = refl
+
+-- some channel changes just where one of the four tests says so
+pub changes_told : (old new : Chan → Grid) (one two three four : Bool) → one ≡ differs (old Cc1) (new Cc1) → two ≡ differs (old Cc2) (new Cc2)
+    → three ≡ differs (old Cc3) (new Cc3) → four ≡ differs (old Cc4) (new Cc4)
+    → list_any (λ chan. differs (old chan) (new chan)) channels ≡ (((one || two) || three) || four)
+changes_told old new one two three four is_one is_two is_three is_four =
+    rw (is_one, is_two, is_three, is_four) (any_of_four (differs (old Cc1) (new Cc1)) (differs (old Cc2) (new Cc2)) (differs (old Cc3) (new Cc3)) (differs (old Cc4) (new Cc4)))
 
 -- what a channel adds to the text of what changes
 abbrev pub change_of : (Chan → Grid) → (Chan → Grid) → Chan → List ℕ

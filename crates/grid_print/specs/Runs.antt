@@ -5,7 +5,7 @@ use Rattle.std.specs.List.{filter_map, flat_map, range_with_len}
 use Rattle.std.specs.Option.{option_map}
 use Rattle.line21_codes.specs.declared.styles.Cell.{Cell}
 use Rattle.line21_codes.specs.declared.styles.Style.{Style}
-use Rattle.line21_screen.specs.Differences.{same_style}
+use Rattle.line21_codes.specs.SameStyles.{same_style}
 use Rattle.line21_screen.specs.Grid.{Grid, row_cells, rows}
 
 -- a run: its row, the column of its first cell, its style, and its characters

@@ -1,4 +1,5 @@
 ghost use Rattle.std.specs.Prelude.{◌≡◌, ◌++◌, ℕ, List, if◌then◌else◌, []};
+ghost use Rattle.cc_receiver.specs.Receivers.{shown};
 ghost use Rattle.line21_screen.specs.Differences.{differs};
 ghost use Rattle.line21_screen.specs.Objects.{grid_in};
 ghost use Rattle.grid_print.specs.GridTexts.{grid_text};
@@ -24,13 +25,10 @@ pub struct Shown {
 }
 
 impl Shown {
-    ghost use Rattle.std.specs.Prelude.{◌≤◌, Bool, IfOk, length};
-    ghost use Rattle.std.specs.List.{list_any};
+    ghost use Rattle.std.specs.Prelude.{◌≤◌, IfOk, length};
     ghost use Rattle.cc_base.specs.Streams.{PutCause, Puts};
-    ghost use Rattle.cc_base.specs.declared.streams.Put.TheVariants as put;
-    ghost use Rattle.cc_receiver.specs.Receivers.{shown};
     ghost use Rattle.line21_screen.specs.Grid.{empty_grid};
-    ghost use Rattle.grid_print.specs.GridTexts.{changes_text, channels};
+    ghost use Rattle.grid_print.specs.GridTexts.{changes_text};
     ghost use Rattle.grid_print.specs.Shown.{last_shown, text_of};
 
     /// Nothing was shown: all grids are empty, and so is the text.
@@ -55,32 +53,14 @@ impl Shown {
         ensures short { length (text_of self.new) ≤ 45056 }
     {
         self.text.clear();
-        if self.differs(r) {
-            self.text.frame(frame);
-            note(
-                Chan::Cc1,
-                &mut self.cc1,
-                r.displayed(Chan::Cc1),
-                &mut self.text,
-            );
-            note(
-                Chan::Cc2,
-                &mut self.cc2,
-                r.displayed(Chan::Cc2),
-                &mut self.text,
-            );
-            note(
-                Chan::Cc3,
-                &mut self.cc3,
-                r.displayed(Chan::Cc3),
-                &mut self.text,
-            );
-            note(
-                Chan::Cc4,
-                &mut self.cc4,
-                r.displayed(Chan::Cc4),
-                &mut self.text,
-            );
+        self.text.frame(frame);
+        let one = note(&mut self.cc1, Chan::Cc1, r, &mut self.text);
+        let two = note(&mut self.cc2, Chan::Cc2, r, &mut self.text);
+        let three = note(&mut self.cc3, Chan::Cc3, r, &mut self.text);
+        let four = note(&mut self.cc4, Chan::Cc4, r, &mut self.text);
+        let changed = one | two | three | four;
+        if !changed {
+            self.text.clear();
         }
     }
 
@@ -101,27 +81,20 @@ impl Shown {
         self.compare(r, frame);
         out.put(self.text())
     }
-
-    /// Whether some channel's grid differs from the one that was shown last.
-    fn differs(&self, r: &Receiver) -> bool
-        ensures told { result ≡ list_any (λ chan. differs (last_shown self.now chan) (shown r.now chan)) channels }
-        ensures same { result ≡ Bool.false → last_shown self.now ≡ shown r.now }
-    {
-        self.cc1.differs(r.displayed(Chan::Cc1))
-            || self.cc2.differs(r.displayed(Chan::Cc2))
-            || self.cc3.differs(r.displayed(Chan::Cc3))
-            || self.cc4.differs(r.displayed(Chan::Cc4))
-    }
 }
 
-/// Adds a channel's grid, if it differs from the one that is kept, and keeps it.
-fn note(chan: Chan, kept: &mut Memory, now: &Memory, text: &mut Text)
+/// Adds a channel's grid to the text, and keeps it, if it differs from the one that is kept. Says whether it does.
+fn note(kept: &mut Memory, chan: Chan, r: &Receiver, text: &mut Text) -> bool
+    ensures told { result ≡ differs (grid_in kept.old) (shown r.now chan) }
     ensures text { (before : List ℕ) → Holds before text.old
-        → Holds (before ++ (if differs (grid_in kept.old) (grid_in now.now) then grid_text chan (grid_in now.now) else [])) text.new }
-    ensures kept { grid_in kept.new ≡ grid_in now.now }
+        → Holds (before ++ (if differs (grid_in kept.old) (shown r.now chan) then grid_text chan (shown r.now chan) else [])) text.new }
+    ensures kept { grid_in kept.new ≡ shown r.now chan }
 {
-    if kept.differs(now) {
-        text.grid(chan, now);
-        kept.copy_from(now);
+    let now = r.displayed(chan);
+    if !kept.differs(now) {
+        return false;
     }
+    text.grid(chan, now);
+    kept.copy_from(now);
+    true
 }

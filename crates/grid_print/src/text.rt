@@ -1,4 +1,4 @@
-ghost use Rattle.std.specs.Prelude.{◌≡◌, ◌≤◌, ◌<◌, ◌++◌, ◌==◌, if◌then◌else◌, ℕ, List, [], encode_utf8_all, decimal, length};
+ghost use Rattle.std.specs.Prelude.{◌≡◌, ◌≤◌, ◌<◌, ◌++◌, ◌==◌, if◌then◌else◌, ℕ, List, [], encode_utf8, encode_utf8_all, decimal, length};
 ghost use Rattle.std.specs.List.{flat_map};
 
 use crate::names::{chan_name, colour_name, italic_mark, underline_mark};
@@ -120,12 +120,21 @@ impl Text {
     {
         for cell in cells {
             match cell {
-                Some(cell) if style == cell.style => {
-                    let mut bytes = [0; 4];
-                    self.add(cell.ch.encode_utf8(&mut bytes).as_bytes());
-                }
+                Some(cell) if style == cell.style => self.character(cell.ch),
                 _ => return,
             }
+        }
+    }
+
+    /// Adds a character in UTF-8.
+    fn character(&mut self, ch: char)
+        ensures { (before : List ℕ) → Holds before self.old → Holds (before ++ encode_utf8 ch) self.new }
+    {
+        if ch.is_ascii() {
+            let _ = self.held.try_push(ch as u8);
+        } else {
+            let mut bytes = [0; 4];
+            self.add(ch.encode_utf8(&mut bytes).as_bytes());
         }
     }
 

@@ -2,6 +2,8 @@
 use Rattle.std.proofs.Common.{◌≡◌, ℕ, ◌+◌, ◌<◌, ◌≤◌, ◌&&◌, ◌||◌, Bool, true, false, nat_lt, nat_le, if◌then◌else◌, refl, sym, ap, subst, ◌∙◌, ◌↔◌, arith}
 use Rattle.std.proofs.lemmas.Bool.Decides.{nat_tests}
 use Rattle.std.proofs.lemmas.Bool.{and_parts}
+use Rattle.std.specs.Bool.{beq}
+use Rattle.std.specs.Cmp.{booleans_Decides}
 use Rattle.line21_codes.specs.declared.codes.Code.{Code}
 use Rattle.line21_codes.specs.declared.codes.Code.TheVariants.{Null, Text, Xds, Control}
 use Rattle.line21_codes.specs.declared.codes.Control.{Control as ControlCode}
@@ -15,7 +17,8 @@ use Rattle.line21_codes.specs.Writing.{control_bytes, code_bytes, written}
 use Rattle.line21_codes.specs.Writable.{IsWritable, IsText, is_skipped, IsReadable, is_doubled}
 use Rattle.line21_codes.proofs.Tables.{all_below, at_each, implies, implies-true}
 use Rattle.line21_codes.proofs.ParityLemmas.{with_parity-odd, with_parity-bits, with_parity-byte}
-use Rattle.line21_codes.proofs.Same.{same_bool, same_bool-true, same_colour, same_choice, same_style, same_control, same_control-true, same_code, same_code-true}
+use Rattle.line21_codes.specs.SameStyles.{same_colour, same_style}
+use Rattle.line21_codes.proofs.Same.{same_choice, same_control, same_control-true, same_code, same_code-true}
 use Rattle.line21_codes.proofs.WritableLemmas.{is_white, goes_with, is_preamble, is_writable_control, is_text, IsText-true, is_writable, is_writable-true}
 use Rattle.line21_codes.proofs.ControlLemmas.{reads_back, reads_back-true}
 
@@ -27,7 +30,7 @@ channels_agree first second =
 
 -- the whole table of control pairs
 channels_test : all_below (λ first. all_below (channels_agree first) 128) 24 ≡ true
-unfolding all_below channels_agree implies same_code same_control same_choice same_style same_colour same_bool
+unfolding all_below channels_agree implies same_code same_control same_choice same_style same_colour
 channels_test = refl
 
 -- text pairs are read as text
@@ -36,7 +39,7 @@ text_back first second = implies (is_text first second) (same_code (code_at firs
 
 -- the whole table of text pairs
 text_test : all_below (λ first. all_below (text_back first) 128) 128 ≡ true
-unfolding all_below text_back implies is_text same_code same_control same_choice same_style same_colour same_bool
+unfolding all_below text_back implies is_text same_code same_control same_choice same_style same_colour
 text_test = refl
 
 -- pairs of extended data services are read as such
@@ -45,7 +48,7 @@ xds_back first second = implies (nat_le 1 first) (same_code (code_at first secon
 
 -- the whole table of pairs of extended data services
 xds_test : all_below (λ first. all_below (xds_back first) 128) 16 ≡ true
-unfolding all_below xds_back implies same_code same_control same_choice same_style same_colour same_bool
+unfolding all_below xds_back implies same_code same_control same_choice same_style same_colour
 xds_test = refl
 
 -- every two bytes are read as a code that can be written or is skipped
@@ -59,11 +62,11 @@ covered_test = refl
 
 -- two bytes are those of a control pair exactly where their code is sent twice
 is_told : ℕ → ℕ → Bool
-is_told first second = same_bool (are_control first second) (is_doubled (code_at first second))
+is_told first second = beq (are_control first second) (is_doubled (code_at first second))
 
 -- the whole table of pairs
 told_test : all_below (λ first. all_below (is_told first) 128) 128 ≡ true
-unfolding all_below is_told same_bool
+unfolding all_below is_told
 told_test = refl
 
 -- a code's two bytes are below 128 and are read as the code
@@ -176,7 +179,7 @@ written-b f code h = with_parity-byte (code_bytes f code).1 (reads_back_at f cod
 control_at_bytes : (first second : ℕ) → first < 128 → second < 128 → are_control first second ≡ is_doubled (code_at first second)
 unfolding is_told
 control_at_bytes first second below second_below =
-    same_bool-true (are_control first second) (is_doubled (code_at first second))
+    (booleans_Decides (are_control first second) (is_doubled (code_at first second))).0
     (at_each (is_told first) 128 (at_each (λ first. all_below (is_told first) 128) 128 told_test first below) second second_below)
 
 -- also where bad parity counts as null
@@ -229,18 +232,18 @@ written_is_read f code pair is h = ap code_of is ∙ written-code_of f code h
 
 -- the skipped bytes are those of the list
 is_as_listed : ℕ → ℕ → Bool
-is_as_listed first second = same_bool (is_skipped (code_at first second)) (are_control first second && is_listed first second)
+is_as_listed first second = beq (is_skipped (code_at first second)) (are_control first second && is_listed first second)
 
 -- the whole table of pairs
 listed_test : all_below (λ first. all_below (is_as_listed first) 128) 128 ≡ true
-unfolding all_below is_as_listed same_bool
+unfolding all_below is_as_listed
 listed_test = refl
 
 -- the skipped bytes, at each two bytes
 listed_at : (first second : ℕ) → first < 128 → second < 128 → is_skipped (code_at first second) ≡ (are_control first second && is_listed first second)
 unfolding is_as_listed
 listed_at first second below second_below =
-    same_bool-true (is_skipped (code_at first second)) (are_control first second && is_listed first second)
+    (booleans_Decides (is_skipped (code_at first second)) (are_control first second && is_listed first second)).0
     (at_each (is_as_listed first) 128 (at_each (λ first. all_below (is_as_listed first) 128) 128 listed_test first below) second second_below)
 
 -- also where bad parity counts as null

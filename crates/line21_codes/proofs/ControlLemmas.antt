@@ -11,7 +11,8 @@ use Rattle.line21_codes.specs.ControlPairs.{control_at}
 use Rattle.line21_codes.specs.Writing.{control_bytes}
 use Rattle.line21_codes.specs.Writable.{IsPreamble, IsWritableControl}
 use Rattle.line21_codes.proofs.Tables.{all_below, at_each, implies, implies-true, all_bools, at_bool, all_colours, at_colour}
-use Rattle.line21_codes.proofs.Same.{same_bool, same_colour, same_choice, same_style, same_control}
+use Rattle.line21_codes.specs.SameStyles.{same_colour, same_style}
+use Rattle.line21_codes.proofs.Same.{same_choice, same_control}
 use Rattle.line21_codes.proofs.WritableLemmas.{is_white, goes_with, is_preamble, IsPreamble-true}
 
 -- the bytes are those of a control pair of data channel 1, and are read as the code
@@ -99,7 +100,7 @@ preamble_row_back second_field row col =
 
 -- the whole table
 preamble_test : all_bools (λ second_field. all_below (λ row. all_below (preamble_row_back second_field row) 29) 16) ≡ true
-unfolding all_below all_bools all_colours preamble_row_back preamble_back implies is_preamble goes_with is_white reads_back same_control same_style same_colour same_bool
+unfolding all_below all_bools all_colours preamble_row_back preamble_back implies is_preamble goes_with is_white reads_back same_control same_style same_colour
 preamble_test = refl
 
 -- preambles are read back
@@ -117,7 +118,7 @@ preamble-true f row col style h =
 
 -- mid-row codes
 mid_row-true : (f : Bool) (colour : Option Colour) (underline : Bool) → reads_back f (MidRow colour underline) ≡ true
-unfolding reads_back same_control same_choice same_bool same_colour
+unfolding reads_back same_control same_choice same_colour
 mid_row-true f None true = refl
 mid_row-true f None false = refl
 mid_row-true f (Some White) true = refl
@@ -137,7 +138,7 @@ mid_row-true f (Some Magenta) false = refl
 
 -- every control code that can be written is read back
 pub reads_back-true : (second_field : Bool) (control : Control) → IsWritableControl control → reads_back second_field control ≡ true
-unfolding reads_back same_control same_choice same_bool same_colour
+unfolding reads_back same_control same_choice same_colour
 reads_back-true true Rcl h = refl
 reads_back-true false Rcl h = refl
 reads_back-true true Bs h = refl

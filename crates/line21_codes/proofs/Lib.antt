@@ -2,6 +2,7 @@ pub mod Tables
 pub mod PreambleLemmas
 pub mod RepeatLemmas
 pub mod ParityLemmas
+pub mod SameStyleLemmas
 pub mod Same
 pub mod WritableLemmas
 pub mod ControlLemmas

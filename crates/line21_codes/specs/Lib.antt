@@ -14,3 +14,4 @@ pub mod Writing
 pub mod Writable
 pub mod Spellings
 pub mod Repeats
+pub mod SameStyles

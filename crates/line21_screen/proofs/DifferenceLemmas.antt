@@ -1,76 +1,23 @@
 -- What the tests say by which cells are the same and grids differ.
-use Rattle.std.proofs.Common.{◌&&◌, ◌≡◌, ◌≢◌, ℕ, ◌+◌, ◌-◌, ◌*◌, ◌/◌, ◌%◌, ◌<◌, ◌≤◌, take, drop, zero-add, not, Bool, true, false, List, Option, Some, None, get_or, length, refl, sym, ap, ◌∙◌, rules, arith, inl, inr}
+use Rattle.std.proofs.Common.{◌≡◌, ◌≢◌, ℕ, ◌+◌, ◌-◌, ◌*◌, ◌/◌, ◌%◌, ◌<◌, ◌≤◌, take, drop, zero-add, not, Bool, true, false, List, Option, Some, None, get_or, length, refl, sym, ap, ◌∙◌, arith, inl, inr}
 use Rattle.std.proofs.lemmas.Bool.{cases_Bool, not-true, true≢false}
-use Rattle.std.proofs.lemmas.Bool.Decides.{Decides-and, Decides-eqb, Decides-like, same_from_decides}
+use Rattle.std.proofs.lemmas.Bool.Decides.{Decides-and, Decides-eqb, Decides-like}
 use Rattle.std.proofs.lemmas.List.{ext_get_or}
 use Rattle.std.proofs.lemmas.List.Folds.{Any-from_list_any, list_any_at}
 use Rattle.std.proofs.lemmas.List.FromFn.{get_or-range_with_len}
-use Rattle.std.specs.Bool.{Decides, beq}
+use Rattle.std.specs.Bool.{Decides}
+use Rattle.std.specs.Cmp.{booleans_Decides}
 use Rattle.std.specs.List.{AllWithin, list_any}
 use Rattle.std.specs.Option.{option_eq}
 use Rattle.line21_codes.specs.contracts.styles.CellPartialEq.TheImpl.{eq-value}
-use Rattle.line21_codes.specs.contracts.styles.Colour.{the_type}
 use Rattle.line21_codes.specs.declared.styles.Cell.{Cell}
-use Rattle.line21_codes.specs.declared.styles.Colour.{Colour}
-use Rattle.line21_codes.specs.declared.styles.Colour.TheVariants.{White, Green, Blue, Cyan, Red, Yellow, Magenta}
+use Rattle.line21_codes.proofs.SameStyleLemmas.{Decides-same_style, Decides-sameb, same_parts}
 use Rattle.line21_codes.specs.declared.styles.Style.{Style}
-use Rattle.line21_screen.specs.Differences.{HasOther, differs, same_cell, same_colour, same_style}
+use Rattle.line21_screen.specs.Differences.{HasOther, differs, same_cell}
 use Rattle.line21_screen.specs.Grid.{Grid, columns, in_grid, rows}
 use Rattle.line21_screen.specs.Objects.{grid_of}
 use Rattle.line21_screen.proofs.GridLemmas.{cell_at, col_to, is_inside, row_from, row_to}
 use Rattle.line21_screen.proofs.MemoryLemmas.{part_at, same_cells}
-use denote.Enum.Bare.{sameb, same_true, true_same}
-
--- colours that are the same are one, and each is the same as itself
-same_colour-is : (a b : Colour) → same_colour a b ≡ true → a ≡ b
-unfolding same_colour
-same_colour-is White White same = refl
-same_colour-is Green Green same = refl
-same_colour-is Blue Blue same = refl
-same_colour-is Cyan Cyan same = refl
-same_colour-is Red Red same = refl
-same_colour-is Yellow Yellow same = refl
-same_colour-is Magenta Magenta same = refl
-same_colour-is _ _ same = cc
-
-same_colour-itself : (a : Colour) → same_colour a a ≡ true
-unfolding same_colour
-same_colour-itself White = refl
-same_colour-itself Green = refl
-same_colour-itself Blue = refl
-same_colour-itself Cyan = refl
-same_colour-itself Red = refl
-same_colour-itself Yellow = refl
-same_colour-itself Magenta = refl
-
-Decides-same_colour : (a b : Colour) → Decides (same_colour a b) (a ≡ b)
-Decides-same_colour a b = (same_colour-is a b, λ one. rw one (same_colour-itself b))
-
--- so are switches
-Decides-beq : (a b : Bool) → Decides (beq a b) (a ≡ b)
-Decides-beq true true = (λ same. refl, λ one. refl)
-Decides-beq true false = (λ same. cc, λ one. cc)
-Decides-beq false true = (λ same. cc, λ one. cc)
-Decides-beq false false = (λ same. refl, λ one. refl)
-
--- a style of its parts
-style_of : Colour → Bool → Bool → Style
-style_of colour italic underline = record { colour = colour; italic = italic; underline = underline }
-
-style_of-parts : (s : Style) → style_of s.colour s.italic s.underline ≡ s
-unfolding style_of
-style_of-parts s = refl
-
--- styles of the same parts are one
-same_parts : (a b : Style) → ((a.colour ≡ b.colour) × (a.italic ≡ b.italic)) × (a.underline ≡ b.underline) → a ≡ b
-same_parts a b ((colour, italic), underline) = cc (style_of-parts a, style_of-parts b)
-
--- and styles
-pub Decides-same_style : (a b : Style) → Decides (same_style a b) (a ≡ b)
-unfolding same_style
-Decides-same_style a b =
-    Decides-like _ (same_parts a b) (λ one. ((ap (λ (s : Style). s.colour) one, ap (λ (s : Style). s.italic) one), ap (λ (s : Style). s.underline) one))
-    (Decides-and _ _ (Decides-and _ _ (Decides-same_colour a.colour b.colour) (Decides-beq a.italic b.italic)) (Decides-beq a.underline b.underline))
 
 -- a cell of its parts
 cell_of : ℕ → Style → Cell
@@ -94,25 +41,12 @@ Decides-same_cell (Some a) (Some b) =
     Decides-like _ (λ parts. ap Some (cell_parts a b parts)) (λ one. let inner : a ≡ b = cc in (ap (λ (c : Cell). c.ch) inner, ap (λ (c : Cell). c.style) inner))
     (Decides-and _ _ (Decides-eqb a.ch b.ch) (Decides-same_style a.style b.style))
 
--- the code's test of colours
-Decides-sameb : (a b : Colour) → Decides (sameb the_type a b) (a ≡ b)
-Decides-sameb a b = (same_true the_type (search rules) a b, true_same the_type a b)
-
--- of styles
-pub style_test : (a b : Style) (r : Bool) → r ≡ (sameb the_type a.colour b.colour && (beq a.italic b.italic && beq a.underline b.underline)) → r ≡ same_style a b
-style_test a b r is =
-    is ∙ same_from_decides _ _
-    (Decides-like _ (λ (colour, (italic, underline)). same_parts a b ((colour, italic), underline))
-    (λ one. (ap (λ (s : Style). s.colour) one, (ap (λ (s : Style). s.italic) one, ap (λ (s : Style). s.underline) one)))
-    (Decides-and _ _ (Decides-sameb a.colour b.colour) (Decides-and _ _ (Decides-beq a.italic b.italic) (Decides-beq a.underline b.underline))))
-    (Decides-same_style a b)
-
--- of cells
+-- the code's test of cells
 Decides-eq : (a b : Cell) → Decides (eq-value.it a b) (a ≡ b)
 Decides-eq a b =
     Decides-like _ (λ (ch, (colour, (italic, underline))). cell_parts a b (ch, same_parts a.style b.style ((colour, italic), underline)))
     (λ one. (ap (λ (c : Cell). c.ch) one, (ap (λ (c : Cell). c.style.colour) one, (ap (λ (c : Cell). c.style.italic) one, ap (λ (c : Cell). c.style.underline) one))))
-    (Decides-and _ _ (Decides-eqb a.ch b.ch) (Decides-and _ _ (Decides-sameb a.style.colour b.style.colour) (Decides-and _ _ (Decides-beq a.style.italic b.style.italic) (Decides-beq a.style.underline b.style.underline))))
+    (Decides-and _ _ (Decides-eqb a.ch b.ch) (Decides-and _ _ (Decides-sameb a.style.colour b.style.colour) (Decides-and _ _ (booleans_Decides a.style.italic b.style.italic) (booleans_Decides a.style.underline b.style.underline))))
 
 -- and of what stands at a place
 pub Decides-option_eq : (a b : Option Cell) → Decides (option_eq eq-value.it a b) (a ≡ b)

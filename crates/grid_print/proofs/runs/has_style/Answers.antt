@@ -1,4 +1,4 @@
-use Rattle.line21_screen.proofs.DifferenceLemmas.{style_test}
+use Rattle.line21_codes.proofs.SameStyleLemmas.{style_test}
 use Rattle.grid_print.proofs.runs.has_style.Goals as goal
 
 pub returns-in-Some : goal.returns-in-Some

@@ -23,6 +23,6 @@ returns-clause-reads c = λ before had.
     (reads_whole before bytes (size_of packet) ahead.packet c.args.self.now (record { words = c.pass_over.new.self; captions = c.whole.new.self }) c.requires.few
     (bytes_fit bytes (λ k below. omega (arith, c.type_inv.bytes k))) had (c.is_closed.ensures.unrefused closed)
     (λ read. (c.is_closed.ensures.closed before read).0 closed) ahead.is_caption ahead.within ahead.is
-    (λ caught keeps idle fine. let (frame, is, kept) = c.whole.ensures.frame caught keeps idle fine right in
+    (λ caught keeps. let (frame, is, kept) = c.whole.ensures.frame caught keeps right in
     record { frame = frame; is_cdp = subst (IsCdp frame) user is; keeps = kept })
     (λ read nothing. c.pass_over.ensures.passed before (take (size_of packet) bytes) ahead.packet read nothing ahead.is (omega (arith, size, ahead.within))))

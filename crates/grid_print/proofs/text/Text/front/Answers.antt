@@ -1,7 +1,7 @@
-use Rattle.std.proofs.Common.{◌≡◌, ◌++◌, ◌∙◌, [], refl, sym, append_assoc, true}
+use Rattle.std.proofs.Common.{◌≡◌, ◌++◌, ◌∙◌, [], encode_utf8, refl, sym, append_assoc, true}
 use Rattle.std.proofs.lemmas.List.{append-nil, at_drop_all}
-use Rattle.line21_screen.specs.Differences.{same_style}
-use Rattle.line21_screen.proofs.DifferenceLemmas.{style_test}
+use Rattle.line21_codes.specs.SameStyles.{same_style}
+use Rattle.line21_codes.proofs.SameStyleLemmas.{style_test}
 use Rattle.grid_print.specs.Runs.{front_text}
 use Rattle.grid_print.proofs.TextLemmas.{front_done, front_more, front_stop, holds_same}
 use Rattle.grid_print.proofs.text.Text.front.Goals as goal
@@ -13,11 +13,10 @@ pub loop-cell-preserved : goal.loop-cell-preserved
 loop-cell-preserved c before holds =
     let (done, so_far, is) = c.loop-cell.invariant before holds in
     let same : same_style c.args.style c.in-Some.cell.style ≡ true = sym (style_test c.args.style c.in-Some.cell.style c.eq.result c.eq.ensures) ∙ c.if-eq.true in
-    let next = front_more c.args.style c.args.cells.now c.loop-cell.cell-index c.in-Some.cell c.loop-cell-test.true c.in-Some.is same in
-    let bytes = c.as_bytes.ensures.value ∙ c.encode_utf8.ensures.value in (
-      done ++ c.as_bytes.result.now,
-      holds_same _ _ c.add.new.self (append_assoc before done c.as_bytes.result.now) (c.add.ensures (before ++ done) so_far),
-      rw bytes (append_assoc done _ _ ∙ (rw next at is)),
+    let next = front_more c.args.style c.args.cells.now c.loop-cell.cell-index c.in-Some.cell c.loop-cell-test.true c.in-Some.is same in (
+      done ++ encode_utf8 c.in-Some.cell.ch,
+      holds_same _ _ c.character.new.self (append_assoc before done (encode_utf8 c.in-Some.cell.ch)) (c.character.ensures (before ++ done) so_far),
+      append_assoc done (encode_utf8 c.in-Some.cell.ch) _ ∙ (rw next at is),
     )
 
 pub returns-in_default : goal.returns-in_default

@@ -2,9 +2,8 @@
 
 ghost use Rattle.std.specs.Prelude.{◌≤◌};
 
-use crate::pairs::pairs;
-use crate::status::Status;
-use cc_base::{MemorySink, MemorySource};
+use crate::tests::{Ended, pairs_of, run_to_end};
+use ccsuite_cli::Status;
 use line21_codes::{Cell, Colour, Pair, Style};
 use line21_screen::Field;
 use std::alloc::Global;
@@ -38,16 +37,11 @@ struct Seen {
     screen: Screen,
 }
 
-/// The lines that `pairs` prints of a list.
-fn printed(alloc: Global, list: &str) -> Result<MemorySink, Fail> {
-    let mut input = MemorySource::new(
-        list.as_bytes().to_vec(alloc)?,
-        Vec::new(alloc),
-        Vec::new(alloc),
-    );
-    let mut out = MemorySink::new(alloc, 10_000, Vec::new(alloc))?;
-    match pairs(alloc, &mut input, &mut out) {
-        Status::Ok => Ok(out),
+/// The run of `pairs` on a list that it accepts.
+fn printed(alloc: Global, list: &str) -> Result<Ended, Fail> {
+    let ended = run_to_end(alloc, pairs_of(list.as_bytes(), usize::MAX))?;
+    match ended.status {
+        Status::Ok => Ok(ended),
         status => Err(Fail::from(status)),
     }
 }
@@ -135,7 +129,7 @@ fn first_other(
 
 /// The first frame of a list at which something else is to be seen.
 fn first_wrong(alloc: Global, seen: Seen) -> Result<Option<usize>, Fail> {
-    let out = printed(alloc, seen.list)?;
+    let out = printed(alloc, seen.list)?.out;
     let lines = str::from_utf8(out.bytes())?;
     match first_other(alloc, lines, seen.blank, &[])? {
         None => first_other(alloc, lines, seen.shown, seen.screen),

@@ -1,11 +1,11 @@
 //! What `decode` puts: the changed screens of each frame, and then the number of frames.
 
-use crate::status::{Place, Status};
 use crate::tests::words::{
     FOREIGN, SECTIONS, SILENT, bytes_of, hi_words, hi_words_ended_wrong, three_frames,
 };
 use crate::tests::{Ended, Given, decode_of, run_to_end};
 use cc_base::Why;
+use ccsuite_cli::{Place, Status};
 use std::alloc::Global;
 use std::test::Fail;
 

@@ -1,9 +1,9 @@
 //! What `show` puts: all screens at a frame.
 
-use crate::status::{Place, Status};
 use crate::tests::words::{FOREIGN, hi_words, hi_words_ended_wrong, three_frames};
 use crate::tests::{Ended, Given, decode_of, run_to_end};
 use cc_base::Why;
+use ccsuite_cli::{Place, Status};
 use std::alloc::Global;
 use std::test::Fail;
 

@@ -1,7 +1,7 @@
 //! What `pairs` puts: a line a frame.
 
-use crate::status::Status;
 use crate::tests::{Given, HI, pairs_of, run_to_end};
+use ccsuite_cli::Status;
 use std::test::Fail;
 
 /// What field 1 has before the frame that shows the caption HI: resume caption loading, erase non-displayed memory, the

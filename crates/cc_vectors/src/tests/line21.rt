@@ -2,8 +2,8 @@
 
 ghost use Rattle.std.specs.Prelude.{◌<◌};
 
-use crate::status::Status;
 use crate::tests::{build_of, pairs_of, run_to_end};
+use ccsuite_cli::Status;
 use frame_scheduler::FramePairs;
 use line21_codes::{Cell, Colour, Pair, Style};
 use line21_screen::Field;

@@ -1,8 +1,8 @@
 //! What `cues` puts: the list as it is written.
 
-use crate::status::Status;
 use crate::tests::{Given, broken, malformed, pairs_of, run_to_end};
 use cc_base::Why;
+use ccsuite_cli::Status;
 use std::test::Fail;
 
 /// `cues` on a text in pieces of a size, with no fault.

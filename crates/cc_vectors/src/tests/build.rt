@@ -1,7 +1,7 @@
 //! What `build` puts: an ancillary packet of 80 words a frame, each word as two bytes, the high one first.
 
-use crate::status::Status;
 use crate::tests::{Given, HI, build_of, run_to_end};
+use ccsuite_cli::Status;
 use std::alloc::Global;
 use std::test::Fail;
 

@@ -1,0 +1,312 @@
+ghost use Rattle.std.specs.Prelude.{None};
+
+use cc_base::{LimitOf, MemorySink, MemorySource, Source, SteadySource, Took, Why};
+use ccsuite_cli::{Place, Status, run};
+use cue_lists::RuleFault;
+use std::alloc::Global;
+use std::test::Fail;
+
+mod build;
+mod cues;
+mod decode;
+mod line21;
+mod pairs;
+mod seen;
+mod show;
+mod words;
+
+/// The list of the caption HI on 30 frames.
+const HI: &[u8] = b"ccsuite,1,29.97,30\npop,CC1,0,7,20\nrun,15,0,white,HI\n";
+
+/// What a run is given: its words, its input in pieces, the takes and puts that fail, and the room of its output.
+#[derive(Clone, Copy)]
+struct Given<'a> {
+    words: &'a [&'a str],
+    text: &'a [u8],
+    piece: usize,
+    failing_takes: &'a [u64],
+    failing_puts: &'a [u64],
+    room: usize,
+}
+
+/// `pairs` on a text in pieces of a size, with no fault.
+fn pairs_of(text: &[u8], piece: usize) -> Given<'_> {
+    Given {
+        words: &["pairs"],
+        text,
+        piece,
+        failing_takes: &[],
+        failing_puts: &[],
+        room: 200_000,
+    }
+}
+
+/// `build` on a text, with no fault.
+fn build_of(text: &[u8]) -> Given<'_> {
+    Given {
+        words: &["build"],
+        ..pairs_of(text, usize::MAX)
+    }
+}
+
+/// `decode` on words, with no fault.
+fn decode_of(text: &[u8]) -> Given<'_> {
+    Given {
+        words: &["decode"],
+        ..pairs_of(text, usize::MAX)
+    }
+}
+
+/// How a run ended, and what it put to its output and error output.
+#[derive(Drop)]
+struct Ended {
+    status: Status,
+    out: MemorySink,
+    err: MemorySink,
+}
+
+fn words_of(alloc: Global, words: &[&str]) -> Result<Vec<String>, Fail> {
+    let mut all = Vec::new(alloc);
+    for word in words {
+        all.push(String::from_str(alloc, word)?)?;
+    }
+    Ok(all)
+}
+
+fn run_to_end(alloc: Global, given: Given<'_>) -> Result<Ended, Fail> {
+    let words = words_of(alloc, given.words)?;
+    let mut input = MemorySource::new(
+        given.text.to_vec(alloc)?,
+        [given.piece].to_vec(alloc)?,
+        given.failing_takes.to_vec(alloc)?,
+    );
+    let mut side = SteadySource::new(Vec::new(alloc));
+    let mut out = MemorySink::new(alloc, given.room, given.failing_puts.to_vec(alloc)?)?;
+    let mut err = MemorySink::new(alloc, 200, Vec::new(alloc))?;
+    let status = run(alloc, &words, &mut input, &mut side, &mut out, &mut err);
+    Ok(Ended { status, out, err })
+}
+
+fn malformed(rec: u32, field: u32, why: Why) -> Status {
+    Status::Malformed(Place::Field { rec, field }, why)
+}
+
+/// The rule that cue 1 breaks by itself.
+fn broken(why: Why) -> Status {
+    Status::Rule(RuleFault {
+        why,
+        cue: 1,
+        other: None,
+    })
+}
+
+#[test]
+fn words_that_are_no_command_are_usage(rt: HostRuntime) -> Result<(), Fail> {
+    let usage =
+        b"usage: ccsuite pairs|build|decode|show FRAME|verify CUES|insert CUES|import|export TIME|cues|load N\n";
+    let none: [&str; 0] = [];
+    let lists: [&[&str]; 17] = [
+        &none,
+        &["pairs", "x"],
+        &["Pairs"],
+        &[""],
+        &["decode", "x"],
+        &["decode "],
+        &["show"],
+        &["show", ""],
+        &["show", "01"],
+        &["show", "+1"],
+        &["show", "4294967295"],
+        &["show", "4294967296"],
+        &["show", "1", "2"],
+        &["pairs", ""],
+        &["build", "x"],
+        &["build "],
+        &["pairs", "build"],
+    ];
+    for words in lists {
+        let ended = run_to_end(
+            rt.alloc(),
+            Given {
+                words,
+                ..pairs_of(HI, 1)
+            },
+        )?;
+        assert_eq!(rt; ended.status, Status::Usage);
+        assert_eq!(rt; ended.out.bytes(), b"".as_slice());
+        assert_eq!(rt; ended.err.bytes(), usage.as_slice());
+    }
+    Ok(())
+}
+
+#[test]
+fn a_failing_take_ends_the_run_before_anything_is_put(rt: HostRuntime) -> Result<(), Fail> {
+    let takes: [(&[&str], usize, u64); 7] = [
+        (&["pairs"], usize::MAX, 0),
+        (&["pairs"], usize::MAX, 1),
+        (&["pairs"], 1, 0),
+        (&["pairs"], 1, 20),
+        (&["pairs"], 5, 11),
+        (&["build"], usize::MAX, 0),
+        (&["build"], 1, 20),
+    ];
+    for (words, piece, take) in takes {
+        let failing = [take];
+        let ended = run_to_end(
+            rt.alloc(),
+            Given {
+                words,
+                failing_takes: &failing,
+                ..pairs_of(HI, piece)
+            },
+        )?;
+        assert_eq!(rt;
+            ended.status,
+            Status::ReadFault,
+            "take {take} of pieces of {piece}"
+        );
+        assert_eq!(rt; ended.out.bytes(), b"".as_slice());
+        assert_eq!(rt; ended.err.bytes(), b"read fault\n".as_slice());
+    }
+    Ok(())
+}
+
+/// A list, the status with which it is refused, and that status's line.
+type Refusal = (&'static [u8], Status, &'static [u8]);
+
+/// Whether `pairs` and `build` refuse the list so, and write nothing.
+fn is_refused(alloc: Global, refusal: Refusal) -> Result<bool, Fail> {
+    let (text, status, line) = refusal;
+    let printed = run_to_end(alloc, pairs_of(text, usize::MAX))?;
+    let built = run_to_end(alloc, build_of(text))?;
+    Ok(
+        printed.status == status
+            && printed.out.bytes().is_empty()
+            && printed.err.bytes() == line
+            && built.status == status
+            && built.out.bytes().is_empty()
+            && built.err.bytes() == line,
+    )
+}
+
+#[test]
+fn a_list_out_of_form_writes_nothing_and_says_where(rt: HostRuntime) -> Result<(), Fail> {
+    let refusals: [Refusal; 5] = [
+        (
+            b"",
+            malformed(1, 1, Why::Field),
+            b"malformed at record 1 field 1: Field\n",
+        ),
+        (
+            b"ccsuite,1,29.97,1000001\n",
+            Status::Limit(LimitOf::Frames),
+            b"limit Frames\n",
+        ),
+        (
+            b"ccsuite,1,29.97,30\npop,CC1,0,7,20\nrun,16,0,white,HI\n",
+            malformed(3, 2, Why::Field),
+            b"malformed at record 3 field 2: Field\n",
+        ),
+        (
+            b"ccsuite,1,29.97,30\nshare,1,31\n",
+            malformed(2, 1, Why::NotBuilt),
+            b"malformed at record 2 field 1: NotBuilt\n",
+        ),
+        (
+            "ccsuite,1,29.97,30\npop,CC1,0,7,20\nrun,15,0,white,中\n".as_bytes(),
+            malformed(3, 5, Why::NoCode),
+            b"malformed at record 3 field 5: NoCode\n",
+        ),
+    ];
+    for (place, refusal) in refusals.iter().enumerate() {
+        assert!(rt; is_refused(rt.alloc(), *refusal)?, "refusal {place}");
+    }
+    Ok(())
+}
+
+#[test]
+fn a_list_that_breaks_a_rule_writes_nothing_and_names_the_cue(rt: HostRuntime) -> Result<(), Fail> {
+    let second_loaded_too_early = Status::Rule(RuleFault {
+        why: Why::Order,
+        cue: 2,
+        other: Some(1),
+    });
+    let refusals: [Refusal; 4] = [
+        (
+            b"ccsuite,1,29.97,30\npop,CC1,7,7,20\nrun,15,0,white,HI\n",
+            broken(Why::Order),
+            b"rule Order: cue 1\n",
+        ),
+        (
+            b"ccsuite,1,29.97,30\npop,CC1,0,7,8\nrun,15,0,white,HI\n",
+            broken(Why::Clash),
+            b"rule Clash: cue 1\n",
+        ),
+        (
+            b"ccsuite,1,29.97,30\npop,CC1,0,7,29\nrun,15,0,white,HI\n",
+            broken(Why::PastEnd),
+            b"rule PastEnd: cue 1\n",
+        ),
+        (
+            b"ccsuite,1,29.97,60\npop,CC1,0,7,20\nrun,15,0,white,HI\npop,CC1,5,30,40\nrun,15,0,white,HI\n",
+            second_loaded_too_early,
+            b"rule Order: cue 2 and cue 1\n",
+        ),
+    ];
+    for (place, refusal) in refusals.iter().enumerate() {
+        assert!(rt; is_refused(rt.alloc(), *refusal)?, "refusal {place}");
+    }
+    Ok(())
+}
+
+#[test]
+fn a_list_without_room_writes_nothing_and_names_the_cue(rt: HostRuntime) -> Result<(), Fail> {
+    let refusals: [Refusal; 3] = [
+        (
+            b"ccsuite,1,29.97,30\npop,CC1,0,6,20\nrun,15,0,white,HI\n",
+            Status::NoRoom(1),
+            b"no room: cue 1\n",
+        ),
+        (
+            b"ccsuite,1,29.97,30\npop,CC1,1,7,20\nrun,15,0,white,HI\n",
+            Status::NoRoom(1),
+            b"no room: cue 1\n",
+        ),
+        (
+            "ccsuite,1,29.97,30\npop,CC1,0,10,20\nrun,15,31,white,Á\n".as_bytes(),
+            Status::NoRoom(1),
+            b"no room: cue 1\n",
+        ),
+    ];
+    for (place, refusal) in refusals.iter().enumerate() {
+        assert!(rt; is_refused(rt.alloc(), *refusal)?, "refusal {place}");
+    }
+    Ok(())
+}
+
+/// A source without an end.
+#[derive(Drop)]
+struct Endless;
+
+impl Source for Endless {
+    ghost left = { λ _. None };
+
+    ghost faults = { λ _. 0 };
+
+    fn take(&mut self, buf: &mut [u8]) -> Took {
+        Took::Got(buf.len())
+    }
+}
+
+#[test]
+fn a_list_is_read_up_to_the_limit(rt: HostRuntime) -> Result<(), Fail> {
+    let alloc = rt.alloc();
+    let words = words_of(alloc, &["pairs"])?;
+    let mut side = SteadySource::new(Vec::new(alloc));
+    let mut out = MemorySink::new(alloc, 10, Vec::new(alloc))?;
+    let mut err = MemorySink::new(alloc, 20, Vec::new(alloc))?;
+    let status = run(alloc, &words, &mut Endless, &mut side, &mut out, &mut err);
+    assert_eq!(rt; status, Status::Limit(LimitOf::Bytes));
+    assert_eq!(rt; err.bytes(), b"limit Bytes\n".as_slice());
+    Ok(())
+}
