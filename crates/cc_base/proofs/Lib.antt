@@ -2,7 +2,6 @@ pub mod Bytes
 pub mod Puts
 pub mod ReachedLemmas
 pub mod ReadingLemmas
-pub mod StackLemmas
 pub mod StepLemmas
 pub mod Takes
 pub mod Underway

@@ -15,10 +15,6 @@ read_first-behind : {P : Type 0} (some more : List P) (refusal : Option Refusal)
 read_first-behind some more None rest = read_first-parts some more rest
 read_first-behind some more (Some refusal) rest = refl
 
--- no parts, and then the rest
-pub read_first-nothing : {P : Type 0} (rest : Reading P) → read_first None [] rest ≡ rest
-read_first-nothing rest = refl
-
 -- an item that isn't refused
 pub reading-taken : {I P : Type 0} (judge : Judge I P) (verdict : Verdict P) (place : List I → ℕ) (before : List I) (above : List P) (item : I) (items : List I)
     → (hand verdict above (judge before item)).why ≡ None

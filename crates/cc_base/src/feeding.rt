@@ -1,6 +1,6 @@
 //! The law of pieces.
 
-ghost use Rattle.std.specs.Prelude.{◌≡◌, ℕ, ◌++◌, List, Some, None};
+ghost use Rattle.std.specs.Prelude.{◌≡◌, ◌++◌, List, Some, None};
 ghost use Rattle.std.specs.Result.{result_err};
 ghost use Rattle.cc_base.specs.declared.refusal.Refusal.{Refusal as Refused};
 ghost use Rattle.cc_base.specs.Feeding.{reading};

@@ -6,7 +6,7 @@ ghost use Rattle.cc_base.specs.Feeding.{HasRefused, Judge, Verdict, read_first, 
 
 /// The law of pieces: what is read of two pieces at once is what is read of the first, and then of the second after it,
 /// unless the first was refused.
-pub fn pieces_are_read_as_one<I, P>()
+pub fn law_of_pieces<I, P>()
     ensures { (judge : Judge I P) (verdict : Verdict P) (place : List I → ℕ) (before : List I) (above : List P) (first second : List I)
         → reading judge verdict place before above (first ++ second)
         ≡ read_first (reading judge verdict place before above first).refusal (reading judge verdict place before above first).parts

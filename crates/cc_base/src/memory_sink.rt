@@ -1,4 +1,4 @@
-ghost use Rattle.std.specs.Prelude.{◌≡◌, ◌↔◌, ◌+◌, ◌-◌, ◌^◌, ◌<◌, ◌≤◌, ◌++◌, [], Some, IfOk, length, min, vec_capacity, vec_len};
+ghost use Rattle.std.specs.Prelude.{◌≡◌, ◌↔◌, ◌-◌, ◌<◌, ◌≤◌, [], Some, IfOk, length, vec_capacity, vec_len};
 ghost use Rattle.cc_base.specs.Streams.{PutCause, Puts, PutsEmpty};
 
 use crate::memory_source::is_failing;

@@ -1,4 +1,4 @@
-ghost use Rattle.std.specs.Prelude.{◌≡◌, ◌↔◌, ◌+◌, ◌-◌, ◌^◌, ◌<◌, ◌≤◌, ◌≢◌, ℕ, Some, Contains, IsTrue, drop, length, max, min, vec_len};
+ghost use Rattle.std.specs.Prelude.{◌≡◌, ◌↔◌, ◌+◌, ◌-◌, ◌^◌, ◌<◌, ◌≤◌, ◌≢◌, ℕ, Some, Contains, IsTrue, length, max, min, vec_len};
 ghost use Rattle.cc_base.specs.Streams.{TakeCause, Takes};
 
 use crate::copies::copy_front;

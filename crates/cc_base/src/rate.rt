@@ -1,7 +1,7 @@
 ghost use Rattle.std.specs.Prelude.{◌≡◌, ℕ, ◌*◌, ◌≤◌};
 ghost use Rattle.cc_base.specs.Rate.{code_of, rate_of, num_of, den_of, triplets_of, delay_frames_of};
 
-/// A frame rate of caption distribution packets (SMPTE ST 334-2, 5.3), in the order of its codes 1 to 8.
+/// A frame rate of caption distribution packets (SMPTE ST 334-2, cdp_header), in the order of its codes 1 to 8.
 #[derive(Clone, Copy, Debug, PartialEq, Eq)]
 pub enum Rate {
     /// 23.976 frames a second.

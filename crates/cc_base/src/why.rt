@@ -6,19 +6,20 @@ ghost use Rattle.cc_base.specs.Why.{number_of, name_of};
 pub enum Why {
     /// A service block is larger than what its packet has left (CTA-708-E, 6).
     Overrun,
-    /// A distribution packet doesn't begin with 96 69 (SMPTE ST 334-2, 5.2).
+    /// A distribution packet doesn't begin with 96 69 (SMPTE ST 334-2, cdp_header).
     Identifier,
-    /// A distribution packet's length isn't its ancillary packet's count, or is none that a packet can have.
+    /// A distribution packet's length isn't its ancillary packet's count, or is none that a packet can have (SMPTE ST 334-2,
+    /// cdp_header).
     Length,
-    /// A distribution packet's rate code is none of the eight (SMPTE ST 334-2, 5.3).
+    /// A distribution packet's rate code is none of the eight (SMPTE ST 334-2, cdp_header).
     Rate,
-    /// No section of a distribution packet can begin so.
+    /// No section of a distribution packet can begin so (SMPTE ST 334-2).
     Section,
-    /// A section's count passes the packet, or leaves one byte of it.
+    /// A section's count passes the packet, or leaves one byte of it (SMPTE ST 334-2).
     Count,
-    /// A distribution packet's footer has another counter than its head.
+    /// A distribution packet's footer has another counter than its header (SMPTE ST 334-2, cdp_footer).
     Counter,
-    /// A distribution packet's bytes don't sum to 0 modulo 256.
+    /// A distribution packet's bytes don't sum to 0 modulo 256 (SMPTE ST 334-2, cdp_footer).
     Sum,
     /// A word is above 3FF, the last ten-bit value (SMPTE ST 291-1).
     HighBits,
@@ -28,7 +29,7 @@ pub enum Why {
     Flag,
     /// An ancillary packet's checksum word is another one (SMPTE ST 291-1).
     AncSum,
-    /// The bytes end within a packet.
+    /// The bytes end within a word or a packet.
     Truncated,
     /// No frame has this time code.
     NoSuchTime,

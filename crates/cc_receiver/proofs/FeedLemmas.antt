@@ -1,5 +1,5 @@
 -- A receiver while the bytes of one call are read.
-use Rattle.std.proofs.Common.{arith, ◌≡◌, ℕ, ◌+◌, ◌-◌, ◌<◌, ◌≤◌, ◌++◌, List, [], ◌∷◌, length, take, drop, min, None, refl, ap, sym, subst, ◌∙◌, append_assoc, append-nil, slice_index_or, zero, suc, nat_le, Bool, true, false}
+use Rattle.std.proofs.Common.{arith, ◌≡◌, ℕ, ◌+◌, ◌-◌, ◌<◌, ◌≤◌, ◌++◌, List, [], ◌∷◌, length, take, drop, min, None, refl, ap, sym, subst, ◌∙◌, append_assoc, slice_index_or, zero, suc, nat_le, Bool, true, false}
 use Rattle.std.proofs.Math.Seq.{take-add, take-append_seam}
 use Rattle.std.proofs.lemmas.List.{length-drop, length-take}
 use Rattle.std.proofs.lemmas.List.Elements.{All-from_get_or}
@@ -20,14 +20,6 @@ pub record Underway (before bytes : List ℕ) (count : ℕ) (receiver : Receiver
   pub received : HasReceived (before ++ take count bytes) receiver
   pub none : refusal_of never (before ++ take count bytes) ≡ None
   pub within : (packets : List Packet) (fewer : ℕ) → 0 < fewer → fewer ≤ count → IsWordsFile packets (before ++ take fewer bytes) → ⊥
-
--- before the first of them
-pub underway_start : (before bytes : List ℕ) (receiver : Receiver) → HasReceived before receiver → refusal_of never before ≡ None → Underway before bytes 0 receiver
-underway_start before bytes receiver had none = record {
-  received = subst (λ (bs : List ℕ). HasReceived bs receiver) (sym (append-nil before)) had;
-  none = ap (refusal_of never) (append-nil before) ∙ none;
-  within = λ packets fewer some few. absurd (omega (arith, some, few));
-}
 
 -- a piece behind the bytes that were read
 pub with_piece : (before bytes : List ℕ) (count more : ℕ) → (before ++ take count bytes) ++ take more (drop count bytes) ≡ before ++ take (count + more) bytes

@@ -11,7 +11,7 @@ use Rattle.anc_words.specs.WordsFiles.{IsWordsFile}
 use Rattle.anc_words.proofs.ByteLemmas.{file_is_read, what_is_read_is_file}
 use Rattle.cdp_packets.specs.Packets.{Packet as Frame}
 use Rattle.words_files.specs.Catching.{never, refusal_of}
-use Rattle.words_files.specs.Offences.{HasOffence, IsFileUnder, IsMalformed}
+use Rattle.words_files.specs.Offences.{FirstOffendingWord, IsFileUnder, IsMalformed}
 use Rattle.words_files.proofs.CaughtLemmas.{caught_file, file_caught}
 use Rattle.words_files.proofs.EndingLemmas.{never_takes, open_is_cut_short}
 use Rattle.words_files.proofs.OffenceLemmas.{refused_offends}
@@ -61,5 +61,5 @@ finish_malformed bytes receiver (Err refused) had finishes =
           inr (record { unoffending = short.unoffending; no_file = short.no_file; place_is = cut.1; why_is = cut.0 })
       | Some other ↦ λ some.
           let same : refused ≡ other = (let e : Some refused ≡ Some other = finishes.kept other (had.reached.kept other some) in cc) in
-          inl (subst (HasOffence never bytes) (sym same) (refused_offends never never_takes bytes other had.bytes_are some))
+          inl (subst (FirstOffendingWord never bytes) (sym same) (refused_offends never never_takes bytes other had.bytes_are some))
     ] in cases _ refl

@@ -14,7 +14,7 @@ use Rattle.line21_screen.specs.Meaning.{after}
 use Rattle.line21_screen.specs.Objects.{field_of}
 use Rattle.words_files.specs.Catching.{caught_in, never, refusal_of}
 use Rattle.words_files.specs.FramesOf.{AreFramesOf}
-use Rattle.words_files.specs.Received.{field_pairs, received, received_pairs}
+use Rattle.words_files.specs.Received.{field_pairs, received, received_grids, received_pairs}
 use Rattle.words_files.proofs.GotLemmas.{frames_are_caught}
 use Rattle.cc_receiver.specs.declared.receiver.Receiver.{Receiver}
 use Rattle.cc_receiver.specs.Gathering.{Gathered}
@@ -47,7 +47,7 @@ field_received true frames bytes receiver had are = had.reached.took.second.stat
 
 -- a receiver shows what its frames leave on the screens
 pub shown_received : (frames : List Frame) (bytes : List ℕ) (receiver : Receiver) (chan : Chan) → HasReceived bytes receiver → AreFramesOf never frames bytes
-    → shown receiver chan ≡ (channel (is_second_channel chan) (received (is_in_second_field chan) frames)).displayed
+    → shown receiver chan ≡ received_grids frames chan
 shown_received frames bytes receiver chan had are =
     ap (λ (s : FieldState). (channel (is_second_channel chan) s).displayed) (field_received (is_in_second_field chan) frames bytes receiver had are)
 

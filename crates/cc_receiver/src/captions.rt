@@ -1,4 +1,4 @@
-ghost use Rattle.std.specs.Prelude.{◌≡◌, ◌<◌, if◌then◌else◌, ◌∷◌, ◌++◌, Bool, false, List, None, IfOk, IsTrue, length, reverse};
+ghost use Rattle.std.specs.Prelude.{◌≡◌, ◌<◌, if◌then◌else◌, ◌++◌, Bool, false, List, None, IfOk, IsTrue, reverse};
 ghost use Rattle.cdp_packets.specs.declared.parts.CdpPart.{CdpPart as Part};
 ghost use Rattle.cdp_packets.specs.PacketParts.{packet_parts};
 ghost use Rattle.cdp_packets.specs.Packets.{IsCdp, Packet as FrameOf};
@@ -141,6 +141,7 @@ impl Captions {
     pub(crate) fn whole(&mut self, bytes: &[u8]) -> bool
         ensures frame { (caught : Caught) → Keeps caught self.old → IsTrue result
             → (frame : FrameOf) × IsCdp frame bytes.now × Keeps (with_frame (packet_parts frame) caught) self.new }
+        ensures all { (frame : FrameOf) → IsCdp frame bytes.now → IsTrue result }
         ensures none { result ≡ false → self.new ≡ self.old }
     {
         match read_packet(bytes) {

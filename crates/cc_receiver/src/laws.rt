@@ -1,22 +1,27 @@
 //! Laws of the receiver: functions without a body, whose contract is the law.
 
-ghost use Rattle.std.specs.Prelude.{◌≡◌, ℕ, List, length};
+ghost use Rattle.std.specs.Prelude.{◌≡◌, ◌++◌, ℕ, List, length};
 ghost use Rattle.cdp_packets.specs.Packets.{Packet as FrameOf};
 ghost use Rattle.line21_codes.specs.declared.channels.Chan.{Chan};
-ghost use Rattle.line21_codes.specs.Channels.{is_in_second_field, is_second_channel};
-ghost use Rattle.line21_screen.specs.Fields.{channel};
 ghost use Rattle.words_files.specs.Catching.{never};
 ghost use Rattle.words_files.specs.FramesOf.{AreFramesOf};
-ghost use Rattle.words_files.specs.Received.{received};
+ghost use Rattle.words_files.specs.Received.{received_grids};
 ghost use Rattle.cc_receiver.specs.declared.receiver.Receiver.{Receiver as ReceiverOf};
 ghost use Rattle.cc_receiver.specs.Receivers.{HasReceived, frame_count, shown};
 
 /// A receiver counts the frames of the bytes that it was fed, in whatever pieces, and shows what they leave on the screens of a
 /// receiver that was reset before the first one.
-pub fn a_receiver_shows_its_frames()
+pub fn receiver_equals_meaning()
     ensures count { (bytes : List ℕ) (frames : List FrameOf) (receiver : ReceiverOf) → HasReceived bytes receiver
         → AreFramesOf never frames bytes → frame_count receiver ≡ length frames }
     ensures shown { (bytes : List ℕ) (frames : List FrameOf) (receiver : ReceiverOf) (chan : Chan) → HasReceived bytes receiver
         → AreFramesOf never frames bytes
-        → shown receiver chan ≡ (channel (is_second_channel chan) (received (is_in_second_field chan) frames)).displayed }
+        → shown receiver chan ≡ received_grids frames chan }
+{}
+
+/// More bytes that bring no frame leave all screens. So where a word is refused, and from then on, they stay those of the last
+/// whole frame.
+pub fn refusal_stays()
+    ensures { (before more : List ℕ) (old new : ReceiverOf) (chan : Chan) → HasReceived before old → HasReceived (before ++ more) new
+        → frame_count new ≡ frame_count old → shown new chan ≡ shown old chan }
 {}

@@ -8,12 +8,10 @@ ghost use Rattle.anc_words.specs.Reading.{open_behind};
 ghost use Rattle.anc_words.specs.WordsFiles.{IsWordsFile};
 ghost use Rattle.cdp_packets.specs.Packets.{Packet as FrameOf};
 ghost use Rattle.cdp_packets.specs.PacketTriplets.{packet_triplets};
-ghost use Rattle.line21_codes.specs.Channels.{is_in_second_field, is_second_channel};
-ghost use Rattle.line21_screen.specs.Fields.{channel};
 ghost use Rattle.words_files.specs.Catching.{never, refusal_of};
 ghost use Rattle.words_files.specs.FramesOf.{AreFramesOf};
-ghost use Rattle.words_files.specs.Offences.{HasOffence, IsFileUnder, IsMalformed, IsUnoffending};
-ghost use Rattle.words_files.specs.Received.{field_pairs, received};
+ghost use Rattle.words_files.specs.Offences.{FirstOffendingWord, IsFileUnder, IsMalformed, IsUnoffending};
+ghost use Rattle.words_files.specs.Received.{field_pairs, received_grids};
 ghost use Rattle.cc_receiver.specs.declared.receiver.Ended.TheVariants as ended;
 ghost use Rattle.cc_receiver.specs.Receiving.{EndsBy};
 ghost use Rattle.cc_receiver.specs.Idle.{is_idle};
@@ -63,7 +61,7 @@ impl Receiver {
     ghost use Rattle.cc_receiver.specs.Receivers.{HasReceived, frame_count, receiver_refusal, shown};
     ghost use Rattle.cc_receiver.specs.Wholes.{ReadsWhole};
 
-    /// A receiver that was fed nothing.
+    /// A receiver that was fed nothing. The error comes where memory for its four screens isn't found.
     pub fn new(alloc: Global) -> Result<Receiver, AllocError>
         ensures { IfOk result (HasReceived []) }
     {
@@ -88,7 +86,7 @@ impl Receiver {
         ensures refused { (before : List ℕ) → HasReceived before self.old
             → IfErr result (λ refused. HasReceived (before ++ bytes.now) self.new) }
         ensures offence { (before : List ℕ) → HasReceived before self.old
-            → IfErr result (λ refused. HasOffence never (before ++ bytes.now) refused) }
+            → IfErr result (λ refused. FirstOffendingWord never (before ++ bytes.now) refused) }
         ensures kept { (refused : Refused) → receiver_refusal self.old ≡ Some refused
             → (result_err result ≡ Some refused) × (self.new ≡ self.old) }
         ensures told { receiver_refusal self.new ≡ result_err result }
@@ -223,7 +221,7 @@ impl Receiver {
         requires col { col < 32 }
         ensures shown { result ≡ shown self.now chan row col }
         ensures received { (bytes : List ℕ) (frames : List FrameOf) → HasReceived bytes self.now → AreFramesOf never frames bytes
-            → result ≡ (channel (is_second_channel chan) (received (is_in_second_field chan) frames)).displayed row col }
+            → result ≡ received_grids frames chan row col }
     {
         self.captions
             .field(chan.is_in_second_field())
@@ -247,12 +245,12 @@ impl Receiver {
             → AreFramesOf never (earlier ++ last ∷ []) bytes → result ≡ is_idle last }
         ensures still { (bytes : List ℕ) (earlier : List FrameOf) (last : FrameOf) → HasReceived bytes self.now
             → AreFramesOf never (earlier ++ last ∷ []) bytes → IsTrue result → (chan : Channel)
-            → shown self.now chan ≡ (channel (is_second_channel chan) (received (is_in_second_field chan) earlier)).displayed }
+            → shown self.now chan ≡ received_grids earlier chan }
     {
         self.captions.last.is_idle()
     }
 
-    /// The frame rate of the last whole frame, where there is one (SMPTE ST 334-2, 5.3).
+    /// The frame rate of the last whole frame, where there is one (SMPTE ST 334-2, cdp_header).
     pub fn rate(&self) -> Rate
         requires { 0 < frame_count self.now }
         ensures { (bytes : List ℕ) (earlier : List FrameOf) (last : FrameOf) → HasReceived bytes self.now
@@ -261,7 +259,7 @@ impl Receiver {
         self.captions.last.rate
     }
 
-    /// The flags of the last whole frame, where there is one (SMPTE ST 334-2, 5.3).
+    /// The flags of the last whole frame, where there is one (SMPTE ST 334-2, cdp_header).
     pub fn flags(&self) -> u8
         requires { 0 < frame_count self.now }
         ensures { (bytes : List ℕ) (earlier : List FrameOf) (last : FrameOf) → HasReceived bytes self.now
@@ -270,7 +268,7 @@ impl Receiver {
         self.captions.last.flags
     }
 
-    /// The counter of the last whole frame, where there is one (SMPTE ST 334-2, 5.3).
+    /// The counter of the last whole frame, where there is one (SMPTE ST 334-2, cdp_header).
     pub fn counter(&self) -> u16
         requires { 0 < frame_count self.now }
         ensures { (bytes : List ℕ) (earlier : List FrameOf) (last : FrameOf) → HasReceived bytes self.now

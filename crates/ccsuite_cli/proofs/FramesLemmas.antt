@@ -7,7 +7,7 @@ use Rattle.words_files.specs.Catching.{never}
 use Rattle.words_files.specs.Frames.CarryFrames.{none}
 use Rattle.words_files.specs.FramesOf.{AreFramesOf}
 use Rattle.words_files.specs.Offences.{IsFileUnder, IsUnoffending}
-use Rattle.ccsuite_cli.specs.Screens.{screens_behind}
+use Rattle.words_files.specs.Received.{received_grids}
 use Rattle.std.proofs.Math.Path.{fun_ext}
 use Rattle.cc_receiver.proofs.ReceivedLemmas.{shown_received}
 use Rattle.cc_receiver.proofs.TakenLemmas.{frames_count}
@@ -16,7 +16,7 @@ use Rattle.words_files.proofs.GotLemmas.{got}
 
 -- a receiver shows what the pairs of the frames leave
 pub frames_shown : (bytes : List ℕ) (frames : List Frame) (receiver : Receiver) → HasReceived bytes receiver → AreFramesOf never frames bytes
-    → shown receiver ≡ screens_behind frames
+    → shown receiver ≡ received_grids frames
 frames_shown bytes frames receiver had are = fun_ext (λ chan. shown_received frames bytes receiver chan had are)
 
 -- a list of one item, and one of none

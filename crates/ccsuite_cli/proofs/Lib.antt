@@ -10,3 +10,4 @@ pub mod ReadingLemmas
 pub mod StopLemmas
 pub mod WordsAnswerLemmas
 pub mod WordsVerdictLemmas
+pub mod LongWordsLemmas

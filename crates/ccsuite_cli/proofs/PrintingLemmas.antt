@@ -20,7 +20,8 @@ use Rattle.grid_print.proofs.TextLemmas.{no_changes}
 use Rattle.line21_screen.specs.Differences.{differs}
 use Rattle.line21_screen.proofs.DifferenceLemmas.{differs-itself}
 use Rattle.std.specs.List.{list_any}
-use Rattle.ccsuite_cli.specs.Screens.{changes_behind, changes_of, screens_behind, show_output}
+use Rattle.ccsuite_cli.specs.Screens.{changes_behind, changes_of, show_output}
+use Rattle.words_files.specs.Received.{received_grids}
 
 -- no screen differs from itself
 none_differs : (screens : Chan → Grid) → list_any (λ chan. differs (screens chan) (screens chan)) channels ≡ false
@@ -28,7 +29,7 @@ none_differs screens = rw (differs-itself (screens Cc1), differs-itself (screens
 
 -- the changes of a frame behind others
 abbrev next_changes : List Frame → Frame → List ℕ
-next_changes frames next = changes_text (length frames) (screens_behind frames) (screens_behind (frames ++ next ∷ []))
+next_changes frames next = changes_text (length frames) (received_grids frames) (received_grids (frames ++ next ∷ []))
 
 -- the changes of frames behind others, with one frame more
 changes-snoc : (before frames : List Frame) (next : Frame)
@@ -43,7 +44,7 @@ changes-snoc before (frame ∷ frames) next =
 
 -- the changes of frames, with one frame more
 pub changes_more : (frames : List Frame) (next : Frame)
-    → changes_of (frames ++ next ∷ []) ≡ changes_of frames ++ changes_text (length frames) (screens_behind frames) (screens_behind (frames ++ next ∷ []))
+    → changes_of (frames ++ next ∷ []) ≡ changes_of frames ++ changes_text (length frames) (received_grids frames) (received_grids (frames ++ next ∷ []))
 changes_more frames next = changes-snoc [] frames next
 
 -- of frames before the wanted one nothing is shown
@@ -54,7 +55,7 @@ show_before frame frames few =
 
 -- the wanted frame is shown when it comes
 pub show_at : (frame : ℕ) (frames : List Frame) (next : Frame) → frame ≡ length frames
-    → show_output frame (frames ++ next ∷ []) ≡ all_text frame (screens_behind (frames ++ next ∷ []))
+    → show_output frame (frames ++ next ∷ []) ≡ all_text frame (received_grids (frames ++ next ∷ []))
 show_at frame frames next is =
     let size = length-append frames (next ∷ []) in
     let yes : nat_lt frame (length (frames ++ next ∷ [])) ≡ true = grind (arith, nat_tests) in
@@ -114,12 +115,12 @@ gathered_still a b held all more way same = record { sent = way.sent; appended =
 pub changes_gathered : (texts : List Frame → List ℕ) (a b c : Option (List ℕ)) (r : Put) (before after piece : List ℕ) (frames : List Frame) (next : Frame)
     (frame : ℕ) (last now : Chan → Grid)
     → texts ≡ changes_of → IsGathered a b before (texts frames) → Gathers b c before after r piece → piece ≡ changes_text frame last now
-    → last ≡ screens_behind frames → now ≡ screens_behind (frames ++ next ∷ []) → frame ≡ length frames
+    → last ≡ received_grids frames → now ≡ received_grids (frames ++ next ∷ []) → frame ≡ length frames
     → GathersText a c after (texts (frames ++ next ∷ [])) r
 changes_gathered texts a b c r before after piece frames next frame last now are way gathered piece_is last_is now_is number =
-    let changed : piece ≡ changes_text (length frames) (screens_behind frames) (screens_behind (frames ++ next ∷ [])) =
+    let changed : piece ≡ changes_text (length frames) (received_grids frames) (received_grids (frames ++ next ∷ [])) =
     piece_is ∙ ap (λ n. changes_text n last now) number ∙ ap (λ s. changes_text (length frames) s now) last_is
-    ∙ ap (λ s. changes_text (length frames) (screens_behind frames) s) now_is in
+    ∙ ap (λ s. changes_text (length frames) (received_grids frames) s) now_is in
     let more : texts (frames ++ next ∷ []) ≡ texts frames ++ piece =
     ap (λ (t : List Frame → List ℕ). t (frames ++ next ∷ [])) are ∙ changes_more frames next
     ∙ ap (λ l. changes_of frames ++ l) (sym changed) ∙ sym (ap (λ (t : List Frame → List ℕ). t frames ++ piece) are) in
@@ -127,12 +128,12 @@ changes_gathered texts a b c r before after piece frames next frame last now are
 
 -- a frame that leaves the screens as they were has no changes
 pub idle_gathered : (texts : List Frame → List ℕ) (a b : Option (List ℕ)) (held : List ℕ) (frames : List Frame) (next : Frame)
-    → texts ≡ changes_of → screens_behind (frames ++ next ∷ []) ≡ screens_behind frames → IsGathered a b held (texts frames)
+    → texts ≡ changes_of → received_grids (frames ++ next ∷ []) ≡ received_grids frames → IsGathered a b held (texts frames)
     → GathersText a b held (texts (frames ++ next ∷ [])) put.Done
 idle_gathered texts a b held frames next are same way =
-    let none : changes_text (length frames) (screens_behind frames) (screens_behind (frames ++ next ∷ [])) ≡ [] =
-    ap (λ s. changes_text (length frames) (screens_behind frames) s) same
-    ∙ no_changes (length frames) (screens_behind frames) (screens_behind frames) (none_differs (screens_behind frames)) in
+    let none : changes_text (length frames) (received_grids frames) (received_grids (frames ++ next ∷ [])) ≡ [] =
+    ap (λ s. changes_text (length frames) (received_grids frames) s) same
+    ∙ no_changes (length frames) (received_grids frames) (received_grids frames) (none_differs (received_grids frames)) in
     let more : texts (frames ++ next ∷ []) ≡ texts frames =
     ap (λ (t : List Frame → List ℕ). t (frames ++ next ∷ [])) are ∙ changes_more frames next ∙ ap (λ l. changes_of frames ++ l) none
     ∙ append-nil (changes_of frames) ∙ sym (ap (λ (t : List Frame → List ℕ). t frames) are) in
@@ -142,14 +143,14 @@ idle_gathered texts a b held frames next are same way =
 pub screens_put : (texts : List Frame → List ℕ) (a b c : Option (List ℕ)) (r : Put) (held : List ℕ) (frames : List Frame) (next : Frame)
     (frame wanted : ℕ) (now : Chan → Grid)
     → texts ≡ show_output wanted → frame ≡ wanted → IsGathered a b held (texts frames) → Puts b c r (all_text frame now)
-    → now ≡ screens_behind (frames ++ next ∷ []) → frame ≡ length frames
+    → now ≡ received_grids (frames ++ next ∷ []) → frame ≡ length frames
     → GathersText a c held (texts (frames ++ next ∷ [])) r
 screens_put texts a b c r held frames next frame wanted now are same way puts now_is number =
     let none : texts frames ≡ [] =
     ap (λ (t : List Frame → List ℕ). t frames) are ∙ show_before wanted frames (omega arith) in
     let more : texts (frames ++ next ∷ []) ≡ all_text frame now =
     ap (λ (t : List Frame → List ℕ). t (frames ++ next ∷ [])) are ∙ show_at wanted frames next (sym same ∙ number)
-    ∙ ap (λ n. all_text n (screens_behind (frames ++ next ∷ []))) (sym same) ∙ ap (λ s. all_text frame s) (sym now_is) in
+    ∙ ap (λ n. all_text n (received_grids (frames ++ next ∷ []))) (sym same) ∙ ap (λ s. all_text frame s) (sym now_is) in
     subst (λ l. GathersText a c held l r) (sym more) (put_at_once a b c r held (all_text frame now) (texts frames) way none puts)
 
 -- another frame came
@@ -163,12 +164,12 @@ screens_still texts a b held frames next frame wanted are other way number =
     gathered_still a b held (texts frames) (texts (frames ++ next ∷ [])) way same
 
 -- before the first frame every screen is empty
-empty_before : (chan : Chan) → screens_behind [] chan ≡ empty_grid
+empty_before : (chan : Chan) → received_grids [] chan ≡ empty_grid
 unfolding after
 empty_before Cc1 = refl
 empty_before Cc2 = refl
 empty_before Cc3 = refl
 empty_before Cc4 = refl
 
-pub nothing_shown : (grids : Chan → Grid) → grids ≡ (λ chan. empty_grid) → grids ≡ screens_behind []
+pub nothing_shown : (grids : Chan → Grid) → grids ≡ (λ chan. empty_grid) → grids ≡ received_grids []
 nothing_shown grids are = are ∙ fun_ext (λ chan. sym (empty_before chan))

@@ -16,7 +16,7 @@ use Rattle.cc_receiver.specs.declared.receiver.Receiver.{Receiver}
 use Rattle.cdp_packets.specs.Packets.{Packet as Frame}
 use Rattle.words_files.specs.Catching.{never, refusal_of}
 use Rattle.words_files.specs.FramesOf.{AreFramesOf}
-use Rattle.words_files.specs.Offences.{HasOffence, IsCutShort, IsMalformed, IsUnoffending}
+use Rattle.words_files.specs.Offences.{FirstOffendingWord, IsCutShort, IsMalformed, IsUnoffending}
 use Rattle.words_files.proofs.OffenceLemmas.{offence_refused, some_or_none, unoffending_is_unrefused}
 use Rattle.ccsuite_cli.specs.Gathered.{Flushes, IsGathered, held_of}
 use Rattle.ccsuite_cli.specs.Printing.{Prints}
@@ -277,7 +277,7 @@ pub received_by : (before bytes : List ℕ) (old new : Receiver) (result : Resul
     → IfOk result (λ fed. HasReceived (before ++ take fed.used bytes) new)
     → IfOk result (λ fed. IsUnoffending never (before ++ take fed.used bytes))
     → IfErr result (λ refused. HasReceived (before ++ bytes) new)
-    → IfErr result (λ refused. HasOffence never (before ++ bytes) refused)
+    → IfErr result (λ refused. FirstOffendingWord never (before ++ bytes) refused)
     → IfErr result (λ refused. frame_count new ≡ frame_count old)
     → IfOk result (λ fed. fed.used ≤ length bytes)
     → IfOk result (λ fed. fed.ended ≡ ended.No → fed.used ≡ length bytes)

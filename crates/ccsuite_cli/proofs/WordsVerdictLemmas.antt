@@ -10,7 +10,7 @@ use Rattle.cdp_packets.specs.Packets.{Packet as Frame}
 use Rattle.words_files.proofs.EndingLemmas.{cut_short_has_no_offence, file_has_no_offence, offence_is_one, offence_stays}
 use Rattle.words_files.proofs.FrameLemmas.{one_list}
 use Rattle.words_files.specs.Catching.{never}
-use Rattle.words_files.specs.Offences.{HasOffence, IsCutShort, IsFileUnder, IsMalformed}
+use Rattle.words_files.specs.Offences.{FirstOffendingWord, IsCutShort, IsFileUnder, IsMalformed}
 use Rattle.ccsuite_cli.specs.Answer.{ListAnswer, PutsFront, PutsList, PutsListFront, PutsOutput}
 use Rattle.ccsuite_cli.specs.Accepted.{IsRefused, IsRefusedList}
 use Rattle.ccsuite_cli.specs.Ends.{Ends}
@@ -83,14 +83,14 @@ faults_told (Some Decode) old new answer answered = decode_told old new answer a
 faults_told (Some (Show frame)) old new answer answered = show_told frame old new answer answered
 
 -- what was judged of known bytes, and the rest of them
-known_judged : (old new : Option (List ℕ)) (bytes judged unjudged : List ℕ) → old ≡ Some bytes → Consumes old new (judged ++ unjudged)
+pub known_judged : (old new : Option (List ℕ)) (bytes judged unjudged : List ℕ) → old ≡ Some bytes → Consumes old new (judged ++ unjudged)
     → (rest : List ℕ) × (bytes ≡ judged ++ (unjudged ++ rest))
 known_judged old None bytes judged unjudged known consumed = absurd (subst (λ l. Consumes l None (judged ++ unjudged)) known consumed)
 known_judged old (Some rest) bytes judged unjudged known consumed =
     (rest, subst (λ l. Consumes l (Some rest) (judged ++ unjudged)) known consumed ∙ append_assoc judged unjudged rest)
 
 -- what was judged of known bytes that were read to their end is all of them
-known_whole : (left : Option (List ℕ)) (bytes judged : List ℕ) → left ≡ Some bytes → IfSome left (λ all. all ≡ judged) → bytes ≡ judged
+pub known_whole : (left : Option (List ℕ)) (bytes judged : List ℕ) → left ≡ Some bytes → IfSome left (λ all. all ≡ judged) → bytes ≡ judged
 known_whole left bytes judged known whole = subst (λ l. IfSome l (λ all. all ≡ judged)) known whole
 
 -- no more bytes than the limit pass it
@@ -111,7 +111,7 @@ file_refused text bytes frames refusal old new file read stops =
     let (rest, is) = known_judged old.left new.left bytes stops.judged stops.unjudged read.left stops.taken in
     elim stops.cause [
       | inl offence ↦ file_has_no_offence never frames bytes refusal file
-          (subst (λ l. HasOffence never l refusal) (sym is) (offence_stays never stops.judged (stops.unjudged ++ rest) refusal offence))
+          (subst (λ l. FirstOffendingWord never l refusal) (sym is) (offence_stays never stops.judged (stops.unjudged ++ rest) refusal offence))
       | inr cut ↦ cut.1.no_file frames (subst (IsFileUnder never frames) (known_whole old.left bytes stops.judged read.left cut.0.0) file)
     ]
 
@@ -175,7 +175,7 @@ refused_so : (text : List Frame → List ℕ) (bytes : List ℕ) (refusal : Refu
 refused_so text bytes refusal old new read stops =
     let (rest, is) = known_judged old.left new.left bytes stops.judged stops.unjudged read.left stops.taken in
     elim stops.cause [
-      | inl offence ↦ inl (subst (λ l. HasOffence never l refusal) (sym is) (offence_stays never stops.judged (stops.unjudged ++ rest) refusal offence))
+      | inl offence ↦ inl (subst (λ l. FirstOffendingWord never l refusal) (sym is) (offence_stays never stops.judged (stops.unjudged ++ rest) refusal offence))
       | inr cut ↦ inr (subst (λ l. IsCutShort never l refusal) (sym (known_whole old.left bytes stops.judged read.left cut.0.0)) cut.1)
     ]
 

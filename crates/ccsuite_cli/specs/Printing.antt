@@ -2,11 +2,12 @@
 use Rattle.std.specs.Prelude.{◌≡◌, ℕ, List}
 use Rattle.cdp_packets.specs.Packets.{Packet as Frame}
 use Rattle.grid_print.specs.Shown.{last_shown}
-use Rattle.ccsuite_cli.specs.Screens.{changes_of, screens_behind, show_output}
+use Rattle.ccsuite_cli.specs.Screens.{changes_of, show_output}
+use Rattle.words_files.specs.Received.{received_grids}
 use Rattle.ccsuite_cli.specs.declared.printer.Printer.{Printer}
 use Rattle.ccsuite_cli.specs.declared.printer.Printer.TheVariants.{Changes, Screens}
 
 -- this text is printed of frames, and these frames were printed
 abbrev pub Prints : (List Frame → List ℕ) → List Frame → Printer → Type 0
-Prints text frames (Changes shown) = (text ≡ changes_of) × (last_shown shown ≡ screens_behind frames)
+Prints text frames (Changes shown) = (text ≡ changes_of) × (last_shown shown ≡ received_grids frames)
 Prints text frames (Screens frame) = text ≡ show_output frame

@@ -2,24 +2,16 @@
 -- before the first of them (CTA-608-E; 47 CFR 79.101).
 use Rattle.std.specs.Prelude.{ℕ, suc, nat_lt, if◌then◌else◌, List, [], ◌∷◌, ◌++◌, length, take, codes, decimal}
 use Rattle.cdp_packets.specs.Packets.{Packet as Frame}
-use Rattle.line21_codes.specs.Channels.{is_in_second_field, is_second_channel}
-use Rattle.line21_codes.specs.declared.channels.Chan.{Chan}
-use Rattle.line21_screen.specs.Fields.{channel}
-use Rattle.line21_screen.specs.Grid.{Grid}
-use Rattle.words_files.specs.Received.{received}
+use Rattle.words_files.specs.Received.{received_grids}
 use Rattle.grid_print.specs.GridTexts.{all_text, changes_text}
 use Rattle.ccsuite_cli.specs.StatusLine.{text}
-
--- the displayed cells of each channel behind frames
-abbrev pub screens_behind : List Frame → Chan → Grid
-screens_behind frames chan = (channel (is_second_channel chan) (received (is_in_second_field chan) frames)).displayed
 
 -- the changed screens of each frame against the one before it, of frames that come behind others; before the first frame of
 -- all, every screen is empty
 abbrev pub changes_behind : List Frame → List Frame → List ℕ
 changes_behind before [] = []
 changes_behind before (frame ∷ frames) =
-    changes_text (length before) (screens_behind before) (screens_behind (before ++ frame ∷ []))
+    changes_text (length before) (received_grids before) (received_grids (before ++ frame ∷ []))
     ++ changes_behind (before ++ frame ∷ []) frames
 
 -- the changed screens of each frame
@@ -37,4 +29,4 @@ decode_output frames = changes_of frames ++ frames_line (length frames)
 -- `show` puts all screens of the frame of this number, once it is whole
 abbrev pub show_output : ℕ → List Frame → List ℕ
 show_output frame frames =
-    if nat_lt frame (length frames) then all_text frame (screens_behind (take (suc frame) frames)) else []
+    if nat_lt frame (length frames) then all_text frame (received_grids (take (suc frame) frames)) else []

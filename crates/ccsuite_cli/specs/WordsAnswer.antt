@@ -10,7 +10,7 @@ use Rattle.cc_base.specs.declared.streams.Put.TheVariants as put
 use Rattle.cdp_packets.specs.Packets.{Packet as Frame}
 use Rattle.words_files.specs.Catching.{never}
 use Rattle.words_files.specs.FramesOf.{AreFramesOf}
-use Rattle.words_files.specs.Offences.{HasOffence, IsCutShort, IsFileUnder, IsUnoffending}
+use Rattle.words_files.specs.Offences.{FirstOffendingWord, IsCutShort, IsFileUnder, IsUnoffending}
 use Rattle.ccsuite_cli.specs.Ends.{Ends}
 use Rattle.ccsuite_cli.specs.Screens.{changes_of, decode_output, show_output}
 use Rattle.ccsuite_cli.specs.declared.status.Place.TheVariants.{Byte}
@@ -61,7 +61,7 @@ PassesLimit frames judged unjudged = (length judged ≡ words_limit) × (0 < len
 -- a word offends, or the whole input is cut short
 abbrev pub IsRefusedWith : Refusal → Option (List ℕ) → Cause
 IsRefusedWith refusal left frames judged unjudged =
-    HasOffence never judged refusal ⊎ (IsWhole left judged unjudged × IsCutShort never judged refusal)
+    FirstOffendingWord never judged refusal ⊎ (IsWhole left judged unjudged × IsCutShort never judged refusal)
 
 -- nothing more is said
 abbrev pub IsAnyhow : Cause

@@ -11,7 +11,7 @@ use Rattle.cc_receiver.specs.declared.receiver.Receiver.{Receiver}
 use Rattle.cdp_packets.specs.Packets.{Packet as Frame}
 use Rattle.words_files.specs.Catching.{never}
 use Rattle.words_files.specs.FramesOf.{AreFramesOf}
-use Rattle.words_files.specs.Offences.{HasOffence, IsCutShort, IsFileUnder, IsUnoffending}
+use Rattle.words_files.specs.Offences.{FirstOffendingWord, IsCutShort, IsFileUnder, IsUnoffending}
 use Rattle.ccsuite_cli.specs.Ends.{Ends}
 use Rattle.ccsuite_cli.specs.Gathered.{IsGathered, held_of}
 use Rattle.ccsuite_cli.specs.Printing.{Prints}
@@ -61,7 +61,7 @@ pub record HasPut (text : List Frame → List ℕ) (start now : Option (List ℕ
 -- a word of the bytes offends, and the text of the frames before it was gathered
 pub record HasOffended (text : List Frame → List ℕ) (start now : Option (List ℕ)) (bytes held : List ℕ) (refusal : Refusal) : Type 0 where
   pub frames : List Frame
-  pub offends : HasOffence never bytes refusal
+  pub offends : FirstOffendingWord never bytes refusal
   pub frames_are : AreFramesOf never frames bytes
   pub way : IsGathered start now held (text frames)
 
@@ -78,7 +78,7 @@ pub record HasFailed (text : List Frame → List ℕ) (start now : Option (List 
 abbrev pub Receives : List ℕ → List ℕ → Receiver → Receiver → Result Fed Refusal → Type 0
 Receives before bytes old new (Ok fed) = HasRead before bytes old new fed
 Receives before bytes old new (Err refusal) =
-    HasReceived (before ++ bytes) new × HasOffence never (before ++ bytes) refusal × (frame_count new ≡ frame_count old)
+    HasReceived (before ++ bytes) new × FirstOffendingWord never (before ++ bytes) refusal × (frame_count new ≡ frame_count old)
 
 -- a reading stopped in these bytes
 abbrev pub HasStopped : (List Frame → List ℕ) → Option (List ℕ) → Option (List ℕ) → List ℕ → List ℕ → Stop → Type 0

@@ -1,11 +1,12 @@
 -- The verdict on words: a file is printed, what is no file is refused with one status, and a count of faults that rose has its
 -- own answer.
-use Rattle.std.specs.Prelude.{◌≡◌, ◌<◌, ◌≤◌, ◌⊎◌, ℕ, List, length, Option, Some}
+use Rattle.std.specs.Prelude.{◌≡◌, ◌<◌, ◌≤◌, ◌⊎◌, ℕ, List, length, take, Option, Some}
 use Rattle.cc_base.specs.Streams.{Rose}
+use Rattle.cc_base.specs.declared.limit_of.LimitOf.TheVariants as limit
 use Rattle.cc_base.specs.declared.refusal.Refusal.{Refusal}
 use Rattle.cdp_packets.specs.Packets.{Packet as Frame}
 use Rattle.words_files.specs.Catching.{never}
-use Rattle.words_files.specs.Offences.{IsFileUnder, IsMalformed}
+use Rattle.words_files.specs.Offences.{FirstOffendingWord, IsFileUnder, IsMalformed, IsUnoffending}
 use Rattle.ccsuite_cli.specs.Answer.{Answer}
 use Rattle.ccsuite_cli.specs.Ends.{Ends}
 use Rattle.ccsuite_cli.specs.WordsAnswer.{words_limit}
@@ -49,6 +50,26 @@ abbrev pub MalformedIsRefused : Type 0
 MalformedIsRefused = (bytes : List ℕ) (refusal : Refusal) (command : Command) (old new : Ends) (answer : Status)
     → ReadsWordsFile command → IsMalformed never bytes refusal → IsReadOf bytes old new → Answer (Some command) old new answer
     → (answer ≡ status.Malformed (Byte refusal.place) refusal.why) ⊎ (answer ≡ status.Memory)
+
+-- the input had these bytes, more than the limit, and no count of faults rose
+pub record IsReadPast (bytes : List ℕ) (old new : Ends) : Type 0 where
+  pub left : old.left ≡ Some bytes
+  pub past : words_limit < length bytes
+  pub reads : Rose old.read_faults new.read_faults → ⊥
+  pub writes : Rose old.write_faults new.write_faults → ⊥
+
+-- an input past the limit is malformed where a word within the limit offends, and else it passes the limit
+abbrev pub IsPastLimit : List ℕ → Status → Type 0
+IsPastLimit bytes answer =
+    ((refusal : Refusal) × FirstOffendingWord never (take words_limit bytes) refusal
+    × (answer ≡ status.Malformed (Byte refusal.place) refusal.why))
+    ⊎ (IsUnoffending never (take words_limit bytes) × (answer ≡ status.Limit limit.Bytes))
+
+-- they answer such an input so, or want of memory
+abbrev pub LongWordsAreRefused : Type 0
+LongWordsAreRefused = (bytes : List ℕ) (command : Command) (old new : Ends) (answer : Status)
+    → ReadsWordsFile command → IsReadPast bytes old new → Answer (Some command) old new answer
+    → IsPastLimit bytes answer ⊎ (answer ≡ status.Memory)
 
 -- where the input's count of faults is greater than before, that is the answer, and so where the output's is
 pub record TellsFaults (old new : Ends) (answer : Status) : Type 0 where

@@ -1,4 +1,3 @@
-ghost use Rattle.std.specs.Prelude.{◌≡◌};
 ghost use Rattle.cc_base.specs.Streams.{PutCause, Puts};
 ghost use Rattle.frame_carrier.specs.Carrying.{column_bytes};
 ghost use Rattle.frame_scheduler.specs.Columns.{Columns};

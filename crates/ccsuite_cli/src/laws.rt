@@ -1,6 +1,6 @@
 //! Laws of the verdict on an input: functions that do nothing, with the laws as their contracts.
 ghost use Rattle.ccsuite_cli.specs.Verdict.{AcceptanceIsOne, AcceptedIsAnswered, AcceptedIsNotRefused, EveryListIsJudged, GoodListIsWritten, RefusalIsOne};
-ghost use Rattle.ccsuite_cli.specs.WordsVerdict.{FaultsAreTold, FileIsDecoded, FileIsShown, MalformedIsRefused};
+ghost use Rattle.ccsuite_cli.specs.WordsVerdict.{FaultsAreTold, FileIsDecoded, FileIsShown, LongWordsAreRefused, MalformedIsRefused};
 
 /// The law that a cue list which is accepted is refused with no status.
 pub fn accepted_is_not_refused()
@@ -49,6 +49,12 @@ pub fn file_is_shown()
 /// its end, or Memory.
 pub fn malformed_is_refused()
     ensures { MalformedIsRefused }
+{}
+
+/// The law that both answer an input of more bytes than the limit with the first offending word within the limit, or with the
+/// limit where no word within it offends, or Memory.
+pub fn long_words_are_refused()
+    ensures { LongWordsAreRefused }
 {}
 
 /// The law that every run answers ReadFault where the input's count of faults is greater than before, and WriteFault where the

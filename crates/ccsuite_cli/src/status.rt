@@ -1,6 +1,5 @@
-ghost use Rattle.std.specs.Prelude.{◌≡◌, ◌⊎◌};
-ghost use Rattle.std.specs.Io.KnownBytes.{Appends};
-ghost use Rattle.cc_base.specs.Streams.{PutCause, Puts, Rose};
+ghost use Rattle.std.specs.Prelude.{◌≡◌};
+ghost use Rattle.cc_base.specs.Streams.{PutCause, Puts};
 ghost use Rattle.ccsuite_cli.specs.StatusLine.{status_code, status_line};
 
 use cc_base::{LimitOf, Put, Sink, Why, put_pieces};

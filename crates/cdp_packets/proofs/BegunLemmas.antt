@@ -138,7 +138,7 @@ goes left behind (id ∷ []) triplet byte same can taken =
 goes left behind (id ∷ second ∷ rest) triplet byte same can taken = body_goes left behind id second rest byte same can
 
 -- where no byte is left, no section is open
-none_open : (section : List ℕ) → CanGoOn 0 section → section ≡ []
+pub none_open : (section : List ℕ) → CanGoOn 0 section → section ≡ []
 none_open [] can = refl
 none_open (id ∷ []) can = absurd (false_fits (is_id id) can)
   where

@@ -16,9 +16,6 @@ pub record SameList (bytes rest : List ℕ) : Type 0 where
   pub behind : IsSectionList bytes → IsSectionList rest
   pub before : IsSectionList rest → IsSectionList bytes
 
-pub same_list : (bytes : List ℕ) → SameList bytes bytes
-same_list bytes = record { behind = λ list. list; before = λ list. list }
-
 -- where bytes begin with a section, the bytes behind it are the rest of the list
 rest_list : (section behind bytes : List ℕ) → IsSection section → bytes ≡ section ++ behind → IsSectionList bytes → IsSectionList behind
 rest_list section behind bytes is spelled list =

@@ -10,6 +10,11 @@ abbrev pub section_triplets : List ℕ → List Triplet
 section_triplets (id ∷ second ∷ rest) = if id == 0x72 then triplets_of rest else []
 section_triplets _ = []
 
+-- the bytes of a section's triplets
+abbrev pub section_triplet_bytes : List ℕ → List ℕ
+section_triplet_bytes (id ∷ second ∷ rest) = if id == 0x72 then rest else []
+section_triplet_bytes _ = []
+
 -- the triplets of a packet are those of its cc_data sections, in order
 abbrev pub packet_triplets : Packet → List Triplet
 packet_triplets packet = flat_map section_triplets packet.sections

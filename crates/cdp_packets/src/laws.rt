@@ -103,5 +103,5 @@ pub fn sections_fit_where_some_can_follow()
 /// A refusal stands at its place: each reason comes at the byte that it speaks of, and there is no other reason.
 pub fn refusals_stand_at_their_places()
     ensures { (size : ℕ) (bytes : List ℕ) (byte : ℕ) (reason : Reason) → IsPacketLength size → length bytes ≤ size → AllRead size bytes
-        → judge_cdp size (open_behind size bytes) byte ≡ Refuse reason → StandsAt size (length bytes) reason }
+        → judge_cdp size (open_behind size bytes) byte ≡ Refuse reason → StandsAt size bytes reason }
 {}

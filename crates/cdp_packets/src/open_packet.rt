@@ -5,6 +5,7 @@ ghost use Rattle.cdp_packets.specs.declared.open_packet.Footer.TheVariants as fo
 ghost use Rattle.cdp_packets.specs.declared.open_packet.Place.TheVariants as place;
 ghost use Rattle.cdp_packets.specs.Reading.{IsPacketLength, Open, judge_cdp, nothing_open, open_after};
 
+use crate::packets::FOOTER;
 use crate::parts::CdpPart;
 use crate::within::{Within, read_section_byte};
 use cc_base::{Machine, Rate, Step, Why};
@@ -189,7 +190,7 @@ impl OpenPacket {
             → Keeps size (open_after size front item) self.new }
     {
         match footer {
-            Footer::Id => self.fixed(item, 0x74, Why::Section, Place::Footer(Footer::High)),
+            Footer::Id => self.fixed(item, FOOTER, Why::Section, Place::Footer(Footer::High)),
             Footer::High => self.fixed(item, self.high, Why::Counter, Place::Footer(Footer::Low)),
             Footer::Low => self.fixed(item, self.low, Why::Counter, Place::Footer(Footer::Sum)),
             Footer::Sum => {

@@ -43,7 +43,7 @@ pub(crate) fn checksum(bytes: &[u8]) -> u8
     0u8.wrapping_sub(total)
 }
 
-// The first bytes of every packet.
+// The identifier, with which every packet begins.
 const IDENTIFIER: [u8; 2] = [0x96, 0x69];
 
 // The bytes of a packet before its sections and behind them.

@@ -1,7 +1,7 @@
 ghost use Rattle.std.specs.Prelude.{◌≡◌, ℕ, ◌≤◌, ◌++◌, List, length, IfNone, IfSome, MatchBool};
 ghost use Rattle.cc_data.specs.Triplets.{triplets_of};
 ghost use Rattle.cdp_packets.specs.Packets.{Packet, IsCdp};
-ghost use Rattle.cdp_packets.specs.PacketTriplets.{section_triplets};
+ghost use Rattle.cdp_packets.specs.PacketTriplets.{section_triplet_bytes, section_triplets};
 ghost use Rattle.cdp_packets.specs.Sections.{is_id, IsSection, IsSectionList};
 ghost use Rattle.cdp_packets.specs.WholePackets.{SaysPacket};
 
@@ -104,7 +104,8 @@ fn is_section_id(id: u8) -> bool
 /// The bytes of a section's triplets: those behind the count of a cc_data section, and none of another section
 /// (SMPTE ST 334-2, ccdata_section).
 pub fn triplet_bytes(section: &[u8]) -> &[u8]
-    ensures { triplets_of result.now ≡ section_triplets section.now }
+    ensures bytes { result.now ≡ section_triplet_bytes section.now }
+    ensures triplets { triplets_of result.now ≡ section_triplets section.now }
 {
     match section {
         [CC_DATA, _, triplets @ ..] => triplets,

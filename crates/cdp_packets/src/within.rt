@@ -4,7 +4,6 @@ ghost use Rattle.cdp_packets.specs.declared.open_triplet.OpenTriplet.TheVariants
 ghost use Rattle.cdp_packets.specs.declared.within.Within.TheVariants as within;
 ghost use Rattle.cdp_packets.specs.Readers.{next_of_section};
 ghost use Rattle.cdp_packets.specs.Reading.{count_fits, id_fits, judge_section, section_behind, triplet_behind};
-ghost use Rattle.cdp_packets.specs.Sections.{rest_of};
 
 use crate::open_triplet::{OpenTriplet, read_triplet_byte};
 use crate::parts::CdpPart;

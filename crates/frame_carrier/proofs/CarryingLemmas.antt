@@ -1,14 +1,11 @@
 -- The triplets of a frame have kinds and a number, and what is written of them is the frame's packet.
-use Rattle.std.proofs.Common.{◌≡◌, ℕ, zero, suc, ◌+◌, ◌-◌, ◌<◌, ◌≤◌, List, [], ◌∷◌, All, length, drop, replicate, ap, ◌∙◌, arith}
+use Rattle.std.proofs.Common.{◌≡◌, ℕ, zero, suc, ◌+◌, ◌-◌, ◌<◌, ◌≤◌, List, ◌∷◌, All, length, drop, replicate, ap, ◌∙◌, arith}
 use Rattle.std.proofs.lemmas.List.{drop-replicate, length-append, length-replicate}
 use Rattle.std.proofs.lemmas.List.Elements.{All-append, All-cons, All-nil}
 use Rattle.cc_base.specs.Rate.{triplets_of}
 use Rattle.cc_base.specs.declared.rate.Rate.{Rate}
 use Rattle.cc_data.specs.declared.triplet.Triplet.{Triplet}
-use Rattle.cdp_packets.specs.Written.{cc_data_section, written_packet}
-use Rattle.anc_words.specs.Writing.{packet_bytes}
 use Rattle.frame_scheduler.specs.declared.frames.FramePairs.{FramePairs}
-use Rattle.frame_carrier.specs.Carrying.{caption_flags, counter_of, frame_bytes}
 use Rattle.frame_carrier.specs.FrameTriplets.{filler, frame_triplets, pair_triplet}
 
 -- a kind has two bits
@@ -43,13 +40,3 @@ pub fillers_left : (n : ℕ) → drop n (replicate 18 filler) ≡ replicate (20 
 fillers_left n =
     let left : 18 - n ≡ 20 - (2 + n) = omega arith in
     drop-replicate n 18 filler ∙ ap (λ k. replicate k filler) left
-
--- what was written of a frame is its packet
-pub frame_written : (rate own : Rate) (frame counter : ℕ) (pairs : FramePairs) (triplets : List Triplet) (section packet words : List ℕ)
-    → own ≡ rate → counter ≡ counter_of frame → triplets ≡ frame_triplets rate pairs [] → section ≡ cc_data_section triplets
-    → packet ≡ written_packet own caption_flags counter section → words ≡ packet_bytes 0x61 0x01 packet → words ≡ frame_bytes rate frame pairs []
-frame_written rate own frame counter pairs triplets section packet words own_is counter_is triplets_are section_is packet_is words_are =
-    words_are ∙ ap (packet_bytes 0x61 0x01)
-    (packet_is ∙ ap (λ r. written_packet r caption_flags counter section) own_is
-    ∙ ap (λ n. written_packet rate caption_flags n section) counter_is
-    ∙ ap (written_packet rate caption_flags (counter_of frame)) (section_is ∙ ap cc_data_section triplets_are))

@@ -31,7 +31,7 @@ impl Shown {
     ghost use Rattle.grid_print.specs.GridTexts.{changes_text};
     ghost use Rattle.grid_print.specs.Shown.{last_shown, text_of};
 
-    /// Nothing was shown: all grids are empty, and so is the text.
+    /// Nothing was shown: all grids are empty, and so is the text. The error comes where memory for the grids isn't found.
     pub fn new(alloc: Global) -> Result<Shown, AllocError>
         ensures grids { IfOk result (λ made. last_shown made ≡ (λ chan. empty_grid)) }
         ensures text { IfOk result (λ made. text_of made ≡ []) }
@@ -72,7 +72,8 @@ impl Shown {
     }
 
     /// Puts the text of what changed from the grids that were shown last to those of a frame, in one piece, which is empty where
-    /// nothing changed. These grids are then the ones that were shown last.
+    /// nothing changed. These grids are then the ones that were shown last. Failed comes only where the sink's count of faults
+    /// rose, and then a front of the text was put.
     pub fn put_changes<O: Sink>(&mut self, r: &Receiver, frame: u32, out: &mut O) -> Put
         ensures bytes { Puts (O.written out.old) (O.written out.new) result (changes_text frame (last_shown self.old) (shown r.now)) }
         ensures cause { PutCause (O.faults out.old) (O.faults out.new) result }

@@ -3,7 +3,7 @@ use cc_base::{MemorySink, Put};
 use cc_receiver::Receiver;
 use std::alloc::{AllocError, Global};
 
-// The nine-bit word of a byte, and its complement above: SMPTE ST 291-1, 6.2.
+// The word of a byte: bit 8 is even parity of bits 7 to 0, and bit 9 its inverse (SMPTE ST 291-1).
 fn word_of(byte: u8) -> u16 {
     if byte.count_ones() % 2 == 1 {
         0x100 + u16::from(byte)
@@ -12,7 +12,7 @@ fn word_of(byte: u8) -> u16 {
     }
 }
 
-// The checksum word behind some words: SMPTE ST 291-1, 6.5.
+// The checksum word behind some words (SMPTE ST 291-1).
 fn checksum_of(words: &[u16]) -> u16 {
     let mut sum = 0u16;
     for word in words {
@@ -21,7 +21,7 @@ fn checksum_of(words: &[u16]) -> u16 {
     if sum < 0x100 { 0x200 + sum } else { sum }
 }
 
-// The byte that makes the sum of all nought: SMPTE ST 334-2, 5.6.
+// The byte that makes the sum of all 0 (SMPTE ST 334-2, cdp_footer).
 fn sum_byte(bytes: &[u8]) -> u8 {
     let mut sum = 0u8;
     for byte in bytes {
@@ -67,7 +67,7 @@ fn frame_of(alloc: Global, counter: u16, one: &[u16], two: &[u16]) -> Result<Vec
 }
 
 // Feeds a frame.
-fn take(
+fn feed_frame(
     alloc: Global,
     receiver: &mut Receiver,
     counter: u16,
@@ -85,7 +85,7 @@ fn take(
 fn all_of(alloc: Global, frame: u32, one: &[u16], two: &[u16]) -> Result<MemorySink, AllocError> {
     let mut receiver = Receiver::new(alloc)?;
     let mut sink = MemorySink::new(alloc, 50_000, Vec::new(alloc))?;
-    if take(alloc, &mut receiver, 0, one, two)? {
+    if feed_frame(alloc, &mut receiver, 0, one, two)? {
         let _ = put_all(&receiver, frame, &mut sink);
     }
     Ok(sink)
@@ -223,7 +223,7 @@ fn changes_are_told_frame_by_frame(rt: HostRuntime) -> Result<(), AllocError> {
     let mut shown = Shown::new(alloc)?;
     let mut put = Shown::new(alloc)?;
     for (frame, (one, two, text)) in frames.iter().enumerate() {
-        assert!(rt; take(alloc, &mut receiver, frame as u16, one, two)?);
+        assert!(rt; feed_frame(alloc, &mut receiver, frame as u16, one, two)?);
         shown.compare(&receiver, frame as u32);
         assert_eq!(rt; shown.text(), *text, "frame {frame}");
         let mut sink = MemorySink::new(alloc, 1000, Vec::new(alloc))?;
@@ -240,7 +240,7 @@ fn changes_are_told_frame_by_frame(rt: HostRuntime) -> Result<(), AllocError> {
 fn failing_sink_is_told(rt: HostRuntime) -> Result<(), AllocError> {
     let alloc = rt.alloc();
     let mut receiver = Receiver::new(alloc)?;
-    assert!(rt; take(alloc, &mut receiver, 0, FIELD_1, &[])?);
+    assert!(rt; feed_frame(alloc, &mut receiver, 0, FIELD_1, &[])?);
     let mut sink = MemorySink::new(alloc, 10, Vec::new(alloc))?;
     assert_eq!(rt; put_all(&receiver, 0, &mut sink), Put::Failed);
     let mut shown = Shown::new(alloc)?;
@@ -258,12 +258,12 @@ const ROWS: [u16; 15] = [
 fn a_run_in_each_cell_has_room(rt: HostRuntime) -> Result<(), AllocError> {
     let alloc = rt.alloc();
     let mut receiver = Receiver::new(alloc)?;
-    assert!(rt; take(alloc, &mut receiver, 0, &[0x9429], &[])?);
+    assert!(rt; feed_frame(alloc, &mut receiver, 0, &[0x9429], &[])?);
     for row in ROWS {
-        assert!(rt; take(alloc, &mut receiver, 0, &[row], &[])?);
+        assert!(rt; feed_frame(alloc, &mut receiver, 0, &[row], &[])?);
         for _ in 0..16 {
             // The mid-row codes of magenta and of underlined magenta, each of which prints a space.
-            assert!(rt; take(alloc, &mut receiver, 0, &[0x912C, 0x91AD], &[])?);
+            assert!(rt; feed_frame(alloc, &mut receiver, 0, &[0x912C, 0x91AD], &[])?);
         }
     }
     let mut shown = Shown::new(alloc)?;

@@ -1,4 +1,4 @@
-ghost use Rattle.std.specs.Prelude.{◌≡◌, ◌≤◌, ◌<◌, ◌++◌, ◌==◌, if◌then◌else◌, ℕ, List, [], encode_utf8, encode_utf8_all, decimal, length};
+ghost use Rattle.std.specs.Prelude.{◌≡◌, ◌≤◌, ◌<◌, ◌++◌, ◌==◌, if◌then◌else◌, ℕ, List, [], encode_utf8, encode_utf8_all, length};
 ghost use Rattle.std.specs.List.{flat_map};
 
 use crate::names::{chan_name, colour_name, italic_mark, underline_mark};
@@ -19,7 +19,7 @@ pub(crate) struct Text {
 
 impl Text {
     ghost use Rattle.line21_screen.specs.Objects.{grid_in};
-    ghost use Rattle.grid_print.specs.GridTexts.{frame_line, grid_text, pen_text, run_line};
+    ghost use Rattle.grid_print.specs.GridTexts.{frame_line, grid_text, run_line};
     ghost use Rattle.grid_print.specs.Runs.{front_text, row_runs, runs};
     ghost use Rattle.grid_print.specs.Texts.{Holds};
 
@@ -54,7 +54,7 @@ impl Text {
     }
 
     /// Adds the text of a channel's grid, if that has a run.
-    pub(crate) fn some(&mut self, chan: Chan, memory: &Memory)
+    pub(crate) fn grid_unless_empty(&mut self, chan: Chan, memory: &Memory)
         ensures { (before : List ℕ) → Holds before self.old
             → Holds (before ++ (if length (runs (grid_in memory.now)) == 0 then [] else grid_text chan (grid_in memory.now))) self.new }
     {

@@ -13,7 +13,7 @@ use Rattle.cdp_packets.specs.Packets.{Packet as Frame}
 use Rattle.cdp_packets.specs.Reading.{judge_cdp, open_after, open_behind as packet_behind, parts_of}
 use Rattle.words_files.specs.Catching.{never, refusal_of}
 use Rattle.words_files.specs.Frames.{IsFileOf}
-use Rattle.words_files.specs.Offences.{AreWholeWords, HasOffence, IsCutShort, IsFileUnder, TakesFilling}
+use Rattle.words_files.specs.Offences.{AreWholeWords, FirstOffendingWord, IsCutShort, IsFileUnder, TakesFilling}
 use Rattle.words_files.proofs.CaughtLemmas.{caught_file, file_caught}
 use Rattle.words_files.proofs.OffenceLemmas.{offence_refused, refused_offends, same_refusal, some_or_none, unoffending_is_unrefused, unrefused_is_unoffending}
 use Rattle.words_files.proofs.WordLemmas.{AreWords-whole}
@@ -76,10 +76,10 @@ nothing_or_some front =
 
 -- bytes are a file, cut short, or have an offending word
 pub each_ends : (v : Verdict CdpPart) → TakesFilling v → (bytes : List ℕ) → All (λ byte. byte < 256) bytes
-    → ((frames : List Frame) × IsFileUnder v frames bytes) ⊎ (((refusal : Refusal) × IsCutShort v bytes refusal) ⊎ ((refusal : Refusal) × HasOffence v bytes refusal))
+    → ((frames : List Frame) × IsFileUnder v frames bytes) ⊎ (((refusal : Refusal) × IsCutShort v bytes refusal) ⊎ ((refusal : Refusal) × FirstOffendingWord v bytes refusal))
 each_ends v takes bytes are =
     let cases : (r : Option Refusal) → refusal_of v bytes ≡ r
-    → ((frames : List Frame) × IsFileUnder v frames bytes) ⊎ (((refusal : Refusal) × IsCutShort v bytes refusal) ⊎ ((refusal : Refusal) × HasOffence v bytes refusal)) = elim [
+    → ((frames : List Frame) × IsFileUnder v frames bytes) ⊎ (((refusal : Refusal) × IsCutShort v bytes refusal) ⊎ ((refusal : Refusal) × FirstOffendingWord v bytes refusal)) = elim [
       | None ↦ λ none. elim (nothing_or_some (open_behind bytes)) [
         | inl nothing ↦ inl (caught_file v bytes are none nothing)
         | inr some ↦ inr (inl (truncated bytes, open_is_cut_short v takes bytes are none some))
@@ -88,20 +88,20 @@ each_ends v takes bytes are =
     ] in cases _ refl
 
 -- never two of these
-pub file_has_no_offence : (v : Verdict CdpPart) (frames : List Frame) (bytes : List ℕ) (refusal : Refusal) → IsFileUnder v frames bytes → HasOffence v bytes refusal → ⊥
+pub file_has_no_offence : (v : Verdict CdpPart) (frames : List Frame) (bytes : List ℕ) (refusal : Refusal) → IsFileUnder v frames bytes → FirstOffendingWord v bytes refusal → ⊥
 file_has_no_offence v frames bytes refusal file offence =
     some_or_none (refusal_of v bytes) refusal (offence_refused v bytes refusal offence) (file_caught v frames bytes file).1
 
-pub cut_short_has_no_offence : (v : Verdict CdpPart) (bytes : List ℕ) (refusal other : Refusal) → IsCutShort v bytes refusal → HasOffence v bytes other → ⊥
+pub cut_short_has_no_offence : (v : Verdict CdpPart) (bytes : List ℕ) (refusal other : Refusal) → IsCutShort v bytes refusal → FirstOffendingWord v bytes other → ⊥
 cut_short_has_no_offence v bytes refusal other cut offence =
     some_or_none (refusal_of v bytes) other (offence_refused v bytes other offence) (unoffending_is_unrefused v bytes cut.unoffending)
 
 -- an offence is one, whatever bytes follow
-pub offence_is_one : (v : Verdict CdpPart) (bytes : List ℕ) (refusal other : Refusal) → HasOffence v bytes refusal → HasOffence v bytes other → refusal ≡ other
+pub offence_is_one : (v : Verdict CdpPart) (bytes : List ℕ) (refusal other : Refusal) → FirstOffendingWord v bytes refusal → FirstOffendingWord v bytes other → refusal ≡ other
 offence_is_one v bytes refusal other one two =
     same_refusal refusal other (sym (offence_refused v bytes refusal one) ∙ offence_refused v bytes other two)
 
-pub offence_stays : (v : Verdict CdpPart) (bytes more : List ℕ) (refusal : Refusal) → HasOffence v bytes refusal → HasOffence v (bytes ++ more) refusal
+pub offence_stays : (v : Verdict CdpPart) (bytes more : List ℕ) (refusal : Refusal) → FirstOffendingWord v bytes refusal → FirstOffendingWord v (bytes ++ more) refusal
 offence_stays v bytes more refusal has = record {
   before = has.before;
   high = has.high;

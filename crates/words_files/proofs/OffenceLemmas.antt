@@ -12,7 +12,7 @@ use Rattle.anc_words.specs.Reading.{Open, judge_byte, nothing_open, open_after, 
 use Rattle.anc_words.proofs.ByteLemmas.{last_high, open-words_of}
 use Rattle.cdp_packets.specs.declared.parts.CdpPart.{CdpPart}
 use Rattle.words_files.specs.Catching.{caption_verdict, refusal_of}
-use Rattle.words_files.specs.Offences.{AreWholeWords, Begins, HasOffence, IsFileUnder, IsUnoffending, TakesFilling, reason_of}
+use Rattle.words_files.specs.Offences.{AreWholeWords, Begins, FirstOffendingWord, IsFileUnder, IsUnoffending, TakesFilling, reason_of}
 use Rattle.words_files.proofs.BeginsLemmas.{goes_on}
 use Rattle.words_files.proofs.CaughtLemmas.{file_caught}
 use Rattle.words_files.proofs.WordLemmas.{All-split}
@@ -194,7 +194,7 @@ nowhere v before high low why whole none reason begins =
 
 -- a refusal is that of the first offending word
 pub refused_offends : (v : Verdict CdpPart) → TakesFilling v → (bytes : List ℕ) (refusal : Refusal) → All (λ byte. byte < 256) bytes
-    → refusal_of v bytes ≡ Some refusal → HasOffence v bytes refusal
+    → refusal_of v bytes ≡ Some refusal → FirstOffendingWord v bytes refusal
 refused_offends v takes bytes refusal are some =
     let first = first-from v [] bytes refusal refl refl some in
     let (before_are, _) = All-split (λ byte. byte < 256) first.before (first.high ∷ first.low ∷ first.rest) (subst (All (λ byte. byte < 256)) first.spelled are) in record {
@@ -211,7 +211,7 @@ refused_offends v takes bytes refusal are some =
     }
 
 -- and the first offending word is refused
-pub offence_refused : (v : Verdict CdpPart) (bytes : List ℕ) (refusal : Refusal) → HasOffence v bytes refusal → refusal_of v bytes ≡ Some refusal
+pub offence_refused : (v : Verdict CdpPart) (bytes : List ℕ) (refusal : Refusal) → FirstOffendingWord v bytes refusal → refusal_of v bytes ≡ Some refusal
 offence_refused v bytes refusal has =
     let place = length has.before % 2 ^ 64 in
     let none = begins_unrefused v has.before has.begins in

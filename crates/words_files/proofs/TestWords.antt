@@ -12,7 +12,7 @@ use Rattle.cdp_packets.specs.PacketParts.{packet_parts}
 use Rattle.cdp_packets.specs.Packets.{Packet as Frame}
 use Rattle.words_files.specs.Catching.{Caught, caught_in, never, refusal_of}
 use Rattle.words_files.specs.Examples.{frame_without_captions}
-use Rattle.words_files.specs.Offences.{HasOffence, IsCutShort, IsFileUnder}
+use Rattle.words_files.specs.Offences.{FirstOffendingWord, IsCutShort, IsFileUnder}
 use Rattle.words_files.proofs.CaughtLemmas.{caught_file, file_caught}
 use Rattle.words_files.proofs.EndingLemmas.{never_takes, open_is_cut_short, truncated}
 use Rattle.words_files.proofs.OffenceLemmas.{refusal-before, refused_offends}
@@ -34,7 +34,7 @@ bytes-are (byte ∷ bytes) test =
     let (one, rest) = both_true (nat_lt byte 256) (are_bytes bytes) test in
     All-cons IsByte byte bytes (grind (arith, nat_tests)) (bytes-are bytes rest)
 
-pub offends : (bytes : List ℕ) (refusal : Refusal) → are_bytes bytes ≡ true → refusal_of never bytes ≡ Some refusal → HasOffence never bytes refusal
+pub offends : (bytes : List ℕ) (refusal : Refusal) → are_bytes bytes ≡ true → refusal_of never bytes ≡ Some refusal → FirstOffendingWord never bytes refusal
 offends bytes refusal test some = refused_offends never never_takes bytes refusal (bytes-are bytes test) some
 
 -- half a word is open, or words of a packet

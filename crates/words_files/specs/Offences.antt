@@ -38,7 +38,7 @@ reason_of verdict before word =
 
 -- the bytes have a first offending word: some file begins with the words before it, and none with these and the word itself;
 -- its place is the number of its first byte, modulo 2^64
-pub record HasOffence (verdict : Verdict CdpPart) (bytes : List ℕ) (refusal : Refusal) : Type 0 where
+pub record FirstOffendingWord (verdict : Verdict CdpPart) (bytes : List ℕ) (refusal : Refusal) : Type 0 where
   pub before : List ℕ
   pub high : ℕ
   pub low : ℕ
@@ -68,7 +68,7 @@ pub record IsCutShort (verdict : Verdict CdpPart) (bytes : List ℕ) (refusal : 
 
 -- the bytes are no file: a word of them offends, or they are cut short
 abbrev pub IsMalformed : Verdict CdpPart → List ℕ → Refusal → Type 0
-IsMalformed verdict bytes refusal = HasOffence verdict bytes refusal ⊎ IsCutShort verdict bytes refusal
+IsMalformed verdict bytes refusal = FirstOffendingWord verdict bytes refusal ⊎ IsCutShort verdict bytes refusal
 
 -- the layers above take what only fills the open packet, wherever they took what came before
 abbrev pub TakesFilling : Verdict CdpPart → Type 0

@@ -3,7 +3,10 @@
 use Rattle.std.specs.Prelude.{ℕ, suc, ◌==◌, ◌&&◌, Bool, true, false, if◌then◌else◌, List, [], ◌∷◌, reverse, take}
 use Rattle.std.specs.List.{flat_map}
 use Rattle.line21_codes.specs.declared.pairs.Pair.{Pair}
-use Rattle.line21_screen.specs.Fields.{FieldState}
+use Rattle.line21_codes.specs.Channels.{is_in_second_field, is_second_channel}
+use Rattle.line21_codes.specs.declared.channels.Chan.{Chan}
+use Rattle.line21_screen.specs.Fields.{FieldState, channel}
+use Rattle.line21_screen.specs.Grid.{Grid}
 use Rattle.line21_screen.specs.Meaning.{after}
 use Rattle.cc_data.specs.declared.triplet.Triplet.{Triplet}
 use Rattle.cdp_packets.specs.Packets.{Packet as Frame}
@@ -34,3 +37,7 @@ received second_field frames = after second_field (reverse (received_pairs secon
 -- the state of a field at a frame: behind the frames up to this one
 abbrev pub received_at : Bool → List Frame → ℕ → FieldState
 received_at second_field frames frame = received second_field (take (suc frame) frames)
+
+-- the received grids: the displayed cells of each channel behind frames
+abbrev pub received_grids : List Frame → Chan → Grid
+received_grids frames chan = (channel (is_second_channel chan) (received (is_in_second_field chan) frames)).displayed

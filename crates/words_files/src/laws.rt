@@ -12,7 +12,7 @@ ghost use Rattle.cdp_packets.specs.Packets.{Packet};
 ghost use Rattle.words_files.specs.Catching.{caught_in, never, refusal_of};
 ghost use Rattle.words_files.specs.Frames.{IsFileOf};
 ghost use Rattle.words_files.specs.FramesOf.{AreFramesOf};
-ghost use Rattle.words_files.specs.Offences.{AreWholeWords, Begins, HasOffence, IsCutShort, IsFileUnder, IsUnoffending, TakesFilling};
+ghost use Rattle.words_files.specs.Offences.{AreWholeWords, Begins, FirstOffendingWord, IsCutShort, IsFileUnder, IsUnoffending, TakesFilling};
 
 /// The bytes of a words file are a file of one list of frames alone.
 pub fn files_have_one_list_of_frames()
@@ -63,10 +63,10 @@ pub fn files_begin_with_their_first_bytes()
 
 /// A word offends where no file goes on with it: bytes are refused exactly where they have an offending word, at the place of
 /// the first and for its reason, and they aren't refused exactly where no word of them offends.
-pub fn a_word_offends_where_no_file_goes_on()
+pub fn first_offence_exact()
     ensures refused { (verdict : Verdict Part) → TakesFilling verdict → (bytes : List ℕ) (refused : Refused) → All (λ byte. byte < 256) bytes
-        → refusal_of verdict bytes ≡ Some refused → HasOffence verdict bytes refused }
-    ensures offends { (verdict : Verdict Part) (bytes : List ℕ) (refused : Refused) → HasOffence verdict bytes refused
+        → refusal_of verdict bytes ≡ Some refused → FirstOffendingWord verdict bytes refused }
+    ensures offends { (verdict : Verdict Part) (bytes : List ℕ) (refused : Refused) → FirstOffendingWord verdict bytes refused
         → refusal_of verdict bytes ≡ Some refused }
     ensures unrefused { (verdict : Verdict Part) → TakesFilling verdict → (bytes : List ℕ) → All (λ byte. byte < 256) bytes
         → refusal_of verdict bytes ≡ None → IsUnoffending verdict bytes }
@@ -76,9 +76,9 @@ pub fn a_word_offends_where_no_file_goes_on()
 /// The first offending word of bytes is one, with one place and one reason, and it stays the first, whatever bytes follow.
 pub fn an_offence_is_one()
     ensures one { (verdict : Verdict Part) (bytes : List ℕ) (refused other : Refused)
-        → HasOffence verdict bytes refused → HasOffence verdict bytes other → refused ≡ other }
+        → FirstOffendingWord verdict bytes refused → FirstOffendingWord verdict bytes other → refused ≡ other }
     ensures stays { (verdict : Verdict Part) (bytes more : List ℕ) (refused : Refused)
-        → HasOffence verdict bytes refused → HasOffence verdict (bytes ++ more) refused }
+        → FirstOffendingWord verdict bytes refused → FirstOffendingWord verdict (bytes ++ more) refused }
 {}
 
 /// Bytes are cut short exactly where none of their words is refused and something is open behind them: half a word, or a packet
@@ -97,11 +97,11 @@ pub fn bytes_are_cut_short_where_something_is_open()
 pub fn every_input_is_a_file_or_cut_short_or_offends()
     ensures each { (verdict : Verdict Part) → TakesFilling verdict → (bytes : List ℕ) → All (λ byte. byte < 256) bytes
         → ((frames : List Packet) × IsFileUnder verdict frames bytes)
-        ⊎ (((refused : Refused) × IsCutShort verdict bytes refused) ⊎ ((refused : Refused) × HasOffence verdict bytes refused)) }
+        ⊎ (((refused : Refused) × IsCutShort verdict bytes refused) ⊎ ((refused : Refused) × FirstOffendingWord verdict bytes refused)) }
     ensures file { (verdict : Verdict Part) (frames : List Packet) (bytes : List ℕ) (refused : Refused)
-        → IsFileUnder verdict frames bytes → IsCutShort verdict bytes refused ⊎ HasOffence verdict bytes refused → ⊥ }
+        → IsFileUnder verdict frames bytes → IsCutShort verdict bytes refused ⊎ FirstOffendingWord verdict bytes refused → ⊥ }
     ensures cut_short { (verdict : Verdict Part) (bytes : List ℕ) (refused other : Refused)
-        → IsCutShort verdict bytes refused → HasOffence verdict bytes other → ⊥ }
+        → IsCutShort verdict bytes refused → FirstOffendingWord verdict bytes other → ⊥ }
 {}
 
 /// Where there is no layer above, all parts of distribution packets are taken, those that fill a packet among them, and each

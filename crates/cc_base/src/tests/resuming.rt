@@ -3,7 +3,7 @@ ghost use Rattle.cc_base.specs.declared.step.Step.TheVariants.{Nothing, One, Two
 ghost use Rattle.cc_base.specs.declared.why.Why.TheVariants as why;
 
 use crate::feeding::feed_pieces;
-use crate::laws::{pieces_are_read_as_one, refusals_are_of_the_first_refused_item};
+use crate::laws::{law_of_pieces, refusals_are_of_the_first_refused_item};
 use crate::machine::{Fed, Machine};
 use crate::refusal::Refusal;
 use crate::resume::{Resume, Upward};
@@ -164,7 +164,7 @@ fn two_parts_come_in_order_up_to_a_refused_one(rt: HostRuntime) {
 
 #[test]
 fn two_pieces_are_one(rt: HostRuntime) {
-    pieces_are_read_as_one::<u8, u16>();
+    law_of_pieces::<u8, u16>();
     refusals_are_of_the_first_refused_item::<u8, u16>();
     let mut reader = new_reader();
     let mut tally = new_tally();

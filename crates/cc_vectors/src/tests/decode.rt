@@ -149,6 +149,26 @@ fn a_refused_word_is_told_by_its_place_and_reason(rt: HostRuntime) -> Result<(),
 }
 
 #[test]
+fn a_refused_word_ends_the_run_before_the_next_take(rt: HostRuntime) -> Result<(), Fail> {
+    let alloc = rt.alloc();
+    // The first word is 0001, and the take behind it would fail.
+    let ended = run_to_end(
+        alloc,
+        Given {
+            piece: 1,
+            failing_takes: &[2],
+            ..decode_of(b"\x00\x01\x03\xFF")
+        },
+    )?;
+    assert_eq!(rt; ended.status, refused_at(0, Why::Flag));
+    assert_eq!(rt;
+        ended.err.bytes(),
+        b"malformed at byte 0: Flag\n".as_slice()
+    );
+    Ok(())
+}
+
+#[test]
 fn the_changes_before_a_refused_word_are_put(rt: HostRuntime) -> Result<(), Fail> {
     let alloc = rt.alloc();
     let words = hi_words_ended_wrong(alloc)?;

@@ -14,7 +14,7 @@ loop-section-preserved c gathered cut are joined holds =
     way_next (with_all (flat_map section_triplets cut) gathered) c.loop-section.rest.now c.in-Some.section.now c.in-Some.behind.now
     c.loop-section.self c.take_triplets.new.self (c.loop-section.invariant gathered cut are joined holds)
     c.in-Some.ensures.section c.in-Some.ensures.whole
-    (λ g held. subst (λ ts. Holds (with_all ts g) c.take_triplets.new.self) c.triplet_bytes.ensures (c.take_triplets.ensures g held))
+    (λ g held. subst (λ ts. Holds (with_all ts g) c.take_triplets.new.self) c.triplet_bytes.ensures.triplets (c.take_triplets.ensures g held))
 
 pub returns : goal.returns
 returns c gathered cut are joined holds =

@@ -1,6 +1,6 @@
 use Rattle.std.proofs.Common.{◌≡◌, ◌∙◌, ◌∷◌, ◌++◌, [], sym}
 use Rattle.std.proofs.Math.Path.{fun_ext}
-use Rattle.ccsuite_cli.specs.Screens.{screens_behind}
+use Rattle.words_files.specs.Received.{received_grids}
 use Rattle.ccsuite_cli.proofs.FramesLemmas.{frames_shown}
 use Rattle.ccsuite_cli.proofs.PrintingLemmas.{changes_gathered, idle_gathered, screens_put, screens_still}
 use Rattle.ccsuite_cli.proofs.printer.Printer.print.Goals as goal
@@ -9,7 +9,7 @@ pub returns-then-is_idle-clause-text : goal.returns-then-is_idle-clause-text
 returns-then-is_idle-clause-text g c texts start bytes frames next printed received are number way =
     let was = rw c.in-Changes.is at printed in
     let screens = frames_shown bytes (frames ++ next ∷ []) c.args.receiver.now received are in
-    let same : screens_behind (frames ++ next ∷ []) ≡ screens_behind frames =
+    let same : received_grids (frames ++ next ∷ []) ≡ received_grids frames =
     sym screens ∙ fun_ext (λ chan. c.is_idle.ensures.still bytes frames next received are c.if-is_idle.true chan) in
     idle_gathered texts _ _ _ frames next was.0 same way
 

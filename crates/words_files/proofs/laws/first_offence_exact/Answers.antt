@@ -1,5 +1,5 @@
 use Rattle.words_files.proofs.OffenceLemmas.{offence_refused, refused_offends, unoffending_is_unrefused, unrefused_is_unoffending}
-use Rattle.words_files.proofs.laws.a_word_offends_where_no_file_goes_on.Goals as goal
+use Rattle.words_files.proofs.laws.first_offence_exact.Goals as goal
 
 pub returns-clause-refused : goal.returns-clause-refused
 returns-clause-refused c = refused_offends

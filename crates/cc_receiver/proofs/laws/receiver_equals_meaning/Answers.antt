@@ -1,6 +1,6 @@
 use Rattle.cc_receiver.proofs.ReceivedLemmas.{shown_received}
 use Rattle.cc_receiver.proofs.TakenLemmas.{frames_count}
-use Rattle.cc_receiver.proofs.laws.a_receiver_shows_its_frames.Goals as goal
+use Rattle.cc_receiver.proofs.laws.receiver_equals_meaning.Goals as goal
 
 pub returns-clause-count : goal.returns-clause-count
 returns-clause-count c = λ bytes frames receiver had are. frames_count frames bytes receiver had are

@@ -1,0 +1,5 @@
+use Rattle.ccsuite_cli.proofs.LongWordsLemmas.{long_refused}
+use Rattle.ccsuite_cli.proofs.laws.long_words_are_refused.Goals as goal
+
+pub returns : goal.returns
+returns c = long_refused
