@@ -3,5 +3,6 @@ pub mod Puts
 pub mod ReachedLemmas
 pub mod ReadingLemmas
 pub mod StepLemmas
+pub mod SyntaxLemmas
 pub mod Takes
 pub mod Underway

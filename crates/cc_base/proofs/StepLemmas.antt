@@ -1,39 +1,17 @@
--- Items one after another: the fronts to which they lead, and the parts that they make and a layer above takes.
+-- Items one after another: the fronts to which they lead, and the parts that a layer above takes.
 use Rattle.std.proofs.Common.{◌≡◌, ℕ, ◌++◌, List, [], ◌∷◌, Option, Some, None, refl, ap, sym, subst, ◌∙◌, append_assoc, append-nil}
 use Rattle.cc_base.specs.declared.refusal.Refusal.{Refusal}
 use Rattle.cc_base.specs.declared.step.Step.{Step}
 use Rattle.cc_base.specs.declared.step.Step.TheVariants.{Nothing, One, Two, Refuse}
 use Rattle.cc_base.specs.declared.why.Why.{Why}
-use Rattle.cc_base.specs.Feeding.{Verdict, Handed, Reading, hand, hand_first, read_first, reading, refused_at}
-use Rattle.cc_base.specs.Steps.{AllTaken, AreAccepted, IsTaken, front_from, judge_by, parts_by, step_parts}
+use Rattle.cc_base.specs.Feeding.{Verdict, Handed, Reading, hand, hand_first, read_first, refused_at}
+use Rattle.cc_base.specs.Steps.{AreAccepted, IsTaken, front_from, step_parts, step_why}
 
 -- the front behind more items
 pub front_from-append : {Front I : Type 0} (after : Front → I → Front) (front : Front) (items more : List I)
     → front_from after front (items ++ more) ≡ front_from after (front_from after front items) more
 front_from-append after front [] more = refl
 front_from-append after front (item ∷ items) more = front_from-append after (after front item) items more
-
--- items and more items, none of which is refused
-pub AllTaken-append : {Front I P : Type 0} (judge : Front → I → Step P) (after : Front → I → Front) (front : Front) (items more : List I)
-    → AllTaken judge after front items → AllTaken judge after (front_from after front items) more → AllTaken judge after front (items ++ more)
-AllTaken-append judge after front [] more all next = next
-AllTaken-append judge after front (item ∷ items) more (is, all) next = (is, AllTaken-append judge after (after front item) items more all next)
-
--- the first of them, and the others
-pub AllTaken-split : {Front I P : Type 0} (judge : Front → I → Step P) (after : Front → I → Front) (front : Front) (items more : List I)
-    → AllTaken judge after front (items ++ more) → AllTaken judge after front items × AllTaken judge after (front_from after front items) more
-AllTaken-split judge after front [] more all = (tt, all)
-AllTaken-split judge after front (item ∷ items) more (is, all) =
-    let (some, rest) = AllTaken-split judge after (after front item) items more all in
-    ((is, some), rest)
-
--- the parts of items and more items
-pub parts_by-append : {Front I P : Type 0} (judge : Front → I → Step P) (after : Front → I → Front) (front : Front) (items more : List I)
-    → parts_by judge after front (items ++ more) ≡ parts_by judge after front items ++ parts_by judge after (front_from after front items) more
-parts_by-append judge after front [] more = refl
-parts_by-append judge after front (item ∷ items) more =
-    ap (λ parts. step_parts (judge front item) ++ parts) (parts_by-append judge after (after front item) items more)
-    ∙ sym (append_assoc (step_parts (judge front item)) (parts_by judge after (after front item) items) _)
 
 -- parts and more parts, all accepted
 pub AreAccepted-append : {P : Type 0} (verdict : Verdict P) (above parts more : List P)
@@ -59,6 +37,13 @@ hand_first-none : {P : Type 0} (why : Option Why) (part : P) (rest : Handed P) �
 hand_first-none None part rest none = (refl, none, refl)
 hand_first-none (Some why) part rest none = absurd cc
 
+-- a step that is no refusal has no reason, and one without a reason is taken
+pub step_why-none : {P : Type 0} (step : Step P) → ((why : Why) → step ≡ Refuse why → ⊥) → step_why step ≡ None
+step_why-none Nothing other = refl
+step_why-none (One part) other = refl
+step_why-none (Two first second) other = refl
+step_why-none (Refuse why) other = absurd (other why refl)
+
 -- an item that is refused neither by the reader nor above: its step is no refusal, and its parts are accepted
 pub hand-none : {P : Type 0} (verdict : Verdict P) (above : List P) (step : Step P) → (hand verdict above step).why ≡ None
     → IsTaken step × AreAccepted verdict above (step_parts step) × ((hand verdict above step).parts ≡ step_parts step)
@@ -83,7 +68,7 @@ hand-accepted verdict above (Two first second) is (one, (two, _)) =
 hand-accepted verdict above (Refuse why) is all = absurd is
 
 -- a refusal or none
-refused_at-none : (place : ℕ) (why : Option Why) → refused_at place why ≡ None → why ≡ None
+pub refused_at-none : (place : ℕ) (why : Option Why) → refused_at place why ≡ None → why ≡ None
 refused_at-none place None none = refl
 refused_at-none place (Some why) none = absurd cc
 
@@ -92,43 +77,3 @@ pub read_first-none : {P : Type 0} (refusal : Option Refusal) (parts : List P) (
     → (refusal ≡ None) × (rest.refusal ≡ None)
 read_first-none None parts rest none = (refl, none)
 read_first-none (Some refusal) parts rest none = absurd cc
-
--- items of which none was refused: neither by the reader nor above
-pub reading-none : {Front I P : Type 0} (judge : Front → I → Step P) (after : Front → I → Front) (start : Front)
-    (verdict : Verdict P) (place : List I → ℕ) (before : List I) (above : List P) (items : List I)
-    → (reading (judge_by judge after start) verdict place before above items).refusal ≡ None
-    → AllTaken judge after (front_from after start before) items × AreAccepted verdict above (parts_by judge after (front_from after start before) items)
-reading-none judge after start verdict place before above [] none = (tt, tt)
-reading-none judge after start verdict place before above (item ∷ items) none =
-    let front = front_from after start before in
-    let handed = hand verdict above (judge front item) in
-    let (first, rest) = read_first-none (refused_at (place before) handed.why) handed.parts _ none in
-    let (is, accepted, parts) = hand-none verdict above (judge front item) (refused_at-none (place before) handed.why first) in
-    let (all, others) = reading-none judge after start verdict place (before ++ item ∷ []) (above ++ handed.parts) items rest in
-    let next : front_from after start (before ++ item ∷ []) ≡ after front item = front_from-append after start before (item ∷ []) in (
-      (is, subst (λ f. AllTaken judge after f items) next all),
-      AreAccepted-append verdict above (step_parts (judge front item)) _ accepted
-          (subst (λ f. AreAccepted verdict (above ++ step_parts (judge front item)) (parts_by judge after f items)) next
-          (subst (λ ps. AreAccepted verdict (above ++ ps) (parts_by judge after (front_from after start (before ++ item ∷ [])) items)) parts others)),
-    )
-
--- items that are refused neither by the reader nor above are read, with their parts
-pub reading-accepted : {Front I P : Type 0} (judge : Front → I → Step P) (after : Front → I → Front) (start : Front)
-    (verdict : Verdict P) (place : List I → ℕ) (before : List I) (above : List P) (items : List I)
-    → AllTaken judge after (front_from after start before) items
-    → AreAccepted verdict above (parts_by judge after (front_from after start before) items)
-    → reading (judge_by judge after start) verdict place before above items
-    ≡ record { parts = parts_by judge after (front_from after start before) items; refusal = None }
-reading-accepted judge after start verdict place before above [] all accepted = refl
-reading-accepted judge after start verdict place before above (item ∷ items) (is, all) accepted =
-    let front = front_from after start before in
-    let parts = step_parts (judge front item) in
-    let (some, others) = AreAccepted-split verdict above parts (parts_by judge after (after front item) items) accepted in
-    let next : after front item ≡ front_from after start (before ++ item ∷ []) = sym (front_from-append after start before (item ∷ [])) in
-    let rest = reading-accepted judge after start verdict place (before ++ item ∷ []) (above ++ parts) items
-    (subst (λ f. AllTaken judge after f items) next all)
-    (subst (λ f. AreAccepted verdict (above ++ parts) (parts_by judge after f items)) next others) in
-    ap (λ (h : Handed _). read_first (refused_at (place before) h.why) h.parts (reading (judge_by judge after start) verdict place (before ++ item ∷ []) (above ++ h.parts) items))
-    (hand-accepted verdict above (judge front item) is some)
-    ∙ ap (λ r. read_first None parts r) rest
-    ∙ ap (λ f. let r : Reading _ = record { parts = parts ++ parts_by judge after f items; refusal = None } in r) (sym next)

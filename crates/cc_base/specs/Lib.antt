@@ -6,4 +6,5 @@ pub mod MemorySource
 pub mod Rate
 pub mod Steps
 pub mod Streams
+pub mod Syntax
 pub mod Why

@@ -13,7 +13,6 @@ pub use crate::pieces::put_pieces;
 pub use crate::rate::Rate;
 pub use crate::refusal::Refusal;
 pub use crate::resume::{Resume, Upward};
-pub use crate::stack::Stack;
 pub use crate::step::Step;
 pub use crate::streams::{Put, Sink, Source, Took};
 pub use crate::whole::{ReadError, read_whole};
@@ -31,7 +30,6 @@ mod pieces;
 mod rate;
 mod refusal;
 mod resume;
-mod stack;
 mod step;
 mod streams;
 #[cfg(test)]

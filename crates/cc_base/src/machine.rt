@@ -1,8 +1,11 @@
-ghost use Rattle.std.specs.Prelude.{◌≡◌, ℕ, ◌<◌, ◌++◌, List, None};
+ghost use Rattle.std.specs.Prelude.{◌≡◌, ℕ, ◌-◌, ◌%◌, ◌<◌, ◌++◌, [], ◌∷◌, List, None, Some};
 ghost use Rattle.std.specs.Mem.{FitsInMemory};
-ghost use Rattle.cc_base.specs.declared.step.Step.{Step as Stepped};
-ghost use Rattle.cc_base.specs.Feeding.{hand, place_by};
-ghost use Rattle.cc_base.specs.Steps.{HasTaken, IsTaken, judge_by};
+ghost use Rattle.cc_base.specs.declared.refusal.Refusal.{Refusal as Refused};
+ghost use Rattle.cc_base.specs.declared.step.Step.TheVariants.{Refuse};
+ghost use Rattle.cc_base.specs.declared.why.Why.{Why as Reason};
+ghost use Rattle.cc_base.specs.Feeding.{hand, place_by, why_of};
+ghost use Rattle.cc_base.specs.Steps.{IsTaken, step_why};
+ghost use Rattle.cc_base.specs.Syntax.{HasTaken, Syntax, judge_by, open_behind};
 
 use crate::refusal::Refusal;
 use crate::resume::{Resume, Upward};
@@ -13,16 +16,10 @@ use crate::why::Why;
 pub trait Machine<I, P> {
     /// What a machine is made with.
     ghost Given: { Type 0 };
-    /// What the machines of a `Stack` are made with.
-    ghost usual: { Given };
     /// What is open after some items.
     ghost Front: { Type 0 };
-    /// The front before the first item.
-    ghost start: { Front };
-    /// The front after one more item.
-    ghost after: { Given → Front → I → Front };
-    /// What is made of an item at a front.
-    ghost judge: { Given → Front → I → Stepped P };
+    /// The syntax by which it judges.
+    ghost syntax: { Given → Syntax Front I P };
     /// The machine is at this front.
     ghost Matches: { Given → Front → Self → Type 0 };
     /// How many items have one place.
@@ -32,9 +29,9 @@ pub trait Machine<I, P> {
 
     /// Judges the next item, and goes on behind it where it isn't refused.
     fn step(&mut self, item: I) -> Step<P>
-        ensures says { (given : Given) (front : Front) → Matches given front self.old → result ≡ judge given front item }
+        ensures says { (given : Given) (front : Front) → Matches given front self.old → result ≡ (syntax given).judge front item }
         ensures leads { (given : Given) (front : Front) → Matches given front self.old → IsTaken result
-            → Matches given (after given front item) self.new };
+            → Matches given ((syntax given).after front item) self.new };
 
     /// Places are told apart.
     ghost unit_is_positive: { 0 < UNIT };
@@ -66,6 +63,47 @@ impl<M> Fed<M> {
             refusal: None,
         }
     }
+
+    /// Reads the next item by itself, for a caller that takes its parts as they come: what `feed` makes of one item before it
+    /// hands the parts upward. A refusal of the reader's own is kept, and answered from then on with nothing read.
+    pub fn step<I: Copy, P>(&mut self, item: I) -> Step<P>
+    where
+        M: Machine<I, P>,
+        ensures says { (given : M.Given) (items : List I) → HasTaken (M.syntax given) (M.Matches given) items self.old
+            → result ≡ (M.syntax given).judge (open_behind (M.syntax given) items) item }
+        ensures leads { (given : M.Given) (items : List I) → HasTaken (M.syntax given) (M.Matches given) items self.old
+            → IsTaken result → HasTaken (M.syntax given) (M.Matches given) (items ++ item ∷ []) self.new }
+        ensures refused { (given : M.Given) (items : List I) (why : Reason) → HasTaken (M.syntax given) (M.Matches given) items self.old
+            → result ≡ Refuse why → self.new.refusal ≡ Some (record { place = place_by M.UNIT items; why = why }) }
+        ensures kept { (refused : Refused) → self.old.refusal ≡ Some refused → (result ≡ Refuse refused.why) × (self.new ≡ self.old) }
+        ensures told { step_why result ≡ why_of self.new.refusal }
+    {
+        if let Some(refusal) = self.refusal {
+            return Step::Refuse(refusal.why);
+        }
+        let step = self.machine.step(item);
+        match step {
+            Step::Refuse(why) => {
+                let _refusal = self.refuse(M::UNIT, why);
+            }
+            _ => self.taken = self.taken.wrapping_add(1),
+        }
+        step
+    }
+
+    // Refuses the next item, where so many items have one place, and keeps the refusal.
+    fn refuse(&mut self, unit: u64, why: Why) -> Refusal
+        requires { 0 < unit }
+        ensures refusal { result ≡ record { place = self.old.taken - self.old.taken % unit; why = why } }
+        ensures kept { self.new ≡ record self.old { refusal = Some result } }
+    {
+        let refusal = Refusal {
+            place: self.taken - self.taken % unit,
+            why,
+        };
+        self.refusal = Some(refusal);
+        refusal
+    }
 }
 
 /// Hands the parts of a step upward, up to the first refused one, and says why the item is refused, if it is.
@@ -87,14 +125,11 @@ fn hand_up<P: Copy, U: Upward<P>>(step: Step<P>, up: &mut U) -> Option<Why>
 impl<I: Copy, P: Copy, M: Machine<I, P>> Resume<I, P> for Fed<M> {
     ghost Given = { M.Given };
 
-    ghost usual = { M.usual };
-
-    ghost judge = { λ given. judge_by (M.judge given) (M.after given) M.start };
+    ghost judge = { λ given. judge_by (M.syntax given) };
 
     ghost place = { place_by M.UNIT };
 
-    ghost Leads = { λ given items reader.
-        HasTaken (M.judge given) (M.after given) M.start (M.Matches given) items reader.machine reader.taken reader.refusal };
+    ghost Leads = { λ given items reader. HasTaken (M.syntax given) (M.Matches given) items reader };
 
     ghost refusal = { λ reader. reader.refusal };
 
@@ -104,10 +139,7 @@ impl<I: Copy, P: Copy, M: Machine<I, P>> Resume<I, P> for Fed<M> {
         }
         for item in input {
             if let Some(why) = hand_up(self.machine.step(*item), up) {
-                let place = self.taken - self.taken % M::UNIT;
-                let refusal = Refusal { place, why };
-                self.refusal = Some(refusal);
-                return Err(refusal);
+                return Err(self.refuse(M::UNIT, why));
             }
             self.taken = self.taken.wrapping_add(1);
         }

@@ -24,8 +24,6 @@ pub trait Upward<P> {
 pub trait Resume<I, P> {
     /// What a reader is made with.
     ghost Given: { Type 0 };
-    /// What the readers of a `Stack` are made with.
-    ghost usual: { Given };
     /// What it makes of an item after the items before it.
     ghost judge: { Given → Judge I P };
     /// The place of the next item after these.

@@ -7,7 +7,6 @@ use crate::laws::{law_of_pieces, refusals_are_of_the_first_refused_item};
 use crate::machine::{Fed, Machine};
 use crate::refusal::Refusal;
 use crate::resume::{Resume, Upward};
-use crate::stack::Stack;
 use crate::step::Step;
 use crate::why::Why;
 
@@ -23,18 +22,16 @@ impl Machine<u8, u16> for Numbers {
 
     ghost Given = { Unit {0} };
 
-    ghost usual = { tt };
-
     ghost Front = { ℕ };
 
-    ghost start = { 0 };
-
-    ghost after = { λ given number item. if item == 44 || item == 59 then 0 else (number * 10 % 65536 + (item - 48)) % 65536 };
-
-    ghost judge = { λ given number item. if item == 44 then One number
-        else if item == 59 then Two number 65535
-        else if nat_lt item 48 || nat_lt 57 item then Refuse why.Field
-        else Nothing };
+    ghost syntax = { λ given. record {
+      start = 0;
+      judge = λ number item. if item == 44 then One number
+          else if item == 59 then Two number 65535
+          else if nat_lt item 48 || nat_lt 57 item then Refuse why.Field
+          else Nothing;
+      after = λ number item. if item == 44 || item == 59 then 0 else (number * 10 % 65536 + (item - 48)) % 65536;
+    } };
 
     ghost Matches = { λ given number machine. machine.number ≡ number };
 
@@ -185,17 +182,17 @@ fn two_pieces_are_one(rt: HostRuntime) {
 }
 
 #[test]
-fn a_stack_is_a_layer(rt: HostRuntime) {
-    let mut stack = Stack::new(new_reader(), new_tally());
-    assert_eq!(rt; stack.feed(b"5,6"), Ok(()));
-    assert_eq!(rt; stack.part(b','), Ok(()));
-    assert_eq!(rt; (stack.above.count, stack.above.digits), (2, 500_006));
-    assert_eq!(rt; stack.part(b'-'), Err(Why::Field));
-    assert_eq!(rt; stack.part(b','), Err(Why::Field));
-    let refusal = Refusal {
-        place: 4,
-        why: Why::Field,
-    };
-    assert_eq!(rt; stack.feed(b"7,"), Err(refusal));
-    assert_eq!(rt; stack.above.count, 2);
+fn items_are_read_one_by_one(rt: HostRuntime) {
+    let mut reader = new_reader();
+    assert_eq!(rt; reader.step(b'4'), Step::Nothing);
+    assert_eq!(rt; reader.step(b','), Step::One(4));
+    assert_eq!(rt; reader.step(b';'), Step::Two(0, 65535));
+    for item in [b'x', b','] {
+        assert_eq!(rt; reader.step(item), Step::Refuse(Why::Field));
+        let refusal = Refusal {
+            place: 2,
+            why: Why::Field,
+        };
+        assert_eq!(rt; reader.refusal, Some(refusal));
+    }
 }
