@@ -6,18 +6,19 @@ use Rattle.cc_base.specs.declared.step.Step.TheVariants.{Refuse}
 use Rattle.cc_base.specs.declared.why.Why.{Why}
 use Rattle.cc_base.specs.declared.why.Why.TheVariants as why
 use Rattle.cc_base.specs.Feeding.{Verdict, Reading, reading, place_by}
-use Rattle.cc_base.specs.Steps.{AllTaken, AreAccepted, IsTaken, front_from, judge_by, parts_by, step_parts}
-use Rattle.cc_base.proofs.StepLemmas.{AllTaken-split, reading-accepted}
+use Rattle.cc_base.specs.Steps.{AreAccepted, IsTaken, front_from, step_parts}
+use Rattle.cc_base.specs.Syntax.{AllTaken, Reads, open_behind, parts_from, read_under}
+use Rattle.cc_base.proofs.SyntaxLemmas.{AllTaken-split, read_under-reads}
 use Rattle.anc_words.specs.declared.parts.WordPart.{WordPart}
 use Rattle.anc_words.specs.Words.{AreWords}
 use Rattle.anc_words.specs.Packets.{Packet}
 use Rattle.anc_words.specs.WordsFiles.{ArePackets, IsWordsFile}
 use Rattle.anc_words.specs.Writing.{word_bytes}
-use Rattle.anc_words.specs.Reading.{Open, judge_byte, judge_ten_bits, judge_word, nothing_open, open_after, packet_parts, words_after}
+use Rattle.anc_words.specs.Reading.{word_syntax, anc_syntax, Open, judge_byte, judge_ten_bits, judge_word, nothing_open, open_after, packet_parts, words_after}
 use Rattle.anc_words.proofs.WordLemmas.{words_of, AreWords-words, AreWords-append, AreWords-flat_map}
 use Rattle.anc_words.proofs.PacketLemmas.{IsPacket-ten_bits}
 use Rattle.anc_words.proofs.WordsFileLemmas.{ArePackets-append}
-use Rattle.anc_words.proofs.ReadLemmas.{Reads, Reads-packets}
+use Rattle.anc_words.proofs.ReadLemmas.{Reads-packets}
 use Rattle.anc_words.proofs.SoundLemmas.{Splits, IsTaken-if, sound, test-below}
 use Rattle.anc_words.proofs.CompleteLemmas.{completes}
 
@@ -36,20 +37,20 @@ last_high (high ∷ []) = Some high
 last_high (high ∷ low ∷ bytes) = last_high bytes
 
 -- the words of bytes that are taken
-pub words_of-taken : (front bytes : List ℕ) → AllTaken judge_byte open_after (at_words front) bytes → AllTaken judge_word words_after front (words_of bytes)
+pub words_of-taken : (front bytes : List ℕ) → AllTaken anc_syntax (at_words front) bytes → AllTaken word_syntax front (words_of bytes)
 words_of-taken front [] taken = tt
 words_of-taken front (high ∷ []) taken = tt
 words_of-taken front (high ∷ low ∷ bytes) (_, (is, taken)) = (is, words_of-taken (words_after front (256 * high + low)) bytes taken)
 
 -- and the other way round
-pub taken-words_of : (front bytes : List ℕ) → AllTaken judge_word words_after front (words_of bytes) → AllTaken judge_byte open_after (at_words front) bytes
+pub taken-words_of : (front bytes : List ℕ) → AllTaken word_syntax front (words_of bytes) → AllTaken anc_syntax (at_words front) bytes
 taken-words_of front [] taken = tt
 taken-words_of front (high ∷ []) taken = (tt, tt)
 taken-words_of front (high ∷ low ∷ bytes) (is, taken) = (tt, (is, taken-words_of (words_after front (256 * high + low)) bytes taken))
 
 -- their parts
 pub parts-words_of : (front bytes : List ℕ)
-    → parts_by judge_byte open_after (at_words front) bytes ≡ parts_by judge_word words_after front (words_of bytes)
+    → parts_from anc_syntax (at_words front) bytes ≡ parts_from word_syntax front (words_of bytes)
 parts-words_of front [] = refl
 parts-words_of front (high ∷ []) = refl
 parts-words_of front (high ∷ low ∷ bytes) =
@@ -63,7 +64,7 @@ open-words_of front (high ∷ []) = refl
 open-words_of front (high ∷ low ∷ bytes) = open-words_of (words_after front (256 * high + low)) bytes
 
 -- bytes that are taken are words, if their number is even
-AreWords-taken : (front bytes : List ℕ) → AllByRecursion IsByte bytes → AllTaken judge_word words_after front (words_of bytes) → last_high bytes ≡ None
+AreWords-taken : (front bytes : List ℕ) → AllByRecursion IsByte bytes → AllTaken word_syntax front (words_of bytes) → last_high bytes ≡ None
     → AreWords bytes (words_of bytes)
 AreWords-taken front [] are taken none = tt
 AreWords-taken front (high ∷ []) are taken none = absurd cc
@@ -80,26 +81,21 @@ last_high-words (high ∷ []) words are = absurd are
 last_high-words (high ∷ low ∷ bytes) [] are = absurd are
 last_high-words (high ∷ low ∷ bytes) (word ∷ words) (_, are) = last_high-words bytes words are
 
--- what is read of a file
-pub record ReadsFile (packets : List Packet) (bytes : List ℕ) : Type 0 where
-  pub taken : AllTaken judge_byte open_after nothing_open bytes
-  pub makes : parts_by judge_byte open_after nothing_open bytes ≡ flat_map packet_parts packets
-  pub leads : front_from open_after nothing_open bytes ≡ nothing_open
-
 -- a file is read, and leaves nothing open
-pub file_is_read : (packets : List Packet) (bytes : List ℕ) → IsWordsFile packets bytes → ReadsFile packets bytes
+pub file_is_read : (packets : List Packet) (bytes : List ℕ) → IsWordsFile packets bytes
+    → Reads anc_syntax nothing_open bytes (flat_map packet_parts packets) nothing_open
 file_is_read packets bytes is =
     let words : words_of bytes ≡ is.words = AreWords-words bytes is.words is.spelled in
-    let reads = subst (λ ws. Reads [] ws (flat_map packet_parts packets) []) (sym words) (Reads-packets packets is.words is.are_packets) in record {
+    let reads = subst (λ ws. Reads word_syntax [] ws (flat_map packet_parts packets) []) (sym words) (Reads-packets packets is.words is.are_packets) in record {
       taken = taken-words_of [] bytes reads.taken;
-      makes = parts-words_of [] bytes ∙ reads.makes;
+      made = parts-words_of [] bytes ∙ reads.made;
       leads = open-words_of [] bytes ∙ ap (λ high. let o : Open = record { high = high; words = front_from words_after [] (words_of bytes) } in o) (last_high-words bytes is.words is.spelled)
           ∙ ap (λ ws. let o : Open = record { high = None; words = ws } in o) reads.leads;
     }
 
 -- what is read and leaves nothing open is a file
-pub what_is_read_is_file : (bytes : List ℕ) → All IsByte bytes → AllTaken judge_byte open_after nothing_open bytes
-    → front_from open_after nothing_open bytes ≡ nothing_open → (packets : List Packet) × IsWordsFile packets bytes
+pub what_is_read_is_file : (bytes : List ℕ) → All IsByte bytes → AllTaken anc_syntax nothing_open bytes
+    → open_behind anc_syntax bytes ≡ nothing_open → (packets : List Packet) × IsWordsFile packets bytes
 what_is_read_is_file bytes are taken nothing =
     let open_is = sym (open-words_of [] bytes) ∙ nothing in
     let none : last_high bytes ≡ None = ap (λ (o : Open). o.high) open_is in
@@ -129,11 +125,11 @@ all_behind P [] behind all = all
 all_behind P (word ∷ front) behind (_, all) = all_behind P front behind all
 
 -- words that aren't refused begin a file
-pub begins_file : (bytes words : List ℕ) → AreWords bytes words → AllTaken judge_byte open_after nothing_open bytes
+pub begins_file : (bytes words : List ℕ) → AreWords bytes words → AllTaken anc_syntax nothing_open bytes
     → (more : List ℕ) × ((packets : List Packet) × IsWordsFile packets (bytes ++ more))
 begins_file bytes words are taken =
     let same = AreWords-words bytes words are in
-    let splits = sound words (subst (AllTaken judge_word words_after []) same (words_of-taken [] bytes taken)) in
+    let splits = sound words (subst (AllTaken word_syntax []) same (words_of-taken [] bytes taken)) in
     let behind = front_from words_after [] words in
     let rest = completes behind splits.begun in
     let small = All-from_recursion (λ word. word < 1024) rest.more (all_behind (λ word. word < 1024) behind rest.more (ten_bits rest.packets (behind ++ rest.more) rest.are)) in
@@ -153,18 +149,15 @@ begins_file bytes words are taken =
 
 -- words that are refused begin none
 pub begins_no_file : (bytes : List ℕ) (byte : ℕ) (reason : Why) (more : List ℕ) (packets : List Packet)
-    → judge_byte (front_from open_after nothing_open bytes) byte ≡ Refuse reason → IsWordsFile packets (bytes ++ byte ∷ more) → ⊥
+    → judge_byte (open_behind anc_syntax bytes) byte ≡ Refuse reason → IsWordsFile packets (bytes ++ byte ∷ more) → ⊥
 begins_no_file bytes byte reason more packets refused is =
     let reads = file_is_read packets (bytes ++ byte ∷ more) is in
-    let (_, (taken, _)) = AllTaken-split judge_byte open_after nothing_open bytes (byte ∷ more) reads.taken in
+    let (_, (taken, _)) = AllTaken-split anc_syntax nothing_open bytes (byte ∷ more) reads.taken in
     subst IsTaken refused taken
 
 -- a file is read and handed upward, where the layer above takes its parts
 pub file_is_handed : (verdict : Verdict WordPart) (packets : List Packet) (bytes : List ℕ) → IsWordsFile packets bytes
     → AreAccepted verdict [] (flat_map packet_parts packets)
-    → reading (judge_by judge_byte open_after nothing_open) verdict (place_by 2) [] [] bytes ≡ record { parts = flat_map packet_parts packets; refusal = None }
+    → read_under anc_syntax 2 verdict bytes ≡ record { parts = flat_map packet_parts packets; refusal = None }
 file_is_handed verdict packets bytes is accepted =
-    let reads = file_is_read packets bytes is in
-    reading-accepted judge_byte open_after nothing_open verdict (place_by 2) [] [] bytes reads.taken
-    (subst (AreAccepted verdict []) (sym reads.makes) accepted)
-    ∙ ap (λ parts. let r : Reading WordPart = record { parts = parts; refusal = None } in r) reads.makes
+    read_under-reads anc_syntax 2 verdict bytes (flat_map packet_parts packets) nothing_open (file_is_read packets bytes is) accepted

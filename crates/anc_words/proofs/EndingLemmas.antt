@@ -2,11 +2,12 @@
 use Rattle.std.proofs.Common.{◌≡◌, ◌≢◌, ℕ, ◌+◌, ◌-◌, ◌*◌, ◌%◌, ◌<◌, ◌≤◌, nat_lt, if◌then◌else◌, Bool, true, false, List, [], ◌∷◌, ◌++◌, length, Option, Some, None, refl, ap, sym, ◌∙◌, length-append, arith}
 use Rattle.std.proofs.lemmas.Bool.Decides.{nat_tests}
 use Rattle.cc_base.specs.Steps.{front_from}
+use Rattle.cc_base.specs.Syntax.{open_behind}
 use Rattle.cc_base.proofs.StepLemmas.{front_from-append}
 use Rattle.anc_words.specs.Packets.{Packet}
 use Rattle.anc_words.specs.WordsFiles.{IsWordsFile}
 use Rattle.anc_words.specs.Ending.{bytes_to_end, words_to_end}
-use Rattle.anc_words.specs.Reading.{Open, nothing_open, open_after, open_behind, words_after}
+use Rattle.anc_words.specs.Reading.{anc_syntax, Open, nothing_open, open_after, words_after}
 use Rattle.anc_words.proofs.ByteLemmas.{file_is_read}
 
 -- behind the count
@@ -63,8 +64,8 @@ stays_open front (byte ∷ next ∷ rest) some few =
     stays_open (open_after front byte) (next ∷ rest) (omega arith) (omega (arith, few, fall))
 
 -- so they end no packet
-pub ends_no_sooner : (bytes more : List ℕ) (packets : List Packet) → 0 < length more → length more < bytes_to_end (open_behind bytes)
+pub ends_no_sooner : (bytes more : List ℕ) (packets : List Packet) → 0 < length more → length more < bytes_to_end (open_behind anc_syntax bytes)
     → IsWordsFile packets (bytes ++ more) → ⊥
 ends_no_sooner bytes more packets some few is =
     let closed = (file_is_read packets (bytes ++ more) is).leads in
-    stays_open (open_behind bytes) more some few (sym (front_from-append open_after nothing_open bytes more) ∙ closed)
+    stays_open (open_behind anc_syntax bytes) more some few (sym (front_from-append open_after nothing_open bytes more) ∙ closed)

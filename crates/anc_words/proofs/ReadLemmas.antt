@@ -6,51 +6,17 @@ use Rattle.std.specs.List.{AllByRecursion, flat_map}
 use Rattle.cc_base.specs.declared.step.Step.{Step}
 use Rattle.cc_base.specs.declared.step.Step.TheVariants.{Nothing, One, Refuse}
 use Rattle.cc_base.specs.declared.why.Why.TheVariants as why
-use Rattle.cc_base.specs.Steps.{AllTaken, IsTaken, front_from, parts_by, step_parts}
-use Rattle.cc_base.proofs.StepLemmas.{AllTaken-append, front_from-append, parts_by-append}
+use Rattle.cc_base.specs.Syntax.{Reads}
+use Rattle.cc_base.proofs.SyntaxLemmas.{Reads-append, Reads-item, Reads-nothing}
 use Rattle.anc_words.specs.declared.parts.WordPart.{WordPart}
 use Rattle.anc_words.specs.declared.parts.WordPart.TheVariants as part
 use Rattle.anc_words.specs.EightBitWords.{IsEightBit}
 use Rattle.anc_words.specs.Packets.{Packet, IsUserWord, IsPacket}
 use Rattle.anc_words.specs.WordsFiles.{ArePackets}
 use Rattle.anc_words.specs.Writing.{eight_bit_word, checksum_word}
-use Rattle.anc_words.specs.Reading.{is_caption, is_eight_bit, judge_ten_bits, judge_word, packet_parts, words_after}
+use Rattle.anc_words.specs.Reading.{word_syntax, is_caption, is_eight_bit, judge_ten_bits, judge_word, packet_parts, words_after}
 use Rattle.anc_words.proofs.EightBitLemmas.{IsEightBit-word}
 use Rattle.anc_words.proofs.ChecksumLemmas.{IsChecksum-word}
-
--- what is read of words after those that are open: none is refused, they make these parts, and this is open behind them
-pub record Reads (front words : List ℕ) (parts : List WordPart) (behind : List ℕ) : Type 0 where
-  pub taken : AllTaken judge_word words_after front words
-  pub makes : parts_by judge_word words_after front words ≡ parts
-  pub leads : front_from words_after front words ≡ behind
-
--- no words
-pub Reads-nothing : (front : List ℕ) → Reads front [] [] front
-Reads-nothing front = record { taken = tt; makes = refl; leads = refl }
-
--- a word, and others
-pub Reads-word : (front : List ℕ) (word : ℕ) (words : List ℕ) (step : Step WordPart) (next : List ℕ) (parts : List WordPart) (behind : List ℕ)
-    → judge_word front word ≡ step → IsTaken step → words_after front word ≡ next → Reads next words parts behind
-    → Reads front (word ∷ words) (step_parts step ++ parts) behind
-Reads-word front word words step next parts behind judged is after reads = record {
-  taken = (subst IsTaken (sym judged) is, subst (λ f. AllTaken judge_word words_after f words) (sym after) reads.taken);
-  makes = ap (λ s. step_parts s ++ parts_by judge_word words_after (words_after front word) words) judged
-      ∙ ap (λ f. step_parts step ++ parts_by judge_word words_after f words) after
-      ∙ ap (λ ps. step_parts step ++ ps) reads.makes;
-  leads = ap (λ f. front_from words_after f words) after ∙ reads.leads;
-}
-
--- words, and more words
-pub Reads-append : (front words : List ℕ) (parts : List WordPart) (middle more : List ℕ) (others : List WordPart) (behind : List ℕ)
-    → Reads front words parts middle → Reads middle more others behind → Reads front (words ++ more) (parts ++ others) behind
-Reads-append front words parts middle more others behind first second = record {
-  taken = AllTaken-append judge_word words_after front words more first.taken
-      (subst (λ f. AllTaken judge_word words_after f more) (sym first.leads) second.taken);
-  makes = parts_by-append judge_word words_after front words more
-      ∙ ap (λ f. parts_by judge_word words_after front words ++ parts_by judge_word words_after f more) first.leads
-      ∙ ap (λ ps. ps ++ parts_by judge_word words_after middle more) first.makes ∙ ap (λ ps. parts ++ ps) second.makes;
-  leads = front_from-append words_after front words more ∙ ap (λ f. front_from words_after f more) first.leads ∙ second.leads;
-}
 
 -- a word of ten bits is judged by its position
 judge_word-below : (words : List ℕ) (word : ℕ) → word < 1024 → judge_word words word ≡ judge_ten_bits words word
@@ -94,31 +60,31 @@ FitsUser-from p did sdid word did_is sdid_is is = (
 
 -- the flag, the identifiers and the count
 pub Reads-head : (did sdid count : ℕ) → IsEightBit (did % 256) did → IsEightBit (sdid % 256) sdid → IsEightBit (count % 256) count
-    → Reads [] (0x000 ∷ 0x3FF ∷ 0x3FF ∷ did ∷ sdid ∷ count ∷ []) (part.Start (did % 256) (sdid % 256) (count % 256) ∷ [])
+    → Reads word_syntax [] (0x000 ∷ 0x3FF ∷ 0x3FF ∷ did ∷ sdid ∷ count ∷ []) (part.Start (did % 256) (sdid % 256) (count % 256) ∷ [])
     (0x000 ∷ 0x3FF ∷ 0x3FF ∷ did ∷ sdid ∷ count ∷ [])
 Reads-head did sdid count did_is sdid_is count_is =
     let start : Step WordPart = One (part.Start (did % 256) (sdid % 256) (count % 256)) in
-    Reads-word [] 0x000 _ Nothing (0x000 ∷ []) _ _ refl tt refl
-    (Reads-word (0x000 ∷ []) 0x3FF _ Nothing (0x000 ∷ 0x3FF ∷ []) _ _ refl tt refl
-    (Reads-word (0x000 ∷ 0x3FF ∷ []) 0x3FF _ Nothing (0x000 ∷ 0x3FF ∷ 0x3FF ∷ []) _ _ refl tt refl
-    (Reads-word (0x000 ∷ 0x3FF ∷ 0x3FF ∷ []) did _ Nothing (0x000 ∷ 0x3FF ∷ 0x3FF ∷ did ∷ []) _ _
+    Reads-item word_syntax [] 0x000 _ Nothing (0x000 ∷ []) _ _ refl tt refl
+    (Reads-item word_syntax (0x000 ∷ []) 0x3FF _ Nothing (0x000 ∷ 0x3FF ∷ []) _ _ refl tt refl
+    (Reads-item word_syntax (0x000 ∷ 0x3FF ∷ []) 0x3FF _ Nothing (0x000 ∷ 0x3FF ∷ 0x3FF ∷ []) _ _ refl tt refl
+    (Reads-item word_syntax (0x000 ∷ 0x3FF ∷ 0x3FF ∷ []) did _ Nothing (0x000 ∷ 0x3FF ∷ 0x3FF ∷ did ∷ []) _ _
     (judge_word-below (0x000 ∷ 0x3FF ∷ 0x3FF ∷ []) did did_is.ten_bits
     ∙ ap (λ (t : Bool). let s : Step WordPart = if t then Nothing else Refuse why.WordParity in s) (is_eight_bit-true did did_is)) tt refl
-    (Reads-word (0x000 ∷ 0x3FF ∷ 0x3FF ∷ did ∷ []) sdid _ Nothing (0x000 ∷ 0x3FF ∷ 0x3FF ∷ did ∷ sdid ∷ []) _ _
+    (Reads-item word_syntax (0x000 ∷ 0x3FF ∷ 0x3FF ∷ did ∷ []) sdid _ Nothing (0x000 ∷ 0x3FF ∷ 0x3FF ∷ did ∷ sdid ∷ []) _ _
     (judge_word-below (0x000 ∷ 0x3FF ∷ 0x3FF ∷ did ∷ []) sdid sdid_is.ten_bits
     ∙ ap (λ (t : Bool). let s : Step WordPart = if t then Nothing else Refuse why.WordParity in s) (is_eight_bit-true sdid sdid_is)) tt refl
-    (Reads-word (0x000 ∷ 0x3FF ∷ 0x3FF ∷ did ∷ sdid ∷ []) count [] start (0x000 ∷ 0x3FF ∷ 0x3FF ∷ did ∷ sdid ∷ count ∷ []) [] _
+    (Reads-item word_syntax (0x000 ∷ 0x3FF ∷ 0x3FF ∷ did ∷ sdid ∷ []) count [] start (0x000 ∷ 0x3FF ∷ 0x3FF ∷ did ∷ sdid ∷ count ∷ []) [] _
     (judge_word-below (0x000 ∷ 0x3FF ∷ 0x3FF ∷ did ∷ sdid ∷ []) count count_is.ten_bits
     ∙ ap (λ (t : Bool). if t then start else Refuse why.WordParity) (is_eight_bit-true count count_is)) tt refl
-    (Reads-nothing (0x000 ∷ 0x3FF ∷ 0x3FF ∷ did ∷ sdid ∷ count ∷ [])))))))
+    (Reads-nothing word_syntax (0x000 ∷ 0x3FF ∷ 0x3FF ∷ did ∷ sdid ∷ count ∷ [])))))))
 
 -- user words
 pub Reads-users : (first second third did sdid count : ℕ) (done user : List ℕ) → length done + length user ≤ count % 256
     → AllByRecursion (FitsUser did sdid) user
-    → Reads (first ∷ second ∷ third ∷ did ∷ sdid ∷ count ∷ done) user (map part.User user) (first ∷ second ∷ third ∷ did ∷ sdid ∷ count ∷ (done ++ user))
+    → Reads word_syntax (first ∷ second ∷ third ∷ did ∷ sdid ∷ count ∷ done) user (map part.User user) (first ∷ second ∷ third ∷ did ∷ sdid ∷ count ∷ (done ++ user))
 Reads-users first second third did sdid count done [] few fit =
-    subst (λ ws. Reads (first ∷ second ∷ third ∷ did ∷ sdid ∷ count ∷ done) [] [] (first ∷ second ∷ third ∷ did ∷ sdid ∷ count ∷ ws))
-    (sym (append-nil done)) (Reads-nothing (first ∷ second ∷ third ∷ did ∷ sdid ∷ count ∷ done))
+    subst (λ ws. Reads word_syntax (first ∷ second ∷ third ∷ did ∷ sdid ∷ count ∷ done) [] [] (first ∷ second ∷ third ∷ did ∷ sdid ∷ count ∷ ws))
+    (sym (append-nil done)) (Reads-nothing word_syntax (first ∷ second ∷ third ∷ did ∷ sdid ∷ count ∷ done))
 Reads-users first second third did sdid count done (word ∷ user) few ((below, passes), fit) =
     let front = first ∷ second ∷ third ∷ did ∷ sdid ∷ count ∷ done in
     let more : nat_lt (length done) (count % 256) ≡ true = grind (arith, nat_tests) in
@@ -130,14 +96,14 @@ Reads-users first second third did sdid count done (word ∷ user) few ((below, 
     ∙ ap (λ (t : Bool). let s : Step WordPart = if t then One (part.User word) else Refuse why.WordParity in s) passes in
     let after : words_after front word ≡ first ∷ second ∷ third ∷ did ∷ sdid ∷ count ∷ (done ++ word ∷ []) =
     ap (λ (t : Bool). if t then first ∷ second ∷ third ∷ did ∷ sdid ∷ count ∷ (done ++ word ∷ []) else []) more in
-    subst (λ ws. Reads front (word ∷ user) (part.User word ∷ map part.User user) (first ∷ second ∷ third ∷ did ∷ sdid ∷ count ∷ ws))
+    subst (λ ws. Reads word_syntax front (word ∷ user) (part.User word ∷ map part.User user) (first ∷ second ∷ third ∷ did ∷ sdid ∷ count ∷ ws))
     (append_assoc done (word ∷ []) user)
-    (Reads-word front word user (One (part.User word)) _ _ _ judged tt after rest)
+    (Reads-item word_syntax front word user (One (part.User word)) _ _ _ judged tt after rest)
 
 -- the checksum word
 pub Reads-checksum : (first second third did sdid count : ℕ) (user : List ℕ) (checksum : ℕ) → length user ≡ count % 256
     → checksum < 1024 → checksum ≡ checksum_word (did ∷ sdid ∷ count ∷ user)
-    → Reads (first ∷ second ∷ third ∷ did ∷ sdid ∷ count ∷ user) (checksum ∷ []) (part.End ∷ []) []
+    → Reads word_syntax (first ∷ second ∷ third ∷ did ∷ sdid ∷ count ∷ user) (checksum ∷ []) (part.End ∷ []) []
 Reads-checksum first second third did sdid count user checksum many below is =
     let front = first ∷ second ∷ third ∷ did ∷ sdid ∷ count ∷ user in
     let full : nat_lt (length user) (count % 256) ≡ false = grind (arith, nat_tests) in
@@ -148,10 +114,10 @@ Reads-checksum first second third did sdid count user checksum many below is =
     ∙ ap (λ (t : Bool). let s : Step WordPart = if t then One part.End else Refuse why.AncSum in s) (eq-eqb checksum (checksum_word (did ∷ sdid ∷ count ∷ user)) is) in
     let after : words_after front checksum ≡ [] =
     ap (λ (t : Bool). if t then first ∷ second ∷ third ∷ did ∷ sdid ∷ count ∷ (user ++ checksum ∷ []) else []) full in
-    Reads-word front checksum [] (One part.End) [] [] [] judged tt after (Reads-nothing [])
+    Reads-item word_syntax front checksum [] (One part.End) [] [] [] judged tt after (Reads-nothing word_syntax [])
 
 -- a packet
-pub Reads-packet : (p : Packet) (words : List ℕ) → IsPacket p words → Reads [] words (packet_parts p) []
+pub Reads-packet : (p : Packet) (words : List ℕ) → IsPacket p words → Reads word_syntax [] words (packet_parts p) []
 Reads-packet p words is =
     let did_is = subst (λ v. IsEightBit v is.did) (sym is.has_did.low_bits) is.has_did in
     let sdid_is = subst (λ v. IsEightBit v is.sdid) (sym is.has_sdid.low_bits) is.has_sdid in
@@ -163,14 +129,14 @@ Reads-packet p words is =
     let users = Reads-users 0x000 0x3FF 0x3FF is.did is.sdid is.count [] p.user (omega (arith, is.has_count.low_bits)) fit in
     let last = Reads-checksum 0x000 0x3FF 0x3FF is.did is.sdid is.count p.user is.checksum (sym is.has_count.low_bits) is.has_checksum.ten_bits
     (IsChecksum-word (is.did ∷ is.sdid ∷ is.count ∷ p.user) is.checksum is.has_checksum) in
-    let body = Reads-append _ p.user (map part.User p.user) _ (is.checksum ∷ []) (part.End ∷ []) [] users last in
-    let whole = Reads-append [] _ _ _ (p.user ++ is.checksum ∷ []) (map part.User p.user ++ part.End ∷ []) [] head body in
-    subst (λ ws. Reads [] ws (packet_parts p) []) (sym is.spelled)
+    let body = Reads-append word_syntax _ p.user (map part.User p.user) _ (is.checksum ∷ []) (part.End ∷ []) [] users last in
+    let whole = Reads-append word_syntax [] _ _ _ (p.user ++ is.checksum ∷ []) (map part.User p.user ++ part.End ∷ []) [] head body in
+    subst (λ ws. Reads word_syntax [] ws (packet_parts p) []) (sym is.spelled)
     (rw (← is.has_did.low_bits, ← is.has_sdid.low_bits, ← is.has_count.low_bits) whole)
 
 -- packets
-pub Reads-packets : (ps : List Packet) (words : List ℕ) → ArePackets ps words → Reads [] words (flat_map packet_parts ps) []
-Reads-packets [] words are = subst (λ ws. Reads [] ws [] []) (sym are) (Reads-nothing [])
+pub Reads-packets : (ps : List Packet) (words : List ℕ) → ArePackets ps words → Reads word_syntax [] words (flat_map packet_parts ps) []
+Reads-packets [] words are = subst (λ ws. Reads word_syntax [] ws [] []) (sym are) (Reads-nothing word_syntax [])
 Reads-packets (p ∷ ps) words (front, rest, spelled, is, are) =
-    subst (λ ws. Reads [] ws (flat_map packet_parts (p ∷ ps)) []) (sym spelled)
-    (Reads-append [] front (packet_parts p) [] rest (flat_map packet_parts ps) [] (Reads-packet p front is) (Reads-packets ps rest are))
+    subst (λ ws. Reads word_syntax [] ws (flat_map packet_parts (p ∷ ps)) []) (sym spelled)
+    (Reads-append word_syntax [] front (packet_parts p) [] rest (flat_map packet_parts ps) [] (Reads-packet p front is) (Reads-packets ps rest are))

@@ -3,11 +3,13 @@ use Rattle.std.proofs.Common.{◌≡◌, ℕ, ◌+◌, ◌-◌, ◌%◌, ◌^◌
 use Rattle.cc_base.specs.declared.refusal.Refusal.{Refusal}
 use Rattle.cc_base.specs.declared.why.Why.{Why}
 use Rattle.cc_base.specs.Feeding.{HasRefused, Reading, Verdict, hand, place_by}
-use Rattle.cc_base.specs.Steps.{AllTaken, front_from, judge_by, parts_by}
+use Rattle.cc_base.specs.Steps.{front_from}
+use Rattle.cc_base.specs.Syntax.{AllTaken, judge_by, open_behind, parts_from, parts_of, read_under}
+use Rattle.cc_base.proofs.StepLemmas.{front_from-append}
+use Rattle.cc_base.proofs.SyntaxLemmas.{AllTaken-split, parts_from-append, reading-accepted, reading-none}
 use Rattle.cc_base.proofs.ReadingLemmas.{HasRefused-from}
-use Rattle.cc_base.proofs.StepLemmas.{AllTaken-split, front_from-append, parts_by-append, reading-accepted, reading-none}
 use Rattle.anc_words.specs.declared.parts.WordPart.{WordPart}
-use Rattle.anc_words.specs.Reading.{HasRefusedWord, Open, judge_byte, judge_half, nothing_open, open_after, open_behind, parts_of, read_under, words_after}
+use Rattle.anc_words.specs.Reading.{anc_syntax, HasRefusedWord, Open, judge_byte, judge_half, nothing_open, open_after, words_after}
 use Rattle.anc_words.proofs.ByteLemmas.{last_high, open-words_of}
 use Rattle.anc_words.proofs.WordLemmas.{words_of}
 
@@ -44,21 +46,21 @@ nothing_of_high verdict above words high byte why none is =
 
 -- the refused byte is a low one
 refused_word : (verdict : Verdict WordPart) (bytes : List ℕ) (refusal : Refusal) (high : ℕ)
-    (has : HasRefused (judge_by judge_byte open_after nothing_open) verdict (place_by 2) [] [] bytes refusal)
+    (has : HasRefused (judge_by anc_syntax) verdict (place_by 2) [] [] bytes refusal)
     → EndsWith has.taken high → HasRefusedWord verdict bytes refusal
 refused_word verdict bytes refusal high has ends =
     let before = ends.before in
-    let (all, accepted) = reading-none judge_byte open_after nothing_open verdict (place_by 2) [] [] has.taken has.unrefused in
-    let read = reading-accepted judge_byte open_after nothing_open verdict (place_by 2) [] [] has.taken all accepted in
-    let (unrefused, _) = AllTaken-split judge_byte open_after nothing_open before (high ∷ []) (subst (AllTaken judge_byte open_after nothing_open) ends.spelled all) in
-    let behind : open_behind before ≡ record { high = None; words = front_from words_after [] (words_of before) } =
+    let (all, accepted) = reading-none anc_syntax verdict (place_by 2) [] [] has.taken has.unrefused in
+    let read = reading-accepted anc_syntax verdict (place_by 2) [] [] has.taken all accepted in
+    let (unrefused, _) = AllTaken-split anc_syntax nothing_open before (high ∷ []) (subst (AllTaken anc_syntax nothing_open) ends.spelled all) in
+    let behind : open_behind anc_syntax before ≡ record { high = None; words = front_from words_after [] (words_of before) } =
     open-words_of [] before ∙ ap (λ h. let o : Open = record { high = h; words = front_from words_after [] (words_of before) } in o) ends.whole in
-    let front : open_behind has.taken ≡ record { high = Some high; words = (open_behind before).words } =
-    ap open_behind ends.spelled ∙ front_from-append open_after nothing_open before (high ∷ []) ∙ ap (λ (o : Open). open_after o high) behind
+    let front : open_behind anc_syntax has.taken ≡ record { high = Some high; words = (open_behind anc_syntax before).words } =
+    ap (open_behind anc_syntax) ends.spelled ∙ front_from-append open_after nothing_open before (high ∷ []) ∙ ap (λ (o : Open). open_after o high) behind
     ∙ ap (λ (o : Open). let p : Open = record { high = Some high; words = o.words } in p) (sym behind) in
-    let parts : (read_under verdict has.taken).parts ≡ parts_of before =
-    ap (λ (r : Reading WordPart). r.parts) read ∙ ap parts_of ends.spelled ∙ parts_by-append judge_byte open_after nothing_open before (high ∷ [])
-    ∙ ap (λ (o : Open). parts_of before ++ parts_by judge_byte open_after o (high ∷ [])) behind ∙ append-nil (parts_of before) in record {
+    let parts : (read_under anc_syntax 2 verdict has.taken).parts ≡ parts_of anc_syntax before =
+    ap (λ (r : Reading WordPart). r.parts) read ∙ ap (parts_of anc_syntax) ends.spelled ∙ parts_from-append anc_syntax nothing_open before (high ∷ [])
+    ∙ ap (λ (o : Open). parts_of anc_syntax before ++ parts_from anc_syntax o (high ∷ [])) behind ∙ append-nil (parts_of anc_syntax before) in record {
       before = before;
       high = high;
       low = has.item;
@@ -68,18 +70,18 @@ refused_word verdict bytes refusal high has ends =
       whole = ap (λ (o : Open). o.high) behind;
       place_is = has.place_is ∙ ap (λ (bs : List ℕ). place_by 2 bs) ends.spelled
           ∙ ap (λ n. n % 2 ^ 64 - n % 2 ^ 64 % 2) (length-append before (high ∷ [])) ∙ place_of_low (length before) ends.even;
-      why_is = ap (λ (o : Open). (hand verdict (parts_of before) (judge_byte o has.item)).why) (sym front)
-          ∙ ap (λ ps. (hand verdict ps (judge_byte (open_behind has.taken) has.item)).why) (sym parts) ∙ has.why_is;
+      why_is = ap (λ (o : Open). (hand verdict (parts_of anc_syntax before) (judge_byte o has.item)).why) (sym front)
+          ∙ ap (λ ps. (hand verdict ps (judge_byte (open_behind anc_syntax has.taken) has.item)).why) (sym parts) ∙ has.why_is;
     }
 
 -- a refusal is that of the first refused word
-pub HasRefusedWord-from : (verdict : Verdict WordPart) (bytes : List ℕ) (refusal : Refusal) → (read_under verdict bytes).refusal ≡ Some refusal
+pub HasRefusedWord-from : (verdict : Verdict WordPart) (bytes : List ℕ) (refusal : Refusal) → (read_under anc_syntax 2 verdict bytes).refusal ≡ Some refusal
     → HasRefusedWord verdict bytes refusal
 HasRefusedWord-from verdict bytes refusal refused =
-    let has = HasRefused-from (judge_by judge_byte open_after nothing_open) verdict (place_by 2) [] [] bytes refusal refused in
-    let above = (read_under verdict has.taken).parts in
+    let has = HasRefused-from (judge_by anc_syntax) verdict (place_by 2) [] [] bytes refusal refused in
+    let above = (read_under anc_syntax 2 verdict has.taken).parts in
     let cases : (high : Option ℕ) → last_high has.taken ≡ high → HasRefusedWord verdict bytes refusal = elim [
-      | None ↦ λ none. absurd (nothing_of_high verdict above (open_behind has.taken).words (open_behind has.taken).high has.item refusal.why
+      | None ↦ λ none. absurd (nothing_of_high verdict above (open_behind anc_syntax has.taken).words (open_behind anc_syntax has.taken).high has.item refusal.why
           (ap (λ (o : Open). o.high) (open-words_of [] has.taken) ∙ none) has.why_is)
       | Some high ↦ λ some. refused_word verdict bytes refusal high has (ends_with has.taken high some)
     ] in cases _ refl

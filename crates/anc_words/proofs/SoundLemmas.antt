@@ -8,7 +8,8 @@ use Rattle.cc_base.specs.declared.step.Step.{Step}
 use Rattle.cc_base.specs.declared.step.Step.TheVariants.{Nothing, One, Refuse}
 use Rattle.cc_base.specs.declared.why.Why.{Why}
 use Rattle.cc_base.specs.declared.why.Why.TheVariants as why
-use Rattle.cc_base.specs.Steps.{AllTaken, IsTaken, front_from}
+use Rattle.cc_base.specs.Steps.{IsTaken, front_from}
+use Rattle.cc_base.specs.Syntax.{AllTaken}
 use Rattle.anc_words.specs.declared.parts.WordPart.{WordPart}
 use Rattle.anc_words.specs.declared.parts.WordPart.TheVariants as part
 use Rattle.anc_words.specs.EightBitWords.{IsEightBit}
@@ -16,7 +17,7 @@ use Rattle.anc_words.specs.Checksums.{IsChecksum}
 use Rattle.anc_words.specs.Packets.{Packet, IsUserWord, IsPacket}
 use Rattle.anc_words.specs.WordsFiles.{ArePackets}
 use Rattle.anc_words.specs.Writing.{eight_bit_word, checksum_word}
-use Rattle.anc_words.specs.Reading.{is_caption, is_eight_bit, judge_ten_bits, judge_word, words_after}
+use Rattle.anc_words.specs.Reading.{word_syntax, is_caption, is_eight_bit, judge_ten_bits, judge_word, words_after}
 use Rattle.anc_words.proofs.EightBitLemmas.{eight_bit_word-is}
 use Rattle.anc_words.proofs.ChecksumLemmas.{checksum_word-is}
 
@@ -218,7 +219,7 @@ Splits-packet p front words behind is splits = record {
 }
 
 -- words that are taken
-sound-from : (front words : List ℕ) → IsBegun front → AllTaken judge_word words_after front words → Splits (front ++ words) (front_from words_after front words)
+sound-from : (front words : List ℕ) → IsBegun front → AllTaken word_syntax front words → Splits (front ++ words) (front_from words_after front words)
 sound-from front [] begun taken = record {
   packets = [];
   whole = [];
@@ -230,15 +231,15 @@ sound-from front (word ∷ words) begun (is, taken) =
     let behind = front_from words_after (words_after front word) words in
     elim (goes front word begun is) [
       | inl (after, next) ↦
-          let more = sound-from (front ++ word ∷ []) words next (subst (λ f. AllTaken judge_word words_after f words) after taken) in
+          let more = sound-from (front ++ word ∷ []) words next (subst (λ f. AllTaken word_syntax f words) after taken) in
           subst (λ ws. Splits ws behind) (append_assoc front (word ∷ []) words)
           (subst (λ f. Splits ((front ++ word ∷ []) ++ words) (front_from words_after f words)) (sym after) more)
       | inr (after, (p, packet)) ↦
-          let more = sound-from [] words tt (subst (λ f. AllTaken judge_word words_after f words) after taken) in
+          let more = sound-from [] words tt (subst (λ f. AllTaken word_syntax f words) after taken) in
           subst (λ ws. Splits ws behind) (append_assoc front (word ∷ []) words)
           (Splits-packet p (front ++ word ∷ []) words behind packet
           (subst (λ f. Splits words (front_from words_after f words)) (sym after) more))
     ]
 
-pub sound : (words : List ℕ) → AllTaken judge_word words_after [] words → Splits words (front_from words_after [] words)
+pub sound : (words : List ℕ) → AllTaken word_syntax [] words → Splits words (front_from words_after [] words)
 sound words taken = sound-from [] words tt taken

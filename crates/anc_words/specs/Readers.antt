@@ -2,12 +2,12 @@
 use Rattle.std.specs.Prelude.{◌≡◌, ℕ, ◌-◌, ◌%◌, ◌<◌, nat_lt, if◌then◌else◌, List, [], ◌∷◌, length, Option}
 use Rattle.std.specs.List.{All, sum}
 use Rattle.cc_base.specs.declared.refusal.Refusal.{Refusal}
-use Rattle.cc_base.specs.Steps.{HasTaken}
+use Rattle.cc_base.specs.Syntax.{HasTaken}
 use Rattle.anc_words.specs.declared.open_packet.Next.{Next}
 use Rattle.anc_words.specs.declared.open_packet.Next.TheVariants as next
 use Rattle.anc_words.specs.declared.open_packet.OpenPacket.{OpenPacket}
 use Rattle.anc_words.specs.declared.reader.WordReader.{WordReader}
-use Rattle.anc_words.specs.Reading.{Open, is_caption, judge_byte, nothing_open, open_after}
+use Rattle.anc_words.specs.Reading.{Open, anc_syntax, is_caption}
 
 -- the word that comes next, after the words of the open packet
 abbrev pub next_of : List ℕ → Next
@@ -34,7 +34,7 @@ pub record Keeps (front : Open) (packet : OpenPacket) : Type 0 where
 -- the reader was fed these bytes, and refused none of their words
 abbrev pub HasRead : List ℕ → WordReader → Type 0
 HasRead bytes reader = All (λ byte. byte < 256) bytes
-    × HasTaken judge_byte open_after nothing_open Keeps bytes reader.fed.machine reader.fed.taken reader.fed.refusal
+    × HasTaken anc_syntax Keeps bytes reader.fed
 
 -- the refusal that it keeps
 abbrev pub kept_refusal : WordReader → Option Refusal

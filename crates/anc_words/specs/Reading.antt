@@ -6,8 +6,8 @@ use Rattle.cc_base.specs.declared.refusal.Refusal.{Refusal}
 use Rattle.cc_base.specs.declared.step.Step.{Step}
 use Rattle.cc_base.specs.declared.step.Step.TheVariants.{Nothing, One, Refuse}
 use Rattle.cc_base.specs.declared.why.Why.TheVariants as why
-use Rattle.cc_base.specs.Feeding.{Reading, Verdict, hand, place_by, reading}
-use Rattle.cc_base.specs.Steps.{AllTaken, front_from, judge_by, parts_by}
+use Rattle.cc_base.specs.Feeding.{Verdict, hand}
+use Rattle.cc_base.specs.Syntax.{AllRead, Syntax, open_behind, parts_of}
 use Rattle.anc_words.specs.declared.parts.WordPart.{WordPart}
 use Rattle.anc_words.specs.declared.parts.WordPart.TheVariants as part
 use Rattle.anc_words.specs.Packets.{Packet}
@@ -70,25 +70,17 @@ half_after (Some high) words low = record { high = None; words = words_after wor
 abbrev pub open_after : Open → ℕ → Open
 open_after front byte = half_after front.high front.words byte
 
+-- so the bytes of ancillary packets are read
+abbrev pub anc_syntax : Syntax Open ℕ WordPart
+anc_syntax = record { start = nothing_open; judge = judge_byte; after = open_after }
+
+-- and their words, where each is whole
+abbrev pub word_syntax : Syntax (List ℕ) ℕ WordPart
+word_syntax = record { start = []; judge = judge_word; after = words_after }
+
 -- the parts of a packet
 abbrev pub packet_parts : Packet → List WordPart
 packet_parts packet = part.Start packet.did packet.sdid (length packet.user) ∷ (map part.User packet.user ++ part.End ∷ [])
-
--- none of the words of the bytes is refused
-abbrev pub AllRead : List ℕ → Type 0
-AllRead bytes = AllTaken judge_byte open_after nothing_open bytes
-
--- what is open behind the bytes
-abbrev pub open_behind : List ℕ → Open
-open_behind bytes = front_from open_after nothing_open bytes
-
--- the parts that the bytes make
-abbrev pub parts_of : List ℕ → List WordPart
-parts_of bytes = parts_by judge_byte open_after nothing_open bytes
-
--- what is read of the bytes of a file, under this layer: a word's place is the number of its first byte
-abbrev pub read_under : Verdict WordPart → List ℕ → Reading WordPart
-read_under verdict bytes = reading (judge_by judge_byte open_after nothing_open) verdict (place_by 2) [] [] bytes
 
 -- the bytes have a first refused word: no word before it is refused, nor is their last byte half of one, the refusal's place is
 -- the number of its first byte, modulo 2^64, and the reason is the word's own, or that of the part which it completes, above
@@ -98,7 +90,7 @@ pub record HasRefusedWord (verdict : Verdict WordPart) (bytes : List ℕ) (refus
   pub low : ℕ
   pub rest : List ℕ
   pub spelled : bytes ≡ before ++ high ∷ low ∷ rest
-  pub unrefused : AllRead before
-  pub whole : (open_behind before).high ≡ None
+  pub unrefused : AllRead anc_syntax before
+  pub whole : (open_behind anc_syntax before).high ≡ None
   pub place_is : refusal.place ≡ length before % 2 ^ 64
-  pub why_is : (hand verdict (parts_of before) (judge_word (open_behind before).words (256 * high + low))).why ≡ Some refusal.why
+  pub why_is : (hand verdict (parts_of anc_syntax before) (judge_word (open_behind anc_syntax before).words (256 * high + low))).why ≡ Some refusal.why

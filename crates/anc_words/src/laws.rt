@@ -8,10 +8,11 @@ ghost use Rattle.cc_base.specs.declared.why.Why.{Why as Reason};
 ghost use Rattle.cc_base.specs.declared.why.Why.TheVariants as why;
 ghost use Rattle.cc_base.specs.Feeding.{Verdict};
 ghost use Rattle.cc_base.specs.Steps.{AreAccepted};
+ghost use Rattle.cc_base.specs.Syntax.{AllRead, Reads, open_behind, parts_of, read_under};
 ghost use Rattle.anc_words.specs.declared.parts.WordPart.{WordPart as Part};
 ghost use Rattle.anc_words.specs.EightBitWords.{IsEightBit};
 ghost use Rattle.anc_words.specs.Checksums.{IsChecksum};
-ghost use Rattle.anc_words.specs.Reading.{AllRead, HasRefusedWord, is_caption, is_eight_bit, judge_byte, judge_ten_bits, judge_word, nothing_open, open_behind, packet_parts, parts_of, read_under};
+ghost use Rattle.anc_words.specs.Reading.{HasRefusedWord, anc_syntax, is_caption, is_eight_bit, judge_byte, judge_ten_bits, judge_word, nothing_open, packet_parts};
 ghost use Rattle.anc_words.specs.Ending.{bytes_to_end};
 ghost use Rattle.anc_words.specs.Words.{AreWords};
 ghost use Rattle.anc_words.specs.Packets.{Packet, IsCaption, IsUserWord, IsPacket, user_bytes};
@@ -102,32 +103,32 @@ pub fn files_are_joined()
 /// layer that takes these parts they are handed upward, and there is no refusal.
 pub fn files_are_read()
     ensures read { (packets : List Packet) (bytes : List ℕ) → IsWordsFile packets bytes
-        → AllRead bytes × (parts_of bytes ≡ flat_map packet_parts packets) × (open_behind bytes ≡ nothing_open) }
+        → Reads anc_syntax nothing_open bytes (flat_map packet_parts packets) nothing_open }
     ensures handed { (verdict : Verdict Part) (packets : List Packet) (bytes : List ℕ) → IsWordsFile packets bytes
         → AreAccepted verdict [] (flat_map packet_parts packets)
-        → read_under verdict bytes ≡ record { parts = flat_map packet_parts packets; refusal = None } }
+        → read_under anc_syntax 2 verdict bytes ≡ record { parts = flat_map packet_parts packets; refusal = None } }
 {}
 
 /// What is read is a file: bytes of which no word is refused and behind which nothing is open are packets. Where there is no
 /// refusal, no word was refused, and the layer above took all parts.
 pub fn what_is_read_is_a_file()
-    ensures file { (bytes : List ℕ) → All (λ byte. byte < 256) bytes → AllRead bytes → open_behind bytes ≡ nothing_open
+    ensures file { (bytes : List ℕ) → All (λ byte. byte < 256) bytes → AllRead anc_syntax bytes → open_behind anc_syntax bytes ≡ nothing_open
         → (packets : List Packet) × IsWordsFile packets bytes }
-    ensures unrefused { (verdict : Verdict Part) (bytes : List ℕ) → (read_under verdict bytes).refusal ≡ None
-        → AllRead bytes × AreAccepted verdict [] (parts_of bytes) }
+    ensures unrefused { (verdict : Verdict Part) (bytes : List ℕ) → (read_under anc_syntax 2 verdict bytes).refusal ≡ None
+        → AllRead anc_syntax bytes × AreAccepted verdict [] (parts_of anc_syntax bytes) }
 {}
 
 /// Words none of which is refused begin some file, and no file begins with words whose last one is refused.
 pub fn a_word_is_refused_where_no_file_goes_on()
-    ensures begun { (bytes words : List ℕ) → AreWords bytes words → AllRead bytes
+    ensures begun { (bytes words : List ℕ) → AreWords bytes words → AllRead anc_syntax bytes
         → (more : List ℕ) × ((packets : List Packet) × IsWordsFile packets (bytes ++ more)) }
     ensures refused { (bytes : List ℕ) (byte : ℕ) (reason : Reason) (more : List ℕ) (packets : List Packet)
-        → judge_byte (open_behind bytes) byte ≡ Refuse reason → IsWordsFile packets (bytes ++ byte ∷ more) → ⊥ }
+        → judge_byte (open_behind anc_syntax bytes) byte ≡ Refuse reason → IsWordsFile packets (bytes ++ byte ∷ more) → ⊥ }
 {}
 
 /// A packet ends no sooner than its count says: fewer bytes than come at least, down to the last one of a packet, end none.
 pub fn a_packet_ends_no_sooner()
-    ensures { (bytes more : List ℕ) (packets : List Packet) → 0 < length more → length more < bytes_to_end (open_behind bytes)
+    ensures { (bytes more : List ℕ) (packets : List Packet) → 0 < length more → length more < bytes_to_end (open_behind anc_syntax bytes)
         → IsWordsFile packets (bytes ++ more) → ⊥ }
 {}
 
@@ -143,6 +144,6 @@ pub fn words_are_judged_by_the_standard()
 /// A refusal is that of the first refused word: its place is the number of the word's first byte, and its reason is the word's
 /// own, by the words before it, or that of the layer above for the part which the word completes.
 pub fn a_refusal_is_of_the_first_refused_word()
-    ensures { (verdict : Verdict Part) (bytes : List ℕ) (refused : Refused) → (read_under verdict bytes).refusal ≡ Some refused
+    ensures { (verdict : Verdict Part) (bytes : List ℕ) (refused : Refused) → (read_under anc_syntax 2 verdict bytes).refusal ≡ Some refused
         → HasRefusedWord verdict bytes refused }
 {}

@@ -4,7 +4,7 @@ ghost use Rattle.cc_base.specs.declared.why.Why.TheVariants as why;
 ghost use Rattle.cc_base.specs.Steps.{IsTaken};
 ghost use Rattle.anc_words.specs.declared.open_packet.Next.TheVariants as next;
 ghost use Rattle.anc_words.specs.declared.parts.WordPart.TheVariants as part;
-ghost use Rattle.anc_words.specs.Reading.{Open, is_eight_bit, judge_byte, judge_word, nothing_open, open_after, words_after};
+ghost use Rattle.anc_words.specs.Reading.{Open, anc_syntax, is_eight_bit, judge_word, nothing_open, words_after};
 ghost use Rattle.anc_words.specs.Writing.{nine_bit_word};
 
 use crate::parts::WordPart;
@@ -205,15 +205,9 @@ impl Machine<u8, WordPart> for OpenPacket {
 
     ghost Given = { Unit {0} };
 
-    ghost usual = { tt };
-
     ghost Front = { Open };
 
-    ghost start = { nothing_open };
-
-    ghost after = { λ given front byte. open_after front byte };
-
-    ghost judge = { λ given front byte. judge_byte front byte };
+    ghost syntax = { λ given. anc_syntax };
 
     ghost Matches = { λ given front packet. Keeps front packet };
 

@@ -3,9 +3,9 @@ ghost use Rattle.std.specs.Result.{result_err};
 ghost use Rattle.cc_base.specs.declared.refusal.Refusal.{Refusal as Refused};
 ghost use Rattle.cc_base.specs.declared.why.Why.TheVariants as why;
 ghost use Rattle.cc_base.specs.Feeding.{place_by};
-ghost use Rattle.cc_base.specs.Steps.{judge_by};
+ghost use Rattle.cc_base.specs.Syntax.{judge_by, open_behind};
 ghost use Rattle.anc_words.specs.Packets.{Packet};
-ghost use Rattle.anc_words.specs.Reading.{judge_byte, nothing_open, open_after, open_behind};
+ghost use Rattle.anc_words.specs.Reading.{anc_syntax, nothing_open};
 ghost use Rattle.anc_words.specs.WordsFiles.{IsPacketBytes, IsWordsFile};
 
 use crate::caption_packet::CaptionPacket;
@@ -42,7 +42,7 @@ impl WordReader {
     /// The number of bytes that come at least, down to the last one of an ancillary packet: of the open one, or of the next one
     /// where none is open. Fewer bytes end no packet.
     pub fn bytes_to_end(&self) -> usize
-        ensures least { (bytes : List ℕ) → HasRead bytes self.now → result ≡ bytes_to_end (open_behind bytes) }
+        ensures least { (bytes : List ℕ) → HasRead bytes self.now → result ≡ bytes_to_end (open_behind anc_syntax bytes) }
         ensures some { 0 < result }
     {
         self.fed.machine.bytes_to_end()
@@ -50,7 +50,7 @@ impl WordReader {
 
     /// Whether nothing is open: no word was refused, and the bytes fed may end here.
     pub fn is_closed(&self) -> bool
-        ensures closed { (bytes : List ℕ) → HasRead bytes self.now → (IsTrue result ↔ (open_behind bytes ≡ nothing_open)) }
+        ensures closed { (bytes : List ℕ) → HasRead bytes self.now → (IsTrue result ↔ (open_behind anc_syntax bytes ≡ nothing_open)) }
         ensures unrefused { IsTrue result → kept_refusal self.now ≡ None }
     {
         self.fed.refusal.is_none() && self.fed.machine.is_closed()
@@ -59,7 +59,7 @@ impl WordReader {
     /// Passes over the bytes of a whole packet of captions, as if they were fed, where nothing is open: their number is
     /// counted, and nothing is handed upward.
     pub fn pass_over(&mut self, packet: &CaptionPacket<'_>)
-        ensures passed { (before piece : List ℕ) (said : Packet) → HasRead before self.old → open_behind before ≡ nothing_open
+        ensures passed { (before piece : List ℕ) (said : Packet) → HasRead before self.old → open_behind anc_syntax before ≡ nothing_open
             → IsPacketBytes said piece → length piece ≡ size_of packet.now → HasRead (before ++ piece) self.new }
         ensures refusal { kept_refusal self.new ≡ kept_refusal self.old }
     {
@@ -101,9 +101,7 @@ impl Resume<u8, WordPart> for WordReader {
 
     ghost Given = { Unit {0} };
 
-    ghost usual = { tt };
-
-    ghost judge = { λ given. judge_by judge_byte open_after nothing_open };
+    ghost judge = { λ given. judge_by anc_syntax };
 
     ghost place = { place_by 2 };
 

@@ -3,11 +3,11 @@ use Rattle.std.proofs.Common.{◌≡◌, ℕ, ◌%◌, ◌^◌, true, false, len
 use Rattle.cc_base.specs.declared.refusal.Refusal.{Refusal}
 use Rattle.cc_base.specs.declared.why.Why.{Why}
 use Rattle.cc_base.specs.Feeding.{Reading, place_by, reading, why_of}
-use Rattle.cc_base.specs.Steps.{judge_by}
+use Rattle.cc_base.specs.Syntax.{judge_by}
 use Rattle.cdp_packets.specs.declared.parts.CdpPart.{CdpPart}
 use Rattle.cdp_packets.specs.declared.reader.CdpReader.{CdpReader}
 use Rattle.cdp_packets.specs.Readers.{HasRead}
-use Rattle.cdp_packets.specs.Reading.{judge_cdp, nothing_open, open_after}
+use Rattle.cdp_packets.specs.Reading.{cdp_syntax}
 use Rattle.words_files.specs.Catching.{Caught, OpenCaption, goes_on, never, taken_in}
 use Rattle.cc_receiver.specs.declared.frame.Frame.{Frame}
 use Rattle.line21_screen.specs.Objects.{Leads}
@@ -18,7 +18,7 @@ use Rattle.cc_receiver.specs.Gatherers.{HasGathered}
 
 -- what is read of a byte behind these bytes and parts of a packet of this length
 abbrev pub byte_reading : ℕ → List ℕ → List CdpPart → ℕ → Reading CdpPart
-byte_reading size bytes parts byte = reading (judge_by (judge_cdp size) (open_after size) nothing_open) never (place_by 1) bytes parts (byte ∷ [])
+byte_reading size bytes parts byte = reading (judge_by (cdp_syntax size)) never (place_by 1) bytes parts (byte ∷ [])
 
 -- a reader of a packet was fed a byte, and a frame took its parts
 pub record FeedsByte (byte : ℕ) (answer : Option Refusal) (reader next : CdpReader) (was now : Frame) : Type 0 where

@@ -6,9 +6,10 @@ use Rattle.std.proofs.lemmas.List.Elements.{All-from_get_or}
 use Rattle.std.proofs.lemmas.Bool.Decides.{nat_tests}
 use Rattle.std.proofs.lemmas.Grind.{common_steps}
 use Rattle.std.specs.List.{All}
+use Rattle.cc_base.specs.Syntax.{open_behind}
 use Rattle.anc_words.specs.Ending.{bytes_to_end}
 use Rattle.anc_words.specs.Packets.{Packet}
-use Rattle.anc_words.specs.Reading.{open_behind}
+use Rattle.anc_words.specs.Reading.{anc_syntax}
 use Rattle.anc_words.specs.WordsFiles.{IsWordsFile}
 use Rattle.anc_words.proofs.EndingLemmas.{ends_no_sooner}
 use Rattle.words_files.specs.Catching.{never, refusal_of}
@@ -27,7 +28,7 @@ with_piece before bytes count more =
     append_assoc before (take count bytes) (take more (drop count bytes)) ∙ ap (λ bs. before ++ bs) (sym (take-add count more bytes))
 
 -- no fewer bytes than these end a packet
-pub within_piece : (before bytes : List ℕ) (count more : ℕ) → count + more ≤ length bytes → more ≤ bytes_to_end (open_behind (before ++ take count bytes))
+pub within_piece : (before bytes : List ℕ) (count more : ℕ) → count + more ≤ length bytes → more ≤ bytes_to_end (open_behind anc_syntax (before ++ take count bytes))
     → ((packets : List Packet) (fewer : ℕ) → 0 < fewer → fewer ≤ count → IsWordsFile packets (before ++ take fewer bytes) → ⊥)
     → (packets : List Packet) (fewer : ℕ) → 0 < fewer → fewer < count + more → IsWordsFile packets (before ++ take fewer bytes) → ⊥
 within_piece before bytes count more within_bytes few none_before packets fewer some less is =

@@ -2,11 +2,12 @@
 use Rattle.std.proofs.Common.{◌≡◌, ℕ, ◌%◌, ◌^◌, List, length, Option, Some, None, inl, inr, refl, subst, sym}
 use Rattle.std.specs.Prelude.{IfErr, IsOk, Result, Ok, Err}
 use Rattle.std.specs.Result.{result_err}
+use Rattle.cc_base.specs.Syntax.{open_behind}
 use Rattle.cc_base.specs.declared.refusal.Refusal.{Refusal}
 use Rattle.cc_base.specs.declared.why.Why.TheVariants as why
 use Rattle.anc_words.specs.Packets.{Packet}
 use Rattle.anc_words.specs.Readers.{HasRead}
-use Rattle.anc_words.specs.Reading.{nothing_open, open_behind}
+use Rattle.anc_words.specs.Reading.{anc_syntax, nothing_open}
 use Rattle.anc_words.specs.WordsFiles.{IsWordsFile}
 use Rattle.anc_words.proofs.ByteLemmas.{file_is_read, what_is_read_is_file}
 use Rattle.cdp_packets.specs.Packets.{Packet as Frame}
@@ -54,7 +55,7 @@ finish_malformed bytes receiver (Err refused) had finishes =
     let cases : (refusal : Option Refusal) → refusal_of never bytes ≡ refusal → IsMalformed never bytes refused = elim [
       | None ↦ λ none.
           let led = had.reached.leads none in
-          let opens : open_behind bytes ≡ nothing_open → ⊥ = λ closed.
+          let opens : open_behind anc_syntax bytes ≡ nothing_open → ⊥ = λ closed.
           let (packets, file) = what_is_read_is_file bytes led.0 led.1.all closed in (let ok = finishes.file packets led file in cc) in
           let short = open_is_cut_short never never_takes bytes had.bytes_are none opens in
           let cut = finishes.cut led in

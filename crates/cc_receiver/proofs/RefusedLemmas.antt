@@ -4,10 +4,10 @@ use Rattle.std.specs.List.{All}
 use Rattle.std.proofs.Common.{◌≡◌, ◌<◌, ℕ, ◌++◌, List, [], length, Some, ap, sym, subst, ◌∙◌}
 use Rattle.cc_base.specs.declared.refusal.Refusal.{Refusal}
 use Rattle.cc_base.specs.Feeding.{Reading, place_by, read_first, reading}
-use Rattle.cc_base.specs.Steps.{judge_by}
+use Rattle.cc_base.specs.Syntax.{judge_by, read_under}
 use Rattle.cc_base.proofs.ReadingLemmas.{reading-append}
 use Rattle.anc_words.specs.declared.parts.WordPart.{WordPart}
-use Rattle.anc_words.specs.Reading.{judge_byte, nothing_open, open_after, read_under}
+use Rattle.anc_words.specs.Reading.{anc_syntax}
 use Rattle.cc_receiver.specs.declared.receiver.Receiver.{Receiver}
 use Rattle.words_files.specs.Catching.{caption_verdict, caught_of, refusal_of, never}
 use Rattle.cc_receiver.specs.Catchers.{HasCaught}
@@ -15,10 +15,10 @@ use Rattle.cc_receiver.specs.Receivers.{HasReceived}
 
 -- what is read of them
 read-refused : (before more : List ℕ) (refused : Refusal) → refusal_of never before ≡ Some refused
-    → read_under (caption_verdict never) (before ++ more) ≡ record { parts = (read_under (caption_verdict never) before).parts; refusal = Some refused }
+    → read_under anc_syntax 2 (caption_verdict never) (before ++ more) ≡ record { parts = (read_under anc_syntax 2 (caption_verdict never) before).parts; refusal = Some refused }
 read-refused before more refused some =
-    let judge = judge_by judge_byte open_after nothing_open in
-    let one = read_under (caption_verdict never) before in
+    let judge = judge_by anc_syntax in
+    let one = read_under anc_syntax 2 (caption_verdict never) before in
     let rest = reading judge (caption_verdict never) (place_by 2) before one.parts more in
     reading-append judge (caption_verdict never) (place_by 2) [] [] before more ∙ ap (λ a. read_first a one.parts rest) some
 

@@ -5,13 +5,13 @@ use Rattle.std.proofs.lemmas.List.Elements.{All-append}
 use Rattle.std.specs.List.{All}
 use Rattle.cc_base.specs.declared.refusal.Refusal.{Refusal}
 use Rattle.cc_base.specs.Feeding.{place_by}
-use Rattle.cc_base.specs.Steps.{judge_by}
+use Rattle.cc_base.specs.Syntax.{judge_by, open_behind}
 use Rattle.cc_base.proofs.ReachedLemmas.{Feeds, Reached-more}
 use Rattle.anc_words.specs.Ending.{bytes_to_end}
 use Rattle.anc_words.specs.Packets.{IsCaption, Packet}
 use Rattle.anc_words.specs.WordsFiles.{IsWordsFile}
 use Rattle.anc_words.specs.Readers.{HasRead, kept_refusal}
-use Rattle.anc_words.specs.Reading.{judge_byte, nothing_open, open_after, open_behind}
+use Rattle.anc_words.specs.Reading.{anc_syntax}
 use Rattle.cdp_packets.specs.PacketParts.{packet_parts}
 use Rattle.cdp_packets.specs.Packets.{Packet as Frame}
 use Rattle.line21_codes.specs.declared.channels.Chan.{Chan}
@@ -58,7 +58,7 @@ one_more frames more (inr (frame, spelled)) =
     record { least = omega (arith, e, long); most = omega (arith, e, long) }
 
 -- at most one frame more is caught of a piece
-caught_more : (before piece : List ℕ) → 0 < length piece → length piece ≤ bytes_to_end (open_behind before) → All (λ b. b < 256) before
+caught_more : (before piece : List ℕ) → 0 < length piece → length piece ≤ bytes_to_end (open_behind anc_syntax before) → All (λ b. b < 256) before
     → All (λ b. b < 256) (before ++ piece) → OneMore (length (caught_in never before).frames) (length (caught_in never (before ++ piece)).frames)
 caught_more before piece some few all whole =
     let first = got never before all in
@@ -74,11 +74,11 @@ pub record Takes (bytes : List ℕ) (answer : Option Refusal) (new : Receiver) :
   pub refusal : answer ≡ refusal_of never bytes
 
 pub takes : (before piece : List ℕ) (answer : Option Refusal) (old new : Receiver) → frame_count old < 4294967295 → 0 < length piece
-    → length piece ≤ bytes_to_end (open_behind before) → All (λ b. b < 256) piece → HasReceived before old
-    → Feeds (judge_by judge_byte open_after nothing_open) (caption_verdict never) (place_by 2) HasRead kept_refusal HasCaught piece answer
+    → length piece ≤ bytes_to_end (open_behind anc_syntax before) → All (λ b. b < 256) piece → HasReceived before old
+    → Feeds (judge_by anc_syntax) (caption_verdict never) (place_by 2) HasRead kept_refusal HasCaught piece answer
     old.words new.words old.captions new.captions → Takes (before ++ piece) answer new
 takes before piece answer old new few some most bytes had fed =
-    let more = Reached-more (judge_by judge_byte open_after nothing_open) (caption_verdict never) (place_by 2) HasRead kept_refusal HasCaught [] [] before piece
+    let more = Reached-more (judge_by anc_syntax) (caption_verdict never) (place_by 2) HasRead kept_refusal HasCaught [] [] before piece
     answer old.words new.words old.captions new.captions had.reached fed in
     let whole = All-append (λ b. b < 256) before piece had.bytes_are bytes in
     let one : OneMore (frame_count old) (length (caught_in never (before ++ piece)).frames) =
@@ -121,7 +121,7 @@ ends_by frames more bytes earlier packet old new was is are (inr (other, same)) 
       one = λ differs. absurd (differs (omega (arith, e, was, is)));
     }
 
-pub piece_ends : (before piece : List ℕ) (old new : Receiver) → 0 < length piece → length piece ≤ bytes_to_end (open_behind before)
+pub piece_ends : (before piece : List ℕ) (old new : Receiver) → 0 < length piece → length piece ≤ bytes_to_end (open_behind anc_syntax before)
     → HasReceived before old → HasReceived (before ++ piece) new → PieceEnds (before ++ piece) (frame_count old) (frame_count new)
 piece_ends before piece old new some few had has =
     let first = got never before had.bytes_are in
@@ -143,7 +143,7 @@ piece_ends before piece old new some few had has =
     ]
 
 -- no frame ends with a piece that is refused
-pub refused_counts : (before piece : List ℕ) (refusal : Refusal) (old new : Receiver) → length piece ≤ bytes_to_end (open_behind before)
+pub refused_counts : (before piece : List ℕ) (refusal : Refusal) (old new : Receiver) → length piece ≤ bytes_to_end (open_behind anc_syntax before)
     → refusal_of never (before ++ piece) ≡ Some refusal → HasReceived before old → HasReceived (before ++ piece) new → frame_count new ≡ frame_count old
 refused_counts before piece refusal old new few some had has =
     let first = got never before had.bytes_are in

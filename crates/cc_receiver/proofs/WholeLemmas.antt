@@ -4,9 +4,10 @@ use Rattle.std.proofs.Math.Seq.{take-add}
 use Rattle.std.proofs.lemmas.List.{length-take, map-append, reverse-append}
 use Rattle.std.proofs.lemmas.List.Elements.{All-append, All-take}
 use Rattle.std.specs.List.{All}
+use Rattle.cc_base.specs.Syntax.{open_behind}
 use Rattle.anc_words.specs.Packets.{IsCaption, Packet, user_bytes}
 use Rattle.anc_words.specs.Readers.{HasRead}
-use Rattle.anc_words.specs.Reading.{nothing_open, open_behind}
+use Rattle.anc_words.specs.Reading.{anc_syntax, nothing_open}
 use Rattle.anc_words.specs.WordsFiles.{IsPacketBytes, IsWordsFile}
 use Rattle.anc_words.proofs.PacketLemmas.{IsPacketBytes-unique}
 use Rattle.anc_words.proofs.WordsFileLemmas.{IsWordsFile-append, IsWordsFile-first, IsWordsFile-one}
@@ -32,7 +33,7 @@ use Rattle.cc_receiver.proofs.TakenLemmas.{OneMore, same_count}
 pub record IsWhole (before piece : List ℕ) (packet : Packet) (frame : Frame) : Type 0 where
   pub bytes_are : All (λ b. b < 256) before
   pub unrefused : refusal_of never before ≡ None
-  pub closed : open_behind before ≡ nothing_open
+  pub closed : open_behind anc_syntax before ≡ nothing_open
   pub is_caption : IsCaption packet
   pub is_packet : IsPacketBytes packet piece
   pub is_cdp : IsCdp frame (user_bytes packet)
@@ -134,10 +135,10 @@ pub record TakesFrame (bytes : List ℕ) (caught : Caught) (captions : Captions)
   pub keeps : Keeps (with_frame (packet_parts frame) caught) captions
 
 pub reads_whole : (before bytes : List ℕ) (size : ℕ) (packet : Packet) (old new : Receiver) → frame_count old < 4294967295 → All (λ b. b < 256) bytes
-    → HasReceived before old → receiver_refusal old ≡ None → (HasRead before old.words → open_behind before ≡ nothing_open)
+    → HasReceived before old → receiver_refusal old ≡ None → (HasRead before old.words → open_behind anc_syntax before ≡ nothing_open)
     → IsCaption packet → size ≤ length bytes → IsPacketBytes packet (take size bytes)
     → ((caught : Caught) → Keeps caught old.captions → TakesFrame (user_bytes packet) caught new.captions)
-    → (HasRead before old.words → open_behind before ≡ nothing_open → HasRead (before ++ take size bytes) new.words) → ReadsWhole before bytes size old new
+    → (HasRead before old.words → open_behind anc_syntax before ≡ nothing_open → HasRead (before ++ take size bytes) new.words) → ReadsWhole before bytes size old new
 reads_whole before bytes size packet old new few all had kept closes is_caption within is_packet takes passes =
     let unrefused : refusal_of never before ≡ None = sym (kept_is before old had) ∙ kept in
     let read = had.reached.leads unrefused in

@@ -3,9 +3,9 @@ use Rattle.std.specs.Prelude.{◌≡◌, ℕ, ◌<◌, Bool, if◌then◌else◌
 use Rattle.std.specs.List.{All}
 use Rattle.cc_base.specs.declared.refusal.Refusal.{Refusal}
 use Rattle.cc_base.specs.Feeding.{Reached, place_by}
-use Rattle.cc_base.specs.Steps.{judge_by}
+use Rattle.cc_base.specs.Syntax.{judge_by}
 use Rattle.anc_words.specs.Readers.{HasRead, kept_refusal}
-use Rattle.anc_words.specs.Reading.{judge_byte, nothing_open, open_after}
+use Rattle.anc_words.specs.Reading.{anc_syntax}
 use Rattle.line21_codes.specs.Channels.{is_in_second_field, is_second_channel}
 use Rattle.line21_codes.specs.declared.channels.Chan.{Chan}
 use Rattle.line21_screen.specs.Fields.{channel}
@@ -34,7 +34,7 @@ shown receiver chan = (channel (is_second_channel chan) (field_of (field_in (is_
 
 -- it was fed these bytes, those too behind a refused word, and counts their frames
 pub record HasReceived (bytes : List ℕ) (receiver : Receiver) : Type 0 where
-  pub reached : Reached (judge_by judge_byte open_after nothing_open) (caption_verdict never) (place_by 2) HasRead kept_refusal HasCaught
+  pub reached : Reached (judge_by anc_syntax) (caption_verdict never) (place_by 2) HasRead kept_refusal HasCaught
       [] [] bytes receiver.words receiver.captions
   pub bytes_are : All (λ byte. byte < 256) bytes
   pub counted : frame_count receiver ≡ length (caught_in never bytes).frames

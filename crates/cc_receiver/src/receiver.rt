@@ -1,10 +1,11 @@
 ghost use Rattle.std.specs.Prelude.{◌≡◌, ◌≢◌, false, ◌<◌, ◌≤◌, ◌+◌, ◌++◌, ℕ, List, [], ◌∷◌, None, Some, IfErr, IfOk, IfSome, IsNone, IsOk, IsSome, IsTrue, length, take};
 ghost use Rattle.std.specs.List.{concat};
 ghost use Rattle.std.specs.Result.{result_err};
+ghost use Rattle.cc_base.specs.Syntax.{Reads, open_behind};
 ghost use Rattle.cc_base.specs.declared.refusal.Refusal.{Refusal as Refused};
 ghost use Rattle.anc_words.specs.Ending.{bytes_to_end};
 ghost use Rattle.anc_words.specs.Packets.{Packet};
-ghost use Rattle.anc_words.specs.Reading.{open_behind};
+ghost use Rattle.anc_words.specs.Reading.{anc_syntax};
 ghost use Rattle.anc_words.specs.WordsFiles.{IsWordsFile};
 ghost use Rattle.cdp_packets.specs.Packets.{Packet as FrameOf};
 ghost use Rattle.cdp_packets.specs.PacketTriplets.{packet_triplets};
@@ -156,14 +157,14 @@ impl Receiver {
     fn read(&mut self, piece: &[u8]) -> Result<Ended, Refusal>
         requires some { 0 < length piece.now }
         requires few { frame_count self.now < 4294967295 }
-        ensures received { (before : List ℕ) → HasReceived before self.old → length piece.now ≤ bytes_to_end (open_behind before)
+        ensures received { (before : List ℕ) → HasReceived before self.old → length piece.now ≤ bytes_to_end (open_behind anc_syntax before)
             → HasReceived (before ++ piece.now) self.new }
-        ensures refusal { (before : List ℕ) → HasReceived before self.old → length piece.now ≤ bytes_to_end (open_behind before)
+        ensures refusal { (before : List ℕ) → HasReceived before self.old → length piece.now ≤ bytes_to_end (open_behind anc_syntax before)
             → result_err result ≡ refusal_of never (before ++ piece.now) }
-        ensures ended { (before : List ℕ) → HasReceived before self.old → length piece.now ≤ bytes_to_end (open_behind before)
+        ensures ended { (before : List ℕ) → HasReceived before self.old → length piece.now ≤ bytes_to_end (open_behind anc_syntax before)
             → IfOk result (λ answer. EndsBy answer (before ++ piece.now)) }
         ensures told { receiver_refusal self.new ≡ result_err result }
-        ensures more { (before : List ℕ) → HasReceived before self.old → length piece.now ≤ bytes_to_end (open_behind before)
+        ensures more { (before : List ℕ) → HasReceived before self.old → length piece.now ≤ bytes_to_end (open_behind anc_syntax before)
             → IfOk result (λ answer. answer ≡ ended.Caption → frame_count self.new ≡ frame_count self.old + 1) }
         ensures same { IfOk result (λ answer. answer ≢ ended.Caption → frame_count self.new ≡ frame_count self.old) }
     {
@@ -182,9 +183,9 @@ impl Receiver {
     fn take(&mut self, piece: &[u8]) -> Result<(), Refusal>
         requires some { 0 < length piece.now }
         requires few { frame_count self.now < 4294967295 }
-        ensures received { (before : List ℕ) → HasReceived before self.old → length piece.now ≤ bytes_to_end (open_behind before)
+        ensures received { (before : List ℕ) → HasReceived before self.old → length piece.now ≤ bytes_to_end (open_behind anc_syntax before)
             → HasReceived (before ++ piece.now) self.new }
-        ensures refusal { (before : List ℕ) → HasReceived before self.old → length piece.now ≤ bytes_to_end (open_behind before)
+        ensures refusal { (before : List ℕ) → HasReceived before self.old → length piece.now ≤ bytes_to_end (open_behind anc_syntax before)
             → result_err result ≡ refusal_of never (before ++ piece.now) }
         ensures told { receiver_refusal self.new ≡ result_err result }
     {

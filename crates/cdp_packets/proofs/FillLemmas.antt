@@ -8,18 +8,19 @@ use Rattle.cc_base.specs.declared.step.Step.{Step}
 use Rattle.cc_base.specs.declared.step.Step.TheVariants.{Nothing, One, Refuse}
 use Rattle.cc_base.specs.declared.why.Why.TheVariants as why
 use Rattle.cc_base.specs.declared.why.Why.{Why}
-use Rattle.cc_base.specs.Steps.{AllTaken, IsTaken, parts_by, step_parts}
-use Rattle.cc_base.proofs.StepLemmas.{AllTaken-append, AllTaken-split}
+use Rattle.cc_base.specs.Steps.{IsTaken, step_parts}
+use Rattle.cc_base.specs.Syntax.{AllRead, AllTaken, Reads, open_behind, parts_from}
+use Rattle.cc_base.proofs.SyntaxLemmas.{AllTaken-append, AllTaken-split}
 use Rattle.cdp_packets.specs.Packets.{IsCdp, Packet}
 use Rattle.cc_data.specs.Triplets.{triplet_of}
 use Rattle.cdp_packets.specs.declared.parts.CdpPart.{CdpPart}
 use Rattle.cdp_packets.specs.declared.parts.CdpPart.TheVariants as part
-use Rattle.cdp_packets.specs.Reading.{AllRead, GoesOn, IsFilling, IsPacketLength, Open, count_fits, id_fits, is_in_sections, judge_cdp, judge_triplet, nothing_open, open_after, open_behind, triplet_behind}
+use Rattle.cdp_packets.specs.Reading.{cdp_syntax, GoesOn, IsFilling, IsPacketLength, Open, count_fits, id_fits, is_in_sections, judge_cdp, judge_triplet, nothing_open, triplet_behind}
 use Rattle.cdp_packets.specs.Sections.{rest_of}
 use Rattle.cdp_packets.specs.Written.{checksum_of}
 use Rattle.cdp_packets.proofs.BegunLemmas.{CanGoOn, InFooter, InSections, IsBegun, IsFoot}
 use Rattle.cdp_packets.proofs.FitLemmas.{count_fits-section, id_fits-choice, or-second}
-use Rattle.cdp_packets.proofs.ReadLemmas.{Reads, Seven, fixed, footer_byte, front_of, head_byte, packet_read, section_byte, seven}
+use Rattle.cdp_packets.proofs.ReadLemmas.{Seven, fixed, footer_byte, front_of, head_byte, packet_read, section_byte, seven}
 use Rattle.cdp_packets.proofs.SoundLemmas.{bytes_behind-is, read_open, sound}
 
 abbrev pub IsByte : ℕ → Type 0
@@ -29,24 +30,23 @@ IsByte byte = byte < 256
 pub record Completes (size : ℕ) (front : Open) : Type 0 where
   pub more : List ℕ
   pub bytes_are : All IsByte more
-  pub taken : AllTaken (judge_cdp size) (open_after size) front more
+  pub taken : AllTaken (cdp_syntax size) front more
   pub long : length front.bytes + length more ≡ size
-  pub filling : All IsFilling (parts_by (judge_cdp size) (open_after size) front more)
+  pub filling : All IsFilling (parts_from (cdp_syntax size) front more)
 
 -- first one byte
-Completes-with : (size : ℕ) (front behind : Open) (byte : ℕ) (parts : List CdpPart) → Reads size front (byte ∷ []) behind parts → All IsFilling parts → byte < 256
+Completes-with : (size : ℕ) (front behind : Open) (byte : ℕ) (parts : List CdpPart) → Reads (cdp_syntax size) front (byte ∷ []) parts behind → All IsFilling parts → byte < 256
     → length behind.bytes ≡ length front.bytes + 1 → Completes size behind → Completes size front
 Completes-with size front behind byte parts reads filling small longer rest =
-    let judge = judge_cdp size in
-    let after = open_after size in
-    let made = append-nil (step_parts (judge front byte)) in
+    let syntax = cdp_syntax size in
+    let made = append-nil (step_parts (judge_cdp size front byte)) in
     let long = rest.long in record {
       more = byte ∷ rest.more;
       bytes_are = All-cons IsByte byte rest.more small rest.bytes_are;
-      taken = (reads.taken.0, subst (λ f. AllTaken judge after f rest.more) (sym reads.leads) rest.taken);
+      taken = (reads.taken.0, subst (λ f. AllTaken syntax f rest.more) (sym reads.leads) rest.taken);
       long = omega (arith, longer);
-      filling = All-append IsFilling (step_parts (judge front byte)) _ (subst (All IsFilling) (sym (sym made ∙ reads.made)) filling)
-          (subst (λ f. All IsFilling (parts_by judge after f rest.more)) (sym reads.leads) rest.filling);
+      filling = All-append IsFilling (step_parts (judge_cdp size front byte)) _ (subst (All IsFilling) (sym (sym made ∙ reads.made)) filling)
+          (subst (λ f. All IsFilling (parts_from syntax f rest.more)) (sym reads.leads) rest.filling);
     }
 
 -- parts without captions
@@ -298,9 +298,9 @@ completes size (mark ∷ second ∷ long ∷ rate ∷ flags ∷ high ∷ low ∷
     (All-head IsByte low body (All-tail IsByte high (low ∷ body) bytes_are))
 
 -- bytes that are read go on to a packet
-pub goes_on : (size : ℕ) (bytes : List ℕ) → IsPacketLength size → size < 256 → All IsByte bytes → length bytes ≤ size → AllRead size bytes → GoesOn size bytes
+pub goes_on : (size : ℕ) (bytes : List ℕ) → IsPacketLength size → size < 256 → All IsByte bytes → length bytes ≤ size → AllRead (cdp_syntax size) bytes → GoesOn size bytes
 goes_on size bytes can small are room read =
-    let behind = open_behind size bytes in
+    let behind = open_behind (cdp_syntax size) bytes in
     let is = read_open size bytes can read in
     let kept : behind.bytes ≡ bytes = bytes_behind-is size bytes nothing_open (omega (arith, room)) in
     let front : front_of bytes behind.section behind.triplet ≡ behind =
@@ -309,13 +309,13 @@ goes_on size bytes can small are room read =
     let rest = subst (Completes size) front
     (completes size bytes behind.section behind.triplet can small are (subst (λ bs. IsBegun size bs behind.section) kept is.begun)) in
     let whole : length (bytes ++ rest.more) ≡ size = omega (arith, length-append bytes rest.more, ap length kept, rest.long) in
-    let (packet, packet_is) = sound size (bytes ++ rest.more) can whole (AllTaken-append (judge_cdp size) (open_after size) nothing_open bytes rest.more read rest.taken) in
+    let (packet, packet_is) = sound size (bytes ++ rest.more) can whole (AllTaken-append (cdp_syntax size) nothing_open bytes rest.more read rest.taken) in
     record { more = rest.more; bytes_are = rest.bytes_are; long = whole; packet = packet; is = packet_is; filling = rest.filling }
 
 -- and no packet goes on with a byte that is refused
 pub refused_goes_nowhere : (size : ℕ) (bytes : List ℕ) (byte : ℕ) (reason : Why) (more : List ℕ) (packet : Packet)
-    → judge_cdp size (open_behind size bytes) byte ≡ Refuse reason → IsCdp packet (bytes ++ byte ∷ more) → length (bytes ++ byte ∷ more) ≡ size → ⊥
+    → judge_cdp size (open_behind (cdp_syntax size) bytes) byte ≡ Refuse reason → IsCdp packet (bytes ++ byte ∷ more) → length (bytes ++ byte ∷ more) ≡ size → ⊥
 refused_goes_nowhere size bytes byte reason more packet refused is long =
-    let read = subst (λ n. AllRead n (bytes ++ byte ∷ more)) long (packet_read packet (bytes ++ byte ∷ more) is).taken in
-    let (_, (taken, _)) = AllTaken-split (judge_cdp size) (open_after size) nothing_open bytes (byte ∷ more) read in
+    let read = subst (λ n. AllRead (cdp_syntax n) (bytes ++ byte ∷ more)) long (packet_read packet (bytes ++ byte ∷ more) is).taken in
+    let (_, (taken, _)) = AllTaken-split (cdp_syntax size) nothing_open bytes (byte ∷ more) read in
     subst IsTaken refused taken

@@ -9,9 +9,10 @@ use Rattle.cc_base.specs.declared.why.Why.{Why}
 use Rattle.cc_base.specs.declared.why.Why.TheVariants as why
 use Rattle.cc_base.specs.Rate.{rate_of}
 use Rattle.cc_base.specs.Steps.{IsTaken}
+use Rattle.cc_base.specs.Syntax.{AllRead, open_behind}
 use Rattle.cdp_packets.specs.declared.parts.CdpPart.{CdpPart}
 use Rattle.cdp_packets.specs.declared.parts.CdpPart.TheVariants as part
-use Rattle.cdp_packets.specs.Reading.{AllRead, IsPacketLength, count_fits, id_fits, judge_behind, judge_cdp, judge_footer, judge_rate, judge_section, nothing_open, open_behind}
+use Rattle.cdp_packets.specs.Reading.{cdp_syntax, IsPacketLength, count_fits, id_fits, judge_behind, judge_cdp, judge_footer, judge_rate, judge_section, nothing_open}
 use Rattle.cdp_packets.specs.Refusals.{EndWithSections, StandsAt}
 use Rattle.cdp_packets.specs.Sections.{IsSectionList}
 use Rattle.cdp_packets.proofs.BegunLemmas.{CanGoOn, InFooter, InSections, IsBegun, footer_long, id_fits-is_id, none_open, test-same}
@@ -138,10 +139,10 @@ refused_stands size (mark ∷ second ∷ long ∷ rate ∷ flags ∷ high ∷ lo
     body_stands size high low total (mark ∷ second ∷ long ∷ rate ∷ flags ∷ high ∷ low ∷ body) body section triplet byte reason (omega arith) refl below begun.1 is
 
 -- behind bytes that are read
-pub refusal_stands : (size : ℕ) (bytes : List ℕ) (byte : ℕ) (reason : Why) → IsPacketLength size → length bytes ≤ size → AllRead size bytes
-    → judge_cdp size (open_behind size bytes) byte ≡ Refuse reason → StandsAt size bytes reason
+pub refusal_stands : (size : ℕ) (bytes : List ℕ) (byte : ℕ) (reason : Why) → IsPacketLength size → length bytes ≤ size → AllRead (cdp_syntax size) bytes
+    → judge_cdp size (open_behind (cdp_syntax size) bytes) byte ≡ Refuse reason → StandsAt size bytes reason
 refusal_stands size bytes byte reason can below read is =
-    let behind = open_behind size bytes in
+    let behind = open_behind (cdp_syntax size) bytes in
     let open_is = read_open size bytes can read in
     let kept : behind.bytes ≡ bytes = bytes_behind-is size bytes nothing_open (omega (arith, below)) in
     subst (λ bs. StandsAt size bs reason) kept

@@ -7,50 +7,20 @@ use Rattle.cc_base.specs.declared.step.Step.{Step}
 use Rattle.cc_base.specs.declared.step.Step.TheVariants.{Nothing, One, Refuse}
 use Rattle.cc_base.specs.declared.why.Why.TheVariants as why
 use Rattle.cc_base.specs.Rate.{code_of, rate_of}
-use Rattle.cc_base.specs.Feeding.{Reading, Verdict, place_by}
-use Rattle.cc_base.specs.Steps.{AllTaken, AreAccepted, IsTaken, front_from, parts_by, step_parts}
-use Rattle.cc_base.proofs.StepLemmas.{AllTaken-append, front_from-append, parts_by-append, reading-accepted}
+use Rattle.cc_base.specs.Feeding.{Verdict}
+use Rattle.cc_base.specs.Steps.{AreAccepted, IsTaken, step_parts}
+use Rattle.cc_base.specs.Syntax.{Reads, read_under}
+use Rattle.cc_base.proofs.SyntaxLemmas.{Reads-append, Reads-is, Reads-nothing, Reads-one, read_under-reads}
 use Rattle.cdp_packets.specs.declared.parts.CdpPart.{CdpPart}
 use Rattle.cdp_packets.specs.declared.parts.CdpPart.TheVariants as part
 use Rattle.cdp_packets.specs.Packets.{Packet, IsCdp}
 use Rattle.cdp_packets.specs.PacketParts.{packet_parts, section_parts, triplet_parts}
-use Rattle.cdp_packets.specs.Reading.{IsPacketLength, Open, bytes_behind, count_fits, is_in_sections, judge_behind, judge_cdp, judge_footer, judge_rate, judge_section, judge_triplet, nothing_open, open_after, read_under, section_behind, triplet_behind}
+use Rattle.cdp_packets.specs.Reading.{IsPacketLength, Open, bytes_behind, cdp_syntax, count_fits, is_in_sections, judge_behind, judge_cdp, judge_footer, judge_rate, judge_section, judge_triplet, nothing_open, open_after, section_behind, triplet_behind}
 use Rattle.cdp_packets.specs.Sections.{AreSections, is_id, rest_of}
 use Rattle.cdp_packets.proofs.BegunLemmas.{test-same}
 use Rattle.cdp_packets.proofs.FitLemmas.{count_fits-section, id_fits-section, no_single_byte, or-second}
 use Rattle.cdp_packets.proofs.PacketLemmas.{rate_of-code}
 use Rattle.cdp_packets.proofs.SoundLemmas.{open_after-ended, open_after-more, sum-push}
-
--- items that are taken, where they lead, and their parts
-pub record Reads (size : ℕ) (front : Open) (items : List ℕ) (behind : Open) (parts : List CdpPart) : Type 0 where
-  pub taken : AllTaken (judge_cdp size) (open_after size) front items
-  pub leads : front_from (open_after size) front items ≡ behind
-  pub made : parts_by (judge_cdp size) (open_after size) front items ≡ parts
-
-pub Reads-append : (size : ℕ) (front middle behind : Open) (items more : List ℕ) (parts others : List CdpPart)
-    → Reads size front items middle parts → Reads size middle more behind others → Reads size front (items ++ more) behind (parts ++ others)
-Reads-append size front middle behind items more parts others one two =
-    let judge = judge_cdp size in
-    let after = open_after size in record {
-      taken = AllTaken-append judge after front items more one.taken (subst (λ f. AllTaken judge after f more) (sym one.leads) two.taken);
-      leads = front_from-append after front items more ∙ ap (λ f. front_from after f more) one.leads ∙ two.leads;
-      made = parts_by-append judge after front items more
-          ∙ ap (λ ps. ps ++ parts_by judge after (front_from after front items) more) one.made
-          ∙ ap (λ f. parts ++ parts_by judge after f more) one.leads ∙ ap (λ ps. parts ++ ps) two.made;
-    }
-
--- no items
-pub Reads-none : (size : ℕ) (front : Open) → Reads size front [] front []
-Reads-none size front = record { taken = tt; leads = refl; made = refl }
-
--- one item
-pub Reads-one : (size : ℕ) (front behind : Open) (byte : ℕ) (step : Step CdpPart) → judge_cdp size front byte ≡ step → IsTaken step → open_after size front byte ≡ behind
-    → Reads size front (byte ∷ []) behind (step_parts step)
-Reads-one size front behind byte step is taken leads = record {
-  taken = (subst IsTaken (sym is) taken, tt);
-  leads = leads;
-  made = append-nil (step_parts (judge_cdp size front byte)) ∙ ap step_parts is;
-}
 
 -- the bytes before the sections
 pub record Seven : Type 0 where
@@ -127,26 +97,25 @@ open_after-out size head done section triplet left byte long few some =
 -- a byte of the sections
 pub section_byte : (size : ℕ) (head : Seven) (done section triplet : List ℕ) (left byte : ℕ) (step : Step CdpPart) → length done + 11 + left ≡ size → 0 < left
     → judge_section left section triplet byte ≡ step → IsTaken step
-    → Reads size (front_of (seven head done) section triplet) (byte ∷ [])
-    (front_of (seven head (done ++ byte ∷ [])) (section_behind section byte) (triplet_behind section triplet byte)) (step_parts step)
+    → Reads (cdp_syntax size) (front_of (seven head done) section triplet) (byte ∷ []) (step_parts step) (front_of (seven head (done ++ byte ∷ [])) (section_behind section byte) (triplet_behind section triplet byte))
 section_byte size head done section triplet left byte step long some is taken =
-    Reads-one size _ _ byte step (judge_cdp-in size head done section triplet left byte long some ∙ is) taken
+    Reads-one (cdp_syntax size) _ byte step _ (judge_cdp-in size head done section triplet left byte long some ∙ is) taken
     (open_after-in size head done section triplet left byte long some)
 
 -- a byte of the footer
 pub footer_byte : (size : ℕ) (head : Seven) (done section triplet : List ℕ) (left byte : ℕ) (step : Step CdpPart) → length done + 7 + left ≡ size → left ≤ 4 → 0 < left
     → judge_footer left head.high head.low (sum (seven head done)) byte ≡ step → IsTaken step
-    → Reads size (front_of (seven head done) section triplet) (byte ∷ []) (front_of (seven head (done ++ byte ∷ [])) [] []) (step_parts step)
+    → Reads (cdp_syntax size) (front_of (seven head done) section triplet) (byte ∷ []) (step_parts step) (front_of (seven head (done ++ byte ∷ [])) [] [])
 footer_byte size head done section triplet left byte step long few some is taken =
-    Reads-one size _ _ byte step (judge_cdp-out size head done section triplet left byte long few ∙ is) taken
+    Reads-one (cdp_syntax size) _ byte step _ (judge_cdp-out size head done section triplet left byte long few ∙ is) taken
     (open_after-out size head done section triplet left byte long few some)
 
 -- a byte before the sections
 pub head_byte : (size : ℕ) (bytes section triplet : List ℕ) (byte : ℕ) (step : Step CdpPart) → length bytes < size → is_in_sections size bytes ≡ false
     → judge_cdp size (front_of bytes section triplet) byte ≡ step → IsTaken step
-    → Reads size (front_of bytes section triplet) (byte ∷ []) (front_of (bytes ++ byte ∷ []) [] []) (step_parts step)
+    → Reads (cdp_syntax size) (front_of bytes section triplet) (byte ∷ []) (step_parts step) (front_of (bytes ++ byte ∷ []) [] [])
 head_byte size bytes section triplet byte step below outside is taken =
-    Reads-one size _ _ byte step is taken
+    Reads-one (cdp_syntax size) _ byte step _ is taken
     (open_after-next size bytes section triplet byte below ∙ ap (λ (t : Bool). next_open bytes section triplet t byte) outside)
 
 -- the parts of the bytes behind a section's first two: with triplets or without, and this open triplet
@@ -183,12 +152,6 @@ section_body_parts id second rest long =
       | false ↦ λ other. body_parts-plain rest
     ] in cases _ refl
 
--- the same items lead to the same
-pub Reads-is : (size : ℕ) (front : Open) (items : List ℕ) (behind other : Open) (parts others : List CdpPart) → behind ≡ other → parts ≡ others
-    → Reads size front items behind parts → Reads size front items other others
-Reads-is size front items behind other parts others leads made reads =
-    record { taken = reads.taken; leads = reads.leads ∙ leads; made = reads.made ∙ made }
-
 -- a byte behind a section's first two is never refused
 pub body_taken : (triplets : Bool) (triplet : List ℕ) (byte : ℕ) → IsTaken (if triplets then judge_triplet triplet byte else One (part.SectionByte byte))
 body_taken false triplet byte = tt
@@ -199,34 +162,31 @@ body_taken true (first ∷ second ∷ more) byte = tt
 -- the bytes behind a section's first two, to its end
 body_read : (size : ℕ) (head : Seven) (done : List ℕ) (id second : ℕ) (before triplet rest : List ℕ) (more : ℕ)
     → length before + length rest ≡ rest_of id second → 0 < length rest → length done + 11 + (length rest + more) ≡ size
-    → Reads size (front_of (seven head done) (id ∷ second ∷ before) triplet) rest
-    (front_of (seven head (done ++ rest)) [] (triplet_from (id == 0x72) triplet rest)) (body_parts (id == 0x72) triplet rest)
+    → Reads (cdp_syntax size) (front_of (seven head done) (id ∷ second ∷ before) triplet) rest (body_parts (id == 0x72) triplet rest) (front_of (seven head (done ++ rest)) [] (triplet_from (id == 0x72) triplet rest))
 body_read size head done id second before triplet [] more whole some long = absurd (omega arith)
 body_read size head done id second before triplet (byte ∷ []) more whole some long =
     let step : Step CdpPart = if id == 0x72 then judge_triplet triplet byte else One (part.SectionByte byte) in
     let ends : nat_le (rest_of id second) (length before + 1) ≡ true = grind (arith, nat_tests) in
     let one = section_byte size head done (id ∷ second ∷ before) triplet (1 + more) byte step (omega arith) (omega arith) refl (body_taken (id == 0x72) triplet byte) in
-    Reads-is size _ _ _ _ _ _
-    (ap (λ (t : Bool). front_of (seven head (done ++ byte ∷ [])) (if t then [] else id ∷ second ∷ (before ++ byte ∷ [])) (triplet_from (id == 0x72) triplet (byte ∷ []))) ends)
-    (sym (append-nil (step_parts step))) one
+    Reads-is (cdp_syntax size) _ _ _ _ _ _ (sym (append-nil (step_parts step)))
+    (ap (λ (t : Bool). front_of (seven head (done ++ byte ∷ [])) (if t then [] else id ∷ second ∷ (before ++ byte ∷ [])) (triplet_from (id == 0x72) triplet (byte ∷ []))) ends) one
 body_read size head done id second before triplet (byte ∷ next ∷ rest) more whole some long =
     let step : Step CdpPart = if id == 0x72 then judge_triplet triplet byte else One (part.SectionByte byte) in
     let after : List ℕ = if id == 0x72 then bytes_behind triplet byte else [] in
     let lasts : nat_le (rest_of id second) (length before + 1) ≡ false = grind (arith, nat_tests) in
     let one = section_byte size head done (id ∷ second ∷ before) triplet (length (byte ∷ next ∷ rest) + more) byte step (omega arith) (omega arith) refl (body_taken (id == 0x72) triplet byte) in
-    let first = Reads-is size _ _ _ (front_of (seven head (done ++ byte ∷ [])) (id ∷ second ∷ (before ++ byte ∷ [])) after) _ (step_parts step)
-    (ap (λ (t : Bool). front_of (seven head (done ++ byte ∷ [])) (if t then [] else id ∷ second ∷ (before ++ byte ∷ [])) after) lasts) refl one in
+    let first = Reads-is (cdp_syntax size) _ _ _ (step_parts step) _ (front_of (seven head (done ++ byte ∷ [])) (id ∷ second ∷ (before ++ byte ∷ [])) after) refl
+    (ap (λ (t : Bool). front_of (seven head (done ++ byte ∷ [])) (if t then [] else id ∷ second ∷ (before ++ byte ∷ [])) after) lasts) one in
     let others = body_read size head (done ++ byte ∷ []) id second (before ++ byte ∷ []) after (next ∷ rest) more
     (omega (arith, length-append before (byte ∷ []))) (omega arith) (omega (arith, length-append done (byte ∷ []))) in
-    Reads-is size _ _ _ _ _ _
-    (ap (λ (bs : List ℕ). front_of (seven head bs) [] (triplet_from (id == 0x72) after (next ∷ rest))) (append_assoc done (byte ∷ []) (next ∷ rest))) refl
-    (Reads-append size _ _ _ _ _ _ _ first others)
+    Reads-is (cdp_syntax size) _ _ _ _ _ _ refl
+    (ap (λ (bs : List ℕ). front_of (seven head bs) [] (triplet_from (id == 0x72) after (next ∷ rest))) (append_assoc done (byte ∷ []) (next ∷ rest)))
+    (Reads-append (cdp_syntax size) _ _ _ _ _ _ _ first others)
 
 -- a section's first two bytes
 section_begins : (size : ℕ) (head : Seven) (done triplet : List ℕ) (id second more : ℕ) → is_id id ≡ true
     → length done + 11 + (2 + rest_of id second + more) ≡ size → more ≢ 1
-    → Reads size (front_of (seven head done) [] triplet) (id ∷ second ∷ [])
-    (front_of (seven head (done ++ id ∷ second ∷ [])) (section_behind (id ∷ []) second) []) (part.SectionByte id ∷ part.SectionByte second ∷ [])
+    → Reads (cdp_syntax size) (front_of (seven head done) [] triplet) (id ∷ second ∷ []) (part.SectionByte id ∷ part.SectionByte second ∷ []) (front_of (seven head (done ++ id ∷ second ∷ [])) (section_behind (id ∷ []) second) [])
 section_begins size head done triplet id second more is long none =
     let left = 2 + rest_of id second + more in
     let fits = id_fits-section left id second more is refl none in
@@ -237,43 +197,41 @@ section_begins size head done triplet id second more is long none =
     let two = section_byte size head (done ++ id ∷ []) (id ∷ []) [] below second (One (part.SectionByte second))
     (omega (arith, length-append done (id ∷ []))) (omega arith)
     (ap (λ (t : Bool). let s : Step CdpPart = if t then One (part.SectionByte second) else Refuse why.Count in s) counts) tt in
-    Reads-is size _ _ _ _ _ _
-    (ap (λ (bs : List ℕ). front_of (seven head bs) (section_behind (id ∷ []) second) []) (append_assoc done (id ∷ []) (second ∷ []))) refl
-    (Reads-append size _ _ _ _ _ _ _ one two)
+    Reads-is (cdp_syntax size) _ _ _ _ _ _ refl
+    (ap (λ (bs : List ℕ). front_of (seven head bs) (section_behind (id ∷ []) second) []) (append_assoc done (id ∷ []) (second ∷ [])))
+    (Reads-append (cdp_syntax size) _ _ _ _ _ _ _ one two)
 
 -- a section
 section_read : (size : ℕ) (head : Seven) (done triplet : List ℕ) (id second : ℕ) (rest : List ℕ) (more : ℕ) → is_id id ≡ true → length rest ≡ rest_of id second
     → length done + 11 + (2 + length rest + more) ≡ size → more ≢ 1
-    → Reads size (front_of (seven head done) [] triplet) (id ∷ second ∷ rest)
-    (front_of (seven head (done ++ id ∷ second ∷ rest)) [] (triplet_from (id == 0x72) [] rest)) (section_parts (id ∷ second ∷ rest))
+    → Reads (cdp_syntax size) (front_of (seven head done) [] triplet) (id ∷ second ∷ rest) (section_parts (id ∷ second ∷ rest)) (front_of (seven head (done ++ id ∷ second ∷ rest)) [] (triplet_from (id == 0x72) [] rest))
 section_read size head done triplet id second [] more is whole long none =
     let ends : (rest_of id second == 0) ≡ true = grind (arith, nat_tests) in
     let begins = section_begins size head done triplet id second more is (omega (arith, whole, long)) none in
-    Reads-is size _ _ _ _ _ _
-    (ap (λ (t : Bool). front_of (seven head (done ++ id ∷ second ∷ [])) (if t then [] else id ∷ second ∷ []) []) ends)
-    (ap (λ ps. part.SectionByte id ∷ part.SectionByte second ∷ ps) (section_body_parts id second [] whole)) begins
+    Reads-is (cdp_syntax size) _ _ _ _ _ _ (ap (λ ps. part.SectionByte id ∷ part.SectionByte second ∷ ps) (section_body_parts id second [] whole))
+    (ap (λ (t : Bool). front_of (seven head (done ++ id ∷ second ∷ [])) (if t then [] else id ∷ second ∷ []) []) ends) begins
 section_read size head done triplet id second (byte ∷ rest) more is whole long none =
     let lasts : (rest_of id second == 0) ≡ false = grind (arith, nat_tests) in
     let begins = section_begins size head done triplet id second more is (omega (arith, whole, long)) none in
-    let first = Reads-is size _ _ _ (front_of (seven head (done ++ id ∷ second ∷ [])) (id ∷ second ∷ []) []) _ (part.SectionByte id ∷ part.SectionByte second ∷ [])
-    (ap (λ (t : Bool). front_of (seven head (done ++ id ∷ second ∷ [])) (if t then [] else id ∷ second ∷ []) []) lasts) refl begins in
+    let first = Reads-is (cdp_syntax size) _ _ _ (part.SectionByte id ∷ part.SectionByte second ∷ []) _ (front_of (seven head (done ++ id ∷ second ∷ [])) (id ∷ second ∷ []) []) refl
+    (ap (λ (t : Bool). front_of (seven head (done ++ id ∷ second ∷ [])) (if t then [] else id ∷ second ∷ []) []) lasts) begins in
     let body = body_read size head (done ++ id ∷ second ∷ []) id second [] [] (byte ∷ rest) more (omega (arith, whole)) (omega arith)
     (omega (arith, long, length-append done (id ∷ second ∷ []))) in
-    Reads-is size _ _ _ _ _ _
+    Reads-is (cdp_syntax size) _ _ _ _ _ _ (ap (λ ps. part.SectionByte id ∷ part.SectionByte second ∷ ps) (section_body_parts id second (byte ∷ rest) whole))
     (ap (λ (bs : List ℕ). front_of (seven head bs) [] (triplet_from (id == 0x72) [] (byte ∷ rest))) (append_assoc done (id ∷ second ∷ []) (byte ∷ rest)))
-    (ap (λ ps. part.SectionByte id ∷ part.SectionByte second ∷ ps) (section_body_parts id second (byte ∷ rest) whole))
-    (Reads-append size _ _ _ _ _ _ _ first body)
+    (Reads-append (cdp_syntax size) _ _ _ _ _ _ _ first body)
 
 -- sections
 pub record SectionsRead (size : ℕ) (head : Seven) (done triplet : List ℕ) (cut : List (List ℕ)) : Type 0 where
   pub last : List ℕ
-  pub reads : Reads size (front_of (seven head done) [] triplet) (concat cut) (front_of (seven head (done ++ concat cut)) [] last) (flat_map section_parts cut)
+  pub reads : Reads (cdp_syntax size) (front_of (seven head done) [] triplet) (concat cut) (flat_map section_parts cut) (front_of (seven head (done ++ concat cut)) [] last)
 
 sections_read : (size : ℕ) (head : Seven) (done triplet : List ℕ) (cut : List (List ℕ)) → AreSections cut → length done + 11 + length (concat cut) ≡ size
     → SectionsRead size head done triplet cut
 sections_read size head done triplet [] are long = record {
   last = triplet;
-  reads = Reads-is size _ _ _ _ _ _ (ap (λ (bs : List ℕ). front_of (seven head bs) [] triplet) (sym (append-nil done))) refl (Reads-none size _);
+  reads = Reads-is (cdp_syntax size) _ _ _ _ _ _ refl
+    (ap (λ (bs : List ℕ). front_of (seven head bs) [] triplet) (sym (append-nil done))) (Reads-nothing (cdp_syntax size) _);
 }
 sections_read size head done triplet ([] ∷ cut) are long = absurd are.0
 sections_read size head done triplet ((_ ∷ []) ∷ cut) are long = absurd are.0
@@ -284,8 +242,9 @@ sections_read size head done triplet ((id ∷ second ∷ rest) ∷ cut) are long
     let others = sections_read size head (done ++ section) (triplet_from (id == 0x72) [] rest) cut are.1 (omega (arith, long, sizes, length-append done section)) in
     record {
       last = others.last;
-      reads = Reads-is size _ _ _ _ _ _ (ap (λ (bs : List ℕ). front_of (seven head bs) [] others.last) (append_assoc done section (concat cut))) refl
-          (Reads-append size _ _ _ _ _ _ _ one others.reads);
+      reads = Reads-is (cdp_syntax size) _ _ _ _ _ _ refl
+    (ap (λ (bs : List ℕ). front_of (seven head bs) [] others.last) (append_assoc done section (concat cut)))
+          (Reads-append (cdp_syntax size) _ _ _ _ _ _ _ one others.reads);
     }
 
 -- a number is itself
@@ -299,8 +258,7 @@ fixed byte step = ap (λ (t : Bool). let s : Step CdpPart = if t then Nothing el
 -- the footer
 footer_read : (size : ℕ) (head : Seven) (done triplet : List ℕ) (last : ℕ) → length done + 11 ≡ size
     → sum (seven head (done ++ 0x74 ∷ head.high ∷ head.low ∷ last ∷ [])) % 256 ≡ 0
-    → Reads size (front_of (seven head done) [] triplet) (0x74 ∷ head.high ∷ head.low ∷ last ∷ [])
-    (front_of (seven head (done ++ 0x74 ∷ head.high ∷ head.low ∷ last ∷ [])) [] []) (part.End ∷ [])
+    → Reads (cdp_syntax size) (front_of (seven head done) [] triplet) (0x74 ∷ head.high ∷ head.low ∷ last ∷ []) (part.End ∷ []) (front_of (seven head (done ++ 0x74 ∷ head.high ∷ head.low ∷ last ∷ [])) [] [])
 footer_read size head done triplet last long zero =
     let one = done ++ 0x74 ∷ [] in
     let two = one ++ head.high ∷ [] in
@@ -316,13 +274,13 @@ footer_read size head done triplet last long zero =
     let low = footer_byte size head two [] [] 2 head.low Nothing (omega arith) (lit≤ tt) (lit< tt) (fixed head.low (Refuse why.Counter)) tt in
     let end = footer_byte size head three [] [] 1 last (One part.End) (omega arith) (lit≤ tt) (lit< tt)
     (ap (λ n. let s : Step CdpPart = if n == 0 then One part.End else Refuse why.Sum in s) sum_is) tt in
-    Reads-is size _ _ _ _ _ _ (ap (λ (bs : List ℕ). front_of (seven head bs) [] []) whole) refl
-    (Reads-append size _ _ _ _ _ _ _ id (Reads-append size _ _ _ _ _ _ _ high (Reads-append size _ _ _ _ _ _ _ low end)))
+    Reads-is (cdp_syntax size) _ _ _ _ _ _ refl
+    (ap (λ (bs : List ℕ). front_of (seven head bs) [] []) whole)
+    (Reads-append (cdp_syntax size) _ _ _ _ _ _ _ id (Reads-append (cdp_syntax size) _ _ _ _ _ _ _ high (Reads-append (cdp_syntax size) _ _ _ _ _ _ _ low end)))
 
 -- the bytes before the sections
 head_read : (size rate flags high low : ℕ) (code : Rate) → 11 ≤ size → rate_of (rate / 16) ≡ Some code
-    → Reads size nothing_open (0x96 ∷ 0x69 ∷ size ∷ rate ∷ flags ∷ high ∷ low ∷ [])
-    (front_of (0x96 ∷ 0x69 ∷ size ∷ rate ∷ flags ∷ high ∷ low ∷ []) [] []) (part.Rate code ∷ part.Flags flags ∷ part.Counter (256 * high + low) ∷ [])
+    → Reads (cdp_syntax size) nothing_open (0x96 ∷ 0x69 ∷ size ∷ rate ∷ flags ∷ high ∷ low ∷ []) (part.Rate code ∷ part.Flags flags ∷ part.Counter (256 * high + low) ∷ []) (front_of (0x96 ∷ 0x69 ∷ size ∷ rate ∷ flags ∷ high ∷ low ∷ []) [] [])
 head_read size rate flags high low code long is =
     let first = head_byte size [] [] [] 0x96 Nothing (omega arith) refl refl tt in
     let second = head_byte size (0x96 ∷ []) [] [] 0x69 Nothing (omega arith) refl refl tt in
@@ -331,8 +289,8 @@ head_read size rate flags high low code long is =
     let fifth = head_byte size (0x96 ∷ 0x69 ∷ size ∷ rate ∷ []) [] [] flags (One (part.Flags flags)) (omega arith) refl refl tt in
     let sixth = head_byte size (0x96 ∷ 0x69 ∷ size ∷ rate ∷ flags ∷ []) [] [] high Nothing (omega arith) refl refl tt in
     let seventh = head_byte size (0x96 ∷ 0x69 ∷ size ∷ rate ∷ flags ∷ high ∷ []) [] [] low (One (part.Counter (256 * high + low))) (omega arith) refl refl tt in
-    Reads-append size _ _ _ _ _ _ _ first (Reads-append size _ _ _ _ _ _ _ second (Reads-append size _ _ _ _ _ _ _ third
-    (Reads-append size _ _ _ _ _ _ _ fourth (Reads-append size _ _ _ _ _ _ _ fifth (Reads-append size _ _ _ _ _ _ _ sixth seventh)))))
+    Reads-append (cdp_syntax size) _ _ _ _ _ _ _ first (Reads-append (cdp_syntax size) _ _ _ _ _ _ _ second (Reads-append (cdp_syntax size) _ _ _ _ _ _ _ third
+    (Reads-append (cdp_syntax size) _ _ _ _ _ _ _ fourth (Reads-append (cdp_syntax size) _ _ _ _ _ _ _ fifth (Reads-append (cdp_syntax size) _ _ _ _ _ _ _ sixth seventh)))))
 
 -- a packet has a length that packets can have
 pub packet_length : (packet : Packet) (bytes : List ℕ) → IsCdp packet bytes → IsPacketLength (length bytes)
@@ -342,7 +300,7 @@ packet_length packet bytes is =
     (omega (arith, whole, sizes), λ e. no_single_byte packet.sections is.sections (omega (arith, whole, sizes, e)))
 
 -- a packet is read to its end, with its parts
-pub packet_read : (packet : Packet) (bytes : List ℕ) → IsCdp packet bytes → Reads (length bytes) nothing_open bytes (front_of bytes [] []) (packet_parts packet)
+pub packet_read : (packet : Packet) (bytes : List ℕ) → IsCdp packet bytes → Reads (cdp_syntax (length bytes)) nothing_open bytes (packet_parts packet) (front_of bytes [] [])
 packet_read packet bytes is =
     let size = length bytes in
     let rate = 16 * code_of packet.rate + is.marker in
@@ -357,19 +315,16 @@ packet_read packet bytes is =
     let begins = head_read size rate packet.flags is.high is.low packet.rate (packet_length packet bytes is).0 code in
     let sections = sections_read size head [] [] packet.sections is.sections (omega (arith, long)) in
     let ends = footer_read size head (concat packet.sections) sections.last is.last long zero in
-    let all = Reads-append size _ _ _ _ _ _ _ begins (Reads-append size _ _ _ _ _ _ _ sections.reads ends) in
-    subst (λ (bs : List ℕ). Reads size nothing_open bs (front_of bs [] []) (packet_parts packet)) (sym is.spelled)
-    (Reads-is size _ _ _ _ _ _ refl (ap (λ n. part.Rate packet.rate ∷ part.Flags packet.flags ∷ part.Counter n ∷ (flat_map section_parts packet.sections ++ part.End ∷ [])) (sym is.counter)) all)
+    let all = Reads-append (cdp_syntax size) _ _ _ _ _ _ _ begins (Reads-append (cdp_syntax size) _ _ _ _ _ _ _ sections.reads ends) in
+    subst (λ (bs : List ℕ). Reads (cdp_syntax size) nothing_open bs (packet_parts packet) (front_of bs [] [])) (sym is.spelled)
+    (Reads-is (cdp_syntax size) _ _ _ _ _ _ (ap (λ n. part.Rate packet.rate ∷ part.Flags packet.flags ∷ part.Counter n ∷ (flat_map section_parts packet.sections ++ part.End ∷ [])) (sym is.counter))
+    refl all)
 
 -- and under a layer that takes its parts
 pub packet_handed : (verdict : Verdict CdpPart) (packet : Packet) (bytes : List ℕ) → IsCdp packet bytes → AreAccepted verdict [] (packet_parts packet)
-    → read_under (length bytes) verdict bytes ≡ record { parts = packet_parts packet; refusal = None }
+    → read_under (cdp_syntax (length bytes)) 1 verdict bytes ≡ record { parts = packet_parts packet; refusal = None }
 packet_handed verdict packet bytes is accepted =
-    let size = length bytes in
-    let reads = packet_read packet bytes is in
-    reading-accepted (judge_cdp size) (open_after size) nothing_open verdict (place_by 1) [] [] bytes reads.taken
-    (subst (AreAccepted verdict []) (sym reads.made) accepted)
-    ∙ ap (λ (parts : List CdpPart). let r : Reading CdpPart = record { parts = parts; refusal = None } in r) reads.made
+    read_under-reads (cdp_syntax (length bytes)) 1 verdict bytes (packet_parts packet) (front_of bytes [] []) (packet_read packet bytes is) accepted
 
 -- bytes behind the packet's end make nothing
 nothing_behind : (size : ℕ) (bytes : List ℕ) (total : ℕ) (section triplet : List ℕ) (byte : ℕ) → IsPacketLength size → length bytes ≡ size
@@ -388,9 +343,9 @@ nothing_behind size (mark ∷ second ∷ long ∷ rate ∷ flags ∷ high ∷ lo
     ap (λ (t : Bool). if t then in_sections else judge_footer (size - 7 - length body) high low total byte) none
     ∙ ap (λ n. judge_footer n high low total byte) zero
 
-pub behind_read : (size : ℕ) (front : Open) (more : List ℕ) → IsPacketLength size → length front.bytes ≡ size → Reads size front more front []
-behind_read size front [] can all = Reads-none size front
+pub behind_read : (size : ℕ) (front : Open) (more : List ℕ) → IsPacketLength size → length front.bytes ≡ size → Reads (cdp_syntax size) front more [] front
+behind_read size front [] can all = Reads-nothing (cdp_syntax size) front
 behind_read size front (byte ∷ more) can all =
-    Reads-append size _ _ _ _ _ _ _
-    (Reads-one size front front byte Nothing (nothing_behind size front.bytes front.total front.section front.triplet byte can all) tt (open_after-ended size front byte all))
+    Reads-append (cdp_syntax size) _ _ _ _ _ _ _
+    (Reads-one (cdp_syntax size) front byte Nothing front (nothing_behind size front.bytes front.total front.section front.triplet byte can all) tt (open_after-ended size front byte all))
     (behind_read size front more can all)

@@ -7,10 +7,11 @@ use Rattle.cc_base.specs.declared.rate.Rate.{Rate}
 use Rattle.cc_base.specs.declared.step.Step.TheVariants.{One}
 use Rattle.cc_base.specs.declared.why.Why.TheVariants as why
 use Rattle.cc_base.specs.Rate.{code_of, rate_of}
-use Rattle.cc_base.specs.Steps.{AllTaken, IsTaken, front_from}
+use Rattle.cc_base.specs.Steps.{IsTaken, front_from}
+use Rattle.cc_base.specs.Syntax.{AllRead, AllTaken, open_behind}
 use Rattle.cdp_packets.specs.declared.parts.CdpPart.TheVariants as part
 use Rattle.cdp_packets.specs.Packets.{Packet, IsCdp}
-use Rattle.cdp_packets.specs.Reading.{AllRead, IsPacketLength, Open, is_in_sections, judge_behind, judge_cdp, judge_footer, judge_section, nothing_open, open_after, open_behind, section_behind, triplet_behind}
+use Rattle.cdp_packets.specs.Reading.{cdp_syntax, IsPacketLength, Open, is_in_sections, judge_behind, judge_cdp, judge_footer, judge_section, nothing_open, open_after, section_behind, triplet_behind}
 use Rattle.cdp_packets.specs.Sections.{AreSections}
 use Rattle.cdp_packets.proofs.BegunLemmas.{IsBegun, IsFoot, IsHead, grows, taken-if, test-same}
 
@@ -96,8 +97,8 @@ open_grows size front byte can is taken =
     ] in cases _ refl
 
 -- bytes that are taken
-pub all_open : (size : ℕ) (items : List ℕ) (front : Open) → IsPacketLength size → IsOpen size front → AllTaken (judge_cdp size) (open_after size) front items
-    → IsOpen size (front_from (open_after size) front items)
+pub all_open : (size : ℕ) (items : List ℕ) (front : Open) → IsPacketLength size → IsOpen size front → AllTaken (cdp_syntax size) front items
+    → IsOpen size (front_from (cdp_syntax size).after front items)
 all_open size [] front can is taken = is
 all_open size (byte ∷ items) front can is (first, taken) = all_open size items (open_after size front byte) can (open_grows size front byte can is first) taken
 
@@ -107,7 +108,7 @@ nothing_open-is size can = record { below = omega arith; begun = tt; total_is = 
 
 -- what is open behind bytes keeps them, up to the packet's end
 pub bytes_behind-is : (size : ℕ) (items : List ℕ) (front : Open) → length front.bytes + length items ≤ size
-    → (front_from (open_after size) front items).bytes ≡ front.bytes ++ items
+    → (front_from (cdp_syntax size).after front items).bytes ≡ front.bytes ++ items
 bytes_behind-is size [] front room = sym (append-nil front.bytes)
 bytes_behind-is size (byte ∷ items) front room =
     let after = open_after-more size front byte (omega arith) in
@@ -181,12 +182,12 @@ whole_packet size (mark ∷ second ∷ long ∷ rate ∷ flags ∷ high ∷ low 
     ]
 
 -- bytes that are read begin a packet
-pub read_open : (size : ℕ) (bytes : List ℕ) → IsPacketLength size → AllRead size bytes → IsOpen size (open_behind size bytes)
+pub read_open : (size : ℕ) (bytes : List ℕ) → IsPacketLength size → AllRead (cdp_syntax size) bytes → IsOpen size (open_behind (cdp_syntax size) bytes)
 read_open size bytes can taken = all_open size bytes nothing_open can (nothing_open-is size can) taken
 
-pub sound : (size : ℕ) (bytes : List ℕ) → IsPacketLength size → length bytes ≡ size → AllRead size bytes → (packet : Packet) × IsCdp packet bytes
+pub sound : (size : ℕ) (bytes : List ℕ) → IsPacketLength size → length bytes ≡ size → AllRead (cdp_syntax size) bytes → (packet : Packet) × IsCdp packet bytes
 sound size bytes can all taken =
-    let behind = open_behind size bytes in
+    let behind = open_behind (cdp_syntax size) bytes in
     let is = read_open size bytes can taken in
     let kept : behind.bytes ≡ bytes = bytes_behind-is size bytes nothing_open (omega (arith, all)) in
     whole_packet size bytes behind.section can (subst (λ bs. IsBegun size bs behind.section) kept is.begun) all

@@ -2,7 +2,7 @@
 -- counter and the sum.
 use Rattle.std.specs.Prelude.{◌≡◌, ℕ, ◌+◌, ◌-◌, ◌%◌, ◌==◌, nat_lt, if◌then◌else◌, List, [], ◌∷◌, length, Option}
 use Rattle.cc_base.specs.declared.refusal.Refusal.{Refusal}
-use Rattle.cc_base.specs.Steps.{HasTaken}
+use Rattle.cc_base.specs.Syntax.{HasTaken}
 use Rattle.cdp_packets.specs.declared.open_packet.Footer.TheVariants as footer
 use Rattle.cdp_packets.specs.declared.open_packet.Head.TheVariants as head
 use Rattle.cdp_packets.specs.declared.open_packet.OpenPacket.{OpenPacket}
@@ -13,7 +13,7 @@ use Rattle.cdp_packets.specs.declared.open_triplet.OpenTriplet.TheVariants as op
 use Rattle.cdp_packets.specs.declared.within.Within.{Within}
 use Rattle.cdp_packets.specs.declared.within.Within.TheVariants as within
 use Rattle.cdp_packets.specs.declared.reader.CdpReader.{CdpReader}
-use Rattle.cdp_packets.specs.Reading.{IsPacketLength, Open, judge_cdp, nothing_open, open_after}
+use Rattle.cdp_packets.specs.Reading.{IsPacketLength, Open, cdp_syntax}
 use Rattle.cdp_packets.specs.Sections.{rest_of}
 
 -- the bytes of the open triplet
@@ -72,8 +72,7 @@ pub record Keeps (size : ℕ) (front : Open) (packet : OpenPacket) : Type 0 wher
 
 -- the reader of a packet of this length was fed these bytes, and refused none of them
 abbrev pub HasRead : ℕ → List ℕ → CdpReader → Type 0
-HasRead size bytes reader =
-    HasTaken (judge_cdp size) (open_after size) nothing_open (Keeps size) bytes reader.fed.machine reader.fed.taken reader.fed.refusal
+HasRead size bytes reader = HasTaken (cdp_syntax size) (Keeps size) bytes reader.fed
 
 -- the refusal that it keeps
 abbrev pub kept_refusal : CdpReader → Option Refusal

@@ -9,9 +9,8 @@ use Rattle.cc_base.specs.declared.rate.Rate.{Rate}
 use Rattle.cc_base.specs.declared.step.Step.{Step}
 use Rattle.cc_base.specs.declared.step.Step.TheVariants.{Nothing, One, Two, Refuse}
 use Rattle.cc_base.specs.declared.why.Why.TheVariants as why
-use Rattle.cc_base.specs.Feeding.{Reading, Verdict, place_by, reading}
 use Rattle.cc_base.specs.Rate.{rate_of}
-use Rattle.cc_base.specs.Steps.{AllTaken, front_from, judge_by, parts_by}
+use Rattle.cc_base.specs.Syntax.{Syntax, open_behind, parts_from}
 use Rattle.cc_data.specs.Triplets.{triplet_of}
 use Rattle.cdp_packets.specs.declared.parts.CdpPart.{CdpPart}
 use Rattle.cdp_packets.specs.declared.parts.CdpPart.TheVariants as part
@@ -125,21 +124,9 @@ open_after size open_packet byte =
       triplet = if is_in_sections size open_packet.bytes then triplet_behind open_packet.section open_packet.triplet byte else [];
     } else open_packet
 
--- none of the bytes is refused by a reader of a packet of this length
-abbrev pub AllRead : ℕ → List ℕ → Type 0
-AllRead size bytes = AllTaken (judge_cdp size) (open_after size) nothing_open bytes
-
--- what is open behind the bytes
-abbrev pub open_behind : ℕ → List ℕ → Open
-open_behind size bytes = front_from (open_after size) nothing_open bytes
-
--- the parts that the bytes make
-abbrev pub parts_of : ℕ → List ℕ → List CdpPart
-parts_of size bytes = parts_by (judge_cdp size) (open_after size) nothing_open bytes
-
--- what is read of the bytes, under this layer
-abbrev pub read_under : ℕ → Verdict CdpPart → List ℕ → Reading CdpPart
-read_under size verdict bytes = reading (judge_by (judge_cdp size) (open_after size) nothing_open) verdict (place_by 1) [] [] bytes
+-- so a packet of this length is read
+abbrev pub cdp_syntax : ℕ → Syntax Open ℕ CdpPart
+cdp_syntax size = record { start = nothing_open; judge = judge_cdp size; after = open_after size }
 
 -- the part says nothing of captions: it isn't of a triplet, or it is a half with no byte but the first, or a triplet whose last
 -- byte is 0
@@ -155,4 +142,4 @@ pub record GoesOn (size : ℕ) (bytes : List ℕ) : Type 0 where
   pub long : length (bytes ++ more) ≡ size
   pub packet : Packet
   pub is : IsCdp packet (bytes ++ more)
-  pub filling : All IsFilling (parts_by (judge_cdp size) (open_after size) (open_behind size bytes) more)
+  pub filling : All IsFilling (parts_from (cdp_syntax size) (open_behind (cdp_syntax size) bytes) more)

@@ -7,13 +7,14 @@ ghost use Rattle.cc_base.specs.declared.step.Step.TheVariants.{Refuse};
 ghost use Rattle.cc_base.specs.declared.why.Why.{Why as Reason};
 ghost use Rattle.cc_base.specs.Feeding.{Verdict};
 ghost use Rattle.cc_base.specs.Steps.{AreAccepted};
+ghost use Rattle.cc_base.specs.Syntax.{AllRead, Reads, open_behind, parts_of, read_under};
 ghost use Rattle.cc_data.specs.declared.triplet.Triplet.{Triplet};
 ghost use Rattle.cdp_packets.specs.declared.parts.CdpPart.{CdpPart as Part};
 ghost use Rattle.cdp_packets.specs.Sections.{IsSection, AreSections, is_id};
 ghost use Rattle.cdp_packets.specs.Packets.{Packet, IsCdp};
 ghost use Rattle.cdp_packets.specs.PacketParts.{packet_parts};
 ghost use Rattle.cdp_packets.specs.PacketTriplets.{section_triplets, packet_triplets};
-ghost use Rattle.cdp_packets.specs.Reading.{AllRead, GoesOn, IsPacketLength, count_fits, ended, id_fits, judge_cdp, open_behind, parts_of, read_under};
+ghost use Rattle.cdp_packets.specs.Reading.{GoesOn, IsPacketLength, cdp_syntax, count_fits, ended, id_fits, judge_cdp, nothing_open};
 ghost use Rattle.cdp_packets.specs.Refusals.{CanBegin, StandsAt};
 ghost use Rattle.cdp_packets.specs.Written.{cc_data_section, written_packet};
 
@@ -63,32 +64,31 @@ pub fn written_triplets_are_read_back()
 /// layer that takes these parts they are handed upward, and there is no refusal.
 pub fn packets_are_read()
     ensures length { (packet : Packet) (bytes : List ℕ) → IsCdp packet bytes → IsPacketLength (length bytes) }
-    ensures read { (packet : Packet) (bytes : List ℕ) → IsCdp packet bytes → AllRead (length bytes) bytes
-        × (parts_of (length bytes) bytes ≡ packet_parts packet) × (open_behind (length bytes) bytes ≡ ended bytes) }
+    ensures read { (packet : Packet) (bytes : List ℕ) → IsCdp packet bytes
+        → Reads (cdp_syntax (length bytes)) nothing_open bytes (packet_parts packet) (ended bytes) }
     ensures handed { (verdict : Verdict Part) (packet : Packet) (bytes : List ℕ) → IsCdp packet bytes
         → AreAccepted verdict [] (packet_parts packet)
-        → read_under (length bytes) verdict bytes ≡ record { parts = packet_parts packet; refusal = None } }
+        → read_under (cdp_syntax (length bytes)) 1 verdict bytes ≡ record { parts = packet_parts packet; refusal = None } }
 {}
 
 /// What is read is a packet: as many bytes as the packet is to have, none of which is refused, are a packet, and make its parts.
 /// Bytes behind them change nothing. Where there is no refusal, no byte was refused, and the layer above took all parts.
 pub fn what_is_read_is_a_packet()
-    ensures packet { (size : ℕ) (bytes : List ℕ) → IsPacketLength size → length bytes ≡ size → AllRead size bytes
-        → (packet : Packet) × IsCdp packet bytes × (parts_of size bytes ≡ packet_parts packet) }
-    ensures behind { (size : ℕ) (bytes more : List ℕ) → IsPacketLength size → length bytes ≡ size → AllRead size bytes
-        → AllRead size (bytes ++ more) × (parts_of size (bytes ++ more) ≡ parts_of size bytes)
-        × (open_behind size (bytes ++ more) ≡ open_behind size bytes) }
-    ensures unrefused { (size : ℕ) (verdict : Verdict Part) (bytes : List ℕ) → (read_under size verdict bytes).refusal ≡ None
-        → AllRead size bytes × AreAccepted verdict [] (parts_of size bytes) }
+    ensures packet { (size : ℕ) (bytes : List ℕ) → IsPacketLength size → length bytes ≡ size → AllRead (cdp_syntax size) bytes
+        → (packet : Packet) × IsCdp packet bytes × (parts_of (cdp_syntax size) bytes ≡ packet_parts packet) }
+    ensures behind { (size : ℕ) (bytes more : List ℕ) → IsPacketLength size → length bytes ≡ size → AllRead (cdp_syntax size) bytes
+        → Reads (cdp_syntax size) (open_behind (cdp_syntax size) bytes) more [] (open_behind (cdp_syntax size) bytes) }
+    ensures unrefused { (size : ℕ) (verdict : Verdict Part) (bytes : List ℕ) → (read_under (cdp_syntax size) 1 verdict bytes).refusal ≡ None
+        → AllRead (cdp_syntax size) bytes × AreAccepted verdict [] (parts_of (cdp_syntax size) bytes) }
 {}
 
 /// Bytes none of which is refused begin some packet of the length, also one whose further bytes only fill it; and no packet of
 /// the length begins with bytes whose last one is refused.
 pub fn a_byte_is_refused_where_no_packet_goes_on()
     ensures begun { (size : ℕ) (bytes : List ℕ) → IsPacketLength size → size < 256 → All (λ byte. byte < 256) bytes
-        → length bytes ≤ size → AllRead size bytes → GoesOn size bytes }
+        → length bytes ≤ size → AllRead (cdp_syntax size) bytes → GoesOn size bytes }
     ensures refused { (size : ℕ) (bytes : List ℕ) (byte : ℕ) (reason : Reason) (more : List ℕ) (packet : Packet)
-        → judge_cdp size (open_behind size bytes) byte ≡ Refuse reason → IsCdp packet (bytes ++ byte ∷ more)
+        → judge_cdp size (open_behind (cdp_syntax size) bytes) byte ≡ Refuse reason → IsCdp packet (bytes ++ byte ∷ more)
         → length (bytes ++ byte ∷ more) ≡ size → ⊥ }
 {}
 
@@ -102,6 +102,6 @@ pub fn sections_fit_where_some_can_follow()
 
 /// A refusal stands at its place: each reason comes at the byte that it speaks of, and there is no other reason.
 pub fn refusals_stand_at_their_places()
-    ensures { (size : ℕ) (bytes : List ℕ) (byte : ℕ) (reason : Reason) → IsPacketLength size → length bytes ≤ size → AllRead size bytes
-        → judge_cdp size (open_behind size bytes) byte ≡ Refuse reason → StandsAt size bytes reason }
+    ensures { (size : ℕ) (bytes : List ℕ) (byte : ℕ) (reason : Reason) → IsPacketLength size → length bytes ≤ size → AllRead (cdp_syntax size) bytes
+        → judge_cdp size (open_behind (cdp_syntax size) bytes) byte ≡ Refuse reason → StandsAt size bytes reason }
 {}

@@ -3,7 +3,7 @@ ghost use Rattle.cc_base.specs.declared.step.Step.TheVariants.{Nothing, Refuse};
 ghost use Rattle.cc_base.specs.Steps.{IsTaken};
 ghost use Rattle.cdp_packets.specs.declared.open_packet.Footer.TheVariants as footer;
 ghost use Rattle.cdp_packets.specs.declared.open_packet.Place.TheVariants as place;
-ghost use Rattle.cdp_packets.specs.Reading.{IsPacketLength, Open, judge_cdp, nothing_open, open_after};
+ghost use Rattle.cdp_packets.specs.Reading.{IsPacketLength, Open, cdp_syntax, judge_cdp, nothing_open, open_after};
 
 use crate::packets::FOOTER;
 use crate::parts::CdpPart;
@@ -209,16 +209,9 @@ impl Machine<u8, CdpPart> for OpenPacket {
 
     ghost Given = { ℕ };
 
-    // the length of a packet without sections
-    ghost usual = { 11 };
-
     ghost Front = { Open };
 
-    ghost start = { nothing_open };
-
-    ghost after = { λ size front item. open_after size front item };
-
-    ghost judge = { λ size front item. judge_cdp size front item };
+    ghost syntax = { cdp_syntax };
 
     ghost Matches = { λ size front packet. Keeps size front packet };
 

@@ -1,14 +1,18 @@
-ghost use Rattle.std.specs.Prelude.{◌≡◌, ◌↔◌, ℕ, [], IfErr, IfOk, IsOk};
+ghost use Rattle.std.specs.Prelude.{◌≡◌, ◌↔◌, ◌++◌, ◌∷◌, ℕ, List, [], Some, IfErr, IfOk, IsOk};
 ghost use Rattle.cc_base.specs.declared.why.Why.TheVariants as why;
-ghost use Rattle.cc_base.specs.Feeding.{place_by};
-ghost use Rattle.cc_base.specs.Steps.{judge_by};
-ghost use Rattle.cdp_packets.specs.Reading.{IsPacketLength, judge_cdp, nothing_open, open_after};
+ghost use Rattle.cc_base.specs.declared.refusal.Refusal.{Refusal as Refused};
+ghost use Rattle.cc_base.specs.declared.step.Step.TheVariants.{Refuse};
+ghost use Rattle.cc_base.specs.declared.why.Why.{Why as Reason};
+ghost use Rattle.cc_base.specs.Feeding.{place_by, why_of};
+ghost use Rattle.cc_base.specs.Steps.{IsTaken, step_why};
+ghost use Rattle.cc_base.specs.Syntax.{Reads, judge_by, open_behind};
+ghost use Rattle.cdp_packets.specs.Reading.{IsPacketLength, cdp_syntax, judge_cdp};
 
 use crate::open_packet::OpenPacket;
 use crate::parts::CdpPart;
-use cc_base::{Fed, Refusal, Resume, Upward, Why};
+use cc_base::{Fed, Refusal, Resume, Step, Upward, Why};
 
-/// Reads the bytes of a caption distribution packet, in any pieces (SMPTE ST 334-2), and hands its parts upward: the rate, the
+/// Reads (cdp_syntax the) bytes of caption a distribution packet, in any pieces (SMPTE ST 334-2), and hands its parts upward: the rate, the
 /// flags, the counter, each byte of the sections with the triplets of cc_data behind their bytes, and its end.
 ///
 /// The length of the packet is known before. A byte is refused where no packet of this length goes on with it:
@@ -22,7 +26,7 @@ pub struct CdpReader {
 }
 
 impl CdpReader {
-    ghost use Rattle.cdp_packets.specs.Readers.{HasRead};
+    ghost use Rattle.cdp_packets.specs.Readers.{HasRead, kept_refusal};
 
     /// A reader of a packet of this length that was fed nothing. `Length` where no packet has it: below 11, and 12.
     pub fn new(length: u8) -> Result<CdpReader, Why>
@@ -37,6 +41,22 @@ impl CdpReader {
             fed: Fed::new(OpenPacket::new(length)),
         })
     }
+
+    /// Reads the next byte by itself, for a caller that takes its parts as they come: what `feed` makes of one byte before it
+    /// hands the parts upward. A refusal is kept, and answered from then on with nothing read.
+    pub fn step(&mut self, byte: u8) -> Step<CdpPart>
+        ensures says { (size : ℕ) (bytes : List ℕ) → HasRead size bytes self.old
+            → result ≡ judge_cdp size (open_behind (cdp_syntax size) bytes) byte }
+        ensures leads { (size : ℕ) (bytes : List ℕ) → HasRead size bytes self.old → IsTaken result
+            → HasRead size (bytes ++ byte ∷ []) self.new }
+        ensures refused { (size : ℕ) (bytes : List ℕ) (reason : Reason) → HasRead size bytes self.old → result ≡ Refuse reason
+            → kept_refusal self.new ≡ Some (record { place = place_by 1 bytes; why = reason }) }
+        ensures kept { (refused : Refused) → kept_refusal self.old ≡ Some refused
+            → (result ≡ Refuse refused.why) × (self.new ≡ self.old) }
+        ensures told { step_why result ≡ why_of (kept_refusal self.new) }
+    {
+        self.fed.step(byte)
+    }
 }
 
 impl Resume<u8, CdpPart> for CdpReader {
@@ -45,10 +65,7 @@ impl Resume<u8, CdpPart> for CdpReader {
 
     ghost Given = { ℕ };
 
-    // the length of a packet without sections
-    ghost usual = { 11 };
-
-    ghost judge = { λ size. judge_by (judge_cdp size) (open_after size) nothing_open };
+    ghost judge = { λ size. judge_by (cdp_syntax size) };
 
     ghost place = { place_by 1 };
 

@@ -3,10 +3,12 @@ use Rattle.std.proofs.Common.{◌≡◌, ℕ, ◌<◌, List, [], ◌++◌, None,
 use Rattle.std.proofs.lemmas.List.Concat.{flat_map-append}
 use Rattle.std.specs.List.{All, flat_map}
 use Rattle.cc_base.specs.Feeding.{Verdict}
-use Rattle.cc_base.specs.Steps.{AreAccepted, front_from, parts_by}
-use Rattle.cc_base.proofs.StepLemmas.{AreAccepted-append, front_from-append, parts_by-append}
+use Rattle.cc_base.specs.Steps.{AreAccepted, front_from}
+use Rattle.cc_base.specs.Syntax.{parts_from, parts_of}
+use Rattle.cc_base.proofs.StepLemmas.{AreAccepted-append, front_from-append}
+use Rattle.cc_base.proofs.SyntaxLemmas.{parts_from-append}
 use Rattle.anc_words.specs.Packets.{Packet}
-use Rattle.anc_words.specs.Reading.{judge_word, packet_parts as word_parts, parts_of, words_after}
+use Rattle.anc_words.specs.Reading.{anc_syntax, packet_parts as word_parts, word_syntax, words_after}
 use Rattle.anc_words.specs.Words.{AreWords}
 use Rattle.anc_words.specs.WordsFiles.{ArePackets, IsWordsFile}
 use Rattle.anc_words.specs.Writing.{word_bytes}
@@ -29,12 +31,12 @@ use Rattle.words_files.proofs.WordLemmas.{All-split, are_spelled, packets-ten_bi
 
 -- the parts of words that are packets and the begin of one
 parts-split : (bytes whole behind : List ℕ) (packets : List Packet) → words_of bytes ≡ whole ++ behind → ArePackets packets whole
-    → parts_of bytes ≡ flat_map word_parts packets ++ parts_by judge_word words_after [] behind
+    → parts_of anc_syntax bytes ≡ flat_map word_parts packets ++ parts_from word_syntax [] behind
 parts-split bytes whole behind packets spelled are =
     let reads = Reads-packets packets whole are in
-    parts-words_of [] bytes ∙ ap (parts_by judge_word words_after []) spelled ∙ parts_by-append judge_word words_after [] whole behind
-    ∙ ap (λ front. parts_by judge_word words_after [] whole ++ parts_by judge_word words_after front behind) reads.leads
-    ∙ ap (λ ps. ps ++ parts_by judge_word words_after [] behind) reads.makes
+    parts-words_of [] bytes ∙ ap (parts_from word_syntax []) spelled ∙ parts_from-append word_syntax [] whole behind
+    ∙ ap (λ front. parts_from word_syntax [] whole ++ parts_from word_syntax front behind) reads.leads
+    ∙ ap (λ ps. ps ++ parts_from word_syntax [] behind) reads.made
 
 -- whole packets that carry frames, and the begin of one that goes on to packets, begin a file
 begins_by : (v : Verdict CdpPart) (bytes whole behind : List ℕ) (packets : List Packet) (frames : List Frame) → AreWords bytes (whole ++ behind)
@@ -66,7 +68,7 @@ goes_on v takes bytes are whole unrefused =
     let behind = front_from words_after [] (words_of bytes) in
     let splits = sound (words_of bytes) (words_of-taken [] bytes read) in
     let parts = flat_map word_parts splits.packets in
-    let open_parts = parts_by judge_word words_after [] behind in
+    let open_parts = parts_from word_syntax [] behind in
     let all = ap (λ ps. (caught_of v ps).refused) (sym (parts-split bytes splits.whole behind splits.packets splits.spelled splits.are)) ∙ kept_all in
     let kept = packets_kept v [] splits.packets (unrefused_first v (idle []) parts open_parts all) in
     let state : front_from (caught_after v) (idle []) parts ≡ idle (newest_first kept.frames) =

@@ -7,15 +7,17 @@ use Rattle.std.specs.List.{flat_map}
 use Rattle.cc_base.specs.declared.refusal.Refusal.{Refusal}
 use Rattle.cc_base.specs.declared.why.Why.{Why}
 use Rattle.cc_base.specs.Feeding.{Reading, Verdict, place_by, why_of}
-use Rattle.cc_base.specs.Steps.{AllTaken, AreAccepted, IsTaken, front_from, parts_by, step_parts}
-use Rattle.cc_base.proofs.StepLemmas.{AreAccepted-append, AreAccepted-split, front_from-append, reading-accepted, reading-none}
+use Rattle.cc_base.specs.Steps.{AreAccepted, IsTaken, front_from, step_parts}
+use Rattle.cc_base.specs.Syntax.{AllRead, AllTaken, open_behind, parts_from, parts_of}
+use Rattle.cc_base.proofs.StepLemmas.{AreAccepted-append, AreAccepted-split, front_from-append}
+use Rattle.cc_base.proofs.SyntaxLemmas.{reading-accepted, reading-none}
 use Rattle.anc_words.specs.declared.parts.WordPart.{WordPart}
 use Rattle.anc_words.specs.declared.parts.WordPart.TheVariants as part
-use Rattle.anc_words.specs.Reading.{AllRead, judge_byte, nothing_open as no_word, open_after as word_after, parts_of}
+use Rattle.anc_words.specs.Reading.{anc_syntax}
 use Rattle.cdp_packets.specs.declared.parts.CdpPart.{CdpPart}
 use Rattle.cdp_packets.specs.PacketParts.{packet_parts}
 use Rattle.cdp_packets.specs.Packets.{Packet as Frame}
-use Rattle.cdp_packets.specs.Reading.{judge_cdp, nothing_open, open_after, open_behind}
+use Rattle.cdp_packets.specs.Reading.{cdp_syntax, judge_cdp, nothing_open, open_after}
 use Rattle.words_files.specs.Catching.{Caught, OpenCaption, caption_verdict, caught_after, caught_in, caught_of, goes_on, nothing_caught, reading_behind, refusal_of, unless_refused, verdict_behind}
 
 -- a refusal stays
@@ -59,17 +61,17 @@ unrefused_of v above (p ∷ parts) none (is, all) =
     ap (λ (ps : List WordPart). (caught_of v ps).refused) (sym (append_assoc above (p ∷ []) parts)) ∙ unrefused_of v (above ++ p ∷ []) parts is all
 
 -- bytes none of whose words is refused, and none of their parts
-pub read_caught : (v : Verdict CdpPart) (bytes : List ℕ) → AllRead bytes → (caught_of v (parts_of bytes)).refused ≡ None
-    → (caught_in v bytes ≡ caught_of v (parts_of bytes)) × (refusal_of v bytes ≡ None)
+pub read_caught : (v : Verdict CdpPart) (bytes : List ℕ) → AllRead anc_syntax bytes → (caught_of v (parts_of anc_syntax bytes)).refused ≡ None
+    → (caught_in v bytes ≡ caught_of v (parts_of anc_syntax bytes)) × (refusal_of v bytes ≡ None)
 read_caught v bytes read none =
-    let is = reading-accepted judge_byte word_after no_word (caption_verdict v) (place_by 2) [] [] bytes read (accepted_of v [] (parts_of bytes) none) in
+    let is = reading-accepted anc_syntax (caption_verdict v) (place_by 2) [] [] bytes read (accepted_of v [] (parts_of anc_syntax bytes) none) in
     (ap (λ (r : Reading WordPart). caught_of v r.parts) is, ap (λ (r : Reading WordPart). r.refusal) is)
 
 -- and the other way round
-pub caught_read : (v : Verdict CdpPart) (bytes : List ℕ) → refusal_of v bytes ≡ None → AllRead bytes × ((caught_of v (parts_of bytes)).refused ≡ None)
+pub caught_read : (v : Verdict CdpPart) (bytes : List ℕ) → refusal_of v bytes ≡ None → AllRead anc_syntax bytes × ((caught_of v (parts_of anc_syntax bytes)).refused ≡ None)
 caught_read v bytes none =
-    let (read, accepted) = reading-none judge_byte word_after no_word (caption_verdict v) (place_by 2) [] [] bytes none in
-    (read, unrefused_of v [] (parts_of bytes) refl accepted)
+    let (read, accepted) = reading-none anc_syntax (caption_verdict v) (place_by 2) [] [] bytes none in
+    (read, unrefused_of v [] (parts_of anc_syntax bytes) refl accepted)
 
 -- the parts of frames, oldest first
 abbrev pub handed : List (List CdpPart) → List CdpPart
@@ -118,13 +120,13 @@ lows user = map (λ word. word % 256) user
 
 -- one user word of an open packet
 user_step : (v : Verdict CdpPart) (frames : List (List CdpPart)) (size : ℕ) (bytes : List ℕ) (parts : List CdpPart) (word : ℕ)
-    → IsTaken (judge_cdp size (open_behind size bytes) (word % 256))
-    → AreAccepted (verdict_behind v frames) parts (step_parts (judge_cdp size (open_behind size bytes) (word % 256)))
+    → IsTaken (judge_cdp size (open_behind (cdp_syntax size) bytes) (word % 256))
+    → AreAccepted (verdict_behind v frames) parts (step_parts (judge_cdp size (open_behind (cdp_syntax size) bytes) (word % 256)))
     → caught_after v (opened frames (open_of size bytes parts)) (part.User word)
-    ≡ opened frames (open_of size (bytes ++ word % 256 ∷ []) (parts ++ step_parts (judge_cdp size (open_behind size bytes) (word % 256))))
+    ≡ opened frames (open_of size (bytes ++ word % 256 ∷ []) (parts ++ step_parts (judge_cdp size (open_behind (cdp_syntax size) bytes) (word % 256))))
 user_step v frames size bytes parts word is accepted =
-    let step = judge_cdp size (open_behind size bytes) (word % 256) in
-    let read = reading-accepted (judge_cdp size) (open_after size) nothing_open (verdict_behind v frames) (place_by 1) bytes parts (word % 256 ∷ []) (is, tt)
+    let step = judge_cdp size (open_behind (cdp_syntax size) bytes) (word % 256) in
+    let read = reading-accepted (cdp_syntax size) (verdict_behind v frames) (place_by 1) bytes parts (word % 256 ∷ []) (is, tt)
     (subst (AreAccepted (verdict_behind v frames) parts) (sym (append-nil (step_parts step))) accepted) in
     let here = opened frames (open_of size bytes parts) in
     ap (λ (r : Reading CdpPart). goes_on (why_of r.refusal) (open_of size (bytes ++ word % 256 ∷ []) (parts ++ r.parts)) here) read
@@ -142,21 +144,21 @@ none-goes (Some why) o caught was none = absurd cc
 -- and the other way round
 user_kept : (v : Verdict CdpPart) (frames : List (List CdpPart)) (size : ℕ) (bytes : List ℕ) (parts : List CdpPart) (word : ℕ)
     → (caught_after v (opened frames (open_of size bytes parts)) (part.User word)).refused ≡ None
-    → IsTaken (judge_cdp size (open_behind size bytes) (word % 256))
-    × AreAccepted (verdict_behind v frames) parts (step_parts (judge_cdp size (open_behind size bytes) (word % 256)))
+    → IsTaken (judge_cdp size (open_behind (cdp_syntax size) bytes) (word % 256))
+    × AreAccepted (verdict_behind v frames) parts (step_parts (judge_cdp size (open_behind (cdp_syntax size) bytes) (word % 256)))
 user_kept v frames size bytes parts word none =
-    let step = judge_cdp size (open_behind size bytes) (word % 256) in
+    let step = judge_cdp size (open_behind (cdp_syntax size) bytes) (word % 256) in
     let read = reading_behind v frames (open_of size bytes parts) (word % 256) in
     let unrefused = none-why read.refusal (none-goes (why_of read.refusal) _ (opened frames (open_of size bytes parts)) refl none) in
-    let (taken, accepted) = reading-none (judge_cdp size) (open_after size) nothing_open (verdict_behind v frames) (place_by 1) bytes parts (word % 256 ∷ []) unrefused in
+    let (taken, accepted) = reading-none (cdp_syntax size) (verdict_behind v frames) (place_by 1) bytes parts (word % 256 ∷ []) unrefused in
     (taken.0, subst (AreAccepted (verdict_behind v frames) parts) (append-nil (step_parts step)) accepted)
 
 -- user words of an open packet
 pub users_caught : (v : Verdict CdpPart) (frames : List (List CdpPart)) (size : ℕ) (bytes : List ℕ) (parts : List CdpPart) (user : List ℕ)
-    → AllTaken (judge_cdp size) (open_after size) (open_behind size bytes) (lows user)
-    → AreAccepted (verdict_behind v frames) parts (parts_by (judge_cdp size) (open_after size) (open_behind size bytes) (lows user))
+    → AllTaken (cdp_syntax size) (open_behind (cdp_syntax size) bytes) (lows user)
+    → AreAccepted (verdict_behind v frames) parts (parts_from (cdp_syntax size) (open_behind (cdp_syntax size) bytes) (lows user))
     → front_from (caught_after v) (opened frames (open_of size bytes parts)) (map part.User user)
-    ≡ opened frames (open_of size (bytes ++ lows user) (parts ++ parts_by (judge_cdp size) (open_after size) (open_behind size bytes) (lows user)))
+    ≡ opened frames (open_of size (bytes ++ lows user) (parts ++ parts_from (cdp_syntax size) (open_behind (cdp_syntax size) bytes) (lows user)))
 users_caught v frames size bytes parts [] taken accepted =
     ap (λ bs. opened frames (open_of size bs parts)) (sym (append-nil bytes))
     ∙ ap (λ ps. opened frames (open_of size (bytes ++ []) ps)) (sym (append-nil parts))
@@ -164,37 +166,37 @@ users_caught v frames size bytes parts (word ∷ user) (is, taken) accepted =
     let byte = word % 256 in
     let judge = judge_cdp size in
     let after = open_after size in
-    let step = judge (open_behind size bytes) byte in
-    let behind : after (open_behind size bytes) byte ≡ open_behind size (bytes ++ byte ∷ []) = sym (front_from-append after nothing_open bytes (byte ∷ [])) in
+    let step = judge (open_behind (cdp_syntax size) bytes) byte in
+    let behind : after (open_behind (cdp_syntax size) bytes) byte ≡ open_behind (cdp_syntax size) (bytes ++ byte ∷ []) = sym (front_from-append after nothing_open bytes (byte ∷ [])) in
     let (one, others) = AreAccepted-split (verdict_behind v frames) parts (step_parts step) _ accepted in
     let rest = users_caught v frames size (bytes ++ byte ∷ []) (parts ++ step_parts step) user
-    (subst (λ f. AllTaken judge after f (lows user)) behind taken)
-    (subst (λ f. AreAccepted (verdict_behind v frames) (parts ++ step_parts step) (parts_by judge after f (lows user))) behind others) in
+    (subst (λ f. AllTaken (cdp_syntax size) f (lows user)) behind taken)
+    (subst (λ f. AreAccepted (verdict_behind v frames) (parts ++ step_parts step) (parts_from (cdp_syntax size) f (lows user))) behind others) in
     ap (λ (c : Caught). front_from (caught_after v) c (map part.User user)) (user_step v frames size bytes parts word is one)
     ∙ rest
-    ∙ ap (λ f. opened frames (open_of size ((bytes ++ byte ∷ []) ++ lows user) ((parts ++ step_parts step) ++ parts_by judge after f (lows user)))) (sym behind)
-    ∙ ap (λ bs. opened frames (open_of size bs ((parts ++ step_parts step) ++ parts_by judge after (after (open_behind size bytes) byte) (lows user)))) (append_assoc bytes (byte ∷ []) (lows user))
+    ∙ ap (λ f. opened frames (open_of size ((bytes ++ byte ∷ []) ++ lows user) ((parts ++ step_parts step) ++ parts_from (cdp_syntax size) f (lows user)))) (sym behind)
+    ∙ ap (λ bs. opened frames (open_of size bs ((parts ++ step_parts step) ++ parts_from (cdp_syntax size) (after (open_behind (cdp_syntax size) bytes) byte) (lows user)))) (append_assoc bytes (byte ∷ []) (lows user))
     ∙ ap (λ ps. opened frames (open_of size (bytes ++ byte ∷ lows user) ps)) (append_assoc parts (step_parts step) _)
 
 -- and the other way round
 pub users_kept : (v : Verdict CdpPart) (frames : List (List CdpPart)) (size : ℕ) (bytes : List ℕ) (parts : List CdpPart) (user : List ℕ)
     → (front_from (caught_after v) (opened frames (open_of size bytes parts)) (map part.User user)).refused ≡ None
-    → AllTaken (judge_cdp size) (open_after size) (open_behind size bytes) (lows user)
-    × AreAccepted (verdict_behind v frames) parts (parts_by (judge_cdp size) (open_after size) (open_behind size bytes) (lows user))
+    → AllTaken (cdp_syntax size) (open_behind (cdp_syntax size) bytes) (lows user)
+    × AreAccepted (verdict_behind v frames) parts (parts_from (cdp_syntax size) (open_behind (cdp_syntax size) bytes) (lows user))
 users_kept v frames size bytes parts [] none = (tt, tt)
 users_kept v frames size bytes parts (word ∷ user) none =
     let byte = word % 256 in
     let judge = judge_cdp size in
     let after = open_after size in
-    let step = judge (open_behind size bytes) byte in
-    let behind : open_behind size (bytes ++ byte ∷ []) ≡ after (open_behind size bytes) byte = front_from-append after nothing_open bytes (byte ∷ []) in
+    let step = judge (open_behind (cdp_syntax size) bytes) byte in
+    let behind : open_behind (cdp_syntax size) (bytes ++ byte ∷ []) ≡ after (open_behind (cdp_syntax size) bytes) byte = front_from-append after nothing_open bytes (byte ∷ []) in
     let (is, one) = user_kept v frames size bytes parts word
     (unrefused_before v (caught_after v (opened frames (open_of size bytes parts)) (part.User word)) (map part.User user) none) in
     let rest = ap (λ (c : Caught). (front_from (caught_after v) c (map part.User user)).refused) (sym (user_step v frames size bytes parts word is one)) ∙ none in
     let (taken, others) = users_kept v frames size (bytes ++ byte ∷ []) (parts ++ step_parts step) user rest in (
-      (is, subst (λ f. AllTaken judge after f (lows user)) behind taken),
+      (is, subst (λ f. AllTaken (cdp_syntax size) f (lows user)) behind taken),
       AreAccepted-append (verdict_behind v frames) parts (step_parts step) _ one
-          (subst (λ f. AreAccepted (verdict_behind v frames) (parts ++ step_parts step) (parts_by judge after f (lows user))) behind others),
+          (subst (λ f. AreAccepted (verdict_behind v frames) (parts ++ step_parts step) (parts_from (cdp_syntax size) f (lows user))) behind others),
     )
 
 -- user words change nothing where no packet of captions is open

@@ -6,15 +6,16 @@ use Rattle.std.specs.List.{All, flat_map}
 use Rattle.cc_base.specs.declared.why.Why.TheVariants as why
 use Rattle.cc_base.specs.Feeding.{Verdict}
 use Rattle.cc_base.specs.Steps.{AreAccepted, front_from}
+use Rattle.cc_base.specs.Syntax.{AllRead, open_behind, parts_of}
 use Rattle.cc_base.proofs.StepLemmas.{AreAccepted-append, AreAccepted-split, front_from-append}
 use Rattle.anc_words.specs.declared.parts.WordPart.TheVariants as part
 use Rattle.anc_words.specs.Packets.{IsCaption, Packet, user_bytes}
-use Rattle.anc_words.specs.Reading.{nothing_open as no_word, open_behind as words_behind, packet_parts as word_parts, parts_of as word_parts_of}
+use Rattle.anc_words.specs.Reading.{anc_syntax, nothing_open as no_word, packet_parts as word_parts}
 use Rattle.anc_words.proofs.ByteLemmas.{file_is_read, what_is_read_is_file}
 use Rattle.cdp_packets.specs.declared.parts.CdpPart.{CdpPart}
 use Rattle.cdp_packets.specs.PacketParts.{packet_parts}
 use Rattle.cdp_packets.specs.Packets.{IsCdp, Packet as Frame}
-use Rattle.cdp_packets.specs.Reading.{AllRead, IsPacketLength, parts_of}
+use Rattle.cdp_packets.specs.Reading.{IsPacketLength, cdp_syntax}
 use Rattle.cdp_packets.proofs.ReadLemmas.{packet_length, packet_read}
 use Rattle.cdp_packets.proofs.SoundLemmas.{sound}
 use Rattle.words_files.specs.Catching.{Caught, caught_after, caught_in, caught_of, is_packet_length, refusal_of, verdict_behind}
@@ -99,9 +100,9 @@ foreign_caught v frames p other =
     ∙ ap (λ (c : Caught). front_from (caught_after v) c (part.End ∷ [])) (foreign_users v frames p.user)
 
 -- the parts behind its begin
-caption_body : (v : Verdict CdpPart) (frames : List (List CdpPart)) (size : ℕ) (user : List ℕ) → AllRead size (lows user)
-    → AreAccepted (verdict_behind v frames) [] (parts_of size (lows user))
-    → front_from (caught_after v) (opened frames (open_of size [] [])) (map part.User user ++ part.End ∷ []) ≡ idle (parts_of size (lows user) ∷ frames)
+caption_body : (v : Verdict CdpPart) (frames : List (List CdpPart)) (size : ℕ) (user : List ℕ) → AllRead (cdp_syntax size) (lows user)
+    → AreAccepted (verdict_behind v frames) [] (parts_of (cdp_syntax size) (lows user))
+    → front_from (caught_after v) (opened frames (open_of size [] [])) (map part.User user ++ part.End ∷ []) ≡ idle (parts_of (cdp_syntax size) (lows user) ∷ frames)
 caption_body v frames size user read accepted =
     front_from-append (caught_after v) (opened frames (open_of size [] [])) (map part.User user) (part.End ∷ [])
     ∙ ap (λ (c : Caught). front_from (caught_after v) c (part.End ∷ [])) (users_caught v frames size [] [] user read accepted)
@@ -109,16 +110,16 @@ caption_body v frames size user read accepted =
 -- what is read of the user words of a packet that carries a distribution packet
 pub record Carried (p : Packet) (frame : Frame) : Type 0 where
   pub can : IsPacketLength (length p.user)
-  pub read : AllRead (length p.user) (user_bytes p)
-  pub made : parts_of (length p.user) (user_bytes p) ≡ packet_parts frame
+  pub read : AllRead (cdp_syntax (length p.user)) (user_bytes p)
+  pub made : parts_of (cdp_syntax (length p.user)) (user_bytes p) ≡ packet_parts frame
 
 pub carried_read : (p : Packet) (frame : Frame) → IsCdp frame (user_bytes p) → Carried p frame
 carried_read p frame is =
     let size : length (user_bytes p) ≡ length p.user = length-map p.user (λ word. word % 256) in
     let reads = packet_read frame (user_bytes p) is in record {
       can = subst IsPacketLength size (packet_length frame (user_bytes p) is);
-      read = subst (λ n. AllRead n (user_bytes p)) size reads.taken;
-      made = ap (λ n. parts_of n (user_bytes p)) (sym size) ∙ reads.made;
+      read = subst (λ n. AllRead (cdp_syntax n) (user_bytes p)) size reads.taken;
+      made = ap (λ n. parts_of (cdp_syntax n) (user_bytes p)) (sym size) ∙ reads.made;
     }
 
 -- a packet of captions adds the parts of what it carries
@@ -149,8 +150,8 @@ caption_kept v frames p is unrefused =
     let users = unrefused_first v (opened frames (open_of size [] [])) (map part.User p.user) (part.End ∷ []) after in
     let (read, accepted) = users_kept v frames size [] [] p.user users in
     let (frame, carries) = sound size (user_bytes p) can (length-map p.user (λ word. word % 256)) read in
-    let behind = accepted_behind v frames [] (parts_of size (user_bytes p)) accepted in
-    let all = subst (λ ps. AreAccepted v ps (parts_of size (user_bytes p))) (append-nil (handed frames)) behind in
+    let behind = accepted_behind v frames [] (parts_of (cdp_syntax size) (user_bytes p)) accepted in
+    let all = subst (λ ps. AreAccepted v ps (parts_of (cdp_syntax size) (user_bytes p))) (append-nil (handed frames)) behind in
     record { frame = frame; carries = carries; accepted = subst (AreAccepted v (handed frames)) (carried_read p frame carries).made all }
 
 -- the frames of packets, newest first
@@ -217,17 +218,17 @@ pub file_caught : (v : Verdict CdpPart) (frames : List Frame) (bytes : List ℕ)
     → (caught_in v bytes ≡ record { open_caption = None; frames = reverse (map packet_parts frames); refused = None }) × (refusal_of v bytes ≡ None)
 file_caught v frames bytes is =
     let reads = file_is_read is.file.packets bytes is.file.file in
-    let state : caught_of v (word_parts_of bytes) ≡ idle (newest_first frames) =
-    ap (caught_of v) reads.makes ∙ packets_caught v [] is.file.packets frames is.file.carried is.accepted ∙ ap idle (append-nil (newest_first frames)) in
+    let state : caught_of v (parts_of anc_syntax bytes) ≡ idle (newest_first frames) =
+    ap (caught_of v) reads.made ∙ packets_caught v [] is.file.packets frames is.file.carried is.accepted ∙ ap idle (append-nil (newest_first frames)) in
     let (caught, unrefused) = read_caught v bytes reads.taken (ap (λ (c : Caught). c.refused) state) in
     (caught ∙ state, unrefused)
 
 -- bytes that aren't refused, and leave nothing open, are a file
-pub caught_file : (v : Verdict CdpPart) (bytes : List ℕ) → All (λ byte. byte < 256) bytes → refusal_of v bytes ≡ None → words_behind bytes ≡ no_word
+pub caught_file : (v : Verdict CdpPart) (bytes : List ℕ) → All (λ byte. byte < 256) bytes → refusal_of v bytes ≡ None → open_behind anc_syntax bytes ≡ no_word
     → (frames : List Frame) × IsFileUnder v frames bytes
 caught_file v bytes are unrefused nothing =
     let (read, kept_all) = caught_read v bytes unrefused in
     let (packets, file) = what_is_read_is_file bytes are read nothing in
-    let makes = (file_is_read packets bytes file).makes in
+    let makes = (file_is_read packets bytes file).made in
     let kept = packets_kept v [] packets (ap (λ ps. (caught_of v ps).refused) (sym makes) ∙ kept_all) in
     (kept.frames, record { file = record { packets = packets; file = file; carried = kept.carried }; accepted = kept.accepted })

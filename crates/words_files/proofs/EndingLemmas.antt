@@ -4,13 +4,14 @@ use Rattle.std.specs.List.{All, flat_map}
 use Rattle.cc_base.specs.declared.refusal.Refusal.{Refusal}
 use Rattle.cc_base.specs.declared.why.Why.TheVariants as why
 use Rattle.cc_base.specs.Feeding.{Verdict}
-use Rattle.cc_base.specs.Steps.{AreAccepted, parts_by}
-use Rattle.anc_words.specs.Reading.{Open, nothing_open, open_behind}
+use Rattle.cc_base.specs.Steps.{AreAccepted}
+use Rattle.cc_base.specs.Syntax.{open_behind, parts_from, parts_of}
+use Rattle.anc_words.specs.Reading.{Open, anc_syntax, nothing_open}
 use Rattle.anc_words.proofs.ByteLemmas.{file_is_read}
 use Rattle.cdp_packets.specs.declared.parts.CdpPart.{CdpPart}
 use Rattle.cdp_packets.specs.PacketParts.{packet_parts}
 use Rattle.cdp_packets.specs.Packets.{Packet as Frame}
-use Rattle.cdp_packets.specs.Reading.{judge_cdp, open_after, open_behind as packet_behind, parts_of}
+use Rattle.cdp_packets.specs.Reading.{cdp_syntax}
 use Rattle.words_files.specs.Catching.{never, refusal_of}
 use Rattle.words_files.specs.Frames.{IsFileOf}
 use Rattle.words_files.specs.Offences.{AreWholeWords, FirstOffendingWord, IsCutShort, IsFileUnder, TakesFilling}
@@ -25,7 +26,7 @@ never_refuses above (part ∷ parts) = (refl, never_refuses (above ++ part ∷ [
 
 pub never_takes : TakesFilling never
 never_takes size handed bytes more all read accepted filling =
-    never_refuses (handed ++ parts_of size bytes) (parts_by (judge_cdp size) (open_after size) (packet_behind size bytes) more)
+    never_refuses (handed ++ parts_of (cdp_syntax size) bytes) (parts_from (cdp_syntax size) (open_behind (cdp_syntax size) bytes) more)
 
 pub file_under_never : (frames : List Frame) (bytes : List ℕ) → IsFileOf frames bytes → IsFileUnder never frames bytes
 file_under_never frames bytes file = record { file = file; accepted = never_refuses [] (flat_map packet_parts frames) }
@@ -34,7 +35,7 @@ file_under_never frames bytes file = record { file = file; accepted = never_refu
 pub file_whole : (v : Verdict CdpPart) (frames : List Frame) (bytes : List ℕ) → IsFileUnder v frames bytes → AreWholeWords bytes
 file_whole v frames bytes is = AreWords-whole bytes is.file.file.words is.file.file.spelled
 
-pub file_closed : (v : Verdict CdpPart) (frames : List Frame) (bytes : List ℕ) → IsFileUnder v frames bytes → open_behind bytes ≡ nothing_open
+pub file_closed : (v : Verdict CdpPart) (frames : List Frame) (bytes : List ℕ) → IsFileUnder v frames bytes → open_behind anc_syntax bytes ≡ nothing_open
 file_closed v frames bytes is = (file_is_read is.file.packets bytes is.file.file).leads
 
 -- where the bytes are cut short
@@ -43,7 +44,7 @@ truncated bytes = record { place = length bytes % 2 ^ 64; why = why.Truncated }
 
 -- bytes that aren't refused and leave something open are cut short
 pub open_is_cut_short : (v : Verdict CdpPart) → TakesFilling v → (bytes : List ℕ) → All (λ byte. byte < 256) bytes → refusal_of v bytes ≡ None
-    → (open_behind bytes ≡ nothing_open → ⊥) → IsCutShort v bytes (truncated bytes)
+    → (open_behind anc_syntax bytes ≡ nothing_open → ⊥) → IsCutShort v bytes (truncated bytes)
 open_is_cut_short v takes bytes are none opens = record {
   unoffending = unrefused_is_unoffending v takes bytes are none;
   no_file = λ frames is. opens (file_closed v frames bytes is);
@@ -53,7 +54,7 @@ open_is_cut_short v takes bytes are none opens = record {
 
 -- and the other way round
 pub cut_short_is_open : (v : Verdict CdpPart) (bytes : List ℕ) (refusal : Refusal) → All (λ byte. byte < 256) bytes → IsCutShort v bytes refusal
-    → (refusal_of v bytes ≡ None) × (open_behind bytes ≡ nothing_open → ⊥) × (refusal ≡ truncated bytes)
+    → (refusal_of v bytes ≡ None) × (open_behind anc_syntax bytes ≡ nothing_open → ⊥) × (refusal ≡ truncated bytes)
 cut_short_is_open v bytes refusal are is =
     let none = unoffending_is_unrefused v bytes is.unoffending in (
       none,
@@ -80,7 +81,7 @@ pub each_ends : (v : Verdict CdpPart) → TakesFilling v → (bytes : List ℕ) 
 each_ends v takes bytes are =
     let cases : (r : Option Refusal) → refusal_of v bytes ≡ r
     → ((frames : List Frame) × IsFileUnder v frames bytes) ⊎ (((refusal : Refusal) × IsCutShort v bytes refusal) ⊎ ((refusal : Refusal) × FirstOffendingWord v bytes refusal)) = elim [
-      | None ↦ λ none. elim (nothing_or_some (open_behind bytes)) [
+      | None ↦ λ none. elim (nothing_or_some (open_behind anc_syntax bytes)) [
         | inl nothing ↦ inl (caught_file v bytes are none nothing)
         | inr some ↦ inr (inl (truncated bytes, open_is_cut_short v takes bytes are none some))
       ]

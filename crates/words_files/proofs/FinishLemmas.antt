@@ -5,23 +5,25 @@ use Rattle.std.proofs.lemmas.List.{length-map, length-replicate, map-append}
 use Rattle.std.proofs.lemmas.List.Elements.{All-append, All-map, All-nil, All-replicate, All-weaker, recursion_from_All}
 use Rattle.std.specs.List.{All, flat_map}
 use Rattle.cc_base.specs.Feeding.{Verdict}
-use Rattle.cc_base.specs.Steps.{AreAccepted, front_from, parts_by}
-use Rattle.cc_base.proofs.StepLemmas.{AreAccepted-append, parts_by-append}
+use Rattle.cc_base.specs.Steps.{AreAccepted, front_from}
+use Rattle.cc_base.specs.Syntax.{AllRead, open_behind, parts_from, parts_of}
+use Rattle.cc_base.proofs.StepLemmas.{AreAccepted-append}
+use Rattle.cc_base.proofs.SyntaxLemmas.{Reads-append, parts_from-append}
 use Rattle.anc_words.specs.declared.parts.WordPart.TheVariants as part
 use Rattle.anc_words.specs.EightBitWords.{IsEightBit}
 use Rattle.anc_words.specs.Packets.{IsPacket, Packet, user_bytes}
-use Rattle.anc_words.specs.Reading.{is_caption, is_eight_bit, judge_word, words_after}
+use Rattle.anc_words.specs.Reading.{is_caption, is_eight_bit, word_syntax}
 use Rattle.anc_words.specs.WordsFiles.{ArePackets}
 use Rattle.anc_words.specs.Writing.{checksum_word, eight_bit_word}
 use Rattle.anc_words.proofs.ChecksumLemmas.{checksum_word-is}
 use Rattle.anc_words.proofs.EightBitLemmas.{IsEightBit-word, eight_bit_word-is}
 use Rattle.anc_words.proofs.PacketLemmas.{user_bytes-packet_of}
-use Rattle.anc_words.proofs.ReadLemmas.{FitsUser, Reads-append, Reads-head, Reads-users}
+use Rattle.anc_words.proofs.ReadLemmas.{FitsUser, Reads-head, Reads-users}
 use Rattle.anc_words.proofs.SoundLemmas.{IsBegun, IsBody, IsByteWord, IsPacket-ended, IsUserBehind, packet_behind}
 use Rattle.cdp_packets.specs.declared.parts.CdpPart.{CdpPart}
 use Rattle.cdp_packets.specs.PacketParts.{packet_parts}
 use Rattle.cdp_packets.specs.Packets.{IsCdp, Packet as Frame}
-use Rattle.cdp_packets.specs.Reading.{AllRead, IsPacketLength, judge_cdp, nothing_open, open_after, open_behind, parts_of}
+use Rattle.cdp_packets.specs.Reading.{IsPacketLength, cdp_syntax, judge_cdp, nothing_open, open_after}
 use Rattle.cdp_packets.proofs.FillLemmas.{goes_on}
 use Rattle.words_files.specs.Catching.{Caught, caught_after}
 use Rattle.words_files.specs.Frames.{CarryFrames, none, caption, foreign}
@@ -125,8 +127,8 @@ lows-completed user bytes are =
 -- a packet of captions, whose distribution packet goes on
 caption_finishes : (v : Verdict CdpPart) → TakesFilling v → (before : List (List CdpPart)) → AreAccepted v [] (handed before)
     → (first second third did sdid count : ℕ) (user : List ℕ) → IsBody first second third did sdid count user
-    → (did % 256 ≡ 0x61) × (sdid % 256 ≡ 0x01) → IsPacketLength (count % 256) → AllRead (count % 256) (lows user)
-    → AreAccepted v (handed before) (parts_of (count % 256) (lows user))
+    → (did % 256 ≡ 0x61) × (sdid % 256 ≡ 0x01) → IsPacketLength (count % 256) → AllRead (cdp_syntax (count % 256)) (lows user)
+    → AreAccepted v (handed before) (parts_of (cdp_syntax (count % 256)) (lows user))
     → Finishes v before (first ∷ second ∷ third ∷ did ∷ sdid ∷ count ∷ user)
 caption_finishes v takes before all first second third did sdid count user body is can read accepted =
     let size = count % 256 in
@@ -142,16 +144,16 @@ caption_finishes v takes before all first second third did sdid count user body 
     let carries = subst (IsCdp go.packet) (sym (lows-completed user go.more go.bytes_are)) go.is in
     let judge = judge_cdp size in
     let after = open_after size in
-    let rest = parts_by judge after (open_behind size (lows user)) go.more in
-    let parts : parts_of size (lows user) ++ rest ≡ packet_parts go.packet ++ [] =
-    sym (parts_by-append judge after nothing_open (lows user) go.more)
-    ∙ ap (λ bs. parts_of size bs) (sym (lows-completed user go.more go.bytes_are))
-    ∙ ap (λ n. parts_of n (user_bytes packet)) (sym long)
+    let rest = parts_from (cdp_syntax size) (open_behind (cdp_syntax size) (lows user)) go.more in
+    let parts : parts_of (cdp_syntax size) (lows user) ++ rest ≡ packet_parts go.packet ++ [] =
+    sym (parts_from-append (cdp_syntax size) nothing_open (lows user) go.more)
+    ∙ ap (λ bs. parts_of (cdp_syntax size) bs) (sym (lows-completed user go.more go.bytes_are))
+    ∙ ap (λ n. parts_of (cdp_syntax n) (user_bytes packet)) (sym long)
     ∙ (carried_read packet go.packet carries).made ∙ sym (append-nil (packet_parts go.packet)) in
     let filled = takes size (handed before) (lows user) go.more all read accepted go.filling in
     Finishes-body v before first second third did sdid count user more body are long (go.packet ∷ [])
     (caption packet [] go.packet [] is carries none)
-    (subst (AreAccepted v (handed before)) parts (AreAccepted-append v (handed before) (parts_of size (lows user)) rest accepted filled))
+    (subst (AreAccepted v (handed before)) parts (AreAccepted-append v (handed before) (parts_of (cdp_syntax size) (lows user)) rest accepted filled))
 
 -- a user word behind identifiers passes there
 either_or_not : (b c : Bool) → (c ≡ true → b ≡ true) → (b || not c) ≡ true
@@ -169,20 +171,20 @@ user_fits did sdid word is = (
 
 -- the parts of a body
 body_parts : (first second third did sdid count : ℕ) (user : List ℕ) → IsBody first second third did sdid count user
-    → parts_by judge_word words_after [] (first ∷ second ∷ third ∷ did ∷ sdid ∷ count ∷ user)
+    → parts_from word_syntax [] (first ∷ second ∷ third ∷ did ∷ sdid ∷ count ∷ user)
     ≡ part.Start (did % 256) (sdid % 256) (count % 256) ∷ map part.User user
 body_parts first second third did sdid count user body =
     let fit = recursion_from_All (FitsUser did sdid) user (All-weaker (IsUserBehind did sdid) (FitsUser did sdid) (user_fits did sdid) user body.user_are) in
     let head = Reads-head did sdid count body.did_is body.sdid_is body.count_is in
     let users = Reads-users 0x000 0x3FF 0x3FF did sdid count [] user (omega (arith, body.few)) fit in
     rw (body.first_is, body.second_is, body.third_is)
-    (Reads-append [] _ _ _ user (map part.User user) _ head users).makes
+    (Reads-append word_syntax [] _ _ _ user (map part.User user) _ head users).made
 
 -- what is read of the user words of a packet of captions that isn't refused
 record IsOpenCaption (v : Verdict CdpPart) (before : List (List CdpPart)) (size : ℕ) (user : List ℕ) : Type 0 where
   pub can : IsPacketLength size
-  pub read : AllRead size (lows user)
-  pub accepted : AreAccepted v (handed before) (parts_of size (lows user))
+  pub read : AllRead (cdp_syntax size) (lows user)
+  pub accepted : AreAccepted v (handed before) (parts_of (cdp_syntax size) (lows user))
 
 open_caption : (v : Verdict CdpPart) (before : List (List CdpPart)) (did sdid size : ℕ) (user : List ℕ) → (did ≡ 0x61) × (sdid ≡ 0x01)
     → (front_from (caught_after v) (idle before) (part.Start did sdid size ∷ map part.User user)).refused ≡ None → IsOpenCaption v before size user
@@ -191,8 +193,8 @@ open_caption v before did sdid size user is unrefused =
     let can = begun_length v before did sdid size is (unrefused_before v (caught_after v (idle before) (part.Start did sdid size)) users unrefused) in
     let after = ap (λ (c : Caught). (front_from (caught_after v) c users).refused) (sym (caption_begun v before did sdid size is can)) ∙ unrefused in
     let (read, accepted) = users_kept v before size [] [] user after in
-    let behind = accepted_behind v before [] (parts_of size (lows user)) accepted in
-    record { can = can; read = read; accepted = subst (λ ps. AreAccepted v ps (parts_of size (lows user))) (append-nil (handed before)) behind }
+    let behind = accepted_behind v before [] (parts_of (cdp_syntax size) (lows user)) accepted in
+    record { can = can; read = read; accepted = subst (λ ps. AreAccepted v ps (parts_of (cdp_syntax size) (lows user))) (append-nil (handed before)) behind }
 
 -- a body that isn't refused
 body_finishes : (v : Verdict CdpPart) → TakesFilling v → (before : List (List CdpPart)) → AreAccepted v [] (handed before)
@@ -241,7 +243,7 @@ count_finishes v takes before all did sdid did_is sdid_is =
 
 -- the begin of a packet that isn't refused goes on to packets
 pub finishes : (v : Verdict CdpPart) → TakesFilling v → (before : List (List CdpPart)) → AreAccepted v [] (handed before)
-    → (front : List ℕ) → IsBegun front → (front_from (caught_after v) (idle before) (parts_by judge_word words_after [] front)).refused ≡ None
+    → (front : List ℕ) → IsBegun front → (front_from (caught_after v) (idle before) (parts_from word_syntax [] front)).refused ≡ None
     → Finishes v before front
 finishes v takes before all [] begun unrefused = record { more = []; packets = []; are = refl; frames = []; carried = none; accepted = tt }
 finishes v takes before all (first ∷ []) begun unrefused =

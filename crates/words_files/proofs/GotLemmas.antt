@@ -9,12 +9,12 @@ use Rattle.cc_base.specs.declared.step.Step.TheVariants.{Nothing, One, Two, Refu
 use Rattle.cc_base.specs.declared.why.Why.{Why}
 use Rattle.cc_base.specs.declared.why.Why.TheVariants as why
 use Rattle.cc_base.specs.Feeding.{Reading, Verdict, hand, hand_first, place_by, read_first, reading, refused_at}
-use Rattle.cc_base.specs.Steps.{judge_by}
-use Rattle.cc_base.proofs.ReadingLemmas.{reading-append}
+use Rattle.cc_base.specs.Syntax.{judge_by, open_behind, read_under}
 use Rattle.cc_base.proofs.StepLemmas.{front_from-append}
+use Rattle.cc_base.proofs.ReadingLemmas.{reading-append}
 use Rattle.anc_words.specs.declared.parts.WordPart.{WordPart}
 use Rattle.anc_words.specs.declared.parts.WordPart.TheVariants as part
-use Rattle.anc_words.specs.Reading.{Open, is_caption, is_eight_bit, judge_byte, judge_half, judge_ten_bits, nothing_open, open_after, open_behind, read_under, words_after}
+use Rattle.anc_words.specs.Reading.{Open, anc_syntax, is_caption, is_eight_bit, judge_byte, judge_half, judge_ten_bits, nothing_open, open_after, words_after}
 use Rattle.anc_words.specs.Writing.{checksum_word}
 use Rattle.anc_words.proofs.WordsFileLemmas.{IsWordsFile-nil}
 use Rattle.cdp_packets.specs.declared.parts.CdpPart.{CdpPart}
@@ -122,11 +122,11 @@ more_same v None parts more same = same
 more_same v (Some refusal) parts more same = refl
 
 -- a byte that ends no packet brings no frame
-pub inside_byte : (v : Verdict CdpPart) (bytes : List ℕ) (byte : ℕ) → GoesInside (judge_byte (open_behind bytes) byte)
+pub inside_byte : (v : Verdict CdpPart) (bytes : List ℕ) (byte : ℕ) → GoesInside (judge_byte (open_behind anc_syntax bytes) byte)
     → (caught_in v (bytes ++ byte ∷ [])).frames ≡ (caught_in v bytes).frames
 inside_byte v bytes byte inside =
-    let judge = judge_by judge_byte open_after nothing_open in
-    let one = read_under (caption_verdict v) bytes in
+    let judge = judge_by anc_syntax in
+    let one = read_under anc_syntax 2 (caption_verdict v) bytes in
     let more = reading judge (caption_verdict v) (place_by 2) bytes one.parts (byte ∷ []) in
     let handed = hand (caption_verdict v) one.parts (judge bytes byte) in
     let parts = first_parts (refused_at (place_by 2 bytes) handed.why) handed.parts in
@@ -182,8 +182,8 @@ got_same v bytes byte got no_file same = record {
 refused_same : (v : Verdict CdpPart) (bytes more : List ℕ) (refusal : Refusal) → refusal_of v bytes ≡ Some refusal
     → (caught_in v (bytes ++ more)).frames ≡ (caught_in v bytes).frames
 refused_same v bytes more refusal some =
-    let judge = judge_by judge_byte open_after nothing_open in
-    let one = read_under (caption_verdict v) bytes in
+    let judge = judge_by anc_syntax in
+    let one = read_under anc_syntax 2 (caption_verdict v) bytes in
     let rest = reading judge (caption_verdict v) (place_by 2) bytes one.parts more in
     ap (λ (r : Reading WordPart). (caught_of v r.parts).frames) (reading-append judge (caption_verdict v) (place_by 2) [] [] bytes more)
     ∙ ap (λ a. (caught_of v (read_first a one.parts rest).parts).frames) some
@@ -205,11 +205,11 @@ end_taken v parts unrefused =
     ∙ ap (λ refused. (unless_refused v refused part.End (caught_of v parts)).refused) unrefused
     ∙ ended_refused (caught_of v parts).open_caption (caught_of v parts) ∙ unrefused
 
-end_unrefused : (v : Verdict CdpPart) (bytes : List ℕ) (byte : ℕ) → refusal_of v bytes ≡ None → judge_byte (open_behind bytes) byte ≡ One part.End
+end_unrefused : (v : Verdict CdpPart) (bytes : List ℕ) (byte : ℕ) → refusal_of v bytes ≡ None → judge_byte (open_behind anc_syntax bytes) byte ≡ One part.End
     → refusal_of v (bytes ++ byte ∷ []) ≡ None
 end_unrefused v bytes byte unrefused ends =
-    let judge = judge_by judge_byte open_after nothing_open in
-    let one = read_under (caption_verdict v) bytes in
+    let judge = judge_by anc_syntax in
+    let one = read_under anc_syntax 2 (caption_verdict v) bytes in
     let more = reading judge (caption_verdict v) (place_by 2) bytes one.parts (byte ∷ []) in
     let none : (hand (caption_verdict v) one.parts (One part.End)).why ≡ None =
     ap (λ why. (hand_first why part.End (record { parts = []; why = None })).why) (end_taken v one.parts (read_unrefused v bytes unrefused)) in
@@ -220,7 +220,7 @@ end_unrefused v bytes byte unrefused ends =
 
 -- where the end of a packet is refused, a word before it was
 refused_before : (v : Verdict CdpPart) (bytes : List ℕ) (byte : ℕ) (refusal : Refusal) → refusal_of v (bytes ++ byte ∷ []) ≡ Some refusal
-    → judge_byte (open_behind bytes) byte ≡ One part.End → (caught_in v (bytes ++ byte ∷ [])).frames ≡ (caught_in v bytes).frames
+    → judge_byte (open_behind anc_syntax bytes) byte ≡ One part.End → (caught_in v (bytes ++ byte ∷ [])).frames ≡ (caught_in v bytes).frames
 refused_before v bytes byte refusal some ends =
     let before : (r : Option Refusal) → refusal_of v bytes ≡ r → (caught_in v (bytes ++ byte ∷ [])).frames ≡ (caught_in v bytes).frames = elim [
       | None ↦ λ unrefused. absurd (let clash = sym some ∙ end_unrefused v bytes byte unrefused ends in cc)
@@ -231,16 +231,16 @@ refused_before v bytes byte refusal some ends =
 refused_no_file : (v : Verdict CdpPart) (bytes : List ℕ) (refusal : Refusal) → refusal_of v bytes ≡ Some refusal → (frames : List Frame) → IsFileUnder v frames bytes → ⊥
 refused_no_file v bytes refusal some frames is = let clash = sym some ∙ (file_caught v frames bytes is).1 in cc
 
-open_no_file : (v : Verdict CdpPart) (bytes : List ℕ) → (open_behind bytes ≡ nothing_open → ⊥) → (frames : List Frame) → IsFileUnder v frames bytes → ⊥
+open_no_file : (v : Verdict CdpPart) (bytes : List ℕ) → (open_behind anc_syntax bytes ≡ nothing_open → ⊥) → (frames : List Frame) → IsFileUnder v frames bytes → ⊥
 open_no_file v bytes some frames is = some (file_closed v frames bytes is)
 
 -- bytes that aren't refused, where nothing is open or no frame came
 got_unrefused : (v : Verdict CdpPart) (bytes : List ℕ) (byte : ℕ) → All (λ b. b < 256) (bytes ++ byte ∷ []) → Got v bytes
     → refusal_of v (bytes ++ byte ∷ []) ≡ None
-    → ((open_behind (bytes ++ byte ∷ []) ≡ nothing_open → ⊥) → (caught_in v (bytes ++ byte ∷ [])).frames ≡ (caught_in v bytes).frames)
+    → ((open_behind anc_syntax (bytes ++ byte ∷ []) ≡ nothing_open → ⊥) → (caught_in v (bytes ++ byte ∷ [])).frames ≡ (caught_in v bytes).frames)
     → Got v (bytes ++ byte ∷ [])
 got_unrefused v bytes byte are got unrefused same =
-    let front = open_behind (bytes ++ byte ∷ []) in
+    let front = open_behind anc_syntax (bytes ++ byte ∷ []) in
     elim (nothing_or_some front) [
       | inl closed ↦
           let (frames, is) = caught_file v (bytes ++ byte ∷ []) are unrefused closed in
@@ -251,8 +251,8 @@ got_unrefused v bytes byte are got unrefused same =
 -- one more byte
 got_more : (v : Verdict CdpPart) (bytes : List ℕ) (byte : ℕ) → All (λ b. b < 256) (bytes ++ byte ∷ []) → Got v bytes → Got v (bytes ++ byte ∷ [])
 got_more v bytes byte are got =
-    let front = open_behind bytes in
-    let after : open_behind (bytes ++ byte ∷ []) ≡ open_after front byte = front_from-append open_after nothing_open bytes (byte ∷ []) in
+    let front = open_behind anc_syntax bytes in
+    let after : open_behind anc_syntax (bytes ++ byte ∷ []) ≡ open_after front byte = front_from-append open_after nothing_open bytes (byte ∷ []) in
     let refused : (refusal : Option Refusal) → refusal_of v (bytes ++ byte ∷ []) ≡ refusal → Got v (bytes ++ byte ∷ []) = elim [
       | None ↦ λ unrefused. got_unrefused v bytes byte are got unrefused (λ some. elim (byte_ends front.high front.words byte) [
         | inl inside ↦ inside_byte v bytes byte inside
@@ -279,7 +279,7 @@ got v bytes are = got_from v [] bytes (All-nil (λ b. b < 256)) are (got_nothing
 pub file_or_none : (v : Verdict CdpPart) (bytes : List ℕ) → All (λ b. b < 256) bytes
     → ((frames : List Frame) × IsFileUnder v frames bytes) ⊎ ((frames : List Frame) → IsFileUnder v frames bytes → ⊥)
 file_or_none v bytes are =
-    let front = open_behind bytes in
+    let front = open_behind anc_syntax bytes in
     let refused : (refusal : Option Refusal) → refusal_of v bytes ≡ refusal
     → ((frames : List Frame) × IsFileUnder v frames bytes) ⊎ ((frames : List Frame) → IsFileUnder v frames bytes → ⊥) = elim [
       | None ↦ λ unrefused. elim (nothing_or_some front) [

@@ -5,11 +5,12 @@ use Rattle.std.specs.List.{All, flat_map}
 use Rattle.std.proofs.lemmas.List.Concat.{flat_map-append}
 use Rattle.cc_base.specs.Feeding.{Verdict}
 use Rattle.cc_base.specs.Steps.{AreAccepted}
+use Rattle.cc_base.specs.Syntax.{open_behind}
 use Rattle.cc_base.proofs.StepLemmas.{AreAccepted-split}
 use Rattle.anc_words.specs.Packets.{IsCaption, Packet}
 use Rattle.anc_words.specs.WordsFiles.{IsPacketBytes, IsWordsFile}
 use Rattle.anc_words.specs.Ending.{bytes_to_end}
-use Rattle.anc_words.specs.Reading.{open_behind}
+use Rattle.anc_words.specs.Reading.{anc_syntax}
 use Rattle.anc_words.proofs.EndingLemmas.{ends_no_sooner}
 use Rattle.anc_words.proofs.WordsFileLemmas.{IsWordsFile-append, IsWordsFile-first, IsWordsFile-nil, IsWordsFile-one}
 use Rattle.cdp_packets.specs.declared.parts.CdpPart.{CdpPart}
@@ -37,7 +38,7 @@ part_at (f ∷ front) more (b ∷ other) rest is = elim (part_at front more othe
 ]
 
 -- no file ends past the bytes before
-past_end : (v : Verdict CdpPart) (before more other rest : List ℕ) → length more ≤ bytes_to_end (open_behind before)
+past_end : (v : Verdict CdpPart) (before more other rest : List ℕ) → length more ≤ bytes_to_end (open_behind anc_syntax before)
     → ((frames : List Frame) → IsFileUnder v frames (before ++ more) → ⊥) → Past before more other rest → (frames : List Frame) → IsFileUnder v frames other → ⊥
 past_end v before more other [] few no_file past frames is =
     let whole : past.some ≡ more = sym (past.parts ∙ append-nil past.some) in
@@ -49,7 +50,7 @@ past_end v before more other (b ∷ rest) few no_file past frames is =
     ends_no_sooner before past.some is.file.packets any (omega (arith, e, long, few)) (subst (IsWordsFile is.file.packets) past.longer is.file.file)
 
 -- bytes that are no file bring no frame
-pub no_end : (v : Verdict CdpPart) (frames : List Frame) (before more : List ℕ) → length more ≤ bytes_to_end (open_behind before)
+pub no_end : (v : Verdict CdpPart) (frames : List Frame) (before more : List ℕ) → length more ≤ bytes_to_end (open_behind anc_syntax before)
     → ((others : List Frame) → IsFileUnder v others (before ++ more) → ⊥) → AreFramesOf v frames before → AreFramesOf v frames (before ++ more)
 no_end v frames before more few no_file are = record {
   file = are.file;
@@ -118,7 +119,7 @@ carry_split (p ∷ packets) rest frames (foreign _ _ _ isnt whole) =
     record { first = next.first; behind = next.behind; spelled = next.spelled; carried = foreign p packets next.first isnt next.carried; others = next.others }
 
 -- the last packet begins no later than the bytes before end
-past_last : (before more front own : List ℕ) (q : Packet) → length more ≤ bytes_to_end (open_behind before) → Past before more front own
+past_last : (before more front own : List ℕ) (q : Packet) → length more ≤ bytes_to_end (open_behind anc_syntax before) → Past before more front own
     → (packets : List Packet) → IsWordsFile packets front → IsPacketBytes q own → ⊥
 past_last before more front [] q few past packets is is_packet = some_packet q [] is_packet refl
 past_last before more front (b ∷ own) q few past packets is is_packet =
@@ -194,7 +195,7 @@ pub record EndsBringing (frames more : List Frame) (bytes : List ℕ) : Type 0 w
   pub brings : Brings packet frames more
 
 -- the packets of a file, of which there is one
-ends_last : (v : Verdict CdpPart) (frames more_frames : List Frame) (before more : List ℕ) → 0 < length more → length more ≤ bytes_to_end (open_behind before)
+ends_last : (v : Verdict CdpPart) (frames more_frames : List Frame) (before more : List ℕ) → 0 < length more → length more ≤ bytes_to_end (open_behind anc_syntax before)
     → AreFramesOf v frames before → IsFileUnder v more_frames (before ++ more) → (qs : List Packet) → IsWordsFile qs (before ++ more) → CarryFrames qs more_frames
     → Last qs (before ++ more) → EndsBringing frames more_frames (before ++ more)
 ends_last v frames more_frames before more any few are is qs file carried last =
@@ -218,7 +219,7 @@ ends_last v frames more_frames before more any few are is qs file carried last =
 
 -- bytes up to the end of a packet, of which no packet ends sooner
 pub ends_bringing : (v : Verdict CdpPart) (frames more_frames : List Frame) (before more : List ℕ) → 0 < length more
-    → length more ≤ bytes_to_end (open_behind before) → AreFramesOf v frames before → IsFileUnder v more_frames (before ++ more)
+    → length more ≤ bytes_to_end (open_behind anc_syntax before) → AreFramesOf v frames before → IsFileUnder v more_frames (before ++ more)
     → EndsBringing frames more_frames (before ++ more)
 ends_bringing v frames more_frames before more any few are is =
     let cases : (qs : List Packet) → IsWordsFile qs (before ++ more) → CarryFrames qs more_frames → EndsBringing frames more_frames (before ++ more) = elim [
@@ -241,7 +242,7 @@ at_most v frames more_frames bytes packet is (inl (_, (frame, spelled))) =
 at_most v frames more_frames bytes packet is (inr (_, same)) = record { more = more_frames; are = file_frames v more_frames bytes is; brings = inl same }
 
 -- after at most the bytes that come before the end of a packet
-pub at_most_one : (v : Verdict CdpPart) (frames : List Frame) (before more : List ℕ) → 0 < length more → length more ≤ bytes_to_end (open_behind before)
+pub at_most_one : (v : Verdict CdpPart) (frames : List Frame) (before more : List ℕ) → 0 < length more → length more ≤ bytes_to_end (open_behind anc_syntax before)
     → All (λ byte. byte < 256) (before ++ more) → AreFramesOf v frames before → AtMostOne v frames (before ++ more)
 at_most_one v frames before more any few bytes are = elim (file_or_none v (before ++ more) bytes) [
   | inl (others, is) ↦ let ends = ends_bringing v frames others before more any few are is in at_most v frames others (before ++ more) ends.packet is ends.brings.brings

@@ -4,11 +4,12 @@ use Rattle.std.specs.List.{All}
 use Rattle.cc_base.specs.declared.refusal.Refusal.{Refusal}
 use Rattle.cc_base.specs.declared.why.Why.{Why}
 use Rattle.cc_base.specs.Feeding.{Handed, Judge, Reading, Verdict, hand, place_by, read_first, reading, refused_at}
-use Rattle.cc_base.specs.Steps.{judge_by}
+use Rattle.cc_base.specs.Syntax.{judge_by, open_behind, parts_of, read_under}
+use Rattle.cc_base.proofs.StepLemmas.{front_from-append, read_first-none}
+use Rattle.cc_base.proofs.SyntaxLemmas.{reading-accepted, reading-none}
 use Rattle.cc_base.proofs.ReadingLemmas.{reading-append, reading-taken}
-use Rattle.cc_base.proofs.StepLemmas.{front_from-append, read_first-none, reading-accepted, reading-none}
 use Rattle.anc_words.specs.declared.parts.WordPart.{WordPart}
-use Rattle.anc_words.specs.Reading.{Open, judge_byte, nothing_open, open_after, open_behind, parts_of, read_under}
+use Rattle.anc_words.specs.Reading.{Open, anc_syntax, judge_byte, nothing_open, open_after}
 use Rattle.anc_words.proofs.ByteLemmas.{last_high, open-words_of}
 use Rattle.cdp_packets.specs.declared.parts.CdpPart.{CdpPart}
 use Rattle.words_files.specs.Catching.{caption_verdict, refusal_of}
@@ -29,19 +30,19 @@ refusal_at place why = record { place = place; why = why }
 
 -- how bytes are judged
 abbrev judge_of : Judge ℕ WordPart
-judge_of = judge_by judge_byte open_after nothing_open
+judge_of = judge_by anc_syntax
 
 -- a refusal stays, whatever bytes follow
 pub refusal-stays : (v : Verdict CdpPart) (before more : List ℕ) (refusal : Refusal) → refusal_of v before ≡ Some refusal → refusal_of v (before ++ more) ≡ Some refusal
 refusal-stays v before more refusal is =
-    let one = read_under (caption_verdict v) before in
+    let one = read_under anc_syntax 2 (caption_verdict v) before in
     ap (λ (r : Reading WordPart). r.refusal) (reading-append judge_of (caption_verdict v) (place_by 2) [] [] before more)
     ∙ ap (λ r. (read_first r one.parts (reading judge_of (caption_verdict v) (place_by 2) before one.parts more)).refusal) is
 
 -- so none was refused before, where none is
 pub refusal-before : (v : Verdict CdpPart) (before more : List ℕ) → refusal_of v (before ++ more) ≡ None → refusal_of v before ≡ None
 refusal-before v before more none =
-    let one = read_under (caption_verdict v) before in
+    let one = read_under anc_syntax 2 (caption_verdict v) before in
     let whole = ap (λ (r : Reading WordPart). r.refusal) (reading-append judge_of (caption_verdict v) (place_by 2) [] [] before more) in
     (read_first-none one.refusal one.parts (reading judge_of (caption_verdict v) (place_by 2) before one.parts more) (sym whole ∙ none)).0
 
@@ -67,21 +68,21 @@ last_high-whole (high ∷ low ∷ bytes) whole = last_high-whole bytes (omega (a
 abbrev at_words : List ℕ → Open
 at_words words = record { high = None; words = words }
 
-open-whole : (bytes : List ℕ) → AreWholeWords bytes → open_behind bytes ≡ at_words (open_behind bytes).words
+open-whole : (bytes : List ℕ) → AreWholeWords bytes → open_behind anc_syntax bytes ≡ at_words (open_behind anc_syntax bytes).words
 open-whole bytes whole =
-    let none : (open_behind bytes).high ≡ None = ap (λ (o : Open). o.high) (open-words_of [] bytes) ∙ last_high-whole bytes whole in
-    ap (λ h. let o : Open = record { high = h; words = (open_behind bytes).words } in o) none
+    let none : (open_behind anc_syntax bytes).high ≡ None = ap (λ (o : Open). o.high) (open-words_of [] bytes) ∙ last_high-whole bytes whole in
+    ap (λ h. let o : Open = record { high = h; words = (open_behind anc_syntax bytes).words } in o) none
 
 -- what is read of bytes that aren't refused
 read-unrefused : (v : Verdict CdpPart) (bytes : List ℕ) → refusal_of v bytes ≡ None
-    → read_under (caption_verdict v) bytes ≡ record { parts = parts_of bytes; refusal = None }
+    → read_under anc_syntax 2 (caption_verdict v) bytes ≡ record { parts = parts_of anc_syntax bytes; refusal = None }
 read-unrefused v bytes none =
-    let (all, accepted) = reading-none judge_byte open_after nothing_open (caption_verdict v) (place_by 2) [] [] bytes none in
-    reading-accepted judge_byte open_after nothing_open (caption_verdict v) (place_by 2) [] [] bytes all accepted
+    let (all, accepted) = reading-none anc_syntax (caption_verdict v) (place_by 2) [] [] bytes none in
+    reading-accepted anc_syntax (caption_verdict v) (place_by 2) [] [] bytes all accepted
 
 -- and of more bytes
 read-more : (v : Verdict CdpPart) (before more : List ℕ) → refusal_of v before ≡ None
-    → refusal_of v (before ++ more) ≡ (reading judge_of (caption_verdict v) (place_by 2) before (parts_of before) more).refusal
+    → refusal_of v (before ++ more) ≡ (reading judge_of (caption_verdict v) (place_by 2) before (parts_of anc_syntax before) more).refusal
 read-more v before more none =
     ap (λ (r : Reading WordPart). r.refusal) (reading-append judge_of (caption_verdict v) (place_by 2) [] [] before more)
     ∙ ap (λ (r : Reading WordPart). (read_first r.refusal r.parts (reading judge_of (caption_verdict v) (place_by 2) before r.parts more)).refusal) (read-unrefused v before none)
@@ -93,18 +94,18 @@ refused-one place (Some why) parts = refl
 
 -- a high byte makes nothing
 high_hand : (v : Verdict CdpPart) (before : List ℕ) (high : ℕ) → AreWholeWords before
-    → hand (caption_verdict v) (parts_of before) (judge_of before high) ≡ record { parts = []; why = None }
-high_hand v before high whole = ap (λ (o : Open). hand (caption_verdict v) (parts_of before) (judge_byte o high)) (open-whole before whole)
+    → hand (caption_verdict v) (parts_of anc_syntax before) (judge_of before high) ≡ record { parts = []; why = None }
+high_hand v before high whole = ap (λ (o : Open). hand (caption_verdict v) (parts_of anc_syntax before) (judge_byte o high)) (open-whole before whole)
 
 high_read : (v : Verdict CdpPart) (before : List ℕ) (high : ℕ) (rest : List ℕ) → AreWholeWords before
-    → (reading judge_of (caption_verdict v) (place_by 2) before (parts_of before) (high ∷ rest)).refusal
-    ≡ (reading judge_of (caption_verdict v) (place_by 2) (before ++ high ∷ []) (parts_of before) rest).refusal
+    → (reading judge_of (caption_verdict v) (place_by 2) before (parts_of anc_syntax before) (high ∷ rest)).refusal
+    ≡ (reading judge_of (caption_verdict v) (place_by 2) (before ++ high ∷ []) (parts_of anc_syntax before) rest).refusal
 high_read v before high rest whole =
     let nothing = high_hand v before high whole in
     ap (λ (r : Reading WordPart). r.refusal)
-    (reading-taken judge_of (caption_verdict v) (place_by 2) before (parts_of before) high rest (ap (λ (h : Handed WordPart). h.why) nothing))
-    ∙ ap (λ (h : Handed WordPart). (reading judge_of (caption_verdict v) (place_by 2) (before ++ high ∷ []) (parts_of before ++ h.parts) rest).refusal) nothing
-    ∙ ap (λ ps. (reading judge_of (caption_verdict v) (place_by 2) (before ++ high ∷ []) ps rest).refusal) (append-nil (parts_of before))
+    (reading-taken judge_of (caption_verdict v) (place_by 2) before (parts_of anc_syntax before) high rest (ap (λ (h : Handed WordPart). h.why) nothing))
+    ∙ ap (λ (h : Handed WordPart). (reading judge_of (caption_verdict v) (place_by 2) (before ++ high ∷ []) (parts_of anc_syntax before ++ h.parts) rest).refusal) nothing
+    ∙ ap (λ ps. (reading judge_of (caption_verdict v) (place_by 2) (before ++ high ∷ []) ps rest).refusal) (append-nil (parts_of anc_syntax before))
 
 -- so a single byte behind whole words isn't refused
 pub high_unrefused : (v : Verdict CdpPart) (before : List ℕ) (high : ℕ) → AreWholeWords before → refusal_of v before ≡ None → refusal_of v (before ++ high ∷ []) ≡ None
@@ -117,7 +118,7 @@ place-low before high whole =
     ap (λ n. n % 2 ^ 64 - n % 2 ^ 64 % 2) (length-append before (high ∷ [])) ∙ even (length before) whole
 
 -- what is open between the bytes of a word
-open-low : (before : List ℕ) (high : ℕ) → AreWholeWords before → open_behind (before ++ high ∷ []) ≡ record { high = Some high; words = (open_behind before).words }
+open-low : (before : List ℕ) (high : ℕ) → AreWholeWords before → open_behind anc_syntax (before ++ high ∷ []) ≡ record { high = Some high; words = (open_behind anc_syntax before).words }
 open-low before high whole =
     front_from-append open_after nothing_open before (high ∷ []) ∙ ap (λ (o : Open). open_after o high) (open-whole before whole)
 
@@ -126,8 +127,8 @@ pub word_read : (v : Verdict CdpPart) (before : List ℕ) (high low : ℕ) → A
     → refusal_of v (before ++ high ∷ low ∷ []) ≡ refused_at (length before % 2 ^ 64) (reason_of v before (256 * high + low))
 word_read v before high low whole none =
     let verdict = caption_verdict v in
-    let why_is = λ (o : Open). (hand verdict (parts_of before) (judge_byte o low)).why in
-    let last = hand verdict (parts_of before) (judge_of (before ++ high ∷ []) low) in
+    let why_is = λ (o : Open). (hand verdict (parts_of anc_syntax before) (judge_byte o low)).why in
+    let last = hand verdict (parts_of anc_syntax before) (judge_of (before ++ high ∷ []) low) in
     read-more v before (high ∷ low ∷ []) none
     ∙ high_read v before high (low ∷ []) whole
     ∙ refused-one (place_by 2 (before ++ high ∷ [])) last.why last.parts

@@ -5,9 +5,10 @@ use Rattle.std.proofs.lemmas.Bool.Decides.{nat_tests}
 use Rattle.std.proofs.lemmas.List.{length-map, length-reverse, length-take-le, take-append-drop}
 use Rattle.std.proofs.lemmas.List.Elements.{All-cons, All-nil, All-take}
 use Rattle.std.specs.List.{All}
+use Rattle.cc_base.specs.Syntax.{open_behind}
 use Rattle.cc_base.specs.declared.refusal.Refusal.{Refusal}
 use Rattle.cc_base.specs.declared.why.Why.TheVariants as why
-use Rattle.anc_words.specs.Reading.{Open, nothing_open, open_behind}
+use Rattle.anc_words.specs.Reading.{Open, anc_syntax, nothing_open}
 use Rattle.cdp_packets.specs.PacketParts.{packet_parts}
 use Rattle.cdp_packets.specs.Packets.{Packet as Frame}
 use Rattle.words_files.specs.Catching.{Caught, caught_in, never, refusal_of}
@@ -43,27 +44,27 @@ some_open None [] = false
 some_open _ _ = true
 
 open_cut_short : (bytes : List ℕ) → All IsByte bytes → refusal_of never bytes ≡ None
-    → some_open (open_behind bytes).high (open_behind bytes).words ≡ true → IsCutShort never bytes (truncated bytes)
+    → some_open (open_behind anc_syntax bytes).high (open_behind anc_syntax bytes).words ≡ true → IsCutShort never bytes (truncated bytes)
 open_cut_short bytes are none opens =
     open_is_cut_short never never_takes bytes are none (λ same.
     let clash : true ≡ false = sym opens ∙ ap (λ (o : Open). some_open o.high o.words) same in absurd cc)
 
 pub is_cut_short : (bytes : List ℕ) → are_bytes bytes ≡ true → refusal_of never bytes ≡ None
-    → some_open (open_behind bytes).high (open_behind bytes).words ≡ true → IsCutShort never bytes (truncated bytes)
+    → some_open (open_behind anc_syntax bytes).high (open_behind anc_syntax bytes).words ≡ true → IsCutShort never bytes (truncated bytes)
 is_cut_short bytes test none opens = open_cut_short bytes (bytes-are bytes test) none opens
 
 -- something is open behind each number of bytes from 1 up to this one
 abbrev opens_up_to : List ℕ → ℕ → Bool
 opens_up_to bytes zero = true
 opens_up_to bytes (suc n) =
-    let front = open_behind (take (suc n) bytes) in
+    let front = open_behind anc_syntax (take (suc n) bytes) in
     some_open front.high front.words && opens_up_to bytes n
 
 opens_at : (bytes : List ℕ) (n k : ℕ) → opens_up_to bytes n ≡ true → 0 < k → k ≤ n
-    → some_open (open_behind (take k bytes)).high (open_behind (take k bytes)).words ≡ true
+    → some_open (open_behind anc_syntax (take k bytes)).high (open_behind anc_syntax (take k bytes)).words ≡ true
 opens_at bytes zero k test some below = absurd (omega arith)
 opens_at bytes (suc n) k test some below =
-    let front = λ (m : ℕ). open_behind (take m bytes) in
+    let front = λ (m : ℕ). open_behind anc_syntax (take m bytes) in
     let (here, rest) = both_true (some_open (front (suc n)).high (front (suc n)).words) (opens_up_to bytes n) test in
     elim (cases_eq k (suc n)) [
       | inl last ↦ ap (λ m. some_open (front m).high (front m).words) last ∙ here
@@ -79,7 +80,7 @@ one_frame : length (caught_in never frame_without_captions).frames ≡ 1
 unfolding lib.Count.ones
 one_frame = refl
 
-closed : open_behind frame_without_captions ≡ nothing_open
+closed : open_behind anc_syntax frame_without_captions ≡ nothing_open
 unfolding lib.Count.ones
 closed = refl
 

@@ -3,9 +3,9 @@ use Rattle.std.proofs.Common.{ℕ, ◌+◌, ◌*◌, ◌<◌, List, [], ◌∷�
 use Rattle.std.proofs.lemmas.List.Elements.{All-append, All-cons, All-head, All-nil, All-tail}
 use Rattle.std.specs.List.{All}
 use Rattle.cc_base.specs.declared.why.Why.TheVariants as why
-use Rattle.cc_base.specs.Steps.{AllTaken}
+use Rattle.cc_base.specs.Syntax.{AllRead, AllTaken}
 use Rattle.anc_words.specs.Packets.{Packet}
-use Rattle.anc_words.specs.Reading.{AllRead, judge_ten_bits, judge_word, words_after}
+use Rattle.anc_words.specs.Reading.{anc_syntax, judge_ten_bits, word_syntax, words_after}
 use Rattle.anc_words.specs.Words.{AreWords}
 use Rattle.anc_words.specs.WordsFiles.{ArePackets}
 use Rattle.anc_words.proofs.ByteLemmas.{IsByte, words_of-taken}
@@ -22,7 +22,7 @@ All-split P (item ∷ front) behind all =
     (All-cons P item front (All-head P item (front ++ behind) all) some, rest)
 
 -- unrefused bytes that are whole words spell these words
-spelled-from : (front bytes : List ℕ) → All IsByte bytes → AllTaken judge_word words_after front (words_of bytes) → AreWholeWords bytes → AreWords bytes (words_of bytes)
+spelled-from : (front bytes : List ℕ) → All IsByte bytes → AllTaken word_syntax front (words_of bytes) → AreWholeWords bytes → AreWords bytes (words_of bytes)
 spelled-from front [] are taken whole = tt
 spelled-from front (high ∷ []) are taken whole = absurd (omega (arith, whole))
 spelled-from front (high ∷ low ∷ bytes) are (is, taken) whole =
@@ -32,7 +32,7 @@ spelled-from front (high ∷ low ∷ bytes) are (is, taken) whole =
     let rest = All-tail IsByte low bytes (All-tail IsByte high (low ∷ bytes) are) in
     (record { zeros = omega arith; byte = byte; value = refl }, spelled-from (words_after front (256 * high + low)) bytes rest taken (omega (arith, whole)))
 
-pub are_spelled : (bytes : List ℕ) → All IsByte bytes → AllRead bytes → AreWholeWords bytes → AreWords bytes (words_of bytes)
+pub are_spelled : (bytes : List ℕ) → All IsByte bytes → AllRead anc_syntax bytes → AreWholeWords bytes → AreWords bytes (words_of bytes)
 are_spelled bytes are read whole = spelled-from [] bytes are (words_of-taken [] bytes read) whole
 
 -- words have two bytes each

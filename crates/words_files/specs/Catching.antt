@@ -8,12 +8,13 @@ use Rattle.cc_base.specs.declared.refusal.Refusal.{Refusal}
 use Rattle.cc_base.specs.declared.why.Why.{Why}
 use Rattle.cc_base.specs.declared.why.Why.TheVariants as why
 use Rattle.cc_base.specs.Feeding.{Reading, Verdict, place_by, reading, why_of}
-use Rattle.cc_base.specs.Steps.{front_from, judge_by}
+use Rattle.cc_base.specs.Steps.{front_from}
+use Rattle.cc_base.specs.Syntax.{judge_by, read_under}
 use Rattle.anc_words.specs.declared.parts.WordPart.{WordPart}
 use Rattle.anc_words.specs.declared.parts.WordPart.TheVariants as part
-use Rattle.anc_words.specs.Reading.{read_under}
+use Rattle.anc_words.specs.Reading.{anc_syntax}
 use Rattle.cdp_packets.specs.declared.parts.CdpPart.{CdpPart}
-use Rattle.cdp_packets.specs.Reading.{judge_cdp, nothing_open, open_after}
+use Rattle.cdp_packets.specs.Reading.{cdp_syntax}
 
 -- no layer above: nothing refuses a part of a distribution packet
 abbrev pub never : Verdict CdpPart
@@ -55,7 +56,7 @@ verdict_behind verdict frames above part = verdict (flat_map (λ parts. parts) (
 -- what is read of one more byte of an open packet
 abbrev pub reading_behind : Verdict CdpPart → List (List CdpPart) → OpenCaption → ℕ → Reading CdpPart
 reading_behind verdict frames o byte =
-    reading (judge_by (judge_cdp o.size) (open_after o.size) nothing_open) (verdict_behind verdict frames) (place_by 1) o.bytes o.parts (byte ∷ [])
+    reading (judge_by (cdp_syntax o.size)) (verdict_behind verdict frames) (place_by 1) o.bytes o.parts (byte ∷ [])
 
 -- the open packet goes on, unless its byte was refused
 abbrev pub goes_on : Option Why → OpenCaption → Caught → Caught
@@ -107,8 +108,8 @@ caption_verdict verdict before p = (caught_of verdict (before ++ p ∷ [])).refu
 
 -- what is caught of bytes, up to the first refused word
 abbrev pub caught_in : Verdict CdpPart → List ℕ → Caught
-caught_in verdict bytes = caught_of verdict (read_under (caption_verdict verdict) bytes).parts
+caught_in verdict bytes = caught_of verdict (read_under anc_syntax 2 (caption_verdict verdict) bytes).parts
 
 -- the refusal of the first refused word, if one is refused
 abbrev pub refusal_of : Verdict CdpPart → List ℕ → Option Refusal
-refusal_of verdict bytes = (read_under (caption_verdict verdict) bytes).refusal
+refusal_of verdict bytes = (read_under anc_syntax 2 (caption_verdict verdict) bytes).refusal

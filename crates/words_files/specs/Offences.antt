@@ -6,12 +6,13 @@ use Rattle.cc_base.specs.declared.refusal.Refusal.{Refusal}
 use Rattle.cc_base.specs.declared.why.Why.{Why}
 use Rattle.cc_base.specs.declared.why.Why.TheVariants as why
 use Rattle.cc_base.specs.Feeding.{Verdict, hand}
-use Rattle.cc_base.specs.Steps.{AreAccepted, parts_by}
-use Rattle.anc_words.specs.Reading.{judge_word, open_behind, parts_of}
+use Rattle.cc_base.specs.Steps.{AreAccepted}
+use Rattle.cc_base.specs.Syntax.{AllRead, open_behind, parts_from, parts_of}
+use Rattle.anc_words.specs.Reading.{anc_syntax, judge_word}
 use Rattle.cdp_packets.specs.declared.parts.CdpPart.{CdpPart}
 use Rattle.cdp_packets.specs.PacketParts.{packet_parts}
 use Rattle.cdp_packets.specs.Packets.{Packet as Frame}
-use Rattle.cdp_packets.specs.Reading.{AllRead, IsFilling, judge_cdp, open_after, open_behind as packet_behind, parts_of as packet_parts_of}
+use Rattle.cdp_packets.specs.Reading.{IsFilling, cdp_syntax}
 use Rattle.words_files.specs.Catching.{caption_verdict}
 use Rattle.words_files.specs.Frames.{IsFileOf}
 
@@ -34,7 +35,7 @@ AreWholeWords bytes = length bytes % 2 ≡ 0
 -- the layer above whose field it carries
 abbrev pub reason_of : Verdict CdpPart → List ℕ → ℕ → Option Why
 reason_of verdict before word =
-    (hand (caption_verdict verdict) (parts_of before) (judge_word (open_behind before).words word)).why
+    (hand (caption_verdict verdict) (parts_of anc_syntax before) (judge_word (open_behind anc_syntax before).words word)).why
 
 -- the bytes have a first offending word: some file begins with the words before it, and none with these and the word itself;
 -- its place is the number of its first byte, modulo 2^64
@@ -73,6 +74,6 @@ IsMalformed verdict bytes refusal = FirstOffendingWord verdict bytes refusal ⊎
 -- the layers above take what only fills the open packet, wherever they took what came before
 abbrev pub TakesFilling : Verdict CdpPart → Type 0
 TakesFilling verdict = (size : ℕ) (handed : List CdpPart) (bytes more : List ℕ)
-    → AreAccepted verdict [] handed → AllRead size bytes → AreAccepted verdict handed (packet_parts_of size bytes)
-    → All IsFilling (parts_by (judge_cdp size) (open_after size) (packet_behind size bytes) more)
-    → AreAccepted verdict (handed ++ packet_parts_of size bytes) (parts_by (judge_cdp size) (open_after size) (packet_behind size bytes) more)
+    → AreAccepted verdict [] handed → AllRead (cdp_syntax size) bytes → AreAccepted verdict handed (parts_of (cdp_syntax size) bytes)
+    → All IsFilling (parts_from (cdp_syntax size) (open_behind (cdp_syntax size) bytes) more)
+    → AreAccepted verdict (handed ++ parts_of (cdp_syntax size) bytes) (parts_from (cdp_syntax size) (open_behind (cdp_syntax size) bytes) more)

@@ -5,7 +5,8 @@ ghost use Rattle.cc_base.specs.declared.refusal.Refusal.{Refusal as Refused};
 ghost use Rattle.cc_base.specs.declared.why.Why.TheVariants as why;
 ghost use Rattle.cc_base.specs.Feeding.{Verdict};
 ghost use Rattle.cc_base.specs.Steps.{AreAccepted};
-ghost use Rattle.anc_words.specs.Reading.{nothing_open, open_behind};
+ghost use Rattle.cc_base.specs.Syntax.{open_behind};
+ghost use Rattle.anc_words.specs.Reading.{anc_syntax, nothing_open};
 ghost use Rattle.cdp_packets.specs.declared.parts.CdpPart.{CdpPart as Part};
 ghost use Rattle.cdp_packets.specs.PacketParts.{packet_parts};
 ghost use Rattle.cdp_packets.specs.Packets.{Packet};
@@ -48,9 +49,9 @@ pub fn files_are_caught()
     ensures caught { (verdict : Verdict Part) (frames : List Packet) (bytes : List ℕ) → IsFileUnder verdict frames bytes
         → caught_in verdict bytes ≡ record { open_caption = None; frames = reverse (map packet_parts frames); refused = None } }
     ensures unrefused { (verdict : Verdict Part) (frames : List Packet) (bytes : List ℕ) → IsFileUnder verdict frames bytes
-        → (refusal_of verdict bytes ≡ None) × (open_behind bytes ≡ nothing_open) }
+        → (refusal_of verdict bytes ≡ None) × (open_behind anc_syntax bytes ≡ nothing_open) }
     ensures file { (verdict : Verdict Part) (bytes : List ℕ) → All (λ byte. byte < 256) bytes
-        → refusal_of verdict bytes ≡ None → open_behind bytes ≡ nothing_open
+        → refusal_of verdict bytes ≡ None → open_behind anc_syntax bytes ≡ nothing_open
         → (frames : List Packet) × IsFileUnder verdict frames bytes }
 {}
 
@@ -85,12 +86,12 @@ pub fn an_offence_is_one()
 /// that isn't whole.
 pub fn bytes_are_cut_short_where_something_is_open()
     ensures cut_short { (verdict : Verdict Part) → TakesFilling verdict → (bytes : List ℕ) → All (λ byte. byte < 256) bytes
-        → refusal_of verdict bytes ≡ None → (open_behind bytes ≡ nothing_open → ⊥)
+        → refusal_of verdict bytes ≡ None → (open_behind anc_syntax bytes ≡ nothing_open → ⊥)
         → IsCutShort verdict bytes (record { place = length bytes % 2 ^ 64; why = why.Truncated }) }
     ensures unrefused { (verdict : Verdict Part) (bytes : List ℕ) (refused : Refused) → IsCutShort verdict bytes refused
         → refusal_of verdict bytes ≡ None }
     ensures open { (verdict : Verdict Part) (bytes : List ℕ) (refused : Refused) → All (λ byte. byte < 256) bytes
-        → IsCutShort verdict bytes refused → open_behind bytes ≡ nothing_open → ⊥ }
+        → IsCutShort verdict bytes refused → open_behind anc_syntax bytes ≡ nothing_open → ⊥ }
 {}
 
 /// Bytes are a file, or cut short, or they have an offending word, and never two of these.

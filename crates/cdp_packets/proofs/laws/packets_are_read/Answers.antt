@@ -5,9 +5,7 @@ pub returns-clause-length : goal.returns-clause-length
 returns-clause-length c = packet_length
 
 pub returns-clause-read : goal.returns-clause-read
-returns-clause-read c packet bytes is =
-    let reads = packet_read packet bytes is in
-    (reads.taken, reads.made, reads.leads)
+returns-clause-read c = packet_read
 
 pub returns-clause-handed : goal.returns-clause-handed
 returns-clause-handed c = packet_handed

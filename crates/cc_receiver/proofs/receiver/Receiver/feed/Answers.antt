@@ -1,7 +1,8 @@
 use Rattle.std.proofs.Common.{arith, rules, ◌≡◌, ◌+◌, ◌-◌, ◌<◌, ◌++◌, List, ℕ, Some, length, take, drop, ap, sym, subst, ◌∙◌}
 use Rattle.std.proofs.lemmas.List.Elements.{All-append, All-drop}
+use Rattle.cc_base.specs.Syntax.{open_behind}
 use Rattle.anc_words.specs.Ending.{bytes_to_end}
-use Rattle.anc_words.specs.Reading.{open_behind}
+use Rattle.anc_words.specs.Reading.{anc_syntax}
 use Rattle.words_files.specs.Catching.{never, refusal_of}
 use Rattle.words_files.proofs.EndingLemmas.{never_takes}
 use Rattle.words_files.proofs.OffenceLemmas.{refused_offends, unrefused_is_unoffending}
@@ -30,7 +31,7 @@ pub returns-then-ne-clause-received : goal.returns-then-ne-clause-received
 returns-then-ne-clause-received c = λ before had.
     let u = c.loop-used.invariant.underway before had in
     let behind = before ++ take c.loop-used.used c.args.bytes.now in
-    let few = piece_few c.loop-used.used c.min.result c.bytes_to_end.result (bytes_to_end (open_behind behind)) c.args.bytes.now c.min.ensures
+    let few = piece_few c.loop-used.used c.min.result c.bytes_to_end.result (bytes_to_end (open_behind anc_syntax behind)) c.args.bytes.now c.min.ensures
     (c.bytes_to_end.ensures.least behind (u.received.reached.leads u.none)) in
     let is = piece_is before c.args.bytes.now c.loop-used.used c.min.result in
     subst (λ (bs : List ℕ). HasReceived bs c.read.new.self) is (c.read.ensures.received behind u.received few)
@@ -39,7 +40,7 @@ pub returns-then-ne-clause-unoffending : goal.returns-then-ne-clause-unoffending
 returns-then-ne-clause-unoffending c = λ before had.
     let u = c.loop-used.invariant.underway before had in
     let behind = before ++ take c.loop-used.used c.args.bytes.now in
-    let few = piece_few c.loop-used.used c.min.result c.bytes_to_end.result (bytes_to_end (open_behind behind)) c.args.bytes.now c.min.ensures
+    let few = piece_few c.loop-used.used c.min.result c.bytes_to_end.result (bytes_to_end (open_behind anc_syntax behind)) c.args.bytes.now c.min.ensures
     (c.bytes_to_end.ensures.least behind (u.received.reached.leads u.none)) in
     let is = piece_is before c.args.bytes.now c.loop-used.used c.min.result in
     let now = subst (λ (bs : List ℕ). HasReceived bs c.read.new.self) is (c.read.ensures.received behind u.received few) in
@@ -50,7 +51,7 @@ pub returns-then-ne-clause-ended : goal.returns-then-ne-clause-ended
 returns-then-ne-clause-ended c = λ before had some.
     let u = c.loop-used.invariant.underway before had in
     let behind = before ++ take c.loop-used.used c.args.bytes.now in
-    let few = piece_few c.loop-used.used c.min.result c.bytes_to_end.result (bytes_to_end (open_behind behind)) c.args.bytes.now c.min.ensures
+    let few = piece_few c.loop-used.used c.min.result c.bytes_to_end.result (bytes_to_end (open_behind anc_syntax behind)) c.args.bytes.now c.min.ensures
     (c.bytes_to_end.ensures.least behind (u.received.reached.leads u.none)) in
     let is = piece_is before c.args.bytes.now c.loop-used.used c.min.result in
     subst (EndsBy c.in_ok-ended.ended) is (c.in_ok-ended.ensures.ended behind u.received few)
@@ -59,10 +60,10 @@ pub returns-then-ne-clause-first : goal.returns-then-ne-clause-first
 returns-then-ne-clause-first c = λ before packets fewer had some less is_file.
     let u = c.loop-used.invariant.underway before had in
     let behind = before ++ take c.loop-used.used c.args.bytes.now in
-    let few = piece_few c.loop-used.used c.min.result c.bytes_to_end.result (bytes_to_end (open_behind behind)) c.args.bytes.now c.min.ensures
+    let few = piece_few c.loop-used.used c.min.result c.bytes_to_end.result (bytes_to_end (open_behind anc_syntax behind)) c.args.bytes.now c.min.ensures
     (c.bytes_to_end.ensures.least behind (u.received.reached.leads u.none)) in
     let is = piece_is before c.args.bytes.now c.loop-used.used c.min.result in
-    let most = piece_most c.min.result c.bytes_to_end.result (bytes_to_end (open_behind behind)) (length c.args.bytes.now - c.loop-used.used) c.min.ensures
+    let most = piece_most c.min.result c.bytes_to_end.result (bytes_to_end (open_behind anc_syntax behind)) (length c.args.bytes.now - c.loop-used.used) c.min.ensures
     (c.bytes_to_end.ensures.least behind (u.received.reached.leads u.none)) in
     within_piece before c.args.bytes.now c.loop-used.used c.min.result (omega (arith, c.min.ensures, c.loop-used.invariant.within)) most u.within packets fewer some less is_file
 
@@ -76,10 +77,10 @@ loop-used-preserved c =
       underway = λ before had.
           let u = c.loop-used.invariant.underway before had in
           let behind = before ++ take c.loop-used.used c.args.bytes.now in
-          let few = piece_few c.loop-used.used c.min.result c.bytes_to_end.result (bytes_to_end (open_behind behind)) c.args.bytes.now c.min.ensures
+          let few = piece_few c.loop-used.used c.min.result c.bytes_to_end.result (bytes_to_end (open_behind anc_syntax behind)) c.args.bytes.now c.min.ensures
           (c.bytes_to_end.ensures.least behind (u.received.reached.leads u.none)) in
           let is = piece_is before c.args.bytes.now c.loop-used.used c.min.result in
-          let most = piece_most c.min.result c.bytes_to_end.result (bytes_to_end (open_behind behind)) (length c.args.bytes.now - c.loop-used.used) c.min.ensures
+          let most = piece_most c.min.result c.bytes_to_end.result (bytes_to_end (open_behind anc_syntax behind)) (length c.args.bytes.now - c.loop-used.used) c.min.ensures
           (c.bytes_to_end.ensures.least behind (u.received.reached.leads u.none)) in
           let ends = subst (λ e. EndsBy e (before ++ take (c.loop-used.used + c.min.result) c.args.bytes.now)) no
           (subst (EndsBy c.in_ok-ended.ended) is (c.in_ok-ended.ensures.ended behind u.received few)) in
@@ -110,7 +111,7 @@ pub returns-in_err-ended-clause-refused : goal.returns-in_err-ended-clause-refus
 returns-in_err-ended-clause-refused c = λ before had.
     let u = c.loop-used.invariant.underway before had in
     let behind = before ++ take c.loop-used.used c.args.bytes.now in
-    let few = piece_few c.loop-used.used c.min.result c.bytes_to_end.result (bytes_to_end (open_behind behind)) c.args.bytes.now c.min.ensures
+    let few = piece_few c.loop-used.used c.min.result c.bytes_to_end.result (bytes_to_end (open_behind anc_syntax behind)) c.args.bytes.now c.min.ensures
     (c.bytes_to_end.ensures.least behind (u.received.reached.leads u.none)) in
     let is = piece_is before c.args.bytes.now c.loop-used.used c.min.result in
     let refused = sym (ap (refusal_of never) is) ∙ sym (c.in_err-ended.ensures.refusal behind u.received few) in
@@ -124,7 +125,7 @@ pub returns-in_err-ended-clause-offence : goal.returns-in_err-ended-clause-offen
 returns-in_err-ended-clause-offence c = λ before had.
     let u = c.loop-used.invariant.underway before had in
     let behind = before ++ take c.loop-used.used c.args.bytes.now in
-    let few = piece_few c.loop-used.used c.min.result c.bytes_to_end.result (bytes_to_end (open_behind behind)) c.args.bytes.now c.min.ensures
+    let few = piece_few c.loop-used.used c.min.result c.bytes_to_end.result (bytes_to_end (open_behind anc_syntax behind)) c.args.bytes.now c.min.ensures
     (c.bytes_to_end.ensures.least behind (u.received.reached.leads u.none)) in
     let is = piece_is before c.args.bytes.now c.loop-used.used c.min.result in
     let refused = sym (ap (refusal_of never) is) ∙ sym (c.in_err-ended.ensures.refusal behind u.received few) in
@@ -138,7 +139,7 @@ pub returns-in_err-ended-clause-stays : goal.returns-in_err-ended-clause-stays
 returns-in_err-ended-clause-stays c = λ before had.
     let u = c.loop-used.invariant.underway before had in
     let behind = before ++ take c.loop-used.used c.args.bytes.now in
-    let few = piece_few c.loop-used.used c.min.result c.bytes_to_end.result (bytes_to_end (open_behind behind)) c.args.bytes.now c.min.ensures
+    let few = piece_few c.loop-used.used c.min.result c.bytes_to_end.result (bytes_to_end (open_behind anc_syntax behind)) c.args.bytes.now c.min.ensures
     (c.bytes_to_end.ensures.least behind (u.received.reached.leads u.none)) in
     let counts = refused_counts behind _ c.in_err-ended.field-0.0 c.loop-used.self c.read.new.self few (sym (c.in_err-ended.ensures.refusal behind u.received few)) u.received
     (c.read.ensures.received behind u.received few) in
