@@ -1,78 +1,12 @@
--- What a run answers: each status of each command has its cause, and what was put, in one place.
-use Rattle.std.specs.Prelude.{◌≡◌, ℕ, List, IfSome, Option, Some, None}
-use Rattle.std.specs.Io.KnownBytes.{Appends}
-use Rattle.cc_base.specs.Streams.{Puts, Rose, TakesWithin}
-use Rattle.cc_base.specs.declared.streams.Put.TheVariants as put
-use Rattle.cue_lists.specs.Listing.{Listing}
-use Rattle.cue_lists.specs.Printing.{in_order, printed}
-use Rattle.cue_lists.specs.Records.{records_of}
-use Rattle.cue_lists.specs.Spelling.{list_records}
-use Rattle.frame_scheduler.specs.Planned.{Placement}
-use Rattle.ccsuite_cli.specs.Accepted.{IsAccepted, IsGoodList, IsRefused, IsRefusedList, list_limit}
-use Rattle.ccsuite_cli.specs.Ends.{Ends, PutsNothing}
-use Rattle.ccsuite_cli.specs.Output.{IsSoundPairs, IsSoundWords, build_output, pairs_output}
-use Rattle.ccsuite_cli.specs.WordsAnswer.{DecodeAnswer, ShowAnswer}
+-- What a run answers, by cases of its command.
+use Rattle.std.specs.Prelude.{◌≡◌, Option, Some, None}
+use Rattle.command_base.specs.Ends.{Ends}
+use Rattle.command_base.specs.declared.status.Status.{Status}
+use Rattle.command_base.specs.declared.status.Status.TheVariants as status
+use Rattle.cue_list_commands.specs.ListAnswer.{BuildAnswer, CuesAnswer, PairsAnswer}
+use Rattle.words_commands.specs.WordsAnswer.{DecodeAnswer, ShowAnswer}
 use Rattle.ccsuite_cli.specs.declared.command.Command.{Command}
 use Rattle.ccsuite_cli.specs.declared.command.Command.TheVariants.{Build, Cues, Decode, Pairs, Show}
-use Rattle.ccsuite_cli.specs.declared.status.Status.{Status}
-use Rattle.ccsuite_cli.specs.declared.status.Status.TheVariants as status
-
--- the output of an accepted list was put, and it is sound
-pub record PutsOutput (output : Listing → Placement → List ℕ) (IsSound : Listing → Placement → Type 0) (bytes : List ℕ) (old new : Option (List ℕ)) : Type 0 where
-  pub list : Listing
-  pub placed : Placement
-  pub accepted : IsAccepted bytes list placed
-  pub output_is : Appends old new (output list placed)
-  pub sound : IsSound list placed
-
--- a front of the output of an accepted list was put
-pub record PutsFront (output : Listing → Placement → List ℕ) (bytes : List ℕ) (old new : Option (List ℕ)) : Type 0 where
-  pub list : Listing
-  pub placed : Placement
-  pub accepted : IsAccepted bytes list placed
-  pub front : Puts old new put.Failed (output list placed)
-
--- a cue list that keeps the rules was put as it is written, and is read so again
-pub record PutsList (bytes : List ℕ) (old new : Option (List ℕ)) : Type 0 where
-  pub list : Listing
-  pub good : IsGoodList bytes list
-  pub output_is : Appends old new (printed list)
-  pub again : records_of (printed list) ≡ list_records (in_order list)
-
--- a front of it was put
-pub record PutsListFront (bytes : List ℕ) (old new : Option (List ℕ)) : Type 0 where
-  pub list : Listing
-  pub good : IsGoodList bytes list
-  pub front : Puts old new put.Failed (printed list)
-
--- what a command answers that reads a cue list: on Ok the whole of its output was put, where a put failed a front of it, and
--- what is refused is refused so
-abbrev pub ListAnswer : (List ℕ → Option (List ℕ) → Option (List ℕ) → Type 0) → (List ℕ → Option (List ℕ) → Option (List ℕ) → Type 0)
-    → (List ℕ → Status → Type 0) → Ends → Ends → Status → Type 0
-ListAnswer Whole Front Refused old new status.Ok =
-    (new.read_faults ≡ old.read_faults) × (new.write_faults ≡ old.write_faults)
-    × IfSome old.left (λ bytes. Whole bytes old.written new.written)
-ListAnswer Whole Front Refused old new status.Usage = ⊥
-ListAnswer Whole Front Refused old new status.ReadFault =
-    Rose old.read_faults new.read_faults × TakesWithin list_limit old.left new.left × PutsNothing old new
-ListAnswer Whole Front Refused old new status.WriteFault =
-    (new.read_faults ≡ old.read_faults) × Rose old.write_faults new.write_faults
-    × IfSome old.left (λ bytes. Front bytes old.written new.written)
-ListAnswer Whole Front Refused old new status.Memory = (new.read_faults ≡ old.read_faults) × PutsNothing old new
-ListAnswer Whole Front Refused old new refusal =
-    (new.read_faults ≡ old.read_faults) × PutsNothing old new × IfSome old.left (λ bytes. Refused bytes refusal)
-
--- what `pairs` answers
-abbrev pub PairsAnswer : Ends → Ends → Status → Type 0
-PairsAnswer old new answer = ListAnswer (PutsOutput pairs_output IsSoundPairs) (PutsFront pairs_output) IsRefused old new answer
-
--- what `build` answers
-abbrev pub BuildAnswer : Ends → Ends → Status → Type 0
-BuildAnswer old new answer = ListAnswer (PutsOutput build_output IsSoundWords) (PutsFront build_output) IsRefused old new answer
-
--- what `cues` answers
-abbrev pub CuesAnswer : Ends → Ends → Status → Type 0
-CuesAnswer old new answer = ListAnswer PutsList PutsListFront IsRefusedList old new answer
 
 -- what a run answers
 abbrev pub Answer : Option Command → Ends → Ends → Status → Type 0

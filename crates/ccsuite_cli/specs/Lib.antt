@@ -1,15 +1,3 @@
-pub mod Accepted
 pub mod Answer
 pub mod Command
-pub mod Ends
-pub mod Gathered
-pub mod Lines
-pub mod Output
-pub mod Printing
-pub mod Reads
-pub mod Screens
-pub mod StatusLine
 pub mod Verdict
-pub mod WordsAnswer
-pub mod WordsReading
-pub mod WordsVerdict

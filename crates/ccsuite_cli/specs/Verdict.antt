@@ -1,34 +1,23 @@
--- The verdict on a cue list: it is accepted, or it is refused with one status, and never both.
-use Rattle.std.specs.Prelude.{◌≡◌, ◌⊎◌, ℕ, List, Some}
-use Rattle.cc_base.specs.Streams.{Rose}
+-- The verdict of a run where no count of faults rose: what is good is answered Ok, and what isn't with its one refusal, or want of
+-- memory. And where a count rose, the answer says so.
+use Rattle.std.specs.Prelude.{◌≡◌, ◌<◌, ◌≤◌, ◌⊎◌, ℕ, List, length, Option, Some}
+use Rattle.cc_base.specs.declared.refusal.Refusal.{Refusal}
+use Rattle.cdp_packets.specs.Packets.{Packet as Frame}
 use Rattle.cue_lists.specs.Listing.{Listing}
 use Rattle.frame_scheduler.specs.Planned.{Placement}
-use Rattle.ccsuite_cli.specs.Accepted.{IsAccepted, IsGoodList, IsRefused}
+use Rattle.words_files.specs.Catching.{never}
+use Rattle.words_files.specs.Offences.{IsFileUnder, IsMalformed}
+use Rattle.command_base.specs.Counts.{IsReadOf, TellsFaults}
+use Rattle.command_base.specs.Ends.{Ends}
+use Rattle.command_base.specs.declared.status.Place.TheVariants.{Byte}
+use Rattle.command_base.specs.declared.status.Status.{Status}
+use Rattle.command_base.specs.declared.status.Status.TheVariants as status
+use Rattle.cue_list_commands.specs.Accepted.{IsAccepted, IsGoodList, IsRefused, IsRefusedList}
+use Rattle.words_commands.specs.WordsAnswer.{words_limit}
+use Rattle.words_commands.specs.WordsVerdict.{IsPastLimit, IsShown}
 use Rattle.ccsuite_cli.specs.Answer.{Answer}
-use Rattle.ccsuite_cli.specs.Ends.{Ends}
 use Rattle.ccsuite_cli.specs.declared.command.Command.{Command}
 use Rattle.ccsuite_cli.specs.declared.command.Command.TheVariants.{Build, Cues, Decode, Pairs, Show}
-use Rattle.ccsuite_cli.specs.declared.status.Status.{Status}
-use Rattle.ccsuite_cli.specs.declared.status.Status.TheVariants as status
-
--- a list that is accepted is refused with no status
-abbrev pub AcceptedIsNotRefused : Type 0
-AcceptedIsNotRefused = (bytes : List ℕ) (list : Listing) (placed : Placement) (answer : Status)
-    → IsAccepted bytes list placed → IsRefused bytes answer → ⊥
-
--- bytes that are accepted are accepted as one list, with one placement
-abbrev pub AcceptanceIsOne : Type 0
-AcceptanceIsOne = (bytes : List ℕ) (one other : Listing) (placed moved : Placement)
-    → IsAccepted bytes one placed → IsAccepted bytes other moved → (one ≡ other) × (placed ≡ moved)
-
--- a list that is refused is refused with one status
-abbrev pub RefusalIsOne : Type 0
-RefusalIsOne = (bytes : List ℕ) (one other : Status) → IsRefused bytes one → IsRefused bytes other → one ≡ other
-
--- every list is accepted or refused
-abbrev pub EveryListIsJudged : Type 0
-EveryListIsJudged = (bytes : List ℕ)
-    → ((list : Listing) × (placed : Placement) × IsAccepted bytes list placed) ⊎ ((answer : Status) × IsRefused bytes answer)
 
 -- the commands that read a cue list
 abbrev pub ReadsCueList : Command → Type 0
@@ -38,17 +27,62 @@ ReadsCueList Cues = Unit {0}
 ReadsCueList Decode = ⊥
 ReadsCueList (Show frame) = ⊥
 
--- where no count of faults rose, every command that reads a cue list answers an input that is an accepted one Ok, or want of
--- memory
+-- every command that reads a cue list answers an input that is an accepted one Ok, or want of memory
 abbrev pub AcceptedIsAnswered : Type 0
 AcceptedIsAnswered = (bytes : List ℕ) (list : Listing) (placed : Placement) (command : Command) (old new : Ends) (answer : Status)
-    → ReadsCueList command → IsAccepted bytes list placed → old.left ≡ Some bytes
-    → (Rose old.read_faults new.read_faults → ⊥) → (Rose old.write_faults new.write_faults → ⊥)
-    → Answer (Some command) old new answer → (answer ≡ status.Ok) ⊎ (answer ≡ status.Memory)
+    → ReadsCueList command → IsAccepted bytes list placed → IsReadOf bytes old new → Answer (Some command) old new answer
+    → (answer ≡ status.Ok) ⊎ (answer ≡ status.Memory)
 
 -- so does `cues` for a list that keeps the rules, whether it has room or not
 abbrev pub GoodListIsWritten : Type 0
 GoodListIsWritten = (bytes : List ℕ) (list : Listing) (old new : Ends) (answer : Status)
-    → IsGoodList bytes list → old.left ≡ Some bytes
-    → (Rose old.read_faults new.read_faults → ⊥) → (Rose old.write_faults new.write_faults → ⊥)
-    → Answer (Some Cues) old new answer → (answer ≡ status.Ok) ⊎ (answer ≡ status.Memory)
+    → IsGoodList bytes list → IsReadOf bytes old new → Answer (Some Cues) old new answer
+    → (answer ≡ status.Ok) ⊎ (answer ≡ status.Memory)
+
+-- a command that reads a cue list refuses bytes with this status
+abbrev pub Refuses : Command → List ℕ → Status → Type 0
+Refuses Pairs bytes refusal = IsRefused bytes refusal
+Refuses Build bytes refusal = IsRefused bytes refusal
+Refuses Cues bytes refusal = IsRefusedList bytes refusal
+Refuses Decode bytes refusal = ⊥
+Refuses (Show frame) bytes refusal = ⊥
+
+-- it answers them with that status, or want of memory
+abbrev pub RefusedListIsAnswered : Type 0
+RefusedListIsAnswered = (bytes : List ℕ) (refusal : Status) (command : Command) (old new : Ends) (answer : Status)
+    → Refuses command bytes refusal → IsReadOf bytes old new → Answer (Some command) old new answer
+    → (answer ≡ refusal) ⊎ (answer ≡ status.Memory)
+
+-- `decode` answers a words file Ok, or want of memory
+abbrev pub FileIsDecoded : Type 0
+FileIsDecoded = (bytes : List ℕ) (frames : List Frame) (old new : Ends) (answer : Status)
+    → IsFileUnder never frames bytes → length bytes ≤ words_limit → IsReadOf bytes old new → Answer (Some Decode) old new answer
+    → (answer ≡ status.Ok) ⊎ (answer ≡ status.Memory)
+
+-- `show` answers a words file by the number of its frames, or want of memory
+abbrev pub FileIsShown : Type 0
+FileIsShown = (frame : ℕ) (bytes : List ℕ) (frames : List Frame) (old new : Ends) (answer : Status)
+    → IsFileUnder never frames bytes → length bytes ≤ words_limit → IsReadOf bytes old new → Answer (Some (Show frame)) old new answer
+    → IsShown frame (length frames) answer ⊎ (answer ≡ status.Memory)
+
+-- the commands that read words
+abbrev pub ReadsWordsFile : Command → Type 0
+ReadsWordsFile Decode = Unit {0}
+ReadsWordsFile (Show frame) = Unit {0}
+ReadsWordsFile _ = ⊥
+
+-- they answer words that are malformed so, or want of memory
+abbrev pub MalformedIsRefused : Type 0
+MalformedIsRefused = (bytes : List ℕ) (refusal : Refusal) (command : Command) (old new : Ends) (answer : Status)
+    → ReadsWordsFile command → IsMalformed never bytes refusal → length bytes ≤ words_limit → IsReadOf bytes old new
+    → Answer (Some command) old new answer → (answer ≡ status.Malformed (Byte refusal.place) refusal.why) ⊎ (answer ≡ status.Memory)
+
+-- and more bytes than the limit by the first offending word within it, or by the limit, or want of memory
+abbrev pub LongWordsAreRefused : Type 0
+LongWordsAreRefused = (bytes : List ℕ) (command : Command) (old new : Ends) (answer : Status)
+    → ReadsWordsFile command → words_limit < length bytes → IsReadOf bytes old new → Answer (Some command) old new answer
+    → IsPastLimit bytes answer ⊎ (answer ≡ status.Memory)
+
+-- every run tells faults
+abbrev pub FaultsAreTold : Type 0
+FaultsAreTold = (command : Option Command) (old new : Ends) (answer : Status) → Answer command old new answer → TellsFaults old new answer

@@ -1,29 +1,8 @@
-//! Laws of the verdict on an input: functions that do nothing, with the laws as their contracts.
-ghost use Rattle.ccsuite_cli.specs.Verdict.{AcceptanceIsOne, AcceptedIsAnswered, AcceptedIsNotRefused, EveryListIsJudged, GoodListIsWritten, RefusalIsOne};
-ghost use Rattle.ccsuite_cli.specs.WordsVerdict.{FaultsAreTold, FileIsDecoded, FileIsShown, LongWordsAreRefused, MalformedIsRefused};
+//! Laws of the verdict of a run: functions that do nothing, with the laws as their contracts.
+ghost use Rattle.ccsuite_cli.specs.Verdict.{AcceptedIsAnswered, FaultsAreTold, FileIsDecoded, FileIsShown, GoodListIsWritten, LongWordsAreRefused, MalformedIsRefused, RefusedListIsAnswered};
 
-/// The law that a cue list which is accepted is refused with no status.
-pub fn accepted_is_not_refused()
-    ensures { AcceptedIsNotRefused }
-{}
-
-/// The law that bytes which are accepted are accepted as one cue list, with one placement of its units.
-pub fn acceptance_is_one()
-    ensures { AcceptanceIsOne }
-{}
-
-/// The law that a cue list which is refused is refused with one status alone.
-pub fn refusal_is_one()
-    ensures { RefusalIsOne }
-{}
-
-/// The law that every cue list is accepted or refused, whatever its bytes.
-pub fn every_list_is_judged()
-    ensures { EveryListIsJudged }
-{}
-
-/// The law that every command that reads a cue list answers Ok to an input that is an accepted cue list, or Memory, where neither count of
-/// faults rose.
+/// The law that every command that reads a cue list answers Ok to an input that is an accepted cue list, or Memory, where
+/// neither count of faults rose.
 pub fn accepted_is_answered()
     ensures { AcceptedIsAnswered }
 {}
@@ -31,6 +10,12 @@ pub fn accepted_is_answered()
 /// The law that `cues` does so for a cue list that keeps the rules, whether or not it has room.
 pub fn good_list_is_written()
     ensures { GoodListIsWritten }
+{}
+
+/// The law that every command that reads a cue list answers an input that it refuses with its one refusal, or Memory, where
+/// neither count of faults rose.
+pub fn refused_list_is_answered()
+    ensures { RefusedListIsAnswered }
 {}
 
 /// The law that `decode` answers Ok to an input that is a words file within the limit, or Memory, where neither count of

@@ -1,24 +1,9 @@
-//! The program `ccsuite`: its command lines, what each command reads and writes, and the status with which it ends.
+//! The program `ccsuite`: its command lines, and the status with which a run of each ends.
 #![tactic(auto)]
 
 pub use crate::program::run;
-pub use crate::status::{Place, Status};
+pub use command_base::{Place, Status};
 
-mod accept;
-mod build;
 mod command;
-mod cues;
-mod decode;
-mod gathered;
 pub mod laws;
-mod lines;
-mod pairs;
-mod printer;
 mod program;
-mod programme;
-mod reading;
-mod show;
-mod status;
-#[cfg(test)]
-mod tests;
-mod words;

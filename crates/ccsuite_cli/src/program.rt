@@ -1,20 +1,15 @@
-ghost use Rattle.std.specs.Prelude.{◌≡◌, ◌⊎◌, map, string_bytes};
-ghost use Rattle.std.specs.Io.KnownBytes.{Appends};
-ghost use Rattle.cc_base.specs.Streams.{Rose};
+ghost use Rattle.std.specs.Prelude.{◌≡◌, map, string_bytes};
 ghost use Rattle.ccsuite_cli.specs.Answer.{Answer};
 ghost use Rattle.ccsuite_cli.specs.Command.{command_of};
-ghost use Rattle.ccsuite_cli.specs.Ends.{ends};
-ghost use Rattle.ccsuite_cli.specs.StatusLine.{status_line};
+ghost use Rattle.command_base.specs.Ends.{ends};
+ghost use Rattle.command_base.specs.StatusLine.{PutsLine};
 
-use crate::build::build;
 use crate::command::{Command, read_command};
-use crate::cues::cues;
-use crate::decode::decode;
-use crate::pairs::pairs;
-use crate::show::show;
-use crate::status::{Status, put_status};
 use cc_base::{Sink, Source};
+use command_base::{Status, put_status};
+use cue_list_commands::{run_build, run_cues, run_pairs};
 use std::alloc::Global;
+use words_commands::{run_decode, run_show};
 
 /// Runs the command of the words behind the program's name: reads `input`, puts to `out`, and ends with a status, whose
 /// one line is put to `err`. `side` is the file that a command names, and none does yet.
@@ -30,8 +25,7 @@ pub fn run<M: Source, S: Source, O: Sink, E: Sink>(
         (ends (M.left input.old) (M.faults input.old) (O.written out.old) (O.faults out.old))
         (ends (M.left input.new) (M.faults input.new) (O.written out.new) (O.faults out.new)) result }
     ensures side { side.new ≡ side.old }
-    // Where the count of `err` didn't rise, it has the status's line.
-    ensures line { Rose (E.faults err.old) (E.faults err.new) ⊎ Appends (E.written err.old) (E.written err.new) (status_line result) }
+    ensures line { PutsLine (E.written err.old) (E.written err.new) (E.faults err.old) (E.faults err.new) result }
 {
     let _ = side;
     let status = obey(alloc, read_command(words), input, out);
@@ -52,10 +46,10 @@ fn obey<M: Source, O: Sink>(
 {
     match command {
         None => Status::Usage,
-        Some(Command::Pairs) => pairs(alloc, input, out),
-        Some(Command::Build) => build(alloc, input, out),
-        Some(Command::Cues) => cues(alloc, input, out),
-        Some(Command::Decode) => decode(alloc, input, out),
-        Some(Command::Show(frame)) => show(alloc, frame, input, out),
+        Some(Command::Pairs) => run_pairs(alloc, input, out),
+        Some(Command::Build) => run_build(alloc, input, out),
+        Some(Command::Cues) => run_cues(alloc, input, out),
+        Some(Command::Decode) => run_decode(alloc, input, out),
+        Some(Command::Show(frame)) => run_show(alloc, frame, input, out),
     }
 }

@@ -1,4 +1,4 @@
-use Rattle.ccsuite_cli.proofs.WordsVerdictLemmas.{file_decoded}
+use Rattle.words_commands.proofs.WordsVerdictLemmas.{file_decoded}
 use Rattle.ccsuite_cli.proofs.laws.file_is_decoded.Goals as goal
 
 pub returns : goal.returns

@@ -1,5 +1,5 @@
-use Rattle.ccsuite_cli.proofs.VerdictLemmas.{good_written}
+use Rattle.cue_list_commands.proofs.ListAnswerLemmas.{good_cues}
 use Rattle.ccsuite_cli.proofs.laws.good_list_is_written.Goals as goal
 
 pub returns : goal.returns
-returns c = good_written
+returns c = good_cues

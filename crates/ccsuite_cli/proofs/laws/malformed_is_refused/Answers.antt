@@ -1,4 +1,4 @@
-use Rattle.ccsuite_cli.proofs.WordsVerdictLemmas.{malformed_refused}
+use Rattle.ccsuite_cli.proofs.VerdictLemmas.{malformed_refused}
 use Rattle.ccsuite_cli.proofs.laws.malformed_is_refused.Goals as goal
 
 pub returns : goal.returns

@@ -1,0 +1,18 @@
+use Rattle.command_base.proofs.status.put_status.Goals as goal
+
+pub returns-in-Usage-clause-bytes : goal.returns-in-Usage-clause-bytes
+returns-in-Usage-clause-bytes g c = rw c.in-Usage.is c.put_pieces-in-Usage.ensures.bytes
+
+pub returns-in-ReadFault-clause-bytes : goal.returns-in-ReadFault-clause-bytes
+returns-in-ReadFault-clause-bytes g c = rw c.in-ReadFault.is c.put_pieces-in-ReadFault.ensures.bytes
+
+pub returns-in-WriteFault-clause-bytes : goal.returns-in-WriteFault-clause-bytes
+returns-in-WriteFault-clause-bytes g c = rw c.in-WriteFault.is c.put_pieces-in-WriteFault.ensures.bytes
+
+pub returns-in-Memory-clause-bytes : goal.returns-in-Memory-clause-bytes
+returns-in-Memory-clause-bytes g c = rw c.in-Memory.is c.put_pieces-in-Memory.ensures.bytes
+
+pub returns-in-NoRoom-clause-bytes : goal.returns-in-NoRoom-clause-bytes
+returns-in-NoRoom-clause-bytes g c =
+    let put = rw (c.as_bytes-in-NoRoom.ensures.value, c.format.ensures.text) at c.put_pieces-in-NoRoom.ensures.bytes in
+    rw c.in-NoRoom.is put

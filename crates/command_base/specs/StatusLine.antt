@@ -1,0 +1,61 @@
+-- How a run ends: the code of each status, and its one line in the error output.
+use Rattle.std.specs.Prelude.{◌≡◌, ◌⊎◌, ℕ, List, [], ◌∷◌, Option, Some, None, codes, decimal}
+use Rattle.std.specs.Io.KnownBytes.{Appends}
+use Rattle.std.specs.List.{flat_map}
+use Rattle.cc_base.specs.LimitOf.{limit_name_of}
+use Rattle.cc_base.specs.Streams.{Puts, Rose}
+use Rattle.cc_base.specs.Why.{name_of}
+use Rattle.cc_base.specs.declared.streams.Put.TheVariants as put
+use Rattle.cc_base.specs.declared.why.Why.{Why}
+use Rattle.command_base.specs.declared.status.Place.{Place}
+use Rattle.command_base.specs.declared.status.Place.TheVariants.{Byte, Field}
+use Rattle.command_base.specs.declared.status.Status.{Status}
+use Rattle.command_base.specs.declared.status.Status.TheVariants as status
+
+-- the code of a status
+abbrev pub status_code : Status → ℕ
+status_code status.Ok = 0
+status_code status.Usage = 1
+status_code status.ReadFault = 2
+status_code status.WriteFault = 3
+status_code status.Memory = 4
+status_code (status.Limit limit) = 5
+status_code (status.Malformed place why) = 6
+status_code (status.Rule fault) = 7
+status_code (status.NoRoom cue) = 8
+status_code (status.Short frames) = 10
+
+-- a text made of pieces
+abbrev pub text : List (List ℕ) → List ℕ
+text pieces = flat_map (λ piece. piece) pieces
+
+-- the line of a malformed input
+abbrev pub malformed_line : Place → Why → List ℕ
+malformed_line (Byte byte) why = text (codes "malformed at byte " ∷ decimal byte ∷ codes ": " ∷ name_of why ∷ codes "\n" ∷ [])
+malformed_line (Field rec field) why =
+    text (codes "malformed at record " ∷ decimal rec ∷ codes " field " ∷ decimal field ∷ codes ": " ∷ name_of why ∷ codes "\n" ∷ [])
+
+-- the line of a broken rule, with the other cue where there is one
+abbrev pub rule_line : Why → ℕ → Option ℕ → List ℕ
+rule_line why cue None = text (codes "rule " ∷ name_of why ∷ codes ": cue " ∷ decimal cue ∷ codes "\n" ∷ [])
+rule_line why cue (Some other) =
+    text (codes "rule " ∷ name_of why ∷ codes ": cue " ∷ decimal cue ∷ codes " and cue " ∷ decimal other ∷ codes "\n" ∷ [])
+
+-- the line of a status; Ok has none
+abbrev pub status_line : Status → List ℕ
+status_line status.Ok = []
+status_line status.Usage =
+    codes "usage: ccsuite pairs|build|decode|show FRAME|verify CUES|insert CUES|import|export TIME|cues|load N\n"
+status_line status.ReadFault = codes "read fault\n"
+status_line status.WriteFault = codes "write fault\n"
+status_line status.Memory = codes "out of memory\n"
+status_line (status.Limit limit) = text (codes "limit " ∷ limit_name_of limit ∷ codes "\n" ∷ [])
+status_line (status.Malformed place why) = malformed_line place why
+status_line (status.Rule fault) = rule_line fault.why fault.cue fault.other
+status_line (status.NoRoom cue) = text (codes "no room: cue " ∷ decimal cue ∷ codes "\n" ∷ [])
+status_line (status.Short frames) = text (codes "short: " ∷ decimal frames ∷ codes " frames\n" ∷ [])
+
+-- the line of a status was put, or, where the count of faults rose, a front of it
+abbrev pub PutsLine : Option (List ℕ) → Option (List ℕ) → ℕ → ℕ → Status → Type 0
+PutsLine old new before now answer =
+    (Appends old new (status_line answer) × (now ≡ before)) ⊎ (Puts old new put.Failed (status_line answer) × Rose before now)

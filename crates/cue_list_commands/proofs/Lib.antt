@@ -1,0 +1,7 @@
+mod GatheredLines
+pub mod ListAnswerLemmas
+mod ListLimits
+pub mod ListVerdictLemmas
+mod Outputs
+mod Refusals
+mod WordsLemmas

@@ -1,0 +1,180 @@
+-- Every list is accepted or refused, never both, and refused with one status.
+use Rattle.std.proofs.Common.{◌≡◌, ◌∙◌, ◌<◌, ◌≤◌, ◌⊎◌, ℕ, List, length, Result, Ok, Err, refl, sym, subst, ap, arith, inl, inr}
+use Rattle.std.proofs.lemmas.Bool.{cases_lt}
+use Rattle.cc_base.specs.declared.limit_of.LimitOf.TheVariants as limit
+use Rattle.cue_lists.specs.Listing.{Listing}
+use Rattle.cue_lists.specs.Reading.{read_list}
+use Rattle.cue_lists.specs.Records.{records_of}
+use Rattle.cue_lists.specs.Rules.{HasFault, IsRuled}
+use Rattle.cue_lists.specs.Spelling.{Spells}
+use Rattle.cue_lists.specs.Unbuilt.{IsBuilt}
+use Rattle.cue_lists.specs.declared.fault.CueFault.{CueFault}
+use Rattle.cue_lists.specs.declared.fault.CueFault.TheVariants as fault
+use Rattle.cue_lists.specs.declared.rules.RuleFault.{RuleFault}
+use Rattle.cue_lists.proofs.Complete.{list_of-spelled}
+use Rattle.cue_lists.proofs.Faults.{answered_fault, answered_list}
+use Rattle.cue_lists.proofs.RuleLists.{one_fault, ruled_has_none}
+use Rattle.cue_lists.proofs.RulesDecided.{ruled_or_broken}
+use Rattle.frame_scheduler.specs.Planned.{IsFirstWithoutRoom, IsPlaced, Placement}
+use Rattle.frame_scheduler.proofs.BothFieldsLemmas.{first_without_room, one_placement, placed_has_room}
+use Rattle.frame_scheduler.proofs.RoomDecided.{list_decided}
+use Rattle.cue_list_commands.specs.Accepted.{BreaksRule, IsAccepted, IsFaulty, IsGoodList, IsRefused, IsRefusedList, LacksRoom, list_limit}
+use Rattle.cue_list_commands.specs.Reads.{form_status}
+use Rattle.cue_list_commands.specs.ListVerdict.{AcceptanceIsOne, AcceptedIsNotRefused, EveryListIsJudged, RefusalIsOne}
+use Rattle.command_base.specs.declared.status.Place.TheVariants.{Field}
+use Rattle.command_base.specs.declared.status.Status.{Status}
+use Rattle.command_base.specs.declared.status.Status.TheVariants as status
+use Rattle.cue_list_commands.proofs.ListLimits.{no_want_of_memory}
+use Rattle.cue_list_commands.proofs.Refusals.{form_refused, ok_is_no_fault}
+
+-- bytes that spell a list are read as it
+spelled_read : (bytes : List ℕ) (list : Listing) → Spells (records_of bytes) list → IsBuilt list → read_list bytes ≡ Ok list
+spelled_read bytes list spelled built = list_of-spelled (records_of bytes) list spelled built
+
+-- so they have no fault
+spelled_faultless : (bytes : List ℕ) (list : Listing) (f : CueFault) → Spells (records_of bytes) list → IsBuilt list → IsFaulty bytes f → ⊥
+spelled_faultless bytes list f spelled built faulty =
+    ok_is_no_fault list f (sym (spelled_read bytes list spelled built) ∙ faulty.read)
+
+-- and they spell one list
+spelled_one : (bytes : List ℕ) (a b : Listing) → Spells (records_of bytes) a → IsBuilt a → Spells (records_of bytes) b → IsBuilt b → a ≡ b
+spelled_one bytes a b spelled_a built_a spelled_b built_b =
+    let one : read_list bytes ≡ Ok a = spelled_read bytes a spelled_a built_a in
+    let two : read_list bytes ≡ Ok b = spelled_read bytes b spelled_b built_b in
+    cc
+
+-- a list that keeps the rules breaks none
+spelled_unbroken : (bytes : List ℕ) (list : Listing) (fault : RuleFault) → Spells (records_of bytes) list → IsBuilt list → IsRuled list → BreaksRule bytes fault → ⊥
+spelled_unbroken bytes list fault spelled built ruled breaks =
+    let same = spelled_one bytes breaks.list list breaks.spelled breaks.built spelled built in
+    ruled_has_none list fault ruled (subst (λ l. HasFault l fault) same breaks.broken)
+
+-- a list that keeps the rules is refused with no status where room isn't asked
+pub good_not_refused : (bytes : List ℕ) (list : Listing) (answer : Status) → IsGoodList bytes list → IsRefusedList bytes answer → ⊥
+good_not_refused bytes list (status.Limit limit.Bytes) good long = let within = good.within in omega arith
+good_not_refused bytes list (status.Limit limit.Frames) good faulty =
+    spelled_faultless bytes list (fault.Limit limit.Frames) good.spelled good.built faulty
+good_not_refused bytes list (status.Limit limit.Cues) good faulty =
+    spelled_faultless bytes list (fault.Limit limit.Cues) good.spelled good.built faulty
+good_not_refused bytes list (status.Malformed (Field rec field) why) good faulty =
+    spelled_faultless bytes list (fault.Malformed rec field why) good.spelled good.built faulty
+good_not_refused bytes list (status.Rule fault) good breaks =
+    spelled_unbroken bytes list fault good.spelled good.built good.ruled breaks
+good_not_refused bytes list _ good refused = refused
+
+-- an accepted list keeps the rules
+pub accepted_good : (bytes : List ℕ) (list : Listing) (placed : Placement) → IsAccepted bytes list placed → IsGoodList bytes list
+accepted_good bytes list placed accepted =
+    record { within = accepted.within; spelled = accepted.spelled; built = accepted.built; ruled = accepted.ruled }
+
+-- an accepted list is refused with no status
+pub accepted_not_refused : AcceptedIsNotRefused
+accepted_not_refused bytes list placed (status.NoRoom cue) accepted lacks =
+    let same = spelled_one bytes lacks.list list lacks.spelled lacks.built accepted.spelled accepted.built in
+    placed_has_room list placed cue accepted.placement (subst (λ l. IsFirstWithoutRoom l cue) same lacks.first)
+accepted_not_refused bytes list placed answer accepted refused =
+    good_not_refused bytes list answer (accepted_good bytes list placed accepted) refused
+
+-- bytes are accepted as one list, with one placement
+pub accepted_once : AcceptanceIsOne
+accepted_once bytes one other placed moved first second =
+    let same = spelled_one bytes other one second.spelled second.built first.spelled first.built in
+    (sym same, one_placement one placed moved first.placement (subst (λ l. IsPlaced l moved) same second.placement))
+
+-- why a list is refused
+abbrev Cause : List ℕ → Status → Type 0
+Cause bytes answer = ((list_limit < length bytes) × (answer ≡ status.Limit limit.Bytes))
+    ⊎ ((f : CueFault) × IsFaulty bytes f × (answer ≡ form_status f))
+    ⊎ ((fault : RuleFault) × BreaksRule bytes fault × (answer ≡ status.Rule fault))
+    ⊎ ((cue : ℕ) × LacksRoom bytes cue × (answer ≡ status.NoRoom cue))
+
+cause_of : (bytes : List ℕ) (answer : Status) → IsRefused bytes answer → Cause bytes answer
+cause_of bytes (status.Limit limit.Bytes) long = inl (long, refl)
+cause_of bytes (status.Limit limit.Frames) faulty = inr (inl (fault.Limit limit.Frames, faulty, refl))
+cause_of bytes (status.Limit limit.Cues) faulty = inr (inl (fault.Limit limit.Cues, faulty, refl))
+cause_of bytes (status.Malformed (Field rec field) why) faulty = inr (inl (fault.Malformed rec field why, faulty, refl))
+cause_of bytes (status.Rule fault) breaks = inr (inr (inl (fault, breaks, refl)))
+cause_of bytes (status.NoRoom cue) lacks = inr (inr (inr (cue, lacks, refl)))
+cause_of bytes _ refused = absurd refused
+
+-- a list has one fault, one broken rule, one first cue without a placement
+one_form_fault : (bytes : List ℕ) (a b : CueFault) → IsFaulty bytes a → IsFaulty bytes b → a ≡ b
+one_form_fault bytes a b first second = let one = first.read in let two = second.read in cc
+
+one_rule_fault : (bytes : List ℕ) (a b : RuleFault) → BreaksRule bytes a → BreaksRule bytes b → a ≡ b
+one_rule_fault bytes a b first second =
+    let same = spelled_one bytes second.list first.list second.spelled second.built first.spelled first.built in
+    one_fault first.list a b first.broken (subst (λ l. HasFault l b) same second.broken)
+
+one_crowded_cue : (bytes : List ℕ) (a b : ℕ) → LacksRoom bytes a → LacksRoom bytes b → a ≡ b
+one_crowded_cue bytes a b first second =
+    let same = spelled_one bytes second.list first.list second.spelled second.built first.spelled first.built in
+    first_without_room first.list a b first.first (subst (λ l. IsFirstWithoutRoom l b) same second.first)
+
+-- two causes are one
+same_status : (bytes : List ℕ) (one other : Status) → Cause bytes one → Cause bytes other → one ≡ other
+same_status bytes one other (inl (long, is)) (inl (too_long, at)) = is ∙ sym at
+same_status bytes one other (inl (long, is)) (inr (inl (f, faulty, at))) = absurd (let within = faulty.within in omega arith)
+same_status bytes one other (inl (long, is)) (inr (inr (inl (fault, breaks, at)))) = absurd (let within = breaks.within in omega arith)
+same_status bytes one other (inl (long, is)) (inr (inr (inr (cue, lacks, at)))) = absurd (let within = lacks.within in omega arith)
+same_status bytes one other (inr (inl (f, faulty, is))) (inl (long, at)) = absurd (let within = faulty.within in omega arith)
+same_status bytes one other (inr (inl (f, faulty, is))) (inr (inl (g, other_faulty, at))) =
+    is ∙ ap form_status (one_form_fault bytes f g faulty other_faulty) ∙ sym at
+same_status bytes one other (inr (inl (f, faulty, is))) (inr (inr (inl (fault, breaks, at)))) =
+    absurd (spelled_faultless bytes breaks.list f breaks.spelled breaks.built faulty)
+same_status bytes one other (inr (inl (f, faulty, is))) (inr (inr (inr (cue, lacks, at)))) =
+    absurd (spelled_faultless bytes lacks.list f lacks.spelled lacks.built faulty)
+same_status bytes one other (inr (inr (inl (fault, breaks, is)))) (inl (long, at)) = absurd (let within = breaks.within in omega arith)
+same_status bytes one other (inr (inr (inl (fault, breaks, is)))) (inr (inl (f, faulty, at))) =
+    absurd (spelled_faultless bytes breaks.list f breaks.spelled breaks.built faulty)
+same_status bytes one other (inr (inr (inl (fault, breaks, is)))) (inr (inr (inl (other_fault, other_breaks, at)))) =
+    is ∙ ap status.Rule (one_rule_fault bytes fault other_fault breaks other_breaks) ∙ sym at
+same_status bytes one other (inr (inr (inl (fault, breaks, is)))) (inr (inr (inr (cue, lacks, at)))) =
+    absurd (spelled_unbroken bytes lacks.list fault lacks.spelled lacks.built lacks.ruled breaks)
+same_status bytes one other (inr (inr (inr (cue, lacks, is)))) (inl (long, at)) = absurd (let within = lacks.within in omega arith)
+same_status bytes one other (inr (inr (inr (cue, lacks, is)))) (inr (inl (f, faulty, at))) =
+    absurd (spelled_faultless bytes lacks.list f lacks.spelled lacks.built faulty)
+same_status bytes one other (inr (inr (inr (cue, lacks, is)))) (inr (inr (inl (fault, breaks, at)))) =
+    absurd (spelled_unbroken bytes lacks.list fault lacks.spelled lacks.built lacks.ruled breaks)
+same_status bytes one other (inr (inr (inr (cue, lacks, is)))) (inr (inr (inr (other_cue, other_lacks, at)))) =
+    is ∙ ap status.NoRoom (one_crowded_cue bytes cue other_cue lacks other_lacks) ∙ sym at
+
+-- a list that is refused is refused with one status
+pub refused_once : RefusalIsOne
+refused_once bytes one other refused again = same_status bytes one other (cause_of bytes one refused) (cause_of bytes other again)
+
+-- what isn't read as a list is refused with its fault
+fault_refused : (bytes : List ℕ) (f : CueFault) → length bytes ≤ list_limit → read_list bytes ≡ Err f → IsRefused bytes (form_status f)
+fault_refused bytes (fault.Memory error) within is = absurd (no_want_of_memory bytes error is)
+fault_refused bytes (fault.Limit which) within is =
+    form_refused bytes (fault.Limit which) within is (answered_fault (records_of bytes) (fault.Limit which) is)
+fault_refused bytes (fault.Malformed rec field why) within is =
+    form_refused bytes (fault.Malformed rec field why) within is (answered_fault (records_of bytes) (fault.Malformed rec field why) is)
+
+-- a list is accepted, or it is refused
+abbrev Judged : List ℕ → Type 0
+Judged bytes = ((list : Listing) × (placed : Placement) × IsAccepted bytes list placed) ⊎ ((answer : Status) × IsRefused bytes answer)
+
+list_judged : (bytes : List ℕ) (list : Listing) → length bytes ≤ list_limit → Spells (records_of bytes) list → IsBuilt list → Judged bytes
+list_judged bytes list within spelled built =
+    elim (ruled_or_broken list) [
+      | inl ruled ↦ elim (list_decided list) [
+        | inl there ↦ inl (list, there.0, record { within = within; spelled = spelled; built = built; ruled = ruled; placement = there.1 })
+        | inr without ↦ inr (status.NoRoom without.0, record { list = list; within = within; spelled = spelled; built = built; ruled = ruled; first = without.1 })
+      ]
+      | inr broken ↦ inr (status.Rule broken.0, record { list = list; within = within; spelled = spelled; built = built; broken = broken.1 })
+    ]
+
+read_judged : (bytes : List ℕ) (r : Result Listing CueFault) → length bytes ≤ list_limit → read_list bytes ≡ r → Judged bytes
+read_judged bytes (Ok list) within is =
+    let spelled = answered_list (records_of bytes) list is in
+    list_judged bytes list within spelled.0 spelled.1
+read_judged bytes (Err f) within is = inr (form_status f, fault_refused bytes f within is)
+
+-- every list is accepted or refused
+pub every_list_judged : EveryListIsJudged
+every_list_judged bytes =
+    elim (cases_lt list_limit (length bytes)) [
+      | inl long ↦ inr (status.Limit limit.Bytes, long)
+      | inr within ↦ read_judged bytes (read_list bytes) within refl
+    ]

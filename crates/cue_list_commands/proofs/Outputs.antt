@@ -1,0 +1,139 @@
+-- What holds of the output of an accepted list.
+use Rattle.std.proofs.Common.{ap, refl, sym, subst, true, false, Bool, ◌≡◌, ◌∙◌, ℕ, zero, suc, List, [], ◌∷◌, reverse, take, arith, Option, Some, None}
+use Rattle.std.proofs.lemmas.List.{reverse-append}
+use Rattle.std.specs.Prelude.{IfSome}
+use Rattle.cc_base.specs.Streams.{Puts}
+use Rattle.cc_base.specs.declared.streams.Put.TheVariants as put
+use Rattle.line21_codes.specs.declared.pairs.Pair.{Pair}
+use Rattle.line21_screen.specs.Meaning.{after}
+use Rattle.cdp_packets.specs.Packets.{Packet as Frame}
+use Rattle.words_files.specs.Received.{received_at, received_pairs}
+use Rattle.cc_base.specs.declared.streams.Put.{Put}
+use Rattle.line21_codes.specs.declared.channels.Chan.TheVariants.{Cc1, Cc3}
+use Rattle.cue_lists.specs.Listing.{IsFormed, Listing}
+use Rattle.frame_scheduler.specs.Columns.{Columns, first_pairs}
+use Rattle.frame_scheduler.specs.Frames.{GivesFrom, frames_left}
+use Rattle.frame_scheduler.specs.Planned.{Placement, columns_of}
+use Rattle.frame_scheduler.proofs.ListDoublingLemmas.{columns_doubled}
+use Rattle.frame_carrier.specs.Carried.{AreCarried}
+use Rattle.frame_carrier.specs.Carrying.{column_bytes}
+use Rattle.frame_carrier.proofs.CarriedLemmas.{frames_carried}
+use Rattle.line21_shown.specs.Reading.{pairs_before}
+use Rattle.line21_shown.specs.Shown.{ShowsField, state_at}
+use Rattle.line21_shown.proofs.CaptionedLemmas.{slots_bytes}
+use Rattle.line21_shown.proofs.SequenceLemmas.{authored_seen}
+use Rattle.cue_list_commands.specs.Accepted.{IsAccepted}
+use Rattle.cue_list_commands.specs.ListAnswer.{PutsFront, PutsOutput}
+use Rattle.cue_list_commands.specs.Output.{AreDoubled, IsSoundPairs, IsSoundWords, build_output, built_packets, pairs_output}
+use Rattle.cue_list_commands.specs.Lines.{pair_lines}
+use Rattle.cue_list_commands.specs.Reads.{IsProgrammeOf}
+use Rattle.cue_list_commands.specs.declared.programme.Programme.{Programme}
+
+-- control pairs of an accepted list are doubled
+doubled_columns : (bytes : List ℕ) (list : Listing) (placed : Placement) → IsAccepted bytes list placed → AreDoubled list (columns_of list placed)
+doubled_columns bytes list placed accepted =
+    let doubled = columns_doubled list placed accepted.spelled.1 accepted.ruled accepted.placement in
+    record { one = doubled.0; two = doubled.1 }
+
+-- what `pairs` puts of an accepted list is sound
+sound_pairs : (bytes : List ℕ) (list : Listing) (placed : Placement) → IsAccepted bytes list placed → IsSoundPairs list placed
+sound_pairs bytes list placed accepted = record {
+  doubled = doubled_columns bytes list placed accepted;
+  shown = λ frame below. authored_seen list placed accepted.spelled.1 accepted.ruled accepted.placement frame;
+}
+
+-- the pairs of the first frames, the newest first
+newest_first : (column : ℕ → Pair) (n : ℕ) → reverse (first_pairs column n) ≡ pairs_before column n
+newest_first column zero = refl
+newest_first column (suc n) = reverse-append (first_pairs column n) (column n ∷ []) ∙ ap (λ (pairs : List Pair). column n ∷ pairs) (newest_first column n)
+
+-- what a receiver gets of a field's pairs is what they mean
+received_is : (second_field : Bool) (column : ℕ → Pair) (frames : List Frame) (frame : ℕ)
+    → received_pairs second_field (take (suc frame) frames) ≡ first_pairs column (suc frame) → state_at second_field column frame ≡ received_at second_field frames frame
+received_is second_field column frames frame same =
+    ap (after second_field) (sym (ap reverse same ∙ newest_first column (suc frame)))
+
+-- what `build` puts of an accepted list is sound
+sound_words : (bytes : List ℕ) (list : Listing) (placed : Placement) → IsAccepted bytes list placed → IsSoundWords list placed
+sound_words bytes list placed accepted =
+    let columns = columns_of list placed in
+    let formed : IsFormed list = accepted.spelled.1 in
+    let carried : AreCarried list.rate columns list.frames =
+    frames_carried list.rate columns list.frames formed.rate (record {
+      one = λ frame. let are = slots_bytes list Cc1 placed.one formed frame in record { a = are.0; b = are.1 };
+      two = λ frame. let are = slots_bytes list Cc3 placed.two formed frame in record { a = are.0; b = are.1 };
+    }) in
+    record {
+      doubled = doubled_columns bytes list placed accepted;
+      carried = carried;
+      shown = λ frame below.
+          let seen = authored_seen list placed formed accepted.ruled accepted.placement frame in
+          let one = received_is false columns.one (built_packets list placed) frame (carried.one (suc frame) (omega arith)) in
+          let two = received_is true columns.two (built_packets list placed) frame (carried.two (suc frame) (omega arith)) in
+          record {
+            one = subst (λ s. ShowsField s Cc1 list.cues frame) one seen.one;
+            two = subst (λ s. ShowsField s Cc3 list.cues frame) two seen.two;
+          };
+    }
+
+-- the output of a programme was put: it is that of its list
+output_put : (output : Listing → Placement → List ℕ) (IsSound : Listing → Placement → Type 0) (left old new : Option (List ℕ)) (programme : Programme)
+    → IfSome left (λ bytes. IsProgrammeOf bytes programme)
+    → ((bytes : List ℕ) (is : IsProgrammeOf bytes programme) → Puts old new put.Done (output is.list is.placed) × IsSound is.list is.placed)
+    → IfSome left (λ bytes. PutsOutput output IsSound bytes old new)
+output_put output IsSound None old new programme is puts = tt
+output_put output IsSound (Some bytes) old new programme is puts =
+    let w = puts bytes is in
+    record { list = is.list; placed = is.placed; accepted = is.accepted; output_is = w.0; sound = w.1 }
+
+-- a put failed: a front of the output of its list was put
+front_put : (output : Listing → Placement → List ℕ) (left old new : Option (List ℕ)) (programme : Programme)
+    → IfSome left (λ bytes. IsProgrammeOf bytes programme)
+    → ((bytes : List ℕ) (is : IsProgrammeOf bytes programme) → Puts old new put.Failed (output is.list is.placed))
+    → IfSome left (λ bytes. PutsFront output bytes old new)
+front_put output None old new programme is puts = tt
+front_put output (Some bytes) old new programme is puts =
+    record { list = is.list; placed = is.placed; accepted = is.accepted; front = puts bytes is }
+
+-- the lines of a programme's frames are those of its list
+lines_are : (old new : Option (List ℕ)) (r : Put) (bytes : List ℕ) (programme : Programme) (is : IsProgrammeOf bytes programme)
+    → ((columns : Columns) → GivesFrom columns 0 programme.plan → Puts old new r (pair_lines columns 0 (frames_left programme.plan)))
+    → Puts old new r (pairs_output is.list is.placed)
+lines_are old new r bytes programme is puts = rw is.frames at (puts (columns_of is.list is.placed) is.gives)
+
+-- the words of a programme's frames are those of its list
+words_are : (old new : Option (List ℕ)) (r : Put) (bytes : List ℕ) (programme : Programme) (is : IsProgrammeOf bytes programme)
+    → ((columns : Columns) → GivesFrom columns 0 programme.plan → Puts old new r (column_bytes programme.rate columns 0 (frames_left programme.plan)))
+    → Puts old new r (build_output is.list is.placed)
+words_are old new r bytes programme is puts =
+    subst (λ n. Puts old new r (column_bytes is.list.rate (columns_of is.list is.placed) 0 n)) is.frames
+    (subst (λ rate. Puts old new r (column_bytes rate (columns_of is.list is.placed) 0 (frames_left programme.plan))) is.rate
+    (puts (columns_of is.list is.placed) is.gives))
+
+-- the lines of a programme were put
+pub pairs_put : (left old new : Option (List ℕ)) (programme : Programme) → IfSome left (λ bytes. IsProgrammeOf bytes programme)
+    → ((columns : Columns) → GivesFrom columns 0 programme.plan → Puts old new put.Done (pair_lines columns 0 (frames_left programme.plan)))
+    → IfSome left (λ bytes. PutsOutput pairs_output IsSoundPairs bytes old new)
+pairs_put left old new programme is puts =
+    output_put pairs_output IsSoundPairs left old new programme is
+    (λ bytes of. (lines_are old new put.Done bytes programme of puts, sound_pairs bytes of.list of.placed of.accepted))
+
+pub pairs_front : (left old new : Option (List ℕ)) (programme : Programme) → IfSome left (λ bytes. IsProgrammeOf bytes programme)
+    → ((columns : Columns) → GivesFrom columns 0 programme.plan → Puts old new put.Failed (pair_lines columns 0 (frames_left programme.plan)))
+    → IfSome left (λ bytes. PutsFront pairs_output bytes old new)
+pairs_front left old new programme is puts =
+    front_put pairs_output left old new programme is (λ bytes of. lines_are old new put.Failed bytes programme of puts)
+
+-- the words of a programme were put
+pub words_put : (left old new : Option (List ℕ)) (programme : Programme) → IfSome left (λ bytes. IsProgrammeOf bytes programme)
+    → ((columns : Columns) → GivesFrom columns 0 programme.plan → Puts old new put.Done (column_bytes programme.rate columns 0 (frames_left programme.plan)))
+    → IfSome left (λ bytes. PutsOutput build_output IsSoundWords bytes old new)
+words_put left old new programme is puts =
+    output_put build_output IsSoundWords left old new programme is
+    (λ bytes of. (words_are old new put.Done bytes programme of puts, sound_words bytes of.list of.placed of.accepted))
+
+pub words_front : (left old new : Option (List ℕ)) (programme : Programme) → IfSome left (λ bytes. IsProgrammeOf bytes programme)
+    → ((columns : Columns) → GivesFrom columns 0 programme.plan → Puts old new put.Failed (column_bytes programme.rate columns 0 (frames_left programme.plan)))
+    → IfSome left (λ bytes. PutsFront build_output bytes old new)
+words_front left old new programme is puts =
+    front_put build_output left old new programme is (λ bytes of. words_are old new put.Failed bytes programme of puts)

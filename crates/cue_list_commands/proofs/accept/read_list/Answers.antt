@@ -1,0 +1,11 @@
+use Rattle.cue_list_commands.specs.Accepted.{IsGoodList, IsRefusedList}
+use Rattle.cue_list_commands.proofs.Refusals.{judged, refused_list, unread}
+use Rattle.cue_list_commands.proofs.accept.read_list.Goals as goal
+
+pub returns-in-Ok : goal.returns-in-Ok
+returns-in-Ok g c =
+    judged IsGoodList IsRefusedList refused_list _ _ _ _ c.in-Ok.bytes.items c.judge_list.result c.in-Ok.ensures.bytes.1 c.in-Ok.ensures.bytes.0
+    (rw c.deref.ensures.value at c.judge_list.ensures)
+
+pub returns-in-Err : goal.returns-in-Err
+returns-in-Err g c = unread IsGoodList IsRefusedList (λ bytes long. long) _ _ _ _ c.in-Err.status c.in-Err.ensures.bytes

@@ -1,0 +1,76 @@
+-- Which cue lists are accepted, and why another one is refused.
+use Rattle.std.specs.Prelude.{◌≡◌, ◌<◌, ◌≤◌, ℕ, List, length, Err}
+use Rattle.cc_base.specs.declared.limit_of.LimitOf.TheVariants as limit
+use Rattle.cue_lists.specs.FirstFault.{IsFirstFault}
+use Rattle.cue_lists.specs.Listing.{Listing}
+use Rattle.cue_lists.specs.Reading.{read_list}
+use Rattle.cue_lists.specs.Records.{records_of}
+use Rattle.cue_lists.specs.Rules.{HasFault, IsRuled}
+use Rattle.cue_lists.specs.Spelling.{Spells}
+use Rattle.cue_lists.specs.Unbuilt.{IsBuilt}
+use Rattle.cue_lists.specs.declared.fault.CueFault.{CueFault}
+use Rattle.cue_lists.specs.declared.fault.CueFault.TheVariants as fault
+use Rattle.cue_lists.specs.declared.rules.RuleFault.{RuleFault}
+use Rattle.frame_scheduler.specs.Planned.{IsFirstWithoutRoom, IsPlaced, Placement}
+use Rattle.command_base.specs.declared.status.Place.TheVariants.{Byte, Field}
+use Rattle.command_base.specs.declared.status.Status.{Status}
+use Rattle.command_base.specs.declared.status.Status.TheVariants as status
+
+-- the most bytes of a cue list
+abbrev pub list_limit : ℕ
+list_limit = 67108864
+
+-- the records of the bytes spell a cue list that this version authors and that keeps the rules, and whose units have their
+-- earliest placement in these frames
+pub record IsAccepted (bytes : List ℕ) (list : Listing) (placed : Placement) : Type 0 where
+  pub within : length bytes ≤ list_limit
+  pub spelled : Spells (records_of bytes) list
+  pub built : IsBuilt list
+  pub ruled : IsRuled list
+  pub placement : IsPlaced list placed
+
+-- the records of the bytes spell no list that this version authors, and this is their first fault
+pub record IsFaulty (bytes : List ℕ) (fault : CueFault) : Type 0 where
+  pub within : length bytes ≤ list_limit
+  pub read : read_list bytes ≡ Err fault
+  pub first : IsFirstFault (records_of bytes) fault
+
+-- the records of the bytes spell a list that breaks a rule
+pub record BreaksRule (bytes : List ℕ) (fault : RuleFault) : Type 0 where
+  pub list : Listing
+  pub within : length bytes ≤ list_limit
+  pub spelled : Spells (records_of bytes) list
+  pub built : IsBuilt list
+  pub broken : HasFault list fault
+
+-- the records of the bytes spell a list that keeps the rules, and this cue is the first without a placement
+pub record LacksRoom (bytes : List ℕ) (cue : ℕ) : Type 0 where
+  pub list : Listing
+  pub within : length bytes ≤ list_limit
+  pub spelled : Spells (records_of bytes) list
+  pub built : IsBuilt list
+  pub ruled : IsRuled list
+  pub first : IsFirstWithoutRoom list cue
+
+-- the records of the bytes spell a cue list that this version authors and that keeps the rules; whether it has room isn't asked
+pub record IsGoodList (bytes : List ℕ) (list : Listing) : Type 0 where
+  pub within : length bytes ≤ list_limit
+  pub spelled : Spells (records_of bytes) list
+  pub built : IsBuilt list
+  pub ruled : IsRuled list
+
+-- the bytes are refused with this status, and with no other
+abbrev pub IsRefused : List ℕ → Status → Type 0
+IsRefused bytes (status.Limit limit.Bytes) = list_limit < length bytes
+IsRefused bytes (status.Limit limit.Frames) = IsFaulty bytes (fault.Limit limit.Frames)
+IsRefused bytes (status.Limit limit.Cues) = IsFaulty bytes (fault.Limit limit.Cues)
+IsRefused bytes (status.Malformed (Byte byte) why) = ⊥
+IsRefused bytes (status.Malformed (Field rec field) why) = IsFaulty bytes (fault.Malformed rec field why)
+IsRefused bytes (status.Rule fault) = BreaksRule bytes fault
+IsRefused bytes (status.NoRoom cue) = LacksRoom bytes cue
+IsRefused bytes _ = ⊥
+
+-- the same where room isn't asked: no list is refused for want of it
+abbrev pub IsRefusedList : List ℕ → Status → Type 0
+IsRefusedList bytes (status.NoRoom cue) = ⊥
+IsRefusedList bytes answer = IsRefused bytes answer

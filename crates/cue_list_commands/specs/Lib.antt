@@ -1,0 +1,6 @@
+pub mod Accepted
+pub mod Lines
+pub mod ListAnswer
+pub mod ListVerdict
+pub mod Output
+pub mod Reads

@@ -1,0 +1,96 @@
+ghost use Rattle.std.specs.Prelude.{◌≡◌, ◌≤◌, IfOk, length};
+ghost use Rattle.cue_list_commands.specs.Accepted.{IsGoodList, IsRefused, IsRefusedList, list_limit};
+ghost use Rattle.cue_list_commands.specs.Reads.{IsProgrammeOf, IsTooLong, Judges, Reads, ReadsList, ReadsProgramme, form_status};
+
+use crate::programme::Programme;
+use cc_base::{LimitOf, ReadError, Source, read_whole};
+use command_base::{Place, Status};
+use cue_lists::{CueFault, CueList, check, parse};
+use frame_scheduler::{PlanFault, plan};
+use std::alloc::Global;
+
+/// The most bytes of a cue list.
+const LIST_LIMIT: usize = 67_108_864;
+
+/// Reads a cue list to its end and judges it: its bytes' number, its form and limits, its rules, its room. Gives its
+/// programme, or the status with which it is refused.
+pub fn read_programme<M: Source>(alloc: Global, input: &mut M) -> Result<Programme, Status>
+    ensures { ReadsProgramme (M.left input.old) (M.left input.new) (M.faults input.old) (M.faults input.new) result }
+{
+    match read_bytes(alloc, input) {
+        Ok(bytes) => judge(alloc, &bytes),
+        Err(status) => Err(status),
+    }
+}
+
+/// Reads a cue list to its end and judges all but its room. Gives the list, or the status with which it is refused.
+pub fn read_list<M: Source>(alloc: Global, input: &mut M) -> Result<CueList, Status>
+    ensures { ReadsList (M.left input.old) (M.left input.new) (M.faults input.old) (M.faults input.new) result }
+{
+    match read_bytes(alloc, input) {
+        Ok(bytes) => judge_list(alloc, &bytes),
+        Err(status) => Err(status),
+    }
+}
+
+/// Reads the bytes of a cue list to their end.
+fn read_bytes<M: Source>(alloc: Global, input: &mut M) -> Result<Vec<u8>, Status>
+    ensures bytes { Reads (λ bytes value. value.items ≡ bytes) IsTooLong
+        (M.left input.old) (M.left input.new) (M.faults input.old) (M.faults input.new) result }
+    ensures within { IfOk result (λ bytes. length bytes.items ≤ list_limit) }
+{
+    match read_whole(alloc, input, LIST_LIMIT) {
+        Ok(bytes) => Ok(bytes),
+        Err(ReadError::Memory) => Err(Status::Memory),
+        Err(ReadError::Fault) => Err(Status::ReadFault),
+        Err(ReadError::Limit) => Err(Status::Limit(LimitOf::Bytes)),
+    }
+}
+
+/// Judges the bytes of a cue list.
+fn judge(alloc: Global, bytes: &[u8]) -> Result<Programme, Status>
+    requires { length bytes.now ≤ list_limit }
+    ensures { Judges IsProgrammeOf IsRefused bytes.now result }
+{
+    let list = match judge_list(alloc, bytes) {
+        Ok(list) => list,
+        Err(status) => return Err(status),
+    };
+    match plan(alloc, &list) {
+        Ok(plan) => Ok(Programme {
+            rate: list.rate(),
+            plan,
+        }),
+        Err(PlanFault::Memory(_)) => Err(Status::Memory),
+        Err(PlanFault::NoRoom(cue)) => Err(Status::NoRoom(cue)),
+    }
+}
+
+/// Judges all but the room of a cue list.
+fn judge_list(alloc: Global, bytes: &[u8]) -> Result<CueList, Status>
+    requires { length bytes.now ≤ list_limit }
+    ensures { Judges IsGoodList IsRefusedList bytes.now result }
+{
+    let list = match parse(alloc, bytes) {
+        Ok(list) => list,
+        Err(fault) => return Err(status_of_form(fault)),
+    };
+    match check(&list) {
+        Ok(()) => Ok(list),
+        Err(fault) => Err(Status::Rule(fault)),
+    }
+}
+
+/// The status of a list whose form is at fault.
+fn status_of_form(fault: CueFault) -> Status
+    ensures { result ≡ form_status fault }
+{
+    match fault {
+        CueFault::Memory(_) => Status::Memory,
+        CueFault::Limit(which) => Status::Limit(which),
+        CueFault::Malformed { rec, field, why } => Status::Malformed(
+            Place::Field { rec, field },
+            why,
+        ),
+    }
+}

@@ -1,0 +1,5 @@
+pub mod Printing
+pub mod Screens
+pub mod WordsAnswer
+pub mod WordsReading
+pub mod WordsVerdict

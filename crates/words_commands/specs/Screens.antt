@@ -1,0 +1,32 @@
+-- What `decode` and `show` put of the frames of a words file: the screens of line 21 that a receiver shows which was reset
+-- before the first of them (CTA-608-E; 47 CFR 79.101).
+use Rattle.std.specs.Prelude.{ℕ, suc, nat_lt, if◌then◌else◌, List, [], ◌∷◌, ◌++◌, length, take, codes, decimal}
+use Rattle.cdp_packets.specs.Packets.{Packet as Frame}
+use Rattle.words_files.specs.Received.{received_grids}
+use Rattle.grid_print.specs.GridTexts.{all_text, changes_text}
+use Rattle.command_base.specs.StatusLine.{text}
+
+-- the changed screens of each frame against the one before it, of frames that come behind others; before the first frame of
+-- all, every screen is empty
+abbrev pub changes_behind : List Frame → List Frame → List ℕ
+changes_behind before [] = []
+changes_behind before (frame ∷ frames) =
+    changes_text (length before) (received_grids before) (received_grids (before ++ frame ∷ []))
+    ++ changes_behind (before ++ frame ∷ []) frames
+
+-- the changed screens of each frame
+abbrev pub changes_of : List Frame → List ℕ
+changes_of frames = changes_behind [] frames
+
+-- the line of the number of frames: `frames N`
+abbrev pub frames_line : ℕ → List ℕ
+frames_line count = text (codes "frames " ∷ decimal count ∷ codes "\n" ∷ [])
+
+-- `decode` puts the changed screens of each frame, and then the number of frames
+abbrev pub decode_output : List Frame → List ℕ
+decode_output frames = changes_of frames ++ frames_line (length frames)
+
+-- `show` puts all screens of the frame of this number, once it is whole
+abbrev pub show_output : ℕ → List Frame → List ℕ
+show_output frame frames =
+    if nat_lt frame (length frames) then all_text frame (received_grids (take (suc frame) frames)) else []

@@ -1,0 +1,11 @@
+//! The commands that read words: `decode` and `show`. They take, judge and put frame by frame, and gather nothing of the input.
+#![tactic(auto)]
+
+pub use crate::decode::run_decode;
+pub use crate::show::run_show;
+
+mod decode;
+mod printer;
+mod reading;
+mod show;
+mod words;
