@@ -47,7 +47,7 @@ spelled_one bytes a b spelled_a built_a spelled_b built_b =
 spelled_unbroken : (bytes : List ℕ) (list : Listing) (fault : RuleFault) → Spells (records_of bytes) list → IsBuilt list → IsRuled list → BreaksRule bytes fault → ⊥
 spelled_unbroken bytes list fault spelled built ruled breaks =
     let same = spelled_one bytes breaks.list list breaks.spelled breaks.built spelled built in
-    ruled_has_none list fault ruled (subst (λ l. HasFault l fault) same breaks.broken)
+    ruled_has_none list fault spelled.1 ruled (subst (λ l. HasFault l fault) same breaks.broken)
 
 -- a list that keeps the rules is refused with no status where room isn't asked
 pub good_not_refused : (bytes : List ℕ) (list : Listing) (answer : Status) → IsGoodList bytes list → IsRefusedList bytes answer → ⊥

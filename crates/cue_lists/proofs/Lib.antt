@@ -1,5 +1,9 @@
+pub mod ChannelCues
+pub mod ChannelKept
+pub mod ChannelRules
 pub mod CodedFacts
 pub mod Complete
+pub mod DelayTests
 pub mod Faults
 pub mod FieldFacts
 pub mod Judged
@@ -13,7 +17,11 @@ pub mod RuleJudging
 pub mod RuleKept
 pub mod RuleLists
 pub mod RuleNearest
+pub mod RuleTests
 pub mod RulesDecided
+pub mod RulesSaid
+pub mod ServiceCues
+pub mod ServiceRules
 pub mod Spelled
 pub mod Steps
 pub mod TextFacts

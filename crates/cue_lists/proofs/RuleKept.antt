@@ -77,30 +77,52 @@ keeps_rules list earlier cue none =
       past_end = all_kept (past_end list.frames cue) h.0;
     }
 
+-- where no alternative is broken, none is the first
+none_broken : (alternatives : List Alternative) → AllKept alternatives → first_broken alternatives ≡ None
+none_broken [] kept = refl
+none_broken (alternative ∷ rest) kept = rw (kept.0) (none_broken rest kept.1)
+
+-- a cue that keeps every rule has no fault
+pub kept_faultless : (list : Listing) (earlier : List Cue) (cue : Cue) → KeepsRules list earlier cue
+    → fault_of list earlier cue ≡ None
+unfolding verdicts
+kept_faultless list earlier cue keeps =
+    rw (
+      none_broken (order list.rate cue (former_cue cue earlier)) keeps.order,
+      none_broken (overlap cue (former_cue cue earlier)) keeps.overlap,
+      none_broken (clash cue (former_cue cue earlier)) keeps.clash,
+      none_broken (unhidden cue (former_cue cue earlier)) keeps.unhidden,
+      none_broken (window_busy cue earlier) keeps.window_busy,
+      none_broken (delay_covers list.rate cue earlier) keeps.delay_covers,
+      none_broken (share list cue) keeps.share,
+      none_broken (past_end list.frames cue) keeps.past_end,
+    )
+    refl
+
 -- a test of a HIDE that isn't passed, at the HIDE
-hide_fails : (test : ℕ → Bool) (o : Option ℕ) (hide : ℕ) → hide_is o test ≡ false → o ≡ Some hide → test hide ≡ false
+pub hide_fails : (test : ℕ → Bool) (o : Option ℕ) (hide : ℕ) → hide_is o test ≡ false → o ≡ Some hide → test hide ≡ false
 hide_fails test None hide fails is = cc
 hide_fails test (Some h) hide fails is = let same : h ≡ hide = cc in ap test (sym same) ∙ fails
 
 -- what an alternative on the former cue says of it, where it isn't broken
-former_fails : (o : Option Cue) (test : Cue → Bool) (former : Cue) → (with_former o test).broken ≡ false
+pub former_fails : (o : Option Cue) (test : Cue → Bool) (former : Cue) → (with_former o test).broken ≡ false
     → o ≡ Some former → test former ≡ false
 former_fails None test former fails is = cc
 former_fails (Some p) test former fails is = let same : p ≡ former = cc in ap test (sym same) ∙ fails
 
 -- the second part of a test fails, where the first is passed
-second_fails : (a b : Bool) → (a && b) ≡ false → a ≡ true → b ≡ false
+pub second_fails : (a b : Bool) → (a && b) ≡ false → a ≡ true → b ≡ false
 second_fails true b fails yes' = fails
 second_fails false b fails yes' = cc
 
 -- numbers by a test that failed
-not_le : (a b : ℕ) → nat_le a b ≡ false → b < a
+pub not_le : (a b : ℕ) → nat_le a b ≡ false → b < a
 not_le a b fails = elim (leb_tells a b) [ inl t ↦ cc | inr t ↦ t.1 ]
 
-not_lt : (a b : ℕ) → nat_lt a b ≡ false → b ≤ a
+pub not_lt : (a b : ℕ) → nat_lt a b ≡ false → b ≤ a
 not_lt a b fails = elim (leb_tells (suc a) b) [ inl t ↦ cc | inr t ↦ omega (arith, t.1) ]
 
-not_eq : (a b : ℕ) → (a == b) ≡ false → a ≢ b
+pub not_eq : (a b : ℕ) → (a == b) ≡ false → a ≢ b
 not_eq a b fails = elim (eqb_tells a b) [ inl t ↦ cc | inr t ↦ t.1 ]
 
 -- what holds of a cue that keeps the rules, behind these cues

@@ -5,7 +5,7 @@ use Rattle.std.proofs.lemmas.List.{reverse-append, reverse-reverse, take-append-
 use Rattle.cue_lists.specs.Cues.{IsCueFormed, IsOfKind}
 use Rattle.cue_lists.specs.Line21Cues.{IsLine21Run}
 use Rattle.cue_lists.specs.Listing.{Listing, IsFormed}
-use Rattle.cue_lists.specs.Rules.{fault_of, AreRuled, IsRuled, HasFault}
+use Rattle.cue_lists.specs.Rules.{fault_of, AreFaultless, IsRuled, HasFault}
 use Rattle.cue_lists.specs.Rules.Cells.{IsOnGrid}
 use Rattle.cue_lists.specs.Windows.{IsWindow, IsWindowRun}
 use Rattle.cue_lists.specs.declared.cue.Cue.{Cue}
@@ -13,6 +13,7 @@ use Rattle.cue_lists.specs.declared.cue.Kind.{Kind}
 use Rattle.cue_lists.specs.declared.cue.Kind.TheVariants as kind
 use Rattle.cue_lists.specs.declared.rules.RuleFault.{RuleFault}
 use Rattle.cue_lists.proofs.RuleNearest.{before_more}
+use Rattle.cue_lists.proofs.RulesSaid.{ruled_faultless}
 
 -- a cue's runs lie on the grid
 pub on_grid : (cue : Cue) → IsCueFormed cue → All IsOnGrid cue.runs
@@ -41,16 +42,16 @@ cue_on_grid list cues i x formed are within is =
     subst (λ (y : Cue). All IsOnGrid y.runs) (sym (is ∙ ap (λ (c : List Cue). get_or c i x) are)) (on_grid _ here)
 
 -- one more cue keeps the rules
-pub ruled_more : (list : Listing) (cues : List Cue) (i : ℕ) (x : Cue) → i < length cues → x ≡ get_or cues i x
-    → fault_of list (reverse (take i cues)) x ≡ None → AreRuled list (reverse (take i cues))
-    → AreRuled list (reverse (take (i + 1) cues))
-ruled_more list cues i x within is none kept =
+pub faultless_more : (list : Listing) (cues : List Cue) (i : ℕ) (x : Cue) → i < length cues → x ≡ get_or cues i x
+    → fault_of list (reverse (take i cues)) x ≡ None → AreFaultless list (reverse (take i cues))
+    → AreFaultless list (reverse (take (i + 1) cues))
+faultless_more list cues i x within is none kept =
     rw (before_more cues i x within, ← is) (none, kept)
 
 -- the cue at hand has the list's fault
 pub fault_here : (list : Listing) (cues : List Cue) (i : ℕ) (x : Cue) (fault : RuleFault) → cues ≡ list.cues
     → i < length cues → x ≡ get_or cues i x → fault_of list (reverse (take i cues)) x ≡ Some fault
-    → AreRuled list (reverse (take i cues)) → HasFault list fault
+    → AreFaultless list (reverse (take i cues)) → HasFault list fault
 fault_here list cues i x fault are within is broken kept = record {
   earlier = reverse (take i cues);
   cue = x;
@@ -71,7 +72,7 @@ abbrev fault_in : Listing → List Cue → Option RuleFault
 fault_in list [] = None
 fault_in list (cue ∷ earlier) = first_of (fault_in list earlier) (fault_of list earlier cue)
 
-ruled_none : (list : Listing) (cues : List Cue) → AreRuled list cues → fault_in list cues ≡ None
+ruled_none : (list : Listing) (cues : List Cue) → AreFaultless list cues → fault_in list cues ≡ None
 ruled_none list [] ruled = refl
 ruled_none list (cue ∷ earlier) ruled = rw (ruled_none list earlier ruled.1) ruled.0
 
@@ -95,9 +96,10 @@ fault_first list fault has =
     rw newest (stays_first list (reverse has.later) (has.cue ∷ has.earlier) fault here)
 
 -- a list that keeps the rules has no fault
-pub ruled_has_none : (list : Listing) (fault : RuleFault) → IsRuled list → HasFault list fault → ⊥
-ruled_has_none list fault ruled has =
-    let none : fault_in list (reverse list.cues) ≡ None = ruled_none list (reverse list.cues) ruled in
+pub ruled_has_none : (list : Listing) (fault : RuleFault) → IsFormed list → IsRuled list → HasFault list fault → ⊥
+ruled_has_none list fault formed ruled has =
+    let none : fault_in list (reverse list.cues) ≡ None =
+    ruled_none list (reverse list.cues) (ruled_faultless list formed ruled) in
     let some : fault_in list (reverse list.cues) ≡ Some fault = fault_first list fault has in
     cc
 
@@ -109,14 +111,14 @@ one_fault list a b has_a has_b =
     cc
 
 -- what is answered of a list that keeps the rules
-pub ruled_ok : (list : Listing) (r : Result (Unit {0}) RuleFault)
+pub ruled_ok : (list : Listing) (r : Result (Unit {0}) RuleFault) → IsFormed list
     → MatchResult r (λ _. IsRuled list) (λ fault. HasFault list fault) → IsRuled list → IsOk r
-ruled_ok list (Ok _) judged ruled = refl
-ruled_ok list (Err e) judged ruled = absurd (ruled_has_none list e ruled judged)
+ruled_ok list (Ok _) formed judged ruled = refl
+ruled_ok list (Err e) formed judged ruled = absurd (ruled_has_none list e formed ruled judged)
 
 -- what is answered of a list with a fault
-pub fault_err : (list : Listing) (r : Result (Unit {0}) RuleFault)
+pub fault_err : (list : Listing) (r : Result (Unit {0}) RuleFault) → IsFormed list
     → MatchResult r (λ _. IsRuled list) (λ fault. HasFault list fault) → (fault : RuleFault) → HasFault list fault
     → IsErrOf r fault
-fault_err list (Ok _) judged fault has = absurd (ruled_has_none list fault judged has)
-fault_err list (Err e) judged fault has = ap Err (one_fault list e fault judged has)
+fault_err list (Ok _) formed judged fault has = absurd (ruled_has_none list fault formed judged has)
+fault_err list (Err e) formed judged fault has = ap Err (one_fault list e fault judged has)

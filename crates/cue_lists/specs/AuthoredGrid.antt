@@ -2,20 +2,19 @@
 -- runs alone (caption area, pop-on, paint-on and roll-up captions: CTA-608-E; 47 CFR 79.101). No byte and no receiver
 -- stands in it.
 use Rattle.std.specs.Prelude.{◌≡◌, ℕ, ◌+◌, ◌-◌, ◌≤◌, ◌&&◌, nat_le, nat_lt, Bool, false, if◌then◌else◌, List, [], ◌∷◌, reverse, slice_get, slice_index_or, All, Option, Some, None}
-use Rattle.std.specs.List.{filter}
 use Rattle.line21_codes.specs.declared.channels.Chan.{Chan}
 use Rattle.line21_codes.specs.declared.styles.Cell.{Cell}
+use Rattle.cue_lists.specs.Channels.{cues_on}
 use Rattle.cue_lists.specs.declared.cue.Cue.{Cue}
 use Rattle.cue_lists.specs.declared.cue.Kind.{Kind}
 use Rattle.cue_lists.specs.declared.cue.Kind.TheVariants as kind
 use Rattle.cue_lists.specs.declared.cue.Pen.{Pen}
 use Rattle.cue_lists.specs.declared.cue.Pen.TheVariants as pen
 use Rattle.cue_lists.specs.declared.cue.Run.{Run}
-use Rattle.cue_lists.specs.declared.rules.lane.Lane.TheVariants as lane
 use Rattle.cue_lists.specs.Line21Cues.{base_row}
 use Rattle.cue_lists.specs.Rules.Cells.{covers}
 use Rattle.cue_lists.specs.Rules.Former.{continues}
-use Rattle.cue_lists.specs.Rules.Lane.{is_pop, on_lane}
+use Rattle.cue_lists.specs.Rules.Lane.{is_pop}
 
 -- the cell at each row, 1 to 15, and column, 0 to 31, where there is one
 abbrev pub Picture : Type 0
@@ -78,13 +77,9 @@ abbrev pub shown_by : ℕ → List Cue → List Cue
 shown_by frame [] = []
 shown_by frame (cue ∷ earlier) = if nat_le cue.show frame then cue ∷ earlier else shown_by frame earlier
 
--- the cues on a channel, in their order
-abbrev pub channel_cues : Chan → List Cue → List Cue
-channel_cues channel cues = filter (on_lane (lane.Channel channel)) cues
-
 -- what the channel is to show at a frame: what the last of its cues whose SHOW has come shows, until its HIDE
 abbrev pub authored_grid : Chan → List Cue → ℕ → Picture
-authored_grid channel cues frame = shown_of_newest frame (shown_by frame (reverse (channel_cues channel cues)))
+authored_grid channel cues frame = shown_of_newest frame (shown_by frame (reverse (cues_on channel cues)))
 
 -- the frame isn't one in which the cue is being written onto the screen: a paint-on or roll-up cue is, from its LOAD up
 -- to its SHOW
@@ -93,4 +88,4 @@ IsSettledFor frame cue = is_pop cue.kind ≡ false → cue.load ≤ frame → cu
 
 -- the frame is settled for the channel
 abbrev pub IsSettled : Chan → List Cue → ℕ → Type 0
-IsSettled channel cues frame = All (IsSettledFor frame) (channel_cues channel cues)
+IsSettled channel cues frame = All (IsSettledFor frame) (cues_on channel cues)

@@ -1,6 +1,7 @@
 pub mod Answers
 pub mod AuthoredGrid
 pub mod Begun
+pub mod Channels
 pub mod Cues
 pub mod Fields
 pub mod FirstFault

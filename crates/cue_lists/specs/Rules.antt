@@ -1,7 +1,10 @@
--- The rules of a cue list: the rule that a cue breaks against the cues before it, and the first fault of a list.
+-- The rules of a cue list: what it is to keep them, the rule that a cue breaks against the cues before it, and the first
+-- fault of a list.
 use Rattle.std.specs.Prelude.{◌≡◌, ℕ, ◌+◌, List, [], ◌∷◌, ◌++◌, length, reverse, Option, Some, None, Result, Ok, Err}
 use Rattle.cc_base.specs.declared.why.Why.{Why}
 use Rattle.cc_base.specs.declared.why.Why.TheVariants as why
+use Rattle.line21_codes.specs.declared.channels.Chan.{Chan}
+use Rattle.cue_lists.specs.Channels.{cues_of_service, cues_on}
 use Rattle.cue_lists.specs.Listing.{Listing}
 use Rattle.cue_lists.specs.declared.cue.Cue.{Cue}
 use Rattle.cue_lists.specs.declared.rules.RuleFault.{RuleFault}
@@ -17,6 +20,7 @@ use Rattle.cue_lists.specs.Rules.WindowBusy.{window_busy}
 use Rattle.cue_lists.specs.Rules.DelayCovers.{delay_covers}
 use Rattle.cue_lists.specs.Rules.Share.{share}
 use Rattle.cue_lists.specs.Rules.PastEnd.{past_end}
+use Rattle.cue_lists.specs.Rules.Sentences.{AreInSequence, AreInService}
 pub mod Alternatives
 pub mod Lane
 pub mod Former
@@ -32,6 +36,7 @@ pub mod WindowBusy
 pub mod DelayCovers
 pub mod Share
 pub mod PastEnd
+pub mod Sentences
 
 -- the rules in the order in which they are tried, each with whom a cue breaks it against, if it does: the cue stands
 -- behind these cues, the newest first
@@ -73,14 +78,15 @@ abbrev pub Judges : Result (Unit {0}) RuleFault → Option RuleFault → Type 0
 Judges (Ok _) fault = fault ≡ None
 Judges (Err e) fault = fault ≡ Some e
 
--- each of the cues, the newest first, keeps every rule against the cues before it
-abbrev pub AreRuled : Listing → List Cue → Type 0
-AreRuled list [] = Unit {0}
-AreRuled list (cue ∷ earlier) = (fault_of list earlier cue ≡ None) × AreRuled list earlier
+-- each of the cues, the newest first, has no fault against the cues before it
+abbrev pub AreFaultless : Listing → List Cue → Type 0
+AreFaultless list [] = Unit {0}
+AreFaultless list (cue ∷ earlier) = (fault_of list earlier cue ≡ None) × AreFaultless list earlier
 
--- the list keeps the rules
-abbrev pub IsRuled : Listing → Type 0
-IsRuled list = AreRuled list (reverse list.cues)
+-- the list keeps the rules: the cues of each channel and those of each service do
+pub record IsRuled (list : Listing) : Type 0 where
+  pub channels : (channel : Chan) → AreInSequence list.frames (cues_on channel list.cues)
+  pub services : (service : ℕ) → AreInService list service (cues_of_service service list.cues)
 
 -- the list has this fault: it is that of the first cue that breaks a rule
 pub record HasFault (list : Listing) (fault : RuleFault) : Type 0 where
@@ -88,5 +94,5 @@ pub record HasFault (list : Listing) (fault : RuleFault) : Type 0 where
   pub cue : Cue
   pub later : List Cue
   pub split : list.cues ≡ reverse earlier ++ cue ∷ later
-  pub kept : AreRuled list earlier
+  pub kept : AreFaultless list earlier
   pub broken : fault_of list earlier cue ≡ Some fault

@@ -2,72 +2,29 @@
 use Rattle.std.proofs.Common.{◌≡◌, ℕ, ◌+◌, ◌<◌, ◌≤◌, Bool, true, false, List, [], ◌∷◌, ◌++◌, refl, arith}
 use Rattle.std.specs.Prelude.{Option, Some, None, All, IfSome, IsSome, MatchOption, if◌then◌else◌}
 use Rattle.std.specs.List.{AllByRecursion}
-use Rattle.std.proofs.lemmas.List.Elements.{All-from_recursion}
+use Rattle.std.proofs.lemmas.List.Elements.{All-from_recursion, recursion_from_All}
 use Rattle.line21_codes.specs.declared.channels.Chan.{Chan}
 use Rattle.line21_codes.specs.declared.codes.Control.TheVariants.{Eoc, Edm}
+use Rattle.cue_lists.specs.Cues.{IsCueFormed}
 use Rattle.cue_lists.specs.Listing.{Listing, IsFormed}
 use Rattle.cue_lists.specs.Rules.{IsRuled}
-use Rattle.cue_lists.specs.Rules.Lane.{is_pop, is_roll}
+use Rattle.cue_lists.specs.Rules.Lane.{is_pop}
+use Rattle.cue_lists.specs.Rules.Sentences.{IsSound}
 use Rattle.cue_lists.specs.declared.cue.Cue.{Cue}
-use Rattle.cue_lists.specs.declared.cue.Kind.{Kind}
-use Rattle.cue_lists.specs.declared.cue.Kind.TheVariants as kind
+use Rattle.cue_lists.proofs.ChannelCues.{cues_on_formed, hides_unless_roll, pop_is_not_roll}
+use Rattle.cue_lists.proofs.ChannelRules.{in_sequence_sound}
 use Rattle.line21_codes.specs.Channels.{is_in_second_field}
 use Rattle.line21_author.specs.Channels.{cues_on}
 use Rattle.line21_author.specs.CueEvents.{event_of, is_replaced_at, show_events, hide_events, events_of, channel_events}
-use Rattle.line21_author.specs.EventOrder.{AreApart, IsInTurn, Follows, AreInTurn}
+use Rattle.line21_author.specs.EventOrder.{AreApart}
 use Rattle.line21_author.specs.declared.event.Event.{Event}
 use Rattle.line21_author.proofs.CueEventsLemmas.{events_of_apart}
-use Rattle.frame_scheduler.specs.CueSequence.{ComesAfter, AreInSequence}
-use Rattle.frame_scheduler.specs.SoundCues.{IsSound}
-use Rattle.frame_scheduler.proofs.CueSequenceLemmas.{in_sequence, in_sequence_sound}
-
--- a roll-up cue isn't pop-on
-pub roll_is_not_pop : (k : Kind) → is_roll k ≡ true → is_pop k ≡ false
-roll_is_not_pop (kind.Pop channel) roll = cc
-roll_is_not_pop (kind.Paint channel) roll = refl
-roll_is_not_pop (kind.Roll channel rows) roll = refl
-roll_is_not_pop (kind.Win window) roll = refl
-
--- a pop-on cue isn't roll-up
-pub pop_is_not_roll : (k : Kind) → is_pop k ≡ true → is_roll k ≡ false
-pop_is_not_roll (kind.Pop channel) pop = refl
-pop_is_not_roll (kind.Paint channel) pop = refl
-pop_is_not_roll (kind.Roll channel rows) pop = cc
-pop_is_not_roll (kind.Win window) pop = refl
-
--- a sound cue is in turn
-sound_in_turn : (frames : ℕ) (cue : Cue) → IsSound frames cue → IsInTurn cue
-sound_in_turn frames cue sound =
-    record {
-      shown = sound.loaded;
-      hidden = sound.hidden;
-      stays = sound.stays;
-    }
-
--- a cue that comes after another follows it
-after_follows : (former cue : Cue) → ComesAfter former cue → Follows former cue
-after_follows former cue after =
-    record {
-      shown = after.shown;
-      apart = after.apart;
-      loaded = after.cleared;
-      behind = after.loaded;
-      stays = λ none. roll_is_not_pop cue.kind (after.continued none).roll;
-    }
-
--- cues in sequence are in turn
-pub in_turn : (frames : ℕ) (cues : List Cue) → AreInSequence frames cues → AreInTurn cues
-in_turn frames [] sequence = tt
-in_turn frames (cue ∷ []) sequence = sound_in_turn frames cue sequence
-in_turn frames (cue ∷ (next ∷ later)) sequence =
-    (sound_in_turn frames cue sequence.0, after_follows cue next sequence.1, in_turn frames (next ∷ later) sequence.2)
 
 -- the events of a channel are apart
 pub events_apart : (list : Listing) → IsFormed list → IsRuled list → (channel : Chan)
     → AreApart (channel_events channel list.cues)
 events_apart list formed ruled channel =
-    events_of_apart (is_in_second_field channel) (cues_on channel list.cues)
-    (in_turn list.frames (cues_on channel list.cues) (in_sequence list formed ruled channel))
+    events_of_apart (is_in_second_field channel) list.frames (cues_on channel list.cues) (ruled.channels channel)
 
 -- the event has ended when so many frames have
 abbrev pub HasEnded : ℕ → Event → Type 0
@@ -104,18 +61,18 @@ hide_ended second_field frames show (Some hide) later ended =
     hide_ended_at second_field (is_replaced_at hide later) frames hide ended
 
 -- the events of sound cues have ended when the list has
-events_ended : (second_field : Bool) (frames : ℕ) (cues : List Cue) → AllByRecursion (IsSound frames) cues
-    → AllByRecursion (HasEnded frames) (events_of second_field cues)
-events_ended second_field frames [] sound = tt
-events_ended second_field frames (cue ∷ later) sound =
+events_ended : (second_field : Bool) (frames : ℕ) (cues : List Cue) → AllByRecursion IsCueFormed cues
+    → AllByRecursion (IsSound frames) cues → AllByRecursion (HasEnded frames) (events_of second_field cues)
+events_ended second_field frames [] formed sound = tt
+events_ended second_field frames (cue ∷ later) formed sound =
     ended-append frames (show_events second_field cue ++ hide_events second_field cue.hide later)
     (events_of second_field later)
     (ended-append frames (show_events second_field cue) (hide_events second_field cue.hide later)
     (show_ended second_field (is_pop cue.kind) frames cue.show
-    (λ pop. show_ended_at frames cue.show cue.hide (sound.0.erased (pop_is_not_roll cue.kind pop))
+    (λ pop. show_ended_at frames cue.show cue.hide (hides_unless_roll cue formed.0 (pop_is_not_roll cue.kind pop))
     sound.0.hidden sound.0.ended))
     (hide_ended second_field frames cue.show cue.hide later sound.0.ended))
-    (events_ended second_field frames later sound.1)
+    (events_ended second_field frames later formed.1 sound.1)
 
 -- each event of a channel has ended when the list has, its repeat counted
 pub events_within : (list : Listing) → IsFormed list → IsRuled list → (channel : Chan)
@@ -123,4 +80,5 @@ pub events_within : (list : Listing) → IsFormed list → IsRuled list → (cha
 events_within list formed ruled channel =
     All-from_recursion (HasEnded list.frames) (channel_events channel list.cues)
     (events_ended (is_in_second_field channel) list.frames (cues_on channel list.cues)
-    (in_sequence_sound list.frames (cues_on channel list.cues) (in_sequence list formed ruled channel)))
+    (recursion_from_All IsCueFormed (cues_on channel list.cues) (cues_on_formed channel list.cues formed.cues))
+    (in_sequence_sound list.frames (cues_on channel list.cues) (ruled.channels channel)))

@@ -10,9 +10,7 @@ pub mod ColumnLemmas
 pub mod DoublingLemmas
 pub mod OneCueLemmas
 pub mod BothFieldsLemmas
-pub mod ChannelCues
 pub mod ChannelOrderLemmas
-pub mod CueSequenceLemmas
 pub mod EventsApartLemmas
 pub mod NoCuesLemmas
 pub mod ListDoublingLemmas

@@ -9,6 +9,8 @@ use Rattle.line21_codes.specs.declared.channels.Chan.TheVariants.{Cc1, Cc3}
 use Rattle.cue_lists.specs.Cues.{IsCueFormed}
 use Rattle.cue_lists.specs.Listing.{IsFormed, Listing}
 use Rattle.cue_lists.specs.Rules.{IsRuled}
+use Rattle.cue_lists.specs.Rules.Sentences.{IsSound}
+use Rattle.cue_lists.proofs.ChannelRules.{in_sequence_sound}
 use Rattle.cue_lists.specs.declared.cue.Cue.{Cue}
 use Rattle.line21_author.specs.Channels.{cues_on, is_on}
 use Rattle.line21_author.specs.CueEvents.{channel_events}
@@ -27,9 +29,7 @@ use Rattle.frame_scheduler.specs.LaneDoubling.{AreDoubledControls, AreEnded}
 use Rattle.frame_scheduler.specs.LaneEvents.{AreOver}
 use Rattle.frame_scheduler.specs.LaneTimeline.{lane_timeline}
 use Rattle.frame_scheduler.specs.Planned.{IsPlaced, Placement, columns_of}
-use Rattle.frame_scheduler.specs.SoundCues.{IsSound}
 use Rattle.frame_scheduler.specs.Timeline.{Timeline, column, slot}
-use Rattle.frame_scheduler.proofs.CueSequenceLemmas.{in_sequence, in_sequence_sound}
 use Rattle.frame_scheduler.proofs.DoublingLemmas.{lane_doubled}
 use Rattle.frame_scheduler.proofs.EventsApartLemmas.{events_apart, events_within}
 
@@ -74,7 +74,7 @@ column_is timeline (suc n) = ap (λ pairs. pairs ++ slot timeline n ∷ []) (col
 channel_within : (list : Listing) (channel : Chan) → IsFormed list → IsRuled list → All (IsWithin list.frames) (channel_pieces channel list.cues)
 channel_within list channel formed ruled =
     pieces_within channel list.frames 1 list.cues formed.cues
-    (in_sequence_sound list.frames (cues_on channel list.cues) (in_sequence list formed ruled channel))
+    (in_sequence_sound list.frames (cues_on channel list.cues) (ruled.channels channel))
 
 -- what begins on a channel is doubled exactly where it is a control pair
 pub channel_controls : (list : Listing) (channel : Chan) → IsFormed list → IsRuled list

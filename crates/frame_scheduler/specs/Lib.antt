@@ -14,8 +14,6 @@ pub mod LaneDoubling
 pub mod ChannelAnswer
 pub mod ChannelLane
 pub mod Columns
-pub mod CueSequence
 pub mod EventsApart
 pub mod Frames
 pub mod Planned
-pub mod SoundCues

@@ -9,6 +9,8 @@ use Rattle.line21_codes.specs.Writable.{IsWritableControl}
 use Rattle.line21_codes.proofs.CodeLemmas.{written-odd, is_control-written}
 use Rattle.cue_lists.specs.declared.cue.Cue.{Cue}
 use Rattle.cue_lists.specs.Rules.Lane.{is_pop}
+use Rattle.cue_lists.specs.Rules.Sentences.{AreInSequence}
+use Rattle.cue_lists.proofs.ChannelCues.{roll_is_not_pop}
 use Rattle.line21_author.specs.declared.event.Event.{Event}
 use Rattle.line21_codes.specs.declared.channels.Chan.{Chan}
 use Rattle.line21_codes.specs.Channels.{is_in_second_field}
@@ -16,7 +18,7 @@ use Rattle.line21_author.specs.Channels.{cues_on}
 use Rattle.line21_author.specs.FirstChannel.{first_channel}
 use Rattle.line21_author.specs.CueEvents.{event_of, show_events, hide_events, is_replaced_at, events_of, channel_events}
 use Rattle.line21_author.specs.EventPairs.{IsControlEvent}
-use Rattle.line21_author.specs.EventOrder.{AreFrom, AreApart, AreInTurn}
+use Rattle.line21_author.specs.EventOrder.{AreFrom, AreApart}
 
 -- the event of a code that can be written has a control pair
 event_of_control : (second_field : Bool) (frame : ℕ) (control : Control) → IsWritableControl control
@@ -148,27 +150,28 @@ hides_from_low : (pop_on : Bool) (cue : Cue) → cue.load < cue.show → hides_f
 hides_from_low true cue shown = omega arith
 hides_from_low false cue shown = omega arith
 
--- the events of cues in turn
-turn_fit : (second_field : Bool) (cue : Cue) (later : List Cue) → AreInTurn (cue ∷ later)
+-- the events of cues in sequence
+sequence_fit : (second_field : Bool) (frames : ℕ) (cue : Cue) (later : List Cue) → AreInSequence frames (cue ∷ later)
     → IsFitFrom (first_from (is_pop cue.kind) cue) (events_of second_field (cue ∷ later))
-turn_fit second_field cue [] turn =
+sequence_fit second_field frames cue [] sequence =
     show_fit second_field (is_pop cue.kind) cue (hide_events second_field cue.hide []) []
     (last_fit second_field (hides_from (is_pop cue.kind) cue) cue.hide
-    (hides_after (is_pop cue.kind) cue cue.hide turn.shown turn.hidden turn.stays))
-turn_fit second_field cue (next ∷ later) turn =
+    (hides_after (is_pop cue.kind) cue cue.hide sequence.loaded sequence.hidden sequence.stays))
+sequence_fit second_field frames cue (next ∷ later) sequence =
     show_fit second_field (is_pop cue.kind) cue (hide_events second_field cue.hide (next ∷ later))
     (events_of second_field (next ∷ later))
     (hide_fit second_field (hides_from (is_pop cue.kind) cue) cue cue.hide next later (events_of second_field (next ∷ later))
-    (hides_after (is_pop cue.kind) cue cue.hide turn.0.shown turn.0.hidden turn.0.stays)
-    (hides_from_low (is_pop cue.kind) cue turn.0.shown)
-    turn.1.behind turn.1.shown turn.1.apart turn.1.loaded turn.1.stays (turn_fit second_field next later turn.2))
+    (hides_after (is_pop cue.kind) cue cue.hide sequence.0.loaded sequence.0.hidden sequence.0.stays)
+    (hides_from_low (is_pop cue.kind) cue sequence.0.loaded)
+    sequence.1.loaded sequence.1.shown sequence.1.apart sequence.1.cleared
+    (λ none. roll_is_not_pop next.kind (sequence.1.continued none).roll) (sequence_fit second_field frames next later sequence.2))
 
--- the events of cues in turn are apart
-pub events_of_apart : (second_field : Bool) (cues : List Cue) → AreInTurn cues → AreApart (events_of second_field cues)
-events_of_apart second_field [] turn = tt
-events_of_apart second_field (cue ∷ later) turn = (turn_fit second_field cue later turn).apart
+-- the events of cues in sequence are apart
+pub events_of_apart : (second_field : Bool) (frames : ℕ) (cues : List Cue) → AreInSequence frames cues → AreApart (events_of second_field cues)
+events_of_apart second_field frames [] sequence = tt
+events_of_apart second_field frames (cue ∷ later) sequence = (sequence_fit second_field frames cue later sequence).apart
 
--- the events of a channel have control pairs, and are apart where its cues are in turn
+-- the events of a channel have control pairs, and are apart where its cues are in sequence
 pub channel_events_control : (channel : Chan) (cues : List Cue) (events : List Event) → events ≡ channel_events channel cues
     → All IsControlEvent events
 channel_events_control channel cues events is =
@@ -176,6 +179,6 @@ channel_events_control channel cues events is =
     (events_of_control (is_in_second_field channel) (cues_on channel cues))
 
 pub channel_events_apart : (channel : Chan) (cues : List Cue) (events : List Event) → events ≡ channel_events channel cues
-    → AreInTurn (cues_on channel cues) → AreApart events
-channel_events_apart channel cues events is turn =
-    subst (λ (es : List Event). AreApart es) (sym is) (events_of_apart (is_in_second_field channel) (cues_on channel cues) turn)
+    → (frames : ℕ) → AreInSequence frames (cues_on channel cues) → AreApart events
+channel_events_apart channel cues events is frames sequence =
+    subst (λ (es : List Event). AreApart es) (sym is) (events_of_apart (is_in_second_field channel) frames (cues_on channel cues) sequence)

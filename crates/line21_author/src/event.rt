@@ -1,9 +1,10 @@
-ghost use Rattle.std.specs.Prelude.{◌≡◌, ◌+◌, ◌^◌, ◌<◌, List, ◌∷◌, ◌++◌, [], All, IfOk, OnOk};
+ghost use Rattle.std.specs.Prelude.{◌≡◌, ℕ, ◌+◌, ◌^◌, ◌<◌, List, ◌∷◌, ◌++◌, [], All, IfOk, OnOk};
 ghost use Rattle.line21_codes.specs.Writable.{IsWritableControl};
 ghost use Rattle.cue_lists.specs.Rules.Lane.{is_pop};
+ghost use Rattle.cue_lists.specs.Rules.Sentences.{AreInSequence};
 ghost use Rattle.line21_author.specs.Channels.{cues_on};
 ghost use Rattle.line21_author.specs.CueEvents.{event_of, show_events, hide_events, channel_events};
-ghost use Rattle.line21_author.specs.EventOrder.{AreInTurn, AreApart};
+ghost use Rattle.line21_author.specs.EventOrder.{AreApart};
 ghost use Rattle.line21_author.specs.EventPairs.{IsControlEvent};
 
 use crate::channel::{first_channel, is_on};
@@ -36,7 +37,7 @@ impl Event {
 pub fn events(alloc: Global, cues: &[Cue], channel: Chan) -> Result<Vec<Event>, AllocError>
     ensures events { IfOk result (λ events. events.items ≡ channel_events channel cues.now) }
     ensures control { IfOk result (λ events. All IsControlEvent events.items) }
-    ensures apart { IfOk result (λ events. AreInTurn (cues_on channel cues.now) → AreApart events.items) }
+    ensures apart { IfOk result (λ events. (frames : ℕ) → AreInSequence frames (cues_on channel cues.now) → AreApart events.items) }
 {
     let second_field = channel.is_in_second_field();
     let mut events = Vec::new(alloc);

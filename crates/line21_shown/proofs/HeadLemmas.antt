@@ -16,10 +16,10 @@ use Rattle.line21_author.specs.declared.unit.Unit.{Unit}
 use Rattle.line21_author.proofs.CueCodesLemmas.{cue_codes_writable}
 use Rattle.frame_scheduler.specs.declared.lane.piece.Piece.{Piece}
 use Rattle.frame_scheduler.specs.ChannelLane.{cue_pieces}
-use Rattle.frame_scheduler.specs.CueSequence.{AreInSequence}
+use Rattle.cue_lists.specs.Rules.Sentences.{AreInSequence}
 use Rattle.frame_scheduler.specs.LaneEvents.{IsFree, event_at}
 use Rattle.frame_scheduler.specs.LaneTimeline.{stands}
-use Rattle.frame_scheduler.specs.SoundCues.{IsSound}
+use Rattle.cue_lists.specs.Rules.Sentences.{IsSound}
 use Rattle.frame_scheduler.specs.Timeline.{Timeline, first_of, over}
 use Rattle.line21_shown.proofs.LoadingLemmas.{erases, piece_code, piece_codes}
 use Rattle.line21_shown.proofs.SuffixLemmas.{ArePieces, ArePlacedFrom, LoadFrom, cue_loads, cue_until, events_behind, loads_from, parts, placed_behind, raised, stands_high, stands_low, stands_parts}

@@ -16,15 +16,16 @@ use Rattle.cue_lists.specs.declared.cue.Cue.{Cue}
 use Rattle.cue_lists.specs.declared.cue.Kind.{Kind}
 use Rattle.cue_lists.specs.declared.cue.Kind.TheVariants as kind
 use Rattle.cue_lists.specs.declared.cue.Run.{Run}
+use Rattle.cue_lists.proofs.ChannelKept.{continued_continues}
 use Rattle.line21_author.specs.CueCodes.{cue_codes}
 use Rattle.line21_author.specs.CueEvents.{events_of}
 use Rattle.line21_screen.specs.Channels.{ChannelState}
 use Rattle.line21_screen.specs.Grid.{Grid, empty_grid}
 use Rattle.frame_scheduler.specs.declared.lane.piece.Piece.{Piece}
-use Rattle.frame_scheduler.specs.CueSequence.{AreInSequence, IsContinued}
+use Rattle.cue_lists.specs.Rules.Sentences.{AreInSequence, IsContinued}
 use Rattle.frame_scheduler.specs.LaneEvents.{event_at}
 use Rattle.frame_scheduler.specs.LaneTimeline.{stands}
-use Rattle.frame_scheduler.specs.SoundCues.{IsSound}
+use Rattle.cue_lists.specs.Rules.Sentences.{IsSound}
 use Rattle.frame_scheduler.specs.Timeline.{Timeline, first_of}
 use Rattle.frame_scheduler.proofs.LaneCursorLemmas.{event_none}
 use Rattle.line21_shown.specs.Doing.{does_all}
@@ -71,6 +72,7 @@ record IsOnward (cue : Cue) (earlier : List Cue) (s : ChannelState) : Type 0 whe
   before : List Cue
   is : earlier ≡ former ∷ before
   continued : IsContinued former cue
+  continues : continues cue former ≡ true
   rolling : IsRollingFor former.kind (base_row former.runs) (shown_from former.kind former before) s
 
 -- no cue continues one with a HIDE
@@ -111,6 +113,7 @@ new_or_onward hide a g (former ∷ before) own s cue later is link shown state =
           before = before;
           is = refl;
           continued = link.continued none;
+          continues = continued_continues former cue (link.continued none) none;
           rolling = subst (IsRollingFor former.kind (base_row former.runs) (shown_from former.kind former before)) (sym same)
               (subst (λ (x : Grid). IsRollingFor former.kind (base_row former.runs) x own) is.1 is.2);
         })
@@ -158,7 +161,7 @@ module _ (channel : Chan) (rows : ℕ) (cue : Cue) (earlier : List Cue) (s : Cha
       let rolling_now : IsRolling rows (base_row cue.runs) (rolled_up rows (base_row cue.runs) (chain_of onward.former onward.before)) s =
       subst (λ b. IsRolling rows b (rolled_up rows b (chain_of onward.former onward.before)) s) (sym onward.continued.base) rolling_former in
       let chain : chain_of cue earlier ≡ cue ∷ chain_of onward.former onward.before =
-      ap (chain_of cue) onward.is ∙ ap (λ b. cue ∷ (if b then chain_of onward.former onward.before else [])) onward.continued.continues in
+      ap (chain_of cue) onward.is ∙ ap (λ b. cue ∷ (if b then chain_of onward.former onward.before else [])) onward.continues in
       rolling_is _ (roll_continued channel rows cue _ s is rolls runs several rolling_now)
       (chain_rolls rows (base_row cue.runs) cue (chain_of onward.former onward.before) some_rows (has_room cue.runs several rolls.room) rolls.one_row apart
       ∙ sym (ap (λ c. rolled_up rows (base_row cue.runs) c) chain))

@@ -20,13 +20,12 @@ use Rattle.line21_author.specs.FirstChannel.{first_channel}
 use Rattle.line21_author.proofs.CueEventsLemmas.{events_of_apart}
 use Rattle.line21_screen.specs.Channels.{ChannelState}
 use Rattle.line21_screen.specs.Grid.{Grid}
-use Rattle.frame_scheduler.specs.CueSequence.{AreInSequence}
+use Rattle.cue_lists.specs.Rules.Sentences.{AreInSequence}
 use Rattle.frame_scheduler.specs.LaneEvents.{IsFree, event_at}
 use Rattle.frame_scheduler.specs.LaneTimeline.{stands}
-use Rattle.frame_scheduler.specs.SoundCues.{IsSound}
+use Rattle.cue_lists.specs.Rules.Sentences.{IsSound}
 use Rattle.frame_scheduler.specs.Timeline.{Timeline, first_of}
 use Rattle.frame_scheduler.proofs.DoublingLemmas.{free_none}
-use Rattle.frame_scheduler.proofs.EventsApartLemmas.{in_turn}
 use Rattle.line21_shown.specs.Doing.{does_all}
 use Rattle.line21_shown.specs.Reading.{does_unit, acts}
 use Rattle.line21_shown.proofs.BlindLemmas.{AreBlind, showing, pop_blind}
@@ -64,7 +63,7 @@ module _ (second_field : Bool) (t : Timeline) (frames a from : ℕ) (hide : Opti
     (on : Continues second_field t a hide (cue ∷ later)) (is : IsShown t a from hide g earlier) (link : AreBehind earlier (cue ∷ later))
     (low : a ≤ suc from) (before : a ≤ cue.show) where
   apart : AreApart (events_of second_field (cue ∷ later))
-  apart = events_of_apart second_field (cue ∷ later) (in_turn frames (cue ∷ later) sequence)
+  apart = events_of_apart second_field frames (cue ∷ later) sequence
 
   sound : IsSound frames cue
   sound = first_sound frames cue later sequence

@@ -10,9 +10,9 @@ use Rattle.cue_lists.specs.declared.cue.Kind.{Kind}
 use Rattle.cue_lists.specs.declared.cue.Kind.TheVariants as kind
 use Rattle.line21_screen.specs.Channels.{ChannelState}
 use Rattle.line21_screen.specs.Grid.{Grid, empty_grid}
-use Rattle.frame_scheduler.specs.CueSequence.{AreInSequence, ComesAfter}
+use Rattle.cue_lists.specs.Rules.Sentences.{AreInSequence, ComesAfter}
 use Rattle.frame_scheduler.specs.Timeline.{Timeline}
-use Rattle.frame_scheduler.proofs.ChannelCues.{reverse-cons}
+use Rattle.cue_lists.proofs.ChannelCues.{reverse-cons}
 use Rattle.line21_shown.specs.Reading.{acts}
 use Rattle.line21_shown.proofs.HeadLemmas.{first_sound}
 use Rattle.line21_shown.proofs.LoadingLemmas.{until}

@@ -6,7 +6,7 @@ use Rattle.std.proofs.lemmas.Bool.Decides.{nat_tests}
 use Rattle.std.proofs.lemmas.List.{reverse-append, reverse-reverse}
 use Rattle.std.proofs.lemmas.List.Elements.{All-contains, All-contains_itself, All-from_recursion, All-head, All-tail, All-weaker, Contains-append_right, recursion_from_All}
 use Rattle.line21_codes.specs.declared.channels.Chan.{Chan}
-use Rattle.cue_lists.specs.AuthoredGrid.{Picture, authored_grid, blank, cell_in, cells_of, cells_of_cue, chain_of, channel_cues, is_past, rolled_up, shown_by, shown_from, shown_of_newest}
+use Rattle.cue_lists.specs.AuthoredGrid.{Picture, authored_grid, blank, cell_in, cells_of, cells_of_cue, chain_of, is_past, rolled_up, shown_by, shown_from, shown_of_newest}
 use Rattle.cue_lists.specs.Cues.{IsCueFormed, IsOfKind}
 use Rattle.cue_lists.specs.Line21Cues.{base_row}
 use Rattle.cue_lists.specs.Listing.{IsFormed, Listing}
@@ -18,16 +18,16 @@ use Rattle.cue_lists.specs.declared.cue.Kind.{Kind}
 use Rattle.cue_lists.specs.declared.cue.Kind.TheVariants as kind
 use Rattle.cue_lists.specs.declared.cue.Run.{Run}
 use Rattle.line21_author.specs.Channels.{cues_on, is_on}
-use Rattle.frame_scheduler.specs.CueSequence.{AreInSequence}
-use Rattle.frame_scheduler.specs.SoundCues.{IsSound}
-use Rattle.frame_scheduler.proofs.ChannelCues.{cues_on_are_on, cues_on_formed, line21_on}
-use Rattle.frame_scheduler.proofs.CueSequenceLemmas.{in_sequence, in_sequence_sound}
+use Rattle.cue_lists.specs.Rules.Sentences.{AreInSequence}
+use Rattle.cue_lists.specs.Rules.Sentences.{IsSound}
+use Rattle.cue_lists.proofs.ChannelCues.{cues_on_are_on, cues_on_formed, hides_unless_roll, line21_on}
+use Rattle.cue_lists.proofs.ChannelRules.{in_sequence_sound}
 use Rattle.line21_shown.specs.Sentences.{AuthoredGridIsSaid, HasCells, HasRows, IsUp}
 use Rattle.line21_shown.proofs.ChainLemmas.{chain_at}
 use Rattle.line21_shown.proofs.CueWritingLemmas.{apart_in_cells}
 use Rattle.line21_shown.proofs.HeadLemmas.{first_sound, rest_in_sequence}
 use Rattle.line21_shown.proofs.ScreenLemmas.{all_later, newest_first, newest_first-reverse, not_shown_yet}
-use Rattle.line21_shown.proofs.SequenceLemmas.{authored_is, cues_are}
+use Rattle.line21_shown.proofs.SequenceLemmas.{authored_is}
 
 -- neither of two tests passes where not one of them does
 neither : (a b : Bool) → (a || b) ≡ false → (a ≡ false) × (b ≡ false)
@@ -128,11 +128,11 @@ behind_hidden frames f cue (next ∷ later) sequence some up =
 abbrev IsNewest : ℕ → List Cue → Cue → Type 0
 IsNewest f back cue = is_roll cue.kind ≡ false → IsUp f cue → (earlier : List Cue) × (shown_by f back ≡ cue ∷ earlier)
 
-each_newest : (frames f : ℕ) (cues earlier : List Cue) → AreInSequence frames cues → AllByRecursion (IsNewest f (newest_first cues earlier)) cues
-each_newest frames f [] earlier sequence = tt
-each_newest frames f (cue ∷ later) earlier sequence = (
-  λ plain up. (earlier, newest_is f cue later earlier up.0 (behind_hidden frames f cue later sequence ((first_sound frames cue later sequence).erased plain) up.1)),
-  each_newest frames f later (cue ∷ earlier) (rest_in_sequence frames cue later sequence),
+each_newest : (frames f : ℕ) (cues earlier : List Cue) → AllByRecursion IsCueFormed cues → AreInSequence frames cues → AllByRecursion (IsNewest f (newest_first cues earlier)) cues
+each_newest frames f [] earlier formed sequence = tt
+each_newest frames f (cue ∷ later) earlier formed sequence = (
+  λ plain up. (earlier, newest_is f cue later earlier up.0 (behind_hidden frames f cue later sequence (hides_unless_roll cue formed.0 plain) up.1)),
+  each_newest frames f later (cue ∷ earlier) formed.1 (rest_in_sequence frames cue later sequence),
 )
 
 -- a pop-on or paint-on cue shows its cells
@@ -174,10 +174,10 @@ module _ (list : Listing) (formed : IsFormed list) (ruled : IsRuled list) (chann
   cues = cues_on channel list.cues
 
   sequence : AreInSequence list.frames cues
-  sequence = in_sequence list formed ruled channel
+  sequence = ruled.channels channel
 
-  same : channel_cues channel list.cues ≡ cues
-  same = cues_are channel list.cues
+  all_formed : AllByRecursion IsCueFormed cues
+  all_formed = recursion_from_All IsCueFormed cues (cues_on_formed channel list.cues formed.cues)
 
   -- the grid of a newest cue that is up
   of_newest : (cue : Cue) (earlier : List Cue) → shown_by f (newest_first cues []) ≡ cue ∷ earlier → IfSome cue.hide (λ h. f < h)
@@ -189,7 +189,7 @@ module _ (list : Listing) (formed : IsFormed list) (ruled : IsRuled list) (chann
   captioned : (cue : Cue) → Contains cues cue → is_roll cue.kind ≡ false → IsUp f cue → HasCells cue.runs (authored_grid channel list.cues f)
   captioned cue among plain up =
       let newest = All-contains (IsNewest f (newest_first cues [])) cues cue
-      (All-from_recursion (IsNewest f (newest_first cues [])) cues (each_newest list.frames f cues [] sequence)) among plain up in
+      (All-from_recursion (IsNewest f (newest_first cues [])) cues (each_newest list.frames f cues [] all_formed sequence)) among plain up in
       let sound : IsSound list.frames cue =
       All-contains (IsSound list.frames) cues cue (All-from_recursion (IsSound list.frames) cues (in_sequence_sound list.frames cues sequence)) among in
       let line21 : is_line21 cue.kind ≡ true =
@@ -232,9 +232,8 @@ module _ (list : Listing) (formed : IsFormed list) (ruled : IsRuled list) (chann
 -- the authored grid says just this
 pub authored_said : AuthoredGridIsSaid
 authored_said list formed ruled channel f =
-    let same_cues = cues_are channel list.cues in
     record {
-      captioned = λ cue among. captioned list formed ruled channel f cue (subst (λ (x : List Cue). Contains x cue) same_cues among);
-      rolled = λ earlier later cue own rows split. rolled list formed ruled channel f earlier later cue own rows (sym same_cues ∙ split);
-      nothing = λ none. nothing list formed ruled channel f (λ cue among. none cue (subst (λ (x : List Cue). Contains x cue) (sym same_cues) among));
+      captioned = captioned list formed ruled channel f;
+      rolled = rolled list formed ruled channel f;
+      nothing = nothing list formed ruled channel f;
     }

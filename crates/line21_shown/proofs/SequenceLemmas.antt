@@ -2,12 +2,11 @@
 use Rattle.std.proofs.Common.{◌≡◌, ℕ, suc, ◌<◌, ◌≤◌, Bool, true, false, List, [], ◌∷◌, ◌++◌, Option, Some, None, All, filter, refl, sym, ap, ◌∙◌, subst, arith, ⊎_elim, append-nil, reverse}
 use Rattle.std.specs.Prelude.{⊤, IfSome, IsSome}
 use Rattle.std.specs.List.{AllByRecursion}
-use Rattle.std.proofs.Math.Path.{fun_ext}
 use Rattle.std.proofs.lemmas.Bool.{cases_lt}
 use Rattle.std.proofs.lemmas.List.Elements.{recursion_from_All}
 use Rattle.line21_codes.specs.declared.channels.Chan.{Chan}
 use Rattle.line21_codes.specs.declared.channels.Chan.TheVariants.{Cc1, Cc3}
-use Rattle.cue_lists.specs.AuthoredGrid.{IsSettled, IsSettledFor, authored_grid, channel_cues, shown_by, shown_from, shown_of_newest}
+use Rattle.cue_lists.specs.AuthoredGrid.{IsSettled, IsSettledFor, authored_grid, shown_by, shown_from, shown_of_newest}
 use Rattle.cue_lists.specs.Cues.{IsCueFormed}
 use Rattle.cue_lists.specs.Listing.{IsFormed, Listing}
 use Rattle.cue_lists.specs.Rules.{IsRuled}
@@ -19,13 +18,11 @@ use Rattle.line21_author.specs.CueEvents.{channel_events, hide_events}
 use Rattle.line21_screen.specs.Channels.{ChannelState}
 use Rattle.line21_screen.specs.Grid.{Grid, empty_grid}
 use Rattle.frame_scheduler.specs.ChannelLane.{IsChannelPlaced, channel_pieces, channel_slot}
-use Rattle.frame_scheduler.specs.CueSequence.{AreInSequence}
+use Rattle.cue_lists.specs.Rules.Sentences.{AreInSequence}
 use Rattle.frame_scheduler.specs.LaneEvents.{event_at}
 use Rattle.frame_scheduler.specs.LaneTimeline.{lane_timeline, stands}
 use Rattle.frame_scheduler.specs.Timeline.{Timeline, first_of}
-use Rattle.frame_scheduler.proofs.ChannelCues.{cues_on_are_on, cues_on_formed, line21_on, on_lane_is}
-use Rattle.frame_scheduler.proofs.CueSequenceLemmas.{in_sequence}
-use Rattle.frame_scheduler.proofs.EventsApartLemmas.{pop_is_not_roll}
+use Rattle.cue_lists.proofs.ChannelCues.{cues_on_are_on, cues_on_formed, hides_unless_roll, line21_on, pop_is_not_roll}
 use Rattle.line21_shown.specs.Reading.{acts, first_alone}
 use Rattle.line21_shown.specs.Shown.{AuthoredIsSeen, ShowsField, state_at}
 use Rattle.line21_shown.proofs.CaptionedLemmas.{channel_captioned}
@@ -72,12 +69,13 @@ hidden_behind None show load some later cleared = cc
 hidden_behind (Some h) show load some later cleared = omega arith
 
 -- the cues behind a cue begin behind it
-begin_behind_pop : (frames : ℕ) (cue : Cue) (later : List Cue) → is_pop cue.kind ≡ true → AreInSequence frames (cue ∷ later) → BeginFrom (suc cue.show) later
-begin_behind_pop frames cue [] pop sequence = tt
-begin_behind_pop frames cue (next ∷ later) pop sequence =
+begin_behind_pop : (frames : ℕ) (cue : Cue) (later : List Cue) → is_pop cue.kind ≡ true → IsCueFormed cue → AreInSequence frames (cue ∷ later)
+    → BeginFrom (suc cue.show) later
+begin_behind_pop frames cue [] pop formed sequence = tt
+begin_behind_pop frames cue (next ∷ later) pop formed sequence =
     let behind : cue.show ≤ next.load = sequence.1.loaded in
     let shown : next.load < next.show = (first_sound frames next later sequence.2).loaded in (
-      λ plain. hidden_behind cue.hide cue.show next.load (sequence.0.erased (pop_is_not_roll cue.kind pop)) sequence.0.hidden (sequence.1.cleared plain),
+      λ plain. hidden_behind cue.hide cue.show next.load (hides_unless_roll cue formed (pop_is_not_roll cue.kind pop)) sequence.0.hidden (sequence.1.cleared plain),
       omega arith,
     )
 
@@ -104,7 +102,7 @@ cues_shown second_field t frames a from hide g [] earlier captions sequence begi
 cues_shown second_field t frames a from hide g (cue ∷ later) earlier captions sequence begin link on is low f above settled =
     by_kind (is_pop cue.kind) refl
     (λ pop h. cues_shown second_field t frames (suc cue.show) cue.show cue.hide (shown_from cue.kind cue earlier) later (cue ∷ earlier) captions.1
-    (rest_in_sequence frames cue later sequence) (begin_behind_pop frames cue later pop sequence) (after_it frames cue later earlier sequence)
+    (rest_in_sequence frames cue later sequence) (begin_behind_pop frames cue later pop captions.0.formed sequence) (after_it frames cue later earlier sequence)
     (pop_continues second_field t frames a from hide g earlier cue later pop captions.0.formed sequence on is link low begin.1)
     (pop_shown second_field t frames a from hide g earlier cue later pop captions.0.formed sequence on is link low begin.1)
     (omega arith) f h settled.1)
@@ -130,11 +128,7 @@ cues_shown second_field t frames a from hide g (cue ∷ later) earlier captions 
         (screened plain)
         (cases_lt f cue.show)
 
--- the cues on a channel are those of its lane
-pub cues_are : (channel : Chan) (cues : List Cue) → channel_cues channel cues ≡ cues_on channel cues
-cues_are channel cues = ap (λ (test : Cue → Bool). filter test cues) (fun_ext (λ (cue : Cue). on_lane_is channel cue.kind))
-
--- they are captions
+-- the cues on a channel are captions
 captions_are : (channel : Chan) (cues : List Cue) → All IsCueFormed cues → All IsCaption (cues_on channel cues)
 captions_are channel cues formed k d within = record {
   line21 = line21_on channel _ (cues_on_are_on channel cues k d within);
@@ -145,7 +139,7 @@ captions_are channel cues formed k d within = record {
 pub authored_is : (channel : Chan) (cues : List Cue) (f : ℕ) → shown_of_newest f (shown_by f (newest_first (cues_on channel cues) [])) ≡ authored_grid channel cues f
 authored_is channel cues f =
     ap (λ (back : List Cue). shown_of_newest f (shown_by f back))
-    (newest_first-reverse (cues_on channel cues) [] ∙ append-nil (reverse (cues_on channel cues)) ∙ ap reverse (sym (cues_are channel cues)))
+    (newest_first-reverse (cues_on channel cues) [] ∙ append-nil (reverse (cues_on channel cues)))
 
 -- the timeline of a channel begins with its cues
 begins : (channel : Chan) (cues : List Cue) (placed : List ℕ) → IsChannelPlaced channel cues placed
@@ -175,9 +169,9 @@ channel_shown list channel placed formed ruled earliest f settled =
     let t = lane_timeline (channel_events channel list.cues) (channel_pieces channel list.cues) placed in
     cues_shown (is_in_second_field channel) t list.frames 0 0 None empty_grid (cues_on channel list.cues) []
     (recursion_from_All IsCaption (cues_on channel list.cues) (captions_are channel list.cues formed.cues))
-    (in_sequence list formed ruled channel) (any_begin (cues_on channel list.cues)) tt
+    (ruled.channels channel) (any_begin (cues_on channel list.cues)) tt
     (begins channel list.cues placed earliest) (empty_first t) (omega arith) f (omega arith)
-    (recursion_from_All (IsSettledFor f) (cues_on channel list.cues) (subst (All (IsSettledFor f)) (cues_are channel list.cues) settled))
+    (recursion_from_All (IsSettledFor f) (cues_on channel list.cues) settled)
     ∙ authored_is channel list.cues f
 
 -- and the field that carries it

@@ -17,7 +17,7 @@ use Rattle.line21_author.specs.declared.event.Event.{Event}
 use Rattle.line21_author.specs.declared.unit.Unit.{Unit}
 use Rattle.frame_scheduler.specs.declared.lane.piece.Piece.{Piece}
 use Rattle.frame_scheduler.specs.ChannelLane.{cue_pieces, pieces_from}
-use Rattle.frame_scheduler.specs.CueSequence.{AreInSequence}
+use Rattle.cue_lists.specs.Rules.Sentences.{AreInSequence}
 use Rattle.frame_scheduler.specs.FieldLane.{end_of, lane}
 use Rattle.frame_scheduler.specs.LaneEvents.{IsFree, event_at}
 use Rattle.frame_scheduler.specs.LaneTimeline.{stands}

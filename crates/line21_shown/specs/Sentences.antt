@@ -3,7 +3,8 @@
 use Rattle.std.specs.Prelude.{◌≡◌, ℕ, ◌-◌, ◌<◌, ◌≤◌, true, false, List, ◌∷◌, ◌++◌, reverse, slice_get, All, IfSome, Some, None}
 use Rattle.std.specs.List.{Contains}
 use Rattle.line21_codes.specs.declared.channels.Chan.{Chan}
-use Rattle.cue_lists.specs.AuthoredGrid.{Picture, authored_grid, cell_in, cells_of, chain_of, channel_cues}
+use Rattle.cue_lists.specs.AuthoredGrid.{Picture, authored_grid, cell_in, cells_of, chain_of}
+use Rattle.cue_lists.specs.Channels.{cues_on}
 use Rattle.cue_lists.specs.Line21Cues.{base_row}
 use Rattle.cue_lists.specs.Listing.{IsFormed, Listing}
 use Rattle.cue_lists.specs.Rules.{IsRuled}
@@ -33,14 +34,14 @@ pub record HasRows (rows base : ℕ) (chain : List Cue) (picture : Picture) : Ty
 -- what a channel is to show at a frame
 pub record IsAuthored (channel : Chan) (cues : List Cue) (frame : ℕ) (picture : Picture) : Type 0 where
   -- a pop-on or paint-on cue that is up: the cells of its runs
-  pub captioned : (cue : Cue) → Contains (channel_cues channel cues) cue → is_roll cue.kind ≡ false → IsUp frame cue
+  pub captioned : (cue : Cue) → Contains (cues_on channel cues) cue → is_roll cue.kind ≡ false → IsUp frame cue
       → HasCells cue.runs picture
   -- a chain of roll-up cues, of which this is the last one that is shown yet: its rows
-  pub rolled : (earlier later : List Cue) (cue : Cue) (own : Chan) (rows : ℕ) → channel_cues channel cues ≡ reverse earlier ++ cue ∷ later
+  pub rolled : (earlier later : List Cue) (cue : Cue) (own : Chan) (rows : ℕ) → cues_on channel cues ≡ reverse earlier ++ cue ∷ later
       → cue.kind ≡ Roll own rows → IsUp frame cue → All (λ next. frame < next.show) later
       → HasRows rows (base_row cue.runs) (chain_of cue earlier) picture
   -- no cue that is up: no cell
-  pub nothing : ((cue : Cue) → Contains (channel_cues channel cues) cue → IsUp frame cue → ⊥) → (row column : ℕ) → picture row column ≡ None
+  pub nothing : ((cue : Cue) → Contains (cues_on channel cues) cue → IsUp frame cue → ⊥) → (row column : ℕ) → picture row column ≡ None
 
 -- the authored grid says just this
 abbrev pub AuthoredGridIsSaid : Type 0

@@ -1,10 +1,11 @@
 use Rattle.std.proofs.Common.{◌≡◌, ◌+◌, ◌≤◌, List, length, take, reverse, Ok, Err, subst, sym, ◌∙◌, ap, arith}
 use Rattle.std.proofs.lemmas.List.{length-take, take_all}
 use Rattle.std.proofs.lemmas.Result.{err_from_is_err_and}
-use Rattle.cue_lists.specs.Rules.{AreRuled, IsRuled, HasFault}
+use Rattle.cue_lists.specs.Rules.{AreFaultless, IsRuled, HasFault}
 use Rattle.cue_lists.specs.declared.cue.Cue.{Cue}
-use Rattle.cue_lists.proofs.RuleLists.{cue_on_grid, ruled_more, fault_here, ruled_ok, fault_err}
+use Rattle.cue_lists.proofs.RuleLists.{cue_on_grid, faultless_more, fault_here, ruled_ok, fault_err}
 use Rattle.cue_lists.proofs.RuleNearest.{before_more, length_before}
+use Rattle.cue_lists.proofs.RulesSaid.{faultless_ruled}
 use Rattle.cue_lists.proofs.rules.check.Goals as goal
 
 pub judge-requires-clause-on_grid : goal.judge-requires-clause-on_grid
@@ -26,8 +27,8 @@ returns-in_err-judge c =
     c.in_err-judge.ensures c.loop-index.invariant.kept in
     rw (p.1, p.2) (record {
       judged = has;
-      ruled = ruled_ok c.args.list.now (Err c.in_err-judge.field-0.0) has;
-      first = fault_err c.args.list.now (Err c.in_err-judge.field-0.0) has;
+      ruled = ruled_ok c.args.list.now (Err c.in_err-judge.field-0.0) c.cues-cues.ensures.formed has;
+      first = fault_err c.args.list.now (Err c.in_err-judge.field-0.0) c.cues-cues.ensures.formed has;
     })
 
 pub loop-index-preserved : goal.loop-index-preserved
@@ -41,7 +42,7 @@ loop-index-preserved c = record {
       )
       (c.pass.ensures (reverse (take c.loop-index.index c.cues-cues.result.now)) (ap (λ n. n + 1) (sym count))
       c.loop-index.invariant.remembered);
-  kept = ruled_more c.args.list.now c.cues-cues.result.now c.loop-index.index c.index-cues-index.result
+  kept = faultless_more c.args.list.now c.cues-cues.result.now c.loop-index.index c.index-cues-index.result
       c.loop-index-test.true c.index-cues-index.is c.in_ok-judge.ensures c.loop-index.invariant.kept;
 }
 
@@ -50,9 +51,10 @@ returns c =
     let all : take c.loop-index.index c.cues-cues.result.now ≡ c.args.list.now.cues =
     take_all c.loop-index.index c.cues-cues.result.now c.loop-index-test.false ∙ c.cues-cues.ensures.cues in
     let ruled : IsRuled c.args.list.now =
-    subst (λ (cues : List Cue). AreRuled c.args.list.now (reverse cues)) all c.loop-index.invariant.kept in
+    faultless_ruled c.args.list.now
+    (subst (λ (cues : List Cue). AreFaultless c.args.list.now (reverse cues)) all c.loop-index.invariant.kept) in
     record {
       judged = ruled;
-      ruled = ruled_ok c.args.list.now (Ok tt) ruled;
-      first = fault_err c.args.list.now (Ok tt) ruled;
+      ruled = ruled_ok c.args.list.now (Ok tt) c.cues-cues.ensures.formed ruled;
+      first = fault_err c.args.list.now (Ok tt) c.cues-cues.ensures.formed ruled;
     }

@@ -1,25 +1,22 @@
--- The cues of a channel of a list that keeps the rules are in sequence.
-use Rattle.std.proofs.Common.{◌≡◌, ◌≢◌, ℕ, ◌+◌, ◌<◌, ◌≤◌, ◌==◌, ◌&&◌, ◌||◌, Bool, true, false, not, cond, List, [], ◌∷◌, ◌++◌, reverse, refl, sym, ap, ◌∙◌, subst, append_assoc}
-use Rattle.std.specs.Prelude.{Option, Some, None, is_none, IfSome, IsSome, MatchOption, ⊤}
+-- The cues of a channel of a list are in sequence exactly where none of them has a fault.
+use Rattle.std.proofs.Common.{◌≡◌, ◌≢◌, ℕ, ◌+◌, ◌<◌, ◌≤◌, ◌==◌, ◌&&◌, ◌||◌, Bool, true, false, not, cond, List, [], ◌∷◌, ◌++◌, reverse, refl, sym, ap, ◌∙◌, subst, append_assoc, append-nil}
+use Rattle.std.specs.Prelude.{Option, Some, None, is_none, IfSome, MatchOption, ⊤}
 use Rattle.std.specs.List.{AllByRecursion}
 use Rattle.std.proofs.lemmas.Bool.{and_parts, eqb-true}
 use Rattle.std.proofs.lemmas.List.Elements.{recursion_from_All}
 use Rattle.line21_codes.specs.declared.channels.Chan.{Chan}
-use Rattle.cue_lists.specs.Cues.{IsCueFormed, IsOfKind}
+use Rattle.cue_lists.specs.Channels.{is_on, cues_on}
 use Rattle.cue_lists.specs.Line21Cues.{base_row}
-use Rattle.cue_lists.specs.Listing.{Listing, IsFormed}
-use Rattle.cue_lists.specs.Rules.{IsRuled, AreRuled}
+use Rattle.cue_lists.specs.Listing.{Listing}
+use Rattle.cue_lists.specs.Rules.{AreFaultless, fault_of}
 use Rattle.cue_lists.specs.Rules.Former.{continues, former_cue, same_roll}
-use Rattle.cue_lists.specs.Rules.Lane.{is_line21, is_paint, is_pop, is_roll}
+use Rattle.cue_lists.specs.Rules.Lane.{is_line21, is_paint, is_pop, is_roll, is_win}
+use Rattle.cue_lists.specs.Rules.Sentences.{AreInSequence, ComesAfter, IsContinued, IsSound}
 use Rattle.cue_lists.specs.declared.cue.Cue.{Cue}
 use Rattle.cue_lists.specs.declared.cue.Kind.{Kind}
 use Rattle.cue_lists.specs.declared.cue.Kind.TheVariants as kind
-use Rattle.cue_lists.specs.declared.cue.Run.{Run}
+use Rattle.cue_lists.proofs.ChannelCues.{newest, same_channel_is, line21_on, former_on, cues_on_are_on, reverse-cons, cues_on_back}
 use Rattle.cue_lists.proofs.RuleKept.{KeepsRules, keeps_rules, load_below_show, show_below_hide, load_from_former_show, runs_share_none, show_from_former_hide, hide_not_next, show_not_next, load_from_former_hide, continues_unhidden, hide_within, show_within}
-use Rattle.line21_author.specs.Channels.{is_on, cues_on}
-use Rattle.frame_scheduler.specs.CueSequence.{IsContinued, ComesAfter, AreInSequence}
-use Rattle.frame_scheduler.specs.SoundCues.{IsSound}
-use Rattle.frame_scheduler.proofs.ChannelCues.{newest, same_channel_is, line21_on, former_on, cues_on_are_on, All-reverse, reverse-cons, cues_on_back}
 
 -- a HIDE that is there, or not
 by_hide : (hide : Option ℕ) (P : Type 0) (Q : ℕ → Type 0) → (hide ≡ None → P) → ((frame : ℕ) → hide ≡ Some frame → Q frame)
@@ -30,21 +27,13 @@ by_hide (Some frame) P Q none some = some frame refl
 if_hidden : (hide : Option ℕ) (P : ℕ → Type 0) → ((frame : ℕ) → hide ≡ Some frame → P frame) → IfSome hide P
 if_hidden hide P some = by_hide hide ⊤ P (λ none. tt) some
 
--- a cue that isn't roll-up has a HIDE
-erased : (k : Kind) (hide : Option ℕ) (runs : List Run) → IsOfKind k hide runs → is_roll k ≡ false → IsSome hide
-erased (kind.Pop channel) hide runs formed other = formed.1
-erased (kind.Paint channel) hide runs formed other = formed.1
-erased (kind.Roll channel rows) hide runs formed other = cc
-erased (kind.Win window) hide runs formed other = formed.1
-
 -- a cue on a channel that keeps the rules is sound
-sound : (list : Listing) (earlier : List Cue) (cue : Cue) → is_line21 cue.kind ≡ true → IsCueFormed cue
+sound : (list : Listing) (earlier : List Cue) (cue : Cue) → is_line21 cue.kind ≡ true
     → KeepsRules list earlier cue → IsSound list.frames cue
-sound list earlier cue line21 formed keeps =
+sound list earlier cue line21 keeps =
     record {
       loaded = load_below_show list earlier cue keeps;
       hidden = if_hidden cue.hide (λ frame. cue.show < frame) (λ frame is. show_below_hide list earlier cue keeps frame is);
-      erased = erased cue.kind cue.hide cue.runs formed.kind;
       stays = λ pop. if_hidden cue.hide (λ frame. frame ≢ cue.show + 1)
           (λ frame is. hide_not_next list earlier cue keeps frame pop is);
       ended = by_hide cue.hide (cue.show < list.frames) (λ frame. frame + 2 ≤ list.frames)
@@ -95,7 +84,6 @@ continuing channel former cue former_on on same =
       roll = same_roll_is_roll cue.kind former.kind kinds.0;
       kind = same_roll_is_same channel cue.kind former.kind on former_on kinds.0;
       base = eqb-true (base_row cue.runs) (base_row former.runs) both.1;
-      continues = same;
     }
 
 -- a cue on a channel that keeps the rules comes after the former one
@@ -122,7 +110,7 @@ comes_after list channel earlier former cue is former_on on keeps =
     line21 = line21_on channel cue.kind on
 
 -- a cue comes after the newest of those before it
-abbrev IsBehind : List Cue → Cue → Type 0
+abbrev pub IsBehind : List Cue → Cue → Type 0
 IsBehind [] cue = ⊤
 IsBehind (former ∷ earlier) cue = ComesAfter former cue
 
@@ -137,7 +125,7 @@ AreJoined [] later = ⊤
 AreJoined (former ∷ earlier) later = IsBefore former later
 
 -- the newest first, each of the cues is sound, and comes after the one before it
-abbrev AreInSequenceBack : ℕ → List Cue → Type 0
+abbrev pub AreInSequenceBack : ℕ → List Cue → Type 0
 AreInSequenceBack frames [] = ⊤
 AreInSequenceBack frames (cue ∷ earlier) = IsSound frames cue × IsBehind earlier cue × AreInSequenceBack frames earlier
 
@@ -149,15 +137,15 @@ behind list channel earlier cue [] is all on keeps = tt
 behind list channel earlier cue (former ∷ others) is all on keeps =
     comes_after list channel earlier former cue is all.0 on keeps
 
--- the cues on a channel, the newest first
-in_sequence_back : (list : Listing) (channel : Chan) (earlier : List Cue) → AreRuled list earlier
-    → AllByRecursion IsCueFormed earlier → AreInSequenceBack list.frames (cues_on channel earlier)
-in_sequence_back list channel [] ruled formed = tt
-in_sequence_back list channel (cue ∷ earlier) ruled formed =
-    by_test (is_on channel cue.kind) refl (in_sequence_back list channel earlier ruled.1 formed.1)
+-- the cues on a channel, the newest first, are in sequence
+pub faultless_sequence : (list : Listing) (channel : Chan) (earlier : List Cue) → AreFaultless list earlier
+    → AreInSequenceBack list.frames (cues_on channel earlier)
+faultless_sequence list channel [] faultless = tt
+faultless_sequence list channel (cue ∷ earlier) faultless =
+    by_test (is_on channel cue.kind) refl (faultless_sequence list channel earlier faultless.1)
   where
     keeps : KeepsRules list earlier cue
-    keeps = keeps_rules list earlier cue ruled.0
+    keeps = keeps_rules list earlier cue faultless.0
 
     all_on : AllByRecursion (λ (former : Cue). is_on channel former.kind ≡ true) (cues_on channel earlier)
     all_on = recursion_from_All (λ (former : Cue). is_on channel former.kind ≡ true) (cues_on channel earlier)
@@ -166,7 +154,7 @@ in_sequence_back list channel (cue ∷ earlier) ruled formed =
     by_test : (b : Bool) → is_on channel cue.kind ≡ b → AreInSequenceBack list.frames (cues_on channel earlier)
         → AreInSequenceBack list.frames (cond b (cue ∷ cues_on channel earlier) (cues_on channel earlier))
     by_test true on rest = (
-      sound list earlier cue (line21_on channel cue.kind on) formed.0 keeps,
+      sound list earlier cue (line21_on channel cue.kind on) keeps,
       behind list channel earlier cue (cues_on channel earlier) (former_on channel cue earlier on) all_on on keeps,
       rest,
     )
@@ -197,15 +185,39 @@ turned frames (cue ∷ earlier) later back join sequence =
     (turned frames earlier (cue ∷ later) back.2 (joined earlier cue later back.1)
     (in_sequence-cons frames cue later back.0 join sequence))
 
--- the cues of a channel of a list that keeps the rules are in sequence
-pub in_sequence : (list : Listing) → IsFormed list → IsRuled list → (channel : Chan)
-    → AreInSequence list.frames (cues_on channel list.cues)
-in_sequence list formed ruled channel =
-    subst (λ (cues : List Cue). AreInSequence list.frames cues) (cues_on_back channel list.cues)
-    (turned list.frames (cues_on channel (reverse list.cues)) []
-    (in_sequence_back list channel (reverse list.cues) ruled
-    (recursion_from_All IsCueFormed (reverse list.cues) (All-reverse IsCueFormed list.cues formed.cues)))
-    (joined_end (cues_on channel (reverse list.cues))) tt)
+-- where they are in sequence, so are they from the newest on
+turned_back : (frames : ℕ) (earlier later : List Cue) → AreInSequence frames (reverse earlier ++ later)
+    → AreInSequenceBack frames earlier × AreJoined earlier later × AreInSequence frames later
+turned_back frames [] later sequence = (tt, tt, sequence)
+turned_back frames (cue ∷ earlier) later sequence =
+    let whole = turned_back frames earlier (cue ∷ later)
+    (subst (λ (cues : List Cue). AreInSequence frames cues)
+    (ap (λ (cues : List Cue). cues ++ later) (reverse-cons cue earlier) ∙ append_assoc (reverse earlier) (cue ∷ []) later)
+    sequence) in
+    let here = first_of_sequence frames cue later whole.2 in
+    ((here.0, behind_joined earlier cue later whole.1, whole.0), here.1, here.2)
+  where
+    first_of_sequence : (frames : ℕ) (cue : Cue) (later : List Cue) → AreInSequence frames (cue ∷ later)
+        → IsSound frames cue × IsBefore cue later × AreInSequence frames later
+    first_of_sequence frames cue [] sequence = (sequence, tt, tt)
+    first_of_sequence frames cue (next ∷ later) sequence = sequence
+
+    behind_joined : (earlier : List Cue) (cue : Cue) (later : List Cue) → AreJoined earlier (cue ∷ later) → IsBehind earlier cue
+    behind_joined [] cue later join = tt
+    behind_joined (former ∷ earlier) cue later join = join
+
+-- the cues of a channel are in sequence as they are from the newest on
+pub sequence_from_back : (frames : ℕ) (channel : Chan) (cues : List Cue)
+    → AreInSequenceBack frames (cues_on channel (reverse cues)) → AreInSequence frames (cues_on channel cues)
+sequence_from_back frames channel cues back =
+    subst (λ (cues : List Cue). AreInSequence frames cues) (cues_on_back channel cues)
+    (turned frames (cues_on channel (reverse cues)) [] back (joined_end (cues_on channel (reverse cues))) tt)
+
+pub sequence_back : (frames : ℕ) (channel : Chan) (cues : List Cue)
+    → AreInSequence frames (cues_on channel cues) → AreInSequenceBack frames (cues_on channel (reverse cues))
+sequence_back frames channel cues sequence =
+    (turned_back frames (cues_on channel (reverse cues)) []
+    (subst (λ (cues : List Cue). AreInSequence frames cues) (sym (cues_on_back channel cues)) sequence)).0
 
 -- each of the cues in sequence is sound
 pub in_sequence_sound : (frames : ℕ) (cues : List Cue) → AreInSequence frames cues → AllByRecursion (IsSound frames) cues

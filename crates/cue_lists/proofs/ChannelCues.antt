@@ -1,19 +1,19 @@
 -- The cues on a channel: their kinds, and the former cue of each among them.
 use Rattle.std.proofs.Common.{◌≡◌, ◌-◌, ◌<◌, ◌==◌, Bool, true, false, if◌then◌else◌, cond, List, [], ◌∷◌, ◌++◌, length, reverse, refl, sym, ap, ◌∙◌, subst, arith}
-use Rattle.std.specs.Prelude.{Option, Some, None, All}
+use Rattle.std.specs.Prelude.{Option, Some, None, All, IsSome}
 use Rattle.std.proofs.lemmas.List.{append-nil, get_or-reverse, length-reverse, reverse-append, reverse-reverse}
 use Rattle.std.proofs.lemmas.List.Elements.{All-filter, filter-append, filter_passes}
 use Rattle.line21_codes.specs.declared.channels.Chan.{Chan}
 use Rattle.line21_codes.specs.declared.channels.Chan.TheVariants as chan
-use Rattle.cue_lists.specs.Cues.{IsCueFormed}
+use Rattle.cue_lists.specs.Channels.{same_channel, is_on, cues_on}
+use Rattle.cue_lists.specs.Cues.{IsCueFormed, IsOfKind}
 use Rattle.cue_lists.specs.Rules.Former.{nearest, former_cue}
-use Rattle.cue_lists.specs.Rules.Lane.{lane_of, channel_number, same_lane, on_lane, is_line21}
+use Rattle.cue_lists.specs.Rules.Lane.{lane_of, channel_number, same_lane, on_lane, is_line21, is_pop, is_roll}
 use Rattle.cue_lists.specs.declared.cue.Cue.{Cue}
 use Rattle.cue_lists.specs.declared.cue.Kind.{Kind}
 use Rattle.cue_lists.specs.declared.cue.Kind.TheVariants as kind
 use Rattle.cue_lists.specs.declared.rules.lane.Lane.{Lane}
 use Rattle.cue_lists.specs.declared.rules.lane.Lane.TheVariants as lane
-use Rattle.line21_author.specs.Channels.{same_channel, is_on, cues_on}
 
 -- the newest of the cues before, the newest first
 abbrev pub newest : List Cue → Option Cue
@@ -115,3 +115,27 @@ cues_on_back channel cues =
     append-nil (reverse (cues_on channel (reverse cues)))
     ∙ ap reverse (cues_on-reverse channel cues)
     ∙ reverse-reverse (cues_on channel cues)
+
+-- a roll-up cue isn't pop-on
+pub roll_is_not_pop : (k : Kind) → is_roll k ≡ true → is_pop k ≡ false
+roll_is_not_pop (kind.Pop channel) roll = cc
+roll_is_not_pop (kind.Paint channel) roll = refl
+roll_is_not_pop (kind.Roll channel rows) roll = refl
+roll_is_not_pop (kind.Win window) roll = refl
+
+-- a pop-on cue isn't roll-up
+pub pop_is_not_roll : (k : Kind) → is_pop k ≡ true → is_roll k ≡ false
+pop_is_not_roll (kind.Pop channel) pop = refl
+pop_is_not_roll (kind.Paint channel) pop = refl
+pop_is_not_roll (kind.Roll channel rows) pop = cc
+pop_is_not_roll (kind.Win window) pop = refl
+
+-- a cue that isn't roll-up has a HIDE
+pub hides_unless_roll : (cue : Cue) → IsCueFormed cue → is_roll cue.kind ≡ false → IsSome cue.hide
+hides_unless_roll cue formed plain = by_kind cue.kind formed.kind plain
+  where
+    by_kind : (k : Kind) → IsOfKind k cue.hide cue.runs → is_roll k ≡ false → IsSome cue.hide
+    by_kind (kind.Pop channel) of_kind other = of_kind.1
+    by_kind (kind.Paint channel) of_kind other = of_kind.1
+    by_kind (kind.Roll channel rows) of_kind other = cc
+    by_kind (kind.Win window) of_kind other = of_kind.1
