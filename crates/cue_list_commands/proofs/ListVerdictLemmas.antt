@@ -15,6 +15,7 @@ use Rattle.cue_lists.proofs.Complete.{list_of-spelled}
 use Rattle.cue_lists.proofs.Faults.{answered_fault, answered_list}
 use Rattle.cue_lists.proofs.RuleLists.{one_fault, ruled_has_none}
 use Rattle.cue_lists.proofs.RulesDecided.{ruled_or_broken}
+use Rattle.cue_lists.proofs.Unique.{first_fault_read}
 use Rattle.frame_scheduler.specs.Planned.{IsFirstWithoutRoom, IsPlaced, Placement}
 use Rattle.frame_scheduler.proofs.BothFieldsLemmas.{first_without_room, one_placement, placed_has_room}
 use Rattle.frame_scheduler.proofs.RoomDecided.{list_decided}
@@ -34,7 +35,7 @@ spelled_read bytes list spelled built = list_of-spelled (records_of bytes) list 
 -- so they have no fault
 spelled_faultless : (bytes : List ℕ) (list : Listing) (f : CueFault) → Spells (records_of bytes) list → IsBuilt list → IsFaulty bytes f → ⊥
 spelled_faultless bytes list f spelled built faulty =
-    ok_is_no_fault list f (sym (spelled_read bytes list spelled built) ∙ faulty.read)
+    ok_is_no_fault list f (sym (spelled_read bytes list spelled built) ∙ first_fault_read (records_of bytes) f faulty.first)
 
 -- and they spell one list
 spelled_one : (bytes : List ℕ) (a b : Listing) → Spells (records_of bytes) a → IsBuilt a → Spells (records_of bytes) b → IsBuilt b → a ≡ b
@@ -99,7 +100,10 @@ cause_of bytes _ refused = absurd refused
 
 -- a list has one fault, one broken rule, one first cue without a placement
 one_form_fault : (bytes : List ℕ) (a b : CueFault) → IsFaulty bytes a → IsFaulty bytes b → a ≡ b
-one_form_fault bytes a b first second = let one = first.read in let two = second.read in cc
+one_form_fault bytes a b first second =
+    let one = first_fault_read (records_of bytes) a first.first in
+    let two = first_fault_read (records_of bytes) b second.first in
+    cc
 
 one_rule_fault : (bytes : List ℕ) (a b : RuleFault) → BreaksRule bytes a → BreaksRule bytes b → a ≡ b
 one_rule_fault bytes a b first second =

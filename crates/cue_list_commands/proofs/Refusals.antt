@@ -22,11 +22,11 @@ pub form_refused : (bytes : List ℕ) (f : CueFault) → length bytes ≤ list_l
     → Judges IsGoodList IsRefusedList bytes (Err (form_status f))
 form_refused bytes (fault.Memory error) within due first = tt
 form_refused bytes (fault.Limit limit.Bytes) within due first = absurd (limit_of_records bytes limit.Bytes due)
-form_refused bytes (fault.Limit limit.Frames) within due first = record { within = within; read = due; first = first }
-form_refused bytes (fault.Limit limit.Cues) within due first = record { within = within; read = due; first = first }
+form_refused bytes (fault.Limit limit.Frames) within due first = record { within = within; first = first }
+form_refused bytes (fault.Limit limit.Cues) within due first = record { within = within; first = first }
 form_refused bytes (fault.Limit limit.Packet) within due first = absurd (limit_of_records bytes limit.Packet due)
 form_refused bytes (fault.Limit limit.Day) within due first = absurd (limit_of_records bytes limit.Day due)
-form_refused bytes (fault.Malformed rec field why) within due first = record { within = within; read = due; first = first }
+form_refused bytes (fault.Malformed rec field why) within due first = record { within = within; first = first }
 
 -- what is refused where room isn't asked is refused
 pub refused_list : (bytes : List ℕ) (answer : Status) → IsRefusedList bytes answer → IsRefused bytes answer

@@ -1,9 +1,8 @@
 -- Which cue lists are accepted, and why another one is refused.
-use Rattle.std.specs.Prelude.{◌≡◌, ◌<◌, ◌≤◌, ℕ, List, length, Err}
+use Rattle.std.specs.Prelude.{◌<◌, ◌≤◌, ℕ, List, length}
 use Rattle.cc_base.specs.declared.limit_of.LimitOf.TheVariants as limit
 use Rattle.cue_lists.specs.FirstFault.{IsFirstFault}
 use Rattle.cue_lists.specs.Listing.{Listing}
-use Rattle.cue_lists.specs.Reading.{read_list}
 use Rattle.cue_lists.specs.Records.{records_of}
 use Rattle.cue_lists.specs.Rules.{HasFault, IsRuled}
 use Rattle.cue_lists.specs.Spelling.{Spells}
@@ -32,7 +31,6 @@ pub record IsAccepted (bytes : List ℕ) (list : Listing) (placed : Placement) :
 -- the records of the bytes spell no list that this version authors, and this is their first fault
 pub record IsFaulty (bytes : List ℕ) (fault : CueFault) : Type 0 where
   pub within : length bytes ≤ list_limit
-  pub read : read_list bytes ≡ Err fault
   pub first : IsFirstFault (records_of bytes) fault
 
 -- the records of the bytes spell a list that breaks a rule
