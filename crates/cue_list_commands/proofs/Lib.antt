@@ -1,6 +1,5 @@
 mod GatheredLines
 pub mod ListAnswerLemmas
-mod ListLimits
 pub mod ListVerdictLemmas
 mod Outputs
 mod Refusals

@@ -25,7 +25,7 @@ use Rattle.cue_list_commands.specs.ListVerdict.{AcceptanceIsOne, AcceptedIsNotRe
 use Rattle.command_base.specs.declared.status.Place.TheVariants.{Field}
 use Rattle.command_base.specs.declared.status.Status.{Status}
 use Rattle.command_base.specs.declared.status.Status.TheVariants as status
-use Rattle.cue_list_commands.proofs.ListLimits.{no_want_of_memory}
+use Rattle.cue_lists.proofs.ListLimits.{no_want_of_memory}
 use Rattle.cue_list_commands.proofs.Refusals.{form_refused, ok_is_no_fault}
 
 -- bytes that spell a list are read as it

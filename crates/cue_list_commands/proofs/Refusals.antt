@@ -9,7 +9,7 @@ use Rattle.cue_lists.specs.Reading.{read_list}
 use Rattle.cue_lists.specs.Records.{records_of}
 use Rattle.cue_lists.specs.declared.fault.CueFault.{CueFault}
 use Rattle.cue_lists.specs.declared.fault.CueFault.TheVariants as fault
-use Rattle.cue_list_commands.proofs.ListLimits.{limit_of_records}
+use Rattle.cue_lists.proofs.ListLimits.{limit_of_records}
 use Rattle.cue_list_commands.specs.Accepted.{IsGoodList, IsRefused, IsRefusedList, list_limit}
 use Rattle.cue_list_commands.specs.ListAnswer.{ListAnswer}
 use Rattle.command_base.specs.Ends.{ends}

@@ -3,6 +3,7 @@ use Rattle.std.specs.Prelude.{◌<◌, ◌≤◌, ℕ, List, length}
 use Rattle.cc_base.specs.declared.limit_of.LimitOf.TheVariants as limit
 use Rattle.cue_lists.specs.FirstFault.{IsFirstFault}
 use Rattle.cue_lists.specs.Listing.{Listing}
+pub use Rattle.cue_lists.specs.Records.{list_limit}
 use Rattle.cue_lists.specs.Records.{records_of}
 use Rattle.cue_lists.specs.Rules.{HasFault, IsRuled}
 use Rattle.cue_lists.specs.Spelling.{Spells}
@@ -14,10 +15,6 @@ use Rattle.frame_scheduler.specs.Planned.{IsFirstWithoutRoom, IsPlaced, Placemen
 use Rattle.command_base.specs.declared.status.Place.TheVariants.{Byte, Field}
 use Rattle.command_base.specs.declared.status.Status.{Status}
 use Rattle.command_base.specs.declared.status.Status.TheVariants as status
-
--- the most bytes of a cue list
-abbrev pub list_limit : ℕ
-list_limit = 67108864
 
 -- the records of the bytes spell a cue list that this version authors and that keeps the rules, and whose units have their
 -- earliest placement in these frames

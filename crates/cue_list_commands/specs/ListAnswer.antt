@@ -4,7 +4,7 @@ use Rattle.std.specs.Io.KnownBytes.{Appends}
 use Rattle.cc_base.specs.Streams.{Puts, Rose, TakesWithin}
 use Rattle.cc_base.specs.declared.streams.Put.TheVariants as put
 use Rattle.cue_lists.specs.Listing.{Listing}
-use Rattle.cue_lists.specs.Printing.{in_order, printed}
+use Rattle.cue_lists.specs.Printing.{in_order, list_bytes}
 use Rattle.cue_lists.specs.Records.{records_of}
 use Rattle.cue_lists.specs.Spelling.{list_records}
 use Rattle.frame_scheduler.specs.Planned.{Placement}
@@ -33,14 +33,14 @@ pub record PutsFront (output : Listing → Placement → List ℕ) (bytes : List
 pub record PutsList (bytes : List ℕ) (old new : Option (List ℕ)) : Type 0 where
   pub list : Listing
   pub good : IsGoodList bytes list
-  pub output_is : Appends old new (printed list)
-  pub again : records_of (printed list) ≡ list_records (in_order list)
+  pub output_is : Appends old new (list_bytes list)
+  pub again : records_of (list_bytes list) ≡ list_records (in_order list)
 
 -- a front of it was put
 pub record PutsListFront (bytes : List ℕ) (old new : Option (List ℕ)) : Type 0 where
   pub list : Listing
   pub good : IsGoodList bytes list
-  pub front : Puts old new put.Failed (printed list)
+  pub front : Puts old new put.Failed (list_bytes list)
 
 -- what such a command answers: on Ok the whole of its output was put, where a put failed a front of it, and
 -- what is refused is refused so

@@ -1,130 +1,159 @@
-use crate::cue::{Kind, Pen};
-use crate::fault::CueFault;
-use crate::reading::parse;
-use cc_base::{LimitOf, Rate};
-use line21_codes::{Chan, Colour, Style};
+//! The rules, over lists that are read.
+
+use crate::{RuleFault, check, parse};
+use cc_base::Why;
 use std::alloc::Global;
 use std::process::Abort;
 use std::test::Fail;
 
-mod every_cue;
-mod many_cues;
-mod printed;
-mod refused;
-
-// The list is a pop-on cue of one run with this place and this text.
-fn shows(rt: &impl Abort, alloc: Global, text: &[u8], row: u8, col: u8, chars: &[char]) {
-    assert!(rt; text.len() <= 1000);
-    match parse(alloc, text) {
-        Ok(list) => {
-            assert_eq!(rt; list.cues().len(), 1);
-            let cue = &list.cues()[0];
-            assert_eq!(rt; cue.runs.as_slice().len(), 1);
-            let run = &cue.runs.as_slice()[0];
-            assert_eq!(rt; run.row, row);
-            assert_eq!(rt; run.col, col);
-            assert_eq!(rt; run.text.as_slice(), chars);
-        }
-        Err(_) => panic!(rt; "the list has a fault"),
-    }
-}
-
-#[test]
-fn one_pop_on_cue_is_read(rt: HostRuntime) -> Result<(), Fail> {
-    let list = parse(
-        rt.alloc(),
-        b"ccsuite,1,29.97,300\npop,CC1,10,60,120\nrun,15,4,white,HELLO\n",
-    )?;
-    assert_eq!(rt; list.rate(), Rate::F2997);
-    assert_eq!(rt; list.frames(), 300);
-    assert_eq!(rt; list.share(1), None);
-    assert_eq!(rt; list.cues().len(), 1);
-    let cue = &list.cues()[0];
-    assert_eq!(rt; cue.load, 10);
-    assert_eq!(rt; cue.show, 60);
-    assert_eq!(rt; cue.hide, Some(120));
-    assert_eq!(rt; cue.kind, Kind::Pop(Chan::Cc1));
-    assert_eq!(rt; cue.runs.as_slice().len(), 1);
-    let run = &cue.runs.as_slice()[0];
-    assert_eq!(rt; run.row, 15);
-    assert_eq!(rt; run.col, 4);
-    let white = Style {
-        colour: Colour::White,
-        italic: false,
-        underline: false,
-    };
-    assert_eq!(rt; run.pen, Pen::Line21(white));
-    assert_eq!(rt; run.text.as_slice(), ['H', 'E', 'L', 'L', 'O'].as_slice());
-    Ok(())
-}
-
-#[test]
-fn numbers_at_their_ends_are_read(rt: HostRuntime) -> Result<(), Fail> {
-    let least = parse(rt.alloc(), b"ccsuite,1,30,1\n")?;
-    assert_eq!(rt; least.rate(), Rate::F30);
-    assert_eq!(rt; least.frames(), 1);
-    assert_eq!(rt; least.cues().len(), 0);
-    let most = parse(
-        rt.alloc(),
-        b"ccsuite,1,30,1000000\npop,CC1,0,4294967294,4294967295\nrun,1,0,white,A\n",
-    )?;
-    assert_eq!(rt; most.frames(), 1_000_000);
-    assert_eq!(rt; most.cues().len(), 1);
-    assert_eq!(rt; most.cues()[0].load, 0);
-    assert_eq!(rt; most.cues()[0].show, 4_294_967_294);
-    assert_eq!(rt; most.cues()[0].hide, Some(4_294_967_295));
-    Ok(())
-}
-
-#[test]
-fn more_than_a_million_frames_pass_the_limit(rt: HostRuntime) {
-    for text in [
-        "ccsuite,1,30,1000001\n",
-        "ccsuite,1,30,4294967296\n",
-        "ccsuite,1,30,9999999999\nhello\n",
-    ] {
+// What the lists of these records behind a head of so many frames are judged as: the broken rule, with the other cue.
+fn judged(
+    rt: &impl Abort,
+    alloc: Global,
+    frames: &str,
+    cases: &[(&str, Option<(Why, u32, Option<u32>)>)],
+) -> Result<(), Fail> {
+    for (records, broken) in cases {
+        let mut text = Vec::new(alloc);
+        text.extend_from_slice(b"ccsuite,1,29.97,")?;
+        text.extend_from_slice(frames.as_bytes())?;
+        text.extend_from_slice(records.as_bytes())?;
         assert!(rt; text.len() <= 1000);
-        match parse(rt.alloc(), text.as_bytes()) {
-            Err(CueFault::Limit(found)) => assert_eq!(rt; found, LimitOf::Frames),
-            _ => panic!(rt; "no limit"),
-        }
+        let list = parse(alloc, text.as_slice())?;
+        let answer = match *broken {
+            Some((why, cue, other)) => Err(RuleFault { why, cue, other }),
+            None => Ok(()),
+        };
+        assert_eq!(rt; check(&list), answer, "{records}");
     }
+    Ok(())
 }
 
 #[test]
-fn csv_decides_what_a_field_is(rt: HostRuntime) {
-    for (text, row, col, chars) in [
+fn frames_of_a_cue_stand_in_order(rt: HostRuntime) -> Result<(), Fail> {
+    let cases = [
+        ("\npop,CC1,0,7,20\nrun,15,0,white,A\n", None),
         (
-            "\"ccsuite\",1,\"29.97\",300\npop,CC1,10,60,120\n\"run\",15,0,white,\"A \"\"B\"\", C\"\n",
-            15,
-            0,
-            ['A', ' ', '"', 'B', '"', ',', ' ', 'C'].as_slice(),
+            "\npop,CC1,7,7,20\nrun,15,0,white,A\n",
+            Some((Why::Order, 1, None)),
         ),
         (
-            "ccsuite,1,29.97,300\rpop,CC1,10,60,120\rrun,1,31,white,A",
-            1,
-            31,
-            ['A'].as_slice(),
+            "\npop,CC1,0,7,7\nrun,15,0,white,A\n",
+            Some((Why::Order, 1, None)),
+        ),
+    ];
+    judged(&rt, rt.alloc(), "100", cases.as_slice())
+}
+
+#[test]
+fn a_pop_on_cue_is_shown_for_two_frames(rt: HostRuntime) -> Result<(), Fail> {
+    let cases = [
+        (
+            "\npop,CC1,0,7,8\nrun,15,0,white,A\n",
+            Some((Why::Clash, 1, None)),
+        ),
+        ("\npop,CC1,0,7,9\nrun,15,0,white,A\n", None),
+        (
+            "\npop,CC1,0,4294967294,4294967295\nrun,15,0,white,A\n",
+            Some((Why::Clash, 1, None)),
+        ),
+    ];
+    judged(&rt, rt.alloc(), "100", cases.as_slice())
+}
+
+#[test]
+fn the_repeat_of_the_last_event_is_within_the_list(rt: HostRuntime) -> Result<(), Fail> {
+    let cases = [
+        ("\npop,CC1,0,7,98\nrun,15,0,white,A\n", None),
+        (
+            "\npop,CC1,0,7,99\nrun,15,0,white,A\n",
+            Some((Why::PastEnd, 1, None)),
         ),
         (
-            "\r\nccsuite,1,29.97,300\r\n\r\npop,CC1,10,60,120\r\nrun,1,30,white, A\r\n\r\n",
-            1,
-            30,
-            [' ', 'A'].as_slice(),
+            "\npop,CC1,0,7,4294967295\nrun,15,0,white,A\n",
+            Some((Why::PastEnd, 1, None)),
+        ),
+    ];
+    judged(&rt, rt.alloc(), "100", cases.as_slice())
+}
+
+#[test]
+fn a_cue_loads_behind_the_show_of_the_former(rt: HostRuntime) -> Result<(), Fail> {
+    let cases = [
+        (
+            "\npop,CC1,0,7,20\nrun,15,0,white,A\npop,CC1,5,30,40\nrun,15,0,white,B\n",
+            Some((Why::Order, 2, Some(1))),
         ),
         (
-            "\u{feff}ccsuite,1,29.97,300\npop,CC1,10,60,120\nrun,2,29,white,\u{e9}\u{2588}'\n",
-            2,
-            29,
-            ['\u{e9}', '\u{2588}', '\''].as_slice(),
+            "\npop,CC1,0,7,20\nrun,15,0,white,A\npop,CC3,5,30,40\nrun,15,0,white,B\n",
+            None,
         ),
         (
-            "ccsuite,1,29.97,300\npop,CC1,10,60,120\nrun,15,4,white,\"HEL",
-            15,
-            4,
-            ['H', 'E', 'L'].as_slice(),
+            "\npop,CC1,0,7,20\nrun,15,0,white,A\nroll,CC1,2,30,30,\nrun,15,0,white,B\n",
+            Some((Why::Order, 2, None)),
         ),
-    ] {
-        shows(&rt, rt.alloc(), text.as_bytes(), row, col, chars);
-    }
+    ];
+    judged(&rt, rt.alloc(), "60", cases.as_slice())
+}
+
+#[test]
+fn a_cue_shows_behind_the_hide_of_the_former(rt: HostRuntime) -> Result<(), Fail> {
+    let cases = [
+        (
+            "\npop,CC1,0,7,20\nrun,15,0,white,A\npop,CC1,7,19,40\nrun,15,0,white,B\n",
+            Some((Why::Overlap, 2, Some(1))),
+        ),
+        (
+            "\npop,CC1,0,7,20\nrun,15,0,white,A\npop,CC1,7,20,40\nrun,15,0,white,B\n",
+            None,
+        ),
+        (
+            "\npop,CC1,0,7,20\nrun,15,0,white,A\npop,CC1,7,21,40\nrun,15,0,white,B\n",
+            Some((Why::Clash, 2, Some(1))),
+        ),
+        (
+            "\npop,CC1,0,7,20\nrun,15,0,white,A\npaint,CC1,19,21,40\nrun,15,0,white,B\n",
+            Some((Why::Unhidden, 2, Some(1))),
+        ),
+    ];
+    judged(&rt, rt.alloc(), "60", cases.as_slice())
+}
+
+#[test]
+fn a_roll_up_cue_that_is_not_hidden_is_continued(rt: HostRuntime) -> Result<(), Fail> {
+    let cases = [
+        (
+            "\nroll,CC1,2,0,7,\nrun,15,0,white,A\nroll,CC1,2,7,20,40\nrun,15,0,white,B\n",
+            None,
+        ),
+        (
+            "\nroll,CC1,2,0,7,\nrun,15,0,white,A\nroll,CC1,3,7,20,40\nrun,15,0,white,B\n",
+            Some((Why::Unhidden, 2, Some(1))),
+        ),
+        ("\nroll,CC1,2,0,59,\nrun,15,0,white,A\n", None),
+        (
+            "\nroll,CC1,2,0,60,\nrun,15,0,white,A\n",
+            Some((Why::PastEnd, 1, None)),
+        ),
+    ];
+    judged(&rt, rt.alloc(), "60", cases.as_slice())
+}
+
+#[test]
+fn runs_of_a_cue_share_no_cell(rt: HostRuntime) -> Result<(), Fail> {
+    let cases = [
+        (
+            "\npop,CC1,0,7,20\nrun,15,0,white,AB\nrun,15,2,white-u,C\n",
+            None,
+        ),
+        (
+            "\npop,CC1,0,7,20\nrun,15,0,white,AB\nrun,15,2,green,C\n",
+            Some((Why::Overlap, 1, None)),
+        ),
+        (
+            "\npop,CC1,0,7,20\nrun,15,0,white,AB\nrun,15,3,white-i,C\n",
+            None,
+        ),
+    ];
+    judged(&rt, rt.alloc(), "60", cases.as_slice())
 }

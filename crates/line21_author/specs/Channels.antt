@@ -1,6 +1,5 @@
 -- The caption channels of line 21 and their cues (CTA-608-E; 47 CFR 79.101).
 use Rattle.std.specs.Prelude.{Bool, false}
-use Rattle.line21_codes.specs.declared.channels.Chan.{Chan}
 use Rattle.line21_codes.specs.Channels.{is_in_second_field}
 pub use Rattle.cue_lists.specs.Channels.{cues_on, is_on, same_channel}
 use Rattle.cue_lists.specs.declared.cue.Kind.{Kind}

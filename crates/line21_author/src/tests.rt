@@ -1,6 +1,6 @@
 ghost use Rattle.std.specs.Prelude.{IsTrue, All, IfSome};
 ghost use Rattle.cue_lists.specs.Cues.{IsCueFormed, IsOfKind};
-ghost use Rattle.cue_lists.specs.Line21Cues.{IsAuthored, IsLine21Pen, IsLine21Run, IsRolled};
+ghost use Rattle.cue_lists.specs.Line21Cues.{IsAuthoredChannel, IsLine21Pen, IsLine21Run, IsRolled};
 
 use crate::cue::units;
 use crate::event::{Event, events};
@@ -48,7 +48,7 @@ fn is_line21_run(run: &Run) -> bool
 
 // Whether cues are authored on the channel.
 fn is_authored(channel: Chan) -> bool
-    ensures { IsTrue result → IsAuthored channel }
+    ensures { IsTrue result → IsAuthoredChannel channel }
 {
     matches!(channel, Chan::Cc1 | Chan::Cc3)
 }

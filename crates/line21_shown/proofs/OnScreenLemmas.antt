@@ -6,11 +6,10 @@ use Rattle.std.proofs.lemmas.Bool.{cases_lt}
 use Rattle.std.proofs.lemmas.Bool.Decides.{nat_tests}
 use Rattle.std.proofs.lemmas.List.Elements.{All-head}
 use Rattle.line21_codes.specs.declared.channels.Chan.{Chan}
-use Rattle.cue_lists.specs.AuthoredGrid.{IsSettledFor, shown_by, shown_from, shown_of_newest, cells_of, chain_of, rolled_up}
+use Rattle.cue_lists.specs.AuthoredGrid.{IsSettledFor, shown_by, shown_from, shown_of_newest, cells_of, chain_of, chain_rows}
 use Rattle.cue_lists.specs.Cues.{IsCueFormed, IsOfKind}
-use Rattle.cue_lists.specs.Line21Cues.{IsLine21Run, IsRolled, base_row}
+use Rattle.cue_lists.specs.Line21Cues.{IsLine21Run, IsRolled, base_row, continues, same_roll}
 use Rattle.cue_lists.specs.Rules.Cells.{have_shared_cell}
-use Rattle.cue_lists.specs.Rules.Former.{continues, same_roll}
 use Rattle.cue_lists.specs.Rules.Lane.{is_line21, is_pop, is_roll}
 use Rattle.cue_lists.specs.declared.cue.Cue.{Cue}
 use Rattle.cue_lists.specs.declared.cue.Kind.{Kind}
@@ -142,7 +141,7 @@ module _ (channel : Chan) (rows : ℕ) (cue : Cue) (earlier : List Cue) (s : Cha
   some_rows = omega (arith, rolls.number.0)
 
   -- such captions are under way
-  rolling_is : (g : Grid) → IsRolling rows (base_row cue.runs) g (does_all (cue_codes cue) s) → g ≡ rolled_up rows (base_row cue.runs) (chain_of cue earlier)
+  rolling_is : (g : Grid) → IsRolling rows (base_row cue.runs) g (does_all (cue_codes cue) s) → g ≡ chain_rows rows (base_row cue.runs) (chain_of cue earlier)
       → IsOnScreen (kind.Roll channel rows) cue earlier (does_all (cue_codes cue) s)
   rolling_is g rolling same = (
     rolling.displayed ∙ same,
@@ -153,18 +152,18 @@ module _ (channel : Chan) (rows : ℕ) (cue : Cue) (earlier : List Cue) (s : Cha
   rolled_on (inl new) =
       rolling_is (with_runs cue.runs empty_grid) (roll_begun channel rows cue s is rolls runs several new.empty)
       (runs_are_cells cue.runs apart ∙ sym (new_chain rows (base_row cue.runs) cue some_rows rolls.one_row)
-      ∙ sym (ap (λ chain. rolled_up rows (base_row cue.runs) chain) new.alone))
+      ∙ sym (ap (λ chain. chain_rows rows (base_row cue.runs) chain) new.alone))
   rolled_on (inr onward) =
       let former_is : onward.former.kind ≡ kind.Roll channel rows = sym onward.continued.kind ∙ is in
-      let rolling_former : IsRolling rows (base_row onward.former.runs) (rolled_up rows (base_row onward.former.runs) (chain_of onward.former onward.before)) s =
+      let rolling_former : IsRolling rows (base_row onward.former.runs) (chain_rows rows (base_row onward.former.runs) (chain_of onward.former onward.before)) s =
       subst (λ k. IsRollingFor k (base_row onward.former.runs) (shown_from k onward.former onward.before) s) former_is onward.rolling in
-      let rolling_now : IsRolling rows (base_row cue.runs) (rolled_up rows (base_row cue.runs) (chain_of onward.former onward.before)) s =
-      subst (λ b. IsRolling rows b (rolled_up rows b (chain_of onward.former onward.before)) s) (sym onward.continued.base) rolling_former in
+      let rolling_now : IsRolling rows (base_row cue.runs) (chain_rows rows (base_row cue.runs) (chain_of onward.former onward.before)) s =
+      subst (λ b. IsRolling rows b (chain_rows rows b (chain_of onward.former onward.before)) s) (sym onward.continued.base) rolling_former in
       let chain : chain_of cue earlier ≡ cue ∷ chain_of onward.former onward.before =
       ap (chain_of cue) onward.is ∙ ap (λ b. cue ∷ (if b then chain_of onward.former onward.before else [])) onward.continues in
       rolling_is _ (roll_continued channel rows cue _ s is rolls runs several rolling_now)
       (chain_rolls rows (base_row cue.runs) cue (chain_of onward.former onward.before) some_rows (has_room cue.runs several rolls.room) rolls.one_row apart
-      ∙ sym (ap (λ c. rolled_up rows (base_row cue.runs) c) chain))
+      ∙ sym (ap (λ c. chain_rows rows (base_row cue.runs) c) chain))
     where
       has_room : (rs : List Run) → 1 ≤ length rs → All (λ run. rows ≤ run.row) rs → rows ≤ base_row rs
       has_room [] some room = absurd (omega arith)

@@ -6,7 +6,7 @@ use Rattle.std.proofs.lemmas.Bool.Decides.{nat_tests}
 use Rattle.std.proofs.lemmas.List.{reverse-append, reverse-reverse}
 use Rattle.std.proofs.lemmas.List.Elements.{All-contains, All-contains_itself, All-from_recursion, All-head, All-tail, All-weaker, Contains-append_right, recursion_from_All}
 use Rattle.line21_codes.specs.declared.channels.Chan.{Chan}
-use Rattle.cue_lists.specs.AuthoredGrid.{Picture, authored_grid, blank, cell_in, cells_of, cells_of_cue, chain_of, is_past, rolled_up, shown_by, shown_from, shown_of_newest}
+use Rattle.cue_lists.specs.AuthoredGrid.{Picture, authored_grid, blank, cell_in, cells_of, cells_of_cue, chain_of, is_past, chain_rows, shown_by, shown_from, shown_of_newest}
 use Rattle.cue_lists.specs.Cues.{IsCueFormed, IsOfKind}
 use Rattle.cue_lists.specs.Line21Cues.{base_row}
 use Rattle.cue_lists.specs.Listing.{IsFormed, Listing}
@@ -25,7 +25,7 @@ use Rattle.cue_lists.proofs.ChannelRules.{in_sequence_sound}
 use Rattle.line21_shown.specs.Sentences.{AuthoredGridIsSaid, HasCells, HasRows, IsUp}
 use Rattle.line21_shown.proofs.ChainLemmas.{chain_at}
 use Rattle.line21_shown.proofs.CueWritingLemmas.{apart_in_cells}
-use Rattle.line21_shown.proofs.HeadLemmas.{first_sound, rest_in_sequence}
+use Rattle.line21_shown.proofs.HeadLemmas.{rest_in_sequence}
 use Rattle.line21_shown.proofs.ScreenLemmas.{all_later, newest_first, newest_first-reverse, not_shown_yet}
 use Rattle.line21_shown.proofs.SequenceLemmas.{authored_is}
 
@@ -78,7 +78,7 @@ has_cells runs apart = record {
 }
 
 -- the rows of a chain are those of its cues
-has_rows : (rows base : ℕ) (chain : List Cue) → rows ≤ base → HasRows rows base chain (rolled_up rows base chain)
+has_rows : (rows base : ℕ) (chain : List Cue) → rows ≤ base → HasRows rows base chain (chain_rows rows base chain)
 has_rows rows base chain room = record {
   each = λ j cue column below at.
       let inside : (nat_le (base - j) base && nat_lt base (base - j + rows)) ≡ true = grind (arith, nat_tests) in
@@ -89,7 +89,7 @@ has_rows rows base chain room = record {
 }
   where
     by_window : (row column : ℕ) → ((j : ℕ) (cue : Cue) → j < rows → slice_get chain j ≡ Some cue → row ≡ base - j → ⊥)
-        → (b : Bool) → (nat_le row base && nat_lt base (row + rows)) ≡ b → rolled_up rows base chain row column ≡ None
+        → (b : Bool) → (nat_le row base && nat_lt base (row + rows)) ≡ b → chain_rows rows base chain row column ≡ None
     by_window row column none false outside = chain_at rows base chain row column false outside
     by_window row column none true inside =
         chain_at rows base chain row column true inside ∙ by_cue (slice_get chain (base - row)) refl

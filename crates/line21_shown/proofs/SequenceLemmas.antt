@@ -1,5 +1,5 @@
 -- The cues of a channel, one after another: at each settled frame the screen has what was authored.
-use Rattle.std.proofs.Common.{◌≡◌, ℕ, suc, ◌<◌, ◌≤◌, Bool, true, false, List, [], ◌∷◌, ◌++◌, Option, Some, None, All, filter, refl, sym, ap, ◌∙◌, subst, arith, ⊎_elim, append-nil, reverse}
+use Rattle.std.proofs.Common.{◌≡◌, ℕ, suc, ◌<◌, ◌≤◌, Bool, true, false, List, [], ◌∷◌, ◌++◌, Option, Some, None, All, refl, sym, ap, ◌∙◌, arith, ⊎_elim, append-nil, reverse}
 use Rattle.std.specs.Prelude.{⊤, IfSome, IsSome}
 use Rattle.std.specs.List.{AllByRecursion}
 use Rattle.std.proofs.lemmas.Bool.{cases_lt}

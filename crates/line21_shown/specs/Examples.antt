@@ -8,7 +8,7 @@ use Rattle.line21_codes.specs.declared.styles.Cell.{Cell}
 use Rattle.line21_codes.specs.declared.styles.Colour.{Colour}
 use Rattle.line21_codes.specs.declared.styles.Colour.TheVariants.{White, Red}
 use Rattle.cue_lists.specs.AuthoredGrid.{Picture, authored_grid}
-use Rattle.cue_lists.specs.Rules.Examples.{cue_of, run_of}
+use Rattle.cue_lists.specs.Rules.Examples.{example_cue, example_run}
 use Rattle.cue_lists.specs.declared.cue.Cue.{Cue}
 use Rattle.cue_lists.specs.declared.cue.Kind.TheVariants.{Pop, Roll}
 use Rattle.line21_screen.specs.Meaning.{after}
@@ -64,7 +64,7 @@ pub record Shows (example : Example) (frame : ℕ) (screen : List (List (Option 
 abbrev pub two_colours : Example
 two_colours = record {
   cues =
-      cue_of (Pop Cc1) 0 15 (Some 17) (run_of White 15 1 (65 ∷ 66 ∷ 67 ∷ []) ∷ run_of Red 14 5 (79 ∷ 75 ∷ []) ∷ []) ∷ [];
+      example_cue (Pop Cc1) 0 15 (Some 17) (example_run White 15 1 (65 ∷ 66 ∷ 67 ∷ []) ∷ example_run Red 14 5 (79 ∷ 75 ∷ []) ∷ []) ∷ [];
   placed = 0 ∷ 2 ∷ 4 ∷ 6 ∷ 8 ∷ 9 ∷ 10 ∷ 12 ∷ 14 ∷ [];
   frames = 20;
   pairs =
@@ -89,9 +89,9 @@ two_colours_screen =
 abbrev pub rolling : Example
 rolling = record {
   cues =
-      cue_of (Roll Cc1 2) 0 7 None (run_of White 11 0 (65 ∷ []) ∷ [])
-      ∷ cue_of (Roll Cc1 2) 8 15 None (run_of White 11 0 (66 ∷ []) ∷ [])
-      ∷ cue_of (Roll Cc1 2) 16 23 (Some 25) (run_of White 11 0 (67 ∷ []) ∷ []) ∷ [];
+      example_cue (Roll Cc1 2) 0 7 None (example_run White 11 0 (65 ∷ []) ∷ [])
+      ∷ example_cue (Roll Cc1 2) 8 15 None (example_run White 11 0 (66 ∷ []) ∷ [])
+      ∷ example_cue (Roll Cc1 2) 16 23 (Some 25) (example_run White 11 0 (67 ∷ []) ∷ []) ∷ [];
   placed = 0 ∷ 2 ∷ 4 ∷ 6 ∷ 8 ∷ 10 ∷ 12 ∷ 14 ∷ 16 ∷ 18 ∷ 20 ∷ 22 ∷ [];
   frames = 28;
   pairs =

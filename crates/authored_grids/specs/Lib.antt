@@ -1,0 +1,5 @@
+pub use Rattle.cue_types.specs.Cells
+pub use Rattle.cue_types.specs.Channels
+pub use Rattle.cue_types.specs.Line21Cues
+pub mod AuthoredGrid
+pub mod Examples

@@ -1,0 +1,17 @@
+pub mod CodedFacts
+pub mod Complete
+pub mod Faults
+pub mod FieldFacts
+pub mod Judged
+pub mod ListLimits
+pub mod NumberFacts
+pub mod Passing
+pub mod PrintedFacts
+pub mod RecordFacts
+pub mod Rows
+pub mod Spelled
+pub mod Steps
+pub mod TextFacts
+pub mod Unique
+pub mod WordFacts
+pub mod WordsRead

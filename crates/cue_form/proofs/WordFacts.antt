@@ -1,0 +1,130 @@
+-- Words in fields: a field is read as a rate, a channel or a pen exactly where it is its word.
+use Rattle.std.proofs.Common.{◌≡◌, ◌-◌, Bool, true, false, ◌++◌, length, take, drop, Some, codes, bytes_eq, refl, sym, ◌∙◌, inl, inr}
+use Rattle.std.proofs.lemmas.Bool.{cases_Bool}
+use Rattle.std.proofs.lemmas.List.{append-nil, take-append-drop}
+use Rattle.std.proofs.lemmas.Slice.Eq.{bytes_eq-Decides}
+use Rattle.cc_base.specs.declared.rate.Rate.{Rate}
+use Rattle.cc_base.specs.declared.rate.Rate.TheVariants as rate
+use Rattle.line21_codes.specs.declared.channels.Chan.{Chan}
+use Rattle.line21_codes.specs.declared.channels.Chan.TheVariants as chan
+use Rattle.line21_codes.specs.declared.styles.Colour.{Colour}
+use Rattle.line21_codes.specs.declared.styles.Colour.TheVariants as colour
+use Rattle.line21_codes.specs.declared.styles.Style.{Style}
+use Rattle.cue_form.specs.Fields.{channel_field, pen_field, plain_pen_field, rate_field}
+use Rattle.cue_types.specs.Line21Cues.{IsAuthoredChannel, IsLine21Pen}
+use Rattle.cue_types.specs.Listing.{IsListRate}
+use Rattle.cue_form.specs.Records.{Field}
+use Rattle.cue_form.specs.Spelling.{channel_word, colour_word, italic_mark, pen_word, rate_word}
+use Rattle.cue_form.specs.Form.{record_kind_of}
+use Rattle.cue_types.specs.declared.cue.Pen.TheVariants as pen
+use Rattle.cue_form.specs.declared.record_kind.RecordKind.{RecordKind}
+use Rattle.cue_form.specs.declared.record_kind.RecordKind.TheVariants as record_kind
+
+-- a field that passed the test for a word is the word
+pub is_word : (text word : Field) → bytes_eq text word ≡ true → text ≡ word
+is_word text word = (bytes_eq-Decides text word).0
+
+-- a rate
+pub rate_passed : (text : Field) (r : Rate) → rate_field text ≡ Some r → IsListRate r × (text ≡ rate_word r)
+rate_passed text r e = elim (cases_Bool (bytes_eq text (codes "29.97"))) [
+  | inl is ↦ let q = rw is at e in let same : rate.F2997 ≡ r = cc in rw (← same) (tt, is_word text _ is)
+  | inr other ↦ let e1 = rw other at e in elim (cases_Bool (bytes_eq text (codes "30"))) [
+    | inl is ↦ let q = rw is at e1 in let same : rate.F30 ≡ r = cc in rw (← same) (tt, is_word text _ is)
+    | inr other ↦ let q = rw other at e1 in cc
+  ]
+]
+
+-- a channel
+pub channel_passed : (text : Field) (c : Chan) → channel_field text ≡ Some c → IsAuthoredChannel c × (text ≡ channel_word c)
+channel_passed text c e = elim (cases_Bool (bytes_eq text (codes "CC1"))) [
+  | inl is ↦ let q = rw is at e in let same : chan.Cc1 ≡ c = cc in rw (← same) (tt, is_word text _ is)
+  | inr other ↦ let e1 = rw other at e in elim (cases_Bool (bytes_eq text (codes "CC3"))) [
+    | inl is ↦ let q = rw is at e1 in let same : chan.Cc3 ≡ c = cc in rw (← same) (tt, is_word text _ is)
+    | inr other ↦ let q = rw other at e1 in cc
+  ]
+]
+
+-- the word of a plain pen
+abbrev plain_word : Colour → Bool → Field
+plain_word colour italic = colour_word colour ++ italic_mark italic
+
+-- the pen's colour and italics in a word, with the underlining that was told
+record IsPlainPen (underline : Bool) (text : Field) (style : Style) : Type 0 where
+  word : text ≡ plain_word style.colour style.italic
+  underlined : style.underline ≡ underline
+  white : style.italic ≡ true → style.colour ≡ colour.White
+
+-- a pen without its underlining
+plain_pen_passed : (u : Bool) (text : Field) (style : Style) → plain_pen_field u text ≡ Some style → IsPlainPen u text style
+plain_pen_passed u text style e0 = elim (cases_Bool (bytes_eq text (codes "white"))) [
+  | inl is ↦ let q = rw is at e0 in let same : record { colour = colour.White; italic = false; underline = u } ≡ style = cc in rw (← same) (record { word = is_word text _ is; underlined = refl; white = λ i. refl })
+  | inr other ↦ let e1 = rw other at e0 in elim (cases_Bool (bytes_eq text (codes "green"))) [
+    | inl is ↦ let q = rw is at e1 in let same : record { colour = colour.Green; italic = false; underline = u } ≡ style = cc in rw (← same) (record { word = is_word text _ is; underlined = refl; white = λ i. cc })
+    | inr other ↦ let e2 = rw other at e1 in elim (cases_Bool (bytes_eq text (codes "blue"))) [
+      | inl is ↦ let q = rw is at e2 in let same : record { colour = colour.Blue; italic = false; underline = u } ≡ style = cc in rw (← same) (record { word = is_word text _ is; underlined = refl; white = λ i. cc })
+      | inr other ↦ let e3 = rw other at e2 in elim (cases_Bool (bytes_eq text (codes "cyan"))) [
+        | inl is ↦ let q = rw is at e3 in let same : record { colour = colour.Cyan; italic = false; underline = u } ≡ style = cc in rw (← same) (record { word = is_word text _ is; underlined = refl; white = λ i. cc })
+        | inr other ↦ let e4 = rw other at e3 in elim (cases_Bool (bytes_eq text (codes "red"))) [
+          | inl is ↦ let q = rw is at e4 in let same : record { colour = colour.Red; italic = false; underline = u } ≡ style = cc in rw (← same) (record { word = is_word text _ is; underlined = refl; white = λ i. cc })
+          | inr other ↦ let e5 = rw other at e4 in elim (cases_Bool (bytes_eq text (codes "yellow"))) [
+            | inl is ↦ let q = rw is at e5 in let same : record { colour = colour.Yellow; italic = false; underline = u } ≡ style = cc in rw (← same) (record { word = is_word text _ is; underlined = refl; white = λ i. cc })
+            | inr other ↦ let e6 = rw other at e5 in elim (cases_Bool (bytes_eq text (codes "magenta"))) [
+              | inl is ↦ let q = rw is at e6 in let same : record { colour = colour.Magenta; italic = false; underline = u } ≡ style = cc in rw (← same) (record { word = is_word text _ is; underlined = refl; white = λ i. cc })
+              | inr other ↦ let e7 = rw other at e6 in elim (cases_Bool (bytes_eq text (codes "white-i"))) [
+                | inl is ↦ let q = rw is at e7 in let same : record { colour = colour.White; italic = true; underline = u } ≡ style = cc in rw (← same) (record { word = is_word text _ is; underlined = refl; white = λ i. refl })
+                | inr other ↦ let q = rw other at e7 in cc
+              ]
+            ]
+          ]
+        ]
+      ]
+    ]
+  ]
+]
+
+-- a pen
+pub pen_passed : (text : Field) (style : Style) → pen_field text ≡ Some style → IsLine21Pen (pen.Line21 style) × (text ≡ pen_word (pen.Line21 style))
+pen_passed text style e = elim (cases_Bool (bytes_eq (drop (length text - 2) text) (codes "-u"))) [
+  | inl is ↦
+      let plain = plain_pen_passed true (take (length text - 2) text) style (rw is at e) in
+      let mark = is_word (drop (length text - 2) text) _ is in
+      (plain.white, sym (take-append-drop (length text - 2) text) ∙ rw (plain.underlined, plain.word, mark) refl)
+  | inr other ↦
+      let plain = plain_pen_passed false text style (rw other at e) in
+      (plain.white, plain.word ∙ rw plain.underlined (sym (append-nil (plain_word style.colour style.italic))))
+]
+
+-- the word of a kind of record
+abbrev pub kind_word : RecordKind → Field
+kind_word record_kind.Ccsuite = codes "ccsuite"
+kind_word record_kind.Share = codes "share"
+kind_word record_kind.Pop = codes "pop"
+kind_word record_kind.Paint = codes "paint"
+kind_word record_kind.Roll = codes "roll"
+kind_word record_kind.Win = codes "win"
+kind_word record_kind.Run = codes "run"
+
+-- a kind of record
+pub kind_passed : (text : Field) (k : RecordKind) → record_kind_of text ≡ Some k → text ≡ kind_word k
+kind_passed text k e0 = elim (cases_Bool (bytes_eq text (codes "ccsuite"))) [
+  | inl is ↦ let q = rw is at e0 in let same : record_kind.Ccsuite ≡ k = cc in rw (← same) (is_word text _ is)
+  | inr other ↦ let e1 = rw other at e0 in elim (cases_Bool (bytes_eq text (codes "share"))) [
+    | inl is ↦ let q = rw is at e1 in let same : record_kind.Share ≡ k = cc in rw (← same) (is_word text _ is)
+    | inr other ↦ let e2 = rw other at e1 in elim (cases_Bool (bytes_eq text (codes "pop"))) [
+      | inl is ↦ let q = rw is at e2 in let same : record_kind.Pop ≡ k = cc in rw (← same) (is_word text _ is)
+      | inr other ↦ let e3 = rw other at e2 in elim (cases_Bool (bytes_eq text (codes "paint"))) [
+        | inl is ↦ let q = rw is at e3 in let same : record_kind.Paint ≡ k = cc in rw (← same) (is_word text _ is)
+        | inr other ↦ let e4 = rw other at e3 in elim (cases_Bool (bytes_eq text (codes "roll"))) [
+          | inl is ↦ let q = rw is at e4 in let same : record_kind.Roll ≡ k = cc in rw (← same) (is_word text _ is)
+          | inr other ↦ let e5 = rw other at e4 in elim (cases_Bool (bytes_eq text (codes "win"))) [
+            | inl is ↦ let q = rw is at e5 in let same : record_kind.Win ≡ k = cc in rw (← same) (is_word text _ is)
+            | inr other ↦ let e6 = rw other at e5 in elim (cases_Bool (bytes_eq text (codes "run"))) [
+              | inl is ↦ let q = rw is at e6 in let same : record_kind.Run ≡ k = cc in rw (← same) (is_word text _ is)
+              | inr other ↦ let q = rw other at e6 in cc
+            ]
+          ]
+        ]
+      ]
+    ]
+  ]
+]

@@ -1,0 +1,5 @@
+use Rattle.cue_form.proofs.PrintedFacts.{read_list-list_bytes}
+use Rattle.cue_form.proofs.laws.printed_is_read.Goals as goal
+
+pub returns : goal.returns
+returns c = read_list-list_bytes

@@ -1,0 +1,67 @@
+-- A cue list that is begun: what its first records spell. Further runs belong to its last cue.
+use Rattle.std.specs.Prelude.{◌≡◌, ◌<◌, ◌≤◌, ◌^◌, Bool, true, false, List, [], ◌∷◌, ◌++◌, length, All, Option, Some, None, option_to_list}
+use Rattle.cue_types.specs.Cues.{IsOfKind, IsFrameOrNone, IsCueFormed}
+use Rattle.cue_types.specs.Listing.{IsListRate, most_cues, most_frames}
+use Rattle.cue_types.specs.Shares.{AreShares}
+use Rattle.cue_types.specs.declared.cue.Cue.{Cue}
+use Rattle.cue_types.specs.declared.cue.Run.{Run}
+use Rattle.cue_types.specs.declared.head.Head.{Head}
+use Rattle.cue_types.specs.declared.list.Share.{Share}
+
+-- the head, the shares and the cues so far; further runs belong to the last cue
+pub record Begun : Type 0 where
+  pub head : Option Head
+  pub shares : List Share
+  pub earlier : List Cue
+  pub last : Option Cue
+
+-- a list without a record
+abbrev pub nothing : Begun
+nothing = record { head = None; shares = []; earlier = []; last = None }
+
+-- the cues so far
+abbrev pub cues_of : Begun → List Cue
+cues_of b = b.earlier ++ option_to_list b.last
+
+-- with one cue more
+abbrev pub with_cue : Begun → Cue → Begun
+with_cue b cue = record b { earlier = cues_of b; last = Some cue }
+
+-- the cue with one run more
+abbrev pub cue_with_run : Cue → Run → Cue
+cue_with_run cue run = record cue { runs = cue.runs ++ run ∷ [] }
+
+-- there are none
+abbrev pub no_runs : List Run → Bool
+no_runs [] = true
+no_runs (_ ∷ _) = false
+
+-- the last cue has no run yet
+abbrev pub awaits_run : Option Cue → Bool
+awaits_run None = false
+awaits_run (Some cue) = no_runs cue.runs
+
+-- a cue in its ranges, with or without a run
+pub record IsCueBegun (cue : Cue) : Type 0 where
+  pub load : cue.load < 2 ^ 32
+  pub show : cue.show < 2 ^ 32
+  pub hide : IsFrameOrNone cue.hide
+  pub kind : IsOfKind cue.kind cue.hide cue.runs
+
+-- a head in its ranges; a list without one has nothing else
+abbrev pub IsHeadOrNothing : Begun → Option Head → Type 0
+IsHeadOrNothing b None = b ≡ nothing
+IsHeadOrNothing b (Some head) = IsListRate head.rate × (1 ≤ head.frames) × (head.frames ≤ most_frames)
+
+-- a last cue in its ranges; a list without one has no other
+abbrev pub IsLastOrNone : List Cue → Option Cue → Type 0
+IsLastOrNone earlier None = earlier ≡ []
+IsLastOrNone earlier (Some cue) = IsCueBegun cue
+
+-- what holds of every begun list
+pub record IsBegun (b : Begun) : Type 0 where
+  pub head : IsHeadOrNothing b b.head
+  pub shares : AreShares b.shares
+  pub earlier : All IsCueFormed b.earlier
+  pub last : IsLastOrNone b.earlier b.last
+  pub few : length (cues_of b) ≤ most_cues

@@ -1,0 +1,66 @@
+-- The values of fields: numbers, rates, channels and pens.
+use Rattle.std.specs.Prelude.{ℕ, ◌+◌, ◌-◌, ◌*◌, ◌==◌, Bool, true, false, not, ◌&&◌, ◌||◌, nat_le, if◌then◌else◌, List, [], ◌∷◌, length, take, drop, slice_index, codes, bytes_eq, Option, Some, None, option_and_then}
+use Rattle.std.specs.List.{list_all}
+use Rattle.std.specs.Char.{is_ascii_digit}
+use Rattle.cc_base.specs.declared.rate.Rate.{Rate}
+use Rattle.cc_base.specs.declared.rate.Rate.TheVariants as rate
+use Rattle.line21_codes.specs.declared.channels.Chan.{Chan}
+use Rattle.line21_codes.specs.declared.channels.Chan.TheVariants as chan
+use Rattle.line21_codes.specs.declared.styles.Colour.TheVariants as colour
+use Rattle.line21_codes.specs.declared.styles.Style.{Style}
+use Rattle.cue_form.specs.Records.{Field}
+
+-- the number that decimal digits write after those of n
+abbrev pub value_after : ℕ → List ℕ → ℕ
+value_after n [] = n
+value_after n (digit ∷ digits) = value_after (n * 10 + (digit - 48)) digits
+
+-- 1 to 10 bytes, of which a first 0 stands alone
+abbrev pub has_number_length : Field → Bool
+has_number_length text = nat_le 1 (length text) && nat_le (length text) 10 && (length text == 1 || not (slice_index text 0 == 48))
+
+-- a number: 1 to 10 decimal digits without a sign and without a leading zero, except 0 itself
+abbrev pub number_field : Field → Option ℕ
+number_field text = if has_number_length text && list_all is_ascii_digit text then Some (value_after 0 text) else None
+
+-- a number from low to high
+abbrev pub number_within : ℕ → ℕ → Field → Option ℕ
+number_within low high text = option_and_then (λ n. if nat_le low n && nat_le n high then Some n else None) (number_field text)
+
+-- the number of a frame
+abbrev pub frame_field : Field → Option ℕ
+frame_field text = number_within 0 4294967295 text
+
+-- a rate of lists: 29.97 or 30 frames a second
+abbrev pub rate_field : Field → Option Rate
+rate_field text =
+    if bytes_eq text (codes "29.97") then Some rate.F2997
+    else if bytes_eq text (codes "30") then Some rate.F30
+    else None
+
+-- a channel that cues are authored on
+abbrev pub channel_field : Field → Option Chan
+channel_field text =
+    if bytes_eq text (codes "CC1") then Some chan.Cc1
+    else if bytes_eq text (codes "CC3") then Some chan.Cc3
+    else None
+
+-- the style of a pen's colour or italics, underlined or not
+abbrev pub plain_pen_field : Bool → Field → Option Style
+plain_pen_field underline text =
+    if bytes_eq text (codes "white") then Some (record { colour = colour.White; italic = false; underline = underline })
+    else if bytes_eq text (codes "green") then Some (record { colour = colour.Green; italic = false; underline = underline })
+    else if bytes_eq text (codes "blue") then Some (record { colour = colour.Blue; italic = false; underline = underline })
+    else if bytes_eq text (codes "cyan") then Some (record { colour = colour.Cyan; italic = false; underline = underline })
+    else if bytes_eq text (codes "red") then Some (record { colour = colour.Red; italic = false; underline = underline })
+    else if bytes_eq text (codes "yellow") then Some (record { colour = colour.Yellow; italic = false; underline = underline })
+    else if bytes_eq text (codes "magenta") then Some (record { colour = colour.Magenta; italic = false; underline = underline })
+    else if bytes_eq text (codes "white-i") then Some (record { colour = colour.White; italic = true; underline = underline })
+    else None
+
+-- the style of a line 21 pen; -u at the end underlines
+abbrev pub pen_field : Field → Option Style
+pen_field text =
+    if bytes_eq (drop (length text - 2) text) (codes "-u")
+    then plain_pen_field true (take (length text - 2) text)
+    else plain_pen_field false text

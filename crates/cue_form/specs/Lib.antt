@@ -1,0 +1,17 @@
+pub use Rattle.cue_types.specs.Channels
+pub use Rattle.cue_types.specs.Cues
+pub use Rattle.cue_types.specs.Lane
+pub use Rattle.cue_types.specs.Line21Cues
+pub use Rattle.cue_types.specs.Listing
+pub use Rattle.cue_types.specs.Shares
+pub use Rattle.cue_types.specs.Windows
+pub mod Answers
+pub mod Begun
+pub mod Fields
+pub mod FirstFault
+pub mod Form
+pub mod Printing
+pub mod Reading
+pub mod Records
+pub mod Spelling
+pub mod Unbuilt

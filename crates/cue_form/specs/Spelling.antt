@@ -1,0 +1,114 @@
+-- The records that spell a cue list: its head, then its shares, then each cue with its runs. A number is spelled in
+-- decimal digits, a text in UTF-8.
+use Rattle.std.specs.Prelude.{◌≡◌, ℕ, Bool, if◌then◌else◌, List, [], ◌∷◌, ◌++◌, map, flat_map, codes, decimal, encode_utf8_all, Option, Some, None}
+use Rattle.cc_base.specs.declared.rate.Rate.{Rate}
+use Rattle.cc_base.specs.declared.rate.Rate.TheVariants as rate
+use Rattle.line21_codes.specs.declared.channels.Chan.{Chan}
+use Rattle.line21_codes.specs.declared.channels.Chan.TheVariants as chan
+use Rattle.line21_codes.specs.declared.styles.Colour.{Colour}
+use Rattle.line21_codes.specs.declared.styles.Colour.TheVariants as colour
+use Rattle.cue_form.specs.Begun.{Begun, IsBegun, cues_of}
+use Rattle.cue_types.specs.Listing.{Listing, IsFormed}
+use Rattle.cue_form.specs.Records.{Field, Record}
+use Rattle.cue_types.specs.declared.cue.Cue.{Cue}
+use Rattle.cue_types.specs.declared.cue.Kind.{Kind}
+use Rattle.cue_types.specs.declared.cue.Kind.TheVariants as kind
+use Rattle.cue_types.specs.declared.cue.Pen.{Pen}
+use Rattle.cue_types.specs.declared.cue.Pen.TheVariants as pen
+use Rattle.cue_types.specs.declared.cue.Run.{Run}
+use Rattle.cue_types.specs.declared.head.Head.{Head}
+use Rattle.cue_types.specs.declared.list.Share.{Share}
+
+-- the word of a rate
+abbrev pub rate_word : Rate → Field
+rate_word rate.F2997 = codes "29.97"
+rate_word rate.F30 = codes "30"
+rate_word _ = []
+
+-- the word of a channel
+abbrev pub channel_word : Chan → Field
+channel_word chan.Cc1 = codes "CC1"
+channel_word chan.Cc3 = codes "CC3"
+channel_word _ = []
+
+-- the word of a colour
+abbrev pub colour_word : Colour → Field
+colour_word colour.White = codes "white"
+colour_word colour.Green = codes "green"
+colour_word colour.Blue = codes "blue"
+colour_word colour.Cyan = codes "cyan"
+colour_word colour.Red = codes "red"
+colour_word colour.Yellow = codes "yellow"
+colour_word colour.Magenta = codes "magenta"
+
+-- what a pen's word has for italics, and for underlining
+abbrev pub italic_mark : Bool → Field
+italic_mark italic = if italic then codes "-i" else []
+
+abbrev pub underline_mark : Bool → Field
+underline_mark underline = if underline then codes "-u" else []
+
+-- the word of a pen
+abbrev pub pen_word : Pen → Field
+pen_word (pen.Line21 style) = colour_word style.colour ++ italic_mark style.italic ++ underline_mark style.underline
+pen_word (pen.Dtv italic underline) = codes "plain" ++ italic_mark italic ++ underline_mark underline
+
+-- the word of a HIDE, which may be empty
+abbrev pub hide_word : Option ℕ → Field
+hide_word None = []
+hide_word (Some hide) = decimal hide
+
+-- ccsuite,1,RATE,FRAMES
+abbrev pub head_record : Head → Record
+head_record head = codes "ccsuite" ∷ codes "1" ∷ rate_word head.rate ∷ decimal head.frames ∷ []
+
+-- share,SERVICE,BYTES
+abbrev pub share_record : Share → Record
+share_record share = codes "share" ∷ decimal share.service ∷ decimal share.bytes ∷ []
+
+-- pop,CH,LOAD,SHOW,HIDE
+-- paint,CH,LOAD,SHOW,HIDE
+-- roll,CH,N,LOAD,SHOW,HIDE
+-- win,SERVICE,ID,LOAD,SHOW,HIDE,DELAY,ANCHOR,AV,AH,ROWS,COLS,PRIORITY,WS,PS
+abbrev pub cue_record : Kind → Cue → Record
+cue_record (kind.Pop channel) cue =
+    codes "pop" ∷ channel_word channel ∷ decimal cue.load ∷ decimal cue.show ∷ hide_word cue.hide ∷ []
+cue_record (kind.Paint channel) cue =
+    codes "paint" ∷ channel_word channel ∷ decimal cue.load ∷ decimal cue.show ∷ hide_word cue.hide ∷ []
+cue_record (kind.Roll channel rows) cue =
+    codes "roll" ∷ channel_word channel ∷ decimal rows ∷ decimal cue.load ∷ decimal cue.show ∷ hide_word cue.hide ∷ []
+cue_record (kind.Win w) cue =
+    codes "win" ∷ decimal w.service ∷ decimal w.id ∷ decimal cue.load ∷ decimal cue.show ∷ hide_word cue.hide
+    ∷ decimal w.delay ∷ decimal w.anchor ∷ decimal w.av ∷ decimal w.ah ∷ decimal w.rows ∷ decimal w.cols
+    ∷ decimal w.priority ∷ decimal w.ws ∷ decimal w.ps ∷ []
+
+-- run,ROW,COL,PEN,TEXT
+abbrev pub run_record : Run → Record
+run_record run = codes "run" ∷ decimal run.row ∷ decimal run.col ∷ pen_word run.pen ∷ encode_utf8_all run.text ∷ []
+
+-- a cue and its runs
+abbrev pub cue_records : Cue → List Record
+cue_records cue = cue_record cue.kind cue ∷ map run_record cue.runs
+
+-- a cue list: the head, the shares, the cues
+abbrev pub list_records : Listing → List Record
+list_records l =
+    head_record (record { rate = l.rate; frames = l.frames })
+    ∷ (map share_record l.shares ++ flat_map cue_records l.cues)
+
+-- these records spell this cue list
+abbrev pub Spells : List Record → Listing → Type 0
+Spells records l = (records ≡ list_records l) × IsFormed l
+
+-- a head, or none
+abbrev pub head_records : Option Head → List Record
+head_records None = []
+head_records (Some head) = head_record head ∷ []
+
+-- a begun list
+abbrev pub begun_records : Begun → List Record
+begun_records b = head_records b.head ++ (map share_record b.shares ++ flat_map cue_records (cues_of b))
+
+-- these records begin a cue list so
+abbrev pub BeginsList : List Record → Begun → Type 0
+BeginsList records b = (records ≡ begun_records b) × IsBegun b

@@ -1,0 +1,133 @@
+ghost use Rattle.std.specs.Prelude.{◌≡◌, ◌≤◌, IfSome, bytes_eq};
+ghost use Rattle.csv.specs.Records.{fields_of};
+ghost use Rattle.cue_form.specs.Fields.{has_number_length, number_field, number_within, frame_field, rate_field, channel_field, plain_pen_field, pen_field};
+ghost use Rattle.cue_form.specs.Records.{field};
+
+use cc_base::Rate;
+use csv::ByteRecord;
+use line21_codes::{Chan, Colour, Style};
+
+/// Whether a field is this word.
+pub fn is_word(text: &[u8], word: &str) -> bool
+    ensures { result ≡ bytes_eq text.now word.now }
+{
+    text == word.as_bytes()
+}
+
+/// The field at a place, counted from 0; none is empty.
+pub fn field(row: &ByteRecord, place: usize) -> &[u8]
+    ensures { result.now ≡ field (fields_of row.now) place }
+{
+    row.get(place).unwrap_or(b"")
+}
+
+/// The number that a field has: 1 to 10 decimal digits, without a sign and without a leading zero, except 0 itself.
+pub fn read_number(text: &[u8]) -> Option<u64>
+    ensures { result ≡ number_field text.now }
+{
+    if !has_number_length(text) {
+        return None;
+    }
+    let mut value = 0u64;
+    for byte in text {
+        if !byte.is_ascii_digit() {
+            return None;
+        }
+        value = value * 10 + u64::from(*byte - b'0');
+    }
+    Some(value)
+}
+
+fn has_number_length(text: &[u8]) -> bool
+    ensures { result ≡ has_number_length text.now }
+{
+    !text.is_empty() && text.len() <= 10 && (text.len() == 1 || text[0] != b'0')
+}
+
+/// A number from low to high.
+pub fn read_within(low: u64, high: u64, text: &[u8]) -> Option<u64>
+    ensures value { result ≡ number_within low high text.now }
+    ensures within { IfSome result (λ n. (low ≤ n) × (n ≤ high)) }
+{
+    match read_number(text) {
+        Some(number) if low <= number && number <= high => Some(number),
+        _ => None,
+    }
+}
+
+/// The number of a frame, 0 to 4,294,967,295.
+pub fn read_frame(text: &[u8]) -> Option<u32>
+    ensures { result ≡ frame_field text.now }
+{
+    match read_within(0, 4_294_967_295, text) {
+        Some(frame) => Some(frame as u32),
+        None => None,
+    }
+}
+
+/// A rate of lists: 29.97 or 30 frames a second.
+pub fn read_rate(text: &[u8]) -> Option<Rate>
+    ensures { result ≡ rate_field text.now }
+{
+    if is_word(text, "29.97") {
+        Some(Rate::F2997)
+    } else if is_word(text, "30") {
+        Some(Rate::F30)
+    } else {
+        None
+    }
+}
+
+/// A channel that cues are authored on: CC1 or CC3.
+pub fn read_channel(text: &[u8]) -> Option<Chan>
+    ensures { result ≡ channel_field text.now }
+{
+    if is_word(text, "CC1") {
+        Some(Chan::Cc1)
+    } else if is_word(text, "CC3") {
+        Some(Chan::Cc3)
+    } else {
+        None
+    }
+}
+
+/// The style of a line 21 pen: a colour or white italics, underlined where -u is at its end.
+pub fn read_pen(text: &[u8]) -> Option<Style>
+    ensures { result ≡ pen_field text.now }
+{
+    let end = text.len().saturating_sub(2);
+    if is_word(&text[end..], "-u") {
+        read_plain_pen(true, &text[..end])
+    } else {
+        read_plain_pen(false, text)
+    }
+}
+
+fn read_plain_pen(underline: bool, text: &[u8]) -> Option<Style>
+    ensures { result ≡ plain_pen_field underline text.now }
+{
+    let (colour, italic) = if is_word(text, "white") {
+        (Colour::White, false)
+    } else if is_word(text, "green") {
+        (Colour::Green, false)
+    } else if is_word(text, "blue") {
+        (Colour::Blue, false)
+    } else if is_word(text, "cyan") {
+        (Colour::Cyan, false)
+    } else if is_word(text, "red") {
+        (Colour::Red, false)
+    } else if is_word(text, "yellow") {
+        (Colour::Yellow, false)
+    } else if is_word(text, "magenta") {
+        (Colour::Magenta, false)
+    } else if is_word(text, "white-i") {
+        (Colour::White, true)
+    } else {
+        return None;
+    };
+    Some(Style {
+        colour,
+        italic,
+        underline,
+    })
+}

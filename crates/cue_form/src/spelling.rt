@@ -1,0 +1,217 @@
+//! The records that spell a cue list, field by field.
+
+ghost use Rattle.std.specs.Prelude.{◌≡◌, [], ◌∷◌, ◌++◌, decimal, encode_utf8_all, IfOk, OnOk, Some};
+ghost use Rattle.std.specs.String.{string_bytes};
+ghost use Rattle.csv.specs.Records.{fields_of};
+ghost use Rattle.cue_form.specs.Spelling.{channel_word, colour_word, cue_record, head_record, hide_word, italic_mark, pen_word, rate_word, run_record, share_record, underline_mark};
+ghost use Rattle.cue_types.specs.declared.cue.Kind.TheVariants as kind;
+ghost use Rattle.cue_types.specs.declared.head.Head.{Head};
+
+use cc_base::Rate;
+use csv::StringRecord;
+use cue_types::{Cue, Head, Kind, Pen, Run, Share, Text, WinCue};
+use line21_codes::{Chan, Colour};
+use std::alloc::{AllocError, Global};
+
+/// The head: `ccsuite,1,RATE,FRAMES`.
+pub fn head_record(alloc: Global, head: Head) -> Result<StringRecord, AllocError>
+    ensures { IfOk result (λ row. fields_of row ≡ head_record head) }
+{
+    let mut row = StringRecord::new(alloc);
+    row.push_field("ccsuite")?;
+    row.push_field("1")?;
+    row.push_field(rate_word(head.rate))?;
+    push_number(alloc, &mut row, head.frames)?;
+    Ok(row)
+}
+
+/// A share: `share,SERVICE,BYTES`.
+pub fn share_record(alloc: Global, share: Share) -> Result<StringRecord, AllocError>
+    ensures { IfOk result (λ row. fields_of row ≡ share_record share) }
+{
+    let mut row = StringRecord::new(alloc);
+    row.push_field("share")?;
+    push_number(alloc, &mut row, u32::from(share.service))?;
+    push_number(alloc, &mut row, u32::from(share.bytes))?;
+    Ok(row)
+}
+
+/// A cue without its runs.
+pub fn cue_record(alloc: Global, cue: &Cue) -> Result<StringRecord, AllocError>
+    ensures { IfOk result (λ row. fields_of row ≡ cue_record cue.now.kind cue.now) }
+{
+    match cue.kind {
+        Kind::Pop(channel) => shown_record(alloc, "pop", channel, cue),
+        Kind::Paint(channel) => shown_record(alloc, "paint", channel, cue),
+        Kind::Roll(channel, rows) => rolled_record(alloc, channel, rows, cue),
+        Kind::Win(window) => window_record(alloc, window, cue),
+    }
+}
+
+/// A run: `run,ROW,COL,PEN,TEXT`.
+pub fn run_record(alloc: Global, run: &Run) -> Result<StringRecord, AllocError>
+    ensures { IfOk result (λ row. fields_of row ≡ run_record run.now) }
+{
+    let mut row = StringRecord::new(alloc);
+    row.push_field("run")?;
+    push_number(alloc, &mut row, u32::from(run.row))?;
+    push_number(alloc, &mut row, u32::from(run.col))?;
+    let pen = pen_word(alloc, run.pen)?;
+    row.push_field(pen.as_str())?;
+    let text = text_word(alloc, &run.text)?;
+    row.push_field(text.as_str())?;
+    Ok(row)
+}
+
+/// A pop-on or paint-on cue: `pop,CH,LOAD,SHOW,HIDE` or `paint,CH,LOAD,SHOW,HIDE`.
+fn shown_record(
+    alloc: Global,
+    word: &str,
+    channel: Chan,
+    cue: &Cue,
+) -> Result<StringRecord, AllocError>
+    ensures { IfOk result (λ row. fields_of row ≡ word.now ∷ channel_word channel ∷ decimal cue.now.load ∷ decimal cue.now.show ∷ hide_word cue.now.hide ∷ []) }
+{
+    let mut row = StringRecord::new(alloc);
+    row.push_field(word)?;
+    row.push_field(channel_word(channel))?;
+    push_frames(alloc, &mut row, cue)?;
+    Ok(row)
+}
+
+/// A roll-up cue: `roll,CH,N,LOAD,SHOW,HIDE`.
+fn rolled_record(
+    alloc: Global,
+    channel: Chan,
+    rows: u8,
+    cue: &Cue,
+) -> Result<StringRecord, AllocError>
+    ensures { IfOk result (λ row. fields_of row ≡ cue_record (kind.Roll channel rows) cue.now) }
+{
+    let mut row = StringRecord::new(alloc);
+    row.push_field("roll")?;
+    row.push_field(channel_word(channel))?;
+    push_number(alloc, &mut row, u32::from(rows))?;
+    push_frames(alloc, &mut row, cue)?;
+    Ok(row)
+}
+
+/// A window cue: `win,SERVICE,ID,LOAD,SHOW,HIDE,DELAY,ANCHOR,AV,AH,ROWS,COLS,PRIORITY,WS,PS`.
+fn window_record(alloc: Global, window: WinCue, cue: &Cue) -> Result<StringRecord, AllocError>
+    ensures { IfOk result (λ row. fields_of row ≡ cue_record (kind.Win window) cue.now) }
+{
+    let mut row = StringRecord::new(alloc);
+    row.push_field("win")?;
+    push_number(alloc, &mut row, u32::from(window.service))?;
+    push_number(alloc, &mut row, u32::from(window.id))?;
+    push_frames(alloc, &mut row, cue)?;
+    push_number(alloc, &mut row, u32::from(window.delay))?;
+    push_number(alloc, &mut row, u32::from(window.anchor))?;
+    push_number(alloc, &mut row, u32::from(window.av))?;
+    push_number(alloc, &mut row, u32::from(window.ah))?;
+    push_number(alloc, &mut row, u32::from(window.rows))?;
+    push_number(alloc, &mut row, u32::from(window.cols))?;
+    push_number(alloc, &mut row, u32::from(window.priority))?;
+    push_number(alloc, &mut row, u32::from(window.ws))?;
+    push_number(alloc, &mut row, u32::from(window.ps))?;
+    Ok(row)
+}
+
+/// Adds the fields LOAD, SHOW and HIDE, which is empty where the cue has none.
+fn push_frames(alloc: Global, row: &mut StringRecord, cue: &Cue) -> Result<(), AllocError>
+    ensures { OnOk result (fields_of row.new ≡ fields_of row.old ++ (decimal cue.now.load ∷ decimal cue.now.show ∷ hide_word cue.now.hide ∷ [])) }
+{
+    push_number(alloc, row, cue.load)?;
+    push_number(alloc, row, cue.show)?;
+    match cue.hide {
+        None => row.push_field(""),
+        Some(hide) => push_number(alloc, row, hide),
+    }
+}
+
+/// Adds a field of a number in decimal.
+fn push_number(alloc: Global, row: &mut StringRecord, number: u32) -> Result<(), AllocError>
+    ensures { OnOk result (fields_of row.new ≡ fields_of row.old ++ decimal number ∷ []) }
+{
+    let digits = number.to_string(alloc)?;
+    row.push_field(digits.as_str())
+}
+
+/// The word of a pen.
+fn pen_word(alloc: Global, pen: Pen) -> Result<String, AllocError>
+    ensures { IfOk result (λ word. string_bytes word ≡ pen_word pen) }
+{
+    match pen {
+        Pen::Line21(style) => marked(
+            alloc,
+            colour_word(style.colour),
+            style.italic,
+            style.underline,
+        ),
+        Pen::Dtv { italic, underline } => marked(alloc, "plain", italic, underline),
+    }
+}
+
+/// A pen's word with its marks.
+fn marked(alloc: Global, plain: &str, italic: bool, underline: bool) -> Result<String, AllocError>
+    ensures { IfOk result (λ word. string_bytes word ≡ plain.now ++ italic_mark italic ++ underline_mark underline) }
+{
+    let mut word = String::new(alloc);
+    word.push_str(plain)?;
+    word.push_str(italic_mark(italic))?;
+    word.push_str(underline_mark(underline))?;
+    Ok(word)
+}
+
+/// A text in UTF-8.
+fn text_word(alloc: Global, text: &Text) -> Result<String, AllocError>
+    ensures { IfOk result (λ word. string_bytes word ≡ encode_utf8_all text.now) }
+{
+    text.as_slice().iter().copied().collect(alloc)
+}
+
+fn rate_word(rate: Rate) -> &'static str
+    ensures { result.now ≡ rate_word rate }
+{
+    match rate {
+        Rate::F2997 => "29.97",
+        Rate::F30 => "30",
+        _ => "",
+    }
+}
+
+fn channel_word(channel: Chan) -> &'static str
+    ensures { result.now ≡ channel_word channel }
+{
+    match channel {
+        Chan::Cc1 => "CC1",
+        Chan::Cc3 => "CC3",
+        _ => "",
+    }
+}
+
+fn colour_word(colour: Colour) -> &'static str
+    ensures { result.now ≡ colour_word colour }
+{
+    match colour {
+        Colour::White => "white",
+        Colour::Green => "green",
+        Colour::Blue => "blue",
+        Colour::Cyan => "cyan",
+        Colour::Red => "red",
+        Colour::Yellow => "yellow",
+        Colour::Magenta => "magenta",
+    }
+}
+
+fn italic_mark(italic: bool) -> &'static str
+    ensures { result.now ≡ italic_mark italic }
+{
+    if italic { "-i" } else { "" }
+}
+
+fn underline_mark(underline: bool) -> &'static str
+    ensures { result.now ≡ underline_mark underline }
+{
+    if underline { "-u" } else { "" }
+}

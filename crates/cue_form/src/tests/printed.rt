@@ -1,0 +1,111 @@
+//! Lists that are printed: their records as csv writes them.
+
+ghost use Rattle.std.specs.Prelude.{◌≤◌, length};
+
+use crate::printing::print;
+use crate::reading::parse;
+use crate::spelling::{cue_record, run_record, share_record};
+use csv::StringRecord;
+use cue_types::{Cue, Kind, Pen, Run, Runs, Share, Text, WinCue};
+use std::alloc::Global;
+use std::process::Abort;
+use std::test::Fail;
+
+// What the list that a text spells is printed as.
+fn printed(alloc: Global, text: &[u8]) -> Result<Vec<u8>, Fail>
+    requires { length text.now ≤ 1000 }
+{
+    let list = parse(alloc, text)?;
+    Ok(print(alloc, &list)?)
+}
+
+#[test]
+fn a_printed_list_is_printed_as_it_is(rt: HostRuntime) -> Result<(), Fail> {
+    let text =
+        b"ccsuite,1,30,500\npop,CC3,10,60,120\nrun,1,0,white-i-u,A\xE2\x99\xAA\nrun,2,31,magenta-u,\xC3\x81\npaint,CC1,0,100,4294967295\nrun,14,3,green,B\nroll,CC1,3,200,210,\nrun,15,0,white-u,C\nrun,15,8,white-i,D\nroll,CC1,4,210,220,300\nrun,4,0,cyan,E\n";
+    let again = printed(rt.alloc(), text)?;
+    assert_eq!(rt; again.as_slice(), text.as_slice());
+    Ok(())
+}
+
+#[test]
+fn a_list_without_cues_is_its_head(rt: HostRuntime) -> Result<(), Fail> {
+    let text = printed(
+        rt.alloc(),
+        b"\xEF\xBB\xBF\r\n\"ccsuite\",1,29.97,1000000\r\n\r\n",
+    )?;
+    assert_eq!(rt; text.as_slice(), b"ccsuite,1,29.97,1000000\n".as_slice());
+    Ok(())
+}
+
+#[test]
+fn texts_are_quoted_where_they_need_it(rt: HostRuntime) -> Result<(), Fail> {
+    let text = printed(
+        rt.alloc(),
+        b"ccsuite,1,29.97,300\rpop,CC1,0,7,20\rrun,1,0,\"white\",\"A, B\"\rrun,2,0,white,\"\"\"A\"\"\"\rrun,3,0,white,A\"B\rrun,4,0,white,\"A B\"\rrun,5,0,white,\" \"",
+    )?;
+    assert_eq!(rt;
+        text.as_slice(),
+        b"ccsuite,1,29.97,300\npop,CC1,0,7,20\nrun,1,0,white,\"A, B\"\nrun,2,0,white,\"\"\"A\"\"\"\nrun,3,0,white,\"A\"\"B\"\nrun,4,0,white,A B\nrun,5,0,white, \n".as_slice()
+    );
+    Ok(())
+}
+
+// The record has these fields.
+fn has_fields(rt: &impl Abort, row: &StringRecord, fields: &[&str]) {
+    assert_eq!(rt; row.len(), fields.len());
+    for (place, text) in fields.iter().enumerate() {
+        assert_eq!(rt; row.get(place), Some(*text));
+    }
+}
+
+#[test]
+fn records_of_services_are_spelled(rt: HostRuntime) -> Result<(), Fail> {
+    let share = Share {
+        service: 2,
+        bytes: 12,
+    };
+    let row = share_record(rt.alloc(), share)?;
+    has_fields(&rt, &row, ["share", "2", "12"].as_slice());
+    let window = WinCue {
+        service: 1,
+        id: 2,
+        delay: 10,
+        anchor: 3,
+        av: 60,
+        ah: 50,
+        rows: 4,
+        cols: 32,
+        priority: 5,
+        ws: 6,
+        ps: 7,
+    };
+    let cue = Cue {
+        load: 0,
+        show: 65,
+        hide: Some(200),
+        kind: Kind::Win(window),
+        runs: Runs::from_vec(Vec::new(rt.alloc())),
+    };
+    let row = cue_record(rt.alloc(), &cue)?;
+    let fields = [
+        "win", "1", "2", "0", "65", "200", "10", "3", "60", "50", "4", "32", "5", "6", "7",
+    ];
+    has_fields(&rt, &row, fields.as_slice());
+    let run = Run {
+        row: 1,
+        col: 2,
+        pen: Pen::Dtv {
+            italic: true,
+            underline: true,
+        },
+        text: Text::from_vec(Vec::from_array(rt.alloc(), ['(', '\u{e9}', ')'])?),
+    };
+    let row = run_record(rt.alloc(), &run)?;
+    has_fields(
+        &rt,
+        &row,
+        ["run", "1", "2", "plain-i-u", "(\u{e9})"].as_slice(),
+    );
+    Ok(())
+}

@@ -1,0 +1,14 @@
+pub mod ChannelCues
+pub mod ChannelKept
+pub mod ChannelRules
+pub mod DelayTests
+pub mod RuleCells
+pub mod RuleJudging
+pub mod RuleKept
+pub mod RuleLists
+pub mod RuleNearest
+pub mod RuleTests
+pub mod RulesDecided
+pub mod RulesSaid
+pub mod ServiceCues
+pub mod ServiceRules

@@ -1,0 +1,122 @@
+-- A cue's judgement: the verdicts of the rules, and the fault of the first one that is broken.
+use Rattle.std.proofs.Common.{◌≡◌, ℕ, ◌+◌, ◌-◌, ◌<◌, ◌≤◌, Bool, true, false, if◌then◌else◌, List, [], ◌∷◌, ◌++◌, length, reverse, Option, Some, None, Result, zero, suc, refl, sym, ◌∙◌, arith}
+use Rattle.std.specs.Prelude.{slice_get}
+use Rattle.std.specs.Option.{option_and_then}
+use Rattle.std.proofs.lemmas.List.{reverse-append, length-reverse, reverse-reverse}
+use Rattle.cc_base.specs.declared.why.Why.TheVariants as why
+use Rattle.cue_types.specs.Listing.{Listing}
+use Rattle.cue_rules.specs.Rules.{verdicts, first_fault, fault_of, AnswersFault}
+use Rattle.cue_rules.specs.Rules.Alternatives.{first_broken}
+use Rattle.cue_rules.specs.Rules.Clash.{clash}
+use Rattle.cue_rules.specs.Rules.DelayCovers.{delay_covers}
+use Rattle.cue_rules.specs.Rules.Former.{nearest, nearest_number, former_cue, former_number}
+use Rattle.cue_types.specs.Lane.{lane_of, on_lane}
+use Rattle.cue_rules.specs.Rules.Order.{order}
+use Rattle.cue_rules.specs.Rules.Overlap.{overlap}
+use Rattle.cue_rules.specs.Rules.PastEnd.{past_end}
+use Rattle.cue_rules.specs.Rules.Share.{share}
+use Rattle.cue_rules.specs.Rules.Unhidden.{unhidden}
+use Rattle.cue_rules.specs.Rules.WindowBusy.{window_busy}
+use Rattle.cue_types.specs.declared.cue.Cue.{Cue}
+use Rattle.cue_rules.specs.declared.rules.RuleFault.{RuleFault}
+use Rattle.cue_rules.specs.declared.rules.against.Against.{Against}
+
+-- the verdicts, by each rule's own
+pub verdicts_are : (list : Listing) (earlier : List Cue) (cue : Cue) (former : Option Cue)
+    (o v c u b d s p : Option Against) → former ≡ former_cue cue earlier
+    → o ≡ first_broken (order list.rate cue former) → v ≡ first_broken (overlap cue former)
+    → c ≡ first_broken (clash cue former) → u ≡ first_broken (unhidden cue former)
+    → b ≡ first_broken (window_busy cue earlier) → d ≡ first_broken (delay_covers list.rate cue earlier)
+    → s ≡ first_broken (share list cue) → p ≡ first_broken (past_end list.frames cue)
+    → (why.Order, o) ∷ (why.Overlap, v) ∷ (why.Clash, c) ∷ (why.Unhidden, u) ∷ (why.WindowBusy, b)
+    ∷ (why.DelayCovers, d) ∷ (why.Share, s) ∷ (why.PastEnd, p) ∷ [] ≡ verdicts list earlier cue
+unfolding verdicts
+verdicts_are list earlier cue former o v c u b d s p f eo ev ec eu eb ed es ep =
+    rw (eo, ev, ec, eu, eb, ed, es, ep, f) refl
+
+-- an element of the first of two joined lists
+slice_get-append : (xs ys : List Cue) (i : ℕ) → i < length xs → slice_get (xs ++ ys) i ≡ slice_get xs i
+slice_get-append [] ys i within = absurd (omega arith)
+slice_get-append (x ∷ xs) ys zero within = refl
+slice_get-append (x ∷ xs) ys (suc i) within = slice_get-append xs ys i (omega arith)
+
+-- the element behind a list
+slice_get_last : (xs : List Cue) (y : Cue) → slice_get (xs ++ y ∷ []) (length xs) ≡ Some y
+slice_get_last [] y = refl
+slice_get_last (x ∷ xs) y = slice_get_last xs y
+
+-- the list with its newest cue at its end
+reverse-cons : (cue : Cue) (earlier : List Cue) → reverse (cue ∷ earlier) ≡ reverse earlier ++ cue ∷ []
+reverse-cons cue earlier = reverse-append (cue ∷ []) earlier
+
+-- numbers begin with 1, and end with how many cues there are
+pub record IsNumber (earlier : List Cue) (n : ℕ) : Type 0 where
+  pub from_one : 1 ≤ n
+  pub within : n ≤ length earlier
+
+pub nearest_is_number : (test : Cue → Bool) (earlier : List Cue) (n : ℕ) → nearest_number test earlier ≡ Some n
+    → IsNumber earlier n
+nearest_is_number test [] n e = cc
+nearest_is_number test (cue ∷ earlier) n e = by_test (test cue) (nearest_is_number test earlier n) e
+  where
+    by_test : (b : Bool) → (nearest_number test earlier ≡ Some n → IsNumber earlier n)
+        → (if b then Some (length earlier + 1) else nearest_number test earlier) ≡ Some n
+        → IsNumber (cue ∷ earlier) n
+    by_test true older e =
+        let here : length earlier + 1 ≡ n = cc in
+        record { from_one = omega (arith, here); within = omega (arith, here) }
+    by_test false older e =
+        let there : IsNumber earlier n = older e in
+        record { from_one = there.from_one; within = omega (arith, there.within) }
+
+-- the nearest cue is the one with the nearest number
+pub nearest_at : (test : Cue → Bool) (earlier : List Cue)
+    → nearest test earlier ≡ option_and_then (λ n. slice_get (reverse earlier) (n - 1)) (nearest_number test earlier)
+nearest_at test [] = refl
+nearest_at test (cue ∷ earlier) = by_test (test cue) (nearest_at test earlier) (nearest_is_number test earlier)
+  where
+    kept : (o : Option ℕ) → ((n : ℕ) → o ≡ Some n → IsNumber earlier n)
+        → option_and_then (λ n. slice_get (reverse earlier) (n - 1)) o
+        ≡ option_and_then (λ n. slice_get (reverse (cue ∷ earlier)) (n - 1)) o
+    kept None numbers = refl
+    kept (Some n) numbers =
+        let number : IsNumber earlier n = numbers n refl in
+        let front : n - 1 < length (reverse earlier) = rw length-reverse (omega (arith, number.from_one, number.within)) in
+        sym (rw (reverse-cons cue earlier) (slice_get-append (reverse earlier) (cue ∷ []) (n - 1) front))
+
+    newest : Some cue ≡ slice_get (reverse (cue ∷ earlier)) (length earlier + 1 - 1)
+    newest =
+        let place : length earlier + 1 - 1 ≡ length (reverse earlier) = rw length-reverse (omega arith) in
+        sym (rw (reverse-cons cue earlier, place) (slice_get_last (reverse earlier) cue))
+
+    by_test : (b : Bool)
+        → nearest test earlier ≡ option_and_then (λ n. slice_get (reverse earlier) (n - 1)) (nearest_number test earlier)
+        → ((n : ℕ) → nearest_number test earlier ≡ Some n → IsNumber earlier n)
+        → (if b then Some cue else nearest test earlier)
+        ≡ option_and_then (λ n. slice_get (reverse (cue ∷ earlier)) (n - 1))
+        (if b then Some (length earlier + 1) else nearest_number test earlier)
+    by_test true older numbers = newest
+    by_test false older numbers = older ∙ kept (nearest_number test earlier) numbers
+
+-- the answer of the verdicts is that of the cue
+pub judged : (list : Listing) (earlier : List Cue) (cue : Cue) (number : Option ℕ) (former : Option Cue)
+    (o v c u b d s p : Option Against) (r : Result (Unit {0}) RuleFault)
+    → number ≡ former_number cue (reverse earlier)
+    → former ≡ option_and_then (λ n. slice_get earlier (n - 1)) number
+    → o ≡ first_broken (order list.rate cue former) → v ≡ first_broken (overlap cue former)
+    → c ≡ first_broken (clash cue former) → u ≡ first_broken (unhidden cue former)
+    → b ≡ first_broken (window_busy cue (reverse earlier)) → d ≡ first_broken (delay_covers list.rate cue (reverse earlier))
+    → s ≡ first_broken (share list cue) → p ≡ first_broken (past_end list.frames cue)
+    → AnswersFault r (first_fault (length earlier + 1) number
+    ((why.Order, o) ∷ (why.Overlap, v) ∷ (why.Clash, c) ∷ (why.Unhidden, u) ∷ (why.WindowBusy, b)
+    ∷ (why.DelayCovers, d) ∷ (why.Share, s) ∷ (why.PastEnd, p) ∷ []))
+    → AnswersFault r (fault_of list (reverse earlier) cue)
+judged list earlier cue number former o v c u b d s p r en ef eo ev ec eu eb ed es ep judges =
+    let is_former : former ≡ former_cue cue (reverse earlier) =
+    ef ∙ rw en (sym (nearest_at (on_lane (lane_of cue.kind)) (reverse earlier)
+    ∙ rw reverse-reverse refl)) in
+    rw (
+      length-reverse,
+      ← verdicts_are list (reverse earlier) cue former o v c u b d s p is_former eo ev ec eu eb ed es ep,
+      ← en,
+    ) judges

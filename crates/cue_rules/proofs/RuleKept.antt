@@ -1,0 +1,216 @@
+-- What a cue that keeps the rules has, in plain facts: each for one alternative of a rule that isn't broken.
+use Rattle.std.proofs.Common.{◌≡◌, ◌≢◌, ℕ, ◌+◌, ◌<◌, ◌≤◌, Bool, true, false, if◌then◌else◌, not, ◌&&◌, ◌||◌, List, [], ◌∷◌, Option, Some, None, suc, refl, sym, ap, ◌∙◌, inl, inr, arith}
+use Rattle.std.specs.Prelude.{nat_le, nat_lt, ◌==◌, is_none, filter, slice_get}
+use Rattle.std.proofs.lemmas.Bool.Decides.{leb_tells, eqb_tells}
+use Rattle.cc_base.specs.declared.why.Why.{Why}
+use Rattle.cue_types.specs.Listing.{Listing}
+use Rattle.cue_rules.specs.Rules.{verdicts, fault_or, fault_of}
+use Rattle.cue_rules.specs.Rules.Alternatives.{Alternative, with_former, first_broken, hide_is}
+use Rattle.cue_types.specs.Cells.{have_shared_cell}
+use Rattle.cue_rules.specs.Rules.Clash.{clash, shows_as_it_hides}
+use Rattle.cue_rules.specs.Rules.DelayCovers.{delay_covers}
+use Rattle.cue_types.specs.Line21Cues.{continues}
+use Rattle.cue_rules.specs.Rules.Former.{nearest, former_cue}
+use Rattle.cue_types.specs.Lane.{is_line21, is_pop, is_paint, is_roll}
+use Rattle.cue_rules.specs.Rules.Order.{order, loads_before_it_shows}
+use Rattle.cue_rules.specs.Rules.Overlap.{overlap, shows_before_it_hides}
+use Rattle.cue_rules.specs.Rules.PastEnd.{past_end}
+use Rattle.cue_rules.specs.Rules.Share.{share}
+use Rattle.cue_rules.specs.Rules.Unhidden.{unhidden, loads_before_it_hides, leaves_unhidden}
+use Rattle.cue_rules.specs.Rules.WindowBusy.{window_busy}
+use Rattle.cue_types.specs.declared.cue.Cue.{Cue}
+use Rattle.cue_rules.specs.declared.rules.RuleFault.{RuleFault}
+use Rattle.cue_rules.specs.declared.rules.against.Against.{Against}
+
+-- none of the ways to break a rule holds
+abbrev pub AllKept : List Alternative → Type 0
+AllKept [] = Unit {0}
+AllKept (alternative ∷ rest) = (alternative.broken ≡ false) × AllKept rest
+
+-- every rule is kept, each by its name and in each of its alternatives
+pub record KeepsRules (list : Listing) (earlier : List Cue) (cue : Cue) : Type 0 where
+  pub order : AllKept (order list.rate cue (former_cue cue earlier))
+  pub overlap : AllKept (overlap cue (former_cue cue earlier))
+  pub clash : AllKept (clash cue (former_cue cue earlier))
+  pub unhidden : AllKept (unhidden cue (former_cue cue earlier))
+  pub window_busy : AllKept (window_busy cue earlier)
+  pub delay_covers : AllKept (delay_covers list.rate cue earlier)
+  pub share : AllKept (share list cue)
+  pub past_end : AllKept (past_end list.frames cue)
+
+-- where no alternative is the first broken one, none is broken
+all_kept : (alternatives : List Alternative) → first_broken alternatives ≡ None → AllKept alternatives
+all_kept [] none = tt
+all_kept (alternative ∷ rest) none = by_test alternative.broken (all_kept rest) none
+  where
+    by_test : (b : Bool) → (first_broken rest ≡ None → AllKept rest)
+        → (if b then Some alternative.against else first_broken rest) ≡ None → (b ≡ false) × AllKept rest
+    by_test true others e = cc
+    by_test false others e = (refl, others e)
+
+-- where there is no fault, the rule is kept, and so are those behind it
+no_fault : (why : Why) (against : Option Against) (n : ℕ) (f : Option ℕ) (later : Option RuleFault)
+    → fault_or why against n f later ≡ None → (against ≡ None) × (later ≡ None)
+no_fault why None n f later e = (refl, e)
+no_fault why (Some against) n f later e = cc
+
+-- a cue without a fault keeps every rule
+pub keeps_rules : (list : Listing) (earlier : List Cue) (cue : Cue) → fault_of list earlier cue ≡ None
+    → KeepsRules list earlier cue
+unfolding verdicts
+keeps_rules list earlier cue none =
+    let a = no_fault _ _ _ _ _ none in
+    let b = no_fault _ _ _ _ _ a.1 in
+    let c = no_fault _ _ _ _ _ b.1 in
+    let d = no_fault _ _ _ _ _ c.1 in
+    let e = no_fault _ _ _ _ _ d.1 in
+    let f = no_fault _ _ _ _ _ e.1 in
+    let g = no_fault _ _ _ _ _ f.1 in
+    let h = no_fault _ _ _ _ _ g.1 in
+    record {
+      order = all_kept (order list.rate cue (former_cue cue earlier)) a.0;
+      overlap = all_kept (overlap cue (former_cue cue earlier)) b.0;
+      clash = all_kept (clash cue (former_cue cue earlier)) c.0;
+      unhidden = all_kept (unhidden cue (former_cue cue earlier)) d.0;
+      window_busy = all_kept (window_busy cue earlier) e.0;
+      delay_covers = all_kept (delay_covers list.rate cue earlier) f.0;
+      share = all_kept (share list cue) g.0;
+      past_end = all_kept (past_end list.frames cue) h.0;
+    }
+
+-- where no alternative is broken, none is the first
+none_broken : (alternatives : List Alternative) → AllKept alternatives → first_broken alternatives ≡ None
+none_broken [] kept = refl
+none_broken (alternative ∷ rest) kept = rw (kept.0) (none_broken rest kept.1)
+
+-- a cue that keeps every rule has no fault
+pub kept_faultless : (list : Listing) (earlier : List Cue) (cue : Cue) → KeepsRules list earlier cue
+    → fault_of list earlier cue ≡ None
+unfolding verdicts
+kept_faultless list earlier cue keeps =
+    rw (
+      none_broken (order list.rate cue (former_cue cue earlier)) keeps.order,
+      none_broken (overlap cue (former_cue cue earlier)) keeps.overlap,
+      none_broken (clash cue (former_cue cue earlier)) keeps.clash,
+      none_broken (unhidden cue (former_cue cue earlier)) keeps.unhidden,
+      none_broken (window_busy cue earlier) keeps.window_busy,
+      none_broken (delay_covers list.rate cue earlier) keeps.delay_covers,
+      none_broken (share list cue) keeps.share,
+      none_broken (past_end list.frames cue) keeps.past_end,
+    )
+    refl
+
+-- a test of a HIDE that isn't passed, at the HIDE
+pub hide_fails : (test : ℕ → Bool) (o : Option ℕ) (hide : ℕ) → hide_is o test ≡ false → o ≡ Some hide → test hide ≡ false
+hide_fails test None hide fails is = cc
+hide_fails test (Some h) hide fails is = let same : h ≡ hide = cc in ap test (sym same) ∙ fails
+
+-- what an alternative on the former cue says of it, where it isn't broken
+pub former_fails : (o : Option Cue) (test : Cue → Bool) (former : Cue) → (with_former o test).broken ≡ false
+    → o ≡ Some former → test former ≡ false
+former_fails None test former fails is = cc
+former_fails (Some p) test former fails is = let same : p ≡ former = cc in ap test (sym same) ∙ fails
+
+-- the second part of a test fails, where the first is passed
+pub second_fails : (a b : Bool) → (a && b) ≡ false → a ≡ true → b ≡ false
+second_fails true b fails yes' = fails
+second_fails false b fails yes' = cc
+
+-- numbers by a test that failed
+pub not_le : (a b : ℕ) → nat_le a b ≡ false → b < a
+not_le a b fails = elim (leb_tells a b) [ inl t ↦ cc | inr t ↦ t.1 ]
+
+pub not_lt : (a b : ℕ) → nat_lt a b ≡ false → b ≤ a
+not_lt a b fails = elim (leb_tells (suc a) b) [ inl t ↦ cc | inr t ↦ omega (arith, t.1) ]
+
+pub not_eq : (a b : ℕ) → (a == b) ≡ false → a ≢ b
+not_eq a b fails = elim (eqb_tells a b) [ inl t ↦ cc | inr t ↦ t.1 ]
+
+-- what holds of a cue that keeps the rules, behind these cues
+module _ (list : Listing) (earlier : List Cue) (cue : Cue) (keeps : KeepsRules list earlier cue) where
+  -- LOAD is below SHOW
+  pub load_below_show : cue.load < cue.show
+  load_below_show = not_le cue.show cue.load keeps.order.0
+
+  -- SHOW is below HIDE
+  pub show_below_hide : (hide : ℕ) → cue.hide ≡ Some hide → cue.show < hide
+  show_below_hide hide is = not_le hide cue.show (hide_fails (λ h. nat_le h cue.show) cue.hide hide keeps.order.1.0 is)
+
+  -- on line 21: LOAD isn't below the former cue's SHOW
+  pub load_from_former_show : (former : Cue) → is_line21 cue.kind ≡ true → former_cue cue earlier ≡ Some former
+      → former.show ≤ cue.load
+  load_from_former_show former line21 is =
+      not_lt cue.load former.show (second_fails (is_line21 cue.kind) (nat_lt cue.load former.show)
+      (former_fails (former_cue cue earlier) (loads_before_it_shows cue) former keeps.order.1.1.1.0 is) line21)
+
+  -- no two runs share a cell
+  pub runs_share_none : have_shared_cell cue.runs ≡ false
+  runs_share_none = keeps.overlap.0
+
+  -- on line 21: SHOW isn't below the former cue's HIDE
+  pub show_from_former_hide : (former : Cue) (hide : ℕ) → is_line21 cue.kind ≡ true
+      → former_cue cue earlier ≡ Some former → former.hide ≡ Some hide → hide ≤ cue.show
+  show_from_former_hide former hide line21 is at =
+      not_lt cue.show hide (hide_fails (λ h. nat_lt cue.show h) former.hide hide
+      (second_fails (is_line21 cue.kind) (hide_is former.hide (λ h. nat_lt cue.show h))
+      (former_fails (former_cue cue earlier) (shows_before_it_hides cue) former keeps.overlap.1.0 is) line21) at)
+
+  -- a pop-on cue: HIDE isn't SHOW + 1
+  pub hide_not_next : (hide : ℕ) → is_pop cue.kind ≡ true → cue.hide ≡ Some hide → hide ≢ cue.show + 1
+  hide_not_next hide pop is =
+      not_eq hide (cue.show + 1) (hide_fails (λ h. h == cue.show + 1) cue.hide hide
+      (second_fails (is_pop cue.kind) (hide_is cue.hide (λ h. h == cue.show + 1)) keeps.clash.0 pop) is)
+
+  -- a pop-on cue: SHOW isn't the former cue's HIDE plus 1
+  pub show_not_next : (former : Cue) (hide : ℕ) → is_pop cue.kind ≡ true → former_cue cue earlier ≡ Some former
+      → former.hide ≡ Some hide → cue.show ≢ hide + 1
+  show_not_next former hide pop is at =
+      not_eq cue.show (hide + 1) (hide_fails (λ h. cue.show == h + 1) former.hide hide
+      (second_fails (is_pop cue.kind) (hide_is former.hide (λ h. cue.show == h + 1))
+      (former_fails (former_cue cue earlier) (shows_as_it_hides cue) former keeps.clash.1.0 is) pop) at)
+
+  -- a paint-on cue, or a roll-up cue that doesn't continue: LOAD isn't below the former cue's HIDE
+  pub load_from_former_hide : (former : Cue) (hide : ℕ)
+      → (is_paint cue.kind || (is_roll cue.kind && not (continues cue former))) ≡ true
+      → former_cue cue earlier ≡ Some former → former.hide ≡ Some hide → hide ≤ cue.load
+  load_from_former_hide former hide direct is at =
+      not_lt cue.load hide (hide_fails (λ h. nat_lt cue.load h) former.hide hide
+      (second_fails (is_paint cue.kind || (is_roll cue.kind && not (continues cue former)))
+      (hide_is former.hide (λ h. nat_lt cue.load h))
+      (former_fails (former_cue cue earlier) (loads_before_it_hides cue) former keeps.unhidden.0 is) direct) at)
+
+  -- where the former cue has no HIDE, it is continued
+  pub continues_unhidden : (former : Cue) → former_cue cue earlier ≡ Some former → former.hide ≡ None
+      → continues cue former ≡ true
+  continues_unhidden former is none =
+      let unhidden' : is_none former.hide ≡ true = rw none refl in
+      not_false (continues cue former) (second_fails (is_none former.hide) (not (continues cue former))
+      (former_fails (former_cue cue earlier) (leaves_unhidden cue) former keeps.unhidden.1.0 is) unhidden')
+    where
+      not_false : (b : Bool) → not b ≡ false → b ≡ true
+      not_false true e = refl
+      not_false false e = cc
+
+  -- on line 21: HIDE + 2 is at most FRAMES
+  pub hide_within : (hide : ℕ) → is_line21 cue.kind ≡ true → cue.hide ≡ Some hide → hide + 2 ≤ list.frames
+  hide_within hide line21 is =
+      not_lt list.frames (hide + 2) (hide_fails (λ h. nat_lt list.frames (h + 2)) cue.hide hide
+      (second_fails (is_line21 cue.kind) (hide_is cue.hide (λ h. nat_lt list.frames (h + 2))) keeps.past_end.0 line21) is)
+
+  -- on line 21, without a HIDE: SHOW is below FRAMES
+  pub show_within : is_line21 cue.kind ≡ true → cue.hide ≡ None → cue.show < list.frames
+  show_within line21 none =
+      let unhidden' : is_none cue.hide ≡ true = rw none refl in
+      not_le list.frames cue.show (second_fails (is_line21 cue.kind && is_none cue.hide) (nat_le list.frames cue.show)
+      keeps.past_end.1.0 (rw (line21, unhidden') refl))
+
+-- the former cue is the newest one of the lane
+pub former_is_head : (test : Cue → Bool) (earlier : List Cue) → nearest test earlier ≡ slice_get (filter test earlier) 0
+former_is_head test [] = refl
+former_is_head test (cue ∷ earlier) = by_test (test cue) (former_is_head test earlier)
+  where
+    by_test : (b : Bool) → nearest test earlier ≡ slice_get (filter test earlier) 0
+        → (if b then Some cue else nearest test earlier)
+        ≡ slice_get (if b then cue ∷ filter test earlier else filter test earlier) 0
+    by_test true older = refl
+    by_test false older = older

@@ -1,0 +1,30 @@
+use Rattle.std.proofs.Common.{◌≡◌, reverse, sym, ◌∙◌}
+use Rattle.std.specs.Option.{option_copied}
+use Rattle.cue_rules.specs.Rules.Alternatives.{first_broken}
+use Rattle.cue_rules.specs.Rules.DelayCovers.{delay_covers}
+use Rattle.cue_rules.specs.Rules.Order.{order}
+use Rattle.cue_rules.specs.Rules.PastEnd.{past_end}
+use Rattle.cue_rules.proofs.RuleJudging.{judged, nearest_is_number, IsNumber}
+use Rattle.cue_rules.proofs.rules.judge.Goals as goal
+
+pub cue_of-former-requires : goal.cue_of-former-requires
+cue_of-former-requires c n is =
+    let number : IsNumber (reverse c.args.earlier.now) n = nearest_is_number _ _ n (sym c.number-number.ensures ∙ is) in
+    number.from_one
+
+pub returns : goal.returns
+returns c =
+    let order_is : c.breaks_order.result
+    ≡ first_broken (order c.args.list.now.rate c.args.cue.now (option_copied c.cue_of-former.result)) =
+    rw (← c.rate-rate.ensures) c.breaks_order.ensures in
+    let delays_are : c.breaks_delay_covers.result
+    ≡ first_broken (delay_covers c.args.list.now.rate c.args.cue.now (reverse c.args.earlier.now)) =
+    rw (← c.rate-rate.ensures) c.breaks_delay_covers.ensures in
+    let end_is : c.breaks_past_end.result ≡ first_broken (past_end c.args.list.now.frames c.args.cue.now) =
+    rw (← c.frames.ensures) c.breaks_past_end.ensures in
+    judged c.args.list.now c.args.earlier.now c.args.cue.now c.number-number.result (option_copied c.cue_of-former.result)
+    c.breaks_order.result c.breaks_overlap.result c.breaks_clash.result c.breaks_unhidden.result
+    c.breaks_window_busy.result c.breaks_delay_covers.result c.breaks_share.result c.breaks_past_end.result
+    c.first_fault.result c.number-number.ensures c.cue_of-former.ensures order_is c.breaks_overlap.ensures
+    c.breaks_clash.ensures c.breaks_unhidden.ensures c.breaks_window_busy.ensures delays_are c.breaks_share.ensures
+    end_is c.first_fault.ensures

@@ -1,0 +1,57 @@
+-- Worked examples of the rules: short lists of 100 frames, and their faults.
+use Rattle.std.specs.Prelude.{ℕ, false, List, [], ◌∷◌, Option, Some}
+use Rattle.cc_base.specs.declared.rate.Rate.TheVariants as rate
+use Rattle.cc_base.specs.declared.why.Why.{Why}
+use Rattle.line21_codes.specs.declared.channels.Chan.{Chan}
+use Rattle.line21_codes.specs.declared.channels.Chan.TheVariants as chan
+use Rattle.line21_codes.specs.declared.styles.Colour.{Colour}
+use Rattle.line21_codes.specs.declared.styles.Colour.TheVariants as colour
+use Rattle.cue_types.specs.Listing.{Listing}
+use Rattle.cue_types.specs.declared.cue.Cue.{Cue}
+use Rattle.cue_types.specs.declared.cue.Kind.{Kind}
+use Rattle.cue_types.specs.declared.cue.Kind.TheVariants as kind
+use Rattle.cue_types.specs.declared.cue.Pen.TheVariants as pen
+use Rattle.cue_types.specs.declared.cue.Run.{Run}
+use Rattle.cue_rules.specs.declared.rules.RuleFault.{RuleFault}
+
+-- a list of 100 frames at 29.97 frames a second, without shares
+abbrev pub example_list : List Cue → Listing
+example_list cues = record { rate = rate.F2997; frames = 100; shares = []; cues = cues }
+
+-- a run of a text in a row, from a column on
+abbrev pub example_run : Colour → ℕ → ℕ → List ℕ → Run
+example_run colour row col text = record {
+  row = row;
+  col = col;
+  pen = pen.Line21 (record { colour = colour; italic = false; underline = false });
+  text = text;
+}
+
+-- a cue with these runs
+abbrev pub example_cue : Kind → ℕ → ℕ → Option ℕ → List Run → Cue
+example_cue kind load show hide runs = record { load = load; show = show; hide = hide; kind = kind; runs = runs }
+
+-- a white letter A at the left of row 15
+abbrev pub letter : List Run
+letter = example_run colour.White 15 0 (65 ∷ []) ∷ []
+
+-- a pop-on cue
+abbrev pub pop : Chan → ℕ → ℕ → ℕ → Cue
+pop channel load show hide = example_cue (kind.Pop channel) load show (Some hide) letter
+
+-- a paint-on cue
+abbrev pub paint : Chan → ℕ → ℕ → ℕ → Cue
+paint channel load show hide = example_cue (kind.Paint channel) load show (Some hide) letter
+
+-- a roll-up cue of so many rows
+abbrev pub roll : Chan → ℕ → ℕ → ℕ → Option ℕ → Cue
+roll channel rows load show hide = example_cue (kind.Roll channel rows) load show hide letter
+
+-- a pop-on cue of the white letters AB, and a red C right behind them
+abbrev pub white_then_red : Cue
+white_then_red = example_cue (kind.Pop chan.Cc1) 0 7 (Some 20)
+    (example_run colour.White 15 0 (65 ∷ 66 ∷ []) ∷ example_run colour.Red 15 2 (67 ∷ []) ∷ [])
+
+-- a fault
+abbrev pub fault : Why → ℕ → Option ℕ → RuleFault
+fault why cue other = record { why = why; cue = cue; other = other }

@@ -1,0 +1,107 @@
+ghost use Rattle.cue_types.specs.Listing.{most_cues};
+ghost use Rattle.std.specs.Prelude.{◌≡◌, ◌+◌, ◌≤◌, All, length, reverse, MatchResult, IsOk, IsErrOf};
+ghost use Rattle.cue_rules.specs.Rules.{IsRuled, HasFault, AnswersFault, fault_of, first_fault};
+ghost use Rattle.cue_types.specs.Cells.{IsOnGrid};
+ghost use Rattle.cue_rules.specs.Rules.Former.{former_number};
+ghost use Rattle.cue_rules.specs.Rules.Formers.{Remembers};
+ghost use Rattle.cue_rules.specs.declared.rules.RuleFault.{RuleFault};
+
+use crate::rules::against::Against;
+use crate::rules::clash::breaks_clash;
+use crate::rules::formers::{Formers, cue_of};
+use crate::rules::order::breaks_order;
+use crate::rules::overlap::breaks_overlap;
+use crate::rules::past_end::breaks_past_end;
+use crate::rules::unhidden::breaks_unhidden;
+use crate::rules::windows::{breaks_delay_covers, breaks_share, breaks_window_busy};
+use cc_base::Why;
+use cue_types::{Cue, CueList};
+
+mod against;
+mod cells;
+mod clash;
+mod examples;
+mod formers;
+mod order;
+mod overlap;
+mod past_end;
+mod unhidden;
+mod windows;
+
+/// The fault of the first cue of a list that breaks a rule, by the lowest rule that it breaks.
+#[derive(Clone, Copy, Debug, PartialEq, Eq)]
+pub struct RuleFault {
+    /// The rule.
+    pub why: Why,
+    /// The cue, counted from 1 in the order of the list.
+    pub cue: u32,
+    /// The earlier cue with which the rule is broken; None where the cue alone breaks it.
+    pub other: Option<u32>,
+}
+
+/// AnswersFault the cues of a list in order, each against itself and the cues before it.
+///
+/// Ok where each cue keeps the rules; else the fault of the first cue that breaks one.
+/// It takes no memory.
+pub fn check(list: &CueList) -> Result<(), RuleFault>
+    ensures judged { MatchResult result (λ _. IsRuled list.now) (λ fault. HasFault list.now fault) }
+    ensures ruled { IsRuled list.now → IsOk result }
+    ensures first { (fault : RuleFault) → HasFault list.now fault → IsErrOf result fault }
+{
+    let cues = list.cues();
+    let mut formers = Formers::new();
+    for (index, cue) in cues.iter().enumerate() {
+        judge(list, &cues[..index], formers, cue)?;
+        formers.pass(cue, index as u32 + 1);
+    }
+    Ok(())
+}
+
+/// AnswersFault a cue by the rules in their order, with the cues before it.
+fn judge(list: &CueList, earlier: &[Cue], formers: Formers, cue: &Cue) -> Result<(), RuleFault>
+    requires few { length earlier.now ≤ most_cues }
+    requires formers { Remembers formers (reverse earlier.now) }
+    requires on_grid { All IsOnGrid cue.now.runs }
+    ensures { AnswersFault result (fault_of list.now (reverse earlier.now) cue.now) }
+{
+    let number = formers.number(earlier, cue);
+    let former = cue_of(earlier, number);
+    let rate = list.rate();
+    let verdicts = [
+        (Why::Order, breaks_order(rate, cue, former)),
+        (Why::Overlap, breaks_overlap(cue, former)),
+        (Why::Clash, breaks_clash(cue, former)),
+        (Why::Unhidden, breaks_unhidden(cue, former)),
+        (Why::WindowBusy, breaks_window_busy(cue, earlier)),
+        (Why::DelayCovers, breaks_delay_covers(rate, cue, earlier)),
+        (Why::Share, breaks_share(list, cue)),
+        (Why::PastEnd, breaks_past_end(list.frames(), cue)),
+    ];
+    first_fault(&verdicts, earlier.len() as u32 + 1, number)
+}
+
+/// The fault of the first broken rule, of a cue with this number and its former cue's. A verdict is a rule, and whom the
+/// cue breaks it against, if it does.
+fn first_fault(
+    verdicts: &[(Why, Option<Against>)],
+    cue: u32,
+    former: Option<u32>,
+) -> Result<(), RuleFault>
+    ensures { AnswersFault result (first_fault cue former verdicts.now) }
+{
+    for (why, against) in verdicts {
+        if let Some(against) = *against {
+            let other = match against {
+                Against::Itself => None,
+                Against::Former => former,
+                Against::Earlier(number) => Some(number),
+            };
+            return Err(RuleFault {
+                why: *why,
+                cue,
+                other,
+            });
+        }
+    }
+    Ok(())
+}

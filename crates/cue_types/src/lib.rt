@@ -1,0 +1,15 @@
+//! The types of cue lists: a list, its cues, their kinds, runs and texts, each in its ranges.
+#![tactic(auto)]
+
+pub use crate::cue::{Cue, Kind, Pen, Run, WinCue};
+pub use crate::head::Head;
+pub use crate::list::{CueList, MOST_CUES, MOST_FRAMES, Share};
+pub use crate::runs::Runs;
+pub use crate::text::Text;
+
+pub mod cue;
+pub mod head;
+pub mod lane;
+pub mod list;
+pub mod runs;
+pub mod text;
