@@ -9,7 +9,6 @@ use std::test::Fail;
 mod build;
 mod cues;
 mod decode;
-mod line21;
 mod pairs;
 mod seen;
 mod show;
@@ -171,115 +170,91 @@ fn a_failing_take_ends_the_run_before_anything_is_put(rt: HostRuntime) -> Result
     Ok(())
 }
 
-/// A list, the status with which it is refused, and that status's line.
-type Refusal = (&'static [u8], Status, &'static [u8]);
+/// The cue list that is refused, the status with which `pairs` and `build` refuse it, and that status's line.
+type Refusal = (&'static str, Status, &'static [u8]);
 
-/// Whether `pairs` and `build` refuse the list so, and write nothing.
-fn is_refused(alloc: Global, refusal: Refusal) -> Result<bool, Fail> {
-    let (text, status, line) = refusal;
-    let printed = run_to_end(alloc, pairs_of(text, usize::MAX))?;
-    let built = run_to_end(alloc, build_of(text))?;
-    Ok(
-        printed.status == status
-            && printed.out.bytes().is_empty()
-            && printed.err.bytes() == line
-            && built.status == status
-            && built.out.bytes().is_empty()
-            && built.err.bytes() == line,
-    )
-}
-
-#[test]
-fn a_list_out_of_form_writes_nothing_and_says_where(rt: HostRuntime) -> Result<(), Fail> {
-    let refusals: [Refusal; 5] = [
+/// Lists out of form, past a limit, against a rule, and without room.
+fn refusals() -> [Refusal; 12] {
+    [
         (
-            b"",
+            "",
             malformed(1, 1, Why::Field),
             b"malformed at record 1 field 1: Field\n",
         ),
         (
-            b"ccsuite,1,29.97,1000001\n",
+            "ccsuite,1,29.97,1000001\n",
             Status::Limit(LimitOf::Frames),
             b"limit Frames\n",
         ),
         (
-            b"ccsuite,1,29.97,30\npop,CC1,0,7,20\nrun,16,0,white,HI\n",
+            "ccsuite,1,29.97,30\npop,CC1,0,7,20\nrun,16,0,white,HI\n",
             malformed(3, 2, Why::Field),
             b"malformed at record 3 field 2: Field\n",
         ),
         (
-            b"ccsuite,1,29.97,30\nshare,1,31\n",
+            "ccsuite,1,29.97,30\nshare,1,31\n",
             malformed(2, 1, Why::NotBuilt),
             b"malformed at record 2 field 1: NotBuilt\n",
         ),
         (
-            "ccsuite,1,29.97,30\npop,CC1,0,7,20\nrun,15,0,white,中\n".as_bytes(),
+            "ccsuite,1,29.97,30\npop,CC1,0,7,20\nrun,15,0,white,中\n",
             malformed(3, 5, Why::NoCode),
             b"malformed at record 3 field 5: NoCode\n",
         ),
-    ];
-    for (place, refusal) in refusals.iter().enumerate() {
-        assert!(rt; is_refused(rt.alloc(), *refusal)?, "refusal {place}");
-    }
-    Ok(())
-}
-
-#[test]
-fn a_list_that_breaks_a_rule_writes_nothing_and_names_the_cue(rt: HostRuntime) -> Result<(), Fail> {
-    let second_loaded_too_early = Status::Rule(RuleFault {
-        why: Why::Order,
-        cue: 2,
-        other: Some(1),
-    });
-    let refusals: [Refusal; 4] = [
         (
-            b"ccsuite,1,29.97,30\npop,CC1,7,7,20\nrun,15,0,white,HI\n",
+            "ccsuite,1,29.97,30\npop,CC1,7,7,20\nrun,15,0,white,HI\n",
             broken(Why::Order),
             b"rule Order: cue 1\n",
         ),
         (
-            b"ccsuite,1,29.97,30\npop,CC1,0,7,8\nrun,15,0,white,HI\n",
+            "ccsuite,1,29.97,30\npop,CC1,0,7,8\nrun,15,0,white,HI\n",
             broken(Why::Clash),
             b"rule Clash: cue 1\n",
         ),
         (
-            b"ccsuite,1,29.97,30\npop,CC1,0,7,29\nrun,15,0,white,HI\n",
+            "ccsuite,1,29.97,30\npop,CC1,0,7,29\nrun,15,0,white,HI\n",
             broken(Why::PastEnd),
             b"rule PastEnd: cue 1\n",
         ),
         (
-            b"ccsuite,1,29.97,60\npop,CC1,0,7,20\nrun,15,0,white,HI\npop,CC1,5,30,40\nrun,15,0,white,HI\n",
-            second_loaded_too_early,
+            "ccsuite,1,29.97,60\npop,CC1,0,7,20\nrun,15,0,white,HI\npop,CC1,5,30,40\nrun,15,0,white,HI\n",
+            Status::Rule(RuleFault {
+                why: Why::Order,
+                cue: 2,
+                other: Some(1),
+            }),
             b"rule Order: cue 2 and cue 1\n",
         ),
-    ];
-    for (place, refusal) in refusals.iter().enumerate() {
-        assert!(rt; is_refused(rt.alloc(), *refusal)?, "refusal {place}");
-    }
-    Ok(())
+        (
+            "ccsuite,1,29.97,30\npop,CC1,0,6,20\nrun,15,0,white,HI\n",
+            Status::NoRoom(1),
+            b"no room: cue 1\n",
+        ),
+        (
+            "ccsuite,1,29.97,30\npop,CC1,1,7,20\nrun,15,0,white,HI\n",
+            Status::NoRoom(1),
+            b"no room: cue 1\n",
+        ),
+        (
+            "ccsuite,1,29.97,30\npop,CC1,0,10,20\nrun,15,31,white,Á\n",
+            Status::NoRoom(1),
+            b"no room: cue 1\n",
+        ),
+    ]
 }
 
 #[test]
-fn a_list_without_room_writes_nothing_and_names_the_cue(rt: HostRuntime) -> Result<(), Fail> {
-    let refusals: [Refusal; 3] = [
-        (
-            b"ccsuite,1,29.97,30\npop,CC1,0,6,20\nrun,15,0,white,HI\n",
-            Status::NoRoom(1),
-            b"no room: cue 1\n",
-        ),
-        (
-            b"ccsuite,1,29.97,30\npop,CC1,1,7,20\nrun,15,0,white,HI\n",
-            Status::NoRoom(1),
-            b"no room: cue 1\n",
-        ),
-        (
-            "ccsuite,1,29.97,30\npop,CC1,0,10,20\nrun,15,31,white,Á\n".as_bytes(),
-            Status::NoRoom(1),
-            b"no room: cue 1\n",
-        ),
-    ];
-    for (place, refusal) in refusals.iter().enumerate() {
-        assert!(rt; is_refused(rt.alloc(), *refusal)?, "refusal {place}");
+fn a_refused_list_writes_nothing_and_is_told_why(rt: HostRuntime) -> Result<(), Fail> {
+    for (text, status, line) in refusals() {
+        for given in [
+            pairs_of(text.as_bytes(), usize::MAX),
+            build_of(text.as_bytes()),
+        ] {
+            let ended = run_to_end(rt.alloc(), given)?;
+            assert_eq!(rt; ended.status, status, "of {text}");
+            assert_eq!(rt; ended.out.bytes(), b"".as_slice());
+            assert_eq!(rt; ended.err.bytes(), line);
+        }
     }
     Ok(())
 }

@@ -216,44 +216,30 @@ fn a_frame_cut_short_is_truncated_at_its_end(rt: HostRuntime) -> Result<(), Fail
 }
 
 #[test]
-fn half_a_word_behind_a_frame_is_truncated(rt: HostRuntime) -> Result<(), Fail> {
+fn packets_and_sections_of_every_kind_are_judged(rt: HostRuntime) -> Result<(), Fail> {
     let alloc = rt.alloc();
-    let mut bytes = bytes_of(alloc, &SILENT)?;
-    bytes.push(0xFF)?;
-    let half = run_to_end(alloc, decode_of(&bytes))?;
-    assert_eq!(rt; half.status, refused_at(161, Why::Truncated));
-    assert_eq!(rt;
-        half.err.bytes(),
-        b"malformed at byte 161: Truncated\n".as_slice()
-    );
-    Ok(())
-}
-
-#[test]
-fn packets_of_other_kinds_are_judged_and_are_no_frames(rt: HostRuntime) -> Result<(), Fail> {
-    let alloc = rt.alloc();
-    let good = three_frames(alloc, FOREIGN)?;
-    let ended = run_to_end(alloc, decode_of(&good))?;
-    assert_eq!(rt;
-        (ended.status, ended.out.bytes()),
-        (Status::Ok, b"frames 3\n".as_slice())
-    );
-    let mut foreign = FOREIGN;
-    foreign[4] = 0x0202;
-    let bad = three_frames(alloc, foreign)?;
-    let ended = run_to_end(alloc, decode_of(&bad))?;
-    assert_eq!(rt; ended.status, refused_at(168, Why::WordParity));
-    assert_eq!(rt; ended.out.bytes(), b"".as_slice());
-    Ok(())
-}
-
-#[test]
-fn sections_of_every_kind_in_any_order_are_read(rt: HostRuntime) -> Result<(), Fail> {
-    let ended = decoded(rt.alloc(), &SECTIONS)?;
-    assert_eq!(rt; ended.status, Status::Ok);
-    assert_eq!(rt;
-        ended.out.bytes(),
-        b"frame 7\nCC1 1\n15 0 white HI\nframes 10\n".as_slice()
-    );
+    let mut half = bytes_of(alloc, &SILENT)?;
+    half.push(0xFF)?;
+    let mut wrong = FOREIGN;
+    wrong[4] = 0x0202;
+    let files: [(Vec<u8>, Status, &[u8]); 4] = [
+        (half, refused_at(161, Why::Truncated), b""),
+        (three_frames(alloc, FOREIGN)?, Status::Ok, b"frames 3\n"),
+        (
+            three_frames(alloc, wrong)?,
+            refused_at(168, Why::WordParity),
+            b"",
+        ),
+        (
+            bytes_of(alloc, &SECTIONS)?,
+            Status::Ok,
+            b"frame 7\nCC1 1\n15 0 white HI\nframes 10\n",
+        ),
+    ];
+    for (file, status, due) in &files {
+        let ended = run_to_end(alloc, decode_of(file))?;
+        assert_eq!(rt; ended.status, *status);
+        assert_eq!(rt; ended.out.bytes(), *due);
+    }
     Ok(())
 }

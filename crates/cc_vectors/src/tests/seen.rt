@@ -2,6 +2,7 @@
 
 ghost use Rattle.std.specs.Prelude.{◌≤◌};
 
+use crate::tests::pairs::FIVE_LINES;
 use crate::tests::{Ended, pairs_of, run_to_end};
 use ccsuite_cli::Status;
 use line21_codes::{Cell, Colour, Pair, Style};
@@ -25,10 +26,12 @@ type Screen = &'static [(u8, &'static str)];
 /// A row without a cell.
 const EMPTY_ROW: &str = "________________________________";
 
-/// A cue list of CC1, and what is to be seen of it.
+/// A cue list of one channel, and what is to be seen of it.
 #[derive(Clone, Copy)]
 struct Seen {
     list: &'static str,
+    /// Whether the channel is CC3, and not CC1.
+    third: bool,
     /// Frames at which nothing is on the screen.
     blank: &'static [usize],
     /// Frames at which the caption is.
@@ -107,19 +110,26 @@ fn displays(field: &Field, second_channel: bool, screen: Screen) -> bool {
     true
 }
 
-/// The first of some frames at which CC1 doesn't display the screen, or another channel displays anything.
+/// The first of some frames at which the channel doesn't display the screen, or another one displays anything.
 fn first_other(
     alloc: Global,
     lines: &str,
     frames: &[usize],
+    third: bool,
     screen: Screen,
 ) -> Result<Option<usize>, Fail> {
+    let nothing: Screen = &[];
+    let (of_one, of_three) = if third {
+        (nothing, screen)
+    } else {
+        (screen, nothing)
+    };
     for frame in frames {
         let [one, two] = &receivers_at(alloc, lines, *frame)?;
-        if !(displays(one, false, screen)
-            && displays(one, true, &[])
-            && displays(two, false, &[])
-            && displays(two, true, &[]))
+        if !(displays(one, false, of_one)
+            && displays(one, true, nothing)
+            && displays(two, false, of_three)
+            && displays(two, true, nothing))
         {
             return Ok(Some(*frame));
         }
@@ -131,125 +141,95 @@ fn first_other(
 fn first_wrong(alloc: Global, seen: Seen) -> Result<Option<usize>, Fail> {
     let out = printed(alloc, seen.list)?.out;
     let lines = str::from_utf8(out.bytes())?;
-    match first_other(alloc, lines, seen.blank, &[])? {
-        None => first_other(alloc, lines, seen.shown, seen.screen),
+    match first_other(alloc, lines, seen.blank, seen.third, &[])? {
+        None => first_other(alloc, lines, seen.shown, seen.third, seen.screen),
         wrong => Ok(wrong),
     }
 }
 
-#[test]
-fn a_caption_stands_in_its_row_from_show_up_to_hide(rt: HostRuntime) -> Result<(), Fail> {
-    for seen in [
-        Seen {
-            list: "ccsuite,1,29.97,30\npop,CC1,0,7,20\nrun,15,0,white,HI\n",
-            blank: &[0, 6, 20, 29],
-            shown: &[7, 8, 19],
-            screen: &[(15, "HI______________________________")],
-        },
-        Seen {
-            list: "ccsuite,1,30,12\npop,CC1,1,8,10\nrun,1,0,white,HI\n",
-            blank: &[0, 1, 7, 10, 11],
-            shown: &[8, 9],
-            screen: &[(1, "HI______________________________")],
-        },
-        Seen {
-            list: "ccsuite,1,29.97,60\npop,CC1,5,20,40\nrun,8,0,white,HI\n",
-            blank: &[11, 12, 19, 40, 41, 59],
-            shown: &[20, 21, 39],
-            screen: &[(8, "HI______________________________")],
-        },
-        Seen {
-            list: "ccsuite,1,29.97,22\npop,CC1,0,7,20\nrun,11,0,white,HI\n",
-            blank: &[6, 20, 21],
-            shown: &[7, 19],
-            screen: &[(11, "HI______________________________")],
-        },
-    ] {
-        assert_eq!(rt; first_wrong(rt.alloc(), seen)?, None, "of {}", seen.list);
-    }
-    Ok(())
-}
-
-#[test]
-fn a_caption_begins_in_its_column(rt: HostRuntime) -> Result<(), Fail> {
-    for seen in [
-        Seen {
-            list: "ccsuite,1,30,15\npop,CC1,2,11,13\nrun,1,3,white,X\n",
-            blank: &[0, 10, 13, 14],
-            shown: &[11, 12],
-            screen: &[(1, "___X____________________________")],
-        },
-        Seen {
-            list: "ccsuite,1,30,30\npop,CC1,0,7,20\nrun,8,4,white,X\n",
-            blank: &[0, 6, 20, 29],
-            shown: &[7, 19],
-            screen: &[(8, "____X___________________________")],
-        },
-        Seen {
-            list: "ccsuite,1,29.97,40\npop,CC1,0,9,30\nrun,11,31,white,X\n",
-            blank: &[8, 30, 39],
-            shown: &[9, 29],
-            screen: &[(11, "_______________________________X")],
-        },
-        Seen {
-            list: "ccsuite,1,29.97,40\npop,CC1,0,9,30\nrun,15,31,white,X\n",
-            blank: &[8, 30, 39],
-            shown: &[9, 29],
-            screen: &[(15, "_______________________________X")],
-        },
-        Seen {
-            list: "ccsuite,1,29.97,40\npop,CC1,0,9,30\nrun,15,3,white,HI\n",
-            blank: &[8, 30, 39],
-            shown: &[9, 29],
-            screen: &[(15, "___HI___________________________")],
-        },
-    ] {
-        assert_eq!(rt; first_wrong(rt.alloc(), seen)?, None, "of {}", seen.list);
-    }
-    Ok(())
-}
-
-#[test]
-fn a_caption_has_a_cell_for_each_of_its_characters(rt: HostRuntime) -> Result<(), Fail> {
-    for seen in [
-        Seen {
-            list: "ccsuite,1,29.97,40\npop,CC1,0,22,30\nrun,11,0,white,what is authored is what's seen\n",
-            blank: &[0, 21, 30, 39],
-            shown: &[22, 29],
-            screen: &[(11, "what is authored is what's seen_")],
-        },
-        Seen {
-            list: "ccsuite,1,29.97,100\npop,CC1,3,27,90\nrun,8,1,white,ABCDEFGHIJKLMNOPQRSTUVWXYZ01234\n",
-            blank: &[3, 26, 90, 99],
-            shown: &[27, 89],
-            screen: &[(8, "_ABCDEFGHIJKLMNOPQRSTUVWXYZ01234")],
-        },
-        Seen {
-            list: "ccsuite,1,29.97,100\npop,CC1,3,25,90\nrun,1,0,white,WHAT IS AUTHORED IS WHAT IS SEEN\n",
-            blank: &[3, 24, 90, 99],
-            shown: &[25, 89],
-            screen: &[(1, "WHAT IS AUTHORED IS WHAT IS SEEN")],
-        },
-        Seen {
-            list: "ccsuite,1,29.97,30\npop,CC1,0,8,20\nrun,15,4,white,á ñ█\n",
-            blank: &[7, 20, 29],
-            shown: &[8, 19],
-            screen: &[(15, "____á ñ█________________________")],
-        },
-    ] {
-        assert_eq!(rt; first_wrong(rt.alloc(), seen)?, None, "of {}", seen.list);
-    }
-    Ok(())
-}
-
-#[test]
-fn a_list_without_a_caption_shows_nothing(rt: HostRuntime) -> Result<(), Fail> {
-    let seen = Seen {
+/// Captions in each kind of row, from several columns on, of one character and of a whole row; a list without a caption; and
+/// three of five lines that roll up.
+const ALL_SEEN: [Seen; 10] = [
+    Seen {
+        list: "ccsuite,1,29.97,30\npop,CC1,0,7,20\nrun,15,0,white,HI\n",
+        third: false,
+        blank: &[0, 6, 20, 29],
+        shown: &[7, 8, 19],
+        screen: &[(15, "HI______________________________")],
+    },
+    Seen {
+        list: "ccsuite,1,30,12\npop,CC1,1,8,10\nrun,1,0,white,HI\n",
+        third: false,
+        blank: &[0, 1, 7, 10, 11],
+        shown: &[8, 9],
+        screen: &[(1, "HI______________________________")],
+    },
+    Seen {
+        list: "ccsuite,1,30,15\npop,CC3,2,11,13\nrun,1,3,white,X\n",
+        third: true,
+        blank: &[0, 10, 13, 14],
+        shown: &[11, 12],
+        screen: &[(1, "___X____________________________")],
+    },
+    Seen {
+        list: "ccsuite,1,30,30\npop,CC1,0,7,20\nrun,8,4,white,X\n",
+        third: false,
+        blank: &[0, 6, 20, 29],
+        shown: &[7, 19],
+        screen: &[(8, "____X___________________________")],
+    },
+    Seen {
+        list: "ccsuite,1,29.97,40\npop,CC1,0,9,30\nrun,11,31,white,X\n",
+        third: false,
+        blank: &[8, 30, 39],
+        shown: &[9, 29],
+        screen: &[(11, "_______________________________X")],
+    },
+    Seen {
+        list: "ccsuite,1,29.97,100\npop,CC1,3,27,90\nrun,8,1,white,ABCDEFGHIJKLMNOPQRSTUVWXYZ01234\n",
+        third: false,
+        blank: &[3, 26, 90, 99],
+        shown: &[27, 89],
+        screen: &[(8, "_ABCDEFGHIJKLMNOPQRSTUVWXYZ01234")],
+    },
+    Seen {
+        list: "ccsuite,1,29.97,100\npop,CC1,3,25,90\nrun,1,0,white,WHAT IS AUTHORED IS WHAT IS SEEN\n",
+        third: false,
+        blank: &[3, 24, 90, 99],
+        shown: &[25, 89],
+        screen: &[(1, "WHAT IS AUTHORED IS WHAT IS SEEN")],
+    },
+    Seen {
+        list: "ccsuite,1,29.97,30\npop,CC1,0,8,20\nrun,15,4,white,á ñ█\n",
+        third: false,
+        blank: &[7, 20, 29],
+        shown: &[8, 19],
+        screen: &[(15, "____á ñ█________________________")],
+    },
+    Seen {
         list: "ccsuite,1,30,3\n",
+        third: false,
         blank: &[0, 1, 2],
         shown: &[],
         screen: &[],
-    };
-    assert_eq!(rt; first_wrong(rt.alloc(), seen)?, None);
+    },
+    Seen {
+        list: FIVE_LINES,
+        third: true,
+        blank: &[60, 69],
+        shown: &[47, 59],
+        screen: &[
+            (13, "A3______________________________"),
+            (14, "A4______________________________"),
+            (15, "A5______________________________"),
+        ],
+    },
+];
+
+#[test]
+fn captions_stand_in_their_places_from_show_up_to_hide(rt: HostRuntime) -> Result<(), Fail> {
+    for seen in ALL_SEEN {
+        assert_eq!(rt; first_wrong(rt.alloc(), seen)?, None, "of {}", seen.list);
+    }
     Ok(())
 }
