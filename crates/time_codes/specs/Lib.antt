@@ -1,0 +1,3 @@
+pub mod TimeCodes
+pub mod Frames
+pub mod Texts
