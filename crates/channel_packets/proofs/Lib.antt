@@ -1,0 +1,4 @@
+pub mod CutLemmas
+pub mod LawLemmas
+pub mod ReadLemmas
+pub mod WrittenLemmas
