@@ -1,7 +1,7 @@
 # make          proves and builds the program: build/ccsuite
 # make demo     proves, builds and runs `ccsuite pairs` on a cue list of examples/
 # make check    the gate: every proof from nothing, the must-fail edits, the tests, the program by two compilers
-# make bench    how fast `pairs` and `build` write and `decode` reads, and what cue lists and the receiver's pairs cost
+# make bench    how fast `pairs` and `build` write and `decode` reads, and what cue lists, the receiver's pairs and bytes of services cost
 # make install  copies the program to PREFIX/bin (PREFIX=/usr/local)
 
 PREFIX ?= /usr/local
@@ -26,6 +26,7 @@ bench: build/ccsuite
 	bench/decode.sh
 	bench/cues.sh
 	bench/screen.sh
+	bench/blocks.sh
 
 install: build/ccsuite
 	install -D -m 755 build/ccsuite $(DESTDIR)$(PREFIX)/bin/ccsuite
