@@ -23,7 +23,7 @@ use Rattle.service_blocks.specs.declared.parts.BlockPart.{BlockPart}
 use Rattle.service_blocks.specs.declared.parts.BlockPart.TheVariants as part
 use Rattle.service_blocks.specs.ServiceBlocks.{Block, rest_of}
 use Rattle.service_blocks.specs.BlockParts.{block_parts}
-use Rattle.service_blocks.specs.Channels.{AreChannel, HaveBlocks, IsHeard, heard, said}
+use Rattle.service_blocks.specs.Channels.{AreChannel, HaveBlocks, IsHeard, IsHeardBehind, heard, heard_behind, said}
 use Rattle.service_blocks.specs.Reading.{IsOverrun, Open, block_after, block_syntax, is_next, judge_byte, judge_part, nothing_open, open_after}
 use Rattle.service_blocks.proofs.BlockLemmas.{IsTaken-if, at, blocks_are, blocks_read, rest_taken}
 use Rattle.service_blocks.proofs.WrittenLemmas.{blocks_unique}
@@ -134,6 +134,22 @@ pub heard_first : (triplets more : List Triplet) → IsHeard (triplets ++ more) 
 heard_first triplets more is =
     (AllTaken-split block_syntax nothing_open (parts_of packet_syntax triplets) (parts_from packet_syntax (open_behind packet_syntax triplets) more)
     (subst (AllRead block_syntax) (parts_of-append triplets more) is)).0
+
+-- and then of the others, behind them
+pub heard_pieces : (before triplets : List Triplet) → IsHeard (before ++ triplets) → IsHeard before × IsHeardBehind before triplets
+heard_pieces before triplets is =
+    AllTaken-split block_syntax nothing_open (parts_of packet_syntax before) (parts_from packet_syntax (open_behind packet_syntax before) triplets)
+    (subst (AllRead block_syntax) (parts_of-append before triplets) is)
+
+pub heard_joined : (before triplets : List Triplet) → IsHeard before × IsHeardBehind before triplets → IsHeard (before ++ triplets)
+heard_joined before triplets (is, more) =
+    subst (AllRead block_syntax) (sym (parts_of-append before triplets))
+    (AllTaken-append block_syntax nothing_open (parts_of packet_syntax before) (parts_from packet_syntax (open_behind packet_syntax before) triplets) is more)
+
+pub heard-append : (before triplets : List Triplet) → heard (before ++ triplets) ≡ heard before ++ heard_behind before triplets
+heard-append before triplets =
+    ap (λ parts. parts_of block_syntax parts) (parts_of-append before triplets)
+    ∙ parts_from-append block_syntax nothing_open (parts_of packet_syntax before) (parts_from packet_syntax (open_behind packet_syntax before) triplets)
 
 -- the parts of one more triplet
 abbrev pub more_parts : List Triplet → Triplet → List PacketPart

@@ -2,7 +2,7 @@
 -- each packet.
 use Rattle.std.specs.Prelude.{ℕ, if◌then◌else◌, List, [], ◌∷◌, ◌++◌, Option, Some, ⊤}
 use Rattle.std.specs.List.{flat_map}
-use Rattle.cc_base.specs.Syntax.{AllRead, parts_of}
+use Rattle.cc_base.specs.Syntax.{AllRead, AllTaken, open_behind, parts_from, parts_of}
 use Rattle.cc_data.specs.declared.triplet.Triplet.{Triplet}
 use Rattle.channel_packets.specs.ChannelPackets.{AreChannelPackets, ChannelPacket, is_gap, number_of, size_of}
 use Rattle.channel_packets.specs.Reading.{packet_syntax}
@@ -37,3 +37,13 @@ IsHeard triplets = AllRead block_syntax (parts_of packet_syntax triplets)
 -- what both readers make of the triplets
 abbrev pub heard : List Triplet → List BlockPart
 heard triplets = parts_of block_syntax (parts_of packet_syntax triplets)
+
+-- behind the triplets before, none of these is refused
+abbrev pub IsHeardBehind : List Triplet → List Triplet → Type 0
+IsHeardBehind before triplets =
+    AllTaken block_syntax (open_behind block_syntax (parts_of packet_syntax before)) (parts_from packet_syntax (open_behind packet_syntax before) triplets)
+
+-- what both readers make of triplets behind those before
+abbrev pub heard_behind : List Triplet → List Triplet → List BlockPart
+heard_behind before triplets =
+    parts_from block_syntax (open_behind block_syntax (parts_of packet_syntax before)) (parts_from packet_syntax (open_behind packet_syntax before) triplets)

@@ -17,7 +17,7 @@ ghost use Rattle.service_blocks.specs.declared.parts.BlockPart.{BlockPart as Han
 ghost use Rattle.service_blocks.specs.declared.parts.BlockPart.TheVariants as part;
 ghost use Rattle.service_blocks.specs.ServiceBlocks.{AreBlocks, Block};
 ghost use Rattle.service_blocks.specs.BlockParts.{block_parts};
-ghost use Rattle.service_blocks.specs.Channels.{AreChannel, IsHeard, heard, said};
+ghost use Rattle.service_blocks.specs.Channels.{AreChannel, IsHeard, IsHeardBehind, heard, heard_behind, said};
 ghost use Rattle.service_blocks.specs.Reading.{IsOverrun, Open, block_syntax, judge_part, open_after};
 ghost use Rattle.service_blocks.specs.Written.{block_for, block_written};
 
@@ -59,6 +59,13 @@ pub fn what_is_read_is_a_channel()
     ensures first { (triplets more : List Triplet) → IsHeard (triplets ++ more) → IsHeard triplets }
     ensures refused { (triplets : List Triplet) (triplet : Triplet) (more : List Triplet) (packets : List ChannelPacket) (blocks : List (List Block))
         → (IsHeard (triplets ++ triplet ∷ []) → ⊥) → AreChannel packets blocks (triplets ++ triplet ∷ more) → ⊥ }
+{}
+
+/// Triplets and more are read exactly where the first ones are and, behind them, the others; and they make what the first ones make,
+/// and then what the others make behind them.
+pub fn triplets_are_read_piece_by_piece()
+    ensures read { (before triplets : List Triplet) → IsHeard (before ++ triplets) ↔ (IsHeard before × IsHeardBehind before triplets) }
+    ensures says { (before triplets : List Triplet) → heard (before ++ triplets) ≡ heard before ++ heard_behind before triplets }
 {}
 
 /// A part is refused exactly where it is the header of a block that says more bytes than its packet has left behind it, and for no
