@@ -5,7 +5,7 @@ use Rattle.std.specs.List.{All, AllByRecursion, flat_map}
 use Rattle.cc_base.specs.declared.step.Step.TheVariants.{Refuse}
 use Rattle.cc_base.specs.declared.why.Why.{Why}
 use Rattle.cc_base.specs.declared.why.Why.TheVariants as why
-use Rattle.cc_base.specs.Feeding.{Verdict, Reading, reading, place_by}
+use Rattle.cc_base.specs.Feeding.{Verdict}
 use Rattle.cc_base.specs.Steps.{AreAccepted, IsTaken, front_from, step_parts}
 use Rattle.cc_base.specs.Syntax.{AllTaken, Reads, open_behind, parts_from, read_under}
 use Rattle.cc_base.proofs.SyntaxLemmas.{AllTaken-split, read_under-reads}

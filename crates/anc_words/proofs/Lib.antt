@@ -12,3 +12,4 @@ pub mod CaptionLemmas
 pub mod ByteLemmas
 pub mod NextLemmas
 pub mod RefusedLemmas
+pub mod OffendsLemmas

@@ -1,5 +1,6 @@
 -- Packets are read: none of their words is refused, they make the packets' parts, and nothing is open behind them.
 use Rattle.std.proofs.Common.{◌≡◌, ℕ, ◌+◌, ◌%◌, ◌<◌, ◌≤◌, ◌==◌, ◌&&◌, ◌||◌, not, nat_lt, if◌then◌else◌, Bool, true, false, List, [], ◌∷◌, ◌++◌, length, map, refl, ap, sym, subst, ◌∙◌, arith, append_assoc, append-nil, length-append, eq-eqb}
+use Rattle.std.proofs.lemmas.Bool.{and_parts}
 use Rattle.std.proofs.lemmas.Bool.Decides.{nat_tests}
 use Rattle.std.proofs.lemmas.List.Elements.{recursion_from_All, All-weaker}
 use Rattle.std.specs.List.{AllByRecursion, flat_map}
@@ -19,7 +20,7 @@ use Rattle.anc_words.proofs.EightBitLemmas.{IsEightBit-word}
 use Rattle.anc_words.proofs.ChecksumLemmas.{IsChecksum-word}
 
 -- a word of ten bits is judged by its position
-judge_word-below : (words : List ℕ) (word : ℕ) → word < 1024 → judge_word words word ≡ judge_ten_bits words word
+pub judge_word-below : (words : List ℕ) (word : ℕ) → word < 1024 → judge_word words word ≡ judge_ten_bits words word
 judge_word-below words word below =
     let test : nat_lt word 0x400 ≡ true = grind (arith, nat_tests) in
     ap (λ (t : Bool). if t then judge_ten_bits words word else Refuse why.HighBits) test
@@ -38,15 +39,10 @@ or_not true c follows = refl
 or_not false true follows = follows refl
 or_not false false follows = refl
 
--- both of them
-both_true : (b c : Bool) → (b && c) ≡ true → (b ≡ true) × (c ≡ true)
-both_true true c both = (refl, both)
-both_true false c both = absurd cc
-
 -- the identifiers are those of captions
-is_caption-is : (did sdid : ℕ) → is_caption did sdid ≡ true → (did % 256 ≡ 0x61) × (sdid % 256 ≡ 0x01)
+pub is_caption-is : (did sdid : ℕ) → is_caption did sdid ≡ true → (did % 256 ≡ 0x61) × (sdid % 256 ≡ 0x01)
 is_caption-is did sdid is =
-    let (one, two) = both_true (did % 256 == 0x61) (sdid % 256 == 0x01) is in
+    let (one, two) = and_parts (did % 256 == 0x61) (sdid % 256 == 0x01) is in
     (grind (arith, nat_tests), grind (arith, nat_tests))
 
 -- the user words of a packet pass

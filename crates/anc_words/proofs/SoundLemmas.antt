@@ -44,7 +44,7 @@ pub record IsUserBehind (did sdid word : ℕ) : Type 0 where
   pub caption : did % 256 ≡ 0x61 → sdid % 256 ≡ 0x01 → IsEightBit (word % 256) word
 
 -- the identifiers of captions pass
-is_caption-true : (did sdid : ℕ) → did % 256 ≡ 0x61 → sdid % 256 ≡ 0x01 → is_caption did sdid ≡ true
+pub is_caption-true : (did sdid : ℕ) → did % 256 ≡ 0x61 → sdid % 256 ≡ 0x01 → is_caption did sdid ≡ true
 is_caption-true did sdid did_is sdid_is = rw (did_is, sdid_is) refl
 
 -- one of two, where the other is false

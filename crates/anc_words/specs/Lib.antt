@@ -5,6 +5,7 @@ pub mod Packets
 pub mod WordsFiles
 pub mod Writing
 pub mod Reading
+pub mod Refusals
 pub mod Readers
 pub mod Ending
 pub mod CaptionWords

@@ -13,6 +13,7 @@ ghost use Rattle.anc_words.specs.declared.parts.WordPart.{WordPart as Part};
 ghost use Rattle.anc_words.specs.EightBitWords.{IsEightBit};
 ghost use Rattle.anc_words.specs.Checksums.{IsChecksum};
 ghost use Rattle.anc_words.specs.Reading.{HasRefusedWord, anc_syntax, is_caption, is_eight_bit, judge_byte, judge_ten_bits, judge_word, nothing_open, packet_parts};
+ghost use Rattle.anc_words.specs.Refusals.{WordOffends};
 ghost use Rattle.anc_words.specs.Ending.{bytes_to_end};
 ghost use Rattle.anc_words.specs.Words.{AreWords};
 ghost use Rattle.anc_words.specs.Packets.{Packet, IsCaption, IsUserWord, IsPacket, user_bytes};
@@ -132,13 +133,16 @@ pub fn a_packet_ends_no_sooner()
         → IsWordsFile packets (bytes ++ more) → ⊥ }
 {}
 
-/// The tests by which words are judged say what they are named for, and a word's high bits come before all else.
+/// The tests by which words are judged say what they are named for, and a word's high bits come before all else. A word is
+/// refused exactly where it offends by the words of its packet, and for that reason.
 pub fn words_are_judged_by_the_standard()
     ensures high_bits { (words : List ℕ) (word : ℕ) → 1024 ≤ word → judge_word words word ≡ Refuse why.HighBits }
     ensures ten_bits { (words : List ℕ) (word : ℕ) → word < 1024 → judge_word words word ≡ judge_ten_bits words word }
     ensures eight_bit { (word : ℕ) → IsTrue (is_eight_bit word) ↔ IsEightBit (word % 256) word }
     ensures caption { (did sdid : ℕ) → IsTrue (is_caption did sdid) ↔ ((did % 256 ≡ 0x61) × (sdid % 256 ≡ 0x01)) }
     ensures checksum { (words : List ℕ) (word : ℕ) → (word ≡ checksum_word words) ↔ IsChecksum words word }
+    ensures refused { (words : List ℕ) (word : ℕ) (reason : Reason)
+        → (judge_word words word ≡ Refuse reason) ↔ WordOffends words word reason }
 {}
 
 /// A refusal is that of the first refused word: its place is the number of the word's first byte, and its reason is the word's

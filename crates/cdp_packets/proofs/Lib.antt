@@ -8,3 +8,4 @@ pub mod SectionLemmas
 pub mod SoundLemmas
 mod TestSections
 pub mod WholeLemmas
+pub mod StandingLemmas

@@ -231,7 +231,7 @@ sections_read : (size : ℕ) (head : Seven) (done triplet : List ℕ) (cut : Lis
 sections_read size head done triplet [] are long = record {
   last = triplet;
   reads = Reads-is (cdp_syntax size) _ _ _ _ _ _ refl
-    (ap (λ (bs : List ℕ). front_of (seven head bs) [] triplet) (sym (append-nil done))) (Reads-nothing (cdp_syntax size) _);
+      (ap (λ (bs : List ℕ). front_of (seven head bs) [] triplet) (sym (append-nil done))) (Reads-nothing (cdp_syntax size) _);
 }
 sections_read size head done triplet ([] ∷ cut) are long = absurd are.0
 sections_read size head done triplet ((_ ∷ []) ∷ cut) are long = absurd are.0
@@ -243,7 +243,7 @@ sections_read size head done triplet ((id ∷ second ∷ rest) ∷ cut) are long
     record {
       last = others.last;
       reads = Reads-is (cdp_syntax size) _ _ _ _ _ _ refl
-    (ap (λ (bs : List ℕ). front_of (seven head bs) [] others.last) (append_assoc done section (concat cut)))
+          (ap (λ (bs : List ℕ). front_of (seven head bs) [] others.last) (append_assoc done section (concat cut)))
           (Reads-append (cdp_syntax size) _ _ _ _ _ _ _ one others.reads);
     }
 

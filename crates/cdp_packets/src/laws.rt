@@ -102,6 +102,8 @@ pub fn sections_fit_where_some_can_follow()
 
 /// A refusal stands at its place: each reason comes at the byte that it speaks of, and there is no other reason.
 pub fn refusals_stand_at_their_places()
-    ensures { (size : ℕ) (bytes : List ℕ) (byte : ℕ) (reason : Reason) → IsPacketLength size → length bytes ≤ size → AllRead (cdp_syntax size) bytes
+    ensures one { (size : ℕ) (bytes : List ℕ) (reason other : Reason) → IsPacketLength size → StandsAt size bytes reason
+        → StandsAt size bytes other → reason ≡ other }
+    ensures stands { (size : ℕ) (bytes : List ℕ) (byte : ℕ) (reason : Reason) → IsPacketLength size → length bytes ≤ size → AllRead (cdp_syntax size) bytes
         → judge_cdp size (open_behind (cdp_syntax size) bytes) byte ≡ Refuse reason → StandsAt size bytes reason }
 {}
