@@ -1,0 +1,10 @@
+pub mod Characters
+pub mod Parameters
+pub mod CodeTables
+pub mod Spelling
+pub mod Cut
+pub mod CharacterSpellings
+pub mod Spellable
+pub mod Reading
+pub mod Writing
+pub mod Readers
