@@ -35,9 +35,11 @@ pub record Stretch : Type 0 where
   pub first : Triplet
   pub more : List Triplet
 
+-- its first triplet starts a packet, and the others go on with it
 abbrev pub is_stretch : Stretch → Bool
 is_stretch stretch = starts stretch.first && list_all continues stretch.more
 
+-- its triplets
 abbrev pub stretch_triplets : Stretch → List Triplet
 stretch_triplets stretch = stretch.first ∷ stretch.more
 

@@ -8,10 +8,11 @@ use Rattle.channel_packets.specs.ChannelPackets.{ChannelPacket}
 abbrev pub header_for : ℕ → ℕ → ℕ
 header_for number size = 64 * number + (size / 2 + 1) % 64
 
--- the triplet of a header and the byte behind it, and that of two further bytes
+-- the triplet of a header and the byte behind it
 abbrev pub starting : ℕ → ℕ → Triplet
 starting header byte = record { valid = true; kind = 3; a = header; b = byte }
 
+-- the triplet of two further bytes
 abbrev pub continuing : ℕ → ℕ → Triplet
 continuing first second = record { valid = true; kind = 2; a = first; b = second }
 
@@ -26,9 +27,10 @@ abbrev pub packet_written : ℕ → List ℕ → List Triplet
 packet_written number [] = []
 packet_written number (first ∷ bytes) = starting (header_for number (length (first ∷ bytes))) first ∷ bytes_written bytes
 
--- the packet that it is: an even number of bytes is completed
+-- the bytes of a packet: an even number of them is completed
 abbrev pub completed : List ℕ → List ℕ
 completed bytes = if length bytes % 2 == 0 then bytes ++ 0x00 ∷ [] else bytes
 
+-- the packet that is written
 abbrev pub packet_for : ℕ → List ℕ → ChannelPacket
 packet_for number bytes = record { header = header_for number (length bytes); bytes = completed bytes }

@@ -8,8 +8,8 @@ use Rattle.service_blocks.specs.ServiceBlocks.{Block, is_extended}
 abbrev pub standard_service : ℕ → Option ℕ
 standard_service number = if number == 0 then None else Some number
 
--- the service of a second header byte: the low six bits, where the standard has no number below 7; the bytes of a block with such
--- a one are read past
+-- the service of a second header byte, its low six bits: the numbers of such services begin at 7, and the bytes of a block with one
+-- below 7 are read past
 abbrev pub extended_service : ℕ → Option ℕ
 extended_service second = if nat_lt (second % 64) 7 then None else Some (second % 64)
 
