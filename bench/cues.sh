@@ -6,7 +6,7 @@ cd "$(dirname "$0")/.."
 work=$(mktemp -d)
 trap 'rm -rf "$work"' EXIT
 mkdir -p "$work/crates/cues_bench/src"
-for crate in cc_base line21_codes cue_lists line21_author frame_scheduler; do
+for crate in cc_base line21_codes cue_types cue_form cue_rules authored_grids cue_lists line21_author frame_scheduler; do
     cp -r "crates/$crate" "$work/crates/"
     grep "^$crate:" crates.txt >> "$work/crates.txt"
 done
