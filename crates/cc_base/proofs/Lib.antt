@@ -1,3 +1,4 @@
+mod AdapterLemmas
 pub mod Bytes
 pub mod Puts
 pub mod ReachedLemmas

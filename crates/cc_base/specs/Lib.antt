@@ -7,4 +7,5 @@ pub mod Rate
 pub mod Steps
 pub mod Streams
 pub mod Syntax
+pub mod Texts
 pub mod Why

@@ -1,7 +1,55 @@
-ghost use Rattle.std.specs.Prelude.{◌≡◌, ◌+◌, ◌-◌, ◌^◌, min};
+ghost use Rattle.std.specs.Prelude.{◌≡◌, ◌≤◌};
+ghost use Rattle.cc_base.specs.Adapters.{flush_answer, flush_count, read_answer, read_count, write_answer, write_count};
+ghost use Rattle.cc_base.specs.Streams.{PutCause, TakeCause};
 
 use crate::streams::{Put, Sink, Source, Took};
 use std::io::{Read, Write};
+
+/// The answer of a take whose read gave so many bytes, or None where it failed, which is counted. 0 bytes are the end.
+fn after_read(read: Option<usize>, faults: &mut u64) -> Took
+    ensures answer { result ≡ read_answer read }
+    ensures count { faults.new ≡ read_count read faults.old }
+    ensures cause { TakeCause faults.old faults.new result }
+{
+    match read {
+        None => {
+            *faults = faults.saturating_add(1);
+            Took::Failed
+        }
+        Some(0) => Took::End,
+        Some(n) => Took::Got(n),
+    }
+}
+
+/// How many bytes of a piece a write took that is None where it failed. A failure, and a write of 0 bytes, is counted, and
+/// answered with None.
+fn after_write(write: Option<usize>, faults: &mut u64) -> Option<usize>
+    ensures answer { result ≡ write_answer write }
+    ensures count { faults.new ≡ write_count write faults.old }
+    ensures never_falls { faults.old ≤ faults.new }
+{
+    match write {
+        None | Some(0) => {
+            *faults = faults.saturating_add(1);
+            None
+        }
+        Some(n) => Some(n),
+    }
+}
+
+/// The answer of a put that was flushed, or whose flush failed, which is counted.
+fn after_flush(flushed: bool, faults: &mut u64) -> Put
+    ensures answer { result ≡ flush_answer flushed }
+    ensures count { faults.new ≡ flush_count flushed faults.old }
+    ensures cause { PutCause faults.old faults.new result }
+{
+    if flushed {
+        Put::Done
+    } else {
+        *faults = faults.saturating_add(1);
+        Put::Failed
+    }
+}
 
 /// A source over a reader. It tells what is left where the reader does, which a file and standard input don't.
 #[derive(Debug, Drop)]
@@ -30,14 +78,8 @@ impl<R: Read> Source for ReaderSource<R> {
     ghost faults = { λ s. reader_faults s };
 
     fn take(&mut self, buf: &mut [u8]) -> Took {
-        match self.inner.read(buf) {
-            Ok(0) => Took::End,
-            Ok(n) => Took::Got(n),
-            Err(_) => {
-                self.faults = self.faults.saturating_add(1);
-                Took::Failed
-            }
-        }
+        let read = self.inner.read(buf).ok();
+        after_read(read, &mut self.faults)
     }
 }
 
@@ -59,16 +101,6 @@ impl<W: Write> WriterSink<W> {
     {
         WriterSink { inner, faults: 0 }
     }
-
-    /// Counts a fault.
-    fn fail(&mut self) -> Put
-        ensures failed { result ≡ Put.Failed }
-        ensures counted { self.new.faults ≡ min (self.old.faults + 1) (2 ^ 64 - 1) }
-        ensures writer { self.new.inner ≡ self.old.inner }
-    {
-        self.faults = self.faults.saturating_add(1);
-        Put::Failed
-    }
 }
 
 impl<W: Write> Sink for WriterSink<W> {
@@ -81,15 +113,16 @@ impl<W: Write> Sink for WriterSink<W> {
     fn put(&mut self, bytes: &[u8]) -> Put {
         let mut at = 0;
         while at < bytes.len() {
-            match self.inner.write(&bytes[at..]) {
-                Ok(0) => return self.fail(),
-                Ok(n) => at += n,
-                Err(_) => return self.fail(),
+            let write = self.inner.write(&bytes[at..]).ok();
+            match after_write(write, &mut self.faults) {
+                Some(n) => at += n,
+                None => return Put::Failed,
             }
         }
-        if !bytes.is_empty() && self.inner.flush().is_err() {
-            return self.fail();
+        if bytes.is_empty() {
+            return Put::Done;
         }
-        Put::Done
+        let flushed = self.inner.flush().is_ok();
+        after_flush(flushed, &mut self.faults)
     }
 }

@@ -1,3 +1,4 @@
+mod adapters;
 mod resuming;
 
 use crate::adapters::{ReaderSource, WriterSink};

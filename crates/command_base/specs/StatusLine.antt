@@ -1,9 +1,9 @@
 -- How a run ends: the code of each status, and its one line in the error output.
 use Rattle.std.specs.Prelude.{◌≡◌, ◌⊎◌, ℕ, List, [], ◌∷◌, Option, Some, None, codes, decimal}
 use Rattle.std.specs.Io.KnownBytes.{Appends}
-use Rattle.std.specs.List.{flat_map}
 use Rattle.cc_base.specs.LimitOf.{limit_name_of}
 use Rattle.cc_base.specs.Streams.{Puts, Rose}
+use Rattle.cc_base.specs.Texts.{text}
 use Rattle.cc_base.specs.Why.{name_of}
 use Rattle.cc_base.specs.declared.streams.Put.TheVariants as put
 use Rattle.cc_base.specs.declared.why.Why.{Why}
@@ -24,10 +24,6 @@ status_code (status.Malformed place why) = 6
 status_code (status.Rule fault) = 7
 status_code (status.NoRoom cue) = 8
 status_code (status.Short frames) = 10
-
--- a text made of pieces
-abbrev pub text : List (List ℕ) → List ℕ
-text pieces = flat_map (λ piece. piece) pieces
 
 -- the line of a malformed input
 abbrev pub malformed_line : Place → Why → List ℕ

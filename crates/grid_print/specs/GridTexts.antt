@@ -1,6 +1,7 @@
 -- The texts of the grids of CC1 to CC4.
 use Rattle.std.specs.Prelude.{ℕ, ◌==◌, ◌++◌, Bool, if◌then◌else◌, List, [], ◌∷◌, codes, decimal, encode_utf8_all, length}
 use Rattle.std.specs.List.{flat_map, list_any}
+use Rattle.cc_base.specs.Texts.{text}
 use Rattle.line21_codes.specs.declared.channels.Chan.{Chan}
 use Rattle.line21_codes.specs.declared.channels.Chan.TheVariants.{Cc1, Cc2, Cc3, Cc4}
 use Rattle.line21_codes.specs.declared.styles.Colour.{Colour}
@@ -9,10 +10,6 @@ use Rattle.line21_codes.specs.declared.styles.Style.{Style}
 use Rattle.line21_screen.specs.Differences.{differs}
 use Rattle.line21_screen.specs.Grid.{Grid}
 use Rattle.grid_print.specs.Runs.{Run, runs}
-
--- a text made of pieces
-abbrev pub text : List (List ℕ) → List ℕ
-text pieces = flat_map (λ piece. piece) pieces
 
 -- the name of a channel
 abbrev pub chan_name : Chan → List ℕ

@@ -4,7 +4,7 @@ use Rattle.std.specs.Prelude.{ℕ, suc, nat_lt, if◌then◌else◌, List, [], �
 use Rattle.cdp_packets.specs.Packets.{Packet as Frame}
 use Rattle.words_files.specs.Received.{received_grids}
 use Rattle.grid_print.specs.GridTexts.{all_text, changes_text}
-use Rattle.command_base.specs.StatusLine.{text}
+use Rattle.cc_base.specs.Texts.{text}
 
 -- the changed screens of each frame against the one before it, of frames that come behind others; before the first frame of
 -- all, every screen is empty
