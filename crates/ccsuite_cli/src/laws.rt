@@ -1,4 +1,5 @@
-//! Laws of the verdict of a run: functions that do nothing, with the laws as their contracts.
+//! Laws of what a run answers and puts: functions that do nothing, with the laws as their contracts.
+ghost use Rattle.ccsuite_cli.specs.Seen.{BuiltWordsAreSeen};
 ghost use Rattle.ccsuite_cli.specs.Verdict.{AcceptedIsAnswered, FaultsAreTold, FileIsDecoded, FileIsShown, GoodListIsWritten, LongWordsAreRefused, MalformedIsRefused, RefusedListIsAnswered};
 
 /// The law that every command that reads a cue list answers Ok to an input that is an accepted cue list, or Memory, where
@@ -46,4 +47,10 @@ pub fn long_words_are_refused()
 /// output's is.
 pub fn faults_are_told()
     ensures { FaultsAreTold }
+{}
+
+/// The law that what is authored is what is seen: a receiver that was fed any front of the words that `build` puts of an accepted
+/// cue list, cut anywhere, shows the authored grids of the last frame that it counts, wherever that is settled.
+pub fn built_words_are_seen()
+    ensures { BuiltWordsAreSeen }
 {}

@@ -2,8 +2,12 @@
 #![tactic(auto)]
 
 pub use crate::program::run;
+pub use crate::standard_streams::start;
+pub use crate::unread_words::run_without_words;
 pub use command_base::{Place, Status};
 
 mod command;
 pub mod laws;
 mod program;
+mod standard_streams;
+mod unread_words;

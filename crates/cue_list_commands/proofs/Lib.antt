@@ -1,6 +1,6 @@
 mod GatheredLines
 pub mod ListAnswerLemmas
 pub mod ListVerdictLemmas
-mod Outputs
+pub mod Outputs
 mod Refusals
 mod WordsLemmas

@@ -54,7 +54,7 @@ received_is second_field column frames frame same =
     ap (after second_field) (sym (ap reverse same ∙ newest_first column (suc frame)))
 
 -- what `build` puts of an accepted list is sound
-sound_words : (bytes : List ℕ) (list : Listing) (placed : Placement) → IsAccepted bytes list placed → IsSoundWords list placed
+pub sound_words : (bytes : List ℕ) (list : Listing) (placed : Placement) → IsAccepted bytes list placed → IsSoundWords list placed
 sound_words bytes list placed accepted =
     let columns = columns_of list placed in
     let formed : IsFormed list = accepted.spelled.1 in

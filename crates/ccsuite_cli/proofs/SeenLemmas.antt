@@ -1,0 +1,54 @@
+-- A receiver that is fed the words that were built shows what was authored.
+use Rattle.std.proofs.Common.{◌≡◌, ◌∙◌, ◌++◌, ◌+◌, add-one, ap, arith, length, length-append, refl, subst, suc, sym, take, zero, ℕ, List}
+use Rattle.std.proofs.lemmas.List.{take-append-le, take_all}
+use Rattle.cc_base.specs.declared.rate.Rate.{Rate}
+use Rattle.cdp_packets.specs.Packets.{Packet as Frame}
+use Rattle.frame_carrier.specs.Carrying.{column_packets}
+use Rattle.frame_scheduler.specs.Columns.{Columns}
+use Rattle.line21_codes.specs.declared.channels.Chan.TheVariants.{Cc1, Cc2, Cc3, Cc4}
+use Rattle.words_files.specs.Catching.{never}
+use Rattle.words_files.specs.FramesOf.{AreFramesOf}
+use Rattle.words_files.specs.Received.{received_grids}
+use Rattle.words_files.proofs.EndingLemmas.{file_under_never}
+use Rattle.words_files.proofs.FramesOfLemmas.{file_frames, frames_grow}
+use Rattle.words_files.proofs.GotLemmas.{got}
+use Rattle.cc_receiver.proofs.ReceivedLemmas.{shown_received}
+use Rattle.cc_receiver.proofs.TakenLemmas.{frames_count}
+use Rattle.cue_list_commands.proofs.Outputs.{sound_words}
+use Rattle.cue_list_commands.specs.Output.{build_output, built_packets}
+use Rattle.ccsuite_cli.specs.Seen.{BuiltWordsAreSeen}
+
+-- a packet a frame
+packets_count : (rate : Rate) (columns : Columns) (frame n : ℕ) → length (column_packets rate columns frame n) ≡ n
+packets_count rate columns frame zero = refl
+packets_count rate columns frame (suc n) = ap suc (packets_count rate columns (suc frame) n)
+
+-- so many frames, and others behind them
+front_is : (packets frames behind : List Frame) (n : ℕ) → packets ≡ frames ++ behind → n ≡ length frames → take n packets ≡ frames
+front_is packets frames behind n is count =
+    ap (take n) is ∙ take-append-le n frames behind (omega arith) ∙ take_all n frames (omega arith)
+
+pub built_seen : BuiltWordsAreSeen
+built_seen bytes list placed words rest receiver frame accepted output had counted =
+    let sound = sound_words bytes list placed accepted in
+    let packets = built_packets list placed in
+    let gotten = got never words had.bytes_are in
+    let frames = gotten.frames in
+    let whole : AreFramesOf never packets (words ++ rest) =
+    subst (AreFramesOf never packets) output (file_frames never packets (build_output list placed) (file_under_never packets (build_output list placed) sound.carried.file)) in
+    let (behind, grown) = frames_grow never frames packets words rest gotten.are whole in
+    let count : frame + 1 ≡ length frames = sym counted ∙ frames_count frames words receiver had gotten.are in
+    let front : take (suc frame) packets ≡ frames = front_is packets frames behind (suc frame) grown (sym (add-one frame) ∙ count) in
+    let size : length packets ≡ length frames + length behind = ap length grown ∙ length-append frames behind in
+    let all : length packets ≡ list.frames = packets_count list.rate _ 0 list.frames in
+    let shows = sound.shown frame (omega arith) in
+    let cc1 = shown_received frames words receiver Cc1 had gotten.are ∙ ap (λ (f : List Frame). received_grids f Cc1) (sym front) in
+    let cc2 = shown_received frames words receiver Cc2 had gotten.are ∙ ap (λ (f : List Frame). received_grids f Cc2) (sym front) in
+    let cc3 = shown_received frames words receiver Cc3 had gotten.are ∙ ap (λ (f : List Frame). received_grids f Cc3) (sym front) in
+    let cc4 = shown_received frames words receiver Cc4 had gotten.are ∙ ap (λ (f : List Frame). received_grids f Cc4) (sym front) in
+    record {
+      cc1 = λ settled. cc1 ∙ shows.one.first settled;
+      cc2 = cc2 ∙ shows.one.second;
+      cc3 = λ settled. cc3 ∙ shows.two.first settled;
+      cc4 = cc4 ∙ shows.two.second;
+    }

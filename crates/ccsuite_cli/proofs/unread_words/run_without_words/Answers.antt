@@ -1,0 +1,5 @@
+use Rattle.command_base.proofs.LineLemmas.{line_put}
+use Rattle.ccsuite_cli.proofs.unread_words.run_without_words.Goals as goal
+
+pub returns-clause-line : goal.returns-clause-line
+returns-clause-line g c = line_put _ _ _ _ c.put_status.result _ c.put_status.ensures.bytes c.put_status.ensures.cause
