@@ -1,9 +1,8 @@
 use crate::program::run;
 use crate::unread_words::run_without_words;
 use cc_base::{ReaderSource, SteadySource, WriterSink};
-use std::env;
-use std::io;
 use std::process::ExitCode;
+use std::{env, io};
 
 /// The program: runs the command of the words behind its name over standard input, output and error, and ends with the status's
 /// code.
