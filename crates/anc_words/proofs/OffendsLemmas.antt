@@ -24,7 +24,7 @@ not_below word n is = grind (arith, nat_tests)
 below-no : (word n : ℕ) → n ≤ word → nat_lt word n ≡ false
 below-no word n is = grind (arith, nat_tests)
 
-below-yes : (word n : ℕ) → word < n → nat_lt word n ≡ true
+pub below-yes : (word n : ℕ) → word < n → nat_lt word n ≡ true
 below-yes word n is = grind (arith, nat_tests)
 
 other : (a b : ℕ) → (a == b) ≡ false → a ≢ b

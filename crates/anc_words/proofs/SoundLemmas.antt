@@ -54,7 +54,7 @@ left_of false true either is = either
 left_of false false either is = is
 
 -- a user word that passes
-IsUserBehind-passed : (did sdid word : ℕ) → word < 1024 → (is_eight_bit word || not (is_caption did sdid)) ≡ true → IsUserBehind did sdid word
+pub IsUserBehind-passed : (did sdid word : ℕ) → word < 1024 → (is_eight_bit word || not (is_caption did sdid)) ≡ true → IsUserBehind did sdid word
 IsUserBehind-passed did sdid word below passes = record {
   ten_bits = below;
   caption = λ did_is sdid_is. IsEightBit-passed word (left_of (is_eight_bit word) (is_caption did sdid) passes (is_caption-true did sdid did_is sdid_is));

@@ -30,7 +30,7 @@ use Rattle.words_files.proofs.FrameLemmas.{carry-append}
 use Rattle.words_files.proofs.WordLemmas.{All-split, are_spelled, packets-ten_bits}
 
 -- the parts of words that are packets and the begin of one
-parts-split : (bytes whole behind : List ℕ) (packets : List Packet) → words_of bytes ≡ whole ++ behind → ArePackets packets whole
+pub parts-split : (bytes whole behind : List ℕ) (packets : List Packet) → words_of bytes ≡ whole ++ behind → ArePackets packets whole
     → parts_of anc_syntax bytes ≡ flat_map word_parts packets ++ parts_from word_syntax [] behind
 parts-split bytes whole behind packets spelled are =
     let reads = Reads-packets packets whole are in

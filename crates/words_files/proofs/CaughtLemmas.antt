@@ -59,7 +59,7 @@ length-is size is =
     (grind (arith, nat_tests), λ e. grind (arith, nat_tests))
 
 -- what begins behind frames, by whether the packet is one of captions, and by whether it can have its length
-abbrev begun_by : List (List CdpPart) → ℕ → Bool → Bool → Caught
+abbrev pub begun_by : List (List CdpPart) → ℕ → Bool → Bool → Caught
 begun_by frames size captions fits =
     if captions
     then (if fits

@@ -170,7 +170,7 @@ user_fits did sdid word is = (
 )
 
 -- the parts of a body
-body_parts : (first second third did sdid count : ℕ) (user : List ℕ) → IsBody first second third did sdid count user
+pub body_parts : (first second third did sdid count : ℕ) (user : List ℕ) → IsBody first second third did sdid count user
     → parts_from word_syntax [] (first ∷ second ∷ third ∷ did ∷ sdid ∷ count ∷ user)
     ≡ part.Start (did % 256) (sdid % 256) (count % 256) ∷ map part.User user
 body_parts first second third did sdid count user body =
@@ -181,12 +181,12 @@ body_parts first second third did sdid count user body =
     (Reads-append word_syntax [] _ _ _ user (map part.User user) _ head users).made
 
 -- what is read of the user words of a packet of captions that isn't refused
-record IsOpenCaption (v : Verdict CdpPart) (before : List (List CdpPart)) (size : ℕ) (user : List ℕ) : Type 0 where
+pub record IsOpenCaption (v : Verdict CdpPart) (before : List (List CdpPart)) (size : ℕ) (user : List ℕ) : Type 0 where
   pub can : IsPacketLength size
   pub read : AllRead (cdp_syntax size) (lows user)
   pub accepted : AreAccepted v (handed before) (parts_of (cdp_syntax size) (lows user))
 
-open_caption : (v : Verdict CdpPart) (before : List (List CdpPart)) (did sdid size : ℕ) (user : List ℕ) → (did ≡ 0x61) × (sdid ≡ 0x01)
+pub open_caption : (v : Verdict CdpPart) (before : List (List CdpPart)) (did sdid size : ℕ) (user : List ℕ) → (did ≡ 0x61) × (sdid ≡ 0x01)
     → (front_from (caught_after v) (idle before) (part.Start did sdid size ∷ map part.User user)).refused ≡ None → IsOpenCaption v before size user
 open_caption v before did sdid size user is unrefused =
     let users = map part.User user in

@@ -10,3 +10,4 @@ pub mod LastPacketLemmas
 pub mod OffenceLemmas
 pub mod TestWords
 pub mod WordLemmas
+pub mod ReasonLemmas

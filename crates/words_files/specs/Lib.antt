@@ -4,3 +4,4 @@ pub mod Received
 pub mod Catching
 pub mod Offences
 pub mod FramesOf
+pub mod Reasons

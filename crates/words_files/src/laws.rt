@@ -2,6 +2,7 @@
 
 ghost use Rattle.std.specs.Prelude.{◌≡◌, ◌⊎◌, ◌%◌, ◌^◌, ◌<◌, ℕ, List, [], ◌++◌, All, None, Some, length, map, reverse};
 ghost use Rattle.cc_base.specs.declared.refusal.Refusal.{Refusal as Refused};
+ghost use Rattle.cc_base.specs.declared.why.Why.{Why as Reason};
 ghost use Rattle.cc_base.specs.declared.why.Why.TheVariants as why;
 ghost use Rattle.cc_base.specs.Feeding.{Verdict};
 ghost use Rattle.cc_base.specs.Steps.{AreAccepted};
@@ -13,7 +14,8 @@ ghost use Rattle.cdp_packets.specs.Packets.{Packet};
 ghost use Rattle.words_files.specs.Catching.{caught_in, never, refusal_of};
 ghost use Rattle.words_files.specs.Frames.{IsFileOf};
 ghost use Rattle.words_files.specs.FramesOf.{AreFramesOf};
-ghost use Rattle.words_files.specs.Offences.{AreWholeWords, Begins, FirstOffendingWord, IsCutShort, IsFileUnder, IsUnoffending, TakesFilling};
+ghost use Rattle.words_files.specs.Offences.{AreWholeWords, Begins, FirstOffendingWord, IsCutShort, IsFileUnder, IsUnoffending, TakesFilling, reason_of};
+ghost use Rattle.words_files.specs.Reasons.{OffendsFor, RefusesNone};
 
 /// The bytes of a words file are a file of one list of frames alone.
 pub fn files_have_one_list_of_frames()
@@ -111,4 +113,15 @@ pub fn no_layer_above_takes_all()
     ensures filling { TakesFilling never }
     ensures all { (above parts : List Part) → AreAccepted never above parts }
     ensures file { (frames : List Packet) (bytes : List ℕ) → IsFileOf frames bytes → IsFileUnder never frames bytes }
+{}
+
+/// Under a layer that refuses no part, a word behind bytes none of whose words is refused is refused for the reason for which it
+/// offends by the words of its packet; and there is one such reason.
+pub fn reasons_stand_at_their_words()
+    ensures stands { (verdict : Verdict Part) → RefusesNone verdict → (before : List ℕ) (word : ℕ) (reason : Reason)
+        → refusal_of verdict before ≡ None → reason_of verdict before word ≡ Some reason
+        → OffendsFor (open_behind anc_syntax before).words word reason }
+    ensures one { (words : List ℕ) (word : ℕ) (reason other : Reason) → OffendsFor words word reason → OffendsFor words word other
+        → reason ≡ other }
+    ensures never { RefusesNone never }
 {}

@@ -1,0 +1,346 @@
+-- The reason for which a word is refused is that for which it offends, and there is one.
+use Rattle.std.proofs.Common.{◌≡◌, ℕ, ◌%◌, ◌<◌, ◌≤◌, ◌==◌, ◌||◌, ◌⊎◌, inl, inr, not, nat_lt, if◌then◌else◌, Bool, true, false, List, [], ◌∷◌, ◌++◌, length, map, Option, Some, None, refl, ap, sym, subst, ◌∙◌, arith, append-nil}
+use Rattle.std.proofs.lemmas.List.{length-map}
+use Rattle.std.specs.List.{flat_map}
+use Rattle.cc_base.specs.declared.refusal.Refusal.{Refusal}
+use Rattle.cc_base.specs.declared.step.Step.{Step}
+use Rattle.cc_base.specs.declared.step.Step.TheVariants.{Nothing, One, Two, Refuse}
+use Rattle.cc_base.specs.declared.why.Why.{Why}
+use Rattle.cc_base.specs.declared.why.Why.TheVariants as why
+use Rattle.cc_base.specs.Feeding.{Handed, Reading, Verdict, hand, hand_first, read_first, refused_at, why_of}
+use Rattle.cc_base.specs.Steps.{AreAccepted, IsTaken, front_from, step_parts}
+use Rattle.cc_base.specs.Syntax.{AllRead, open_behind, parts_from, parts_of}
+use Rattle.cc_base.proofs.StepLemmas.{front_from-append}
+use Rattle.anc_words.specs.declared.parts.WordPart.{WordPart}
+use Rattle.anc_words.specs.declared.parts.WordPart.TheVariants as part
+use Rattle.anc_words.specs.EightBitWords.{IsEightBit}
+use Rattle.anc_words.specs.Reading.{Open, anc_syntax, is_caption, is_eight_bit, judge_ten_bits, judge_word, packet_parts as word_parts, word_syntax, words_after}
+use Rattle.anc_words.specs.Writing.{checksum_word}
+use Rattle.anc_words.specs.Words.{words_of}
+use Rattle.anc_words.proofs.ByteLemmas.{open-words_of, words_of-taken}
+use Rattle.anc_words.proofs.OffendsLemmas.{below-yes, offends-refused, refused-offends}
+use Rattle.anc_words.proofs.ReadLemmas.{is_eight_bit-true, judge_word-below}
+use Rattle.anc_words.proofs.SoundLemmas.{IsBegun, IsEightBit-passed, IsUserBehind-passed, sound, test-below}
+use Rattle.cdp_packets.specs.declared.parts.CdpPart.{CdpPart}
+use Rattle.cdp_packets.specs.Reading.{IsPacketLength, cdp_syntax, judge_cdp}
+use Rattle.cdp_packets.proofs.FillLemmas.{refused_goes_nowhere}
+use Rattle.cdp_packets.specs.Refusals.{StandsAt}
+use Rattle.cdp_packets.proofs.PlaceLemmas.{refusal_stands}
+use Rattle.cdp_packets.proofs.StandingLemmas.{StandsAt-one}
+use Rattle.words_files.specs.Catching.{Caught, OpenCaption, caption_verdict, caught_after, caught_of, ended_with, goes_on, is_packet_length, nothing_caught, reading_behind, refusal_of, unless_refused, verdict_behind}
+use Rattle.words_files.specs.Reasons.{CaptionCarries, CaptionCountIsNext, OffendsFor, RefusesNone, in_packet, as_length, as_byte}
+use Rattle.words_files.specs.Offences.{reason_of}
+use Rattle.words_files.proofs.BeginsLemmas.{parts-split}
+use Rattle.words_files.proofs.CatchingLemmas.{caught_read, foreign_users, idle, lows, open_of, opened, unrefused_first, users_caught}
+use Rattle.words_files.proofs.CaughtLemmas.{begun_by, caption_begun, captions-is, captions-no, foreign_begun, has_captions, length-true, newest_first, packets_caught, packets_kept}
+use Rattle.words_files.proofs.FinishLemmas.{body_parts, open_caption}
+
+-- under a layer that refuses no part a refused step is the reader's own
+quiet_hand : (v : Verdict CdpPart) → RefusesNone v → (above : List CdpPart) (step : Step CdpPart) (reason : Why) → (hand v above step).why ≡ Some reason → step ≡ Refuse reason
+quiet_hand v quiet above Nothing reason is = absurd cc
+quiet_hand v quiet above (One p) reason is =
+    let end : Handed CdpPart = record { parts = []; why = None } in
+    let none : (hand v above (One p)).why ≡ None = ap (λ w. (hand_first w p end).why) (quiet above p) in
+    let clash : None ≡ Some reason = sym none ∙ is in absurd cc
+quiet_hand v quiet above (Two p q) reason is =
+    let end : Handed CdpPart = record { parts = []; why = None } in
+    let none : (hand v above (Two p q)).why ≡ None =
+    ap (λ w. (hand_first w p (hand_first (v (above ++ p ∷ []) q) q end)).why) (quiet above p) ∙ ap (λ w. (hand_first w q end).why) (quiet (above ++ p ∷ []) q) in
+    let clash : None ≡ Some reason = sym none ∙ is in absurd cc
+quiet_hand v quiet above (Refuse why) reason is = cc
+
+quiet_accepts : (v : Verdict CdpPart) → RefusesNone v → (above parts : List CdpPart) → AreAccepted v above parts
+quiet_accepts v quiet above [] = tt
+quiet_accepts v quiet above (p ∷ parts) = (quiet above p, quiet_accepts v quiet (above ++ p ∷ []) parts)
+
+-- the reason of one part
+first-why : (w : Option Why) (p : WordPart) (end : Handed WordPart) → end.why ≡ None → (hand_first w p end).why ≡ w
+first-why None p end none = none
+first-why (Some why) p end none = refl
+
+-- a step that is taken or refused
+either_nothing : (verdict : Verdict WordPart) (above : List WordPart) (t : Bool) (fails reason : Why)
+    → (let s : Step WordPart = if t then Nothing else Refuse fails in (hand verdict above s).why ≡ Some reason)
+    → (let s : Step WordPart = if t then Nothing else Refuse fails in s ≡ Refuse reason)
+either_nothing verdict above true fails reason is = absurd cc
+either_nothing verdict above false fails reason is = cc
+
+either_one : (verdict : Verdict WordPart) (above : List WordPart) (t : Bool) (p : WordPart) (fails reason : Why)
+    → (let s : Step WordPart = if t then One p else Refuse fails in (hand verdict above s).why ≡ Some reason)
+    → (let s : Step WordPart = if t then One p else Refuse fails in s ≡ Refuse reason) ⊎ ((t ≡ true) × (verdict above p ≡ Some reason))
+either_one verdict above true p fails reason is =
+    let end : Handed WordPart = record { parts = []; why = None } in
+    inr (refl, sym (first-why (verdict above p) p end refl) ∙ is)
+either_one verdict above false p fails reason is = inl cc
+
+-- a word of ten bits or more
+peel : (verdict : Verdict WordPart) (above : List WordPart) (words : List ℕ) (word : ℕ) (reason : Why) (goal : Type 0)
+    → (word < 0x400 → judge_word words word ≡ judge_ten_bits words word → (hand verdict above (judge_ten_bits words word)).why ≡ Some reason → goal)
+    → (judge_word words word ≡ Refuse reason → goal) → (hand verdict above (judge_word words word)).why ≡ Some reason → goal
+peel verdict above words word reason goal taken refused is =
+    let cases : (t : Bool) → nat_lt word 0x400 ≡ t → goal = elim [
+      | true ↦ λ test.
+          let same = ap (λ (t : Bool). let s : Step WordPart = if t then judge_ten_bits words word else Refuse why.HighBits in s) test in
+          taken (test-below word 0x400 test) same (ap (λ s. (hand verdict above s).why) (sym same) ∙ is)
+      | false ↦ λ test.
+          let same = ap (λ (t : Bool). let s : Step WordPart = if t then judge_ten_bits words word else Refuse why.HighBits in s) test in
+          let high : Some why.HighBits ≡ Some reason = ap (λ s. (hand verdict above s).why) (sym same) ∙ is in
+          refused (same ∙ cc)
+    ] in cases _ refl
+
+-- behind words where no part ends
+plain : (verdict : Verdict WordPart) (above : List WordPart) (words : List ℕ) (word : ℕ) (t : Bool) (fails reason : Why)
+    → (let s : Step WordPart = if t then Nothing else Refuse fails in judge_ten_bits words word ≡ s)
+    → (hand verdict above (judge_word words word)).why ≡ Some reason → OffendsFor words word reason
+plain verdict above words word t fails reason same is =
+    peel verdict above words word reason (OffendsFor words word reason)
+    (λ small below h. in_packet reason (refused-offends words word reason
+    (below ∙ same ∙ either_nothing verdict above t fails reason (ap (λ s. (hand verdict above s).why) (sym same) ∙ h))))
+    (λ refused. in_packet reason (refused-offends words word reason refused)) is
+
+-- five words make no part
+no_parts : (t u : Bool) (fails : Why) → (let s : Step WordPart = if t then (if u then Nothing else Refuse fails) else Refuse why.HighBits in step_parts s) ≡ []
+no_parts true true fails = refl
+no_parts true false fails = refl
+no_parts false u fails = refl
+
+five_parts : (a b c d e : ℕ) → parts_from word_syntax [] (a ∷ b ∷ c ∷ d ∷ e ∷ []) ≡ []
+five_parts a b c d e =
+    ap (λ ps. ps ++ parts_from word_syntax (a ∷ []) (b ∷ c ∷ d ∷ e ∷ [])) (no_parts (nat_lt a 0x400) (a == 0x000) why.Flag)
+    ∙ ap (λ ps. ps ++ parts_from word_syntax (a ∷ b ∷ []) (c ∷ d ∷ e ∷ [])) (no_parts (nat_lt b 0x400) (b == 0x3FF) why.Flag)
+    ∙ ap (λ ps. ps ++ parts_from word_syntax (a ∷ b ∷ c ∷ []) (d ∷ e ∷ [])) (no_parts (nat_lt c 0x400) (c == 0x3FF) why.Flag)
+    ∙ ap (λ ps. ps ++ parts_from word_syntax (a ∷ b ∷ c ∷ d ∷ []) (e ∷ [])) (no_parts (nat_lt d 0x400) (is_eight_bit d) why.WordParity)
+    ∙ ap (λ ps. ps ++ []) (no_parts (nat_lt e 0x400) (is_eight_bit e) why.WordParity)
+
+-- what a part is refused for, behind others
+part_refused : (v : Verdict CdpPart) (above : List WordPart) (state : Caught) (p : WordPart) (reason : Why) → caught_of v above ≡ state
+    → caption_verdict v above p ≡ Some reason → (caught_after v state p).refused ≡ Some reason
+part_refused v above state p reason same is =
+    ap (λ (c : Caught). (caught_after v c p).refused) (sym same)
+    ∙ ap (λ (c : Caught). c.refused) (sym (front_from-append (caught_after v) nothing_caught above (p ∷ []))) ∙ is
+
+-- a count that is refused is one of captions, and no length
+length_row : (frames : List (List CdpPart)) (size : ℕ) (b fits : Bool) (reason : Why) → (begun_by frames size b fits).refused ≡ Some reason
+    → (b ≡ true) × (fits ≡ false) × (why.Length ≡ reason)
+length_row frames size true true reason is = absurd cc
+length_row frames size true false reason is = (refl, refl, cc)
+length_row frames size false fits reason is = absurd cc
+
+-- a byte that is refused
+goes-why : (w : Option Why) (o : OpenCaption) (caught : Caught) (reason : Why) → caught.refused ≡ None → (goes_on w o caught).refused ≡ Some reason → w ≡ Some reason
+goes-why None o caught reason none is = let clash : None ≡ Some reason = sym none ∙ is in absurd cc
+goes-why (Some why) o caught reason none is = is
+
+one-why : (w : Option Why) (place : ℕ) (parts : List CdpPart) (end : Reading CdpPart) → end.refusal ≡ None → why_of (read_first (refused_at place w) parts end).refusal ≡ w
+one-why None place parts end none = ap why_of none
+one-why (Some why) place parts end none = refl
+
+byte_refused : (v : Verdict CdpPart) → RefusesNone v → (frames : List (List CdpPart)) (size : ℕ) (bytes : List ℕ) (parts : List CdpPart) (word : ℕ) (reason : Why)
+    → (caught_after v (opened frames (open_of size bytes parts)) (part.User word)).refused ≡ Some reason
+    → judge_cdp size (open_behind (cdp_syntax size) bytes) (word % 256) ≡ Refuse reason
+byte_refused v quiet frames size bytes parts word reason is =
+    let o = open_of size bytes parts in
+    let step = judge_cdp size (open_behind (cdp_syntax size) bytes) (word % 256) in
+    let read = reading_behind v frames o (word % 256) in
+    let above = verdict_behind v frames in
+    let refused = goes-why (why_of read.refusal) _ (opened frames o) reason refl is in
+    let end : Reading CdpPart = record { parts = []; refusal = None } in
+    let why_is : (hand above parts step).why ≡ Some reason = sym (one-why (hand above parts step).why _ (hand above parts step).parts end refl) ∙ refused in
+    quiet_hand above (λ others p. quiet _ p) parts step reason why_is
+
+-- the end of a packet is refused for nothing
+end_unrefused : (v : Verdict CdpPart) (caught : Caught) → caught.refused ≡ None → (caught_after v caught part.End).refused ≡ None
+end_unrefused v caught none =
+    let inside : (o : Option OpenCaption) → (ended_with o caught).refused ≡ caught.refused = elim [ None ↦ refl | Some open_one ↦ refl ] in
+    ap (λ w. (unless_refused v w part.End caught).refused) none ∙ inside caught.open_caption ∙ none
+
+-- a user word, or the checksum word
+body_stands : (v : Verdict CdpPart) → RefusesNone v → (frames : List (List CdpPart)) (above : List WordPart) (a b c did sdid count : ℕ) (user : List ℕ)
+    → caught_of v above ≡ front_from (caught_after v) (idle frames) (part.Start (did % 256) (sdid % 256) (count % 256) ∷ map part.User user)
+    → (caught_of v above).refused ≡ None → (word : ℕ) (reason : Why)
+    → (hand (caption_verdict v) above (judge_word (a ∷ b ∷ c ∷ did ∷ sdid ∷ count ∷ user) word)).why ≡ Some reason
+    → OffendsFor (a ∷ b ∷ c ∷ did ∷ sdid ∷ count ∷ user) word reason
+body_stands v quiet frames above a b c did sdid count user state none word reason is =
+    let words = a ∷ b ∷ c ∷ did ∷ sdid ∷ count ∷ user in
+    let size = count % 256 in
+    let goal = OffendsFor words word reason in
+    let verdict = caption_verdict v in
+    let free = is_eight_bit word || not (is_caption did sdid) in
+    let in_user : Step WordPart = if free then One (part.User word) else Refuse why.WordParity in
+    let sum = word == checksum_word (did ∷ sdid ∷ count ∷ user) in
+    let at_end : Step WordPart = if sum then One part.End else Refuse why.AncSum in
+    let here : judge_word words word ≡ Refuse reason → goal = λ refused. in_packet reason (refused-offends words word reason refused) in
+    let user_refused : word < 0x400 → nat_lt (length user) size ≡ true → free ≡ true → verdict above (part.User word) ≡ Some reason → goal = λ small more passes said.
+    let captions : (t : Bool) → has_captions (did % 256) (sdid % 256) ≡ t → goal = elim [
+      | true ↦ λ test.
+          let ids = captions-is (did % 256) (sdid % 256) test in
+          let kept = open_caption v frames (did % 256) (sdid % 256) size user ids (ap (λ (x : Caught). x.refused) (sym state) ∙ none) in
+          let bytes = lows user in
+          let parts = parts_of (cdp_syntax size) bytes in
+          let begun = ap (λ (x : Caught). front_from (caught_after v) x (map part.User user)) (caption_begun v frames (did % 256) (sdid % 256) size ids kept.can)
+          ∙ users_caught v frames size [] [] user kept.read (quiet_accepts (verdict_behind v frames) (λ others p. quiet _ p) [] parts) in
+          let refused = byte_refused v quiet frames size bytes parts word reason (part_refused v above (opened frames (open_of size bytes parts)) (part.User word) reason (state ∙ begun) said) in
+          let below = test-below (length user) size more in
+          let long : length bytes ≡ length user = length-map user (λ w. w % 256) in
+          as_byte reason size bytes (ids.0, ids.1, refl, refl, below) kept.can
+          ((IsUserBehind-passed did sdid word small passes).caption ids.0 ids.1)
+          (λ rest frame is_frame whole. refused_goes_nowhere size bytes (word % 256) reason rest frame refused is_frame whole)
+          (refusal_stands size bytes (word % 256) reason kept.can (omega (arith, below, long)) kept.read refused)
+      | false ↦ λ test.
+          let other = captions-no (did % 256) (sdid % 256) test in
+          let stays = ap (λ (x : Caught). front_from (caught_after v) x (map part.User user)) (foreign_begun v frames (did % 256) (sdid % 256) size other)
+          ∙ foreign_users v frames user in
+          let refused : None ≡ Some reason = part_refused v above (idle frames) (part.User word) reason (state ∙ stays) said in
+          absurd cc
+    ] in captions _ refl in
+    peel verdict above words word reason goal
+    (λ small below h.
+    let cases : (t : Bool) → nat_lt (length user) size ≡ t → goal = elim [
+      | true ↦ λ more.
+          let same : judge_ten_bits words word ≡ in_user = ap (λ (t : Bool). let s : Step WordPart = if t then in_user else at_end in s) more in
+          elim (either_one verdict above free (part.User word) why.WordParity reason (ap (λ s. (hand verdict above s).why) (sym same) ∙ h)) [
+            | inl refused ↦ here (below ∙ same ∙ refused)
+            | inr (passes, said) ↦ user_refused small more passes said
+          ]
+      | false ↦ λ full.
+          let same : judge_ten_bits words word ≡ at_end = ap (λ (t : Bool). let s : Step WordPart = if t then in_user else at_end in s) full in
+          elim (either_one verdict above sum part.End why.AncSum reason (ap (λ s. (hand verdict above s).why) (sym same) ∙ h)) [
+            | inl refused ↦ here (below ∙ same ∙ refused)
+            | inr (right, said) ↦
+                let refused = part_refused v above (caught_of v above) part.End reason refl said in
+                let clash : None ≡ Some reason = sym (end_unrefused v (caught_of v above) none) ∙ refused in
+                absurd cc
+          ]
+    ] in cases _ refl) here is
+
+-- the count of a packet
+count_stands : (v : Verdict CdpPart) (frames : List (List CdpPart)) (above : List WordPart) (a b c did sdid : ℕ) → caught_of v above ≡ idle frames
+    → (word : ℕ) (reason : Why) → (hand (caption_verdict v) above (judge_word (a ∷ b ∷ c ∷ did ∷ sdid ∷ []) word)).why ≡ Some reason
+    → OffendsFor (a ∷ b ∷ c ∷ did ∷ sdid ∷ []) word reason
+count_stands v frames above a b c did sdid state word reason is =
+    let words = a ∷ b ∷ c ∷ did ∷ sdid ∷ [] in
+    let size = word % 256 in
+    let goal = OffendsFor words word reason in
+    let start = part.Start (did % 256) (sdid % 256) size in
+    let here : judge_word words word ≡ Refuse reason → goal = λ refused. in_packet reason (refused-offends words word reason refused) in
+    peel (caption_verdict v) above words word reason goal
+    (λ small below h. elim (either_one (caption_verdict v) above (is_eight_bit word) start why.WordParity reason h) [
+      | inl refused ↦ here (below ∙ refused)
+      | inr (passes, said) ↦
+          let refused = part_refused v above (idle frames) start reason state said in
+          let (captions, lacks, same) = length_row frames size (has_captions (did % 256) (sdid % 256)) (is_packet_length size) reason refused in
+          let none : IsPacketLength size → ⊥ = λ can. (let clash : true ≡ false = sym (length-true size can) ∙ lacks in absurd cc) in
+          subst (OffendsFor words word) same (as_length (captions-is (did % 256) (sdid % 256) captions) (IsEightBit-passed word passes) none)
+    ]) here is
+
+-- behind the words of an open packet
+pub reason_stands : (v : Verdict CdpPart) → RefusesNone v → (frames : List (List CdpPart)) (above : List WordPart) (words : List ℕ) → IsBegun words
+    → caught_of v above ≡ front_from (caught_after v) (idle frames) (parts_from word_syntax [] words) → (caught_of v above).refused ≡ None
+    → (word : ℕ) (reason : Why) → (hand (caption_verdict v) above (judge_word words word)).why ≡ Some reason → OffendsFor words word reason
+reason_stands v quiet frames above [] begun state none word reason is = plain (caption_verdict v) above [] word (word == 0x000) why.Flag reason refl is
+reason_stands v quiet frames above (a ∷ []) begun state none word reason is = plain (caption_verdict v) above (a ∷ []) word (word == 0x3FF) why.Flag reason refl is
+reason_stands v quiet frames above (a ∷ b ∷ []) begun state none word reason is =
+    plain (caption_verdict v) above (a ∷ b ∷ []) word (word == 0x3FF) why.Flag reason refl is
+reason_stands v quiet frames above (a ∷ b ∷ c ∷ []) begun state none word reason is =
+    plain (caption_verdict v) above (a ∷ b ∷ c ∷ []) word (is_eight_bit word) why.WordParity reason refl is
+reason_stands v quiet frames above (a ∷ b ∷ c ∷ did ∷ []) begun state none word reason is =
+    plain (caption_verdict v) above (a ∷ b ∷ c ∷ did ∷ []) word (is_eight_bit word) why.WordParity reason refl is
+reason_stands v quiet frames above (a ∷ b ∷ c ∷ did ∷ sdid ∷ []) begun state none word reason is =
+    count_stands v frames above a b c did sdid
+    (state ∙ ap (λ ps. front_from (caught_after v) (idle frames) ps) (five_parts a b c did sdid)) word reason is
+reason_stands v quiet frames above (a ∷ b ∷ c ∷ did ∷ sdid ∷ count ∷ user) begun state none word reason is =
+    body_stands v quiet frames above a b c did sdid count user
+    (state ∙ ap (λ ps. front_from (caught_after v) (idle frames) ps) (body_parts a b c did sdid count user begun)) none word reason is
+
+-- behind bytes none of whose words is refused
+pub reason_offends : (v : Verdict CdpPart) → RefusesNone v → (before : List ℕ) (word : ℕ) (reason : Why) → refusal_of v before ≡ None
+    → reason_of v before word ≡ Some reason → OffendsFor (open_behind anc_syntax before).words word reason
+reason_offends v quiet before word reason none is =
+    let (read, kept_all) = caught_read v before none in
+    let behind = front_from words_after [] (words_of before) in
+    let splits = sound (words_of before) (words_of-taken [] before read) in
+    let parts = flat_map word_parts splits.packets in
+    let open_parts = parts_from word_syntax [] behind in
+    let all_parts = parts-split before splits.whole behind splits.packets splits.spelled splits.are in
+    let all = ap (λ ps. (caught_of v ps).refused) (sym all_parts) ∙ kept_all in
+    let kept = packets_kept v [] splits.packets (unrefused_first v (idle []) parts open_parts all) in
+    let state : front_from (caught_after v) (idle []) parts ≡ idle (newest_first kept.frames) =
+    packets_caught v [] splits.packets kept.frames kept.carried kept.accepted ∙ ap idle (append-nil (newest_first kept.frames)) in
+    let whole : caught_of v (parts_of anc_syntax before) ≡ front_from (caught_after v) (idle (newest_first kept.frames)) open_parts =
+    ap (caught_of v) all_parts ∙ front_from-append (caught_after v) (idle []) parts open_parts
+    ∙ ap (λ (c : Caught). front_from (caught_after v) c open_parts) state in
+    let open_is : (open_behind anc_syntax before).words ≡ behind = ap (λ (o : Open). o.words) (open-words_of [] before) in
+    subst (λ ws. OffendsFor ws word reason) (sym open_is)
+    (reason_stands v quiet (newest_first kept.frames) (parts_of anc_syntax before) behind splits.begun whole kept_all word reason
+    (ap (λ ws. (hand (caption_verdict v) (parts_of anc_syntax before) (judge_word ws word)).why) (sym open_is) ∙ is))
+
+-- an 8-bit word is no offence as the count, or as a user word, of captions
+count_taken : (words : List ℕ) (word : ℕ) → CaptionCountIsNext words → IsEightBit (word % 256) word → IsTaken (judge_word words word)
+count_taken [] word next is = absurd next
+count_taken (a ∷ []) word next is = absurd next
+count_taken (a ∷ b ∷ []) word next is = absurd next
+count_taken (a ∷ b ∷ c ∷ []) word next is = absurd next
+count_taken (a ∷ b ∷ c ∷ did ∷ []) word next is = absurd next
+count_taken (a ∷ b ∷ c ∷ did ∷ sdid ∷ []) word next is =
+    let step : Step WordPart = One (part.Start (did % 256) (sdid % 256) (word % 256)) in
+    let judged : judge_word (a ∷ b ∷ c ∷ did ∷ sdid ∷ []) word ≡ step = judge_word-below (a ∷ b ∷ c ∷ did ∷ sdid ∷ []) word is.ten_bits
+    ∙ ap (λ (t : Bool). let s : Step WordPart = if t then step else Refuse why.WordParity in s) (is_eight_bit-true word is) in
+    subst IsTaken (sym judged) tt
+count_taken (a ∷ b ∷ c ∷ did ∷ sdid ∷ count ∷ user) word next is = absurd next
+
+user_taken : (words : List ℕ) (word size : ℕ) (bytes : List ℕ) → CaptionCarries words size bytes → IsEightBit (word % 256) word → IsTaken (judge_word words word)
+user_taken [] word size bytes carries is = absurd carries
+user_taken (a ∷ []) word size bytes carries is = absurd carries
+user_taken (a ∷ b ∷ []) word size bytes carries is = absurd carries
+user_taken (a ∷ b ∷ c ∷ []) word size bytes carries is = absurd carries
+user_taken (a ∷ b ∷ c ∷ did ∷ []) word size bytes carries is = absurd carries
+user_taken (a ∷ b ∷ c ∷ did ∷ sdid ∷ []) word size bytes carries is = absurd carries
+user_taken (a ∷ b ∷ c ∷ did ∷ sdid ∷ count ∷ user) word size bytes carries is =
+    let more : nat_lt (length user) (count % 256) ≡ true = below-yes (length user) (count % 256) (omega (arith, carries.2, carries.4)) in
+    let step : Step WordPart = One (part.User word) in
+    let at_end : Step WordPart = if word == checksum_word (did ∷ sdid ∷ count ∷ user) then One part.End else Refuse why.AncSum in
+    let judged : judge_word (a ∷ b ∷ c ∷ did ∷ sdid ∷ count ∷ user) word ≡ step =
+    judge_word-below (a ∷ b ∷ c ∷ did ∷ sdid ∷ count ∷ user) word is.ten_bits
+    ∙ ap (λ (t : Bool). let s : Step WordPart = if t then (if is_eight_bit word || not (is_caption did sdid) then step else Refuse why.WordParity) else at_end in s) more
+    ∙ ap (λ (t : Bool). let s : Step WordPart = if t || not (is_caption did sdid) then step else Refuse why.WordParity in s) (is_eight_bit-true word is) in
+    subst IsTaken (sym judged) tt
+
+-- the count of captions isn't a user word
+count_or_user : (words : List ℕ) (size : ℕ) (bytes : List ℕ) → CaptionCountIsNext words → CaptionCarries words size bytes → ⊥
+count_or_user [] size bytes next carries = next
+count_or_user (a ∷ []) size bytes next carries = next
+count_or_user (a ∷ b ∷ []) size bytes next carries = next
+count_or_user (a ∷ b ∷ c ∷ []) size bytes next carries = next
+count_or_user (a ∷ b ∷ c ∷ did ∷ []) size bytes next carries = next
+count_or_user (a ∷ b ∷ c ∷ did ∷ sdid ∷ []) size bytes next carries = carries
+count_or_user (a ∷ b ∷ c ∷ did ∷ sdid ∷ count ∷ user) size bytes next carries = next
+
+-- words carry the bytes of one packet
+carries_one : (words : List ℕ) (size other : ℕ) (bytes others : List ℕ) → CaptionCarries words size bytes → CaptionCarries words other others
+    → (other ≡ size) × (others ≡ bytes)
+carries_one [] size other bytes others one two = absurd one
+carries_one (a ∷ []) size other bytes others one two = absurd one
+carries_one (a ∷ b ∷ []) size other bytes others one two = absurd one
+carries_one (a ∷ b ∷ c ∷ []) size other bytes others one two = absurd one
+carries_one (a ∷ b ∷ c ∷ did ∷ []) size other bytes others one two = absurd one
+carries_one (a ∷ b ∷ c ∷ did ∷ sdid ∷ []) size other bytes others one two = absurd one
+carries_one (a ∷ b ∷ c ∷ did ∷ sdid ∷ count ∷ user) size other bytes others one two = (two.2 ∙ sym one.2, two.3 ∙ sym one.3)
+
+-- a word offends for one reason
+pub offends_for_one : (words : List ℕ) (word : ℕ) (reason other : Why) → OffendsFor words word reason → OffendsFor words word other → reason ≡ other
+offends_for_one words word _ _ (in_packet reason is) (in_packet other also) =
+    let same : (let s : Step WordPart = Refuse reason in s) ≡ Refuse other = sym (offends-refused words word reason is) ∙ offends-refused words word other also in cc
+offends_for_one words word _ _ (in_packet reason is) (as_length next eight none) =
+    absurd (subst IsTaken (offends-refused words word reason is) (count_taken words word next eight))
+offends_for_one words word _ _ (in_packet reason is) (as_byte other size bytes carries can eight nowhere stands) =
+    absurd (subst IsTaken (offends-refused words word reason is) (user_taken words word size bytes carries eight))
+offends_for_one words word _ _ (as_length next eight none) (in_packet other also) =
+    absurd (subst IsTaken (offends-refused words word other also) (count_taken words word next eight))
+offends_for_one words word _ _ (as_length next eight none) (as_length also too no_length) = refl
+offends_for_one words word _ _ (as_length next eight none) (as_byte other size bytes carries can too nowhere stands) = absurd (count_or_user words size bytes next carries)
+offends_for_one words word _ _ (as_byte reason size bytes carries can eight nowhere stands) (in_packet other also) =
+    absurd (subst IsTaken (offends-refused words word other also) (user_taken words word size bytes carries eight))
+offends_for_one words word _ _ (as_byte reason size bytes carries can eight nowhere stands) (as_length next too none) = absurd (count_or_user words size bytes next carries)
+offends_for_one words word _ _ (as_byte reason size bytes carries can eight nowhere stands) (as_byte other long others also fits too no_packet at) =
+    let (sizes, same) = carries_one words size long bytes others carries also in
+    StandsAt-one size bytes reason other can stands (subst (λ n. StandsAt n bytes other) sizes (subst (λ bs. StandsAt long bs other) same at))
