@@ -1,0 +1,11 @@
+pub mod ReadLemmas
+pub mod WriteLemmas
+pub mod Complete
+pub mod Sound
+pub mod Timed
+pub mod Stays
+pub mod Replay
+pub mod Origins
+pub mod First
+pub mod AnswerLemmas
+pub mod RoundTrip

@@ -1,0 +1,37 @@
+-- Pieces that are put of a pair.
+use Rattle.std.proofs.Common.{◌≡◌, ℕ, ◌+◌, Bool, true, false, cond, refl, sym, ◌∙◌, ap, List, [], ◌∷◌, ◌++◌, Option, Some, None, nat_eq}
+use Rattle.line21_codes.specs.declared.pairs.Pair.{Pair}
+use Rattle.time_codes.specs.Frames.{time_at}
+use Rattle.time_codes.specs.Texts.{text_of}
+use Rattle.scc_files.specs.Words.{is_null, word_of}
+use Rattle.scc_files.specs.Writing.{Standing, between, goes_on, piece_of}
+
+pub chosen : (null on : Bool) (a b c : List ℕ) → null ≡ false → on ≡ false → c ≡ cond null a (cond on b c)
+chosen true on a b c is off = absurd (cc)
+chosen false true a b c is off = absurd (cc)
+chosen false false a b c is off = refl
+
+-- the first pair of a stretch
+pub piece_is : (w : Standing) (frame : ℕ) (pair : Pair) (text word : List ℕ) → is_null pair ≡ false → goes_on w.behind frame ≡ false
+    → text ≡ text_of (time_at (w.start + frame) w.drop_frame) → word ≡ word_of pair
+    → between w.behind ++ (text ++ (9 ∷ (word ++ []))) ≡ piece_of w frame pair
+piece_is w frame pair text word shown apart time spelled =
+    let whole : between w.behind ++ (text ++ (9 ∷ (word ++ []))) ≡ between w.behind ++ (text_of (time_at (w.start + frame) w.drop_frame) ++ (9 ∷ word_of pair)) =
+          ap (λ t. between w.behind ++ (t ++ (9 ∷ (word ++ [])))) time
+          ∙ ap (λ u. between w.behind ++ (text_of (time_at (w.start + frame) w.drop_frame) ++ (9 ∷ (u ++ [])))) spelled in
+    whole ∙ chosen (is_null pair) (goes_on w.behind frame) [] (32 ∷ word_of pair)
+      (between w.behind ++ (text_of (time_at (w.start + frame) w.drop_frame) ++ (9 ∷ word_of pair))) shown apart
+
+pub first_piece : (w : Standing) (frame : ℕ) (pair : Pair) (text word : List ℕ) → is_null pair ≡ false → w.behind ≡ None
+    → text ≡ text_of (time_at (w.start + frame) w.drop_frame) → word ≡ word_of pair → text ++ (9 ∷ (word ++ [])) ≡ piece_of w frame pair
+first_piece w frame pair text word shown none time spelled =
+    let apart : goes_on w.behind frame ≡ false = ap (λ b. goes_on b frame) none in
+    sym (ap (λ b. between b ++ (text ++ (9 ∷ (word ++ [])))) none) ∙ piece_is w frame pair text word shown apart time spelled
+
+pub next_piece : (w : Standing) (frame behind : ℕ) (pair : Pair) (text word : List ℕ) → is_null pair ≡ false → w.behind ≡ Some behind
+    → nat_eq behind frame ≡ false
+    → text ≡ text_of (time_at (w.start + frame) w.drop_frame) → word ≡ word_of pair
+    → 10 ∷ 10 ∷ (text ++ (9 ∷ (word ++ []))) ≡ piece_of w frame pair
+next_piece w frame behind pair text word shown some other time spelled =
+    let apart : goes_on w.behind frame ≡ false = ap (λ b. goes_on b frame) some ∙ other in
+    sym (ap (λ b. between b ++ (text ++ (9 ∷ (word ++ [])))) some) ∙ piece_is w frame pair text word shown apart time spelled

@@ -1,0 +1,106 @@
+-- The form of SCC files byte by byte: where bytes read so far have ended, what a byte leads to there, and where a file may end.
+use Rattle.std.specs.Prelude.{◌≡◌, ℕ, ◌+◌, ◌-◌, ◌*◌, ◌<◌, ◌≤◌, ◌==◌, ◌&&◌, ◌||◌, Bool, true, false, if◌then◌else◌, nat_le, List, [], ◌∷◌, length, codes, slice_index, slice_set, Option, Some, None, ⊤}
+use Rattle.std.specs.Option.{option_map}
+use Rattle.cc_base.specs.declared.why.Why.{Why}
+use Rattle.cc_base.specs.declared.why.Why.TheVariants as why
+use Rattle.line21_codes.specs.declared.pairs.Pair.{Pair}
+use Rattle.scc_files.specs.declared.phase.Phase.{Phase}
+use Rattle.scc_files.specs.declared.phase.Phase.TheVariants as phase
+
+-- the text of the first line
+abbrev pub first_text : List ℕ
+first_text = codes "Scenarist_SCC V1.0"
+
+-- the value of a hex digit of either case
+abbrev pub hex_value : ℕ → Option ℕ
+hex_value byte =
+    if nat_le 48 byte && nat_le byte 57 then Some (byte - 48)
+    else if nat_le 65 byte && nat_le byte 70 then Some (byte - 65 + 10)
+    else if nat_le 97 byte && nat_le byte 102 then Some (byte - 97 + 10)
+    else None
+
+-- a decimal digit
+abbrev pub is_digit : ℕ → Bool
+is_digit byte = nat_le 48 byte && nat_le byte 57
+
+-- a TAB or a space
+abbrev pub is_blank : ℕ → Bool
+is_blank byte = (byte == 9) || (byte == 32)
+
+-- a byte may stand at a place of a time code's text
+abbrev pub fits : ℕ → ℕ → Bool
+fits at byte =
+    if (at == 2) || (at == 5) then byte == 58
+    else if at == 8 then (byte == 58) || (byte == 59)
+    else is_digit byte
+
+-- the numbers that a phase holds are within their ranges
+abbrev pub IsWithin : Phase → Type 0
+IsWithin (phase.First at) = at < 18
+IsWithin (phase.Text at text) = at < 11
+IsWithin (phase.One value) = value < 16
+IsWithin (phase.Three first value) = value < 16
+IsWithin _ = ⊤
+
+-- a line's end, or its CR
+abbrev pub ended : ℕ → Option Phase
+ended byte = if byte == 10 then Some phase.Start else if byte == 13 then Some phase.End else None
+
+-- within the first line's text
+abbrev pub first_text_moved : ℕ → ℕ → Option Phase
+first_text_moved at byte =
+    if byte == slice_index first_text at then (if at == 17 then Some phase.FirstSpaces else Some (phase.First (at + 1))) else None
+
+-- at the start of a line
+abbrev pub started : ℕ → Option Phase
+started byte =
+    if is_digit byte then Some (phase.Text 1 (byte ∷ 0 ∷ 0 ∷ 0 ∷ 0 ∷ 0 ∷ 0 ∷ 0 ∷ 0 ∷ 0 ∷ 0 ∷ []))
+    else if byte == 32 then Some phase.Blank
+    else ended byte
+
+-- within a time code's text
+abbrev pub text_moved : ℕ → List ℕ → ℕ → Option Phase
+text_moved at text byte =
+    if fits at byte
+    then (if at == 10 then Some (phase.Timed (slice_set text at byte)) else Some (phase.Text (at + 1) (slice_set text at byte)))
+    else None
+
+-- behind spaces that follow a word: a further word, or the line's end
+abbrev pub word_or_end : ℕ → Option ℕ → Option Phase
+word_or_end byte None = ended byte
+word_or_end byte (Some value) = Some (phase.One value)
+
+-- what a byte leads to, if some line goes on with it
+abbrev pub moved : Phase → ℕ → Option Phase
+moved (phase.First at) byte = first_text_moved at byte
+moved phase.FirstSpaces byte =
+    if byte == 32 then Some phase.FirstSpaces else if byte == 10 then Some phase.Start else if byte == 13 then Some phase.FirstEnd else None
+moved phase.FirstEnd byte = if byte == 10 then Some phase.Start else None
+moved phase.Start byte = started byte
+moved phase.Blank byte = if byte == 32 then Some phase.Blank else ended byte
+moved phase.End byte = if byte == 10 then Some phase.Start else None
+moved (phase.Text at text) byte = text_moved at text byte
+moved (phase.Timed text) byte = if is_blank byte then Some phase.Gap else None
+moved phase.Gap byte = if is_blank byte then Some phase.Gap else option_map (λ value. phase.One value) (hex_value byte)
+moved (phase.One value) byte = option_map (λ low. phase.Two (16 * value + low)) (hex_value byte)
+moved (phase.Two first) byte = option_map (λ value. phase.Three first value) (hex_value byte)
+moved (phase.Three first value) byte =
+    option_map (λ low. phase.Whole (record { a = first; b = 16 * value + low })) (hex_value byte)
+moved (phase.Whole pair) byte = if byte == 32 then Some phase.Between else ended byte
+moved phase.Between byte = if byte == 32 then Some phase.Between else word_or_end byte (hex_value byte)
+
+-- a file may end here
+abbrev pub may_end : Phase → Bool
+may_end phase.FirstSpaces = true
+may_end phase.Start = true
+may_end phase.Blank = true
+may_end (phase.Whole pair) = true
+may_end phase.Between = true
+may_end _ = false
+
+-- the reason where no line goes on
+abbrev pub why_in : Phase → Why
+why_in (phase.First at) = why.Header
+why_in phase.FirstSpaces = why.Header
+why_in phase.FirstEnd = why.Header
+why_in _ = why.SccSyntax

@@ -1,0 +1,84 @@
+-- How pairs are written as an SCC file, call by call.
+use Rattle.std.specs.Prelude.{◌≡◌, ℕ, ◌+◌, ◌-◌, ◌/◌, ◌%◌, ◌<◌, ◌==◌, ◌&&◌, Bool, true, false, not, if◌then◌else◌, nat_lt, nat_le, List, [], ◌∷◌, ◌++◌, codes, Option, Some, None, is_some, Result, Ok, Err}
+use Rattle.cc_base.specs.Streams.{PutCause, Puts}
+use Rattle.cc_base.specs.declared.streams.Put.{Put}
+use Rattle.cc_base.specs.declared.streams.Put.TheVariants as put
+use Rattle.line21_codes.specs.declared.pairs.Pair.{Pair}
+use Rattle.time_codes.specs.Frames.{frame_of, time_at}
+use Rattle.time_codes.specs.Texts.{text_of}
+use Rattle.time_codes.specs.TimeCodes.{day_frames}
+use Rattle.time_codes.specs.declared.time_code.TimeCode.{TimeCode}
+use Rattle.scc_files.specs.Words.{is_null, word_of}
+use Rattle.scc_files.specs.declared.writer.SccPut.{SccPut}
+use Rattle.scc_files.specs.declared.writer.SccPut.TheVariants as scc_put
+use Rattle.scc_files.specs.declared.writer.SccWriter.{SccWriter}
+
+-- the first line and an empty one
+abbrev pub head_text : List ℕ
+head_text = codes "Scenarist_SCC V1.0\n\n"
+
+-- where a writer stands: the frame of the day of frame 0, whether its day counts with drop frame, and the frame behind the last pair
+-- that was put
+pub record Standing : Type 0 where
+  pub start : ℕ
+  pub drop_frame : Bool
+  pub behind : Option ℕ
+
+abbrev pub standing_of : SccWriter → Standing
+standing_of w = record { start = w.start; drop_frame = w.drop_frame; behind = w.behind }
+
+-- the pair isn't null and stands at or past the end of the start's day
+abbrev pub is_past_day : Standing → ℕ → Pair → Bool
+is_past_day w frame pair = not (is_null pair) && nat_le (day_frames w.drop_frame) (w.start + frame)
+
+-- what stands between the stretch before and a new one
+abbrev pub between : Option ℕ → List ℕ
+between None = []
+between (Some behind) = 10 ∷ 10 ∷ []
+
+-- a pair on the frame behind the last one goes on with its stretch
+abbrev pub goes_on : Option ℕ → ℕ → Bool
+goes_on None frame = false
+goes_on (Some behind) frame = behind == frame
+
+-- what is put of a pair: nothing of a null pair; a space and the word where its stretch goes on; else the end of the stretch before,
+-- the time code, a TAB and the word
+abbrev pub piece_of : Standing → ℕ → Pair → List ℕ
+piece_of w frame pair =
+    if is_null pair then []
+    else if goes_on w.behind frame then 32 ∷ word_of pair
+    else between w.behind ++ (text_of (time_at (w.start + frame) w.drop_frame) ++ (9 ∷ word_of pair))
+
+-- where a writer stands behind a pair
+abbrev pub stand_behind : Standing → ℕ → Pair → Standing
+stand_behind w frame pair = if is_null pair then w else record w { behind = Some (frame + 1) }
+
+-- a piece was put, or a front of it where the sink failed
+abbrev pub PutsPiece : Option (List ℕ) → Option (List ℕ) → ℕ → ℕ → Put → List ℕ → Type 0
+PutsPiece old new before now answer piece = Puts old new answer piece × PutCause before now answer
+
+-- a writer begins
+abbrev pub BeginsWriting : TimeCode → Option (List ℕ) → Option (List ℕ) → ℕ → ℕ → Result SccWriter SccPut → Type 0
+BeginsWriting start old new before now (Ok w) =
+    PutsPiece old new before now put.Done head_text × (frame_of start ≡ Ok w.start) × (w.drop_frame ≡ start.drop_frame) × (w.behind ≡ None)
+BeginsWriting start old new before now (Err scc_put.Fault) = PutsPiece old new before now put.Failed head_text
+BeginsWriting start old new before now (Err scc_put.Day) = ⊥
+
+-- it writes a pair
+abbrev pub WritesPair : Standing → Standing → ℕ → Pair → Option (List ℕ) → Option (List ℕ) → ℕ → ℕ → Result (Unit {0}) SccPut → Type 0
+WritesPair w v frame pair old new before now (Ok _) =
+    (is_past_day w frame pair ≡ false) × PutsPiece old new before now put.Done (piece_of w frame pair) × (v ≡ stand_behind w frame pair)
+WritesPair w v frame pair old new before now (Err scc_put.Fault) =
+    (is_past_day w frame pair ≡ false) × PutsPiece old new before now put.Failed (piece_of w frame pair)
+WritesPair w v frame pair old new before now (Err scc_put.Day) = (is_past_day w frame pair ≡ true) × (new ≡ old) × (now ≡ before) × (v ≡ w)
+
+-- what ends a file
+abbrev pub end_text : Option ℕ → List ℕ
+end_text None = []
+end_text (Some behind) = 10 ∷ 10 ∷ []
+
+-- it ends the file
+abbrev pub FinishesWriting : Standing → Option (List ℕ) → Option (List ℕ) → ℕ → ℕ → Result (Unit {0}) SccPut → Type 0
+FinishesWriting w old new before now (Ok _) = PutsPiece old new before now put.Done (end_text w.behind)
+FinishesWriting w old new before now (Err scc_put.Fault) = PutsPiece old new before now put.Failed (end_text w.behind)
+FinishesWriting w old new before now (Err scc_put.Day) = ⊥

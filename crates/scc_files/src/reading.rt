@@ -1,0 +1,105 @@
+ghost use Rattle.std.specs.Prelude.{◌+◌, ◌-◌, ◌≤◌, ◌<◌, ◌^◌, IfOk, length, max};
+ghost use Rattle.scc_files.specs.Phases.{IsWithin};
+ghost use Rattle.scc_files.specs.Gathering.{Gathers};
+ghost use Rattle.scc_files.specs.Offences.{FileAnswers};
+ghost use Rattle.scc_files.specs.Reading.{Answers, read_file};
+
+use crate::fault::SccFault;
+use crate::pairs::SccPairs;
+use crate::reader::{Offence, Reader};
+use cc_base::{LimitOf, Refusal};
+use std::alloc::{AllocError, Global};
+
+/// The most frames of an import.
+const MOST_FRAMES: u32 = 2_592_000;
+
+/// What was read so far.
+#[derive(Drop)]
+pub struct Gathered {
+    /// Where the bytes have ended.
+    pub reader: Reader,
+    /// Their pairs.
+    pub pairs: SccPairs,
+    /// How many frames the pairs take.
+    pub frames: u32,
+}
+
+/// Why reading stops.
+#[derive(Drop)]
+pub enum Stop {
+    /// There was no memory for a pair.
+    Memory(AllocError),
+    /// A byte offends.
+    Offends(Offence),
+}
+
+impl Gathered {
+    /// Takes a byte.
+    fn take(&mut self, byte: u8) -> Result<(), Stop>
+        requires within { IsWithin self.old.reader.phase }
+        requires room { self.old.reader.position.next < 2 ^ 32 - 1 }
+        ensures gathers { Gathers self.old self.new byte result }
+        ensures within { IfOk result (λ _. IsWithin self.new.reader.phase) }
+        ensures next { IfOk result (λ _. self.new.reader.position.next ≤ max 2592000 (self.old.reader.position.next + 1)) }
+    {
+        match self.reader.step(byte) {
+            Ok(None) => Ok(()),
+            Ok(Some(placed)) => {
+                if let Err(error) = self.pairs.push(placed) {
+                    return Err(Stop::Memory(error));
+                }
+                self.frames = self.reader.position.next;
+                Ok(())
+            }
+            Err(offence) => Err(Stop::Offends(offence)),
+        }
+    }
+}
+
+/// Reads an SCC file of at most 67,108,864 bytes: its pairs with their parity bits as they are, each at its frame counted from the
+/// first line's time code. One pass over the bytes; the only memory taken is for the pairs.
+///
+/// Malformed comes exactly where the bytes are no SCC file, with the place and the reason of their first offence: Header at the first
+/// byte that no first line has, SccSyntax at the first byte that no line goes on with, both at the number of bytes where the file
+/// ends too soon; NoSuchTime and Backwards at the first byte of a time code's text, which is judged when it is whole. Limit (Frames)
+/// comes exactly where the bytes are an SCC file of more than 2,592,000 frames.
+pub fn read_scc(alloc: Global, bytes: &[u8]) -> Result<SccPairs, SccFault>
+    requires { length bytes.now ≤ 67108864 }
+    ensures answers { Answers (read_file bytes.now) result }
+    ensures file { FileAnswers bytes.now result }
+{
+    read_bytes(alloc, bytes)
+}
+
+// Reads them byte by byte.
+fn read_bytes(alloc: Global, bytes: &[u8]) -> Result<SccPairs, SccFault>
+    requires { length bytes.now ≤ 67108864 }
+    ensures { Answers (read_file bytes.now) result }
+{
+    let mut gathered = Gathered {
+        reader: Reader::new(),
+        pairs: SccPairs::new(alloc),
+        frames: 0,
+    };
+    for (at, byte) in bytes.iter().enumerate() {
+        match gathered.take(*byte) {
+            Ok(()) => {}
+            Err(Stop::Memory(error)) => return Err(SccFault::Memory(error)),
+            Err(Stop::Offends(offence)) => {
+                let place = (at as u64).saturating_sub(u64::from(offence.back));
+                let why = offence.why;
+                return Err(SccFault::Malformed(Refusal { place, why }));
+            }
+        }
+    }
+    let phase = gathered.reader.phase;
+    if !phase.may_end() {
+        let place = bytes.len() as u64;
+        let why = phase.why();
+        return Err(SccFault::Malformed(Refusal { place, why }));
+    }
+    if gathered.frames > MOST_FRAMES {
+        return Err(SccFault::Limit(LimitOf::Frames));
+    }
+    Ok(gathered.pairs)
+}
