@@ -1,0 +1,5 @@
+pub mod CellLemmas
+pub mod SizeLemmas
+pub mod PartLemmas
+pub mod SameLemmas
+pub mod ShowingLemmas

@@ -1,0 +1,7 @@
+use Rattle.std.proofs.Common.{◌∙◌, ap}
+use Rattle.dtvcc_windows.specs.Lists.{cells_of}
+use Rattle.dtvcc_windows.proofs.CellLemmas.{no_places}
+use Rattle.dtvcc_windows.proofs.cells.Cells.new.Goals as goal
+
+pub returns : goal.returns
+returns c = ap cells_of c.in_ok-with_capacity.ensures.items ∙ no_places

@@ -1,0 +1,11 @@
+pub mod Places
+pub mod Raising
+pub mod Sizes
+pub mod Lists
+pub mod Styles
+pub mod Windows
+pub mod Text
+pub mod Defining
+pub mod Showing
+pub mod Laws
+pub mod Objects
