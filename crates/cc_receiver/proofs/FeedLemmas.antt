@@ -1,5 +1,5 @@
 -- A receiver while the bytes of one call are read.
-use Rattle.std.proofs.Common.{arith, ◌≡◌, ℕ, ◌+◌, ◌-◌, ◌<◌, ◌≤◌, ◌++◌, List, [], ◌∷◌, length, take, drop, min, None, refl, ap, sym, subst, ◌∙◌, append_assoc, slice_index_or, zero, suc, nat_le, Bool, true, false}
+use Rattle.std.proofs.Common.{arith, ◌≡◌, ◌≢◌, ℕ, ◌+◌, ◌-◌, ◌<◌, ◌≤◌, ◌++◌, List, [], ◌∷◌, length, take, drop, min, None, refl, ap, sym, subst, ◌∙◌, append_assoc, slice_index_or, zero, suc, nat_le, Bool, true, false}
 use Rattle.std.proofs.Math.Seq.{take-add, take-append_seam}
 use Rattle.std.proofs.lemmas.List.{length-drop, length-take}
 use Rattle.std.proofs.lemmas.List.Elements.{All-from_get_or}
@@ -13,7 +13,10 @@ use Rattle.anc_words.specs.Reading.{anc_syntax}
 use Rattle.anc_words.specs.WordsFiles.{IsWordsFile}
 use Rattle.anc_words.proofs.EndingLemmas.{ends_no_sooner}
 use Rattle.words_files.specs.Catching.{never, refusal_of}
+use Rattle.cc_receiver.specs.declared.receiver.Ended.{Ended}
+use Rattle.cc_receiver.specs.declared.receiver.Ended.TheVariants as ended
 use Rattle.cc_receiver.specs.declared.receiver.Receiver.{Receiver}
+use Rattle.cc_receiver.specs.Feeds.{Counts}
 use Rattle.cc_receiver.specs.Receivers.{HasReceived}
 
 -- so many of the bytes were read after those before: none was refused, and none of them ended a packet
@@ -90,3 +93,9 @@ up_to before bytes count none_before none_there packets fewer some most is =
 -- the front of a list that begins with another one
 pub front_of : (out front rest : List ℕ) (n : ℕ) → out ≡ front ++ rest → n ≡ length front → take n out ≡ front
 front_of out front rest n is long = ap (λ m. take m out) long ∙ ap (take (length front)) is ∙ take-append_seam front rest
+
+-- a count of frames, by whether the packet that ended is one of captions
+pub counts_by : (answer : Ended) (before now : ℕ) → (answer ≡ ended.Caption → now ≡ before + 1) → (answer ≢ ended.Caption → now ≡ before) → Counts before now answer
+counts_by ended.No before now more same = same (λ is. cc)
+counts_by ended.Foreign before now more same = same (λ is. cc)
+counts_by ended.Caption before now more same = more refl

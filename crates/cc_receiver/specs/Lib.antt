@@ -6,3 +6,4 @@ pub mod Catchers
 pub mod Receivers
 pub mod Wholes
 pub mod Idle
+pub mod Feeds

@@ -11,9 +11,10 @@ ghost use Rattle.cdp_packets.specs.Packets.{Packet as FrameOf};
 ghost use Rattle.cdp_packets.specs.PacketTriplets.{packet_triplets};
 ghost use Rattle.words_files.specs.Catching.{never, refusal_of};
 ghost use Rattle.words_files.specs.FramesOf.{AreFramesOf};
-ghost use Rattle.words_files.specs.Offences.{FirstOffendingWord, IsFileUnder, IsMalformed, IsUnoffending};
+ghost use Rattle.words_files.specs.Offences.{IsFileUnder, IsMalformed};
 ghost use Rattle.words_files.specs.Received.{field_pairs, received_grids};
 ghost use Rattle.cc_receiver.specs.declared.receiver.Ended.TheVariants as ended;
+ghost use Rattle.cc_receiver.specs.Feeds.{Feeds};
 ghost use Rattle.cc_receiver.specs.Receiving.{EndsBy};
 ghost use Rattle.cc_receiver.specs.Idle.{is_idle};
 ghost use Rattle.line21_codes.specs.declared.channels.Chan.{Chan as Channel};
@@ -80,30 +81,13 @@ impl Receiver {
     /// place is the number of the word's first byte. A refusal is kept and answered from then on, with nothing read.
     pub fn feed(&mut self, bytes: &[u8]) -> Result<Fed, Refusal>
         requires few { frame_count self.now < 4294967295 }
-        ensures received { (before : List ℕ) → HasReceived before self.old
-            → IfOk result (λ fed. HasReceived (before ++ take fed.used bytes.now) self.new) }
-        ensures unoffending { (before : List ℕ) → HasReceived before self.old
-            → IfOk result (λ fed. IsUnoffending never (before ++ take fed.used bytes.now)) }
-        ensures refused { (before : List ℕ) → HasReceived before self.old
-            → IfErr result (λ refused. HasReceived (before ++ bytes.now) self.new) }
-        ensures offence { (before : List ℕ) → HasReceived before self.old
-            → IfErr result (λ refused. FirstOffendingWord never (before ++ bytes.now) refused) }
-        ensures kept { (refused : Refused) → receiver_refusal self.old ≡ Some refused
-            → (result_err result ≡ Some refused) × (self.new ≡ self.old) }
-        ensures told { receiver_refusal self.new ≡ result_err result }
+        ensures feeds { (before : List ℕ) → HasReceived before self.old → Feeds before bytes.now self.old self.new result }
         ensures within { IfOk result (λ fed. fed.used ≤ length bytes.now) }
         ensures all { IfOk result (λ fed. fed.ended ≡ ended.No → fed.used ≡ length bytes.now) }
         ensures some { IfOk result (λ fed. fed.ended ≢ ended.No → 0 < fed.used) }
-        ensures ended { (before : List ℕ) → HasReceived before self.old
-            → IfOk result (λ fed. 0 < fed.used → EndsBy fed.ended (before ++ take fed.used bytes.now)) }
-        ensures first { (before : List ℕ) (packets : List Packet) (fewer : ℕ) → HasReceived before self.old
-            → IfOk result (λ fed. 0 < fewer → fewer < fed.used → IsWordsFile packets (before ++ take fewer bytes.now) → ⊥) }
-        ensures more { (before : List ℕ) → HasReceived before self.old
-            → IfOk result (λ fed. fed.ended ≡ ended.Caption → frame_count self.new ≡ frame_count self.old + 1) }
-        ensures same { (before : List ℕ) → HasReceived before self.old
-            → IfOk result (λ fed. fed.ended ≢ ended.Caption → frame_count self.new ≡ frame_count self.old) }
-        ensures stays { (before : List ℕ) → HasReceived before self.old
-            → IfErr result (λ refused. frame_count self.new ≡ frame_count self.old) }
+        ensures kept { (refused : Refused) → receiver_refusal self.old ≡ Some refused
+            → (result_err result ≡ Some refused) × (self.new ≡ self.old) }
+        ensures told { receiver_refusal self.new ≡ result_err result }
     {
         if let Some(refusal) = self.words.refusal() {
             return Err(refusal);

@@ -8,6 +8,7 @@ use Rattle.cc_base.specs.Streams.{Puts}
 use Rattle.cc_base.specs.declared.refusal.Refusal.{Refusal}
 use Rattle.cc_base.specs.declared.streams.Put.TheVariants as put
 use Rattle.cc_base.proofs.Puts.{puts_then}
+use Rattle.cc_receiver.specs.Feeds.{Counts, Feeds}
 use Rattle.cc_receiver.specs.Receivers.{HasReceived, frame_count}
 use Rattle.cc_receiver.specs.declared.receiver.Ended.{Ended}
 use Rattle.cc_receiver.specs.declared.receiver.Ended.TheVariants as ended
@@ -21,7 +22,7 @@ use Rattle.words_files.proofs.OffenceLemmas.{offence_refused, some_or_none, unof
 use Rattle.command_base.specs.Gathered.{Flushes, IsGathered, held_of}
 use Rattle.words_commands.specs.Printing.{Prints}
 use Rattle.words_commands.specs.WordsAnswer.{words_limit}
-use Rattle.words_commands.specs.WordsReading.{Counts, HasFailed, HasJudged, HasOffended, HasPut, HasRead, MayBeFed, Receives}
+use Rattle.words_commands.specs.WordsReading.{HasFailed, HasJudged, HasOffended, HasPut, HasRead, MayBeFed, Receives}
 use Rattle.command_base.specs.declared.gathered.Gathered.{Gathered}
 use Rattle.words_commands.specs.declared.printer.Printer.{Printer}
 use Rattle.words_commands.specs.declared.reading.Reading.{Reading}
@@ -260,12 +261,6 @@ cut_short bytes refusal unoffending (inl offence) =
     absurd (some_or_none (refusal_of never bytes) refusal (offence_refused never bytes refusal offence) (unoffending_is_unrefused never bytes unoffending))
 cut_short bytes refusal unoffending (inr cut) = cut
 
--- where a packet of captions ended, a frame was counted, and else none
-counts_by : (before now : ℕ) (answer : Ended) → (answer ≡ ended.Caption → now ≡ before + 1) → (answer ≢ ended.Caption → now ≡ before) → Counts before now answer
-counts_by before now ended.Caption more same = more refl
-counts_by before now ended.No more same = same (λ is. cc)
-counts_by before now ended.Foreign more same = same (λ is. cc)
-
 -- of some bytes some are read
 moves_by : (used size : ℕ) (answer : Ended) → (answer ≡ ended.No → used ≡ size) → (answer ≢ ended.No → 0 < used) → 0 < size → 0 < used
 moves_by used size ended.Caption all some any = some (λ is. cc)
@@ -273,23 +268,16 @@ moves_by used size ended.No all some any = let is = all refl in omega arith
 moves_by used size ended.Foreign all some any = some (λ is. cc)
 
 -- what a receiver answers, by its clauses
-pub received_by : (before bytes : List ℕ) (old new : Receiver) (result : Result Fed Refusal)
-    → IfOk result (λ fed. HasReceived (before ++ take fed.used bytes) new)
-    → IfOk result (λ fed. IsUnoffending never (before ++ take fed.used bytes))
-    → IfErr result (λ refused. HasReceived (before ++ bytes) new)
-    → IfErr result (λ refused. FirstOffendingWord never (before ++ bytes) refused)
-    → IfErr result (λ refused. frame_count new ≡ frame_count old)
+pub received_by : (before bytes : List ℕ) (old new : Receiver) (result : Result Fed Refusal) → Feeds before bytes old new result
     → IfOk result (λ fed. fed.used ≤ length bytes)
     → IfOk result (λ fed. fed.ended ≡ ended.No → fed.used ≡ length bytes)
     → IfOk result (λ fed. fed.ended ≢ ended.No → 0 < fed.used)
-    → IfOk result (λ fed. fed.ended ≡ ended.Caption → frame_count new ≡ frame_count old + 1)
-    → IfOk result (λ fed. fed.ended ≢ ended.Caption → frame_count new ≡ frame_count old)
     → Receives before bytes old new result
-received_by before bytes old new (Ok fed) received unoffending refused offence stays within all some more same = record {
-  received = received;
-  unoffending = unoffending;
+received_by before bytes old new (Ok fed) feeds within all some = record {
+  received = feeds.received;
+  unoffending = feeds.unoffending;
   within = within;
   moves = moves_by fed.used (length bytes) fed.ended all some;
-  counts = counts_by (frame_count old) (frame_count new) fed.ended more same;
+  counts = feeds.counts;
 }
-received_by before bytes old new (Err refusal) received unoffending refused offence stays within all some more same = (refused, offence, stays)
+received_by before bytes old new (Err refusal) feeds within all some = (feeds.received, feeds.offence, feeds.stays)

@@ -3,9 +3,8 @@ use Rattle.std.specs.Prelude.{◌≡◌, ◌<◌, ◌≤◌, ◌+◌, ℕ, List,
 use Rattle.cc_base.specs.Streams.{Puts, Rose}
 use Rattle.cc_base.specs.declared.refusal.Refusal.{Refusal}
 use Rattle.cc_base.specs.declared.streams.Put.TheVariants as put
+use Rattle.cc_receiver.specs.Feeds.{Counts}
 use Rattle.cc_receiver.specs.Receivers.{HasReceived, frame_count}
-use Rattle.cc_receiver.specs.declared.receiver.Ended.{Ended}
-use Rattle.cc_receiver.specs.declared.receiver.Ended.TheVariants as ended
 use Rattle.cc_receiver.specs.declared.receiver.Fed.{Fed}
 use Rattle.cc_receiver.specs.declared.receiver.Receiver.{Receiver}
 use Rattle.cdp_packets.specs.Packets.{Packet as Frame}
@@ -29,11 +28,6 @@ pub record MayBeFed (receiver : Receiver) (more : ℕ) : Type 0 where
   pub received : HasReceived before receiver
   pub few : frame_count receiver ≤ length before
   pub within : length before + more ≤ words_limit
-
--- the receiver counted a frame where a packet of captions ended
-abbrev pub Counts : ℕ → ℕ → Ended → Type 0
-Counts before now ended.Caption = now ≡ before + 1
-Counts before now _ = now ≡ before
 
 -- a receiver read a front of the bytes behind those before: it stopped behind the end of a packet, or read all of them
 pub record HasRead (before bytes : List ℕ) (old new : Receiver) (fed : Fed) : Type 0 where
