@@ -6,9 +6,9 @@ use Rattle.cc_base.specs.Streams.{Puts}
 use Rattle.cc_base.specs.declared.streams.Put.{Put}
 use Rattle.cc_base.specs.declared.streams.Put.TheVariants as put
 use Rattle.cc_base.proofs.Puts.{puts_front, puts_then}
-use Rattle.frame_scheduler.specs.Columns.{Columns, pairs_at}
+use Rattle.frame_scheduler.specs.Columns.{Columns}
 use Rattle.frame_scheduler.specs.Frames.{GivesFrom, frames_left}
-use Rattle.frame_scheduler.specs.declared.frames.FramePairs.{FramePairs}
+use Rattle.frame_scheduler.specs.declared.frames.FrameBytes.{FrameBytes}
 use Rattle.frame_scheduler.specs.declared.frames.Plan.{Plan}
 use Rattle.command_base.specs.Gathered.{Flushes, Gathers}
 use Rattle.cue_list_commands.specs.Lines.{pair_line, pair_lines}
@@ -48,9 +48,9 @@ LinesOnTheWay columns old new held plan all =
     (frame : ℕ) × GivesFrom columns frame plan × IsOnTheWay old new held (pair_lines columns frame (frames_left plan)) all
 
 -- the line of a frame more was added
-pub line_added : (columns : Columns) (a b c : Option (List ℕ)) (before after line all : List ℕ) (old new : Plan) (pairs : FramePairs)
+pub line_added : (columns : Columns) (a b c : Option (List ℕ)) (before after line all : List ℕ) (old new : Plan) (pairs : FrameBytes)
     → LinesOnTheWay columns a b before old all → frames_left new + 1 ≡ frames_left old
-    → ((columns : Columns) (frame : ℕ) → GivesFrom columns frame old → (pairs ≡ pairs_at columns frame) × GivesFrom columns (frame + 1) new)
+    → ((columns : Columns) (frame : ℕ) → GivesFrom columns frame old → (pairs ≡ columns frame) × GivesFrom columns (frame + 1) new)
     → line ≡ pair_line pairs.one pairs.two → Gathers b c before after put.Done line → LinesOnTheWay columns a c after new all
 line_added columns a b c before after line all old new pairs (frame, gives, way) left next line_is gathered =
     let (pairs_is, more) = next columns frame gives in

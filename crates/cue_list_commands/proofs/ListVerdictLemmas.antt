@@ -16,8 +16,8 @@ use Rattle.cue_lists.proofs.Faults.{answered_fault, answered_list}
 use Rattle.cue_lists.proofs.RuleLists.{one_fault, ruled_has_none}
 use Rattle.cue_lists.proofs.RulesDecided.{ruled_or_broken}
 use Rattle.cue_lists.proofs.Unique.{first_fault_read}
-use Rattle.frame_scheduler.specs.Planned.{IsFirstWithoutRoom, IsPlaced, Placement}
-use Rattle.frame_scheduler.proofs.BothFieldsLemmas.{first_without_room, one_placement, placed_has_room}
+use Rattle.frame_scheduler.specs.Planned.{IsFirstWithoutRoom, IsListPlaced, Placement}
+use Rattle.frame_scheduler.proofs.LanesLemmas.{first_without_room, one_placement, placed_has_room}
 use Rattle.frame_scheduler.proofs.RoomDecided.{list_decided}
 use Rattle.cue_list_commands.specs.Accepted.{BreaksRule, IsAccepted, IsFaulty, IsGoodList, IsRefused, IsRefusedList, LacksRoom, list_limit}
 use Rattle.cue_list_commands.specs.Reads.{form_status}
@@ -80,7 +80,7 @@ accepted_not_refused bytes list placed answer accepted refused =
 pub accepted_once : AcceptanceIsOne
 accepted_once bytes one other placed moved first second =
     let same = spelled_one bytes other one second.spelled second.built first.spelled first.built in
-    (sym same, one_placement one placed moved first.placement (subst (λ l. IsPlaced l moved) same second.placement))
+    (sym same, one_placement one placed moved first.placement (subst (λ l. IsListPlaced l moved) same second.placement))
 
 -- why a list is refused
 abbrev Cause : List ℕ → Status → Type 0
@@ -162,7 +162,7 @@ Judged bytes = ((list : Listing) × (placed : Placement) × IsAccepted bytes lis
 list_judged : (bytes : List ℕ) (list : Listing) → length bytes ≤ list_limit → Spells (records_of bytes) list → IsBuilt list → Judged bytes
 list_judged bytes list within spelled built =
     elim (ruled_or_broken list) [
-      | inl ruled ↦ elim (list_decided list) [
+      | inl ruled ↦ elim (list_decided list spelled.1) [
         | inl there ↦ inl (list, there.0, record { within = within; spelled = spelled; built = built; ruled = ruled; placement = there.1 })
         | inr without ↦ inr (status.NoRoom without.0, record { list = list; within = within; spelled = spelled; built = built; ruled = ruled; first = without.1 })
       ]

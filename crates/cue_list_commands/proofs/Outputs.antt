@@ -1,39 +1,34 @@
 -- What holds of the output of an accepted list.
-use Rattle.std.proofs.Common.{ap, refl, sym, subst, true, false, Bool, ◌≡◌, ◌∙◌, ℕ, zero, suc, List, [], ◌∷◌, reverse, take, arith, Option, Some, None}
-use Rattle.std.proofs.lemmas.List.{reverse-append}
+use Rattle.std.proofs.Common.{sym, subst, true, false, ℕ, suc, List, reverse, arith, Option, Some, None}
 use Rattle.std.specs.Prelude.{IfSome}
 use Rattle.cc_base.specs.Streams.{Puts}
 use Rattle.cc_base.specs.declared.streams.Put.TheVariants as put
 use Rattle.line21_codes.specs.declared.pairs.Pair.{Pair}
 use Rattle.line21_screen.specs.Meaning.{after}
-use Rattle.cdp_packets.specs.Packets.{Packet as Frame}
-use Rattle.words_files.specs.Received.{received_at, received_pairs}
 use Rattle.cc_base.specs.declared.streams.Put.{Put}
 use Rattle.line21_codes.specs.declared.channels.Chan.TheVariants.{Cc1, Cc3}
 use Rattle.cue_lists.specs.Listing.{IsFormed, Listing}
-use Rattle.frame_scheduler.specs.Columns.{Columns, first_pairs}
+use Rattle.cue_lists.specs.declared.rules.lane.Lane.TheVariants.{Channel}
+use Rattle.frame_scheduler.specs.Columns.{Columns}
 use Rattle.frame_scheduler.specs.Frames.{GivesFrom, frames_left}
-use Rattle.frame_scheduler.specs.Planned.{Placement, columns_of}
+use Rattle.frame_scheduler.specs.Planned.{Placement, authored_channel, columns_of}
 use Rattle.frame_scheduler.proofs.ListDoublingLemmas.{columns_doubled}
-use Rattle.frame_carrier.specs.Carried.{AreCarried}
+use Rattle.frame_carrier.specs.Carried.{AreBytePairs, AreCarried}
 use Rattle.frame_carrier.specs.Carrying.{column_bytes}
 use Rattle.frame_carrier.proofs.CarriedLemmas.{frames_carried}
-use Rattle.line21_shown.specs.Reading.{pairs_before}
-use Rattle.line21_shown.specs.Shown.{ShowsField, state_at}
+use Rattle.line21_shown.specs.Shown.{ShowsField}
 use Rattle.line21_shown.proofs.CaptionedLemmas.{slots_bytes}
 use Rattle.line21_shown.proofs.SequenceLemmas.{authored_seen}
 use Rattle.cue_list_commands.specs.Accepted.{IsAccepted}
 use Rattle.cue_list_commands.specs.ListAnswer.{PutsFront, PutsOutput}
-use Rattle.cue_list_commands.specs.Output.{AreDoubled, IsSoundPairs, IsSoundWords, build_output, built_packets, pairs_output}
+use Rattle.cue_list_commands.specs.Output.{AreDoubled, IsSoundPairs, IsSoundWords, build_output, pairs_output}
 use Rattle.cue_list_commands.specs.Lines.{pair_lines}
 use Rattle.cue_list_commands.specs.Reads.{IsProgrammeOf}
 use Rattle.cue_list_commands.specs.declared.programme.Programme.{Programme}
 
 -- control pairs of an accepted list are doubled
 doubled_columns : (bytes : List ℕ) (list : Listing) (placed : Placement) → IsAccepted bytes list placed → AreDoubled list (columns_of list placed)
-doubled_columns bytes list placed accepted =
-    let doubled = columns_doubled list placed accepted.spelled.1 accepted.ruled accepted.placement in
-    record { one = doubled.0; two = doubled.1 }
+doubled_columns bytes list placed accepted = columns_doubled list placed accepted.spelled.1 accepted.ruled accepted.placement
 
 -- what `pairs` puts of an accepted list is sound
 sound_pairs : (bytes : List ℕ) (list : Listing) (placed : Placement) → IsAccepted bytes list placed → IsSoundPairs list placed
@@ -42,38 +37,24 @@ sound_pairs bytes list placed accepted = record {
   shown = λ frame below. authored_seen list placed accepted.spelled.1 accepted.ruled accepted.placement frame;
 }
 
--- the pairs of the first frames, the newest first
-newest_first : (column : ℕ → Pair) (n : ℕ) → reverse (first_pairs column n) ≡ pairs_before column n
-newest_first column zero = refl
-newest_first column (suc n) = reverse-append (first_pairs column n) (column n ∷ []) ∙ ap (λ (pairs : List Pair). column n ∷ pairs) (newest_first column n)
-
--- what a receiver gets of a field's pairs is what they mean
-received_is : (second_field : Bool) (column : ℕ → Pair) (frames : List Frame) (frame : ℕ)
-    → received_pairs second_field (take (suc frame) frames) ≡ first_pairs column (suc frame) → state_at second_field column frame ≡ received_at second_field frames frame
-received_is second_field column frames frame same =
-    ap (after second_field) (sym (ap reverse same ∙ newest_first column (suc frame)))
+-- the pairs of a placed list are of bytes
+byte_pairs : (list : Listing) (placed : Placement) → IsFormed list → AreBytePairs (columns_of list placed)
+byte_pairs list placed formed false frame = let are = slots_bytes list Cc1 (placed (Channel Cc1)) formed frame in record { a = are.0; b = are.1 }
+byte_pairs list placed formed true frame = let are = slots_bytes list Cc3 (placed (Channel Cc3)) formed frame in record { a = are.0; b = are.1 }
 
 -- what `build` puts of an accepted list is sound
 pub sound_words : (bytes : List ℕ) (list : Listing) (placed : Placement) → IsAccepted bytes list placed → IsSoundWords list placed
 sound_words bytes list placed accepted =
-    let columns = columns_of list placed in
     let formed : IsFormed list = accepted.spelled.1 in
-    let carried : AreCarried list.rate columns list.frames =
-    frames_carried list.rate columns list.frames formed.rate (record {
-      one = λ frame. let are = slots_bytes list Cc1 placed.one formed frame in record { a = are.0; b = are.1 };
-      two = λ frame. let are = slots_bytes list Cc3 placed.two formed frame in record { a = are.0; b = are.1 };
-    }) in
+    let carried : AreCarried list.rate (columns_of list placed) list.frames =
+    frames_carried list.rate (columns_of list placed) list.frames (byte_pairs list placed formed) in
     record {
       doubled = doubled_columns bytes list placed accepted;
       carried = carried;
-      shown = λ frame below.
-          let seen = authored_seen list placed formed accepted.ruled accepted.placement frame in
-          let one = received_is false columns.one (built_packets list placed) frame (carried.one (suc frame) (omega arith)) in
-          let two = received_is true columns.two (built_packets list placed) frame (carried.two (suc frame) (omega arith)) in
-          record {
-            one = subst (λ s. ShowsField s Cc1 list.cues frame) one seen.one;
-            two = subst (λ s. ShowsField s Cc3 list.cues frame) two seen.two;
-          };
+      shown = λ frame below second_field.
+          subst (λ (pairs : List Pair). ShowsField (after second_field (reverse pairs)) (authored_channel second_field) list.cues frame)
+          (sym (carried.received second_field (suc frame) (omega arith)))
+          (authored_seen list placed formed accepted.ruled accepted.placement frame second_field);
     }
 
 -- the output of a programme was put: it is that of its list

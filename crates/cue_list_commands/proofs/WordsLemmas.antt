@@ -4,9 +4,9 @@ use Rattle.cc_base.specs.Streams.{Puts}
 use Rattle.cc_base.specs.declared.rate.Rate.{Rate}
 use Rattle.cc_base.specs.declared.streams.Put.TheVariants as put
 use Rattle.cc_base.proofs.Puts.{puts_front}
-use Rattle.frame_scheduler.specs.Columns.{Columns, pairs_at}
+use Rattle.frame_scheduler.specs.Columns.{Columns}
 use Rattle.frame_scheduler.specs.Frames.{GivesFrom, frames_left}
-use Rattle.frame_scheduler.specs.declared.frames.FramePairs.{FramePairs}
+use Rattle.frame_scheduler.specs.declared.frames.FrameBytes.{FrameBytes}
 use Rattle.frame_scheduler.specs.declared.frames.Plan.{Plan}
 use Rattle.frame_carrier.specs.Carrying.{IsAt, column_bytes, frame_bytes}
 use Rattle.frame_carrier.specs.declared.carrier.Carrier.{Carrier}
@@ -20,8 +20,8 @@ pub record WordsOnTheWay (rate : Rate) (columns : Columns) (old new : Option (Li
   pub way : IsOnTheWay old new [] (column_bytes rate columns frame (frames_left plan)) all
 
 -- a frame's words are the first of those that are left
-first_words : (rate : Rate) (columns : Columns) (frame : ℕ) (old new : Plan) (pairs : FramePairs) (words : List ℕ) → frames_left new + 1 ≡ frames_left old
-    → pairs ≡ pairs_at columns frame → words ≡ frame_bytes rate frame pairs []
+first_words : (rate : Rate) (columns : Columns) (frame : ℕ) (old new : Plan) (pairs : FrameBytes) (words : List ℕ) → frames_left new + 1 ≡ frames_left old
+    → pairs ≡ columns frame → words ≡ frame_bytes rate frame pairs []
     → column_bytes rate columns frame (frames_left old) ≡ words ++ column_bytes rate columns (frame + 1) (frames_left new)
 first_words rate columns frame old new pairs words left pairs_are words_are =
     ap (column_bytes rate columns frame) (sym left ∙ add-one (frames_left new))
@@ -29,9 +29,9 @@ first_words rate columns frame old new pairs words left pairs_are words_are =
     ∙ ap (λ f. words ++ column_bytes rate columns f (frames_left new)) (sym (add-one frame))
 
 -- the words of a frame more were put
-pub words_added : (rate : Rate) (columns : Columns) (a b c : Option (List ℕ)) (words all : List ℕ) (old new : Plan) (carrier next_carrier : Carrier) (pairs : FramePairs)
+pub words_added : (rate : Rate) (columns : Columns) (a b c : Option (List ℕ)) (words all : List ℕ) (old new : Plan) (carrier next_carrier : Carrier) (pairs : FrameBytes)
     → WordsOnTheWay rate columns a b old carrier all → frames_left new + 1 ≡ frames_left old
-    → ((columns : Columns) (frame : ℕ) → GivesFrom columns frame old → (pairs ≡ pairs_at columns frame) × GivesFrom columns (frame + 1) new)
+    → ((columns : Columns) (frame : ℕ) → GivesFrom columns frame old → (pairs ≡ columns frame) × GivesFrom columns (frame + 1) new)
     → ((rate : Rate) (frame : ℕ) → IsAt rate frame carrier → words ≡ frame_bytes rate frame pairs [])
     → ((rate : Rate) (frame : ℕ) → IsAt rate frame carrier → IsAt rate (frame + 1) next_carrier)
     → Puts b c put.Done words → WordsOnTheWay rate columns a c new next_carrier all
@@ -47,9 +47,9 @@ words_added rate columns a b c words all old new carrier next_carrier pairs on l
     }
 
 -- a put of them failed
-pub words_failed : (rate : Rate) (columns : Columns) (a b c : Option (List ℕ)) (words all : List ℕ) (old new : Plan) (carrier : Carrier) (pairs : FramePairs)
+pub words_failed : (rate : Rate) (columns : Columns) (a b c : Option (List ℕ)) (words all : List ℕ) (old new : Plan) (carrier : Carrier) (pairs : FrameBytes)
     → WordsOnTheWay rate columns a b old carrier all → frames_left new + 1 ≡ frames_left old
-    → ((columns : Columns) (frame : ℕ) → GivesFrom columns frame old → (pairs ≡ pairs_at columns frame) × GivesFrom columns (frame + 1) new)
+    → ((columns : Columns) (frame : ℕ) → GivesFrom columns frame old → (pairs ≡ columns frame) × GivesFrom columns (frame + 1) new)
     → ((rate : Rate) (frame : ℕ) → IsAt rate frame carrier → words ≡ frame_bytes rate frame pairs [])
     → Puts b c put.Failed words → Puts a c put.Failed all
 words_failed rate columns a b c words all old new carrier pairs on left gives carries failed =

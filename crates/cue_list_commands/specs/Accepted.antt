@@ -11,7 +11,7 @@ use Rattle.cue_lists.specs.Unbuilt.{IsBuilt}
 use Rattle.cue_lists.specs.declared.fault.CueFault.{CueFault}
 use Rattle.cue_lists.specs.declared.fault.CueFault.TheVariants as fault
 use Rattle.cue_lists.specs.declared.rules.RuleFault.{RuleFault}
-use Rattle.frame_scheduler.specs.Planned.{IsFirstWithoutRoom, IsPlaced, Placement}
+use Rattle.frame_scheduler.specs.Planned.{IsFirstWithoutRoom, IsListPlaced, Placement}
 use Rattle.command_base.specs.declared.status.Place.TheVariants.{Byte, Field}
 use Rattle.command_base.specs.declared.status.Status.{Status}
 use Rattle.command_base.specs.declared.status.Status.TheVariants as status
@@ -23,7 +23,7 @@ pub record IsAccepted (bytes : List ℕ) (list : Listing) (placed : Placement) :
   pub spelled : Spells (records_of bytes) list
   pub built : IsBuilt list
   pub ruled : IsRuled list
-  pub placement : IsPlaced list placed
+  pub placement : IsListPlaced list placed
 
 -- the records of the bytes spell no list that this version authors, and this is their first fault
 pub record IsFaulty (bytes : List ℕ) (fault : CueFault) : Type 0 where

@@ -1,5 +1,5 @@
 -- The lines of `pairs`: one a frame, with the pairs of field 1 and of field 2.
-use Rattle.std.specs.Prelude.{ℕ, zero, suc, ◌/◌, ◌%◌, List, [], ◌∷◌, ◌++◌, codes, slice_index}
+use Rattle.std.specs.Prelude.{ℕ, zero, suc, ◌/◌, ◌%◌, Option, Some, None, List, [], ◌∷◌, ◌++◌, codes, slice_index}
 use Rattle.line21_codes.specs.declared.pairs.Pair.{Pair}
 use Rattle.frame_scheduler.specs.Columns.{Columns}
 
@@ -7,16 +7,17 @@ use Rattle.frame_scheduler.specs.Columns.{Columns}
 abbrev pub hex_digit : ℕ → ℕ
 hex_digit n = slice_index (codes "0123456789ABCDEF") n
 
--- two bytes as four upper-case hex digits
-abbrev pub pair_text : Pair → List ℕ
-pair_text pair =
+-- a pair as four upper-case hex digits, or `----` where the frame has no slot of the field
+abbrev pub pair_text : Option Pair → List ℕ
+pair_text None = codes "----"
+pair_text (Some pair) =
     hex_digit (pair.a / 16) ∷ hex_digit (pair.a % 16) ∷ hex_digit (pair.b / 16) ∷ hex_digit (pair.b % 16) ∷ []
 
 -- the line of a frame: `AAAA BBBB` and a line feed
-abbrev pub pair_line : Pair → Pair → List ℕ
+abbrev pub pair_line : Option Pair → Option Pair → List ℕ
 pair_line one two = pair_text one ++ codes " " ++ pair_text two ++ codes "\n"
 
 -- the lines of so many frames, from a frame on
 abbrev pub pair_lines : Columns → ℕ → ℕ → List ℕ
 pair_lines columns frame zero = []
-pair_lines columns frame (suc n) = pair_line (columns.one frame) (columns.two frame) ++ pair_lines columns (suc frame) n
+pair_lines columns frame (suc n) = pair_line (columns frame).one (columns frame).two ++ pair_lines columns (suc frame) n

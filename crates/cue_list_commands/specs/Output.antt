@@ -1,5 +1,5 @@
 -- What the commands that read a cue list put of an accepted one, and what holds of it.
-use Rattle.std.specs.Prelude.{◌<◌, ℕ, true, false, List}
+use Rattle.std.specs.Prelude.{◌<◌, ℕ, Bool, List}
 use Rattle.cdp_packets.specs.Packets.{Packet as Frame}
 use Rattle.words_files.specs.Received.{received_at}
 use Rattle.cue_lists.specs.Listing.{Listing}
@@ -24,16 +24,15 @@ abbrev pub built_packets : Listing → Placement → List Frame
 built_packets list placed = column_packets list.rate (columns_of list placed) 0 list.frames
 
 -- in each field every longest stretch of equal control pairs has an even number of pairs
-pub record AreDoubled (list : Listing) (columns : Columns) : Type 0 where
-  pub one : IsDoubled (first_pairs columns.one list.frames)
-  pub two : IsDoubled (first_pairs columns.two list.frames)
+abbrev pub AreDoubled : Listing → Columns → Type 0
+AreDoubled list columns = (second_field : Bool) → IsDoubled (first_pairs second_field columns list.frames)
 
 -- what holds of the pairs that `pairs` puts: control pairs are doubled, and at every settled frame a receiver that was reset
 -- before the first one shows the authored grids
 pub record IsSoundPairs (list : Listing) (placed : Placement) : Type 0 where
   pub doubled : AreDoubled list (columns_of list placed)
   pub shown : (frame : ℕ) → frame < list.frames
-      → ShowsList list (state_at false (columns_of list placed).one frame) (state_at true (columns_of list placed).two frame) frame
+      → ShowsList list (λ second_field. state_at second_field (columns_of list placed) frame) frame
 
 -- what holds of the words that `build` puts: they are a words file of the frames' packets, each frame keeps to its room,
 -- control pairs are doubled, and at every settled frame a receiver that takes the words and was reset before the first one
@@ -42,4 +41,4 @@ pub record IsSoundWords (list : Listing) (placed : Placement) : Type 0 where
   pub doubled : AreDoubled list (columns_of list placed)
   pub carried : AreCarried list.rate (columns_of list placed) list.frames
   pub shown : (frame : ℕ) → frame < list.frames
-      → ShowsList list (received_at false (built_packets list placed) frame) (received_at true (built_packets list placed) frame) frame
+      → ShowsList list (λ second_field. received_at second_field (built_packets list placed) frame) frame

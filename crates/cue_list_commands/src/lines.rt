@@ -1,5 +1,5 @@
 ghost use Rattle.std.specs.Prelude.{◌≡◌, ◌<◌};
-ghost use Rattle.cue_list_commands.specs.Lines.{hex_digit, pair_line};
+ghost use Rattle.cue_list_commands.specs.Lines.{hex_digit, pair_line, pair_text};
 
 use line21_codes::Pair;
 
@@ -11,20 +11,26 @@ fn hex_digit_at(n: u8) -> u8
     b"0123456789ABCDEF"[usize::from(n)]
 }
 
-/// The line of one frame: the pairs of field 1 and field 2, each as four upper-case hex digits, with a space between.
-pub fn line_of(one: Pair, two: Pair) -> [u8; 10]
+/// A pair as four upper-case hex digits, or `----` where the frame has no slot of the field.
+fn digits_of(pair: Option<Pair>) -> [u8; 4]
+    ensures { result ≡ pair_text pair }
+{
+    match pair {
+        Some(pair) => [
+            hex_digit_at(pair.a / 16),
+            hex_digit_at(pair.a % 16),
+            hex_digit_at(pair.b / 16),
+            hex_digit_at(pair.b % 16),
+        ],
+        None => *b"----",
+    }
+}
+
+/// The line of one frame: the pairs of field 1 and field 2, with a space between.
+pub fn line_of(one: Option<Pair>, two: Option<Pair>) -> [u8; 10]
     ensures { result ≡ pair_line one two }
 {
-    [
-        hex_digit_at(one.a / 16),
-        hex_digit_at(one.a % 16),
-        hex_digit_at(one.b / 16),
-        hex_digit_at(one.b % 16),
-        b' ',
-        hex_digit_at(two.a / 16),
-        hex_digit_at(two.a % 16),
-        hex_digit_at(two.b / 16),
-        hex_digit_at(two.b % 16),
-        b'\n',
-    ]
+    let [a, b, c, d] = digits_of(one);
+    let [e, f, g, h] = digits_of(two);
+    [a, b, c, d, b' ', e, f, g, h, b'\n']
 }

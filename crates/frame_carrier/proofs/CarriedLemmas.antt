@@ -1,13 +1,12 @@
 -- The frames of a programme are carried: each packet is one by the definitions of its layers, and a receiver gets its pairs.
-use Rattle.std.proofs.Common.{◌≡◌, ℕ, zero, suc, ◌+◌, ◌-◌, ◌*◌, ◌/◌, ◌%◌, ◌<◌, ◌≤◌, Bool, true, false, List, [], ◌∷◌, ◌++◌, All, length, replicate, take, refl, sym, ap, ◌∙◌, subst, arith, append-nil}
-use Rattle.std.specs.Prelude.{if◌then◌else◌}
+use Rattle.std.proofs.Common.{◌≡◌, ℕ, zero, suc, ◌+◌, ◌-◌, ◌*◌, ◌/◌, ◌%◌, ◌<◌, ◌≤◌, Bool, true, false, Option, Some, None, List, [], ◌∷◌, ◌++◌, All, length, replicate, take, refl, sym, ap, ◌∙◌, subst, arith, append-nil, append_assoc}
+use Rattle.std.specs.Prelude.{if◌then◌else◌, IfSome, option_to_list}
 use Rattle.std.proofs.lemmas.List.{length-append}
 use Rattle.std.proofs.lemmas.List.Elements.{All-append, All-cons, All-from_recursion, All-head, All-nil, All-tail}
 use Rattle.cc_base.specs.Rate.{code_of, triplets_of}
 use Rattle.cc_base.specs.declared.rate.Rate.{Rate}
 use Rattle.cc_base.specs.declared.rate.Rate.TheVariants as rates
 use Rattle.line21_codes.specs.declared.pairs.Pair.{Pair}
-use Rattle.cue_lists.specs.Listing.{IsListRate}
 use Rattle.cc_data.specs.declared.triplet.Triplet.{Triplet}
 use Rattle.cc_data.specs.Triplets.{all_written, written}
 use Rattle.cc_data.proofs.TripletLemmas.{length-all_written}
@@ -22,28 +21,18 @@ use Rattle.anc_words.proofs.WordsFileLemmas.{IsWordsFile-nil, IsWordsFile-one}
 use Rattle.words_files.specs.Frames.{IsFileOf, none, caption}
 use Rattle.words_files.specs.Received.{field_pairs, received_pairs}
 use Rattle.words_files.proofs.FrameLemmas.{joined}
-use Rattle.frame_scheduler.specs.Columns.{Columns, first_pairs, pairs_at}
-use Rattle.frame_scheduler.specs.declared.frames.FramePairs.{FramePairs}
+use Rattle.frame_scheduler.specs.Columns.{Columns, first_pairs, pair_in}
+use Rattle.frame_scheduler.specs.declared.frames.FrameBytes.{FrameBytes}
 use Rattle.frame_carrier.specs.Carried.{AreBytePairs, FramesAreCarried, IsBytePair, IsWithinRoom}
 use Rattle.frame_carrier.specs.Carrying.{caption_flags, column_bytes, column_packets, counter_of, frame_bytes, frame_packet}
-use Rattle.frame_carrier.specs.FrameTriplets.{filler, frame_triplets, pair_triplet}
-use Rattle.frame_carrier.proofs.CarryingLemmas.{IsKind, frame_kinds, frame_number}
+use Rattle.frame_carrier.specs.FrameTriplets.{field_triplets, filler, frame_triplets, front_triplets, pair_triplet}
+use Rattle.frame_carrier.proofs.CarryingLemmas.{IsKind, frame_kinds, frame_number, triplets_many}
 
 -- a byte
 abbrev IsByte : ℕ → Type 0
 IsByte byte = byte < 256
 
--- the rates of lists have twenty triplets a frame, and codes of four bits
-twenty : (rate : Rate) → IsListRate rate → triplets_of rate ≡ 20
-twenty rates.F2997 is = refl
-twenty rates.F30 is = refl
-twenty rates.F23976 is = absurd is
-twenty rates.F24 is = absurd is
-twenty rates.F25 is = absurd is
-twenty rates.F50 is = absurd is
-twenty rates.F5994 is = absurd is
-twenty rates.F60 is = absurd is
-
+-- codes of rates have four bits
 four_bits : (rate : Rate) → code_of rate < 16
 four_bits rates.F23976 = omega arith
 four_bits rates.F24 = omega arith
@@ -80,15 +69,20 @@ fillers_bytes : (n : ℕ) → All IsByteTriplet (replicate n filler)
 fillers_bytes zero = All-nil IsByteTriplet
 fillers_bytes (suc n) = All-cons IsByteTriplet filler (replicate n filler) (record { kind = omega arith; a = omega arith; b = omega arith }) (fillers_bytes n)
 
-frame_triplets_bytes : (rate : Rate) (pairs : FramePairs) → IsBytePair pairs.one → IsBytePair pairs.two → All IsByteTriplet (frame_triplets rate pairs [])
-frame_triplets_bytes rate pairs one two =
-    All-cons IsByteTriplet (pair_triplet 0 pairs.one) (pair_triplet 1 pairs.two ∷ replicate (triplets_of rate - 2) filler) (record { kind = omega arith; a = one.a; b = one.b })
-    (All-cons IsByteTriplet (pair_triplet 1 pairs.two) (replicate (triplets_of rate - 2) filler) (record { kind = omega arith; a = two.a; b = two.b })
-    (fillers_bytes (triplets_of rate - 2)))
+field_bytes : (kind : ℕ) (pair : Option Pair) → kind < 4 → IfSome pair IsBytePair → All IsByteTriplet (field_triplets kind pair)
+field_bytes kind None low bytes = All-nil IsByteTriplet
+field_bytes kind (Some pair) low bytes = All-cons IsByteTriplet (pair_triplet kind pair) [] (record { kind = low; a = bytes.a; b = bytes.b }) (All-nil IsByteTriplet)
 
-module _ (rate : Rate) (is : IsListRate rate) (frame : ℕ) (pairs : FramePairs) (one : IsBytePair pairs.one) (two : IsBytePair pairs.two) where
+frame_triplets_bytes : (rate : Rate) (frame : FrameBytes) → IfSome frame.one IsBytePair → IfSome frame.two IsBytePair → All IsByteTriplet (frame_triplets rate frame [])
+frame_triplets_bytes rate frame one two =
+    All-append IsByteTriplet (front_triplets frame []) (replicate (triplets_of rate - length (front_triplets frame [])) filler)
+    (All-append IsByteTriplet (field_triplets 0 frame.one) (field_triplets 1 frame.two ++ []) (field_bytes 0 frame.one (omega arith) one)
+    (All-append IsByteTriplet (field_triplets 1 frame.two) [] (field_bytes 1 frame.two (omega arith) two) (All-nil IsByteTriplet)))
+    (fillers_bytes (triplets_of rate - length (front_triplets frame [])))
+
+module _ (rate : Rate) (frame : ℕ) (carried : FrameBytes) (one : IfSome carried.one IsBytePair) (two : IfSome carried.two IsBytePair) where
   abbrev triplets : List Triplet
-  triplets = frame_triplets rate pairs []
+  triplets = frame_triplets rate carried []
 
   abbrev section : List ℕ
   section = cc_data_section triplets
@@ -96,20 +90,24 @@ module _ (rate : Rate) (is : IsListRate rate) (frame : ℕ) (pairs : FramePairs)
   abbrev bytes : List ℕ
   bytes = written_packet rate caption_flags (counter_of frame) section
 
-  many : length triplets ≡ 20
-  many = frame_number rate pairs [] (omega (arith, twenty rate is)) ∙ twenty rate is
+  -- from ten to twenty-five
+  many : (10 ≤ length triplets) × (length triplets ≤ 25)
+  many =
+      let is : length triplets ≡ triplets_of rate = frame_number rate carried in
+      let few = triplets_many rate in
+      (omega (arith, is, few.0), omega (arith, is, few.1))
 
   kinds : All IsKind triplets
-  kinds = frame_kinds rate pairs [] (All-nil IsKind)
+  kinds = frame_kinds rate carried [] (All-nil IsKind)
 
-  -- the section has 62 bytes
-  section_length : length section ≡ 62
-  section_length = let long : length (all_written triplets) ≡ 3 * length triplets = length-all_written triplets in omega (arith, long, many)
+  -- the section has two bytes and three a triplet
+  section_length : length section ≡ 2 + 3 * length triplets
+  section_length = let long : length (all_written triplets) ≡ 3 * length triplets = length-all_written triplets in omega (arith, long)
 
   section_bytes : All IsByte section
   section_bytes =
       All-cons IsByte 0x72 ((0xE0 + length triplets) ∷ all_written triplets) (omega arith)
-      (All-cons IsByte (0xE0 + length triplets) (all_written triplets) (omega (arith, many)) (all_written_bytes triplets (frame_triplets_bytes rate pairs one two)))
+      (All-cons IsByte (0xE0 + length triplets) (all_written triplets) (omega (arith, many.1)) (all_written_bytes triplets (frame_triplets_bytes rate carried one two)))
 
   counter_bytes : (counter_of frame / 256 < 256) × (counter_of frame % 256 < 256)
   counter_bytes = (omega arith, omega arith)
@@ -125,45 +123,45 @@ module _ (rate : Rate) (is : IsListRate rate) (frame : ℕ) (pairs : FramePairs)
   front_bytes : All IsByte front
   front_bytes =
       All-from_recursion IsByte front
-      (omega arith, (omega arith, (omega (arith, section_length), (omega (arith, four_bits rate), (omega arith, (counter_bytes.0, (counter_bytes.1, tt)))))))
+      (omega arith, (omega arith, (omega (arith, section_length, many.1), (omega (arith, four_bits rate), (omega arith, (counter_bytes.0, (counter_bytes.1, tt)))))))
 
   unsummed_bytes : All IsByte (unsummed_packet rate caption_flags (counter_of frame) section)
   unsummed_bytes =
       All-append IsByte front (section ++ 0x74 ∷ (counter_of frame / 256) ∷ (counter_of frame % 256) ∷ []) front_bytes
       (All-append IsByte section (0x74 ∷ (counter_of frame / 256) ∷ (counter_of frame % 256) ∷ []) section_bytes footer_bytes)
 
-  -- a distribution packet of 73 bytes
+  -- a distribution packet of at most 255 bytes
   packet_is_bytes : All IsByte bytes
   packet_is_bytes =
       All-append IsByte (unsummed_packet rate caption_flags (counter_of frame) section) (checksum_of (unsummed_packet rate caption_flags (counter_of frame) section) ∷ []) unsummed_bytes
       (All-cons IsByte (checksum_of (unsummed_packet rate caption_flags (counter_of frame) section)) [] (omega arith) (All-nil IsByte))
 
-  packet_length : length bytes ≡ 73
+  packet_length : length bytes ≤ 255
   packet_length =
       let all = length-append (unsummed_packet rate caption_flags (counter_of frame) section) (checksum_of (unsummed_packet rate caption_flags (counter_of frame) section) ∷ []) in
-      let body : length (section ++ 0x74 ∷ (counter_of frame / 256) ∷ (counter_of frame % 256) ∷ []) ≡ 62 + 3 = length-append section (0x74 ∷ (counter_of frame / 256) ∷ (counter_of frame % 256) ∷ []) ∙ ap (λ n. n + 3) section_length in
-      omega (arith, all, body)
+      let body : length (section ++ 0x74 ∷ (counter_of frame / 256) ∷ (counter_of frame % 256) ∷ []) ≡ length section + 3 = length-append section (0x74 ∷ (counter_of frame / 256) ∷ (counter_of frame % 256) ∷ []) in
+      omega (arith, all, body, section_length, many.1)
 
   -- it is the frame's packet
-  is_packet : IsCdp (frame_packet rate frame pairs []) bytes
+  is_packet : IsCdp (frame_packet rate frame carried []) bytes
   is_packet =
-      subst (λ s. IsCdp (frame_packet rate frame pairs []) (written_packet rate caption_flags (counter_of frame) s)) (append-nil section)
-      (written-is_packet rate caption_flags (counter_of frame) (section ∷ []) (cc_data_section-is triplets (omega (arith, many)), tt))
+      subst (λ s. IsCdp (frame_packet rate frame carried []) (written_packet rate caption_flags (counter_of frame) s)) (append-nil section)
+      (written-is_packet rate caption_flags (counter_of frame) (section ∷ []) (cc_data_section-is triplets (omega (arith, many.1)), tt))
 
   -- the bytes of its ancillary packet are a file of it alone
-  pub frame_file : IsFileOf (frame_packet rate frame pairs [] ∷ []) (frame_bytes rate frame pairs [])
+  pub frame_file : IsFileOf (frame_packet rate frame carried [] ∷ []) (frame_bytes rate frame carried [])
   frame_file = record {
     packets = packet_of 0x61 0x01 bytes ∷ [];
     file = IsWordsFile-one (packet_of 0x61 0x01 bytes) (packet_bytes 0x61 0x01 bytes)
         (packet_bytes-is 0x61 0x01 bytes (omega arith) (omega arith) (omega (arith, packet_length)) packet_is_bytes);
-    carried = caption (packet_of 0x61 0x01 bytes) [] (frame_packet rate frame pairs []) [] (refl, refl)
-        (subst (IsCdp (frame_packet rate frame pairs [])) (sym (user_bytes-packet_of 0x61 0x01 bytes packet_is_bytes)) is_packet) none;
+    carried = caption (packet_of 0x61 0x01 bytes) [] (frame_packet rate frame carried []) [] (refl, refl)
+        (subst (IsCdp (frame_packet rate frame carried [])) (sym (user_bytes-packet_of 0x61 0x01 bytes packet_is_bytes)) is_packet) none;
   }
 
 -- the triplets of a frame's packet are those of the frame
-packet_triplets_are : (rate : Rate) (frame : ℕ) (pairs : FramePairs) → packet_triplets (frame_packet rate frame pairs []) ≡ frame_triplets rate pairs []
-packet_triplets_are rate frame pairs =
-    append-nil _ ∙ cc_data_section-triplets (frame_triplets rate pairs []) (frame_kinds rate pairs [] (All-nil IsKind))
+packet_triplets_are : (rate : Rate) (frame : ℕ) (carried : FrameBytes) → packet_triplets (frame_packet rate frame carried []) ≡ frame_triplets rate carried []
+packet_triplets_are rate frame carried =
+    append-nil _ ∙ cc_data_section-triplets (frame_triplets rate carried []) (frame_kinds rate carried [] (All-nil IsKind))
 
 -- no filler has a pair
 fillers_empty : (second_field : Bool) (n : ℕ) → field_pairs second_field (replicate n filler) ≡ []
@@ -171,11 +169,20 @@ fillers_empty second_field zero = refl
 fillers_empty second_field (suc n) = fillers_empty second_field n
 
 -- each field has its pair
-field_one : (rate : Rate) (pairs : FramePairs) → field_pairs false (frame_triplets rate pairs []) ≡ pairs.one ∷ []
-field_one rate pairs = ap (λ rest. pairs.one ∷ rest) (fillers_empty false (triplets_of rate - 2))
+field_pair_is : (second_field : Bool) (one two : Option Pair) (n : ℕ)
+    → field_pairs second_field ((field_triplets 0 one ++ (field_triplets 1 two ++ [])) ++ replicate n filler) ≡ option_to_list (if second_field then two else one)
+field_pair_is false None None n = fillers_empty false n
+field_pair_is false None (Some two) n = fillers_empty false n
+field_pair_is false (Some one) None n = ap (λ rest. one ∷ rest) (fillers_empty false n)
+field_pair_is false (Some one) (Some two) n = ap (λ rest. one ∷ rest) (fillers_empty false n)
+field_pair_is true None None n = fillers_empty true n
+field_pair_is true None (Some two) n = ap (λ rest. two ∷ rest) (fillers_empty true n)
+field_pair_is true (Some one) None n = fillers_empty true n
+field_pair_is true (Some one) (Some two) n = ap (λ rest. two ∷ rest) (fillers_empty true n)
 
-field_two : (rate : Rate) (pairs : FramePairs) → field_pairs true (frame_triplets rate pairs []) ≡ pairs.two ∷ []
-field_two rate pairs = ap (λ rest. pairs.two ∷ rest) (fillers_empty true (triplets_of rate - 2))
+field_is : (rate : Rate) (carried : FrameBytes) (second_field : Bool) → field_pairs second_field (frame_triplets rate carried []) ≡ option_to_list (pair_in second_field carried)
+field_is rate carried false = field_pair_is false carried.one carried.two (triplets_of rate - length (front_triplets carried []))
+field_is rate carried true = field_pair_is true carried.one carried.two (triplets_of rate - length (front_triplets carried []))
 
 -- no triplet that counts has service bytes
 abbrev IsOfField : Triplet → Type 0
@@ -185,79 +192,81 @@ fillers_of_field : (n : ℕ) → All IsOfField (replicate n filler)
 fillers_of_field zero = All-nil IsOfField
 fillers_of_field (suc n) = All-cons IsOfField filler (replicate n filler) (λ counts. cc) (fillers_of_field n)
 
-frame_of_fields : (rate : Rate) (pairs : FramePairs) → All IsOfField (frame_triplets rate pairs [])
-frame_of_fields rate pairs =
-    All-cons IsOfField (pair_triplet 0 pairs.one) (pair_triplet 1 pairs.two ∷ replicate (triplets_of rate - 2) filler) (λ counts. omega arith)
-    (All-cons IsOfField (pair_triplet 1 pairs.two) (replicate (triplets_of rate - 2) filler) (λ counts. omega arith) (fillers_of_field (triplets_of rate - 2)))
+of_field : (kind : ℕ) (pair : Option Pair) → kind < 2 → All IsOfField (field_triplets kind pair)
+of_field kind None low = All-nil IsOfField
+of_field kind (Some pair) low = All-cons IsOfField (pair_triplet kind pair) [] (λ counts. low) (All-nil IsOfField)
+
+frame_of_fields : (rate : Rate) (carried : FrameBytes) → All IsOfField (frame_triplets rate carried [])
+frame_of_fields rate carried =
+    All-append IsOfField (front_triplets carried []) (replicate (triplets_of rate - length (front_triplets carried [])) filler)
+    (All-append IsOfField (field_triplets 0 carried.one) (field_triplets 1 carried.two ++ []) (of_field 0 carried.one (omega arith))
+    (All-append IsOfField (field_triplets 1 carried.two) [] (of_field 1 carried.two (omega arith)) (All-nil IsOfField)))
+    (fillers_of_field (triplets_of rate - length (front_triplets carried [])))
 
 -- a frame keeps to its room
-within_room : (rate : Rate) → IsListRate rate → (frame : ℕ) (pairs : FramePairs) → IsWithinRoom rate pairs (frame_packet rate frame pairs [])
-within_room rate is frame pairs =
-    let same = packet_triplets_are rate frame pairs in
+within_room : (rate : Rate) (frame : ℕ) (carried : FrameBytes) → IsWithinRoom rate carried (frame_packet rate frame carried [])
+within_room rate frame carried =
+    let same = packet_triplets_are rate frame carried in
     record {
-      number = ap length same ∙ frame_number rate pairs [] (omega (arith, twenty rate is));
-      one = ap (field_pairs false) same ∙ field_one rate pairs;
-      two = ap (field_pairs true) same ∙ field_two rate pairs;
-      no_service = subst (All IsOfField) (sym same) (frame_of_fields rate pairs);
+      number = ap length same ∙ frame_number rate carried;
+      pairs = λ second_field. ap (field_pairs second_field) same ∙ field_is rate carried second_field;
+      no_service = subst (All IsOfField) (sym same) (frame_of_fields rate carried);
     }
 
 -- the bytes of frames are a file of their packets
-columns_file : (rate : Rate) → IsListRate rate → (columns : Columns) → AreBytePairs columns → (frame n : ℕ)
+columns_file : (rate : Rate) (columns : Columns) → AreBytePairs columns → (frame n : ℕ)
     → IsFileOf (column_packets rate columns frame n) (column_bytes rate columns frame n)
-columns_file rate is columns are frame zero = record { packets = []; file = IsWordsFile-nil; carried = none }
-columns_file rate is columns are frame (suc n) =
-    joined (frame_packet rate frame (pairs_at columns frame) [] ∷ []) (column_packets rate columns (suc frame) n)
-    (frame_bytes rate frame (pairs_at columns frame) []) (column_bytes rate columns (suc frame) n)
-    (frame_file rate is frame (pairs_at columns frame) (are.one frame) (are.two frame))
-    (columns_file rate is columns are (suc frame) n)
+columns_file rate columns are frame zero = record { packets = []; file = IsWordsFile-nil; carried = none }
+columns_file rate columns are frame (suc n) =
+    joined (frame_packet rate frame (columns frame) [] ∷ []) (column_packets rate columns (suc frame) n)
+    (frame_bytes rate frame (columns frame) []) (column_bytes rate columns (suc frame) n)
+    (frame_file rate frame (columns frame) (are false frame) (are true frame))
+    (columns_file rate columns are (suc frame) n)
 
--- a column's pairs from a frame on
-pairs_from : (ℕ → Pair) → ℕ → ℕ → List Pair
-pairs_from column frame zero = []
-pairs_from column frame (suc k) = column frame ∷ pairs_from column (suc frame) k
+-- a field's pairs from a frame on
+pairs_from : Bool → Columns → ℕ → ℕ → List Pair
+pairs_from second_field columns frame zero = []
+pairs_from second_field columns frame (suc k) = option_to_list (pair_in second_field (columns frame)) ++ pairs_from second_field columns (suc frame) k
 
--- one more at the end
-pairs_from-more : (column : ℕ → Pair) (frame k : ℕ) → pairs_from column frame (suc k) ≡ pairs_from column frame k ++ column (frame + k) ∷ []
+-- those of one more frame at the end
+pairs_from-more : (second_field : Bool) (columns : Columns) (frame k : ℕ)
+    → pairs_from second_field columns frame (suc k) ≡ pairs_from second_field columns frame k ++ option_to_list (pair_in second_field (columns (frame + k)))
 unfolding pairs_from
-pairs_from-more column frame zero = let e : frame + 0 ≡ frame = omega arith in rw e refl
-pairs_from-more column frame (suc k) =
+pairs_from-more second_field columns frame zero =
+    let e : frame ≡ frame + 0 = omega arith in
+    append-nil (option_to_list (pair_in second_field (columns frame))) ∙ ap (λ m. option_to_list (pair_in second_field (columns m))) e
+pairs_from-more second_field columns frame (suc k) =
     let e : suc frame + k ≡ frame + suc k = omega arith in
-    ap (λ rest. column frame ∷ rest) (pairs_from-more column (suc frame) k ∙ ap (λ m. pairs_from column (suc frame) k ++ column m ∷ []) e)
+    let here = option_to_list (pair_in second_field (columns frame)) in
+    ap (λ rest. here ++ rest) (pairs_from-more second_field columns (suc frame) k)
+    ∙ ap (λ m. here ++ (pairs_from second_field columns (suc frame) k ++ option_to_list (pair_in second_field (columns m)))) e
+    ∙ sym (append_assoc here (pairs_from second_field columns (suc frame) k) (option_to_list (pair_in second_field (columns (frame + suc k)))))
 
 -- from frame 0 on they are the first ones
-pairs_from-first : (column : ℕ → Pair) (k : ℕ) → pairs_from column 0 k ≡ first_pairs column k
+pairs_from-first : (second_field : Bool) (columns : Columns) (k : ℕ) → pairs_from second_field columns 0 k ≡ first_pairs second_field columns k
 unfolding pairs_from
-pairs_from-first column zero = refl
-pairs_from-first column (suc k) =
+pairs_from-first second_field columns zero = refl
+pairs_from-first second_field columns (suc k) =
     let e : 0 + k ≡ k = omega arith in
-    pairs_from-more column 0 k ∙ ap (λ front. front ++ column (0 + k) ∷ []) (pairs_from-first column k) ∙ ap (λ m. first_pairs column k ++ column m ∷ []) e
+    pairs_from-more second_field columns 0 k
+    ∙ ap (λ front. front ++ option_to_list (pair_in second_field (columns (0 + k)))) (pairs_from-first second_field columns k)
+    ∙ ap (λ m. first_pairs second_field columns k ++ option_to_list (pair_in second_field (columns m))) e
 
--- a receiver gets the pairs of field 1, and those of field 2
-received_one : (rate : Rate) (columns : Columns) (frame n k : ℕ) → k ≤ n
-    → received_pairs false (take k (column_packets rate columns frame n)) ≡ pairs_from columns.one frame k
+-- a receiver gets the pairs of each field
+received_are : (second_field : Bool) (rate : Rate) (columns : Columns) (frame n k : ℕ) → k ≤ n
+    → received_pairs second_field (take k (column_packets rate columns frame n)) ≡ pairs_from second_field columns frame k
 unfolding pairs_from
-received_one rate columns frame n zero below = refl
-received_one rate columns frame zero (suc k) below = absurd (omega arith)
-received_one rate columns frame (suc n) (suc k) below =
-    ap (λ pairs. pairs ++ received_pairs false (take k (column_packets rate columns (suc frame) n)))
-    (ap (field_pairs false) (packet_triplets_are rate frame (pairs_at columns frame)) ∙ field_one rate (pairs_at columns frame))
-    ∙ ap (λ rest. columns.one frame ∷ rest) (received_one rate columns (suc frame) n k (omega arith))
-
-received_two : (rate : Rate) (columns : Columns) (frame n k : ℕ) → k ≤ n
-    → received_pairs true (take k (column_packets rate columns frame n)) ≡ pairs_from columns.two frame k
-unfolding pairs_from
-received_two rate columns frame n zero below = refl
-received_two rate columns frame zero (suc k) below = absurd (omega arith)
-received_two rate columns frame (suc n) (suc k) below =
-    ap (λ pairs. pairs ++ received_pairs true (take k (column_packets rate columns (suc frame) n)))
-    (ap (field_pairs true) (packet_triplets_are rate frame (pairs_at columns frame)) ∙ field_two rate (pairs_at columns frame))
-    ∙ ap (λ rest. columns.two frame ∷ rest) (received_two rate columns (suc frame) n k (omega arith))
+received_are second_field rate columns frame n zero below = refl
+received_are second_field rate columns frame zero (suc k) below = absurd (omega arith)
+received_are second_field rate columns frame (suc n) (suc k) below =
+    ap (λ pairs. pairs ++ received_pairs second_field (take k (column_packets rate columns (suc frame) n)))
+    (ap (field_pairs second_field) (packet_triplets_are rate frame (columns frame)) ∙ field_is rate (columns frame) second_field)
+    ∙ ap (λ rest. option_to_list (pair_in second_field (columns frame)) ++ rest) (received_are second_field rate columns (suc frame) n k (omega arith))
 
 -- the frames of a programme are carried
 pub frames_carried : FramesAreCarried
-frames_carried rate columns n is are = record {
-  file = columns_file rate is columns are 0 n;
-  room = λ frame. within_room rate is frame (pairs_at columns frame);
-  one = λ k below. received_one rate columns 0 n k below ∙ pairs_from-first columns.one k;
-  two = λ k below. received_two rate columns 0 n k below ∙ pairs_from-first columns.two k;
+frames_carried rate columns n are = record {
+  file = columns_file rate columns are 0 n;
+  room = λ frame. within_room rate frame (columns frame);
+  received = λ second_field k below. received_are second_field rate columns 0 n k below ∙ pairs_from-first second_field columns k;
 }

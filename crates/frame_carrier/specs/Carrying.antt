@@ -7,8 +7,8 @@ use Rattle.cc_data.specs.declared.triplet.Triplet.{Triplet}
 use Rattle.cdp_packets.specs.Packets.{Packet as Frame}
 use Rattle.cdp_packets.specs.Written.{cc_data_section, written_packet}
 use Rattle.anc_words.specs.Writing.{packet_bytes}
-use Rattle.frame_scheduler.specs.Columns.{Columns, pairs_at}
-use Rattle.frame_scheduler.specs.declared.frames.FramePairs.{FramePairs}
+use Rattle.frame_scheduler.specs.Columns.{Columns}
+use Rattle.frame_scheduler.specs.declared.frames.FrameBytes.{FrameBytes}
 use Rattle.frame_carrier.specs.FrameTriplets.{frame_triplets}
 use Rattle.frame_carrier.specs.declared.carrier.Carrier.{Carrier}
 
@@ -20,32 +20,32 @@ caption_flags = 0x43
 abbrev pub counter_of : ℕ → ℕ
 counter_of frame = frame % 65536
 
--- the distribution packet of a frame with its pairs, and with the triplets of its channel packet
-abbrev pub frame_packet : Rate → ℕ → FramePairs → List Triplet → Frame
-frame_packet rate frame pairs packet = record {
+-- the distribution packet of a frame with what it carries, and with the triplets of its channel packet
+abbrev pub frame_packet : Rate → ℕ → FrameBytes → List Triplet → Frame
+frame_packet rate frame bytes packet = record {
   rate = rate;
   flags = caption_flags;
   counter = counter_of frame;
-  sections = cc_data_section (frame_triplets rate pairs packet) ∷ [];
+  sections = cc_data_section (frame_triplets rate bytes packet) ∷ [];
 }
 
 -- the bytes of the ancillary packet of a frame
-abbrev pub frame_bytes : Rate → ℕ → FramePairs → List Triplet → List ℕ
-frame_bytes rate frame pairs packet =
+abbrev pub frame_bytes : Rate → ℕ → FrameBytes → List Triplet → List ℕ
+frame_bytes rate frame bytes packet =
     packet_bytes 0x61 0x01
-    (written_packet rate caption_flags (counter_of frame) (cc_data_section (frame_triplets rate pairs packet)))
+    (written_packet rate caption_flags (counter_of frame) (cc_data_section (frame_triplets rate bytes packet)))
 
 -- the distribution packets of so many frames of columns, from a frame on
 abbrev pub column_packets : Rate → Columns → ℕ → ℕ → List Frame
 column_packets rate columns frame zero = []
 column_packets rate columns frame (suc n) =
-    frame_packet rate frame (pairs_at columns frame) [] ∷ column_packets rate columns (suc frame) n
+    frame_packet rate frame (columns frame) [] ∷ column_packets rate columns (suc frame) n
 
 -- the bytes of their ancillary packets
 abbrev pub column_bytes : Rate → Columns → ℕ → ℕ → List ℕ
 column_bytes rate columns frame zero = []
 column_bytes rate columns frame (suc n) =
-    frame_bytes rate frame (pairs_at columns frame) [] ++ column_bytes rate columns (suc frame) n
+    frame_bytes rate frame (columns frame) [] ++ column_bytes rate columns (suc frame) n
 
 -- the carrier is for this rate, and this frame is its next
 pub record IsAt (rate : Rate) (frame : ℕ) (carrier : Carrier) : Type 0 where

@@ -2,8 +2,9 @@
 
 ghost use Rattle.frame_carrier.specs.Carried.{FramesAreCarried};
 
-/// The frames of a programme are carried: their bytes are a words file of their packets, each frame has as many triplets as
-/// its rate asks, with one pair of each field and no service bytes, and a receiver gets just the pairs.
+/// The frames of a programme are carried, at any rate: their bytes are a words file of their packets, each frame has as many
+/// triplets as its rate asks, with the pair of each field in which it has a slot and no service bytes, and a receiver gets
+/// just the pairs.
 pub fn frames_are_carried()
     ensures { FramesAreCarried }
 {}

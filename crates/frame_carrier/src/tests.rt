@@ -1,19 +1,33 @@
+ghost use Rattle.std.specs.Prelude.{◌≡◌, []};
+
 use crate::Carrier;
 use arrayvec::ArrayVec;
 use cc_base::Rate;
 use cc_data::Triplet;
-use frame_scheduler::FramePairs;
+use frame_scheduler::FrameBytes;
 use line21_codes::Pair;
 use std::alloc::{AllocError, Global};
 
 /// A pair that sends nothing.
 const NOTHING: Pair = Pair { a: 0x80, b: 0x80 };
 
+/// A frame with these pairs in field 1 and field 2.
+fn frame_of(one: Option<Pair>, two: Option<Pair>) -> FrameBytes
+    ensures { result.blocks.items ≡ [] }
+{
+    FrameBytes {
+        one,
+        two,
+        blocks: ArrayVec::new(),
+    }
+}
+
 /// A frame in which nothing is sent.
-const SILENCE: FramePairs = FramePairs {
-    one: NOTHING,
-    two: NOTHING,
-};
+fn silence() -> FrameBytes
+    ensures { result.blocks.items ≡ [] }
+{
+    frame_of(Some(NOTHING), Some(NOTHING))
+}
 
 /// What differs from frame to frame in the words of frames without service bytes.
 #[derive(Clone, Copy)]
@@ -95,27 +109,23 @@ fn frames_without_captions_differ_in_their_counters_and_sums(
                 ..FIRST
             },
         )?;
-        let words = carrier.words(&SILENCE);
+        let words = carrier.words(&silence());
         assert_eq!(rt; words.len(), 160, "frame {place}");
         assert_eq!(rt; words.as_slice(), bytes.as_slice(), "frame {place}");
     }
     Ok(())
 }
 
-/// The code that resumes the loading of a caption, in both fields.
-const RESUME: FramePairs = FramePairs {
-    one: Pair { a: 0x94, b: 0x20 },
-    two: Pair { a: 0x15, b: 0x20 },
-};
+/// The code that resumes the loading of a caption, in field 1 and in field 2.
+const RESUME_1: Pair = Pair { a: 0x94, b: 0x20 };
+
+const RESUME_2: Pair = Pair { a: 0x15, b: 0x20 };
 
 #[test]
 fn pairs_stand_in_the_triplets_of_their_fields(rt: HostRuntime) -> Result<(), AllocError> {
     let pairs_and_frames = [
         (
-            FramePairs {
-                two: NOTHING,
-                ..RESUME
-            },
+            NOTHING,
             Frame {
                 one: [0x0194, 0x0120],
                 sums: [0x010B, 0x02AB],
@@ -123,7 +133,7 @@ fn pairs_stand_in_the_triplets_of_their_fields(rt: HostRuntime) -> Result<(), Al
             },
         ),
         (
-            RESUME,
+            RESUME_2,
             Frame {
                 one: [0x0194, 0x0120],
                 two: [0x0115, 0x0120],
@@ -132,8 +142,8 @@ fn pairs_stand_in_the_triplets_of_their_fields(rt: HostRuntime) -> Result<(), Al
             },
         ),
     ];
-    for (pairs, frame) in pairs_and_frames {
-        let words = Carrier::new(Rate::F2997).words(&pairs);
+    for (two, frame) in pairs_and_frames {
+        let words = Carrier::new(Rate::F2997).words(&frame_of(Some(RESUME_1), Some(two)));
         assert_eq!(rt; words.as_slice(), bytes_of(rt.alloc(), frame)?.as_slice());
     }
     Ok(())
@@ -146,7 +156,7 @@ fn the_rate_stands_in_the_packet(rt: HostRuntime) -> Result<(), AllocError> {
         sums: [0x02AF, 0x01AB],
         ..FIRST
     };
-    let words = Carrier::new(Rate::F30).words(&SILENCE);
+    let words = Carrier::new(Rate::F30).words(&silence());
     assert_eq!(rt; words.as_slice(), bytes_of(rt.alloc(), at_30)?.as_slice());
     Ok(())
 }
@@ -154,7 +164,7 @@ fn the_rate_stands_in_the_packet(rt: HostRuntime) -> Result<(), AllocError> {
 #[test]
 fn a_frame_has_twenty_triplets_of_which_two_count(rt: HostRuntime) {
     let mut carrier = Carrier::new(Rate::F30);
-    let triplets = carrier.triplets(&RESUME);
+    let triplets = carrier.triplets(&frame_of(Some(RESUME_1), Some(RESUME_2)));
     let one = Triplet {
         valid: true,
         kind: 0,
@@ -192,8 +202,8 @@ fn a_call_of_triplets_is_a_frame(rt: HostRuntime) -> Result<(), AllocError> {
         ..FIRST
     };
     let mut carrier = Carrier::new(Rate::F2997);
-    let _ = carrier.triplets(&RESUME);
-    let words = carrier.words(&SILENCE);
+    let _ = carrier.triplets(&frame_of(Some(RESUME_1), Some(RESUME_2)));
+    let words = carrier.words(&silence());
     assert_eq!(rt; words.as_slice(), bytes_of(rt.alloc(), second)?.as_slice());
     Ok(())
 }
@@ -208,7 +218,7 @@ fn words_are_put_into_a_buffer_of_the_callers(rt: HostRuntime) -> Result<(), All
     let mut carrier = Carrier::new(Rate::F2997);
     for frame in [FIRST, second] {
         let mut words = ArrayVec::new();
-        carrier.put_words(&SILENCE, &mut words);
+        carrier.put_words(&silence(), &mut words);
         assert_eq!(rt; words.as_slice(), bytes_of(rt.alloc(), frame)?.as_slice());
     }
     Ok(())
@@ -224,11 +234,29 @@ fn the_counter_is_0_again_after_65536_frames(rt: HostRuntime) -> Result<(), Allo
     };
     let mut carrier = Carrier::new(Rate::F2997);
     for _ in 0..65_535 {
-        let _ = carrier.words(&SILENCE);
+        let _ = carrier.words(&silence());
     }
-    let words = carrier.words(&SILENCE);
+    let words = carrier.words(&silence());
     assert_eq!(rt; words.as_slice(), bytes_of(alloc, highest)?.as_slice());
-    let words = carrier.words(&SILENCE);
+    let words = carrier.words(&silence());
     assert_eq!(rt; words.as_slice(), bytes_of(alloc, FIRST)?.as_slice());
     Ok(())
+}
+
+// At 59.94 a frame has ten triplets, so its distribution packet has 43 bytes.
+#[test]
+fn a_frame_of_one_field_has_one_pair(rt: HostRuntime) {
+    let even = frame_of(Some(RESUME_1), None);
+    let triplets = Carrier::new(Rate::F5994).triplets(&even);
+    assert_eq!(rt; triplets.len(), 10);
+    let valid = triplets.as_slice().iter().filter(|t| t.valid).count();
+    assert_eq!(rt; valid, 1);
+    let words = Carrier::new(Rate::F5994).words(&even);
+    // the flag, DID, SDID and the count, then the packet's identifier, length, rate, flags and counter, and its section's head
+    let front: [u8; 26] = [
+        0x00, 0x00, 0x03, 0xFF, 0x03, 0xFF, 0x01, 0x61, 0x01, 0x01, 0x02, 0x2B, 0x02, 0x96, 0x02,
+        0x69, 0x02, 0x2B, 0x01, 0x7F, 0x01, 0x43, 0x02, 0x00, 0x02, 0x00,
+    ];
+    assert_eq!(rt; words.len(), 100);
+    assert!(rt; words.as_slice().starts_with(&front));
 }

@@ -1,10 +1,14 @@
-ghost use Rattle.std.specs.Prelude.{◌≡◌, ◌+◌, ◌<◌, ◌≤◌, length, All};
+ghost use Rattle.std.specs.Prelude.{◌≡◌, ◌+◌, ◌-◌, ◌<◌, ◌≤◌, ◌++◌, [], ◌∷◌, Some, length, replicate};
 ghost use Rattle.cc_base.specs.Rate.{triplets_of};
-ghost use Rattle.cc_base.specs.declared.rate.Rate.{Rate};
-ghost use Rattle.frame_carrier.specs.FrameTriplets.{filler, frame_triplets, pair_triplet};
+ghost use Rattle.cdp_packets.specs.Sections.{IsSectionList};
+ghost use Rattle.cdp_packets.specs.Written.{cc_data_section};
+ghost use Rattle.frame_carrier.specs.FrameTriplets.{field_triplets, filler, frame_triplets, pair_triplet};
 
+use arrayvec::ArrayVec;
+use cc_base::Rate;
 use cc_data::Triplet;
-use frame_scheduler::FramePairs;
+use cdp_packets::cc_section;
+use frame_scheduler::FrameBytes;
 use line21_codes::Pair;
 
 /// The kinds of triplets (CTA-708-E, cc_type): the pairs of both fields, and bytes of a caption channel packet.
@@ -14,19 +18,63 @@ const FIELD_2: u8 = 1;
 
 const PACKET_DATA: u8 = 2;
 
-/// The number of triplets of a frame at the rates of a cue list, 29.97 and 30 frames a second.
-pub(crate) const TRIPLETS: usize = 20;
+/// The number of triplets of a frame at 29.97 and 30 frames a second.
+const TWENTY: usize = 20;
 
-/// The triplets of a frame: the pair of field 1, that of field 2, the triplets of the frame's caption channel packet, and
-/// triplets that don't count up to the rate's number.
-pub(crate) fn frame_triplets(pairs: &FramePairs, packet: &[Triplet]) -> [Triplet; TRIPLETS]
-    requires few { 2 + length packet.now ≤ TRIPLETS }
-    ensures { (rate : Rate) → triplets_of rate ≡ TRIPLETS → result ≡ frame_triplets rate pairs.now packet.now }
+/// The triplets of a frame without service bytes: those of the fields in which it has a pair, and triplets that don't count up
+/// to the rate's number.
+pub(crate) fn frame_triplets(rate: Rate, frame: &FrameBytes) -> ArrayVec<Triplet, 31>
+    ensures { result.items ≡ frame_triplets rate frame.now [] }
 {
-    let mut triplets = [filler(); TRIPLETS];
-    triplets[0] = pair_triplet(FIELD_1, pairs.one);
-    triplets[1] = pair_triplet(FIELD_2, pairs.two);
-    triplets[2..2 + packet.len()].copy_from_slice(packet);
+    let mut triplets = ArrayVec::new();
+    push_pair(FIELD_1, frame.one, &mut triplets);
+    push_pair(FIELD_2, frame.two, &mut triplets);
+    fill(rate.triplets(), &mut triplets);
+    triplets
+}
+
+/// Appends the triplet of a field, if the frame has a pair in it.
+fn push_pair(kind: u8, pair: Option<Pair>, triplets: &mut ArrayVec<Triplet, 31>)
+    requires { length triplets.old.items < 31 }
+    ensures { triplets.new.items ≡ triplets.old.items ++ field_triplets kind pair }
+{
+    if let Some(pair) = pair {
+        triplets.push(pair_triplet(kind, pair));
+    }
+}
+
+/// Appends triplets that don't count up to a number.
+fn fill(number: u8, triplets: &mut ArrayVec<Triplet, 31>)
+    requires number { number ≤ 31 }
+    requires room { length triplets.old.items ≤ number }
+    ensures { triplets.new.items ≡ triplets.old.items ++ replicate (number - length triplets.old.items) filler }
+{
+    while triplets.len() < usize::from(number) {
+        triplets.push(filler());
+    }
+}
+
+/// Appends the cc_data section of a frame without service bytes to an empty vector. The frames of 29.97 and 30 frames a second
+/// go by an array of a known length, which is faster.
+#[tactic(auto, using(crate::proofs::CarryingLemmas::no_sections))]
+pub(crate) fn put_section(rate: Rate, frame: &FrameBytes, out: &mut ArrayVec<u8, 244>)
+    requires { out.old.items ≡ [] }
+    ensures section { out.new.items ≡ cc_data_section (frame_triplets rate frame.now []) }
+    ensures list { IsSectionList out.new.items }
+{
+    match (frame.one, frame.two, rate.triplets()) {
+        (Some(one), Some(two), 20) => cc_section(&twenty_triplets(one, two), out),
+        _ => cc_section(&frame_triplets(rate, frame), out),
+    }
+}
+
+/// The twenty triplets of a frame with a pair in each field.
+fn twenty_triplets(one: Pair, two: Pair) -> [Triplet; TWENTY]
+    ensures { result ≡ pair_triplet 0 one ∷ pair_triplet 1 two ∷ replicate 18 filler }
+{
+    let mut triplets = [filler(); TWENTY];
+    triplets[0] = pair_triplet(FIELD_1, one);
+    triplets[1] = pair_triplet(FIELD_2, two);
     triplets
 }
 

@@ -8,12 +8,13 @@ use Rattle.line21_author.specs.CueUnits.{units_of}
 use Rattle.line21_author.specs.declared.unit.Unit.{Unit}
 use Rattle.frame_scheduler.specs.declared.lane.piece.Piece.{Piece}
 use Rattle.frame_scheduler.specs.ChannelLane.{channel_pieces, cue_pieces, pieces_from}
-use Rattle.frame_scheduler.specs.LaneRoom.{AreInOrder, AreOfCuesFrom}
+use Rattle.frame_scheduler.specs.LanePlan.{piece_cue}
+use Rattle.frame_scheduler.specs.LaneRoom.{AreInCueOrder, AreOfCuesFrom}
 
 -- the units stand in the order of their cues, none of which is before the cue of this number
 record StartAt (number : ℕ) (pieces : List Piece) : Type 0 where
-  from : AreOfCuesFrom number pieces
-  order : AreInOrder pieces
+  from : AreOfCuesFrom piece_cue number pieces
+  order : AreInCueOrder piece_cue pieces
 
 -- the units of a cue before those of later ones
 cue_start : (number load until : ℕ) (units : List Unit) (rest : List Piece) → StartAt number rest
@@ -24,7 +25,7 @@ cue_start number load until (unit ∷ units) rest start =
     record { from = (omega arith, behind.from); order = (behind.from, behind.order) }
 
 -- units of cues from a later number on
-of_later_cues : (number : ℕ) (pieces : List Piece) → AreOfCuesFrom (suc number) pieces → AreOfCuesFrom number pieces
+of_later_cues : (number : ℕ) (pieces : List Piece) → AreOfCuesFrom piece_cue (suc number) pieces → AreOfCuesFrom piece_cue number pieces
 of_later_cues number [] from = tt
 of_later_cues number (piece ∷ pieces) from = (omega (arith, from.0), of_later_cues number pieces from.1)
 
@@ -40,5 +41,5 @@ channel_start channel number (cue ∷ cues) =
     ]
 
 -- the units of a channel stand in the order of their cues
-pub channel_in_order : (channel : Chan) (cues : List Cue) → AreInOrder (channel_pieces channel cues)
+pub channel_in_order : (channel : Chan) (cues : List Cue) → AreInCueOrder piece_cue (channel_pieces channel cues)
 channel_in_order channel cues = (channel_start channel 1 cues).order

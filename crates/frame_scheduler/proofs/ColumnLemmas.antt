@@ -6,7 +6,7 @@ use Rattle.std.specs.Int.Count.{ones}
 use Rattle.line21_codes.specs.declared.pairs.Pair.{Pair}
 use Rattle.line21_codes.specs.ControlPairs.{is_control}
 use Rattle.line21_author.specs.declared.unit.Unit.{Unit}
-use Rattle.frame_scheduler.specs.Timeline.{Timeline, first_of, repeat_of, repeat_at, slot, null_pair, column}
+use Rattle.frame_scheduler.specs.Timeline.{IsSpaced, Timeline, first_of, repeat_of, repeat_at, slot, null_pair, column}
 use Rattle.frame_scheduler.specs.DoubledPairs.{EndsWith, BeginsWith, IsDoubled}
 
 -- a column has a slot for each frame
@@ -47,10 +47,6 @@ column_take t (suc n) k h =
 -- what begins is doubled exactly where it is a control pair
 abbrev pub IsMarked : Timeline → Type 0
 IsMarked t = (n : ℕ) (u : Unit) → t n ≡ Some u → is_control u.pair ≡ u.doubled
-
--- nothing begins in a repeat
-abbrev pub IsSpaced : Timeline → Type 0
-IsSpaced t = (n : ℕ) (p : Pair) → repeat_of (t n) ≡ Some p → t (suc n) ≡ None
 
 -- the null pair is no control pair
 pub null_plain : is_control null_pair ≡ false

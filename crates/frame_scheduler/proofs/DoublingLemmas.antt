@@ -9,7 +9,7 @@ use Rattle.line21_codes.specs.ControlPairs.{is_control}
 use Rattle.line21_author.specs.declared.unit.Unit.{Unit}
 use Rattle.line21_author.specs.declared.event.Event.{Event}
 use Rattle.frame_scheduler.specs.declared.lane.piece.Piece.{Piece}
-use Rattle.frame_scheduler.specs.Timeline.{first_of, repeat_of, repeat_at, column}
+use Rattle.frame_scheduler.specs.Timeline.{IsSpaced, first_of, repeat_of, repeat_at, column}
 use Rattle.frame_scheduler.specs.LaneEvents.{IsFree, AreOver, event_at}
 use Rattle.line21_author.specs.EventOrder.{AreFrom, AreApart}
 use Rattle.frame_scheduler.specs.FieldLane.{slots_of, end_of, IsAllowed, lane}
@@ -18,15 +18,15 @@ use Rattle.frame_scheduler.specs.LaneDoubling.{AreDoubledControls, AreEnded}
 use Rattle.frame_scheduler.specs.DoubledPairs.{IsDoubled}
 use Rattle.frame_scheduler.specs.Placing.{IsPlaced}
 use Rattle.frame_scheduler.proofs.FieldLaneLemmas.{end_push}
-use Rattle.frame_scheduler.proofs.LaneCursorLemmas.{event_none, some_slot}
-use Rattle.frame_scheduler.proofs.ColumnLemmas.{IsMarked, IsSpaced, column_doubled}
+use Rattle.frame_scheduler.proofs.EventLemmas.{event_none, some_slot}
+use Rattle.frame_scheduler.proofs.ColumnLemmas.{IsMarked, column_doubled}
 
 -- what begins at a frame where an event does
 pub at_event : (e : Event) (es : List Event) (n : ℕ) → (b : Bool) → eqb n e.frame ≡ b → event_at (e ∷ es) n ≡ cond b (Some (record { pair = e.pair; doubled = true })) (event_at es n)
 at_event e es n b is = ap (λ c. cond c (Some (record { pair = e.pair; doubled = true })) (event_at es n)) is
 
 -- where an event begins, two slots aren't free
-event_held : (es : List Event) (n : ℕ) (u : Unit) → event_at es n ≡ Some u → (IsFree es n → ⊥) × (IsFree es (n + 1) → ⊥)
+pub event_held : (es : List Event) (n : ℕ) (u : Unit) → event_at es n ≡ Some u → (IsFree es n → ⊥) × (IsFree es (n + 1) → ⊥)
 event_held [] n u is = (λ f. cc, λ f. cc)
 event_held (e ∷ es) n u is = go (event_held es n u) (eqb n e.frame) refl
   where
@@ -178,7 +178,7 @@ free_none events n free = go (event_at events n) refl
     go (Some u) is = absurd ((event_held events n u is).0 free)
 
 -- no unit begins in the slots of an event
-held_none : (events : List Event) (pieces : List Piece) (fs : List ℕ) (n : ℕ) → IsPlaced (lane events) [] pieces fs → (IsFree events n → ⊥) → stands pieces fs n ≡ None
+pub held_none : (events : List Event) (pieces : List Piece) (fs : List ℕ) (n : ℕ) → IsPlaced (lane events) [] pieces fs → (IsFree events n → ⊥) → stands pieces fs n ≡ None
 held_none events pieces fs n placed held = go (stands pieces fs n) refl
   where
     go : (o : Option Unit) → stands pieces fs n ≡ o → stands pieces fs n ≡ None

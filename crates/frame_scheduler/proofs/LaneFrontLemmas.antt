@@ -8,7 +8,7 @@ use Rattle.line21_author.specs.EventOrder.{AreFrom, AreApart}
 use Rattle.frame_scheduler.specs.LaneFront.{AreFree}
 use Rattle.frame_scheduler.specs.LaneCursor.{IsNext}
 use Rattle.frame_scheduler.proofs.NextLemmas.{next_take, next_from_drop}
-use Rattle.frame_scheduler.proofs.LaneCursorLemmas.{from_first, over_later, over_push, free_over, free_from, free_append, held_first}
+use Rattle.frame_scheduler.proofs.EventLemmas.{from_first, over_later, over_push, free_over, free_from, free_append, held_first}
 
 -- a list around the element that stands next
 next_split : {T : Type 0} (xs : List T) (k : ℕ) (x : T) → IsNext xs k x → xs ≡ take k xs ++ x ∷ drop (k + 1) xs

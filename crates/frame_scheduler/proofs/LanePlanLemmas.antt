@@ -1,36 +1,129 @@
--- The cursor of a lane whose events lie apart is ready at frame 0.
-use Rattle.std.proofs.Common.{◌≡◌, ℕ, List, [], ◌∷◌, None, refl, subst, arith}
+-- A lane that is placed: its units one by one, and that its cursor is ready at slot 0.
+use Rattle.std.proofs.Common.{◌≡◌, ◌∙◌, ◌+◌, ◌<◌, ◌≤◌, ℕ, List, [], ◌∷◌, ◌++◌, Some, None, cond, eqb, refl, sym, ap, subst, arith, length, get_or, take}
+use Rattle.std.proofs.Math.Path.{fun_ext}
+use Rattle.std.proofs.lemmas.List.{take_more, take_all}
+use Rattle.std.specs.List.{zip}
 use Rattle.line21_codes.specs.declared.pairs.Pair.{Pair}
-use Rattle.frame_scheduler.specs.declared.lane.cursor.Cursor.{Cursor}
-use Rattle.line21_author.specs.declared.event.Event.{Event}
-use Rattle.frame_scheduler.specs.declared.lane.piece.Piece.{Piece}
 use Rattle.line21_author.specs.EventOrder.{AreFrom, AreApart}
-use Rattle.frame_scheduler.specs.Timeline.{Timeline}
-use Rattle.frame_scheduler.specs.LaneCursor.{IsReady, GivesSlot}
-use Rattle.frame_scheduler.specs.LanePlan.{IsPlanned}
-use Rattle.frame_scheduler.proofs.FieldLaneLemmas.{first_fit}
+use Rattle.line21_author.specs.declared.event.Event.{Event}
+use Rattle.frame_scheduler.specs.FieldLane.{IsAllowed, end_of, lane, slots_of}
+use Rattle.frame_scheduler.specs.FirstFit.{IsFirst}
+use Rattle.frame_scheduler.specs.LaneCursor.{AreRising, AreUnitsFrom, GivesSlot, IsReady}
+use Rattle.frame_scheduler.specs.LaneEvents.{event_at}
+use Rattle.frame_scheduler.specs.LanePlan.{AreInEarliest, piece_cue}
+use Rattle.frame_scheduler.specs.LaneRoom.{AreInCueOrder, IsFirstCrowded}
+use Rattle.frame_scheduler.specs.LaneTimeline.{in_slots, lane_timeline, placed_timeline, stands, unit_at}
+use Rattle.frame_scheduler.specs.Placing.{IsEarliest, IsPlaced}
+use Rattle.frame_scheduler.specs.Timeline.{IsSpaced, Timeline, over}
+use Rattle.frame_scheduler.specs.declared.lane.cursor.Cursor.{Cursor}
+use Rattle.frame_scheduler.specs.declared.lane.piece.Piece.{Piece}
+use Rattle.frame_scheduler.specs.declared.lane.placed_unit.PlacedUnit.{PlacedUnit}
+use Rattle.frame_scheduler.proofs.CursorLemmas.{units_earlier}
+use Rattle.frame_scheduler.proofs.DoublingLemmas.{event_held, held_none, lane_spaced}
+use Rattle.frame_scheduler.proofs.EventLemmas.{some_slot}
+use Rattle.frame_scheduler.proofs.FieldLaneLemmas.{end_push, fits_earlier, lane_one_more}
+use Rattle.frame_scheduler.proofs.LaneRoomLemmas.{no_room_at}
+use Rattle.frame_scheduler.proofs.PlacingLemmas.{zip_push}
 
--- events are from frame 0 on
+-- the units of a placement with one more
+in_slots_push : (events : List Event) (before : List (Piece × ℕ)) (us : List Piece) (fs : List ℕ) (u : Piece) (f : ℕ) → IsPlaced (lane events) before us fs
+    → in_slots (us ++ u ∷ []) (fs ++ f ∷ []) ≡ in_slots us fs ++ record { unit = u.unit; slot = f } ∷ []
+in_slots_push events before [] [] u f p = refl
+in_slots_push events before [] (g ∷ fs) u f p = absurd p
+in_slots_push events before (v ∷ us) [] u f p = absurd p
+in_slots_push events before (v ∷ us) (g ∷ fs) u f p =
+    ap (λ l. record { unit = v.unit; slot = g } ∷ l) (in_slots_push events (before ++ (v, g) ∷ []) us fs u f p.1)
+
+-- the units in their earliest placement, with its end
+pub record Reaches (events : List Event) (us : List Piece) (units : List PlacedUnit) (end : ℕ) : Type 0 where
+  pub slots : List ℕ
+  pub earliest : IsEarliest (lane events) us slots
+  pub units_are : units ≡ in_slots us slots
+  pub end_is : end ≡ end_of (zip us slots)
+
+-- one more unit in the first slot that is allowed for it
+reaches_push : (events : List Event) (us : List Piece) (units : List PlacedUnit) (end : ℕ) (u : Piece) (f : ℕ) → Reaches events us units end
+    → IsFirst (IsAllowed events end u) f → Reaches events (us ++ u ∷ []) (units ++ record { unit = u.unit; slot = f } ∷ []) (f + slots_of u)
+reaches_push events us units end u f r first =
+    let here : IsFirst (IsAllowed events (end_of (zip us r.slots)) u) f = subst (λ e. IsFirst (IsAllowed events e u) f) r.end_is first in
+    record {
+      slots = r.slots ++ f ∷ [];
+      earliest = (lane_one_more events us r.slots u r.earliest).first f here.holds here.first;
+      units_are = ap (λ l. l ++ record { unit = u.unit; slot = f } ∷ []) r.units_are ∙ sym (in_slots_push events [] us r.slots u f r.earliest.placed);
+      end_is = sym (ap end_of (zip_push (lane events) [] us r.slots u f r.earliest.placed) ∙ end_push (zip us r.slots) u f);
+    }
+
+-- one more of the lane's units is placed
+pub reaches_next : (events : List Event) (us : List Piece) (k : ℕ) (d : Piece) (units : List PlacedUnit) (end new f : ℕ) → k < length us
+    → Reaches events (take k us) units end → IsFirst (IsAllowed events end (get_or us k d)) f → new ≡ f + slots_of (get_or us k d)
+    → Reaches events (take (k + 1) us) (units ++ record { unit = (get_or us k d).unit; slot = f } ∷ []) new
+reaches_next events us k d units end new f h r first after =
+    subst (λ n. Reaches events (take (k + 1) us) (units ++ record { unit = (get_or us k d).unit; slot = f } ∷ []) n) (sym after)
+    (subst (λ l. Reaches events l (units ++ record { unit = (get_or us k d).unit; slot = f } ∷ []) (f + slots_of (get_or us k d))) (sym (take_more us k d h))
+    (reaches_push events (take k us) units end (get_or us k d) f r first))
+
+-- where no slot is allowed for the next unit, its cue is the first without room
+pub reaches_none : (events : List Event) (us : List Piece) (k : ℕ) (d : Piece) (units : List PlacedUnit) (end : ℕ) → AreInCueOrder piece_cue us → k < length us
+    → Reaches events (take k us) units end → ((f : ℕ) → IsAllowed events end (get_or us k d) f → ⊥)
+    → IsFirstCrowded (lane events) piece_cue us (get_or us k d).cue
+reaches_none events us k d units end order h r nowhere =
+    no_room_at piece_cue (lane events) (fits_earlier events) us k d r.slots order h r.earliest (take_more us k d h)
+    (subst (λ e. (f : ℕ) → IsAllowed events e (get_or us k d) f → ⊥) r.end_is nowhere)
+
+-- all of the lane's units are placed
+pub reaches_all : (events : List Event) (us : List Piece) (k : ℕ) (units : List PlacedUnit) (end : ℕ) → length us ≤ k → Reaches events (take k us) units end
+    → AreInEarliest events us units
+reaches_all events us k units end h r =
+    let all : take k us ≡ us = take_all k us h in
+    (r.slots, subst (λ l. IsEarliest (lane events) l r.slots) all r.earliest, subst (λ l. units ≡ in_slots l r.slots) all r.units_are)
+
+-- the units in their slots begin where they stand
+unit_stands : (ps : List Piece) (fs : List ℕ) (n : ℕ) → unit_at (in_slots ps fs) n ≡ stands ps fs n
+unit_stands [] fs n = refl
+unit_stands (p ∷ ps) [] n = refl
+unit_stands (p ∷ ps) (f ∷ fs) n = ap (λ rest. cond (eqb n f) (Some p.unit) rest) (unit_stands ps fs n)
+
+-- so the timelines are one
+pub timeline_is : (events : List Event) (ps : List Piece) (fs : List ℕ) → placed_timeline events (in_slots ps fs) ≡ lane_timeline events ps fs
+timeline_is events ps fs = ap (λ t. over (event_at events) t) (fun_ext (unit_stands ps fs))
+
+-- placed units are in the order of their slots
+rising : (events : List Event) (before : List (Piece × ℕ)) (ps : List Piece) (fs : List ℕ) → IsPlaced (lane events) before ps fs
+    → AreUnitsFrom (end_of before) (in_slots ps fs) × AreRising (in_slots ps fs)
+rising events before [] fs placed = (tt, tt)
+rising events before (p ∷ ps) [] placed = (tt, tt)
+rising events before (p ∷ ps) (f ∷ fs) placed =
+    let rest = rising events (before ++ (p, f) ∷ []) ps fs placed.1 in
+    let behind : end_of before ≤ f = placed.0.behind in
+    let end : end_of (before ++ (p, f) ∷ []) ≡ f + slots_of p = end_push before p f in
+    let some : f < f + slots_of p = some_slot f p in (
+      (behind, units_earlier (end_of before) (end_of (before ++ (p, f) ∷ [])) (in_slots ps fs) (omega arith) rest.0),
+      (units_earlier (f + 1) (end_of (before ++ (p, f) ∷ [])) (in_slots ps fs) (omega arith) rest.0, rest.1),
+    )
+
+-- events are from slot 0 on
 from_start : (events : List Event) → AreFrom 0 events
 from_start [] = tt
 from_start (e ∷ events) = (omega arith, from_start events)
 
--- at frame 0
-pub planned_start : (pieces : List Piece) (events : List Event) → AreApart events
-    → IsPlanned pieces events (record { frame = 0; next_piece = 0; next_event = 0; repeat = None })
-planned_start pieces events apart fs e = record {
-  same = λ n h. refl;
-  due = refl;
-  over_is = tt;
-  from = from_start events;
-  apart = apart;
-  fit = first_fit events pieces fs e;
-}
+-- at slot 0
+pub ready_start : (events : List Event) (pieces : List Piece) (units : List PlacedUnit) → AreApart events → AreInEarliest events pieces units
+    → IsReady (placed_timeline events units) events units (record { slot = 0; next_unit = 0; next_event = 0; repeat = None })
+ready_start events pieces units apart (fs, earliest, is) =
+    subst (λ us. IsReady (placed_timeline events us) events us (record { slot = 0; next_unit = 0; next_event = 0; repeat = None })) (sym is) (record {
+      same = λ n h. refl;
+      due = refl;
+      spaced = subst IsSpaced (sym (timeline_is events pieces fs)) (lane_spaced events pieces fs apart earliest.placed);
+      events_from = from_start events;
+      events_apart = apart;
+      units_from = (rising events [] pieces fs earliest.placed).0;
+      units_rising = (rising events [] pieces fs earliest.placed).1;
+      beside = λ n u some. unit_stands pieces fs n ∙ held_none events pieces fs n earliest.placed (event_held events n u some).0;
+    })
 
 -- what a step gives over lists that are equal
-pub gives_at : (es events : List Event) (ps pieces : List Piece) (old new : Cursor) (pair : Pair) → es ≡ events → ps ≡ pieces
-    → ((t : Timeline) (fs : List ℕ) → IsReady t es ps fs old → GivesSlot t es ps fs old new pair)
-    → (t : Timeline) (fs : List ℕ) → IsReady t events pieces fs old → GivesSlot t events pieces fs old new pair
-gives_at es events ps pieces old new pair e p gives =
-    subst (λ l. (t : Timeline) (fs : List ℕ) → IsReady t events l fs old → GivesSlot t events l fs old new pair) p
-    (subst (λ l. (t : Timeline) (fs : List ℕ) → IsReady t l ps fs old → GivesSlot t l ps fs old new pair) e gives)
+pub gives_at : (es events : List Event) (us units : List PlacedUnit) (old new : Cursor) (pair : Pair) → es ≡ events → us ≡ units
+    → ((t : Timeline) → IsReady t es us old → GivesSlot t es us old new pair) → (t : Timeline) → IsReady t events units old → GivesSlot t events units old new pair
+gives_at es events us units old new pair e p gives =
+    subst (λ l. (t : Timeline) → IsReady t events l old → GivesSlot t events l old new pair) p
+    (subst (λ l. (t : Timeline) → IsReady t l us old → GivesSlot t l us old new pair) e gives)

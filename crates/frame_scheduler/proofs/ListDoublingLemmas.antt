@@ -1,5 +1,5 @@
 -- In the columns of a placed list every control pair is doubled.
-use Rattle.std.proofs.Common.{◌≡◌, ◌<◌, ◌≤◌, ◌+◌, ◌++◌, ℕ, zero, suc, List, [], ◌∷◌, ap, refl, sym, subst, arith, true, false, Option, Some, None, All}
+use Rattle.std.proofs.Common.{◌≡◌, ◌<◌, ◌≤◌, ◌+◌, ◌++◌, ℕ, zero, suc, List, [], ◌∷◌, ap, refl, sym, subst, arith, true, false, Bool, Option, Some, None, All}
 use Rattle.std.specs.Prelude.{if◌then◌else◌, IfSome, IsTrue, MatchOption}
 use Rattle.std.specs.List.{AllByRecursion}
 use Rattle.std.proofs.lemmas.List.Elements.{All-append, All-head, All-map, All-nil, All-tail, All-weaker}
@@ -12,6 +12,8 @@ use Rattle.cue_lists.specs.Rules.{IsRuled}
 use Rattle.cue_lists.specs.Rules.Sentences.{IsSound}
 use Rattle.cue_lists.proofs.ChannelRules.{in_sequence_sound}
 use Rattle.cue_lists.specs.declared.cue.Cue.{Cue}
+use Rattle.cue_lists.specs.declared.lane.Lane.TheVariants.{Channel}
+use Rattle.line21_codes.specs.declared.pairs.Pair.{Pair}
 use Rattle.line21_author.specs.Channels.{cues_on, is_on}
 use Rattle.line21_author.specs.CueEvents.{channel_events}
 use Rattle.line21_author.specs.CueUnits.{units_of}
@@ -28,8 +30,8 @@ use Rattle.frame_scheduler.specs.DoubledPairs.{IsDoubled}
 use Rattle.frame_scheduler.specs.LaneDoubling.{AreDoubledControls, AreEnded}
 use Rattle.frame_scheduler.specs.LaneEvents.{AreOver}
 use Rattle.frame_scheduler.specs.LaneTimeline.{lane_timeline}
-use Rattle.frame_scheduler.specs.Planned.{IsPlaced, Placement, columns_of}
-use Rattle.frame_scheduler.specs.Timeline.{Timeline, column, slot}
+use Rattle.frame_scheduler.specs.Planned.{IsListPlaced, Placement, columns_of}
+use Rattle.frame_scheduler.specs.Timeline.{column}
 use Rattle.frame_scheduler.proofs.DoublingLemmas.{lane_doubled}
 use Rattle.frame_scheduler.proofs.EventsApartLemmas.{events_apart, events_within}
 
@@ -66,10 +68,6 @@ events_over frames [] all = tt
 events_over frames (event ∷ events) all =
     (All-head (λ event. event.frame + 2 ≤ frames) event events all, events_over frames events (All-tail (λ event. event.frame + 2 ≤ frames) event events all))
 
-column_is : (timeline : Timeline) (n : ℕ) → first_pairs (slot timeline) n ≡ column timeline n
-column_is timeline zero = refl
-column_is timeline (suc n) = ap (λ pairs. pairs ++ slot timeline n ∷ []) (column_is timeline n)
-
 -- the units of a channel's cues are within the list, and doubled where their pairs are control pairs
 channel_within : (list : Listing) (channel : Chan) → IsFormed list → IsRuled list → All (IsWithin list.frames) (channel_pieces channel list.cues)
 channel_within list channel formed ruled =
@@ -89,9 +87,9 @@ channel_controls list channel formed ruled =
           (channel_within list channel formed ruled);
     }
 
--- the pairs of a channel's field are doubled
+-- the slots of a channel are doubled
 channel_doubled : (list : Listing) (channel : Chan) (placed : List ℕ) → IsFormed list → IsRuled list → IsChannelPlaced channel list.cues placed
-    → IsDoubled (first_pairs (channel_slot channel list.cues placed) list.frames)
+    → IsDoubled (column (lane_timeline (channel_events channel list.cues) (channel_pieces channel list.cues) placed) list.frames)
 channel_doubled list channel placed formed ruled earliest =
     let events = channel_events channel list.cues in
     let pieces = channel_pieces channel list.cues in
@@ -100,11 +98,23 @@ channel_doubled list channel placed formed ruled earliest =
       pieces_are = All-weaker (IsWithin list.frames) (λ piece. piece.until ≤ list.frames) (λ piece w. w.ended) pieces
           (channel_within list channel formed ruled);
     } in
-    subst IsDoubled (sym (column_is (lane_timeline events pieces placed) list.frames))
-    (lane_doubled events pieces placed list.frames (events_apart list formed ruled channel) (channel_controls list channel formed ruled) ended earliest.placed)
+    lane_doubled events pieces placed list.frames (events_apart list formed ruled channel) (channel_controls list channel formed ruled) ended earliest.placed
 
--- both columns of a placed list are doubled
-pub columns_doubled : (list : Listing) (placed : Placement) → IsFormed list → IsRuled list → IsPlaced list placed
-    → IsDoubled (first_pairs (columns_of list placed).one list.frames) × IsDoubled (first_pairs (columns_of list placed).two list.frames)
-columns_doubled list placed formed ruled is =
-    (channel_doubled list Cc1 placed.one formed ruled is.one, channel_doubled list Cc3 placed.two formed ruled is.two)
+-- the pairs of a field are the slots of its channel
+pub field_one_is : (list : Listing) (placed : Placement) (n : ℕ)
+    → first_pairs false (columns_of list placed) n ≡ column (lane_timeline (channel_events Cc1 list.cues) (channel_pieces Cc1 list.cues) (placed (Channel Cc1))) n
+field_one_is list placed zero = refl
+field_one_is list placed (suc n) = ap (λ (pairs : List Pair). pairs ++ channel_slot Cc1 list.cues (placed (Channel Cc1)) n ∷ []) (field_one_is list placed n)
+
+pub field_two_is : (list : Listing) (placed : Placement) (n : ℕ)
+    → first_pairs true (columns_of list placed) n ≡ column (lane_timeline (channel_events Cc3 list.cues) (channel_pieces Cc3 list.cues) (placed (Channel Cc3))) n
+field_two_is list placed zero = refl
+field_two_is list placed (suc n) = ap (λ (pairs : List Pair). pairs ++ channel_slot Cc3 list.cues (placed (Channel Cc3)) n ∷ []) (field_two_is list placed n)
+
+-- the pairs of each field of a placed list are doubled
+pub columns_doubled : (list : Listing) (placed : Placement) → IsFormed list → IsRuled list → IsListPlaced list placed
+    → (second_field : Bool) → IsDoubled (first_pairs second_field (columns_of list placed) list.frames)
+columns_doubled list placed formed ruled is false =
+    subst IsDoubled (sym (field_one_is list placed list.frames)) (channel_doubled list Cc1 (placed (Channel Cc1)) formed ruled (is (Channel Cc1)))
+columns_doubled list placed formed ruled is true =
+    subst IsDoubled (sym (field_two_is list placed list.frames)) (channel_doubled list Cc3 (placed (Channel Cc3)) formed ruled (is (Channel Cc3)))

@@ -9,10 +9,12 @@ use Rattle.line21_author.specs.declared.event.Event.{Event}
 use Rattle.frame_scheduler.specs.declared.lane.piece.Piece.{Piece}
 use Rattle.frame_scheduler.specs.FieldLane.{slots_of, end_of, lane}
 use Rattle.line21_author.specs.EventOrder.{AreFrom}
-use Rattle.frame_scheduler.specs.LaneRoom.{up_to, IsFirstWithoutRoom, AreOfOneCue, total_slots}
+use Rattle.frame_scheduler.specs.LanePlan.{piece_cue}
+use Rattle.frame_scheduler.specs.LaneRoom.{up_to, IsFirstCrowded}
+use Rattle.frame_scheduler.specs.OneCue.{AreOfOneCue, total_slots}
 use Rattle.frame_scheduler.specs.Placing.{IsPlaced, HasPlacement, HasNone}
 use Rattle.frame_scheduler.proofs.FieldLaneLemmas.{end_push}
-use Rattle.frame_scheduler.proofs.LaneCursorLemmas.{free_from}
+use Rattle.frame_scheduler.proofs.EventLemmas.{free_from}
 use Rattle.frame_scheduler.proofs.LaneRoomLemmas.{up_to_none}
 
 -- the slots of one more unit in front
@@ -20,7 +22,7 @@ total_cons : (p : Piece) (ps : List Piece) → total_slots (p ∷ ps) ≡ slots_
 total_cons p ps = sum_by_from slots_of (0 + slots_of p) ps ∙ (let e : 0 + slots_of p ≡ slots_of p = omega arith in ap (λ n. n + total_slots ps) e)
 
 -- units that are all of a cue up to a number are the units up to it
-up_to_all : (cue : ℕ) (ps : List Piece) → All (λ piece. piece.cue ≡ cue) ps → up_to cue ps ≡ ps
+up_to_all : (cue : ℕ) (ps : List Piece) → All (λ piece. piece.cue ≡ cue) ps → up_to piece_cue cue ps ≡ ps
 up_to_all cue [] all = refl
 up_to_all cue (p ∷ ps) all =
     let here : p.cue ≡ cue = All-head (λ piece. piece.cue ≡ cue) p ps all in
@@ -76,7 +78,7 @@ one_cue_needs events (p ∷ ps) (f ∷ fs) load show one placed =
 
 -- one cue has no room exactly where its slots are too few
 pub one_cue : (events : List Event) (pieces : List Piece) (load show : ℕ) → AreOfOneCue events pieces load show
-    → IsFirstWithoutRoom events pieces 1 ↔ (show < load + total_slots pieces)
+    → IsFirstCrowded (lane events) piece_cue pieces 1 ↔ (show < load + total_slots pieces)
 one_cue events pieces load show one = (
   λ without. ⊎_elim
       (λ (h : show < load + total_slots pieces). h)
@@ -88,7 +90,7 @@ one_cue events pieces load show one = (
     none = subst (λ l. HasNone (lane events) l) (sym (up_to_all 1 pieces one.cue))
         (λ fs placed. let needs : load + total_slots pieces ≤ show = one_cue_needs events pieces fs load show one placed in omega arith);
     first = λ earlier below.
-        let is : up_to earlier pieces ≡ [] = up_to_none earlier pieces (λ k d h. let cue : (get_or pieces k d).cue ≡ 1 = one.cue k d h in omega arith) in
+        let is : up_to piece_cue earlier pieces ≡ [] = up_to_none piece_cue earlier pieces (λ k d h. let cue : (get_or pieces k d).cue ≡ 1 = one.cue k d h in omega arith) in
         subst (λ l. HasPlacement (lane events) l) (sym is) ([], tt);
   },
 )

@@ -48,6 +48,14 @@ placed_push {U} allowed before (v ∷ us) (g ∷ fs) u f p a = (
       (subst (λ b. allowed b u f) (sym (append_assoc before ((v, g) ∷ []) (zip us fs))) a),
 )
 
+-- the units of a placement with one more
+pub zip_push : {U : Type 0} (allowed : List (U × ℕ) → U → ℕ → Type 0) (before : List (U × ℕ)) (us : List U) (fs : List ℕ) (u : U) (f : ℕ)
+    → IsPlaced allowed before us fs → zip (us ++ u ∷ []) (fs ++ f ∷ []) ≡ zip us fs ++ (u, f) ∷ []
+zip_push allowed before [] [] u f p = refl
+zip_push allowed before [] (g ∷ fs) u f p = absurd p
+zip_push allowed before (v ∷ us) [] u f p = absurd p
+zip_push allowed before (v ∷ us) (g ∷ fs) u f p = ap (λ l. (v, g) ∷ l) (zip_push allowed (before ++ (v, g) ∷ []) us fs u f p.1)
+
 -- a placement in two parts
 pub record Parts {U : Type 0} (allowed : List (U × ℕ) → U → ℕ → Type 0) (before : List (U × ℕ)) (us vs : List U) (hs : List ℕ) : Type 0 where
   pub front : List ℕ

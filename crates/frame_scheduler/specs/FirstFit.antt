@@ -1,18 +1,20 @@
--- First fit: each unit in turn in the first frame that the lane allows behind the units before it. The earliest
--- placement of a field's lane is this one.
-use Rattle.std.specs.Prelude.{ℕ, ◌+◌, ◌≤◌, List, [], ◌∷◌, ⊤}
-use Rattle.line21_author.specs.declared.event.Event.{Event}
-use Rattle.frame_scheduler.specs.declared.lane.piece.Piece.{Piece}
-use Rattle.frame_scheduler.specs.FieldLane.{IsAllowed, slots_of}
+-- First fit: each unit in turn in the first slot that the lane allows behind the units before it.
+use Rattle.std.specs.Prelude.{ℕ, ◌≤◌, ◌↔◌, List, [], ◌∷◌, ◌++◌, ⊤}
+use Rattle.frame_scheduler.specs.Placing.{IsEarliest}
 
--- the first frame in which the unit may begin, where `end` is the first frame behind the units before it
-pub record IsFirstFrame (events : List Event) (end : ℕ) (piece : Piece) (frame : ℕ) : Type 0 where
-  pub allowed : IsAllowed events end piece frame
-  pub first : (other : ℕ) → IsAllowed events end piece other → frame ≤ other
+-- the least number of which a sentence holds
+pub record IsFirst (P : ℕ → Type 0) (n : ℕ) : Type 0 where
+  pub holds : P n
+  pub first : (other : ℕ) → P other → n ≤ other
 
--- each unit stands in the first frame that is allowed from `end` on and behind the unit before it
-abbrev pub IsFirstFit : List Event → ℕ → List Piece → List ℕ → Type 0
-IsFirstFit events end [] [] = ⊤
-IsFirstFit events end [] (f ∷ fs) = ⊥
-IsFirstFit events end (piece ∷ pieces) [] = ⊥
-IsFirstFit events end (piece ∷ pieces) (f ∷ fs) = IsFirstFrame events end piece f × IsFirstFit events (f + slots_of piece) pieces fs
+-- each unit stands in the first slot that is allowed behind the units before it
+abbrev pub IsFirstFit : {U : Type 0} → (List (U × ℕ) → U → ℕ → Type 0) → List (U × ℕ) → List U → List ℕ → Type 0
+IsFirstFit allowed before [] [] = ⊤
+IsFirstFit allowed before [] (f ∷ fs) = ⊥
+IsFirstFit allowed before (u ∷ us) [] = ⊥
+IsFirstFit allowed before (u ∷ us) (f ∷ fs) =
+    IsFirst (allowed before u) f × IsFirstFit allowed (before ++ (u, f) ∷ []) us fs
+
+-- the earliest placement of a lane's units, if there is one, is the first fit
+abbrev pub EarliestIsFirstFit : {U : Type 0} → (List (U × ℕ) → U → ℕ → Type 0) → Type 0
+EarliestIsFirstFit {U} allowed = (us : List U) (fs : List ℕ) → (IsEarliest allowed us fs ↔ IsFirstFit allowed [] us fs)

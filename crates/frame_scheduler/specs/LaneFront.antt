@@ -9,12 +9,12 @@ pub record IsFront (events : List Event) (front : Front) : Type 0 where
   pub within : front.passed ≤ length events
   pub passed : AreOver front.end (take front.passed events)
 
--- so many slots from the frame on are free
+-- so many slots from the slot on are free
 abbrev pub AreFree : List Event → ℕ → ℕ → Type 0
-AreFree events slots frame = (n : ℕ) → frame ≤ n → n < frame + slots → IsFree events n
+AreFree events slots slot = (n : ℕ) → slot ≤ n → n < slot + slots → IsFree events n
 
--- the first frame, from `start` on, from which on so many slots are free
-pub record IsFirstFree (events : List Event) (slots start frame : ℕ) : Type 0 where
-  pub behind : start ≤ frame
-  pub free : AreFree events slots frame
-  pub first : (other : ℕ) → start ≤ other → AreFree events slots other → frame ≤ other
+-- the first slot, from `start` on, from which on so many slots are free
+pub record IsFirstFree (events : List Event) (slots start slot : ℕ) : Type 0 where
+  pub behind : start ≤ slot
+  pub free : AreFree events slots slot
+  pub first : (other : ℕ) → start ≤ other → AreFree events slots other → slot ≤ other

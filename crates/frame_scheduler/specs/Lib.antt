@@ -4,6 +4,7 @@ pub mod LaneEvents
 pub mod FieldLane
 pub mod LaneTimeline
 pub mod LaneRoom
+pub mod OneCue
 pub mod DoubledPairs
 pub mod OneMore
 pub mod FirstFit
@@ -11,7 +12,6 @@ pub mod LaneCursor
 pub mod LaneFront
 pub mod LanePlan
 pub mod LaneDoubling
-pub mod ChannelAnswer
 pub mod ChannelLane
 pub mod Columns
 pub mod EventsApart

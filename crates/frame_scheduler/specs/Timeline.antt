@@ -1,5 +1,5 @@
 -- Timelines: what begins at each frame of a field, and the pair that its slot has by that (CTA-608-E, 47 CFR 79.101).
-use Rattle.std.specs.Prelude.{ℕ, List, [], ◌∷◌, ◌++◌, Option, Some, None, if◌then◌else◌, unwrap_or, suc, zero}
+use Rattle.std.specs.Prelude.{◌≡◌, ℕ, List, [], ◌∷◌, ◌++◌, Option, Some, None, if◌then◌else◌, unwrap_or, suc, zero}
 use Rattle.std.specs.Option.{option_map}
 use Rattle.line21_codes.specs.declared.pairs.Pair.{Pair}
 use Rattle.line21_author.specs.declared.unit.Unit.{Unit}
@@ -34,6 +34,10 @@ repeat_at timeline (suc n) = repeat_of (timeline n)
 -- the pair in the slot of a frame: the repeat that is due, else what begins there, else the null pair
 abbrev pub slot : Timeline → ℕ → Pair
 slot timeline n = unwrap_or (first_of (repeat_at timeline n) (option_map (λ unit. unit.pair) (timeline n))) null_pair
+
+-- nothing begins in a repeat
+abbrev pub IsSpaced : Timeline → Type 0
+IsSpaced timeline = (n : ℕ) (pair : Pair) → repeat_of (timeline n) ≡ Some pair → timeline (suc n) ≡ None
 
 -- the slots of the frames below n
 abbrev pub column : Timeline → ℕ → List Pair

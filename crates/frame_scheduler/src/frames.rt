@@ -1,63 +1,74 @@
-ghost use Rattle.std.specs.Prelude.{◌≡◌, ◌+◌, ◌≤◌, ℕ, IfSome, MatchOption};
+ghost use Rattle.std.specs.Prelude.{◌≡◌, ◌+◌, ◌^◌, ◌<◌, ℕ, All, IfSome, MatchOption, Some, [], ◌∷◌, slice_get, slice_set};
+ghost use Rattle.frame_scheduler.specs.LanePlan.{Planned, coming_pair};
 
-use crate::lane::plan::Plan as LanePlan;
+use crate::lane::placed::PlacedLane;
+use arrayvec::ArrayVec;
 use line21_codes::Pair;
 
 #[cfg(test)]
 mod tests;
 
-/// The pairs of one frame: that of field 1 and that of field 2.
-#[derive(Clone, Copy, Debug, PartialEq, Eq)]
-pub struct FramePairs {
-    /// The pair in the slot of field 1, of CC1.
-    pub one: Pair,
-    /// The pair in the slot of field 2, of CC3.
-    pub two: Pair,
+/// What one frame carries.
+#[derive(Debug, Drop)]
+pub struct FrameBytes {
+    /// The pair of CC1 in field 1; None where the frame has no slot of field 1.
+    pub one: Option<Pair>,
+    /// The pair of CC3 in field 2; None where the frame has no slot of field 2.
+    pub two: Option<Pair>,
+    /// The service blocks of the frame's caption channel packet (CTA-708-E); no services are authored.
+    pub blocks: ArrayVec<u8, 35>,
 }
 
 /// The frames of a cue list in order, in which every unit stands in its earliest placement. No frame is stored.
 #[derive(Drop)]
 pub struct Plan {
-    one: LanePlan,
-    two: LanePlan,
+    lanes: [PlacedLane; 2],
     left: u32,
-    ghost within_one: { left + one.frame ≤ 1000000 },
-    ghost within_two: { left + two.frame ≤ 1000000 },
+    ghost within: { All (λ lane. left + lane.slot < 2 ^ 32) lanes },
 }
 
 impl Plan {
-    ghost use Rattle.frame_scheduler.specs.Columns.{Columns, pairs_at};
+    ghost use Rattle.frame_scheduler.specs.Columns.{Columns};
     ghost use Rattle.frame_scheduler.specs.Frames.{GivesFrom, frames_left};
 
-    /// A plan of both fields' lanes, of so many frames.
-    pub(crate) fn new(one: LanePlan, two: LanePlan, frames: u32) -> Plan
-        requires at_one { one.frame ≡ 0 }
-        requires at_two { two.frame ≡ 0 }
-        requires frames { frames ≤ 1000000 }
-        ensures one { result.one ≡ one }
-        ensures two { result.two ≡ two }
+    /// A plan of the lanes of field 1 and field 2, of so many frames.
+    pub(crate) fn new(one: PlacedLane, two: PlacedLane, frames: u32) -> Plan
+        requires at_one { one.slot ≡ 0 }
+        requires at_two { two.slot ≡ 0 }
+        ensures lanes { result.lanes ≡ one ∷ two ∷ [] }
         ensures left { result.left ≡ frames }
     {
         Plan {
-            one,
-            two,
+            lanes: [one, two],
             left: frames,
         }
     }
 
-    /// The pairs of the next frame, from frame 0 on; None exactly after the list's last frame.
-    pub fn next(&mut self) -> Option<FramePairs>
+    /// What the next frame carries, from frame 0 on; None exactly after the list's last frame.
+    pub fn next(&mut self) -> Option<FrameBytes>
         ensures left { MatchOption result (frames_left self.old ≡ 0) (λ _. frames_left self.new + 1 ≡ frames_left self.old) }
         ensures gives { (columns : Columns) (frame : ℕ) → GivesFrom columns frame self.old
-            → IfSome result (λ pairs. (pairs ≡ pairs_at columns frame) × GivesFrom columns (frame + 1) self.new) }
+            → IfSome result (λ bytes. (bytes ≡ columns frame) × GivesFrom columns (frame + 1) self.new) }
+        ensures no_blocks { IfSome result (λ bytes. bytes.blocks.items ≡ []) }
     {
         if self.left == 0 {
             return None;
         }
         self.left -= 1;
-        Some(FramePairs {
-            one: self.one.next(),
-            two: self.two.next(),
+        Some(FrameBytes {
+            one: Some(next_pair(&mut self.lanes, 0)),
+            two: Some(next_pair(&mut self.lanes, 1)),
+            blocks: ArrayVec::new(),
         })
     }
+}
+
+/// The pair of the next slot of one of the lanes.
+fn next_pair(lanes: &mut [PlacedLane; 2], index: usize) -> Pair
+    requires index { index < 2 }
+    requires within { (lane : Planned) → slice_get lanes.old index ≡ Some lane → lane.slot + 1 < 2 ^ 32 }
+    ensures { (lane : Planned) → slice_get lanes.old index ≡ Some lane
+        → (result ≡ coming_pair lane 0) × (lanes.new ≡ slice_set lanes.old index (record lane { slot = lane.slot + 1 })) }
+{
+    lanes[index].next()
 }

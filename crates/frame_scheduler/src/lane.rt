@@ -1,8 +1,9 @@
-//! A field's lane: the units of its cues in file order, each in the first frame that its cue and the events allow.
+//! A field's lane: the units of its cues in file order, each in the first slot that its cue and the events allow.
 pub mod cursor;
 mod front;
 pub mod laws;
 pub mod piece;
-pub mod plan;
+pub mod placed;
+pub mod placed_unit;
 #[cfg(test)]
 mod tests;

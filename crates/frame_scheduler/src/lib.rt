@@ -2,13 +2,13 @@
 //! pairs of each frame, in order.
 #![tactic(auto)]
 
-pub use crate::both_fields::plan;
-pub use crate::frames::{FramePairs, Plan};
+pub use crate::frames::{FrameBytes, Plan};
+pub use crate::lanes::plan;
 pub use crate::planning::PlanFault;
 
-mod both_fields;
 mod channel;
 mod frames;
 pub mod lane;
+mod lanes;
 pub mod laws;
 mod planning;

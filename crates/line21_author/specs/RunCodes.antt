@@ -6,6 +6,7 @@ use Rattle.line21_codes.specs.declared.codes.Control.TheVariants.{Preamble, Tab,
 use Rattle.line21_codes.specs.declared.styles.Colour.{Colour}
 use Rattle.line21_codes.specs.declared.styles.Colour.TheVariants.{White}
 use Rattle.line21_codes.specs.declared.styles.Style.{Style}
+use Rattle.cue_lists.specs.Rules.Cells.{is_white}
 use Rattle.cue_lists.specs.declared.cue.Pen.{Pen}
 use Rattle.cue_lists.specs.declared.cue.Pen.TheVariants.{Line21, Dtv}
 use Rattle.cue_lists.specs.declared.cue.Run.{Run}
@@ -15,11 +16,6 @@ use Rattle.line21_author.specs.TextCodes.{text_codes}
 -- upright white, underlined or not
 abbrev pub white : Bool → Style
 white underline = record { colour = White; italic = false; underline = underline }
-
--- the colour is white
-abbrev pub is_white : Colour → Bool
-is_white White = true
-is_white _ = false
 
 -- the style is upright white, which a preamble has at every indent
 abbrev pub is_upright_white : Style → Bool

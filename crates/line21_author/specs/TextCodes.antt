@@ -16,9 +16,9 @@ completed None = []
 completed (Some first) = Text first 0 ∷ []
 
 -- a fallback ends its text pair: it stands beside the waiting character, or alone
-abbrev pub ended_with : Option ℕ → ℕ → List Code
-ended_with None fallback = Text fallback 0 ∷ []
-ended_with (Some first) fallback = Text first fallback ∷ []
+abbrev pub fallback_pair : Option ℕ → ℕ → List Code
+fallback_pair None fallback = Text fallback 0 ∷ []
+fallback_pair (Some first) fallback = Text first fallback ∷ []
 
 -- the codes of the spellings of a text, where a basic character may wait for its second: basic
 -- characters are paired, a special character is one code, and an extended character is its
@@ -29,7 +29,7 @@ packed None (Basic byte ∷ rest) = packed (Some byte) rest
 packed (Some first) (Basic byte ∷ rest) = Text first byte ∷ packed None rest
 packed waiting (Special byte ∷ rest) = completed waiting ++ first_channel (special_character byte) ∷ packed None rest
 packed waiting (Extended fallback set byte ∷ rest) =
-    ended_with waiting fallback ++ first_channel (extended_character set byte) ∷ packed None rest
+    fallback_pair waiting fallback ++ first_channel (extended_character set byte) ∷ packed None rest
 
 -- the codes of a text
 abbrev pub text_codes : List ℕ → List Code

@@ -1,6 +1,6 @@
 ghost use Rattle.std.specs.Prelude.{◌≡◌, List, ◌∷◌, ◌++◌, IfOk, OnOk};
 ghost use Rattle.line21_codes.specs.declared.characters.Spelling.{Spelling};
-ghost use Rattle.line21_author.specs.TextCodes.{completed, ended_with, packed, text_codes};
+ghost use Rattle.line21_author.specs.TextCodes.{completed, fallback_pair, packed, text_codes};
 
 use crate::channel::first_channel;
 use cue_lists::Text;
@@ -68,7 +68,7 @@ fn push_completed(codes: &mut Vec<Code>, waiting: Option<u8>) -> Result<(), Allo
 
 // Appends the text pair that a fallback ends.
 fn push_fallback(codes: &mut Vec<Code>, waiting: Option<u8>, fallback: u8) -> Result<(), AllocError>
-    ensures { OnOk result (codes.new.items ≡ codes.old.items ++ ended_with waiting fallback) }
+    ensures { OnOk result (codes.new.items ≡ codes.old.items ++ fallback_pair waiting fallback) }
 {
     match waiting {
         None => codes.push(Code::Text(fallback, 0))?,

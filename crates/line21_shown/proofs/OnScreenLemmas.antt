@@ -26,7 +26,7 @@ use Rattle.frame_scheduler.specs.LaneEvents.{event_at}
 use Rattle.frame_scheduler.specs.LaneTimeline.{stands}
 use Rattle.cue_lists.specs.Rules.Sentences.{IsSound}
 use Rattle.frame_scheduler.specs.Timeline.{Timeline, first_of}
-use Rattle.frame_scheduler.proofs.LaneCursorLemmas.{event_none}
+use Rattle.frame_scheduler.proofs.EventLemmas.{event_none}
 use Rattle.line21_shown.specs.Doing.{does_all}
 use Rattle.line21_shown.specs.Reading.{acts}
 use Rattle.line21_shown.specs.Writing.{with_runs}

@@ -12,9 +12,9 @@ use Rattle.cue_lists.specs.declared.cue.Pen.TheVariants.{Line21, Dtv}
 use Rattle.cue_lists.specs.declared.cue.Run.{Run}
 use Rattle.cue_lists.specs.AuthoredGrid.{character_at}
 use Rattle.cue_lists.specs.Line21Cues.{IsLine21Run}
-use Rattle.cue_lists.specs.Rules.Cells.{is_white as is_white_run, is_coloured, has_lead}
+use Rattle.cue_lists.specs.Rules.Cells.{is_white, is_coloured, has_lead}
 use Rattle.line21_author.specs.FirstChannel.{first_channel}
-use Rattle.line21_author.specs.RunCodes.{white, is_white, is_upright_white, tab_codes, white_approach, mid_row_colour, approach, run_codes}
+use Rattle.line21_author.specs.RunCodes.{white, is_upright_white, tab_codes, white_approach, mid_row_colour, approach, run_codes}
 use Rattle.line21_author.specs.TextCodes.{text_codes}
 use Rattle.line21_screen.specs.Grid.{Grid, with_cell}
 use Rattle.line21_screen.specs.Pens.{PenState, mid_row_style}
@@ -92,15 +92,6 @@ approach_at false false k o b g p row col style plain_is left_is held below whit
     ∙ ap (λ n. canvas k o b (with_cell g row (col - 1) (cell_of 0x20 style)) (pen_at row n style)) next
 
 -- a pen is coloured where its style isn't upright white
-white_alike : (colour : Colour) → is_white_run colour ≡ is_white colour
-white_alike White = refl
-white_alike Green = refl
-white_alike Blue = refl
-white_alike Cyan = refl
-white_alike Red = refl
-white_alike Yellow = refl
-white_alike Magenta = refl
-
 not_both : (a b : Bool) → (not a || b) ≡ not (a && not b)
 not_both true true = refl
 not_both true false = refl
@@ -108,7 +99,7 @@ not_both false b = refl
 
 coloured_is : (style : Style) → is_coloured (Line21 style) ≡ not (is_upright_white style)
 coloured_is style =
-    ap (λ x. not x || style.italic) (white_alike style.colour) ∙ not_both (is_white style.colour) style.italic
+    not_both (is_white style.colour) style.italic
 
 -- a run of its parts
 abbrev run_of : ℕ → ℕ → Style → List ℕ → Run

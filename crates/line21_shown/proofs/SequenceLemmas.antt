@@ -1,30 +1,37 @@
 -- The cues of a channel, one after another: at each settled frame the screen has what was authored.
-use Rattle.std.proofs.Common.{◌≡◌, ℕ, suc, ◌<◌, ◌≤◌, Bool, true, false, List, [], ◌∷◌, ◌++◌, Option, Some, None, All, refl, sym, ap, ◌∙◌, arith, ⊎_elim, append-nil, reverse}
+use Rattle.std.proofs.Common.{◌≡◌, ℕ, zero, suc, ◌<◌, ◌≤◌, Bool, true, false, List, [], ◌∷◌, ◌++◌, Option, Some, None, All, refl, sym, ap, ◌∙◌, arith, ⊎_elim, append-nil, reverse}
 use Rattle.std.specs.Prelude.{⊤, IfSome, IsSome}
 use Rattle.std.specs.List.{AllByRecursion}
 use Rattle.std.proofs.lemmas.Bool.{cases_lt}
+use Rattle.std.proofs.lemmas.List.{reverse-append}
 use Rattle.std.proofs.lemmas.List.Elements.{recursion_from_All}
 use Rattle.line21_codes.specs.declared.channels.Chan.{Chan}
 use Rattle.line21_codes.specs.declared.channels.Chan.TheVariants.{Cc1, Cc3}
+use Rattle.line21_codes.specs.declared.pairs.Pair.{Pair}
 use Rattle.cue_lists.specs.AuthoredGrid.{IsSettled, IsSettledFor, authored_grid, shown_by, shown_from, shown_of_newest}
 use Rattle.cue_lists.specs.Cues.{IsCueFormed}
 use Rattle.cue_lists.specs.Listing.{IsFormed, Listing}
 use Rattle.cue_lists.specs.Rules.{IsRuled}
 use Rattle.cue_lists.specs.Rules.Lane.{is_line21, is_pop}
 use Rattle.cue_lists.specs.declared.cue.Cue.{Cue}
+use Rattle.cue_lists.specs.declared.lane.Lane.TheVariants.{Channel}
 use Rattle.line21_codes.specs.Channels.{is_in_second_field}
 use Rattle.line21_author.specs.Channels.{cues_on}
 use Rattle.line21_author.specs.CueEvents.{channel_events, hide_events}
 use Rattle.line21_screen.specs.Channels.{ChannelState}
 use Rattle.line21_screen.specs.Grid.{Grid, empty_grid}
-use Rattle.frame_scheduler.specs.ChannelLane.{IsChannelPlaced, channel_pieces, channel_slot}
+use Rattle.line21_screen.specs.Meaning.{after}
+use Rattle.frame_scheduler.specs.ChannelLane.{IsChannelPlaced, channel_pieces}
+use Rattle.frame_scheduler.specs.Columns.{first_pairs}
 use Rattle.cue_lists.specs.Rules.Sentences.{AreInSequence}
 use Rattle.frame_scheduler.specs.LaneEvents.{event_at}
 use Rattle.frame_scheduler.specs.LaneTimeline.{lane_timeline, stands}
-use Rattle.frame_scheduler.specs.Timeline.{Timeline, first_of}
+use Rattle.frame_scheduler.specs.Planned.{columns_of}
+use Rattle.frame_scheduler.specs.Timeline.{Timeline, column, first_of, slot}
+use Rattle.frame_scheduler.proofs.ListDoublingLemmas.{field_one_is, field_two_is}
 use Rattle.cue_lists.proofs.ChannelCues.{cues_on_are_on, cues_on_formed, hides_unless_roll, line21_on, pop_is_not_roll}
-use Rattle.line21_shown.specs.Reading.{acts, first_alone}
-use Rattle.line21_shown.specs.Shown.{AuthoredIsSeen, ShowsField, state_at}
+use Rattle.line21_shown.specs.Reading.{acts, first_alone, pairs_before}
+use Rattle.line21_shown.specs.Shown.{AuthoredIsSeen, ShowsField}
 use Rattle.line21_shown.proofs.CaptionedLemmas.{channel_captioned}
 use Rattle.line21_shown.proofs.HeadLemmas.{Continues, first_sound, rest_in_sequence}
 use Rattle.line21_shown.proofs.LoadingLemmas.{erases, loads, until}
@@ -174,13 +181,21 @@ channel_shown list channel placed formed ruled earliest f settled =
     (recursion_from_All (IsSettledFor f) (cues_on channel list.cues) settled)
     ∙ authored_is channel list.cues f
 
+-- the pairs of the first slots, the newest first
+newest_pairs : (t : Timeline) (n : ℕ) → reverse (column t n) ≡ pairs_before (slot t) n
+newest_pairs t zero = refl
+newest_pairs t (suc n) = reverse-append (column t n) (slot t n ∷ []) ∙ ap (λ (pairs : List Pair). slot t n ∷ pairs) (newest_pairs t n)
+
 -- and the field that carries it
 field_shown : (list : Listing) (channel : Chan) (second_field : Bool) (placed : List ℕ) → IsFormed list → IsRuled list
-    → IsChannelPlaced channel list.cues placed → (f : ℕ) → ShowsField (state_at second_field (channel_slot channel list.cues placed) f) channel list.cues f
-field_shown list channel second_field placed formed ruled earliest f =
+    → IsChannelPlaced channel list.cues placed → (f : ℕ) (pairs : List Pair)
+    → pairs ≡ column (lane_timeline (channel_events channel list.cues) (channel_pieces channel list.cues) placed) (suc f)
+    → ShowsField (after second_field (reverse pairs)) channel list.cues f
+field_shown list channel second_field placed formed ruled earliest f pairs are =
     let t = lane_timeline (channel_events channel list.cues) (channel_pieces channel list.cues) placed in
-    let state : state_at second_field (channel_slot channel list.cues placed) f ≡ first_alone (acts t (suc f)) =
-    columns_read second_field t (channel_captioned list channel placed formed ruled earliest) (suc f) in
+    let state : after second_field (reverse pairs) ≡ first_alone (acts t (suc f)) =
+    ap (λ (l : List Pair). after second_field (reverse l)) are ∙ ap (after second_field) (newest_pairs t (suc f))
+    ∙ columns_read second_field t (channel_captioned list channel placed formed ruled earliest) (suc f) in
     record {
       first = λ settled. ap (λ s. s.first.displayed) state ∙ channel_shown list channel placed formed ruled earliest f settled;
       second = ap (λ s. s.second.displayed) state;
@@ -188,7 +203,9 @@ field_shown list channel second_field placed formed ruled earliest f =
 
 -- what is authored is what is seen
 pub authored_seen : AuthoredIsSeen
-authored_seen list placed formed ruled is f = record {
-  one = field_shown list Cc1 false placed.one formed ruled is.one f;
-  two = field_shown list Cc3 true placed.two formed ruled is.two f;
-}
+authored_seen list placed formed ruled is f false =
+    field_shown list Cc1 false (placed (Channel Cc1)) formed ruled (is (Channel Cc1)) f (first_pairs false (columns_of list placed) (suc f))
+    (field_one_is list placed (suc f))
+authored_seen list placed formed ruled is f true =
+    field_shown list Cc3 true (placed (Channel Cc3)) formed ruled (is (Channel Cc3)) f (first_pairs true (columns_of list placed) (suc f))
+    (field_two_is list placed (suc f))

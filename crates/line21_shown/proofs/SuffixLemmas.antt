@@ -25,7 +25,7 @@ use Rattle.frame_scheduler.specs.Placing.{IsPlaced}
 use Rattle.frame_scheduler.specs.Timeline.{first_of}
 use Rattle.frame_scheduler.proofs.DoublingLemmas.{free_none}
 use Rattle.frame_scheduler.proofs.FieldLaneLemmas.{end_push}
-use Rattle.frame_scheduler.proofs.LaneCursorLemmas.{event_none, from_earlier, some_slot}
+use Rattle.frame_scheduler.proofs.EventLemmas.{event_none, from_earlier, some_slot}
 use Rattle.line21_shown.proofs.LoadingLemmas.{StandBeside, erases}
 
 -- the pieces are the units of the cues, in their order

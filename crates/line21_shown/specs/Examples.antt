@@ -12,8 +12,10 @@ use Rattle.cue_lists.specs.Rules.Examples.{example_cue, example_run}
 use Rattle.cue_lists.specs.declared.cue.Cue.{Cue}
 use Rattle.cue_lists.specs.declared.cue.Kind.TheVariants.{Pop, Roll}
 use Rattle.line21_screen.specs.Meaning.{after}
-use Rattle.frame_scheduler.specs.ChannelLane.{channel_slot}
-use Rattle.frame_scheduler.specs.Columns.{first_pairs}
+use Rattle.line21_author.specs.CueEvents.{channel_events}
+use Rattle.frame_scheduler.specs.ChannelLane.{channel_pieces}
+use Rattle.frame_scheduler.specs.LaneTimeline.{lane_timeline}
+use Rattle.frame_scheduler.specs.Timeline.{column}
 
 -- a pair, of its two bytes with their parity bits
 abbrev pub pair : ℕ → ℕ → Pair
@@ -53,7 +55,9 @@ pub record Example : Type 0 where
 
 -- the pairs are those of the cues
 abbrev pub IsSent : Example → Type 0
-IsSent example = first_pairs (channel_slot Cc1 example.cues example.placed) example.frames ≡ example.pairs
+IsSent example =
+    column (lane_timeline (channel_events Cc1 example.cues) (channel_pieces Cc1 example.cues) example.placed) example.frames
+    ≡ example.pairs
 
 -- the screen is authored for a frame, and the pairs display it at that frame
 pub record Shows (example : Example) (frame : ℕ) (screen : List (List (Option Cell))) : Type 0 where
@@ -61,10 +65,13 @@ pub record Shows (example : Example) (frame : ℕ) (screen : List (List (Option 
   pub displayed : screen_of (displayed_at example.pairs frame) ≡ screen
 
 -- a pop-on cue of a white run, ABC in row 15 from column 1 on, and a red one, OK in row 14 from column 5 on
+abbrev pub shown_cue : Cue
+shown_cue = example_cue (Pop Cc1) 0 15 (Some 17) (example_run White 15 1 (65 ∷ 66 ∷ 67 ∷ []) ∷ example_run Red 14 5 (79 ∷ 75 ∷ []) ∷ [])
+
+-- a list of it alone
 abbrev pub two_colours : Example
 two_colours = record {
-  cues =
-      example_cue (Pop Cc1) 0 15 (Some 17) (example_run White 15 1 (65 ∷ 66 ∷ 67 ∷ []) ∷ example_run Red 14 5 (79 ∷ 75 ∷ []) ∷ []) ∷ [];
+  cues = shown_cue ∷ [];
   placed = 0 ∷ 2 ∷ 4 ∷ 6 ∷ 8 ∷ 9 ∷ 10 ∷ 12 ∷ 14 ∷ [];
   frames = 20;
   pairs =

@@ -1,9 +1,9 @@
 //! Laws of the definitions: functions without a body, whose contract is the law.
 
 ghost use Rattle.std.specs.Prelude.{[], ◌∷◌, ◌++◌};
-ghost use Rattle.line21_shown.specs.Examples.{IsSent, Shows, two_colours, two_colours_screen, rolling, letter_row, empty_rows};
+ghost use Rattle.line21_shown.specs.Examples.{IsSent, Shows, shown_cue, two_colours, two_colours_screen, rolling, letter_row, empty_rows};
 ghost use Rattle.line21_shown.specs.Reading.{ColumnsAreRead};
-ghost use Rattle.line21_shown.specs.Sentences.{AuthoredGridIsSaid};
+ghost use Rattle.line21_shown.specs.Sentences.{AuthoredGridIsSaid, IsUp};
 ghost use Rattle.line21_shown.specs.Shown.{AuthoredIsSeen};
 ghost use Rattle.line21_shown.specs.Writing.{RunsAreWritten};
 
@@ -49,4 +49,13 @@ pub fn rolled_up_rows_are_seen()
     ensures two { Shows rolling 15 (empty_rows 9 ++ letter_row 65 ∷ letter_row 66 ∷ empty_rows 4) }
     ensures three { Shows rolling 24 (empty_rows 9 ++ letter_row 66 ∷ letter_row 67 ∷ empty_rows 4) }
     ensures behind { Shows rolling 25 (empty_rows 15) }
+{}
+
+/// A cue is up from its SHOW on and before its HIDE, at frames 15 and 16 of a cue that is shown at 15 and hidden at 17: a
+/// definition by which it is up at its HIDE, or isn't at its SHOW, is another one.
+pub fn a_cue_is_up_from_its_show_to_its_hide()
+    ensures before { IsUp 14 shown_cue → ⊥ }
+    ensures from { IsUp 15 shown_cue }
+    ensures to { IsUp 16 shown_cue }
+    ensures behind { IsUp 17 shown_cue → ⊥ }
 {}

@@ -1,5 +1,5 @@
 use crate::frames::Plan;
-use crate::lane::plan::Plan as LanePlan;
+use crate::lane::placed::PlacedLane;
 use crate::plan;
 use cue_lists::{check, parse};
 use std::test::Fail;
@@ -16,8 +16,8 @@ fn a_plan_keeps_two_lanes_and_the_number_of_frames_left(rt: HostRuntime) -> Resu
     let Ok(plan) = plan(alloc, &list) else {
         return Err(Fail::from("no cue lacks room"));
     };
-    let Plan { one, two, left } = plan;
-    let _lanes: [LanePlan; 2] = [one, two];
+    let Plan { lanes, left } = plan;
+    let _lanes: [PlacedLane; 2] = lanes;
     assert_eq!(rt; left, 30);
     Ok(())
 }

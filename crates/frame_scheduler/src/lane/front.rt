@@ -1,15 +1,12 @@
-ghost use Rattle.std.specs.Prelude.{◌≡◌, ℕ, ◌+◌, ◌*◌, ◌^◌, ◌<◌, ◌≤◌, IfSome, IfNone, MatchOption};
-ghost use Rattle.frame_scheduler.specs.LaneEvents.{IsFree};
+ghost use Rattle.std.specs.Prelude.{◌≡◌, ℕ, ◌+◌, ◌^◌, ◌<◌, ◌≤◌, IfSome, IfNone};
 ghost use Rattle.line21_author.specs.EventOrder.{AreApart};
-ghost use Rattle.frame_scheduler.specs.FieldLane.{IsAllowed, slots_of, lane};
-ghost use Rattle.frame_scheduler.specs.FirstFit.{IsFirstFrame};
-ghost use Rattle.frame_scheduler.specs.Placing.{HasEarliest};
-ghost use Rattle.frame_scheduler.specs.LaneRoom.{IsFirstWithoutRoom, AreInOrder};
+ghost use Rattle.frame_scheduler.specs.FieldLane.{IsAllowed, slots_of};
+ghost use Rattle.frame_scheduler.specs.FirstFit.{IsFirst};
 
 use crate::lane::piece::Piece;
 use line21_author::Event;
 
-/// How far units have been placed: the first frame behind them, and how many events are over by then.
+/// How far units have been placed: the first slot behind them, and how many events are over by then.
 #[derive(Clone, Copy, Debug, PartialEq, Eq)]
 pub struct Front {
     end: u64,
@@ -26,28 +23,32 @@ impl Front {
         Front { end: 0, passed: 0 }
     }
 
-    /// Places the unit in the first frame that is allowed behind the front, and moves the front
-    /// behind it. `None` where no frame is allowed; the front is of no use then. No event that was passed is
+    /// Places the unit in the first slot that is allowed behind the front, and moves the front
+    /// behind it. `None` where no slot is allowed; the front is of no use then. No event that was passed is
     /// tried again.
-    pub fn place(&mut self, piece: Piece, events: &[Event]) -> Option<u64>
+    pub fn place(&mut self, piece: Piece, events: &[Event]) -> Option<u32>
         requires small { self.old.end < 2 ^ 32 }
         requires apart { AreApart events.now }
         requires front { IsFront events.now self.old }
-        ensures first { IfSome result (IsFirstFrame events.now self.old.end piece) }
-        ensures end { IfSome result (λ frame. (self.new.end ≡ frame + slots_of piece) × (self.new.end < 2 ^ 32)) }
+        ensures first { IfSome result (IsFirst (IsAllowed events.now self.old.end piece)) }
+        ensures end { IfSome result (λ slot. (self.new.end ≡ slot + slots_of piece) × (self.new.end < 2 ^ 32)) }
         ensures front { IfSome result (λ _. IsFront events.now self.new) }
         ensures onward { self.old.passed ≤ self.new.passed }
-        ensures none { IfNone result ((frame : ℕ) → IsAllowed events.now self.old.end piece frame → ⊥) }
+        ensures none { IfNone result ((slot : ℕ) → IsAllowed events.now self.old.end piece slot → ⊥) }
     {
         let slots = piece.unit.slots();
         self.end = self.end.max(u64::from(piece.load));
         self.pass_events(slots, events);
-        let frame = self.end;
+        let slot = self.end;
         self.end += u64::from(slots);
-        (self.end <= u64::from(piece.until)).then_some(frame)
+        if self.end <= u64::from(piece.until) {
+            Some(slot as u32)
+        } else {
+            None
+        }
     }
 
-    // Moves the front on to the first frame from which on so many slots are free.
+    // Moves the front on to the first slot from which on so many slots are free.
     fn pass_events(&mut self, slots: u32, events: &[Event])
         requires small { self.old.end < 2 ^ 32 }
         requires some { 1 ≤ slots }
@@ -67,20 +68,4 @@ impl Front {
             self.passed += 1;
         }
     }
-}
-
-/// The number of the first cue that has no room among the lane's units, if there is one.
-pub fn cue_without_room(pieces: &[Piece], events: &[Event]) -> Option<u32>
-    requires order { AreInOrder pieces.now }
-    requires apart { AreApart events.now }
-    ensures { MatchOption result (HasEarliest (lane events.now) pieces.now)
-        (IsFirstWithoutRoom events.now pieces.now) }
-{
-    let mut front = Front::start();
-    for piece in pieces {
-        if front.place(*piece, events).is_none() {
-            return Some(piece.cue);
-        }
-    }
-    None
 }

@@ -1,34 +1,35 @@
 //! Laws of a field's lane: functions that do nothing, with the laws as their contracts.
-ghost use Rattle.std.specs.Prelude.{◌≡◌, ℕ, ◌+◌, ◌<◌, ◌↔◌, List, []};
+ghost use Rattle.std.specs.Prelude.{ℕ, ◌+◌, ◌<◌, ◌↔◌, List, []};
 ghost use Rattle.line21_author.specs.declared.event.Event.{Event};
 ghost use Rattle.frame_scheduler.specs.declared.lane.piece.Piece.{Piece};
 ghost use Rattle.frame_scheduler.specs.DoubledPairs.{IsDoubled};
 ghost use Rattle.frame_scheduler.specs.FieldLane.{lane};
-ghost use Rattle.frame_scheduler.specs.FirstFit.{IsFirstFit};
+ghost use Rattle.frame_scheduler.specs.FirstFit.{EarliestIsFirstFit};
 ghost use Rattle.frame_scheduler.specs.LaneDoubling.{AreDoubledControls, AreEnded};
 ghost use Rattle.line21_author.specs.EventOrder.{AreApart};
-ghost use Rattle.frame_scheduler.specs.LaneRoom.{AreOfOneCue, IsFirstWithoutRoom, total_slots};
+ghost use Rattle.frame_scheduler.specs.LanePlan.{piece_cue};
+ghost use Rattle.frame_scheduler.specs.LaneRoom.{IsFirstCrowded};
 ghost use Rattle.frame_scheduler.specs.LaneTimeline.{lane_timeline};
+ghost use Rattle.frame_scheduler.specs.OneCue.{AreOfOneCue, total_slots};
 ghost use Rattle.frame_scheduler.specs.OneMore.{OneMore};
 ghost use Rattle.frame_scheduler.specs.Placing.{IsPlaced, IsEarliest};
 ghost use Rattle.frame_scheduler.specs.Timeline.{column};
 
-/// A lane's units with one more: there is a placement exactly where some frame is allowed for that
+/// A lane's units with one more: there is a placement exactly where some slot is allowed for that
 /// unit behind the earliest placement of the others, which stays as it is.
 pub fn law_of_one_more()
     ensures { (events : List Event) (pieces : List Piece) (fs : List ℕ) (piece : Piece)
         → IsEarliest (lane events) pieces fs → OneMore (lane events) pieces fs piece }
 {}
 
-/// A lane's earliest placement, if there is one, puts each unit in turn in the first frame that is
+/// A lane's earliest placement, if there is one, puts each unit in turn in the first slot that is
 /// allowed, and where each unit in turn stands so, the placement is the earliest.
 pub fn law_of_first_fit()
-    ensures { (events : List Event) (pieces : List Piece) (fs : List ℕ)
-        → (IsEarliest (lane events) pieces fs ↔ IsFirstFit events 0 pieces fs) }
+    ensures { (events : List Event) → EarliestIsFirstFit (lane events) }
 {}
 
-/// In any placement of a lane, every longest stretch of equal control pairs in the slots below a
-/// frame has an even number of pairs, where no unit or event goes on at that frame.
+/// In any placement of a lane, every longest stretch of equal control pairs in the slots below one
+/// has an even number of pairs, where no unit or event goes on at that slot.
 pub fn law_of_doubling()
     ensures { (events : List Event) (pieces : List Piece) (fs : List ℕ) (n : ℕ)
         → AreApart events → AreDoubledControls events pieces → AreEnded events pieces n
@@ -40,5 +41,5 @@ pub fn law_of_doubling()
 pub fn law_of_one_cue()
     ensures { (events : List Event) (pieces : List Piece) (load show : ℕ)
         → AreOfOneCue events pieces load show
-        → (IsFirstWithoutRoom events pieces 1 ↔ (show < load + total_slots pieces)) }
+        → (IsFirstCrowded (lane events) piece_cue pieces 1 ↔ (show < load + total_slots pieces)) }
 {}

@@ -1,7 +1,8 @@
 ghost use Rattle.std.specs.Prelude.{◌≡◌, ◌+◌, ◌^◌, ◌<◌, length};
 
 use crate::lane::piece::Piece;
-use crate::lane::plan::{Lane, Plan};
+use crate::lane::placed::{FieldLane, PlacedLane};
+use crate::planning::PlanFault;
 use line21_author::{Event, Unit};
 use line21_codes::Pair;
 use std::process::Abort;
@@ -63,12 +64,12 @@ macro_rules! event {
 }
 
 // The next pairs of the plan are these.
-fn gives(rt: &impl Abort, plan: &mut Plan, pairs: &[Pair])
-    requires { plan.old.frame + length pairs.now < 2 ^ 32 }
-    ensures { plan.new.frame ≡ plan.old.frame + length pairs.now }
+fn gives(rt: &impl Abort, lane: &mut PlacedLane, pairs: &[Pair])
+    requires { lane.old.slot + length pairs.now < 2 ^ 32 }
+    ensures { lane.new.slot ≡ lane.old.slot + length pairs.now }
 {
     for pair in pairs {
-        assert_eq!(rt; plan.next(), *pair);
+        assert_eq!(rt; lane.next(), *pair);
     }
 }
 
@@ -82,23 +83,23 @@ fn a_cue_fills_the_frames_before_its_show(rt: HostRuntime) -> Result<(), Fail> {
         text!(HI, 1, 0, 7),
     ]?;
     let events = vec![in rt.alloc(); event!(EOC, 7), event!(EDM, 20)]?;
-    let lane = Lane { pieces, events };
-    let mut plan = lane.plan().ok().ok_or("the cue has room")?;
+    let lane = FieldLane { pieces, events };
+    let mut placed = lane.place(rt.alloc()).ok().ok_or("the cue has room")?;
     gives(
         &rt,
-        &mut plan,
+        &mut placed,
         &[RCL, RCL, ENM, ENM, ROW_15, ROW_15, HI, EOC, EOC],
     );
     gives(
         &rt,
-        &mut plan,
+        &mut placed,
         &[
             NULL, NULL, NULL, NULL, NULL, NULL, NULL, NULL, NULL, NULL, NULL,
         ],
     );
     gives(
         &rt,
-        &mut plan,
+        &mut placed,
         &[EDM, EDM, NULL, NULL, NULL, NULL, NULL, NULL, NULL, NULL],
     );
     Ok(())
@@ -113,8 +114,8 @@ fn a_cue_with_a_slot_too_few_has_no_room(rt: HostRuntime) -> Result<(), Fail> {
         text!(HI, 1, 0, 6),
     ]?;
     let events = vec![in rt.alloc(); event!(EOC, 6), event!(EDM, 20)]?;
-    let lane = Lane { pieces, events };
-    assert_eq!(rt; lane.plan().err(), Some(1));
+    let lane = FieldLane { pieces, events };
+    assert!(rt; matches!(lane.place(rt.alloc()), Err(PlanFault::NoRoom(1))));
     Ok(())
 }
 
@@ -133,21 +134,21 @@ fn a_doubled_pair_is_not_split_round_an_event(rt: HostRuntime) -> Result<(), Fai
         text!(HO, 2, 9, 20),
     ]?;
     let events = vec![in rt.alloc(); event!(EOC, 7), event!(EDM, 14), event!(EOC, 20)]?;
-    let lane = Lane { pieces, events };
-    let mut plan = lane.plan().ok().ok_or("both cues have room")?;
+    let lane = FieldLane { pieces, events };
+    let mut placed = lane.place(rt.alloc()).ok().ok_or("both cues have room")?;
     gives(
         &rt,
-        &mut plan,
+        &mut placed,
         &[RCL, RCL, ENM, ENM, ROW_15, ROW_15, HI, EOC, EOC],
     );
     gives(
         &rt,
-        &mut plan,
+        &mut placed,
         &[
             RCL, RCL, ENM, ENM, NULL, EDM, EDM, ROW_15, ROW_15, HO, NULL, EOC, EOC,
         ],
     );
-    gives(&rt, &mut plan, &[NULL]);
+    gives(&rt, &mut placed, &[NULL]);
     Ok(())
 }
 
@@ -166,8 +167,8 @@ fn the_first_cue_without_room_is_named(rt: HostRuntime) -> Result<(), Fail> {
         text!(HI, 3, 20, 20),
     ]?;
     let events = vec![in rt.alloc(); event!(EOC, 7), event!(EDM, 14), event!(EOC, 18)]?;
-    let lane = Lane { pieces, events };
-    assert_eq!(rt; lane.plan().err(), Some(2));
+    let lane = FieldLane { pieces, events };
+    assert!(rt; matches!(lane.place(rt.alloc()), Err(PlanFault::NoRoom(2))));
     Ok(())
 }
 
@@ -178,9 +179,13 @@ fn a_unit_waits_for_its_load(rt: HostRuntime) -> Result<(), Fail> {
         control!(RCL, 2, 5, 4_294_967_295),
     ]?;
     let events = vec![in rt.alloc(); event!(EDM, 0)]?;
-    let lane = Lane { pieces, events };
-    let mut plan = lane.plan().ok().ok_or("both cues have room")?;
-    gives(&rt, &mut plan, &[EDM, EDM, HI, NULL, NULL, RCL, RCL, NULL]);
+    let lane = FieldLane { pieces, events };
+    let mut placed = lane.place(rt.alloc()).ok().ok_or("both cues have room")?;
+    gives(
+        &rt,
+        &mut placed,
+        &[EDM, EDM, HI, NULL, NULL, RCL, RCL, NULL],
+    );
     Ok(())
 }
 
@@ -191,18 +196,18 @@ fn a_lane_far_ahead_is_judged_at_once(rt: HostRuntime) -> Result<(), Fail> {
         text!(HI, 7, 4_294_967_290, 4_294_967_295),
     ]?;
     let events = vec![in rt.alloc(); event!(EDM, 4_294_967_291), event!(EOC, 4_294_967_295)]?;
-    let lane = Lane { pieces, events };
-    assert_eq!(rt; lane.plan().err(), Some(7));
+    let lane = FieldLane { pieces, events };
+    assert!(rt; matches!(lane.place(rt.alloc()), Err(PlanFault::NoRoom(7))));
     Ok(())
 }
 
 #[test]
 fn a_lane_with_nothing_has_null_pairs(rt: HostRuntime) -> Result<(), Fail> {
-    let lane = Lane {
+    let lane = FieldLane {
         pieces: Vec::new(rt.alloc()),
         events: Vec::new(rt.alloc()),
     };
-    let mut plan = lane.plan().ok().ok_or("nothing has room")?;
-    gives(&rt, &mut plan, &[NULL, NULL, NULL]);
+    let mut placed = lane.place(rt.alloc()).ok().ok_or("nothing has room")?;
+    gives(&rt, &mut placed, &[NULL, NULL, NULL]);
     Ok(())
 }

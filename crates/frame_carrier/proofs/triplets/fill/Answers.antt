@@ -1,0 +1,16 @@
+use Rattle.std.proofs.Common.{◌≡◌, ◌∙◌, ◌-◌, ◌++◌, ◌<◌, ◌≤◌, [], ◌∷◌, ap, arith, length, replicate, sym, subst}
+use Rattle.frame_carrier.specs.FrameTriplets.{filler}
+use Rattle.frame_carrier.proofs.CarryingLemmas.{fill_more}
+use Rattle.frame_carrier.proofs.triplets.fill.Goals as goal
+
+pub loop-triplets-preserved : goal.loop-triplets-preserved
+loop-triplets-preserved c =
+    let old = c.loop-triplets.triplets.items in
+    let more : c.push.new.self.items ≡ old ++ filler ∷ [] = c.push.ensures.items ∙ ap (λ t. old ++ t ∷ []) c.filler.ensures in
+    let low : length old < c.args.number = omega (arith, c.loop-triplets-test.true, c.len.ensures.value, c.from.ensures) in
+    let w = fill_more old c.args.number (c.args.triplets.now.items ++ replicate (c.args.number - length c.args.triplets.now.items) filler) low c.loop-triplets.invariant.filled in
+    record {
+      room = subst (λ items. length items ≤ c.args.number) (sym more) w.0;
+      filled = subst (λ items. items ++ replicate (c.args.number - length items) filler
+          ≡ c.args.triplets.now.items ++ replicate (c.args.number - length c.args.triplets.now.items) filler) (sym more) w.1;
+    }

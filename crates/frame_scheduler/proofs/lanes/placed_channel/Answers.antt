@@ -1,0 +1,5 @@
+use Rattle.frame_scheduler.proofs.ChannelOrderLemmas.{channel_in_order}
+use Rattle.frame_scheduler.proofs.lanes.placed_channel.Goals as goal
+
+pub place-requires-clause-order : goal.place-requires-clause-order
+place-requires-clause-order c = rw c.in-Ok.ensures (channel_in_order c.args.channel c.args.cues.now)

@@ -1,0 +1,9 @@
+use line21_author::Unit;
+
+/// A unit in its place in a lane.
+#[derive(Clone, Copy, Debug, PartialEq, Eq)]
+pub struct PlacedUnit {
+    pub unit: Unit,
+    /// The slot in which the unit begins, counted from 0.
+    pub slot: u32,
+}
