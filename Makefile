@@ -43,6 +43,7 @@ bench: build/ccsuite
 	bench/cues.sh
 	bench/screen.sh
 	bench/blocks.sh
+	bench/dtvcc_codes.sh
 
 install: build/ccsuite
 	install -D -m 755 build/ccsuite $(DESTDIR)$(PREFIX)/bin/ccsuite
