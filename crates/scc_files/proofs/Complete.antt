@@ -30,24 +30,24 @@ pub one : (j : Bool) (p : Position) (from to : Phase) (byte : ℕ) (rest : List 
     → reached j p to ≡ Ok (record { phase = to; position = p }, None) → Reads j to p rest out → Reads j from p (byte ∷ rest) out
 one j p from to byte rest out moves plain read = record {
   at = λ place.
-    ap (λ m. behind place (step_to j (record { phase = from; position = p }) m) (λ s. read_from j (place + 1) s rest)) moves
-    ∙ (ap (λ x. behind place x (λ s. read_from j (place + 1) s rest)) plain ∙ read.at (place + 1))
+      ap (λ m. behind place (step_to j (record { phase = from; position = p }) m) (λ s. read_from j (place + 1) s rest)) moves
+      ∙ (ap (λ x. behind place x (λ s. read_from j (place + 1) s rest)) plain ∙ read.at (place + 1));
 }
 
 pub one_pair : (j : Bool) (p : Position) (from : Phase) (pair : Pair) (byte : ℕ) (rest : List ℕ) (out : List (ℕ × Pair))
     → moved from byte ≡ Some (phase.Whole pair) → Reads j (phase.Whole pair) (pairs_on p 1) rest out → Reads j from p (byte ∷ rest) ((p.next, pair) ∷ out)
 one_pair j p from pair byte rest out moves read = record {
   at = λ place.
-    ap (λ m. behind place (step_to j (record { phase = from; position = p }) m) (λ s. read_from j (place + 1) s rest)) moves
-    ∙ ap (λ x. with_pair (Some (p.next, pair)) x) (read.at (place + 1))
+      ap (λ m. behind place (step_to j (record { phase = from; position = p }) m) (λ s. read_from j (place + 1) s rest)) moves
+      ∙ ap (λ x. with_pair (Some (p.next, pair)) x) (read.at (place + 1));
 }
 
 pub one_text : (j : Bool) (p s : Position) (from : Phase) (text : List ℕ) (byte : ℕ) (rest : List ℕ) (out : List (ℕ × Pair))
     → moved from byte ≡ Some (phase.Timed text) → judged j p text ≡ Ok s → Reads j (phase.Timed text) s rest out → Reads j from p (byte ∷ rest) out
 one_text j p s from text byte rest out moves is read = record {
   at = λ place.
-    ap (λ m. behind place (step_to j (record { phase = from; position = p }) m) (λ s. read_from j (place + 1) s rest)) moves
-    ∙ (ap (λ x. behind place (text_done (phase.Timed text) x) (λ s. read_from j (place + 1) s rest)) is ∙ read.at (place + 1))
+      ap (λ m. behind place (step_to j (record { phase = from; position = p }) m) (λ s. read_from j (place + 1) s rest)) moves
+      ∙ (ap (λ x. behind place (text_done (phase.Timed text) x) (λ s. read_from j (place + 1) s rest)) is ∙ read.at (place + 1));
 }
 
 -- spaces, and TABs and spaces, are passed over
@@ -74,7 +74,7 @@ pub gap_blanks : (j : Bool) (p : Position) (blanks rest : List ℕ) (out : List 
 gap_blanks j p [] rest out are read = read
 gap_blanks j p (b ∷ bs) rest out are read =
     one j p phase.Gap phase.Gap b (bs ++ rest) out
-      (ap (λ t. cond t (Some phase.Gap) (option_map (λ value. phase.One value) (hex_value b))) are.0) refl (gap_blanks j p bs rest out are.1 read)
+    (ap (λ t. cond t (Some phase.Gap) (option_map (λ value. phase.One value) (hex_value b))) are.0) refl (gap_blanks j p bs rest out are.1 read)
 
 -- a hex digit is no TAB or space
 pub hex_is_no_blank : (byte value : ℕ) → hex_value byte ≡ Some value → is_blank byte ≡ false
@@ -90,33 +90,33 @@ pub word_read : (j : Bool) (p : Position) (v q r s : ℕ) (b c d : ℕ) (rest : 
     → Reads j (phase.One v) p (b ∷ c ∷ d ∷ rest) ((p.next, record { a = 16 * v + q; b = 16 * r + s }) ∷ out)
 word_read j p v q r s b c d rest out b_is c_is d_is read =
     one j p (phase.One v) (phase.Two (16 * v + q)) b (c ∷ d ∷ rest) _ (ap (λ o. option_map (λ low. phase.Two (16 * v + low)) o) b_is) refl
-      (one j p (phase.Two (16 * v + q)) (phase.Three (16 * v + q) r) c (d ∷ rest) _ (ap (λ o. option_map (λ value. phase.Three (16 * v + q) value) o) c_is) refl
-        (one_pair j p (phase.Three (16 * v + q) r) (record { a = 16 * v + q; b = 16 * r + s }) d rest out
-          (ap (λ o. option_map (λ low. phase.Whole (record { a = 16 * v + q; b = 16 * r + low })) o) d_is) read))
+    (one j p (phase.Two (16 * v + q)) (phase.Three (16 * v + q) r) c (d ∷ rest) _ (ap (λ o. option_map (λ value. phase.Three (16 * v + q) value) o) c_is) refl
+    (one_pair j p (phase.Three (16 * v + q) r) (record { a = 16 * v + q; b = 16 * r + s }) d rest out
+    (ap (λ o. option_map (λ low. phase.Whole (record { a = 16 * v + q; b = 16 * r + low })) o) d_is) read))
 
 pub gap_word : (j : Bool) (p : Position) (pair : Pair) (word rest : List ℕ) (out : List (ℕ × Pair)) → IsWord pair word
     → Reads j (phase.Whole pair) (pairs_on p 1) rest out → Reads j phase.Gap p (word ++ rest) ((p.next, pair) ∷ out)
 gap_word j p pair word rest out w read =
     let read' = subst (λ (x : Pair). Reads j (phase.Whole x) (pairs_on p 1) rest out) w.is read in
     let moves : moved phase.Gap w.a ≡ Some (phase.One w.p) =
-          ap (λ t. cond t (Some phase.Gap) (option_map (λ value. phase.One value) (hex_value w.a))) (hex_is_no_blank w.a w.p w.a_is)
-          ∙ ap (λ o. option_map (λ value. phase.One value) o) w.a_is in
+    ap (λ t. cond t (Some phase.Gap) (option_map (λ value. phase.One value) (hex_value w.a))) (hex_is_no_blank w.a w.p w.a_is)
+    ∙ ap (λ o. option_map (λ value. phase.One value) o) w.a_is in
     let whole = one j p phase.Gap (phase.One w.p) w.a (w.b ∷ w.c ∷ w.d ∷ rest) _ moves refl
-          (word_read j p w.p w.q w.r w.s w.b w.c w.d rest out w.b_is w.c_is w.d_is read') in
+    (word_read j p w.p w.q w.r w.s w.b w.c w.d rest out w.b_is w.c_is w.d_is read') in
     subst (λ (x : Pair). Reads j phase.Gap p (word ++ rest) ((p.next, x) ∷ out)) (sym w.is)
-      (subst (λ (z : List ℕ). Reads j phase.Gap p (z ++ rest) ((p.next, record { a = 16 * w.p + w.q; b = 16 * w.r + w.s }) ∷ out)) (sym w.spelled) whole)
+    (subst (λ (z : List ℕ). Reads j phase.Gap p (z ++ rest) ((p.next, record { a = 16 * w.p + w.q; b = 16 * w.r + w.s }) ∷ out)) (sym w.spelled) whole)
 
 pub between_word : (j : Bool) (p : Position) (pair : Pair) (word rest : List ℕ) (out : List (ℕ × Pair)) → IsWord pair word
     → Reads j (phase.Whole pair) (pairs_on p 1) rest out → Reads j phase.Between p (word ++ rest) ((p.next, pair) ∷ out)
 between_word j p pair word rest out w read =
     let read' = subst (λ (x : Pair). Reads j (phase.Whole x) (pairs_on p 1) rest out) w.is read in
     let moves : moved phase.Between w.a ≡ Some (phase.One w.p) =
-          ap (λ t. cond t (Some phase.Between) (word_or_end w.a (hex_value w.a))) (hex_is_no_space w.a w.p w.a_is)
-          ∙ ap (λ o. word_or_end w.a o) w.a_is in
+    ap (λ t. cond t (Some phase.Between) (word_or_end w.a (hex_value w.a))) (hex_is_no_space w.a w.p w.a_is)
+    ∙ ap (λ o. word_or_end w.a o) w.a_is in
     let whole = one j p phase.Between (phase.One w.p) w.a (w.b ∷ w.c ∷ w.d ∷ rest) _ moves refl
-          (word_read j p w.p w.q w.r w.s w.b w.c w.d rest out w.b_is w.c_is w.d_is read') in
+    (word_read j p w.p w.q w.r w.s w.b w.c w.d rest out w.b_is w.c_is w.d_is read') in
     subst (λ (x : Pair). Reads j phase.Between p (word ++ rest) ((p.next, x) ∷ out)) (sym w.is)
-      (subst (λ (z : List ℕ). Reads j phase.Between p (z ++ rest) ((p.next, record { a = 16 * w.p + w.q; b = 16 * w.r + w.s }) ∷ out)) (sym w.spelled) whole)
+    (subst (λ (z : List ℕ). Reads j phase.Between p (z ++ rest) ((p.next, record { a = 16 * w.p + w.q; b = 16 * w.r + w.s }) ∷ out)) (sym w.spelled) whole)
 
 -- a phase at which a line may end
 pub record IsEnding (at : Phase) : Type 0 where
@@ -157,15 +157,15 @@ pub words_read : (j : Bool) (pairs : List Pair) (p : Position) (last : Pair) (wo
 words_read j [] p last [] rest out are ends = ends (phase.Whole last) (whole_ends last)
 words_read j [] p last (b ∷ bs) rest out are ends =
     one j p (phase.Whole last) phase.Between b (bs ++ rest) out (ap (λ z. moved (phase.Whole last) z) are.0) refl
-      (between_spaces j p bs rest out are.1 (ends phase.Between between_ends))
+    (between_spaces j p bs rest out are.1 (ends phase.Between between_ends))
 words_read j (pair ∷ pairs) p last words rest out (spaces, word, more, are_spaces, is_word, are_words, spelled) ends =
     let next = words_read j pairs (pairs_on p 1) pair more rest out are_words ends in
     let here = between_word j p pair word (more ++ rest) _ is_word next in
     let gap = between_spaces j p spaces (word ++ (more ++ rest)) _ are_spaces here in
     let all = one j p (phase.Whole last) phase.Between 32 (spaces ++ (word ++ (more ++ rest))) _ refl refl gap in
     let same : 32 ∷ (spaces ++ (word ++ (more ++ rest))) ≡ words ++ rest =
-          ap (λ z. 32 ∷ z) (ap (λ z. spaces ++ z) (sym (append_assoc word more rest)) ∙ sym (append_assoc spaces (word ++ more) rest))
-          ∙ ap (λ z. z ++ rest) (sym spelled) in
+    ap (λ z. 32 ∷ z) (ap (λ z. spaces ++ z) (sym (append_assoc word more rest)) ∙ sym (append_assoc spaces (word ++ more) rest))
+    ∙ ap (λ z. z ++ rest) (sym spelled) in
     subst (λ (z : List ℕ). Reads j (phase.Whole last) p z (one_a_frame p.next (pair ∷ pairs) ++ out)) same all
 
 -- a time code's text
@@ -173,9 +173,9 @@ pub digit_step : (j : Bool) (p : Position) (at : ℕ) (text : List ℕ) (byte : 
     → nat_eq at 10 ≡ false → Reads j (phase.Text (at + 1) (slice_set text at byte)) p rest out → Reads j (phase.Text at text) p (byte ∷ rest) out
 digit_step j p at text byte rest out fit early read =
     one j p (phase.Text at text) (phase.Text (at + 1) (slice_set text at byte)) byte rest out
-      (ap (λ t. cond t (cond (nat_eq at 10) (Some (phase.Timed (slice_set text at byte))) (Some (phase.Text (at + 1) (slice_set text at byte)))) None) fit
-        ∙ ap (λ t. cond t (Some (phase.Timed (slice_set text at byte))) (Some (phase.Text (at + 1) (slice_set text at byte)))) early)
-      refl read
+    (ap (λ t. cond t (cond (nat_eq at 10) (Some (phase.Timed (slice_set text at byte))) (Some (phase.Text (at + 1) (slice_set text at byte)))) None) fit
+    ∙ ap (λ t. cond t (Some (phase.Timed (slice_set text at byte))) (Some (phase.Text (at + 1) (slice_set text at byte)))) early)
+    refl read
 
 pub mark_fits : (drop_frame : Bool) → fits 8 (mark drop_frame) ≡ true
 mark_fits true = refl
@@ -185,23 +185,23 @@ pub text_read : (j : Bool) (p s : Position) (t : TimeCode) (rest : List ℕ) (ou
     → Reads j (phase.Timed (text_of t)) s rest out → Reads j phase.Start p (text_of t ++ rest) out
 text_read j p s t rest out two is read =
     let last : moved (phase.Text 10 (tens t.h ∷ ones t.h ∷ 58 ∷ tens t.m ∷ ones t.m ∷ 58 ∷ tens t.s ∷ ones t.s ∷ mark t.drop_frame ∷ tens t.f ∷ 0 ∷ [])) (ones t.f)
-            ≡ Some (phase.Timed (text_of t)) =
-          ap (λ v. cond v (Some (phase.Timed (text_of t))) None) (ones_digit t.f) in
+    ≡ Some (phase.Timed (text_of t)) =
+    ap (λ v. cond v (Some (phase.Timed (text_of t))) None) (ones_digit t.f) in
     let start : moved phase.Start (tens t.h) ≡ Some (phase.Text 1 (tens t.h ∷ 0 ∷ 0 ∷ 0 ∷ 0 ∷ 0 ∷ 0 ∷ 0 ∷ 0 ∷ 0 ∷ 0 ∷ [])) =
-          ap (λ v. cond v (Some (phase.Text 1 (tens t.h ∷ 0 ∷ 0 ∷ 0 ∷ 0 ∷ 0 ∷ 0 ∷ 0 ∷ 0 ∷ 0 ∷ 0 ∷ [])))
-            (cond (nat_eq (tens t.h) 32) (Some phase.Blank) (ended (tens t.h)))) (tens_digit t.h two.h) in
+    ap (λ v. cond v (Some (phase.Text 1 (tens t.h ∷ 0 ∷ 0 ∷ 0 ∷ 0 ∷ 0 ∷ 0 ∷ 0 ∷ 0 ∷ 0 ∷ 0 ∷ [])))
+    (cond (nat_eq (tens t.h) 32) (Some phase.Blank) (ended (tens t.h)))) (tens_digit t.h two.h) in
     one j p phase.Start _ (tens t.h) _ out start refl
-      (digit_step j p 1 _ (ones t.h) _ out (ones_digit t.h) refl
-        (digit_step j p 2 _ 58 _ out refl refl
-          (digit_step j p 3 _ (tens t.m) _ out (tens_digit t.m two.m) refl
-            (digit_step j p 4 _ (ones t.m) _ out (ones_digit t.m) refl
-              (digit_step j p 5 _ 58 _ out refl refl
-                (digit_step j p 6 _ (tens t.s) _ out (tens_digit t.s two.s) refl
-                  (digit_step j p 7 _ (ones t.s) _ out (ones_digit t.s) refl
-                    (digit_step j p 8 _ (mark t.drop_frame) _ out (mark_fits t.drop_frame) refl
-                      (digit_step j p 9 _ (tens t.f) _ out (tens_digit t.f two.f) refl
-                        (one_text j p s (phase.Text 10 (tens t.h ∷ ones t.h ∷ 58 ∷ tens t.m ∷ ones t.m ∷ 58 ∷ tens t.s ∷ ones t.s ∷ mark t.drop_frame ∷ tens t.f ∷ 0 ∷ []))
-                          (text_of t) (ones t.f) rest out last is read))))))))))
+    (digit_step j p 1 _ (ones t.h) _ out (ones_digit t.h) refl
+    (digit_step j p 2 _ 58 _ out refl refl
+    (digit_step j p 3 _ (tens t.m) _ out (tens_digit t.m two.m) refl
+    (digit_step j p 4 _ (ones t.m) _ out (ones_digit t.m) refl
+    (digit_step j p 5 _ 58 _ out refl refl
+    (digit_step j p 6 _ (tens t.s) _ out (tens_digit t.s two.s) refl
+    (digit_step j p 7 _ (ones t.s) _ out (ones_digit t.s) refl
+    (digit_step j p 8 _ (mark t.drop_frame) _ out (mark_fits t.drop_frame) refl
+    (digit_step j p 9 _ (tens t.f) _ out (tens_digit t.f two.f) refl
+    (one_text j p s (phase.Text 10 (tens t.h ∷ ones t.h ∷ 58 ∷ tens t.m ∷ ones t.m ∷ 58 ∷ tens t.s ∷ ones t.s ∷ mark t.drop_frame ∷ tens t.f ∷ 0 ∷ []))
+    (text_of t) (ones t.f) rest out last is read))))))))))
 
 -- a time code judged, or not
 abbrev pub judged_time : Bool → Position → TimeCode → Result Position Offence
@@ -235,16 +235,16 @@ timed_read j p s line spelled rest out l is ends =
     let word = gap_word j s line.first l.word (l.words ++ rest) _ l.is_word words in
     let gap = gap_blanks j s l.blanks (l.word ++ (l.words ++ rest)) _ l.are_blanks word in
     let blank = one j s (phase.Timed (text_of line.time)) phase.Gap l.blank (l.blanks ++ (l.word ++ (l.words ++ rest))) _
-          (ap (λ v. cond v (Some phase.Gap) None) l.is_blank_byte) refl gap in
+    (ap (λ v. cond v (Some phase.Gap) None) l.is_blank_byte) refl gap in
     let known : time_of_text (text_of line.time) ≡ Some line.time =
-          spelled_is_read line.time (text_of line.time) (record { digits = l.is_text.digits; spelled = refl }) in
+    spelled_is_read line.time (text_of line.time) (record { digits = l.is_text.digits; spelled = refl }) in
     let judge : judged j p (text_of line.time) ≡ Ok s = judged_is j p (text_of line.time) line.time known ∙ is in
     let all = text_read j p s line.time (l.blank ∷ (l.blanks ++ (l.word ++ (l.words ++ rest)))) _ l.is_text.digits judge blank in
     let same : text_of line.time ++ (l.blank ∷ (l.blanks ++ (l.word ++ (l.words ++ rest)))) ≡ spelled ++ rest =
-          ap (λ z. text_of line.time ++ (l.blank ∷ z))
-            (ap (λ z. l.blanks ++ z) (sym (append_assoc l.word l.words rest)) ∙ sym (append_assoc l.blanks (l.word ++ l.words) rest))
-          ∙ (sym (append_assoc (text_of line.time) (l.blank ∷ (l.blanks ++ (l.word ++ l.words))) rest)
-          ∙ ap (λ z. z ++ rest) (ap (λ z. z ++ (l.blank ∷ (l.blanks ++ (l.word ++ l.words)))) (sym l.is_text.spelled) ∙ sym l.spelled)) in
+    ap (λ z. text_of line.time ++ (l.blank ∷ z))
+    (ap (λ z. l.blanks ++ z) (sym (append_assoc l.word l.words rest)) ∙ sym (append_assoc l.blanks (l.word ++ l.words) rest))
+    ∙ (sym (append_assoc (text_of line.time) (l.blank ∷ (l.blanks ++ (l.word ++ l.words))) rest)
+    ∙ ap (λ z. z ++ rest) (ap (λ z. z ++ (l.blank ∷ (l.blanks ++ (l.word ++ l.words)))) (sym l.is_text.spelled) ∙ sym l.spelled)) in
     subst (λ (z : List ℕ). Reads j phase.Start p z (one_a_frame s.next (line.first ∷ line.more) ++ out)) same all
 
 -- a line's end
@@ -252,26 +252,26 @@ pub end_read : (j : Bool) (p : Position) (at : Phase) (end rest : List ℕ) (out
     → Reads j phase.Start p rest out → Reads j at p (end ++ rest) out
 end_read j p at end rest out ends is read =
     ⊎_elim
-      (λ e. subst (λ (z : List ℕ). Reads j at p (z ++ rest) out) (sym e) (one j p at phase.Start 10 rest out ends.lf refl read))
-      (λ e. subst (λ (z : List ℕ). Reads j at p (z ++ rest) out) (sym e)
-        (one j p at ends.cr 13 (10 ∷ rest) out ends.cr_is (ends.plain j p) (one j p ends.cr phase.Start 10 rest out ends.cr_lf refl read)))
-      is
+    (λ e. subst (λ (z : List ℕ). Reads j at p (z ++ rest) out) (sym e) (one j p at phase.Start 10 rest out ends.lf refl read))
+    (λ e. subst (λ (z : List ℕ). Reads j at p (z ++ rest) out) (sym e)
+    (one j p at ends.cr 13 (10 ∷ rest) out ends.cr_is (ends.plain j p) (one j p ends.cr phase.Start 10 rest out ends.cr_lf refl read)))
+    is
 
 -- lines
 pub lines_read : (j : Bool) (lines : List (Option TimedLine)) (p : Position) (bytes : List ℕ) (out : List (ℕ × Pair)) → AreLines lines bytes → Placed j p lines out
     → AtEnds j p bytes out
 lines_read j [] p bytes out are placed = λ at ends.
     subst (λ (z : List ℕ). Reads j at p z out) (sym are)
-      (subst (λ (z : List (ℕ × Pair)). Reads j at p [] z) (sym placed)
-        (record { at = λ place. ap (λ v. cond v (Ok []) (Err (record { place = place; why = why_in at }))) ends.may }))
+    (subst (λ (z : List (ℕ × Pair)). Reads j at p [] z) (sym placed)
+    (record { at = λ place. ap (λ v. cond v (Ok []) (Err (record { place = place; why = why_in at }))) ends.may }))
 lines_read j (None ∷ lines) p bytes out (end, spelled, rest, is_end, is_line, are_lines, is) placed = λ at ends.
     subst (λ (z : List ℕ). Reads j at p z out) (sym is)
-      (end_read j p at end (spelled ++ rest) out ends is_end (blank_read j p spelled rest out is_line (lines_read j lines p rest out are_lines placed)))
+    (end_read j p at end (spelled ++ rest) out ends is_end (blank_read j p spelled rest out is_line (lines_read j lines p rest out are_lines placed)))
 lines_read j (Some line ∷ lines) p bytes out (end, spelled, rest, is_end, is_line, are_lines, is) (s, more, judge, placed, made) = λ at ends.
     subst (λ (z : List (ℕ × Pair)). Reads j at p bytes z) (sym made)
-      (subst (λ (z : List ℕ). Reads j at p z (one_a_frame s.next (line.first ∷ line.more) ++ more)) (sym is)
-        (end_read j p at end (spelled ++ rest) _ ends is_end
-          (timed_read j p s line spelled rest more is_line judge (lines_read j lines (after_pairs s (line.first ∷ line.more)) rest more are_lines placed))))
+    (subst (λ (z : List ℕ). Reads j at p z (one_a_frame s.next (line.first ∷ line.more) ++ more)) (sym is)
+    (end_read j p at end (spelled ++ rest) _ ends is_end
+    (timed_read j p s line spelled rest more is_line judge (lines_read j lines (after_pairs s (line.first ∷ line.more)) rest more are_lines placed))))
 
 -- a whole file
 pub form_read : (j : Bool) (lines : List (Option TimedLine)) (bytes : List ℕ) (out : List (ℕ × Pair)) → IsForm lines bytes → Placed j at_first_frame lines out
@@ -291,7 +291,7 @@ after_is (pair ∷ pairs) p =
 pub number_is : (t : TimeCode) (frame : ℕ) → frame_of t ≡ Ok frame → frame_number t ≡ frame
 number_is t frame is =
     let cases : (b : Bool) → is_time_code t ≡ b → frame_number t ≡ frame =
-        elim [ true ↦ λ e. cc | false ↦ λ e. absurd (grind (arith, common_steps)) ] in
+    elim [ true ↦ λ e. cc | false ↦ λ e. absurd (grind (arith, common_steps)) ] in
     cases (is_time_code t) refl
 
 pub timed_is : (p : Position) (t : TimeCode) (frame : ℕ) → frame_of t ≡ Ok frame → p.last ≤ frame → judged_time true p t ≡ Ok (line_at p frame)
@@ -311,15 +311,19 @@ timed_placed (Some line ∷ lines) p (frame, is, low, rest) =
     let more = timed_placed lines (pairs_on s (length (line.first ∷ line.more))) rest in
     let count : s.next + length (line.first ∷ line.more) ≡ s.next + 1 + length line.more = omega arith in
     let made : placed_from p.start p.next (Some line ∷ lines)
-            ≡ one_a_frame s.next (line.first ∷ line.more) ++ placed_from s.start (s.next + length (line.first ∷ line.more)) lines =
-          ap (λ n. one_a_frame (max (n - unwrap_or p.start n) p.next) (line.first ∷ line.more)
-              ++ placed_from (Some (unwrap_or p.start n)) (max (n - unwrap_or p.start n) p.next + 1 + length line.more) lines) number
-          ∙ ap (λ n. one_a_frame s.next (line.first ∷ line.more) ++ placed_from s.start n lines) (sym count) in
-    (s, placed_from s.start (s.next + length (line.first ∷ line.more)) lines, timed_is p line.time frame is low,
-      subst (λ (q : Position). Placed true q lines (placed_from s.start (s.next + length (line.first ∷ line.more)) lines)) (sym q_is) more, made)
+    ≡ one_a_frame s.next (line.first ∷ line.more) ++ placed_from s.start (s.next + length (line.first ∷ line.more)) lines =
+    ap (λ n. one_a_frame (max (n - unwrap_or p.start n) p.next) (line.first ∷ line.more)
+    ++ placed_from (Some (unwrap_or p.start n)) (max (n - unwrap_or p.start n) p.next + 1 + length line.more) lines) number
+    ∙ ap (λ n. one_a_frame s.next (line.first ∷ line.more) ++ placed_from s.start n lines) (sym count) in (
+      s,
+      placed_from s.start (s.next + length (line.first ∷ line.more)) lines,
+      timed_is p line.time frame is low,
+      subst (λ (q : Position). Placed true q lines (placed_from s.start (s.next + length (line.first ∷ line.more)) lines)) (sym q_is) more,
+      made,
+    )
 
 -- an SCC file is read as its pairs
 pub file_read : (pairs : List (ℕ × Pair)) (bytes : List ℕ) → IsSccFile pairs bytes → read_file bytes ≡ Ok pairs
 file_read pairs bytes file =
     form_read true file.lines bytes pairs file.form
-      (subst (λ (z : List (ℕ × Pair)). Placed true at_first_frame file.lines z) (sym file.placed) (timed_placed file.lines at_first_frame file.timed))
+    (subst (λ (z : List (ℕ × Pair)). Placed true at_first_frame file.lines z) (sym file.placed) (timed_placed file.lines at_first_frame file.timed))

@@ -51,8 +51,8 @@ first_reads (suc n) at j p is =
     let other = before_last at n is in
     let same : nat_eq (get_or first_text at 0) (get_or first_text at 0) ≡ true = eq-eqb (get_or first_text at 0) (get_or first_text at 0) refl in
     let moves : moved (phase.First at) (get_or first_text at 0) ≡ Some (phase.First (at + 1)) =
-          ap (λ t. cond t (cond (nat_eq at 17) (Some phase.FirstSpaces) (Some (phase.First (at + 1)))) None) same
-          ∙ ap (λ t. cond t (Some phase.FirstSpaces) (Some (phase.First (at + 1)))) other in
+    ap (λ t. cond t (cond (nat_eq at 17) (Some phase.FirstSpaces) (Some (phase.First (at + 1)))) None) same
+    ∙ ap (λ t. cond t (Some phase.FirstSpaces) (Some (phase.First (at + 1)))) other in
     let step_on = one j p (phase.First at) (phase.First (at + 1)) (get_or first_text at 0) (drop (at + 1) first_text) [] moves refl (first_reads n (at + 1) j p next) in
     let spelled : get_or first_text at 0 ∷ drop (at + 1) first_text ≡ drop at first_text = rw add-one (sym (drop-cons first_text at 0 early)) in
     subst (λ (z : List ℕ). Reads j (phase.First at) p z []) spelled step_on
@@ -106,9 +106,10 @@ and_true false q first second = absurd (cc)
 pub fit_text : (a b c d e f g h i k l : ℕ) → AllFit 0 (a ∷ b ∷ c ∷ d ∷ e ∷ f ∷ g ∷ h ∷ i ∷ k ∷ l ∷ [])
     → (t : TimeCode) × (time_of_text (a ∷ b ∷ c ∷ d ∷ e ∷ f ∷ g ∷ h ∷ i ∷ k ∷ l ∷ []) ≡ Some t)
 fit_text a b c d e f g h i k l (fa, (fb, (fc, (fd, (fe, (ff, (fg, (fh, (fi, (fk, (fl, end))))))))))) =
-    let all = and_true _ _ (and_true _ _ (and_true _ _ (and_true _ _ (and_true _ _ (and_true _ _ (and_true _ _ (and_true _ _ (and_true _ _ (and_true _ _ fa fb) fc) fd) fe) ff) fg) fh) fi) fk) fl in
-    (record { h = number_of a b; m = number_of d e; s = number_of g h; f = number_of k l; drop_frame = nat_eq i 59 },
-      ap (λ t. cond t (Some (record { h = number_of a b; m = number_of d e; s = number_of g h; f = number_of k l; drop_frame = nat_eq i 59 })) None) all)
+    let all = and_true _ _ (and_true _ _ (and_true _ _ (and_true _ _ (and_true _ _ (and_true _ _ (and_true _ _ (and_true _ _ (and_true _ _ (and_true _ _ fa fb) fc) fd) fe) ff) fg) fh) fi) fk) fl in (
+      record { h = number_of a b; m = number_of d e; s = number_of g h; f = number_of k l; drop_frame = nat_eq i 59 },
+      ap (λ t. cond t (Some (record { h = number_of a b; m = number_of d e; s = number_of g h; f = number_of k l; drop_frame = nat_eq i 59 })) None) all,
+    )
 
 pub whole_text : (xs : List ℕ) → length xs ≡ 11 → AllFit 0 xs → (t : TimeCode) × (time_of_text xs ≡ Some t)
 whole_text [] size fit = absurd (omega arith)
@@ -157,7 +158,7 @@ form_of_text before at text p o =
     let size : length front ≡ at = length-take-le at text (omega (arith, o.size, o.early)) in
     let place : 0 + at ≡ 0 + length front = omega (arith, size) in
     let fit : AllFit 0 (front ++ tail) =
-          fit_append front tail 0 o.fit (subst (λ (k : ℕ). AllFit k tail) place (fit_drop filler at 0 filler_fits)) in
+    fit_append front tail 0 o.fit (subst (λ (k : ℕ). AllFit k tail) place (fit_drop filler at 0 filler_fits)) in
     let left : length tail ≡ 11 - at = length-drop at filler in
     let eleven : length front + length tail ≡ 11 = omega (arith, size, left, o.early) in
     let whole : length (front ++ tail) ≡ 11 = length-append front tail ∙ eleven in
@@ -168,21 +169,28 @@ form_of_text before at text p o =
     let word = 56 ∷ 48 ∷ 56 ∷ 48 ∷ [] in
     let spelled = (front ++ tail) ++ (32 ∷ ([] ++ (word ++ []))) in
     let is_line : IsTimedLine line spelled = record {
-          text = front ++ tail; blank = 32; blanks = []; word = word; words = [];
-          is_text = is_text; is_blank_byte = refl; are_blanks = tt;
-          is_word = record { a = 56; b = 48; c = 56; d = 48; p = 8; q = 0; r = 8; s = 0; spelled = refl; a_is = refl; b_is = refl; c_is = refl; d_is = refl; is = refl };
-          are_words = tt; spelled = refl
-        } in
+      text = front ++ tail;
+      blank = 32;
+      blanks = [];
+      word = word;
+      words = [];
+      is_text = is_text;
+      is_blank_byte = refl;
+      are_blanks = tt;
+      is_word = record { a = 56; b = 48; c = 56; d = 48; p = 8; q = 0; r = 8; s = 0; spelled = refl; a_is = refl; b_is = refl; c_is = refl; d_is = refl; is = refl };
+      are_words = tt;
+      spelled = refl;
+    } in
     let form = same_phase o.start (phase.First 0) at_first_frame at_first_frame (record { phase = phase.Start; position = p }) o.reaches in
     let q = form.at in
     let line_reads = timed_read false q q line spelled [] [] is_line refl (lines_read false [] (after_pairs q (null ∷ [])) [] [] refl refl) in
     let all = replay false o.start (spelled ++ []) at_first (record { phase = phase.Start; position = q }) 0 form.reaches
-          (λ place. record { out = one_a_frame q.next (null ∷ []) ++ []; is = line_reads.at place }) in
+    (λ place. record { out = one_a_frame q.next (null ∷ []) ++ []; is = line_reads.at place }) in
     let file = form_sound false 0 (o.start ++ (spelled ++ [])) all.out all.is in
     let more = tail ++ (32 ∷ ([] ++ (word ++ []))) in
     let same : o.start ++ (spelled ++ []) ≡ before ++ more =
-          ap (λ z. o.start ++ z) (append-nil spelled ∙ append_assoc front tail (32 ∷ ([] ++ (word ++ []))))
-          ∙ (sym (append_assoc o.start front more) ∙ ap (λ z. z ++ more) (sym o.is)) in
+    ap (λ z. o.start ++ z) (append-nil spelled ∙ append_assoc front tail (32 ∷ ([] ++ (word ++ []))))
+    ∙ (sym (append_assoc o.start front more) ∙ ap (λ z. z ++ more) (sym o.is)) in
     record { more = more; lines = file.lines; form = subst (λ (z : List ℕ). IsForm file.lines z) same file.form }
 
 pub open_text : (before : List ℕ) (to : Phase) (p : Position) → Origin before (record { phase = to; position = p }) → IsText to → IsUnoffending before
@@ -194,7 +202,7 @@ open_text before (phase.Text at text) p o is_text =
       spelled = o.is;
       within = inr (o.ends, omega (arith, size, o.early));
       begins = begins_file o.start (record { phase = phase.Start; position = p }) o.reaches (record { more = []; reads = λ place. record { out = []; is = refl } });
-      form = form_of_text before at text p o
+      form = form_of_text before at text p o;
     }
 open_text before (phase.First at) p o is_text = absurd is_text
 open_text before phase.FirstSpaces p o is_text = absurd is_text
@@ -215,11 +223,11 @@ pub unoffending : (before : List ℕ) (to : Phase) (p : Position) → reach true
     → Origin before (record { phase = to; position = p }) → IsUnoffending before
 unoffending before to p reaches origin =
     ⊎_elim
-      (λ is_text. open_text before to p origin is_text)
-      (λ c.
-        let begins = begins_file before (record { phase = to; position = p }) reaches c in
-        record { start = before; open_text = []; spelled = sym (append-nil before); within = inl refl; begins = begins; form = file_form before begins })
-      (completes to true p before origin)
+    (λ is_text. open_text before to p origin is_text)
+    (λ c.
+    let begins = begins_file before (record { phase = to; position = p }) reaches c in
+    record { start = before; open_text = []; spelled = sym (append-nil before); within = inl refl; begins = begins; form = file_form before begins })
+    (completes to true p before origin)
 
 -- lines in form have pairs
 pub form_placed : (lines : List (Option TimedLine)) (p : Position) → (out : Pairs) × Placed false p lines out
@@ -240,10 +248,10 @@ byte_offends before byte s reaches stuck begins =
     let form = same_phase before (phase.First 0) at_first_frame at_first_frame s reaches in
     let r : Reader = record { phase = s.phase; position = form.at } in
     let refused = replay_refused false before (byte ∷ begins.more) at_first r 0 form.reaches
-          (λ place. record {
-            refusal = record { place = place - 0; why = why_in s.phase };
-            is = ap (λ m. behind place (step_to false r m) (λ x. read_from false (place + 1) x begins.more)) stuck
-          }) in
+    (λ place. record {
+      refusal = record { place = place - 0; why = why_in s.phase };
+      is = ap (λ m. behind place (step_to false r m) (λ x. read_from false (place + 1) x begins.more)) stuck;
+    }) in
     let same : (before ++ byte ∷ []) ++ begins.more ≡ before ++ (byte ∷ begins.more) = append_assoc before (byte ∷ []) begins.more in
     let read = form_reads begins.lines (before ++ (byte ∷ begins.more)) (subst (λ (z : List ℕ). IsForm begins.lines z) same begins.form) in
     err_ok (sym refused.is ∙ read.is)
@@ -254,10 +262,10 @@ end_offends bytes s reaches stuck lines form =
     let at_phase = same_phase bytes (phase.First 0) at_first_frame at_first_frame s reaches in
     let r : Reader = record { phase = s.phase; position = at_phase.at } in
     let refused = replay_refused false bytes [] at_first r 0 at_phase.reaches
-          (λ place. record {
-            refusal = record { place = place; why = why_in s.phase };
-            is = ap (λ may. cond {A = Result Pairs Refusal} may (Ok []) (Err (record { place = place; why = why_in s.phase }))) stuck
-          }) in
+    (λ place. record {
+      refusal = record { place = place; why = why_in s.phase };
+      is = ap (λ may. cond {A = Result Pairs Refusal} may (Ok []) (Err (record { place = place; why = why_in s.phase }))) stuck;
+    }) in
     let read = form_reads lines bytes form in
     err_ok (sym refused.is ∙ (ap (λ z. read_from false 0 at_first z) (append-nil bytes) ∙ read.is))
 
@@ -295,9 +303,9 @@ why_step (phase.First at) from byte t =
     header_kept from byte (ap (λ b. nat_eq b 10) t.byte_is ∙ no_lf_in first_text t.at' first_text_has_none) (ap why_in t.from_is)
 why_step phase.FirstSpaces from byte t =
     ⊎_elim
-      (λ f. header_kept from byte (ap (λ b. nat_eq b 10) f.byte_is ∙ no_lf_in first_text f.at' first_text_has_none) (ap why_in f.from_is))
-      (λ f. header_kept from byte (ap (λ b. nat_eq b 10) f.1) (ap why_in f.0))
-      t
+    (λ f. header_kept from byte (ap (λ b. nat_eq b 10) f.byte_is ∙ no_lf_in first_text f.at' first_text_has_none) (ap why_in f.from_is))
+    (λ f. header_kept from byte (ap (λ b. nat_eq b 10) f.1) (ap why_in f.0))
+    t
 why_step phase.FirstEnd from byte t = header_kept from byte (ap (λ b. nat_eq b 10) t.1) (ap why_in t.0)
 why_step phase.Start from byte t = sym (ap (λ b. cond (nat_eq b 10) why.SccSyntax (why_in from)) t)
 why_step phase.Blank from byte t = later_kept from byte t
@@ -316,14 +324,14 @@ pub why_reach : (bytes : List ℕ) (r s : Reader) → reach true r bytes ≡ Som
 why_reach [] r s is = ap (λ (x : Reader). why_in x.phase) (sym (some_reader is))
 why_reach (byte ∷ bytes) r s is =
     let cases : (x : Result Stepped Offence) → step true r byte ≡ x → option_and_then (λ s. reach true s bytes) (reader_of x) ≡ Some s
-            → why_in s.phase ≡ why_from (why_in r.phase) (byte ∷ bytes) =
-          elim [
-            Ok stepped ↦ λ e h.
-              let (to, moves, reached_is) = moved_step true r (moved r.phase byte) stepped e in
-              let (phase_is, form) = form_step to r.position r.position stepped reached_is in
-              why_reach bytes stepped.0 s h ∙ ap (λ w. why_from w bytes) (ap why_in phase_is ∙ why_step to r.phase byte (target r.phase byte to moves))
-          | Err offence ↦ λ e h. absurd (none_reader h)
-          ] in
+    → why_in s.phase ≡ why_from (why_in r.phase) (byte ∷ bytes) =
+    elim [
+      | Ok stepped ↦ λ e h.
+          let (to, moves, reached_is) = moved_step true r (moved r.phase byte) stepped e in
+          let (phase_is, form) = form_step to r.position r.position stepped reached_is in
+          why_reach bytes stepped.0 s h ∙ ap (λ w. why_from w bytes) (ap why_in phase_is ∙ why_step to r.phase byte (target r.phase byte to moves))
+      | Err offence ↦ λ e h. absurd (none_reader h)
+    ] in
     cases (step true r byte) refl is
 
 pub later_why : (bytes : List ℕ) → why_from why.SccSyntax bytes ≡ why.SccSyntax
@@ -387,7 +395,7 @@ time_offends bytes before rest byte s o refusal text spelled reaches origin step
     let all_size : length w.text' ≡ w.at' + 1 = omega (arith, org.size, w.ten) in
     let set_size : length (slice_set w.text' w.at' byte) ≡ w.at' + 1 = length-set w.text' w.at' byte ∙ all_size in
     let set_is : slice_set w.text' w.at' byte ≡ front ++ byte ∷ [] =
-          sym (ap (λ n. take n (slice_set w.text' w.at' byte)) (sym set_size) ∙ take-length (slice_set w.text' w.at' byte)) ∙ front_more w.at' w.text' byte org.size org.early in
+    sym (ap (λ n. take n (slice_set w.text' w.at' byte)) (sym set_size) ∙ take-length (slice_set w.text' w.at' byte)) ∙ front_more w.at' w.text' byte org.size org.early in
     let eleven : length front + length (byte ∷ []) ≡ 11 = omega (arith, size, w.ten) in
     let whole : length (front ++ byte ∷ []) ≡ 11 = length-append front (byte ∷ []) ∙ eleven in
     let here : w.at' ≡ 0 + length front = omega (arith, size) in
@@ -398,7 +406,7 @@ time_offends bytes before rest byte s o refusal text spelled reaches origin step
     let count : length before ≡ length org.start + length front = ap length org.is ∙ length-append org.start front in
     let place : refusal.place ≡ 0 + length before - o.back = ap (λ x. x.place) refused in
     let joined : (more : List ℕ) → before ++ (byte ∷ more) ≡ org.start ++ ((front ++ byte ∷ []) ++ more) = λ more.
-          ap (λ z. z ++ (byte ∷ more)) org.is ∙ (append_assoc org.start front (byte ∷ more) ∙ ap (λ z. org.start ++ z) (sym (append_assoc front (byte ∷ []) more))) in
+    ap (λ z. z ++ (byte ∷ more)) org.is ∙ (append_assoc org.start front (byte ∷ more) ∙ ap (λ z. org.start ++ z) (sym (append_assoc front (byte ∷ []) more))) in
     record {
       start = org.start;
       text = front ++ byte ∷ [];
@@ -409,16 +417,16 @@ time_offends bytes before rest byte s o refusal text spelled reaches origin step
       ends = org.ends;
       begins = begins_file org.start (record { phase = phase.Start; position = s.position }) org.reaches (record { more = []; reads = λ place. record { out = []; is = refl } });
       offends = λ b.
-        let refuses = replay_refused true before (byte ∷ b.more) at_first s 0 reaches
-              (λ place. record {
-                refusal = record { place = place - o.back; why = o.why };
-                is = ap (λ x. behind place x (λ y. read_from true (place + 1) y b.more)) stepped
-              }) in
-        let same : (org.start ++ (front ++ byte ∷ [])) ++ b.more ≡ before ++ (byte ∷ b.more) =
-              append_assoc org.start (front ++ byte ∷ []) b.more ∙ sym (joined b.more) in
-        err_ok (sym refuses.is ∙ (ap (λ z. read_from true 0 at_first z) (sym same) ∙ file_read b.pairs ((org.start ++ (front ++ byte ∷ [])) ++ b.more) b.file));
+          let refuses = replay_refused true before (byte ∷ b.more) at_first s 0 reaches
+          (λ place. record {
+            refusal = record { place = place - o.back; why = o.why };
+            is = ap (λ x. behind place x (λ y. read_from true (place + 1) y b.more)) stepped;
+          }) in
+          let same : (org.start ++ (front ++ byte ∷ [])) ++ b.more ≡ before ++ (byte ∷ b.more) =
+          append_assoc org.start (front ++ byte ∷ []) b.more ∙ sym (joined b.more) in
+          err_ok (sym refuses.is ∙ (ap (λ z. read_from true 0 at_first z) (sym same) ∙ file_read b.pairs ((org.start ++ (front ++ byte ∷ [])) ++ b.more) b.file));
       place_is = omega (arith, place, back, count, size, w.ten);
-      why_is = ap (λ x. x.why) refused ∙ reason
+      why_is = ap (λ x. x.why) refused ∙ reason;
     }
 
 pub stop_offends : (rest bytes before : List ℕ) (s : Reader) (refusal : Refusal) → bytes ≡ before ++ rest → reach true at_first before ≡ Some s → Origin before s
@@ -427,32 +435,32 @@ stop_offends [] bytes before s refusal spelled reaches origin good reason stops 
     let same : bytes ≡ before = spelled ∙ append-nil before in
     let place : refusal.place ≡ 0 + length before = ap (λ x. x.place) stops.1 in
     let here : EndsEarly before refusal = record {
-          unoffending = good;
-          no_file = end_offends before s reaches stops.0;
-          place_is = omega (arith, place);
-          why_is = ap (λ x. x.why) stops.1 ∙ sym reason
-        } in
+      unoffending = good;
+      no_file = end_offends before s reaches stops.0;
+      place_is = omega (arith, place);
+      why_is = ap (λ x. x.why) stops.1 ∙ sym reason;
+    } in
     inr (inl (subst (λ (z : List ℕ). EndsEarly z refusal) (sym same) here))
 stop_offends (byte ∷ rest) bytes before s refusal spelled reaches origin good reason (o, stepped, refused) =
     let place : refusal.place ≡ 0 + length before - o.back = ap (λ x. x.place) refused in
     ⊎_elim
-      (λ stuck.
-        let back : o.back ≡ 0 = ap (λ x. x.back) stuck.1 in
-        inl (record {
-          before = before;
-          byte = byte;
-          rest = rest;
-          spelled = spelled;
-          unoffending = good;
-          offends = byte_offends before byte s reaches stuck.0;
-          place_is = omega (arith, place, back);
-          why_is = ap (λ x. x.why) refused ∙ (ap (λ x. x.why) stuck.1 ∙ sym reason)
-        }))
-      (λ went.
-        let (text, to_is, judge) = refused_text went.0 s.position o went.2 in
-        let w = target s.phase byte (phase.Timed text) (went.1 ∙ ap (λ x. Some x) to_is) in
-        inr (inr (time_offends bytes before rest byte s o refusal text spelled reaches origin stepped w judge refused)))
-      (refused_step s (moved s.phase byte) o stepped)
+    (λ stuck.
+    let back : o.back ≡ 0 = ap (λ x. x.back) stuck.1 in
+    inl (record {
+      before = before;
+      byte = byte;
+      rest = rest;
+      spelled = spelled;
+      unoffending = good;
+      offends = byte_offends before byte s reaches stuck.0;
+      place_is = omega (arith, place, back);
+      why_is = ap (λ x. x.why) refused ∙ (ap (λ x. x.why) stuck.1 ∙ sym reason);
+    }))
+    (λ went.
+    let (text, to_is, judge) = refused_text went.0 s.position o went.2 in
+    let w = target s.phase byte (phase.Timed text) (went.1 ∙ ap (λ x. Some x) to_is) in
+    inr (inr (time_offends bytes before rest byte s o refusal text spelled reaches origin stepped w judge refused)))
+    (refused_step s (moved s.phase byte) o stepped)
 
 pub first_offence : (bytes : List ℕ) (refusal : Refusal) → read_file bytes ≡ Err refusal → IsFirstOffence bytes refusal
 first_offence bytes refusal is =

@@ -78,70 +78,70 @@ leaf from byte x to is same = subst (λ (t : Phase). Target from byte t) (some_i
 pub ended_target : (from : Phase) (byte : ℕ) (to : Phase) → why_in from ≡ why.SccSyntax → ended byte ≡ Some to → Target from byte to
 ended_target from byte to later is =
     ⊎_elim
-      (λ c. leaf from byte phase.Start to (eqb-true byte 10 c.0) c.1)
-      (λ c.
-        ⊎_elim
-          (λ d. leaf from byte phase.End to later d.1)
-          (λ d. absurd (none_some to d.1))
-          (chose (nat_eq byte 13) (Some phase.End) None to c.1))
-      (chose (nat_eq byte 10) (Some phase.Start) (cond (nat_eq byte 13) (Some phase.End) None) to is)
+    (λ c. leaf from byte phase.Start to (eqb-true byte 10 c.0) c.1)
+    (λ c.
+    ⊎_elim
+    (λ d. leaf from byte phase.End to later d.1)
+    (λ d. absurd (none_some to d.1))
+    (chose (nat_eq byte 13) (Some phase.End) None to c.1))
+    (chose (nat_eq byte 10) (Some phase.Start) (cond (nat_eq byte 13) (Some phase.End) None) to is)
 
 pub target : (from : Phase) (byte : ℕ) (to : Phase) → moved from byte ≡ Some to → Target from byte to
 target (phase.First at) byte to is =
     ⊎_elim
-      (λ c.
-        ⊎_elim
-          (λ d. leaf (phase.First at) byte phase.FirstSpaces to (inl (record { at' = at; from_is = refl; byte_is = eqb-true byte (slice_index first_text at) c.0 })) d.1)
-          (λ d. leaf (phase.First at) byte (phase.First (at + 1)) to (record { at' = at; from_is = refl; byte_is = eqb-true byte (slice_index first_text at) c.0; at_is = refl; early = d.0 }) d.1)
-          (chose (nat_eq at 17) (Some phase.FirstSpaces) (Some (phase.First (at + 1))) to c.1))
-      (λ c. absurd (none_some to c.1))
-      (chose (nat_eq byte (slice_index first_text at)) (cond (nat_eq at 17) (Some phase.FirstSpaces) (Some (phase.First (at + 1)))) None to is)
+    (λ c.
+    ⊎_elim
+    (λ d. leaf (phase.First at) byte phase.FirstSpaces to (inl (record { at' = at; from_is = refl; byte_is = eqb-true byte (slice_index first_text at) c.0 })) d.1)
+    (λ d. leaf (phase.First at) byte (phase.First (at + 1)) to (record { at' = at; from_is = refl; byte_is = eqb-true byte (slice_index first_text at) c.0; at_is = refl; early = d.0 }) d.1)
+    (chose (nat_eq at 17) (Some phase.FirstSpaces) (Some (phase.First (at + 1))) to c.1))
+    (λ c. absurd (none_some to c.1))
+    (chose (nat_eq byte (slice_index first_text at)) (cond (nat_eq at 17) (Some phase.FirstSpaces) (Some (phase.First (at + 1)))) None to is)
 target phase.FirstSpaces byte to is =
     ⊎_elim
-      (λ c. leaf phase.FirstSpaces byte phase.FirstSpaces to (inr (refl, eqb-true byte 32 c.0)) c.1)
-      (λ c.
-        ⊎_elim
-          (λ d. leaf phase.FirstSpaces byte phase.Start to (eqb-true byte 10 d.0) d.1)
-          (λ d.
-            ⊎_elim
-              (λ e. leaf phase.FirstSpaces byte phase.FirstEnd to (refl, eqb-true byte 13 e.0) e.1)
-              (λ e. absurd (none_some to e.1))
-              (chose (nat_eq byte 13) (Some phase.FirstEnd) None to d.1))
-          (chose (nat_eq byte 10) (Some phase.Start) (cond (nat_eq byte 13) (Some phase.FirstEnd) None) to c.1))
-      (chose (nat_eq byte 32) (Some phase.FirstSpaces) (cond (nat_eq byte 10) (Some phase.Start) (cond (nat_eq byte 13) (Some phase.FirstEnd) None)) to is)
+    (λ c. leaf phase.FirstSpaces byte phase.FirstSpaces to (inr (refl, eqb-true byte 32 c.0)) c.1)
+    (λ c.
+    ⊎_elim
+    (λ d. leaf phase.FirstSpaces byte phase.Start to (eqb-true byte 10 d.0) d.1)
+    (λ d.
+    ⊎_elim
+    (λ e. leaf phase.FirstSpaces byte phase.FirstEnd to (refl, eqb-true byte 13 e.0) e.1)
+    (λ e. absurd (none_some to e.1))
+    (chose (nat_eq byte 13) (Some phase.FirstEnd) None to d.1))
+    (chose (nat_eq byte 10) (Some phase.Start) (cond (nat_eq byte 13) (Some phase.FirstEnd) None) to c.1))
+    (chose (nat_eq byte 32) (Some phase.FirstSpaces) (cond (nat_eq byte 10) (Some phase.Start) (cond (nat_eq byte 13) (Some phase.FirstEnd) None)) to is)
 target phase.FirstEnd byte to is =
     ⊎_elim (λ c. leaf phase.FirstEnd byte phase.Start to (eqb-true byte 10 c.0) c.1) (λ c. absurd (none_some to c.1)) (chose (nat_eq byte 10) (Some phase.Start) None to is)
 target phase.Start byte to is =
     ⊎_elim
-      (λ c. leaf phase.Start byte (phase.Text 1 (first_digit byte)) to (inl (record { from_is = refl; at_is = refl; text_is = refl; fit = c.0 })) c.1)
-      (λ c.
-        ⊎_elim
-          (λ d. leaf phase.Start byte phase.Blank to refl d.1)
-          (λ d. ended_target phase.Start byte to refl d.1)
-          (chose (nat_eq byte 32) (Some phase.Blank) (ended byte) to c.1))
-      (chose (is_digit byte) (Some (phase.Text 1 (first_digit byte))) (cond (nat_eq byte 32) (Some phase.Blank) (ended byte)) to is)
+    (λ c. leaf phase.Start byte (phase.Text 1 (first_digit byte)) to (inl (record { from_is = refl; at_is = refl; text_is = refl; fit = c.0 })) c.1)
+    (λ c.
+    ⊎_elim
+    (λ d. leaf phase.Start byte phase.Blank to refl d.1)
+    (λ d. ended_target phase.Start byte to refl d.1)
+    (chose (nat_eq byte 32) (Some phase.Blank) (ended byte) to c.1))
+    (chose (is_digit byte) (Some (phase.Text 1 (first_digit byte))) (cond (nat_eq byte 32) (Some phase.Blank) (ended byte)) to is)
 target phase.Blank byte to is =
     ⊎_elim (λ c. leaf phase.Blank byte phase.Blank to refl c.1) (λ c. ended_target phase.Blank byte to refl c.1) (chose (nat_eq byte 32) (Some phase.Blank) (ended byte) to is)
 target phase.End byte to is =
     ⊎_elim (λ c. leaf phase.End byte phase.Start to (eqb-true byte 10 c.0) c.1) (λ c. absurd (none_some to c.1)) (chose (nat_eq byte 10) (Some phase.Start) None to is)
 target (phase.Text at text) byte to is =
     ⊎_elim
-      (λ c.
-        ⊎_elim
-          (λ d. leaf (phase.Text at text) byte (phase.Timed (slice_set text at byte)) to
-            (record { at' = at; text' = text; from_is = refl; text_is = refl; fit = c.0; ten = eqb-true at 10 d.0 }) d.1)
-          (λ d. leaf (phase.Text at text) byte (phase.Text (at + 1) (slice_set text at byte)) to
-            (inr (record { at' = at; text' = text; from_is = refl; at_is = refl; text_is = refl; fit = c.0; early = d.0 })) d.1)
-          (chose (nat_eq at 10) (Some (phase.Timed (slice_set text at byte))) (Some (phase.Text (at + 1) (slice_set text at byte))) to c.1))
-      (λ c. absurd (none_some to c.1))
-      (chose (fits at byte) (cond (nat_eq at 10) (Some (phase.Timed (slice_set text at byte))) (Some (phase.Text (at + 1) (slice_set text at byte)))) None to is)
+    (λ c.
+    ⊎_elim
+    (λ d. leaf (phase.Text at text) byte (phase.Timed (slice_set text at byte)) to
+    (record { at' = at; text' = text; from_is = refl; text_is = refl; fit = c.0; ten = eqb-true at 10 d.0 }) d.1)
+    (λ d. leaf (phase.Text at text) byte (phase.Text (at + 1) (slice_set text at byte)) to
+    (inr (record { at' = at; text' = text; from_is = refl; at_is = refl; text_is = refl; fit = c.0; early = d.0 })) d.1)
+    (chose (nat_eq at 10) (Some (phase.Timed (slice_set text at byte))) (Some (phase.Text (at + 1) (slice_set text at byte))) to c.1))
+    (λ c. absurd (none_some to c.1))
+    (chose (fits at byte) (cond (nat_eq at 10) (Some (phase.Timed (slice_set text at byte))) (Some (phase.Text (at + 1) (slice_set text at byte)))) None to is)
 target (phase.Timed text) byte to is =
     ⊎_elim (λ c. leaf (phase.Timed text) byte phase.Gap to refl c.1) (λ c. absurd (none_some to c.1)) (chose (is_blank byte) (Some phase.Gap) None to is)
 target phase.Gap byte to is =
     ⊎_elim
-      (λ c. leaf phase.Gap byte phase.Gap to refl c.1)
-      (λ c. let m = mapped (λ value. phase.One value) (hex_value byte) to c.1 in subst (λ (t : Phase). Target phase.Gap byte t) m.2 refl)
-      (chose (is_blank byte) (Some phase.Gap) (option_map (λ value. phase.One value) (hex_value byte)) to is)
+    (λ c. leaf phase.Gap byte phase.Gap to refl c.1)
+    (λ c. let m = mapped (λ value. phase.One value) (hex_value byte) to c.1 in subst (λ (t : Phase). Target phase.Gap byte t) m.2 refl)
+    (chose (is_blank byte) (Some phase.Gap) (option_map (λ value. phase.One value) (hex_value byte)) to is)
 target (phase.One value) byte to is =
     let m = mapped (λ low. phase.Two (16 * value + low)) (hex_value byte) to is in subst (λ (t : Phase). Target (phase.One value) byte t) m.2 refl
 target (phase.Two first) byte to is =
@@ -153,11 +153,11 @@ target (phase.Whole pair) byte to is =
     ⊎_elim (λ c. leaf (phase.Whole pair) byte phase.Between to refl c.1) (λ c. ended_target (phase.Whole pair) byte to refl c.1) (chose (nat_eq byte 32) (Some phase.Between) (ended byte) to is)
 target phase.Between byte to is =
     let cases : (o : Option ℕ) → word_or_end byte o ≡ Some to → Target phase.Between byte to =
-          elim [ None ↦ λ h. ended_target phase.Between byte to refl h | Some value ↦ λ h. leaf phase.Between byte (phase.One value) to refl h ] in
+    elim [ None ↦ λ h. ended_target phase.Between byte to refl h | Some value ↦ λ h. leaf phase.Between byte (phase.One value) to refl h ] in
     ⊎_elim
-      (λ c. leaf phase.Between byte phase.Between to refl c.1)
-      (λ c. cases (hex_value byte) c.1)
-      (chose (nat_eq byte 32) (Some phase.Between) (word_or_end byte (hex_value byte)) to is)
+    (λ c. leaf phase.Between byte phase.Between to refl c.1)
+    (λ c. cases (hex_value byte) c.1)
+    (chose (nat_eq byte 32) (Some phase.Between) (word_or_end byte (hex_value byte)) to is)
 
 -- an open text stands behind a line's end
 pub record TextOrigin (before : List ℕ) (at : ℕ) (text : List ℕ) (p : Position) : Type 0 where
@@ -194,22 +194,21 @@ later_first at early other = grind (arith, common_steps)
 
 -- a step keeps how phases were reached
 module _ (before : List ℕ) (byte : ℕ) (p : Position) where
-
   pub text_start : (from : Phase) (at : ℕ) (text : List ℕ) → reach true at_first before ≡ Some (record { phase = from; position = p }) → OriginOf before from p
       → TextStart from byte at text → TextOrigin (before ++ byte ∷ []) at text p
   text_start from at text reaches origin t =
       let here = subst (λ (f : Phase). OriginOf before f p) t.from_is origin in
       let whole : TextOrigin (before ++ byte ∷ []) 1 (first_digit byte) p = record {
-            start = before;
-            is = refl;
-            ends = here;
-            reaches = reaches ∙ ap (λ f. Some (record { phase = f; position = p })) t.from_is;
-            early = lit< tt;
-            size = refl;
-            fit = (t.fit, tt)
-          } in
+        start = before;
+        is = refl;
+        ends = here;
+        reaches = reaches ∙ ap (λ f. Some (record { phase = f; position = p })) t.from_is;
+        early = lit< tt;
+        size = refl;
+        fit = (t.fit, tt);
+      } in
       subst (λ (n : ℕ). TextOrigin (before ++ byte ∷ []) n text p) (sym t.at_is)
-        (subst (λ (x : List ℕ). TextOrigin (before ++ byte ∷ []) 1 x p) (sym t.text_is) whole)
+      (subst (λ (x : List ℕ). TextOrigin (before ++ byte ∷ []) 1 x p) (sym t.text_is) whole)
 
   pub text_more : (from : Phase) (at : ℕ) (text : List ℕ) → OriginOf before from p → TextMore from byte at text → TextOrigin (before ++ byte ∷ []) at text p
   text_more from at text origin t =
@@ -219,17 +218,17 @@ module _ (before : List ℕ) (byte : ℕ) (p : Position) where
       let counted : t.at' ≡ 0 + length (take t.at' t.text') = omega (arith, count) in
       let later : t.at' + 1 < 11 = later_text t.at' o.early t.early in
       let whole : TextOrigin (before ++ byte ∷ []) (t.at' + 1) (slice_set t.text' t.at' byte) p = record {
-            start = o.start;
-            is = ap (λ z. z ++ (byte ∷ [])) o.is ∙ (append_assoc o.start (take t.at' t.text') (byte ∷ []) ∙ ap (λ z. o.start ++ z) (sym front));
-            ends = o.ends;
-            reaches = o.reaches;
-            early = later;
-            size = length-set t.text' t.at' byte ∙ o.size;
-            fit = subst (λ (z : List ℕ). AllFit 0 z) (sym front)
-              (all_fit_more 0 (take t.at' t.text') byte o.fit (subst (λ (n : ℕ). fits n byte ≡ true) counted t.fit))
-          } in
+        start = o.start;
+        is = ap (λ z. z ++ (byte ∷ [])) o.is ∙ (append_assoc o.start (take t.at' t.text') (byte ∷ []) ∙ ap (λ z. o.start ++ z) (sym front));
+        ends = o.ends;
+        reaches = o.reaches;
+        early = later;
+        size = length-set t.text' t.at' byte ∙ o.size;
+        fit = subst (λ (z : List ℕ). AllFit 0 z) (sym front)
+            (all_fit_more 0 (take t.at' t.text') byte o.fit (subst (λ (n : ℕ). fits n byte ≡ true) counted t.fit));
+      } in
       subst (λ (n : ℕ). TextOrigin (before ++ byte ∷ []) n text p) (sym t.at_is)
-        (subst (λ (x : List ℕ). TextOrigin (before ++ byte ∷ []) (t.at' + 1) x p) (sym t.text_is) whole)
+      (subst (λ (x : List ℕ). TextOrigin (before ++ byte ∷ []) (t.at' + 1) x p) (sym t.text_is) whole)
 
   pub first_more : (from : Phase) (at : ℕ) → OriginOf before from p → FirstMore from byte at → at < 18
   first_more from at origin f =
@@ -247,7 +246,7 @@ module _ (before : List ℕ) (byte : ℕ) (p : Position) where
   step_origin phase.End from x reaches origin t is = subst (λ (y : Stepped). Origin (before ++ byte ∷ []) y.0) (ok_is is) tt
   step_origin (phase.Text at text) from x reaches origin t is =
       subst (λ (y : Stepped). Origin (before ++ byte ∷ []) y.0) (ok_is is)
-        (⊎_elim (λ s. text_start from at text reaches origin s) (λ m. text_more from at text origin m) t)
+      (⊎_elim (λ s. text_start from at text reaches origin s) (λ m. text_more from at text origin m) t)
   step_origin (phase.Timed text) from x reaches origin t is =
       let s = text_step (phase.Timed text) (judged true p text) x is in
       subst (λ (y : Stepped). Origin (before ++ byte ∷ []) y.0) s.2 tt
@@ -263,8 +262,8 @@ pub reach_append : (j : Bool) (xs ys : List ℕ) (r s : Reader) → reach j r xs
 reach_append j [] ys r s is = ap (λ x. reach j x ys) (some_reader is)
 reach_append j (byte ∷ xs) ys r s is =
     let cases : (x : Result Stepped Offence) → option_and_then (λ s. reach j s xs) (reader_of x) ≡ Some s
-            → option_and_then (λ s. reach j s (xs ++ ys)) (reader_of x) ≡ reach j s ys =
-          elim [ Ok stepped ↦ λ h. reach_append j xs ys stepped.0 s h | Err offence ↦ λ h. absurd (none_reader h) ] in
+    → option_and_then (λ s. reach j s (xs ++ ys)) (reader_of x) ≡ reach j s ys =
+    elim [ Ok stepped ↦ λ h. reach_append j xs ys stepped.0 s h | Err offence ↦ λ h. absurd (none_reader h) ] in
     cases (step j r byte) is
 
 pub origins : (bytes before : List ℕ) (r s : Reader) → reach true at_first before ≡ Some r → Origin before r → reach true r bytes ≡ Some s → Origin (before ++ bytes) s
@@ -272,13 +271,13 @@ origins [] before r s reaches origin is =
     subst (λ (z : List ℕ). Origin z s) (sym (append-nil before)) (subst (λ (x : Reader). Origin before x) (some_reader is) origin)
 origins (byte ∷ bytes) before r s reaches origin is =
     let cases : (x : Result Stepped Offence) → step true r byte ≡ x → option_and_then (λ s. reach true s bytes) (reader_of x) ≡ Some s → Origin (before ++ (byte ∷ bytes)) s =
-          elim [
-            Ok stepped ↦ λ e h.
-              let (to, moves, reached_is) = moved_step true r (moved r.phase byte) stepped e in
-              let next = step_origin before byte r.position to r.phase stepped reaches origin (target r.phase byte to moves) reached_is in
-              let reaches' : reach true at_first (before ++ byte ∷ []) ≡ Some stepped.0 =
-                    reach_append true before (byte ∷ []) at_first r reaches ∙ ap (λ x. option_and_then (λ s. Some s) (reader_of x)) e in
-              subst (λ (z : List ℕ). Origin z s) (append_assoc before (byte ∷ []) bytes) (origins bytes (before ++ byte ∷ []) stepped.0 s reaches' next h)
-          | Err offence ↦ λ e h. absurd (none_reader h)
-          ] in
+    elim [
+      | Ok stepped ↦ λ e h.
+          let (to, moves, reached_is) = moved_step true r (moved r.phase byte) stepped e in
+          let next = step_origin before byte r.position to r.phase stepped reaches origin (target r.phase byte to moves) reached_is in
+          let reaches' : reach true at_first (before ++ byte ∷ []) ≡ Some stepped.0 =
+          reach_append true before (byte ∷ []) at_first r reaches ∙ ap (λ x. option_and_then (λ s. Some s) (reader_of x)) e in
+          subst (λ (z : List ℕ). Origin z s) (append_assoc before (byte ∷ []) bytes) (origins bytes (before ++ byte ∷ []) stepped.0 s reaches' next h)
+      | Err offence ↦ λ e h. absurd (none_reader h)
+    ] in
     cases (step true r byte) refl is

@@ -32,7 +32,6 @@ read_step r bytes at d within = rw (drop-cons bytes at d, add-one) refl
 
 module _ (whole : Result (List (ℕ × Pair)) Refusal) (pairs : List (ℕ × Pair)) (r s : Reader) (bytes : List ℕ) (at d : ℕ) (within : at < length bytes)
     (due : whole ≡ onto pairs (read_from true at r (drop at bytes))) where
-
   -- it was taken
   pub read_ok : (given : Option (ℕ × Pair)) → step true r (get_or bytes at d) ≡ Ok (s, given)
       → whole ≡ onto (pairs ++ option_to_list given) (read_from true (at + 1) s (drop (at + 1) bytes))

@@ -40,7 +40,7 @@ pub record Split (r : Reader) (bytes : List ℕ) (place : ℕ) (refusal : Refusa
 pub ends_at : (s : Reader) (place : ℕ) (refusal : Refusal) → read_from true place s [] ≡ Err refusal → Stops s [] place refusal
 ends_at s place refusal is =
     let cases : (may : Bool) → may_end s.phase ≡ may → cond {A = Result Pairs Refusal} may (Ok []) (Err (record { place = place; why = why_in s.phase })) ≡ Err refusal → Stops s [] place refusal =
-          elim [ true ↦ λ e h. absurd (err_ok (sym h)) | false ↦ λ e h. (e, sym (err_is h)) ] in
+    elim [ true ↦ λ e h. absurd (err_ok (sym h)) | false ↦ λ e h. (e, sym (err_is h)) ] in
     cases (may_end s.phase) refl is
 
 pub split : (bytes : List ℕ) (r : Reader) (place : ℕ) (refusal : Refusal) → read_from true place r bytes ≡ Err refusal → Split r bytes place refusal
@@ -50,31 +50,31 @@ split [] r place refusal is = record {
   s = r;
   is = refl;
   reaches = refl;
-  stops = subst (λ (n : ℕ). Stops r [] n refusal) (sym (add-zero place)) (ends_at r place refusal is)
+  stops = subst (λ (n : ℕ). Stops r [] n refusal) (sym (add-zero place)) (ends_at r place refusal is);
 }
 split (byte ∷ bytes) r place refusal is =
     let cases : (x : Result Stepped Offence) → step true r byte ≡ x → behind place x (λ s. read_from true (place + 1) s bytes) ≡ Err refusal → Split r (byte ∷ bytes) place refusal =
-          elim [
-            Ok stepped ↦ λ e h.
-              let more = split bytes stepped.0 (place + 1) refusal (refused_behind stepped.1 _ refusal h) in
-              let count : place + 1 + length more.before ≡ place + length (byte ∷ more.before) = omega arith in
-              record {
-                before = byte ∷ more.before;
-                rest = more.rest;
-                s = more.s;
-                is = ap (λ z. byte ∷ z) more.is;
-                reaches = ap (λ x. option_and_then (λ s. reach true s more.before) (reader_of x)) e ∙ more.reaches;
-                stops = subst (λ (n : ℕ). Stops more.s more.rest n refusal) count more.stops
-              }
-          | Err offence ↦ λ e h. record {
-              before = [];
-              rest = byte ∷ bytes;
-              s = r;
-              is = refl;
-              reaches = refl;
-              stops = (offence, e, sym (err_is h) ∙ ap (λ n. record { place = n - offence.back; why = offence.why }) (sym (add-zero place)))
-            }
-          ] in
+    elim [
+      | Ok stepped ↦ λ e h.
+          let more = split bytes stepped.0 (place + 1) refusal (refused_behind stepped.1 _ refusal h) in
+          let count : place + 1 + length more.before ≡ place + length (byte ∷ more.before) = omega arith in
+          record {
+            before = byte ∷ more.before;
+            rest = more.rest;
+            s = more.s;
+            is = ap (λ z. byte ∷ z) more.is;
+            reaches = ap (λ x. option_and_then (λ s. reach true s more.before) (reader_of x)) e ∙ more.reaches;
+            stops = subst (λ (n : ℕ). Stops more.s more.rest n refusal) count more.stops;
+          }
+      | Err offence ↦ λ e h. record {
+        before = [];
+        rest = byte ∷ bytes;
+        s = r;
+        is = refl;
+        reaches = refl;
+        stops = (offence, e, sym (err_is h) ∙ ap (λ n. record { place = n - offence.back; why = offence.why }) (sym (add-zero place)));
+      }
+    ] in
     cases (step true r byte) refl is
 
 pub some_reader : {r s : Reader} → Some r ≡ Some s → r ≡ s
@@ -101,13 +101,13 @@ pub replay : (j : Bool) (before more : List ℕ) (r s : Reader) (place : ℕ) �
 replay j [] more r s place is reads = subst (λ (x : Reader). ReadsAll j x more place) (sym (some_reader is)) (reads place)
 replay j (byte ∷ before) more r s place is reads =
     let cases : (x : Result Stepped Offence) → step j r byte ≡ x → option_and_then (λ s. reach j s before) (reader_of x) ≡ Some s → ReadsAll j r (byte ∷ (before ++ more)) place =
-          elim [
-            Ok stepped ↦ λ e h.
-              let rest = replay j before more stepped.0 s (place + 1) h reads in
-              let (out, all) = given_ahead stepped.1 (read_from j (place + 1) stepped.0 (before ++ more)) rest.out rest.is in
-              record { out = out; is = ap (λ x. behind place x (λ s. read_from j (place + 1) s (before ++ more))) e ∙ all }
-          | Err offence ↦ λ e h. absurd (none_reader h)
-          ] in
+    elim [
+      | Ok stepped ↦ λ e h.
+          let rest = replay j before more stepped.0 s (place + 1) h reads in
+          let (out, all) = given_ahead stepped.1 (read_from j (place + 1) stepped.0 (before ++ more)) rest.out rest.is in
+          record { out = out; is = ap (λ x. behind place x (λ s. read_from j (place + 1) s (before ++ more))) e ∙ all }
+      | Err offence ↦ λ e h. absurd (none_reader h)
+    ] in
     cases (step j r byte) refl is
 
 -- and what is refused
@@ -119,16 +119,16 @@ pub replay_refused : (j : Bool) (before more : List ℕ) (r s : Reader) (place :
 replay_refused j [] more r s place is refuses = subst (λ (x : Reader). RefusesAll j x more place) (sym (some_reader is)) (refuses place)
 replay_refused j (byte ∷ before) more r s place is refuses =
     let cases : (x : Result Stepped Offence) → step j r byte ≡ x → option_and_then (λ s. reach j s before) (reader_of x) ≡ Some s → RefusesAll j r (byte ∷ (before ++ more)) place =
-          elim [
-            Ok stepped ↦ λ e h.
-              let rest = replay_refused j before more stepped.0 s (place + 1) h refuses in
-              record {
-                refusal = rest.refusal;
-                is = ap (λ x. behind place x (λ s. read_from j (place + 1) s (before ++ more))) e
-                  ∙ refused_ahead stepped.1 (read_from j (place + 1) stepped.0 (before ++ more)) rest.refusal rest.is
-              }
-          | Err offence ↦ λ e h. absurd (none_reader h)
-          ] in
+    elim [
+      | Ok stepped ↦ λ e h.
+          let rest = replay_refused j before more stepped.0 s (place + 1) h refuses in
+          record {
+            refusal = rest.refusal;
+            is = ap (λ x. behind place x (λ s. read_from j (place + 1) s (before ++ more))) e
+                ∙ refused_ahead stepped.1 (read_from j (place + 1) stepped.0 (before ++ more)) rest.refusal rest.is;
+          }
+      | Err offence ↦ λ e h. absurd (none_reader h)
+    ] in
     cases (step j r byte) refl is
 
 -- bytes that are taken with their times judged are taken in form, to the same phase
@@ -174,20 +174,20 @@ pub same_phase : (bytes : List ℕ) (from : Phase) (p q : Position) (s : Reader)
 same_phase [] from p q s is = record { at = q; reaches = ap (λ x. Some (record { phase = x; position = q })) (ap (λ r. r.phase) (some_reader is)) }
 same_phase (byte ∷ bytes) from p q s is =
     let cases : (x : Result Stepped Offence) → step true (record { phase = from; position = p }) byte ≡ x
-            → option_and_then (λ s. reach true s bytes) (reader_of x) ≡ Some s → SamePhase (record { phase = from; position = q }) s (byte ∷ bytes) =
-          elim [
-            Ok stepped ↦ λ e h.
-              let (to, moves, reaches) = moved_step true (record { phase = from; position = p }) (moved from byte) stepped e in
-              let (phase_is, form) = form_step to p q stepped reaches in
-              let h' : reach true (record { phase = to; position = stepped.0.position }) bytes ≡ Some s =
-                    ap (λ f. reach true (record { phase = f; position = stepped.0.position }) bytes) (sym phase_is) ∙ h in
-              let more = same_phase bytes to stepped.0.position form.at s h' in
-              let stepped' : step false (record { phase = from; position = q }) byte ≡ Ok (record { phase = to; position = form.at }, form.given) =
-                    ap (λ m. step_to false (record { phase = from; position = q }) m) moves ∙ form.is in
-              record {
-                at = more.at;
-                reaches = ap (λ x. option_and_then (λ s. reach false s bytes) (reader_of x)) stepped' ∙ more.reaches
-              }
-          | Err offence ↦ λ e h. absurd (none_reader h)
-          ] in
+    → option_and_then (λ s. reach true s bytes) (reader_of x) ≡ Some s → SamePhase (record { phase = from; position = q }) s (byte ∷ bytes) =
+    elim [
+      | Ok stepped ↦ λ e h.
+          let (to, moves, reaches) = moved_step true (record { phase = from; position = p }) (moved from byte) stepped e in
+          let (phase_is, form) = form_step to p q stepped reaches in
+          let h' : reach true (record { phase = to; position = stepped.0.position }) bytes ≡ Some s =
+          ap (λ f. reach true (record { phase = f; position = stepped.0.position }) bytes) (sym phase_is) ∙ h in
+          let more = same_phase bytes to stepped.0.position form.at s h' in
+          let stepped' : step false (record { phase = from; position = q }) byte ≡ Ok (record { phase = to; position = form.at }, form.given) =
+          ap (λ m. step_to false (record { phase = from; position = q }) m) moves ∙ form.is in
+          record {
+            at = more.at;
+            reaches = ap (λ x. option_and_then (λ s. reach false s bytes) (reader_of x)) stepped' ∙ more.reaches;
+          }
+      | Err offence ↦ λ e h. absurd (none_reader h)
+    ] in
     cases (step true (record { phase = from; position = p }) byte) refl is

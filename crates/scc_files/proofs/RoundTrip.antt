@@ -44,12 +44,20 @@ word_is pair a_fits b_fits =
     let first : pair.a ≡ 16 * (pair.a / 16) + pair.a % 16 = omega arith in
     let second : pair.b ≡ 16 * (pair.b / 16) + pair.b % 16 = omega arith in
     record {
-      a = hex_digit (pair.a / 16); b = hex_digit (pair.a % 16); c = hex_digit (pair.b / 16); d = hex_digit (pair.b % 16);
-      p = pair.a / 16; q = pair.a % 16; r = pair.b / 16; s = pair.b % 16;
+      a = hex_digit (pair.a / 16);
+      b = hex_digit (pair.a % 16);
+      c = hex_digit (pair.b / 16);
+      d = hex_digit (pair.b % 16);
+      p = pair.a / 16;
+      q = pair.a % 16;
+      r = pair.b / 16;
+      s = pair.b % 16;
       spelled = refl;
-      a_is = hex_again (pair.a / 16) (omega arith); b_is = hex_again (pair.a % 16) (omega arith);
-      c_is = hex_again (pair.b / 16) (omega arith); d_is = hex_again (pair.b % 16) (omega arith);
-      is = same_pair pair.a pair.b _ _ first second
+      a_is = hex_again (pair.a / 16) (omega arith);
+      b_is = hex_again (pair.a % 16) (omega arith);
+      c_is = hex_again (pair.b / 16) (omega arith);
+      d_is = hex_again (pair.b % 16) (omega arith);
+      is = same_pair pair.a pair.b _ _ first second;
     }
 
 -- a pair that is put stands within the day
@@ -76,7 +84,7 @@ pub record Within (start first behind : ℕ) (text : List ℕ) (left : List (ℕ
 pub line_is : (start : ℕ) (drop_frame : Bool) (frame : ℕ) (pair : Pair) (ps : List Pair) (words : List ℕ) → pair.a < 256 → pair.b < 256 → start + frame < day_frames drop_frame
     → AreWords ps words
     → IsTimedLine (record { time = time_at (start + frame) drop_frame; first = pair; more = ps })
-      (text_of (time_at (start + frame) drop_frame) ++ (9 ∷ ([] ++ (word_of pair ++ words))))
+    (text_of (time_at (start + frame) drop_frame) ++ (9 ∷ ([] ++ (word_of pair ++ words))))
 line_is start drop_frame frame pair ps words a_fits b_fits within are = record {
   text = text_of (time_at (start + frame) drop_frame);
   blank = 9;
@@ -88,7 +96,7 @@ line_is start drop_frame frame pair ps words a_fits b_fits within are = record {
   are_blanks = tt;
   is_word = word_is pair a_fits b_fits;
   are_words = are;
-  spelled = refl
+  spelled = refl;
 }
 
 -- a new line, where pairs stood before
@@ -111,15 +119,22 @@ next_line start first behind frame drop_frame pair text left low high a_fits b_f
       lines = None ∷ Some line ∷ w.lines;
       is = ap (λ z. 10 ∷ 10 ∷ (text_of t ++ (9 ∷ (word_of pair ++ z)))) w.is;
       are_words = tt;
-      are_lines = (10 ∷ [], [], 10 ∷ (spelled ++ w.rest), inl refl, tt,
-        (10 ∷ [], spelled, w.rest, inl refl, line_is start drop_frame frame pair w.ps w.words a_fits b_fits day w.are_words, w.are_lines, refl), refl);
+      are_lines = (
+        10 ∷ [],
+        [],
+        10 ∷ (spelled ++ w.rest),
+        inl refl,
+        tt,
+        (10 ∷ [], spelled, w.rest, inl refl, line_is start drop_frame frame pair w.ps w.words a_fits b_fits day w.are_words, w.are_lines, refl),
+        refl,
+      );
       timed = λ last early. (start + frame, named, omega arith, w.timed (start + frame) (omega arith));
       placed =
-        ap (λ z. (frame - first, pair) ∷ z) (w.placed ∙ (ap (λ n. one_a_frame n w.ps ++ placed_from (Some (start + first)) (frame + 1 - first + length w.ps) w.lines) next
+          ap (λ z. (frame - first, pair) ∷ z) (w.placed ∙ (ap (λ n. one_a_frame n w.ps ++ placed_from (Some (start + first)) (frame + 1 - first + length w.ps) w.lines) next
           ∙ ap (λ n. one_a_frame (frame - first + 1) w.ps ++ placed_from (Some (start + first)) n w.lines) count))
-        ∙ (ap (λ n. one_a_frame n (pair ∷ w.ps) ++ placed_from (Some (start + first)) (n + 1 + length w.ps) w.lines) (sym at)
-        ∙ ap (λ f. one_a_frame (max (f - (start + first)) (behind - first + 0)) (pair ∷ w.ps)
-            ++ placed_from (Some (start + first)) (max (f - (start + first)) (behind - first + 0) + 1 + length w.ps) w.lines) (sym number))
+          ∙ (ap (λ n. one_a_frame n (pair ∷ w.ps) ++ placed_from (Some (start + first)) (n + 1 + length w.ps) w.lines) (sym at)
+          ∙ ap (λ f. one_a_frame (max (f - (start + first)) (behind - first + 0)) (pair ∷ w.ps)
+          ++ placed_from (Some (start + first)) (max (f - (start + first)) (behind - first + 0) + 1 + length w.ps) w.lines) (sym number));
     }
 
 -- a further word of a line
@@ -138,7 +153,7 @@ next_word start first behind pair text left low a_fits b_fits w =
       are_lines = w.are_lines;
       timed = λ last early. w.timed last (omega arith);
       placed = ap (λ z. (behind - first, pair) ∷ z) (w.placed ∙ (ap (λ n. one_a_frame n w.ps ++ placed_from (Some (start + first)) (behind + 1 - first + length w.ps) w.lines) next
-        ∙ ap (λ n. one_a_frame (behind - first + 1) w.ps ++ placed_from (Some (start + first)) n w.lines) count))
+          ∙ ap (λ n. one_a_frame (behind - first + 1) w.ps ++ placed_from (Some (start + first)) n w.lines) count));
     }
 
 -- the end of a file
@@ -152,7 +167,7 @@ no_more start first behind = record {
   are_words = tt;
   are_lines = (10 ∷ [], [], 10 ∷ [], inl refl, tt, (10 ∷ [], [], [], inl refl, tt, refl, refl), refl);
   timed = λ last early. tt;
-  placed = refl
+  placed = refl;
 }
 
 pub writable_lower : (start : ℕ) (drop_frame : Bool) (low lower : ℕ) (pairs : List (ℕ × Pair)) → lower ≤ low → AreWritable start drop_frame low pairs → AreWritable start drop_frame lower pairs
@@ -169,25 +184,25 @@ within (placed ∷ pairs) start first behind drop_frame low (high, a_fits, b_fit
     let v : Standing = record { start = start; drop_frame = drop_frame; behind = Some (frame + 1) } in
     let new = between (Some behind) ++ (text_of (time_at (start + frame) drop_frame) ++ (9 ∷ word_of pair)) in
     let by_goes : (g : Bool) → nat_eq behind frame ≡ g → is_null pair ≡ false
-            → Within start first behind (cond g (32 ∷ word_of pair) new ++ text_from v pairs) ((frame, pair) ∷ shown pairs) =
-          elim [
-            true ↦ λ e n.
-              let same : behind ≡ frame = eqb-true behind frame e in
-              let next = within pairs start first (frame + 1) drop_frame (omega arith) rest in
-              subst (λ (b : ℕ). Within start first b (32 ∷ (word_of pair ++ text_from v pairs)) ((frame, pair) ∷ shown pairs)) (sym same)
-                (next_word start first frame pair (text_from v pairs) (shown pairs) (omega arith) a_fits b_fits next)
-          | false ↦ λ e n.
-              let next = within pairs start first (frame + 1) drop_frame (omega arith) rest in
-              next_line start first behind frame drop_frame pair (text_from v pairs) (shown pairs) low high a_fits b_fits
-                (of_day (is_null pair) (day_frames drop_frame) (start + frame) n day) next
-          ] in
+    → Within start first behind (cond g (32 ∷ word_of pair) new ++ text_from v pairs) ((frame, pair) ∷ shown pairs) =
+    elim [
+      | true ↦ λ e n.
+          let same : behind ≡ frame = eqb-true behind frame e in
+          let next = within pairs start first (frame + 1) drop_frame (omega arith) rest in
+          subst (λ (b : ℕ). Within start first b (32 ∷ (word_of pair ++ text_from v pairs)) ((frame, pair) ∷ shown pairs)) (sym same)
+          (next_word start first frame pair (text_from v pairs) (shown pairs) (omega arith) a_fits b_fits next)
+      | false ↦ λ e n.
+          let next = within pairs start first (frame + 1) drop_frame (omega arith) rest in
+          next_line start first behind frame drop_frame pair (text_from v pairs) (shown pairs) low high a_fits b_fits
+          (of_day (is_null pair) (day_frames drop_frame) (start + frame) n day) next
+    ] in
     let by_null : (n : Bool) → is_null pair ≡ n
-            → Within start first behind (cond n [] (cond (nat_eq behind frame) (32 ∷ word_of pair) new) ++ text_from (cond n w v) pairs)
-              (cond n (shown pairs) ((frame, pair) ∷ shown pairs)) =
-          elim [
-            true ↦ λ n. within pairs start first behind drop_frame low (writable_lower start drop_frame (frame + 1) behind pairs (omega arith) rest)
-          | false ↦ λ n. by_goes (nat_eq behind frame) refl n
-          ] in
+    → Within start first behind (cond n [] (cond (nat_eq behind frame) (32 ∷ word_of pair) new) ++ text_from (cond n w v) pairs)
+    (cond n (shown pairs) ((frame, pair) ∷ shown pairs)) =
+    elim [
+      | true ↦ λ n. within pairs start first behind drop_frame low (writable_lower start drop_frame (frame + 1) behind pairs (omega arith) rest)
+      | false ↦ λ n. by_goes (nat_eq behind frame) refl n
+    ] in
     by_null (is_null pair) refl
 
 -- before any stretch
@@ -211,15 +226,21 @@ first_line start frame drop_frame pair text left a_fits b_fits day w =
     let count : frame + 1 - frame + length w.ps ≡ frame - frame + 1 + length w.ps = omega arith in
     record {
       lines = None ∷ Some line ∷ w.lines;
-      are_lines = (10 ∷ [], [], 10 ∷ (spelled ++ w.rest), inl refl, tt,
+      are_lines = (
+        10 ∷ [],
+        [],
+        10 ∷ (spelled ++ w.rest),
+        inl refl,
+        tt,
         (10 ∷ [], spelled, w.rest, inl refl, line_is start drop_frame frame pair w.ps w.words a_fits b_fits day w.are_words, w.are_lines, refl),
-        ap (λ z. 10 ∷ 10 ∷ (text_of t ++ (9 ∷ (word_of pair ++ z)))) w.is);
+        ap (λ z. 10 ∷ 10 ∷ (text_of t ++ (9 ∷ (word_of pair ++ z)))) w.is,
+      );
       timed = (start + frame, named, omega arith, w.timed (start + frame) (omega arith));
       placed =
-        ap (λ z. (frame - frame, pair) ∷ z) (w.placed ∙ (ap (λ n. one_a_frame n w.ps ++ placed_from (Some (start + frame)) (frame + 1 - frame + length w.ps) w.lines) next
+          ap (λ z. (frame - frame, pair) ∷ z) (w.placed ∙ (ap (λ n. one_a_frame n w.ps ++ placed_from (Some (start + frame)) (frame + 1 - frame + length w.ps) w.lines) next
           ∙ ap (λ n. one_a_frame (frame - frame + 1) w.ps ++ placed_from (Some (start + frame)) n w.lines) count))
-        ∙ (ap (λ n. one_a_frame n (pair ∷ w.ps) ++ placed_from (Some (start + frame)) (n + 1 + length w.ps) w.lines) (sym at)
-        ∙ ap (λ f. one_a_frame (max (f - f) 0) (pair ∷ w.ps) ++ placed_from (Some f) (max (f - f) 0 + 1 + length w.ps) w.lines) (sym number))
+          ∙ (ap (λ n. one_a_frame n (pair ∷ w.ps) ++ placed_from (Some (start + frame)) (n + 1 + length w.ps) w.lines) (sym at)
+          ∙ ap (λ f. one_a_frame (max (f - f) 0) (pair ∷ w.ps) ++ placed_from (Some f) (max (f - f) 0 + 1 + length w.ps) w.lines) (sym number));
     }
 
 pub before : (pairs : List (ℕ × Pair)) (start low : ℕ) (drop_frame : Bool) → AreWritable start drop_frame low pairs
@@ -228,7 +249,7 @@ before [] start low drop_frame are = record {
   lines = None ∷ None ∷ [];
   are_lines = (10 ∷ [], [], 10 ∷ [], inl refl, tt, (10 ∷ [], [], [], inl refl, tt, refl, refl), refl);
   timed = tt;
-  placed = refl
+  placed = refl;
 }
 before (placed ∷ pairs) start low drop_frame (high, a_fits, b_fits, day, rest) =
     let frame = placed.0 in
@@ -236,14 +257,14 @@ before (placed ∷ pairs) start low drop_frame (high, a_fits, b_fits, day, rest)
     let w : Standing = record { start = start; drop_frame = drop_frame; behind = None } in
     let v : Standing = record { start = start; drop_frame = drop_frame; behind = Some (frame + 1) } in
     let by_null : (n : Bool) → is_null pair ≡ n
-            → Before start (cond n [] (text_of (time_at (start + frame) drop_frame) ++ (9 ∷ word_of pair)) ++ text_from (cond n w v) pairs)
-              (cond n (shown pairs) ((frame, pair) ∷ shown pairs)) =
-          elim [
-            true ↦ λ n. before pairs start (frame + 1) drop_frame rest
-          | false ↦ λ n.
-              first_line start frame drop_frame pair (text_from v pairs) (shown pairs) a_fits b_fits
-                (of_day (is_null pair) (day_frames drop_frame) (start + frame) n day) (within pairs start frame (frame + 1) drop_frame (omega arith) rest)
-          ] in
+    → Before start (cond n [] (text_of (time_at (start + frame) drop_frame) ++ (9 ∷ word_of pair)) ++ text_from (cond n w v) pairs)
+    (cond n (shown pairs) ((frame, pair) ∷ shown pairs)) =
+    elim [
+      | true ↦ λ n. before pairs start (frame + 1) drop_frame rest
+      | false ↦ λ n.
+          first_line start frame drop_frame pair (text_from v pairs) (shown pairs) a_fits b_fits
+          (of_day (is_null pair) (day_frames drop_frame) (start + frame) n day) (within pairs start frame (frame + 1) drop_frame (omega arith) rest)
+    ] in
     by_null (is_null pair) refl
 
 pub written_is_file : (pairs : List (ℕ × Pair)) (start : ℕ) (drop_frame : Bool) → AreWritable start drop_frame 0 pairs
@@ -254,5 +275,5 @@ written_is_file pairs start drop_frame are =
       lines = b.lines;
       form = record { spaces = []; rest = 10 ∷ 10 ∷ text_from (record { start = start; drop_frame = drop_frame; behind = None }) pairs; are_spaces = tt; are_lines = b.are_lines; spelled = refl };
       timed = b.timed;
-      placed = b.placed
+      placed = b.placed;
     }

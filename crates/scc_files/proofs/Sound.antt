@@ -190,7 +190,7 @@ pub behind_lf : (j : Bool) (p : Position) (bytes : List ℕ) (out : Pairs) → S
 behind_lf j p bytes out l = record {
   lines = l.line ∷ l.lines;
   are = (10 ∷ [], l.spelled, l.rest, inl refl, l.is_line, l.are, ap (λ z. 10 ∷ z) l.is);
-  placed = l.placed
+  placed = l.placed;
 }
 
 pub behind_cr : (j : Bool) (p : Position) (bytes : List ℕ) (out : Pairs) → LfThen j p bytes out → LinesAt j p (13 ∷ bytes) out
@@ -199,22 +199,22 @@ behind_cr j p bytes out lf =
     record {
       lines = l.line ∷ l.lines;
       are = (13 ∷ 10 ∷ [], l.spelled, l.rest, inr refl, l.is_line, l.are, ap (λ z. 13 ∷ z) (lf.is ∙ ap (λ z. 10 ∷ z) l.is));
-      placed = l.placed
+      placed = l.placed;
     }
 
 pub behind_end : (j : Bool) (p : Position) (byte : ℕ) (bytes : List ℕ) (out : Pairs) (to : Phase) → ended byte ≡ Some to → Reached j to p bytes out
     → LinesAt j p (byte ∷ bytes) out
 behind_end j p byte bytes out to is next =
     ⊎_elim
-      (λ c. let lf = subst (λ (t : Phase). Reached j t p bytes out) (sym (some_is phase.Start to c.1)) next in
-        subst (λ (b : ℕ). LinesAt j p (b ∷ bytes) out) (sym (eqb-true byte 10 c.0)) (behind_lf j p bytes out lf))
-      (λ c.
-        ⊎_elim
-          (λ d. let cr = subst (λ (t : Phase). Reached j t p bytes out) (sym (some_is phase.End to d.1)) next in
-            subst (λ (b : ℕ). LinesAt j p (b ∷ bytes) out) (sym (eqb-true byte 13 d.0)) (behind_cr j p bytes out cr))
-          (λ d. absurd (none_some to d.1))
-          (chose (nat_eq byte 13) (Some phase.End) None to c.1))
-      (chose (nat_eq byte 10) (Some phase.Start) (cond (nat_eq byte 13) (Some phase.End) None) to is)
+    (λ c. let lf = subst (λ (t : Phase). Reached j t p bytes out) (sym (some_is phase.Start to c.1)) next in
+    subst (λ (b : ℕ). LinesAt j p (b ∷ bytes) out) (sym (eqb-true byte 10 c.0)) (behind_lf j p bytes out lf))
+    (λ c.
+    ⊎_elim
+    (λ d. let cr = subst (λ (t : Phase). Reached j t p bytes out) (sym (some_is phase.End to d.1)) next in
+    subst (λ (b : ℕ). LinesAt j p (b ∷ bytes) out) (sym (eqb-true byte 13 d.0)) (behind_cr j p bytes out cr))
+    (λ d. absurd (none_some to d.1))
+    (chose (nat_eq byte 13) (Some phase.End) None to c.1))
+    (chose (nat_eq byte 10) (Some phase.Start) (cond (nat_eq byte 13) (Some phase.End) None) to is)
 
 -- one byte more in front, phase by phase
 pub space_more : (j : Bool) (p : Position) (byte : ℕ) (bytes : List ℕ) (out : Pairs) → nat_eq byte 32 ≡ true → SpacesThen j p bytes out → SpacesThen j p (byte ∷ bytes) out
@@ -223,7 +223,7 @@ space_more j p byte bytes out is s = record {
   rest = s.rest;
   are = (eqb-true byte 32 is, s.are);
   behind = s.behind;
-  is = ap (λ z. byte ∷ z) s.is
+  is = ap (λ z. byte ∷ z) s.is;
 }
 
 pub no_space : (j : Bool) (p : Position) (bytes : List ℕ) (out : Pairs) → LinesAt j p bytes out → SpacesThen j p bytes out
@@ -238,7 +238,7 @@ blank_line j p bytes out s = record {
   is_line = s.are;
   are = s.behind.are;
   placed = s.behind.placed;
-  is = s.is
+  is = s.is;
 }
 
 pub no_words : (j : Bool) (p : Position) (bytes : List ℕ) (out : Pairs) → LinesAt j p bytes out → WordsThen j p bytes out
@@ -250,7 +250,7 @@ end_of_words j p bytes out l = record { pairs = []; words = []; rest = bytes; mo
 pub space_behind : (j : Bool) (p : Position) (byte : ℕ) (bytes : List ℕ) (out : Pairs) → nat_eq byte 32 ≡ true → BetweenThen j p bytes out → WordsThen j p (byte ∷ bytes) out
 space_behind j p byte bytes out is w =
     subst (λ (b : ℕ). WordsThen j p (b ∷ bytes) out) (sym (eqb-true byte 32 is))
-      (record { pairs = w.pairs; words = 32 ∷ w.words; rest = w.rest; more = w.more; are = w.are; behind = w.behind; made = w.made; is = ap (λ z. 32 ∷ z) w.is })
+    (record { pairs = w.pairs; words = 32 ∷ w.words; rest = w.rest; more = w.more; are = w.are; behind = w.behind; made = w.made; is = ap (λ z. 32 ∷ z) w.is })
 
 pub wider : (pairs : List Pair) (words : List ℕ) → AreWords pairs (32 ∷ words) → AreWords pairs (32 ∷ 32 ∷ words)
 wider [] words are = (refl, are)
@@ -260,7 +260,7 @@ wider (pair ∷ pairs) words (spaces, word, rest, are_spaces, is_word, are_words
 pub space_between : (j : Bool) (p : Position) (byte : ℕ) (bytes : List ℕ) (out : Pairs) → nat_eq byte 32 ≡ true → BetweenThen j p bytes out → BetweenThen j p (byte ∷ bytes) out
 space_between j p byte bytes out is w =
     subst (λ (b : ℕ). BetweenThen j p (b ∷ bytes) out) (sym (eqb-true byte 32 is))
-      (record { pairs = w.pairs; words = 32 ∷ w.words; rest = w.rest; more = w.more; are = wider w.pairs w.words w.are; behind = w.behind; made = w.made; is = ap (λ z. 32 ∷ z) w.is })
+    (record { pairs = w.pairs; words = 32 ∷ w.words; rest = w.rest; more = w.more; are = wider w.pairs w.words w.are; behind = w.behind; made = w.made; is = ap (λ z. 32 ∷ z) w.is })
 
 -- a word, from its first digit on
 pub record WordThen (j : Bool) (p : Position) (bytes : List ℕ) (out : Pairs) : Type 0 where
@@ -284,12 +284,24 @@ word_of_one j p a value bytes out a_is one =
       rest = three.rest;
       more = three.more;
       is_word = record {
-        a = a; b = one.b; c = two.c; d = three.d; p = value; q = one.q; r = two.r; s = three.s;
-        spelled = refl; a_is = a_is; b_is = one.b_is; c_is = two.c_is; d_is = three.d_is; is = refl
+        a = a;
+        b = one.b;
+        c = two.c;
+        d = three.d;
+        p = value;
+        q = one.q;
+        r = two.r;
+        s = three.s;
+        spelled = refl;
+        a_is = a_is;
+        b_is = one.b_is;
+        c_is = two.c_is;
+        d_is = three.d_is;
+        is = refl;
       };
       behind = three.behind;
       made = three.made;
-      is = ap (λ z. a ∷ z) (one.is ∙ ap (λ z. one.b ∷ z) (two.is ∙ ap (λ z. two.c ∷ z) three.is))
+      is = ap (λ z. a ∷ z) (one.is ∙ ap (λ z. one.b ∷ z) (two.is ∙ ap (λ z. two.c ∷ z) three.is));
     }
 
 pub word_between : (j : Bool) (p : Position) (a value : ℕ) (bytes : List ℕ) (out : Pairs) → hex_value a ≡ Some value → OneThen value j p bytes out
@@ -305,7 +317,7 @@ word_between j p a value bytes out a_is one =
       are = ([], w.word, next.words, tt, w.is_word, next.are, refl);
       behind = next.behind;
       made = w.made ∙ ap (λ z. (p.next, w.pair) ∷ z) next.made;
-      is = w.is ∙ (ap (λ z. w.word ++ z) next.is ∙ sym (append_assoc w.word next.words next.rest))
+      is = w.is ∙ (ap (λ z. w.word ++ z) next.is ∙ sym (append_assoc w.word next.words next.rest));
     }
 
 pub blank_gap : (j : Bool) (p : Position) (byte : ℕ) (bytes : List ℕ) (out : Pairs) → is_blank byte ≡ true → GapThen j p bytes out → GapThen j p (byte ∷ bytes) out
@@ -317,7 +329,7 @@ blank_gap j p byte bytes out is g = record {
   are = (is, g.are);
   a_is = g.a_is;
   behind = g.behind;
-  is = ap (λ z. byte ∷ z) g.is
+  is = ap (λ z. byte ∷ z) g.is;
 }
 
 pub no_gap : (j : Bool) (p : Position) (byte value : ℕ) (bytes : List ℕ) (out : Pairs) → hex_value byte ≡ Some value → OneThen value j p bytes out
@@ -337,41 +349,50 @@ line_of_text j p front bytes out t =
     let line : TimedLine = record { time = t.time; first = w.pair; more = next.pairs } in
     let spelled = text ++ (timed.blank ∷ (gap.blanks ++ (w.word ++ next.words))) in
     let words_is : gap.a ∷ gap.rest ≡ (w.word ++ next.words) ++ next.rest =
-          w.is ∙ (ap (λ z. w.word ++ z) next.is ∙ sym (append_assoc w.word next.words next.rest)) in
+    w.is ∙ (ap (λ z. w.word ++ z) next.is ∙ sym (append_assoc w.word next.words next.rest)) in
     let gap_is : timed.rest ≡ (gap.blanks ++ (w.word ++ next.words)) ++ next.rest =
-          gap.is ∙ (ap (λ z. gap.blanks ++ z) words_is ∙ sym (append_assoc gap.blanks (w.word ++ next.words) next.rest)) in
+    gap.is ∙ (ap (λ z. gap.blanks ++ z) words_is ∙ sym (append_assoc gap.blanks (w.word ++ next.words) next.rest)) in
     let is : front ++ bytes ≡ spelled ++ next.rest =
-          ap (λ z. front ++ z) t.is
-          ∙ (sym (append_assoc front t.tail t.rest)
-          ∙ (ap (λ z. text ++ z) (timed.is ∙ ap (λ z. timed.blank ∷ z) gap_is)
-          ∙ sym (append_assoc text (timed.blank ∷ (gap.blanks ++ (w.word ++ next.words))) next.rest))) in
+    ap (λ z. front ++ z) t.is
+    ∙ (sym (append_assoc front t.tail t.rest)
+    ∙ (ap (λ z. text ++ z) (timed.is ∙ ap (λ z. timed.blank ∷ z) gap_is)
+    ∙ sym (append_assoc text (timed.blank ∷ (gap.blanks ++ (w.word ++ next.words))) next.rest))) in
     let made : out ≡ one_a_frame t.s.next (w.pair ∷ next.pairs) ++ next.more =
-          w.made ∙ ap (λ z. (t.s.next, w.pair) ∷ z) next.made in
+    w.made ∙ ap (λ z. (t.s.next, w.pair) ∷ z) next.made in
     record {
       line = Some line;
       lines = lines.lines;
       spelled = spelled;
       rest = next.rest;
       is_line = record {
-        text = text; blank = timed.blank; blanks = gap.blanks; word = w.word; words = next.words;
-        is_text = t.is_text; is_blank_byte = timed.is_blank_byte; are_blanks = gap.are; is_word = w.is_word; are_words = next.are; spelled = refl
+        text = text;
+        blank = timed.blank;
+        blanks = gap.blanks;
+        word = w.word;
+        words = next.words;
+        is_text = t.is_text;
+        is_blank_byte = timed.is_blank_byte;
+        are_blanks = gap.are;
+        is_word = w.is_word;
+        are_words = next.are;
+        spelled = refl;
       };
       are = lines.are;
       placed = (t.s, next.more, t.judge, lines.placed, made);
-      is = is
+      is = is;
     }
 
 -- the time code of a text that is judged
 pub judged_text : (j : Bool) (p s : Position) (text : List ℕ) → judged j p text ≡ Ok s → (t : TimeCode) × (time_of_text text ≡ Some t) × (judged_time j p t ≡ Ok s)
 judged_text true p s text is =
     let cases : (o : Option TimeCode) → time_of_text text ≡ o → timed p (option_and_then (λ t. result_ok (frame_of t)) o) ≡ Ok s
-            → (t : TimeCode) × (time_of_text text ≡ Some t) × (judged_time true p t ≡ Ok s) =
-          elim [ None ↦ λ e h. absurd (err_ok h) | Some t ↦ λ e h. (t, e, h) ] in
+    → (t : TimeCode) × (time_of_text text ≡ Some t) × (judged_time true p t ≡ Ok s) =
+    elim [ None ↦ λ e h. absurd (err_ok h) | Some t ↦ λ e h. (t, e, h) ] in
     cases (time_of_text text) refl is
 judged_text false p s text is =
     let cases : (o : Option TimeCode) → time_of_text text ≡ o → timed_form p (is_some o) ≡ Ok s
-            → (t : TimeCode) × (time_of_text text ≡ Some t) × (judged_time false p t ≡ Ok s) =
-          elim [ None ↦ λ e h. absurd (err_ok h) | Some t ↦ λ e h. (t, e, h) ] in
+    → (t : TimeCode) × (time_of_text text ≡ Some t) × (judged_time false p t ≡ Ok s) =
+    elim [ None ↦ λ e h. absurd (err_ok h) | Some t ↦ λ e h. (t, e, h) ] in
     cases (time_of_text text) refl is
 
 -- a text's bytes, with one more
@@ -388,10 +409,10 @@ text_more j p at text byte bytes out size early t = record {
   time = t.time;
   s = t.s;
   is_text = subst (λ (z : List ℕ). IsTimeText t.time z)
-    (ap (λ z. z ++ t.tail) (front_more at text byte size early) ∙ append_assoc (take at text) (byte ∷ []) t.tail) t.is_text;
+      (ap (λ z. z ++ t.tail) (front_more at text byte size early) ∙ append_assoc (take at text) (byte ∷ []) t.tail) t.is_text;
   judge = t.judge;
   behind = t.behind;
-  is = ap (λ z. byte ∷ z) t.is
+  is = ap (λ z. byte ∷ z) t.is;
 }
 
 pub text_whole : (j : Bool) (p s : Position) (text : List ℕ) (byte : ℕ) (bytes : List ℕ) (out : Pairs) → length text ≡ 11
@@ -399,7 +420,7 @@ pub text_whole : (j : Bool) (p s : Position) (text : List ℕ) (byte : ℕ) (byt
 text_whole j p s text byte bytes out size judge behind =
     let (t, read, judge') = judged_text j p s (slice_set text 10 byte) judge in
     let all : take 11 (slice_set text 10 byte) ≡ slice_set text 10 byte =
-          ap (λ n. take n (slice_set text 10 byte)) (sym (length-set text 10 byte ∙ size)) ∙ take-length (slice_set text 10 byte) in
+    ap (λ n. take n (slice_set text 10 byte)) (sym (length-set text 10 byte ∙ size)) ∙ take-length (slice_set text 10 byte) in
     record {
       tail = byte ∷ [];
       rest = bytes;
@@ -408,7 +429,7 @@ text_whole j p s text byte bytes out size judge behind =
       is_text = subst (λ (z : List ℕ). IsTimeText t z) (sym all ∙ front_more 10 text byte size (lit< tt)) (read_is_spelled t (slice_set text 10 byte) read);
       judge = judge';
       behind = behind;
-      is = refl
+      is = refl;
     }
 
 -- a byte of the first line's text
@@ -416,125 +437,125 @@ pub first_more : (j : Bool) (at byte : ℕ) (p : Position) (bytes : List ℕ) (o
     → Follows j (phase.First at) p (byte ∷ bytes) out
 first_more j at byte p bytes out to is next = λ early.
     ⊎_elim
-      (λ c.
-        let at_byte : drop at first_text ≡ byte ∷ drop (at + 1) first_text =
-              rw (eqb-true byte (slice_index first_text at) c.0, add-one) (drop-cons first_text at 0 early) in
-        ⊎_elim
-          (λ d.
-            let follows = subst (λ (t : Phase). Reached j t p bytes out) (sym (some_is phase.FirstSpaces to d.1)) next in
-            let last : at ≡ 17 = eqb-true at 17 d.0 in
-            record {
-              rest = bytes;
-              behind = follows;
-              is = sym (ap (λ z. z ++ bytes) (at_byte ∙ ap (λ n. byte ∷ drop (n + 1) first_text) last))
-            })
-          (λ d.
-            let other : nat_eq at 17 ≡ false = d.0 in
-            let within : at + 1 < 18 = grind (arith, common_steps) in
-            let follows = subst (λ (t : Phase). Reached j t p bytes out) (sym (some_is (phase.First (at + 1)) to d.1)) next in
-            let rest = follows within in
-            record { rest = rest.rest; behind = rest.behind; is = ap (λ z. byte ∷ z) rest.is ∙ sym (ap (λ z. z ++ rest.rest) at_byte) })
-          (chose (nat_eq at 17) (Some phase.FirstSpaces) (Some (phase.First (at + 1))) to c.1))
-      (λ c. absurd (none_some to c.1))
-      (chose (nat_eq byte (slice_index first_text at)) (cond (nat_eq at 17) (Some phase.FirstSpaces) (Some (phase.First (at + 1)))) None to is)
+    (λ c.
+    let at_byte : drop at first_text ≡ byte ∷ drop (at + 1) first_text =
+    rw (eqb-true byte (slice_index first_text at) c.0, add-one) (drop-cons first_text at 0 early) in
+    ⊎_elim
+    (λ d.
+    let follows = subst (λ (t : Phase). Reached j t p bytes out) (sym (some_is phase.FirstSpaces to d.1)) next in
+    let last : at ≡ 17 = eqb-true at 17 d.0 in
+    record {
+      rest = bytes;
+      behind = follows;
+      is = sym (ap (λ z. z ++ bytes) (at_byte ∙ ap (λ n. byte ∷ drop (n + 1) first_text) last));
+    })
+    (λ d.
+    let other : nat_eq at 17 ≡ false = d.0 in
+    let within : at + 1 < 18 = grind (arith, common_steps) in
+    let follows = subst (λ (t : Phase). Reached j t p bytes out) (sym (some_is (phase.First (at + 1)) to d.1)) next in
+    let rest = follows within in
+    record { rest = rest.rest; behind = rest.behind; is = ap (λ z. byte ∷ z) rest.is ∙ sym (ap (λ z. z ++ rest.rest) at_byte) })
+    (chose (nat_eq at 17) (Some phase.FirstSpaces) (Some (phase.First (at + 1))) to c.1))
+    (λ c. absurd (none_some to c.1))
+    (chose (nat_eq byte (slice_index first_text at)) (cond (nat_eq at 17) (Some phase.FirstSpaces) (Some (phase.First (at + 1)))) None to is)
 
 pub first_spaces_more : (j : Bool) (byte : ℕ) (p : Position) (bytes : List ℕ) (out : Pairs) (to : Phase) → moved phase.FirstSpaces byte ≡ Some to → Reached j to p bytes out
     → SpacesThen j p (byte ∷ bytes) out
 first_spaces_more j byte p bytes out to is next =
     ⊎_elim
-      (λ c. space_more j p byte bytes out c.0 (subst (λ (t : Phase). Reached j t p bytes out) (sym (some_is phase.FirstSpaces to c.1)) next))
-      (λ c.
-        ⊎_elim
-          (λ d. subst (λ (b : ℕ). SpacesThen j p (b ∷ bytes) out) (sym (eqb-true byte 10 d.0))
-            (no_space j p (10 ∷ bytes) out (behind_lf j p bytes out (subst (λ (t : Phase). Reached j t p bytes out) (sym (some_is phase.Start to d.1)) next))))
-          (λ d.
-            ⊎_elim
-              (λ e. subst (λ (b : ℕ). SpacesThen j p (b ∷ bytes) out) (sym (eqb-true byte 13 e.0))
-                (no_space j p (13 ∷ bytes) out (behind_cr j p bytes out (subst (λ (t : Phase). Reached j t p bytes out) (sym (some_is phase.FirstEnd to e.1)) next))))
-              (λ e. absurd (none_some to e.1))
-              (chose (nat_eq byte 13) (Some phase.FirstEnd) None to d.1))
-          (chose (nat_eq byte 10) (Some phase.Start) (cond (nat_eq byte 13) (Some phase.FirstEnd) None) to c.1))
-      (chose (nat_eq byte 32) (Some phase.FirstSpaces) (cond (nat_eq byte 10) (Some phase.Start) (cond (nat_eq byte 13) (Some phase.FirstEnd) None)) to is)
+    (λ c. space_more j p byte bytes out c.0 (subst (λ (t : Phase). Reached j t p bytes out) (sym (some_is phase.FirstSpaces to c.1)) next))
+    (λ c.
+    ⊎_elim
+    (λ d. subst (λ (b : ℕ). SpacesThen j p (b ∷ bytes) out) (sym (eqb-true byte 10 d.0))
+    (no_space j p (10 ∷ bytes) out (behind_lf j p bytes out (subst (λ (t : Phase). Reached j t p bytes out) (sym (some_is phase.Start to d.1)) next))))
+    (λ d.
+    ⊎_elim
+    (λ e. subst (λ (b : ℕ). SpacesThen j p (b ∷ bytes) out) (sym (eqb-true byte 13 e.0))
+    (no_space j p (13 ∷ bytes) out (behind_cr j p bytes out (subst (λ (t : Phase). Reached j t p bytes out) (sym (some_is phase.FirstEnd to e.1)) next))))
+    (λ e. absurd (none_some to e.1))
+    (chose (nat_eq byte 13) (Some phase.FirstEnd) None to d.1))
+    (chose (nat_eq byte 10) (Some phase.Start) (cond (nat_eq byte 13) (Some phase.FirstEnd) None) to c.1))
+    (chose (nat_eq byte 32) (Some phase.FirstSpaces) (cond (nat_eq byte 10) (Some phase.Start) (cond (nat_eq byte 13) (Some phase.FirstEnd) None)) to is)
 
 pub lf_more : (j : Bool) (byte : ℕ) (p : Position) (bytes : List ℕ) (out : Pairs) (to : Phase) → cond (nat_eq byte 10) (Some phase.Start) None ≡ Some to → Reached j to p bytes out
     → LfThen j p (byte ∷ bytes) out
 lf_more j byte p bytes out to is next =
     ⊎_elim
-      (λ c. record {
-        rest = bytes;
-        behind = subst (λ (t : Phase). Reached j t p bytes out) (sym (some_is phase.Start to c.1)) next;
-        is = ap (λ b. b ∷ bytes) (eqb-true byte 10 c.0)
-      })
-      (λ c. absurd (none_some to c.1))
-      (chose (nat_eq byte 10) (Some phase.Start) None to is)
+    (λ c. record {
+      rest = bytes;
+      behind = subst (λ (t : Phase). Reached j t p bytes out) (sym (some_is phase.Start to c.1)) next;
+      is = ap (λ b. b ∷ bytes) (eqb-true byte 10 c.0);
+    })
+    (λ c. absurd (none_some to c.1))
+    (chose (nat_eq byte 10) (Some phase.Start) None to is)
 
 pub blank_more : (j : Bool) (byte : ℕ) (p : Position) (bytes : List ℕ) (out : Pairs) (to : Phase) → moved phase.Blank byte ≡ Some to → Reached j to p bytes out
     → SpacesThen j p (byte ∷ bytes) out
 blank_more j byte p bytes out to is next =
     ⊎_elim
-      (λ c. space_more j p byte bytes out c.0 (subst (λ (t : Phase). Reached j t p bytes out) (sym (some_is phase.Blank to c.1)) next))
-      (λ c. no_space j p (byte ∷ bytes) out (behind_end j p byte bytes out to c.1 next))
-      (chose (nat_eq byte 32) (Some phase.Blank) (ended byte) to is)
+    (λ c. space_more j p byte bytes out c.0 (subst (λ (t : Phase). Reached j t p bytes out) (sym (some_is phase.Blank to c.1)) next))
+    (λ c. no_space j p (byte ∷ bytes) out (behind_end j p byte bytes out to c.1 next))
+    (chose (nat_eq byte 32) (Some phase.Blank) (ended byte) to is)
 
 pub start_more : (j : Bool) (byte : ℕ) (p : Position) (bytes : List ℕ) (out : Pairs) (to : Phase) → moved phase.Start byte ≡ Some to → Reached j to p bytes out
     → StartAt j p (byte ∷ bytes) out
 start_more j byte p bytes out to is next =
     let text = byte ∷ 0 ∷ 0 ∷ 0 ∷ 0 ∷ 0 ∷ 0 ∷ 0 ∷ 0 ∷ 0 ∷ 0 ∷ [] in
     ⊎_elim
-      (λ c.
-        let follows = subst (λ (t : Phase). Reached j t p bytes out) (sym (some_is (phase.Text 1 text) to c.1)) next in
-        line_of_text j p (byte ∷ []) bytes out (follows refl (lit< tt)))
-      (λ c.
-        ⊎_elim
-          (λ d. blank_line j p (byte ∷ bytes) out
-            (space_more j p byte bytes out d.0 (subst (λ (t : Phase). Reached j t p bytes out) (sym (some_is phase.Blank to d.1)) next)))
-          (λ d. blank_line j p (byte ∷ bytes) out (no_space j p (byte ∷ bytes) out (behind_end j p byte bytes out to d.1 next)))
-          (chose (nat_eq byte 32) (Some phase.Blank) (ended byte) to c.1))
-      (chose (is_digit byte) (Some (phase.Text 1 text)) (cond (nat_eq byte 32) (Some phase.Blank) (ended byte)) to is)
+    (λ c.
+    let follows = subst (λ (t : Phase). Reached j t p bytes out) (sym (some_is (phase.Text 1 text) to c.1)) next in
+    line_of_text j p (byte ∷ []) bytes out (follows refl (lit< tt)))
+    (λ c.
+    ⊎_elim
+    (λ d. blank_line j p (byte ∷ bytes) out
+    (space_more j p byte bytes out d.0 (subst (λ (t : Phase). Reached j t p bytes out) (sym (some_is phase.Blank to d.1)) next)))
+    (λ d. blank_line j p (byte ∷ bytes) out (no_space j p (byte ∷ bytes) out (behind_end j p byte bytes out to d.1 next)))
+    (chose (nat_eq byte 32) (Some phase.Blank) (ended byte) to c.1))
+    (chose (is_digit byte) (Some (phase.Text 1 text)) (cond (nat_eq byte 32) (Some phase.Blank) (ended byte)) to is)
 
 pub time_more : (j : Bool) (at : ℕ) (text : List ℕ) (byte : ℕ) (p : Position) (bytes : List ℕ) (out : Pairs) (to : Phase) → moved (phase.Text at text) byte ≡ Some to
     → Reached j to p bytes out → Follows j (phase.Text at text) p (byte ∷ bytes) out
 time_more j at text byte p bytes out to is next = λ size early.
     ⊎_elim
-      (λ c.
-        ⊎_elim
-          (λ d.
-            let ten : at ≡ 10 = eqb-true at 10 d.0 in
-            let (s, judge, timed) = subst (λ (t : Phase). Reached j t p bytes out) (sym (some_is (phase.Timed (slice_set text at byte)) to d.1)) next in
-            let judge' : judged j p (slice_set text 10 byte) ≡ Ok s = subst (λ (n : ℕ). judged j p (slice_set text n byte) ≡ Ok s) ten judge in
-            subst (λ (n : ℕ). TextThen (take n text) j p (byte ∷ bytes) out) (sym ten) (text_whole j p s text byte bytes out size judge' timed))
-          (λ d.
-            let other : nat_eq at 10 ≡ false = d.0 in
-            let within : at + 1 < 11 = grind (arith, common_steps) in
-            let follows = subst (λ (t : Phase). Reached j t p bytes out) (sym (some_is (phase.Text (at + 1) (slice_set text at byte)) to d.1)) next in
-            text_more j p at text byte bytes out size early (follows (length-set text at byte ∙ size) within))
-          (chose (nat_eq at 10) (Some (phase.Timed (slice_set text at byte))) (Some (phase.Text (at + 1) (slice_set text at byte))) to c.1))
-      (λ c. absurd (none_some to c.1))
-      (chose (fits at byte) (cond (nat_eq at 10) (Some (phase.Timed (slice_set text at byte))) (Some (phase.Text (at + 1) (slice_set text at byte)))) None to is)
+    (λ c.
+    ⊎_elim
+    (λ d.
+    let ten : at ≡ 10 = eqb-true at 10 d.0 in
+    let (s, judge, timed) = subst (λ (t : Phase). Reached j t p bytes out) (sym (some_is (phase.Timed (slice_set text at byte)) to d.1)) next in
+    let judge' : judged j p (slice_set text 10 byte) ≡ Ok s = subst (λ (n : ℕ). judged j p (slice_set text n byte) ≡ Ok s) ten judge in
+    subst (λ (n : ℕ). TextThen (take n text) j p (byte ∷ bytes) out) (sym ten) (text_whole j p s text byte bytes out size judge' timed))
+    (λ d.
+    let other : nat_eq at 10 ≡ false = d.0 in
+    let within : at + 1 < 11 = grind (arith, common_steps) in
+    let follows = subst (λ (t : Phase). Reached j t p bytes out) (sym (some_is (phase.Text (at + 1) (slice_set text at byte)) to d.1)) next in
+    text_more j p at text byte bytes out size early (follows (length-set text at byte ∙ size) within))
+    (chose (nat_eq at 10) (Some (phase.Timed (slice_set text at byte))) (Some (phase.Text (at + 1) (slice_set text at byte))) to c.1))
+    (λ c. absurd (none_some to c.1))
+    (chose (fits at byte) (cond (nat_eq at 10) (Some (phase.Timed (slice_set text at byte))) (Some (phase.Text (at + 1) (slice_set text at byte)))) None to is)
 
 pub timed_more : (j : Bool) (byte : ℕ) (p : Position) (bytes : List ℕ) (out : Pairs) (to : Phase) → cond (is_blank byte) (Some phase.Gap) None ≡ Some to → Reached j to p bytes out
     → TimedThen j p (byte ∷ bytes) out
 timed_more j byte p bytes out to is next =
     ⊎_elim
-      (λ c. record {
-        blank = byte;
-        rest = bytes;
-        is_blank_byte = c.0;
-        behind = subst (λ (t : Phase). Reached j t p bytes out) (sym (some_is phase.Gap to c.1)) next;
-        is = refl
-      })
-      (λ c. absurd (none_some to c.1))
-      (chose (is_blank byte) (Some phase.Gap) None to is)
+    (λ c. record {
+      blank = byte;
+      rest = bytes;
+      is_blank_byte = c.0;
+      behind = subst (λ (t : Phase). Reached j t p bytes out) (sym (some_is phase.Gap to c.1)) next;
+      is = refl;
+    })
+    (λ c. absurd (none_some to c.1))
+    (chose (is_blank byte) (Some phase.Gap) None to is)
 
 pub gap_more : (j : Bool) (byte : ℕ) (p : Position) (bytes : List ℕ) (out : Pairs) (to : Phase) → moved phase.Gap byte ≡ Some to → Reached j to p bytes out
     → GapThen j p (byte ∷ bytes) out
 gap_more j byte p bytes out to is next =
     ⊎_elim
-      (λ c. blank_gap j p byte bytes out c.0 (subst (λ (t : Phase). Reached j t p bytes out) (sym (some_is phase.Gap to c.1)) next))
-      (λ c.
-        let (value, known, goes) = mapped (λ value. phase.One value) (hex_value byte) to c.1 in
-        no_gap j p byte value bytes out known (subst (λ (t : Phase). Reached j t p bytes out) (sym goes) next))
-      (chose (is_blank byte) (Some phase.Gap) (option_map (λ value. phase.One value) (hex_value byte)) to is)
+    (λ c. blank_gap j p byte bytes out c.0 (subst (λ (t : Phase). Reached j t p bytes out) (sym (some_is phase.Gap to c.1)) next))
+    (λ c.
+    let (value, known, goes) = mapped (λ value. phase.One value) (hex_value byte) to c.1 in
+    no_gap j p byte value bytes out known (subst (λ (t : Phase). Reached j t p bytes out) (sym goes) next))
+    (chose (is_blank byte) (Some phase.Gap) (option_map (λ value. phase.One value) (hex_value byte)) to is)
 
 pub one_more : (j : Bool) (value byte : ℕ) (p : Position) (bytes : List ℕ) (out : Pairs) (to : Phase) → moved (phase.One value) byte ≡ Some to → Reached j to p bytes out
     → OneThen value j p (byte ∷ bytes) out
@@ -559,22 +580,22 @@ pub whole_more : (j : Bool) (pair : Pair) (byte : ℕ) (p : Position) (bytes : L
     → Reached j to p bytes out → WordsThen j p (byte ∷ bytes) out
 whole_more j pair byte p bytes out to is next =
     ⊎_elim
-      (λ c. space_behind j p byte bytes out c.0 (subst (λ (t : Phase). Reached j t p bytes out) (sym (some_is phase.Between to c.1)) next))
-      (λ c. no_words j p (byte ∷ bytes) out (behind_end j p byte bytes out to c.1 next))
-      (chose (nat_eq byte 32) (Some phase.Between) (ended byte) to is)
+    (λ c. space_behind j p byte bytes out c.0 (subst (λ (t : Phase). Reached j t p bytes out) (sym (some_is phase.Between to c.1)) next))
+    (λ c. no_words j p (byte ∷ bytes) out (behind_end j p byte bytes out to c.1 next))
+    (chose (nat_eq byte 32) (Some phase.Between) (ended byte) to is)
 
 pub between_more : (j : Bool) (byte : ℕ) (p : Position) (bytes : List ℕ) (out : Pairs) (to : Phase) → moved phase.Between byte ≡ Some to → Reached j to p bytes out
     → BetweenThen j p (byte ∷ bytes) out
 between_more j byte p bytes out to is next =
     let cases : (o : Option ℕ) → hex_value byte ≡ o → word_or_end byte o ≡ Some to → BetweenThen j p (byte ∷ bytes) out =
-          elim [
-            None ↦ λ e h. end_of_words j p (byte ∷ bytes) out (behind_end j p byte bytes out to h next)
-          | Some value ↦ λ e h. word_between j p byte value bytes out e (subst (λ (t : Phase). Reached j t p bytes out) (sym (some_is (phase.One value) to h)) next)
-          ] in
+    elim [
+      | None ↦ λ e h. end_of_words j p (byte ∷ bytes) out (behind_end j p byte bytes out to h next)
+      | Some value ↦ λ e h. word_between j p byte value bytes out e (subst (λ (t : Phase). Reached j t p bytes out) (sym (some_is (phase.One value) to h)) next)
+    ] in
     ⊎_elim
-      (λ c. space_between j p byte bytes out c.0 (subst (λ (t : Phase). Reached j t p bytes out) (sym (some_is phase.Between to c.1)) next))
-      (λ c. cases (hex_value byte) refl c.1)
-      (chose (nat_eq byte 32) (Some phase.Between) (word_or_end byte (hex_value byte)) to is)
+    (λ c. space_between j p byte bytes out c.0 (subst (λ (t : Phase). Reached j t p bytes out) (sym (some_is phase.Between to c.1)) next))
+    (λ c. cases (hex_value byte) refl c.1)
+    (chose (nat_eq byte 32) (Some phase.Between) (word_or_end byte (hex_value byte)) to is)
 
 -- one byte more in front, at any phase
 pub byte_more : (from : Phase) (j : Bool) (byte : ℕ) (p : Position) (bytes : List ℕ) (out : Pairs) (to : Phase) → moved from byte ≡ Some to → Reached j to p bytes out
@@ -684,7 +705,7 @@ form_sound j place bytes out is =
         rest = spaces.rest;
         are_spaces = spaces.are;
         are_lines = spaces.behind.are;
-        spelled = first.is ∙ ap (λ z. first_text ++ z) spaces.is
+        spelled = first.is ∙ ap (λ z. first_text ++ z) spaces.is;
       };
-      placed = spaces.behind.placed
+      placed = spaces.behind.placed;
     }

@@ -34,13 +34,13 @@ stays [] more r place refusal is early =
     absurd (omega (arith, here))
 stays (byte ∷ bytes) more r place refusal is early =
     let cases : (x : Result Stepped Offence) → step true r byte ≡ x → behind place x (λ s. read_from true (place + 1) s bytes) ≡ Err refusal
-            → behind place x (λ s. read_from true (place + 1) s (bytes ++ more)) ≡ Err refusal =
-          elim [
-            Ok stepped ↦ λ e h.
-              refused_ahead stepped.1 _ refusal
-                (stays bytes more stepped.0 (place + 1) refusal (refused_behind stepped.1 _ refusal h) (omega arith))
-          | Err offence ↦ λ e h. h
-          ] in
+    → behind place x (λ s. read_from true (place + 1) s (bytes ++ more)) ≡ Err refusal =
+    elim [
+      | Ok stepped ↦ λ e h.
+          refused_ahead stepped.1 _ refusal
+          (stays bytes more stepped.0 (place + 1) refusal (refused_behind stepped.1 _ refusal h) (omega arith))
+      | Err offence ↦ λ e h. h
+    ] in
     cases (step true r byte) refl is
 
 -- no SCC file goes on with bytes of which one offends

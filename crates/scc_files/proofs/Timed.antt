@@ -29,10 +29,10 @@ in_order p s t frame false late is judge = record { frame = frame; is = is; low 
 pub timed_led : (p s : Position) (t : TimeCode) → judged_time true p t ≡ Ok s → IsTimed p t s
 timed_led p s t judge =
     let cases : (r : Result ℕ Why) → frame_of t ≡ r → timed p (result_ok r) ≡ Ok s → IsTimed p t s =
-          elim [
-            Ok frame ↦ λ e h. in_order p s t frame (nat_lt frame p.last) refl e h
-          | Err reason ↦ λ e h. absurd (err_ok h)
-          ] in
+    elim [
+      | Ok frame ↦ λ e h. in_order p s t frame (nat_lt frame p.last) refl e h
+      | Err reason ↦ λ e h. absurd (err_ok h)
+    ] in
     cases (frame_of t) refl judge
 
 -- pairs placed line by line stand as the lines' times say
@@ -45,17 +45,18 @@ placed_timed (Some line ∷ lines) p out (s, more, judge, placed, made) =
     let q = line_at p t.frame in
     let number : frame_number line.time ≡ t.frame = number_is line.time t.frame t.is in
     let placed' : Placed true (pairs_on q (length (line.first ∷ line.more))) lines more =
-          subst (λ (r : Position). Placed true r lines more) (ap (λ r. after_pairs r (line.first ∷ line.more)) t.at ∙ after_is (line.first ∷ line.more) q) placed in
+    subst (λ (r : Position). Placed true r lines more) (ap (λ r. after_pairs r (line.first ∷ line.more)) t.at ∙ after_is (line.first ∷ line.more) q) placed in
     let (rest, is) = placed_timed lines (pairs_on q (length (line.first ∷ line.more))) more placed' in
     let count : q.next + length (line.first ∷ line.more) ≡ q.next + 1 + length line.more = omega arith in
     let made' : out ≡ one_a_frame q.next (line.first ∷ line.more) ++ more =
-          made ∙ ap (λ (r : Position). one_a_frame r.next (line.first ∷ line.more) ++ more) t.at in
+    made ∙ ap (λ (r : Position). one_a_frame r.next (line.first ∷ line.more) ++ more) t.at in
     let all : one_a_frame q.next (line.first ∷ line.more) ++ placed_from q.start (q.next + 1 + length line.more) lines ≡ placed_from p.start p.next (Some line ∷ lines) =
-          sym (ap (λ n. one_a_frame (max (n - unwrap_or p.start n) p.next) (line.first ∷ line.more)
-              ++ placed_from (Some (unwrap_or p.start n)) (max (n - unwrap_or p.start n) p.next + 1 + length line.more) lines) number) in
-    ((t.frame, t.is, t.low, rest),
+    sym (ap (λ n. one_a_frame (max (n - unwrap_or p.start n) p.next) (line.first ∷ line.more)
+    ++ placed_from (Some (unwrap_or p.start n)) (max (n - unwrap_or p.start n) p.next + 1 + length line.more) lines) number) in (
+      (t.frame, t.is, t.low, rest),
       made' ∙ (ap (λ z. one_a_frame q.next (line.first ∷ line.more) ++ z) is
-        ∙ (ap (λ n. one_a_frame q.next (line.first ∷ line.more) ++ placed_from q.start n lines) count ∙ all)))
+          ∙ (ap (λ n. one_a_frame q.next (line.first ∷ line.more) ++ placed_from q.start n lines) count ∙ all)),
+    )
 
 -- what is read is an SCC file
 pub file_sound : (pairs : List (ℕ × Pair)) (bytes : List ℕ) → read_file bytes ≡ Ok pairs → IsSccFile pairs bytes

@@ -17,10 +17,10 @@ pub piece_is : (w : Standing) (frame : ℕ) (pair : Pair) (text word : List ℕ)
     → between w.behind ++ (text ++ (9 ∷ (word ++ []))) ≡ piece_of w frame pair
 piece_is w frame pair text word shown apart time spelled =
     let whole : between w.behind ++ (text ++ (9 ∷ (word ++ []))) ≡ between w.behind ++ (text_of (time_at (w.start + frame) w.drop_frame) ++ (9 ∷ word_of pair)) =
-          ap (λ t. between w.behind ++ (t ++ (9 ∷ (word ++ [])))) time
-          ∙ ap (λ u. between w.behind ++ (text_of (time_at (w.start + frame) w.drop_frame) ++ (9 ∷ (u ++ [])))) spelled in
+    ap (λ t. between w.behind ++ (t ++ (9 ∷ (word ++ [])))) time
+    ∙ ap (λ u. between w.behind ++ (text_of (time_at (w.start + frame) w.drop_frame) ++ (9 ∷ (u ++ [])))) spelled in
     whole ∙ chosen (is_null pair) (goes_on w.behind frame) [] (32 ∷ word_of pair)
-      (between w.behind ++ (text_of (time_at (w.start + frame) w.drop_frame) ++ (9 ∷ word_of pair))) shown apart
+    (between w.behind ++ (text_of (time_at (w.start + frame) w.drop_frame) ++ (9 ∷ word_of pair))) shown apart
 
 pub first_piece : (w : Standing) (frame : ℕ) (pair : Pair) (text word : List ℕ) → is_null pair ≡ false → w.behind ≡ None
     → text ≡ text_of (time_at (w.start + frame) w.drop_frame) → word ≡ word_of pair → text ++ (9 ∷ (word ++ [])) ≡ piece_of w frame pair

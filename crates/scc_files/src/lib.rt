@@ -13,5 +13,7 @@ mod pairs;
 mod phase;
 mod reader;
 mod reading;
+#[cfg(test)]
+mod tests;
 mod words;
 mod writer;

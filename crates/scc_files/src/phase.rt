@@ -8,8 +8,11 @@ use line21_codes::Pair;
 pub const FIRST_TEXT: [u8; 18] = *b"Scenarist_SCC V1.0";
 
 const LF: u8 = 0x0A;
+
 const CR: u8 = 0x0D;
+
 const TAB: u8 = 0x09;
+
 const SPACE: u8 = 0x20;
 
 /// Where the bytes read so far have ended within the form of an SCC file.
@@ -148,13 +151,7 @@ impl Phase {
                 CR => Some(Phase::FirstEnd),
                 _ => None,
             },
-            Phase::FirstEnd | Phase::End => {
-                if byte == LF {
-                    Some(Phase::Start)
-                } else {
-                    None
-                }
-            }
+            Phase::FirstEnd | Phase::End => { if byte == LF { Some(Phase::Start) } else { None } }
             Phase::Start => line_start(byte),
             Phase::Blank => {
                 if byte == SPACE {
@@ -182,7 +179,10 @@ impl Phase {
             Phase::Two(first) => Some(Phase::Three(first, hex_value(byte)?)),
             Phase::Three(first, value) => {
                 let second = 16 * value + hex_value(byte)?;
-                Some(Phase::Whole(Pair { a: first, b: second }))
+                Some(Phase::Whole(Pair {
+                    a: first,
+                    b: second,
+                }))
             }
             Phase::Whole(_) => {
                 if byte == SPACE {

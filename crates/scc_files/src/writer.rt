@@ -1,8 +1,8 @@
 ghost use Rattle.std.specs.Prelude.{◌≡◌, ◌+◌, ◌<◌, false, true};
 ghost use Rattle.time_codes.specs.TimeCodes.{day_frames};
 
-use cc_base::{Put, Sink, put_pieces};
 use crate::words::word;
+use cc_base::{Put, Sink, put_pieces};
 use line21_codes::Pair;
 use time_codes::{TimeCode, frame_of, time_of, time_text};
 
@@ -80,7 +80,11 @@ impl SccWriter {
         if pair.a == 0x80 && pair.b == 0x80 {
             return Ok(());
         }
-        let day = if self.drop_frame { 2_589_408 } else { 2_592_000 };
+        let day = if self.drop_frame {
+            2_589_408
+        } else {
+            2_592_000
+        };
         if frame >= day - self.start {
             return Err(SccPut::Day);
         }
