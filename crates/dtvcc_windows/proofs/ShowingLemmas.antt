@@ -1,5 +1,5 @@
 -- When two windows are shown alike.
-use Rattle.std.proofs.Common.{◌≡◌, Bool, true, false, if◌then◌else◌, Some, None, is_some, Option, refl, sym, ap, ◌∙◌}
+use Rattle.std.proofs.Common.{◌≡◌, Bool, true, false, if◌then◌else◌, Some, None, is_some, refl, sym, ◌∙◌}
 use Rattle.dtvcc_codes.specs.declared.windows.Definition.{Definition}
 use Rattle.dtvcc_codes.specs.declared.windows.WinAttr.{WinAttr}
 use Rattle.dtvcc_windows.specs.Places.{Cells}

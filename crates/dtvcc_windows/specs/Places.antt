@@ -1,6 +1,6 @@
 -- The cells of a caption window as a map: what stands at each row and column, both counted from 0
 -- (CTA-708-E, caption windows).
-use Rattle.std.specs.Prelude.{ℕ, ◌+◌, ◌==◌, ◌&&◌, nat_lt, nat_le, Bool, if◌then◌else◌, List, Option, None, map}
+use Rattle.std.specs.Prelude.{ℕ, ◌+◌, ◌==◌, ◌&&◌, nat_lt, nat_le, if◌then◌else◌, List, Option, None, map}
 use Rattle.std.specs.List.{range_with_len}
 use Rattle.dtvcc_windows.specs.declared.cells.DCell.{DCell}
 

@@ -1,7 +1,6 @@
 -- The size of a caption window: so many rows and columns (CTA-708-E, DefineWindow: row count and
 -- column count).
 use Rattle.std.specs.Prelude.{◌≡◌, ℕ, ◌&&◌, nat_lt, Bool, false, if◌then◌else◌, None}
-use Rattle.dtvcc_codes.specs.declared.windows.Definition.{Definition}
 use Rattle.dtvcc_windows.specs.Places.{Cells}
 
 -- the row and the column lie in a size

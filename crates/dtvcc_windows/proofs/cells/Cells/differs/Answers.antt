@@ -1,4 +1,4 @@
-use Rattle.std.proofs.Common.{◌≡◌, length, arith, rules, refl, sym, ap, ◌∙◌}
+use Rattle.std.proofs.Common.{◌≡◌, length, arith, rules, refl, sym, ◌∙◌}
 use Rattle.std.proofs.lemmas.Slice.Eq.{slice_eq-Decides}
 use Rattle.dtvcc_windows.proofs.PartLemmas.{parts_same, same_where_none, told_same, told_other}
 use Rattle.dtvcc_windows.proofs.SameLemmas.{Decides-place}

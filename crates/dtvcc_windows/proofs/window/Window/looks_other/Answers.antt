@@ -1,4 +1,4 @@
-use Rattle.std.proofs.Common.{◌≡◌, ◌∙◌, sym}
+use Rattle.std.proofs.Common.{◌∙◌, sym}
 use Rattle.dtvcc_windows.specs.Objects.{state_of}
 use Rattle.dtvcc_windows.proofs.PartLemmas.{told_same}
 use Rattle.dtvcc_windows.proofs.SameLemmas.{Decides-attributes, Decides-definition}
