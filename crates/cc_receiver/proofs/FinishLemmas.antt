@@ -14,8 +14,8 @@ use Rattle.cdp_packets.specs.Packets.{Packet as Frame}
 use Rattle.words_files.specs.Catching.{never, refusal_of}
 use Rattle.words_files.specs.Offences.{FirstOffendingWord, IsFileUnder, IsMalformed}
 use Rattle.words_files.proofs.CaughtLemmas.{caught_file, file_caught}
-use Rattle.words_files.proofs.EndingLemmas.{never_takes, open_is_cut_short}
-use Rattle.words_files.proofs.OffenceLemmas.{refused_offends}
+use Rattle.words_files.proofs.EndingLemmas.{open_is_cut_short}
+use Rattle.words_files.proofs.OffenceLemmas.{never_takes, refused_offends}
 use Rattle.cc_receiver.specs.declared.receiver.Receiver.{Receiver}
 use Rattle.cc_receiver.specs.Receivers.{HasReceived, receiver_refusal}
 

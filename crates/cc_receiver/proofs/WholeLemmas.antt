@@ -16,7 +16,7 @@ use Rattle.cdp_packets.specs.Packets.{IsCdp, Packet as Frame}
 use Rattle.words_files.specs.Catching.{Caught, caught_in, never, refusal_of}
 use Rattle.words_files.specs.Frames.{IsFileOf, none, caption}
 use Rattle.words_files.proofs.CaughtLemmas.{caught_file, file_caught}
-use Rattle.words_files.proofs.EndingLemmas.{file_under_never}
+use Rattle.words_files.proofs.OffenceLemmas.{file_under_never}
 use Rattle.words_files.proofs.FrameLemmas.{joined}
 use Rattle.words_files.proofs.FramesOfLemmas.{empty_file, file_front}
 use Rattle.cc_receiver.specs.declared.receiver.Receiver.{Receiver}

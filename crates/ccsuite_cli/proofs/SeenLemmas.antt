@@ -9,7 +9,7 @@ use Rattle.line21_codes.specs.declared.channels.Chan.TheVariants.{Cc1, Cc2, Cc3,
 use Rattle.words_files.specs.Catching.{never}
 use Rattle.words_files.specs.FramesOf.{AreFramesOf}
 use Rattle.words_files.specs.Received.{received_grids}
-use Rattle.words_files.proofs.EndingLemmas.{file_under_never}
+use Rattle.words_files.proofs.OffenceLemmas.{file_under_never}
 use Rattle.words_files.proofs.FramesOfLemmas.{file_frames, frames_grow}
 use Rattle.words_files.proofs.GotLemmas.{got}
 use Rattle.cc_receiver.proofs.ReceivedLemmas.{shown_received}

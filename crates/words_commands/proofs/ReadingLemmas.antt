@@ -18,7 +18,7 @@ use Rattle.cdp_packets.specs.Packets.{Packet as Frame}
 use Rattle.words_files.specs.Catching.{never, refusal_of}
 use Rattle.words_files.specs.FramesOf.{AreFramesOf}
 use Rattle.words_files.specs.Offences.{FirstOffendingWord, IsCutShort, IsMalformed, IsUnoffending}
-use Rattle.words_files.proofs.OffenceLemmas.{offence_refused, some_or_none, unoffending_is_unrefused}
+use Rattle.words_files.proofs.OffenceLemmas.{never_takes, offence_refused, some_or_none, unoffending_is_unrefused}
 use Rattle.command_base.specs.Gathered.{Flushes, IsGathered, held_of}
 use Rattle.words_commands.specs.Printing.{Prints}
 use Rattle.words_commands.specs.WordsAnswer.{words_limit}
@@ -258,7 +258,7 @@ offended_failed text start a b bytes held refusal had failed = record {
 -- bytes of which no word offends are cut short where they are no file
 pub cut_short : (bytes : List ℕ) (refusal : Refusal) → IsUnoffending never bytes → IsMalformed never bytes refusal → IsCutShort never bytes refusal
 cut_short bytes refusal unoffending (inl offence) =
-    absurd (some_or_none (refusal_of never bytes) refusal (offence_refused never bytes refusal offence) (unoffending_is_unrefused never bytes unoffending))
+    absurd (some_or_none (refusal_of never bytes) refusal (offence_refused never never_takes bytes refusal offence) (unoffending_is_unrefused never bytes unoffending))
 cut_short bytes refusal unoffending (inr cut) = cut
 
 -- of some bytes some are read

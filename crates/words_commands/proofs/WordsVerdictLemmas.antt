@@ -7,7 +7,8 @@ use Rattle.cc_base.specs.declared.why.Why.{Why}
 use Rattle.cc_base.specs.declared.streams.Put.{Put}
 use Rattle.cc_base.specs.declared.streams.Put.TheVariants as put
 use Rattle.cdp_packets.specs.Packets.{Packet as Frame}
-use Rattle.words_files.proofs.EndingLemmas.{cut_short_has_no_offence, file_has_no_offence, offence_is_one, offence_stays}
+use Rattle.words_files.proofs.EndingLemmas.{cut_short_has_no_offence, file_has_no_offence, offence_stays}
+use Rattle.words_files.proofs.OffenceLemmas.{offence_is_one}
 use Rattle.words_files.proofs.FrameLemmas.{one_list}
 use Rattle.words_files.specs.Catching.{never}
 use Rattle.words_files.specs.Offences.{FirstOffendingWord, IsCutShort, IsFileUnder, IsMalformed}

@@ -119,7 +119,7 @@ abbrev pub lows : List ℕ → List ℕ
 lows user = map (λ word. word % 256) user
 
 -- one user word of an open packet
-user_step : (v : Verdict CdpPart) (frames : List (List CdpPart)) (size : ℕ) (bytes : List ℕ) (parts : List CdpPart) (word : ℕ)
+pub user_step : (v : Verdict CdpPart) (frames : List (List CdpPart)) (size : ℕ) (bytes : List ℕ) (parts : List CdpPart) (word : ℕ)
     → IsTaken (judge_cdp size (open_behind (cdp_syntax size) bytes) (word % 256))
     → AreAccepted (verdict_behind v frames) parts (step_parts (judge_cdp size (open_behind (cdp_syntax size) bytes) (word % 256)))
     → caught_after v (opened frames (open_of size bytes parts)) (part.User word)
@@ -142,7 +142,7 @@ none-goes None o caught was none = refl
 none-goes (Some why) o caught was none = absurd cc
 
 -- and the other way round
-user_kept : (v : Verdict CdpPart) (frames : List (List CdpPart)) (size : ℕ) (bytes : List ℕ) (parts : List CdpPart) (word : ℕ)
+pub user_kept : (v : Verdict CdpPart) (frames : List (List CdpPart)) (size : ℕ) (bytes : List ℕ) (parts : List CdpPart) (word : ℕ)
     → (caught_after v (opened frames (open_of size bytes parts)) (part.User word)).refused ≡ None
     → IsTaken (judge_cdp size (open_behind (cdp_syntax size) bytes) (word % 256))
     × AreAccepted (verdict_behind v frames) parts (step_parts (judge_cdp size (open_behind (cdp_syntax size) bytes) (word % 256)))

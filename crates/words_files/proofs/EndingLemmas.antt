@@ -1,35 +1,19 @@
 -- How bytes end: as a file, cut short, or with an offending word, and never as two of these.
-use Rattle.std.proofs.Common.{◌≡◌, ℕ, ◌%◌, ◌^◌, ◌<◌, ◌⊎◌, inl, inr, List, [], ◌∷◌, ◌++◌, length, Option, Some, None, refl, ap, sym, ◌∙◌, append_assoc}
-use Rattle.std.specs.List.{All, flat_map}
+use Rattle.std.proofs.Common.{◌≡◌, ℕ, ◌%◌, ◌^◌, ◌<◌, ◌⊎◌, inl, inr, List, [], ◌∷◌, ◌++◌, length, Option, Some, None, refl, ap, sym, subst, ◌∙◌, append_assoc, append-nil, arith, length-append}
+use Rattle.std.specs.List.{All}
 use Rattle.cc_base.specs.declared.refusal.Refusal.{Refusal}
 use Rattle.cc_base.specs.declared.why.Why.TheVariants as why
 use Rattle.cc_base.specs.Feeding.{Verdict}
-use Rattle.cc_base.specs.Steps.{AreAccepted}
-use Rattle.cc_base.specs.Syntax.{open_behind, parts_from, parts_of}
+use Rattle.cc_base.specs.Syntax.{open_behind}
 use Rattle.anc_words.specs.Reading.{Open, anc_syntax, nothing_open}
 use Rattle.anc_words.proofs.ByteLemmas.{file_is_read}
 use Rattle.cdp_packets.specs.declared.parts.CdpPart.{CdpPart}
-use Rattle.cdp_packets.specs.PacketParts.{packet_parts}
 use Rattle.cdp_packets.specs.Packets.{Packet as Frame}
-use Rattle.cdp_packets.specs.Reading.{cdp_syntax}
-use Rattle.words_files.specs.Catching.{never, refusal_of}
-use Rattle.words_files.specs.Frames.{IsFileOf}
+use Rattle.words_files.specs.Catching.{refusal_of}
 use Rattle.words_files.specs.Offences.{AreWholeWords, FirstOffendingWord, IsCutShort, IsFileUnder, TakesFilling}
-use Rattle.words_files.proofs.CaughtLemmas.{caught_file, file_caught}
-use Rattle.words_files.proofs.OffenceLemmas.{offence_refused, refused_offends, same_refusal, some_or_none, unoffending_is_unrefused, unrefused_is_unoffending}
+use Rattle.words_files.proofs.CaughtLemmas.{caught_file}
+use Rattle.words_files.proofs.OffenceLemmas.{past_offence, refused_offends, unoffending_is_unrefused, unrefused_is_unoffending}
 use Rattle.words_files.proofs.WordLemmas.{AreWords-whole}
-
--- where there is no layer above, all parts are taken
-pub never_refuses : (above parts : List CdpPart) → AreAccepted never above parts
-never_refuses above [] = tt
-never_refuses above (part ∷ parts) = (refl, never_refuses (above ++ part ∷ []) parts)
-
-pub never_takes : TakesFilling never
-never_takes size handed bytes more all read accepted filling =
-    never_refuses (handed ++ parts_of (cdp_syntax size) bytes) (parts_from (cdp_syntax size) (open_behind (cdp_syntax size) bytes) more)
-
-pub file_under_never : (frames : List Frame) (bytes : List ℕ) → IsFileOf frames bytes → IsFileUnder never frames bytes
-file_under_never frames bytes file = record { file = file; accepted = never_refuses [] (flat_map packet_parts frames) }
 
 -- the bytes of a file are whole words, and leave nothing open
 pub file_whole : (v : Verdict CdpPart) (frames : List Frame) (bytes : List ℕ) → IsFileUnder v frames bytes → AreWholeWords bytes
@@ -90,18 +74,18 @@ each_ends v takes bytes are =
 
 -- never two of these
 pub file_has_no_offence : (v : Verdict CdpPart) (frames : List Frame) (bytes : List ℕ) (refusal : Refusal) → IsFileUnder v frames bytes → FirstOffendingWord v bytes refusal → ⊥
-file_has_no_offence v frames bytes refusal file offence =
-    some_or_none (refusal_of v bytes) refusal (offence_refused v bytes refusal offence) (file_caught v frames bytes file).1
+file_has_no_offence v frames bytes refusal file has =
+    let long = ap length has.spelled ∙ length-append has.before (has.high ∷ has.low ∷ has.rest) in
+    past_offence v bytes [] bytes refusal has (append-nil bytes) (omega (arith, long))
+    (record { more = []; frames = frames; is_file = subst (IsFileUnder v frames) (sym (append-nil bytes)) file })
 
 pub cut_short_has_no_offence : (v : Verdict CdpPart) (bytes : List ℕ) (refusal other : Refusal) → IsCutShort v bytes refusal → FirstOffendingWord v bytes other → ⊥
-cut_short_has_no_offence v bytes refusal other cut offence =
-    some_or_none (refusal_of v bytes) other (offence_refused v bytes other offence) (unoffending_is_unrefused v bytes cut.unoffending)
+cut_short_has_no_offence v bytes refusal other cut has =
+    let is = cut.unoffending in
+    let long = sym (length-append is.words is.half) ∙ ap length (sym is.spelled ∙ has.spelled) ∙ length-append has.before (has.high ∷ has.low ∷ has.rest) in
+    past_offence v is.words is.half bytes other has (sym is.spelled) (omega (arith, long, is.single, is.whole, has.whole)) is.begins
 
 -- an offence is one, whatever bytes follow
-pub offence_is_one : (v : Verdict CdpPart) (bytes : List ℕ) (refusal other : Refusal) → FirstOffendingWord v bytes refusal → FirstOffendingWord v bytes other → refusal ≡ other
-offence_is_one v bytes refusal other one two =
-    same_refusal refusal other (sym (offence_refused v bytes refusal one) ∙ offence_refused v bytes other two)
-
 pub offence_stays : (v : Verdict CdpPart) (bytes more : List ℕ) (refusal : Refusal) → FirstOffendingWord v bytes refusal → FirstOffendingWord v (bytes ++ more) refusal
 offence_stays v bytes more refusal has = record {
   before = has.before;

@@ -1,5 +1,5 @@
 -- The frames that bytes have brought: every list of bytes has some, they are one list, and more bytes bring more.
-use Rattle.std.proofs.Common.{◌≡◌, ℕ, ◌≤◌, ◌⊎◌, inl, inr, List, [], ◌∷◌, ◌++◌, length, refl, ap, sym, subst, ◌∙◌, append_assoc, append-nil, length-append, arith}
+use Rattle.std.proofs.Common.{◌≡◌, ℕ, ◌⊎◌, inl, inr, List, [], ◌∷◌, ◌++◌, length, refl, ap, sym, subst, ◌∙◌, append_assoc, append-nil, length-append, arith}
 use Rattle.cc_base.specs.Feeding.{Verdict}
 use Rattle.anc_words.specs.Packets.{Packet}
 use Rattle.anc_words.specs.WordsFiles.{IsPacketBytes, IsWordsFile}
@@ -13,6 +13,7 @@ use Rattle.anc_words.specs.Words.{AreWords}
 use Rattle.words_files.specs.FramesOf.{AreFramesOf}
 use Rattle.words_files.specs.Offences.{IsFileUnder}
 use Rattle.words_files.proofs.FrameLemmas.{carry_once, one_list}
+use Rattle.words_files.proofs.WordLemmas.{front_of}
 
 -- a list ends where its last item is, or before it
 pub split_last : (bytes : List ℕ) (byte : ℕ) (other rest : List ℕ) → bytes ++ byte ∷ [] ≡ other ++ rest
@@ -93,14 +94,6 @@ frames_of_once v frames others bytes are also =
     let least = are.longest others also.file also.behind also.spelled also.is_file in
     let same = split_same are.file also.file are.behind also.behind (omega (arith, most, least)) (sym are.spelled ∙ also.spelled) in
     one_list frames others are.file are.is_file.file (subst (IsFileOf others) (sym same.heads) also.is_file.file)
-
--- a list at the front of another one that is no shorter
-pub front_of : (xs ys front rest : List ℕ) → xs ++ front ≡ ys ++ rest → length xs ≤ length ys → (more : List ℕ) × (ys ≡ xs ++ more)
-front_of [] ys front rest is few = (ys, refl)
-front_of (x ∷ xs) [] front rest is few = absurd (omega (arith, few))
-front_of (x ∷ xs) (y ∷ ys) front rest is few =
-    let (more, same) = front_of xs ys front rest (cc) (omega (arith, few)) in
-    (more, cc)
 
 -- more bytes bring these frames and more
 pub frames_grow : (v : Verdict CdpPart) (frames others : List Frame) (bytes more : List ℕ) → AreFramesOf v frames bytes → AreFramesOf v others (bytes ++ more)

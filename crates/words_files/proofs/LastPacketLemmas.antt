@@ -19,7 +19,8 @@ use Rattle.cdp_packets.specs.Packets.{Packet as Frame}
 use Rattle.words_files.specs.Frames.{CarryFrames, none, caption, foreign}
 use Rattle.words_files.specs.FramesOf.{AreFramesOf}
 use Rattle.words_files.specs.Offences.{IsFileUnder}
-use Rattle.words_files.proofs.FramesOfLemmas.{empty_file, file_frames, file_front, frames_of_once, front_of, some_packet}
+use Rattle.words_files.proofs.FramesOfLemmas.{empty_file, file_frames, file_front, frames_of_once, some_packet}
+use Rattle.words_files.proofs.WordLemmas.{front_of}
 use Rattle.words_files.proofs.GotLemmas.{file_or_none}
 
 -- two ways to part a list: the second parts the first front, or goes past it

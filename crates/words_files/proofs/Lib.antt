@@ -11,3 +11,5 @@ pub mod OffenceLemmas
 pub mod TestWords
 pub mod WordLemmas
 pub mod ReasonLemmas
+pub mod RefusedLemmas
+pub mod OpenLemmas

@@ -1,22 +1,35 @@
 -- The first word that is refused is the first that offends: a file begins with the words before it, and none with these and it.
 use Rattle.std.proofs.Common.{◌≡◌, ℕ, ◌+◌, ◌-◌, ◌*◌, ◌%◌, ◌^◌, ◌<◌, ◌≤◌, List, [], ◌∷◌, ◌++◌, length, Option, Some, None, refl, ap, sym, subst, ◌∙◌, arith, append_assoc, append-nil, length-append, lit≤}
-use Rattle.std.specs.List.{All}
+use Rattle.std.proofs.lemmas.List.Elements.{All-cons, All-nil}
+use Rattle.std.specs.List.{All, flat_map}
 use Rattle.cc_base.specs.declared.refusal.Refusal.{Refusal}
 use Rattle.cc_base.specs.declared.why.Why.{Why}
-use Rattle.cc_base.specs.Feeding.{Handed, Judge, Reading, Verdict, hand, place_by, read_first, reading, refused_at}
-use Rattle.cc_base.specs.Syntax.{judge_by, open_behind, parts_of, read_under}
+use Rattle.cc_base.specs.Feeding.{Handed, Judge, Reading, Verdict, hand, place_by, read_first, reading, refused_at, why_of}
+use Rattle.cc_base.specs.Steps.{AreAccepted}
+use Rattle.cc_base.specs.Syntax.{judge_by, open_behind, parts_from, parts_of, read_under}
 use Rattle.cc_base.proofs.StepLemmas.{front_from-append, read_first-none}
 use Rattle.cc_base.proofs.SyntaxLemmas.{reading-accepted, reading-none}
 use Rattle.cc_base.proofs.ReadingLemmas.{reading-append, reading-taken}
 use Rattle.anc_words.specs.declared.parts.WordPart.{WordPart}
 use Rattle.anc_words.specs.Reading.{Open, anc_syntax, judge_byte, nothing_open, open_after}
+use Rattle.anc_words.specs.Words.{AreWords}
 use Rattle.anc_words.proofs.ByteLemmas.{last_high, open-words_of}
+use Rattle.anc_words.proofs.PacketLemmas.{same_heads}
 use Rattle.cdp_packets.specs.declared.parts.CdpPart.{CdpPart}
-use Rattle.words_files.specs.Catching.{caption_verdict, refusal_of}
-use Rattle.words_files.specs.Offences.{AreWholeWords, Begins, FirstOffendingWord, IsFileUnder, IsUnoffending, TakesFilling, reason_of}
+use Rattle.cdp_packets.specs.PacketParts.{packet_parts}
+use Rattle.cdp_packets.specs.Packets.{Packet as Frame}
+use Rattle.cdp_packets.specs.Reading.{cdp_syntax}
+use Rattle.words_files.specs.Catching.{caption_verdict, never, reason_of, refusal_of}
+use Rattle.words_files.specs.Frames.{IsFileOf}
+use Rattle.words_files.specs.Offences.{AreWholeWords, Begins, FirstOffendingWord, IsFileUnder, IsUnoffending, TakesFilling}
+use Rattle.words_files.specs.Reasons.{AreOpenBehind, HasReason, OffendsFor, RefusesNone, by_its_packet, by_layers_above}
 use Rattle.words_files.proofs.BeginsLemmas.{goes_on}
+use Rattle.words_files.proofs.CatchingLemmas.{caught_read}
 use Rattle.words_files.proofs.CaughtLemmas.{file_caught}
-use Rattle.words_files.proofs.WordLemmas.{All-split}
+use Rattle.words_files.proofs.OpenLemmas.{open_exists, open_once}
+use Rattle.words_files.proofs.ReasonLemmas.{offends_for_one, offends_given, reason_offends}
+use Rattle.words_files.proofs.RefusedLemmas.{file_refused, refused_for_one}
+use Rattle.words_files.proofs.WordLemmas.{All-split, front_of}
 
 -- a refusal is no other, and none is none
 pub same_refusal : (one other : Refusal) → Some one ≡ Some other → one ≡ other
@@ -24,6 +37,9 @@ same_refusal one other same = cc
 
 pub some_or_none : (refusal : Option Refusal) (one : Refusal) → refusal ≡ Some one → refusal ≡ None → ⊥
 some_or_none refusal one some none = let clash : Some one ≡ None = sym some ∙ none in absurd cc
+
+pub same_why : (one other : Why) → Some one ≡ Some other → one ≡ other
+same_why one other same = cc
 
 abbrev refusal_at : ℕ → Why → Refusal
 refusal_at place why = record { place = place; why = why }
@@ -193,34 +209,178 @@ nowhere v before high low why whole none reason begins =
     some_or_none (refusal_of v (before ++ high ∷ low ∷ [])) (refusal_at (length before % 2 ^ 64) why)
     (word_read v before high low whole none ∙ ap (refused_at (length before % 2 ^ 64)) reason) (begins_unrefused v (before ++ high ∷ low ∷ []) begins)
 
+-- where there is no layer above, all parts are taken
+pub never_refuses : (above parts : List CdpPart) → AreAccepted never above parts
+never_refuses above [] = tt
+never_refuses above (part ∷ parts) = (refl, never_refuses (above ++ part ∷ []) parts)
+
+pub never_takes : TakesFilling never
+never_takes size handed bytes more all read accepted filling =
+    never_refuses (handed ++ parts_of (cdp_syntax size) bytes) (parts_from (cdp_syntax size) (open_behind (cdp_syntax size) bytes) more)
+
+pub file_under_never : (frames : List Frame) (bytes : List ℕ) → IsFileOf frames bytes → IsFileUnder never frames bytes
+file_under_never frames bytes file = record { file = file; accepted = never_refuses [] (flat_map packet_parts frames) }
+
+begins_under_never : (v : Verdict CdpPart) (bytes : List ℕ) → Begins v bytes → Begins never bytes
+begins_under_never v bytes begins =
+    record { more = begins.more; frames = begins.frames; is_file = file_under_never begins.frames (bytes ++ begins.more) begins.is_file.file }
+
+-- the reason of a word that is refused is that of whatever bytes go on with it
+reason_stays : (v : Verdict CdpPart) (before : List ℕ) (high low : ℕ) (more : List ℕ) (why : Why) → AreWholeWords before → refusal_of v before ≡ None
+    → reason_of v before (256 * high + low) ≡ Some why → why_of (refusal_of v (before ++ high ∷ low ∷ more)) ≡ Some why
+reason_stays v before high low more why whole none reason =
+    let here = refusal_at (length before % 2 ^ 64) why in
+    ap (λ bs. why_of (refusal_of v bs)) (sym (append_assoc before (high ∷ low ∷ []) more))
+    ∙ ap why_of (refusal-stays v (before ++ high ∷ low ∷ []) more here
+    (word_read v before high low whole none ∙ ap (refused_at (length before % 2 ^ 64)) reason))
+
+-- a word is refused for the reason for which it offends
+pub reason_is : (v : Verdict CdpPart) (before : List ℕ) (high low : ℕ) (why : Why) → All (λ byte. byte < 256) (before ++ high ∷ low ∷ []) → AreWholeWords before
+    → Begins v before → reason_of v before (256 * high + low) ≡ Some why → HasReason v before high low why
+reason_is v before high low why are whole begins reason =
+    let none = begins_unrefused v before begins in
+    let quiet = begins_unrefused never before (begins_under_never v before begins) in
+    let word = 256 * high + low in
+    let place = length before % 2 ^ 64 in
+    let cases : (w : Option Why) → reason_of never before word ≡ w → HasReason v before high low why = elim [
+      | Some other ↦ λ said.
+          let offends = reason_offends never (λ above p. refl) before word other quiet said in
+          let same : Some other ≡ Some why = sym (offends_given v before word other none offends) ∙ reason in
+          let opens = open_exists before (All-split (λ byte. byte < 256) before (high ∷ low ∷ []) are).0 (caught_read v before none).0 whole in
+          subst (HasReason v before high low) (same_why other why same) (by_its_packet other (open_behind anc_syntax before).words opens offends)
+      | None ↦ λ taken.
+          let go = goes_on never never_takes (before ++ high ∷ low ∷ []) are (whole-word before high low whole)
+          (word_read never before high low whole quiet ∙ ap (refused_at place) taken) in
+          by_layers_above why go.more go.frames (subst (IsFileOf go.frames) (append_assoc before (high ∷ low ∷ []) go.more) go.is_file.file)
+          (λ more frames file. file_refused v frames (before ++ high ∷ low ∷ more) why file (reason_stays v before high low more why whole none reason))
+    ] in cases _ refl
+
 -- a refusal is that of the first offending word
 pub refused_offends : (v : Verdict CdpPart) → TakesFilling v → (bytes : List ℕ) (refusal : Refusal) → All (λ byte. byte < 256) bytes
     → refusal_of v bytes ≡ Some refusal → FirstOffendingWord v bytes refusal
 refused_offends v takes bytes refusal are some =
     let first = first-from v [] bytes refusal refl refl some in
-    let (before_are, _) = All-split (λ byte. byte < 256) first.before (first.high ∷ first.low ∷ first.rest) (subst (All (λ byte. byte < 256)) first.spelled are) in record {
+    let all = subst (All (λ byte. byte < 256)) (first.spelled ∙ sym (append_assoc first.before (first.high ∷ first.low ∷ []) first.rest)) are in
+    let (word_are, _) = All-split (λ byte. byte < 256) (first.before ++ first.high ∷ first.low ∷ []) first.rest all in
+    let (before_are, _) = All-split (λ byte. byte < 256) first.before (first.high ∷ first.low ∷ []) word_are in
+    let begins = goes_on v takes first.before before_are first.whole first.unrefused in record {
       before = first.before;
       high = first.high;
       low = first.low;
       rest = first.rest;
       spelled = first.spelled;
       whole = first.whole;
-      begins = goes_on v takes first.before before_are first.whole first.unrefused;
+      begins = begins;
       offends = nowhere v first.before first.high first.low refusal.why first.whole first.unrefused first.why_is;
       place_is = first.place_is;
-      why_is = first.why_is;
+      why_is = reason_is v first.before first.high first.low refusal.why word_are first.whole begins first.why_is;
     }
 
--- and the first offending word is refused
-pub offence_refused : (v : Verdict CdpPart) (bytes : List ℕ) (refusal : Refusal) → FirstOffendingWord v bytes refusal → refusal_of v bytes ≡ Some refusal
-offence_refused v bytes refusal has =
+-- words are bytes
+words-bytes : (bytes words : List ℕ) → AreWords bytes words → All (λ byte. byte < 256) bytes
+words-bytes [] [] are = All-nil (λ byte. byte < 256)
+words-bytes [] (word ∷ words) are = absurd are
+words-bytes (high ∷ []) words are = absurd are
+words-bytes (high ∷ low ∷ bytes) [] are = absurd are
+words-bytes (high ∷ low ∷ bytes) (word ∷ words) (is, are) =
+    All-cons (λ byte. byte < 256) high (low ∷ bytes) (omega (arith, is.zeros)) (All-cons (λ byte. byte < 256) low bytes is.byte (words-bytes bytes words are))
+
+-- and the other way round: a word that offends for a reason is refused for it
+pub reason_said : (v : Verdict CdpPart) → TakesFilling v → (before : List ℕ) (high low : ℕ) (reason : Why) → AreWholeWords before → Begins v before
+    → (Begins v (before ++ high ∷ low ∷ []) → ⊥) → HasReason v before high low reason → reason_of v before (256 * high + low) ≡ Some reason
+reason_said v takes before high low _ whole begins nowhere_on (by_its_packet reason words opens offends) =
+    let none = begins_unrefused v before begins in
+    let kept = open_once words before opens (caught_read v before none).0 in
+    offends_given v before (256 * high + low) reason none (subst (λ ws. OffendsFor ws (256 * high + low) reason) (sym kept) offends)
+reason_said v takes before high low _ whole begins nowhere_on (by_layers_above reason more frames file all) =
+    let none = begins_unrefused v before begins in
+    let word = before ++ high ∷ low ∷ [] in
+    let file_are = words-bytes (before ++ high ∷ low ∷ more) file.file.words file.file.spelled in
+    let (are, _) = All-split (λ byte. byte < 256) word more (subst (All (λ byte. byte < 256)) (sym (append_assoc before (high ∷ low ∷ []) more)) file_are) in
+    let cases : (w : Option Why) → reason_of v before (256 * high + low) ≡ w → reason_of v before (256 * high + low) ≡ Some reason = elim [
+      | None ↦ λ taken. absurd (nowhere_on (goes_on v takes word are (whole-word before high low whole)
+          (word_read v before high low whole none ∙ ap (refused_at (length before % 2 ^ 64)) taken)))
+      | Some other ↦ λ said.
+          let refuses = file_refused v frames (before ++ high ∷ low ∷ more) other file (reason_stays v before high low more other whole none said) in
+          said ∙ ap (λ w. Some w) (refused_for_one v (flat_map packet_parts frames) other reason refuses (all more frames file))
+    ] in cases _ refl
+
+-- a word that offends by the words of its packet goes on to no file
+never_goes_on : (v : Verdict CdpPart) (before : List ℕ) (high low : ℕ) (reason : Why) (words more : List ℕ) (frames : List Frame) → AreWholeWords before → Begins v before
+    → AreOpenBehind words before → OffendsFor words (256 * high + low) reason → IsFileOf frames (before ++ high ∷ low ∷ more) → ⊥
+never_goes_on v before high low reason words more frames whole begins opens offends file =
+    let quiet = begins_unrefused never before (begins_under_never v before begins) in
+    let kept = open_once words before opens (caught_read never before quiet).0 in
+    let said = offends_given never before (256 * high + low) reason quiet (subst (λ ws. OffendsFor ws (256 * high + low) reason) (sym kept) offends) in
+    let refused = reason_stays never before high low more reason whole quiet said in
+    let unrefused = (file_caught never frames (before ++ high ∷ low ∷ more) (file_under_never frames (before ++ high ∷ low ∷ more) file)).1 in
+    let clash : None ≡ Some reason = ap why_of (sym unrefused) ∙ refused in
+    absurd cc
+
+-- there is one reason
+pub reason_once : (v : Verdict CdpPart) (before : List ℕ) (high low : ℕ) (reason other : Why) → AreWholeWords before → Begins v before
+    → HasReason v before high low reason → HasReason v before high low other → reason ≡ other
+reason_once v before high low _ _ whole begins (by_its_packet reason words opens offends) (by_its_packet other others also too) =
+    let read = (caught_read v before (begins_unrefused v before begins)).0 in
+    let same : others ≡ words = sym (open_once others before also read) ∙ open_once words before opens read in
+    offends_for_one words (256 * high + low) reason other offends (subst (λ ws. OffendsFor ws (256 * high + low) other) same too)
+reason_once v before high low _ _ whole begins (by_its_packet reason words opens offends) (by_layers_above other more frames file all) =
+    absurd (never_goes_on v before high low reason words more frames whole begins opens offends file)
+reason_once v before high low _ _ whole begins (by_layers_above reason more frames file all) (by_its_packet other words opens offends) =
+    absurd (never_goes_on v before high low other words more frames whole begins opens offends file)
+reason_once v before high low _ _ whole begins (by_layers_above reason more frames file all) (by_layers_above other others behind also too) =
+    refused_for_one v (flat_map packet_parts frames) reason other (all more frames file) (too more frames file)
+
+-- where no layer above refuses a part, it is by the words of the packet
+pub reason_of_packet : (v : Verdict CdpPart) → RefusesNone v → (before : List ℕ) (high low : ℕ) (reason : Why) → HasReason v before high low reason
+    → (words : List ℕ) × AreOpenBehind words before × OffendsFor words (256 * high + low) reason
+reason_of_packet v quiet before high low _ (by_its_packet reason words opens offends) = (words, opens, offends)
+reason_of_packet v quiet before high low _ (by_layers_above reason more frames file all) =
+    let first = all more frames file in
+    let clash : None ≡ Some reason = sym (quiet first.taken first.part) ∙ first.refused in
+    absurd cc
+
+-- the first offending word is refused
+pub offence_refused : (v : Verdict CdpPart) → TakesFilling v → (bytes : List ℕ) (refusal : Refusal) → FirstOffendingWord v bytes refusal → refusal_of v bytes ≡ Some refusal
+offence_refused v takes bytes refusal has =
     let place = length has.before % 2 ^ 64 in
     let none = begins_unrefused v has.before has.begins in
     let here = refusal_at place refusal.why in
-    let some = word_read v has.before has.high has.low has.whole none ∙ ap (refused_at place) has.why_is in
+    let reason = reason_said v takes has.before has.high has.low refusal.why has.whole has.begins has.offends has.why_is in
+    let some = word_read v has.before has.high has.low has.whole none ∙ ap (refused_at place) reason in
     let stays = refusal-stays v (has.before ++ has.high ∷ has.low ∷ []) has.rest here some in
     ap (refusal_of v) (has.spelled ∙ sym (append_assoc has.before (has.high ∷ has.low ∷ []) has.rest)) ∙ stays
     ∙ ap (λ n. Some (refusal_at n refusal.why)) (sym has.place_is)
+
+-- no file begins with bytes and an offending word of theirs
+pub past_offence : (v : Verdict CdpPart) (front tail bytes : List ℕ) (refusal : Refusal) (has : FirstOffendingWord v bytes refusal) → front ++ tail ≡ bytes
+    → length has.before + 2 ≤ length front → Begins v front → ⊥
+past_offence v front tail bytes refusal has spelled long begins =
+    let word = has.before ++ has.high ∷ has.low ∷ [] in
+    let same : word ++ has.rest ≡ front ++ tail = append_assoc has.before (has.high ∷ has.low ∷ []) has.rest ∙ sym has.spelled ∙ sym spelled in
+    let (more, is) = front_of word front has.rest tail same (omega (arith, length-append has.before (has.high ∷ has.low ∷ []), long)) in
+    has.offends (Begins-before v word more (subst (Begins v) is begins))
+
+-- even numbers that differ by less than 2
+even_near : (m n : ℕ) → m % 2 ≡ 0 → n % 2 ≡ 0 → (m + 2 ≤ n → ⊥) → (n + 2 ≤ m → ⊥) → m ≡ n
+even_near m n one two below above = omega arith
+
+-- so bytes have one first offending word
+pub offence_is_one : (v : Verdict CdpPart) (bytes : List ℕ) (refusal other : Refusal) → FirstOffendingWord v bytes refusal → FirstOffendingWord v bytes other → refusal ≡ other
+offence_is_one v bytes refusal other has also =
+    let past : length has.before + 2 ≤ length also.before → ⊥ = λ long.
+    past_offence v also.before (also.high ∷ also.low ∷ also.rest) bytes refusal has (sym also.spelled) long also.begins in
+    let beyond : length also.before + 2 ≤ length has.before → ⊥ = λ long.
+    past_offence v has.before (has.high ∷ has.low ∷ has.rest) bytes other also (sym has.spelled) long has.begins in
+    let long : length has.before ≡ length also.before = even_near (length has.before) (length also.before) has.whole also.whole past beyond in
+    let (same, behind) = same_heads has.before also.before (has.high ∷ has.low ∷ has.rest) (also.high ∷ also.low ∷ also.rest) long (sym has.spelled ∙ also.spelled) in
+    let high : has.high ≡ also.high = cc in
+    let low : has.low ≡ also.low = cc in
+    let there = subst (λ bs. HasReason v bs also.high also.low other.why) (sym same) also.why_is in
+    let here = subst (λ n. HasReason v has.before has.high n other.why) (sym low) (subst (λ n. HasReason v has.before n also.low other.why) (sym high) there) in
+    let whys = reason_once v has.before has.high has.low refusal.why other.why has.whole has.begins has.why_is here in
+    let places = has.place_is ∙ ap (λ n. n % 2 ^ 64) long ∙ sym also.place_is in
+    ap (λ n. refusal_at n refusal.why) places ∙ ap (refusal_at other.place) whys
 
 -- bytes as whole words, and a single byte or none
 record Halves (bytes : List ℕ) : Type 0 where

@@ -15,8 +15,8 @@ use Rattle.words_files.specs.Catching.{Caught, caught_in, never, refusal_of}
 use Rattle.words_files.specs.Examples.{frame_without_captions}
 use Rattle.words_files.specs.Offences.{FirstOffendingWord, IsCutShort, IsFileUnder}
 use Rattle.words_files.proofs.CaughtLemmas.{caught_file, file_caught}
-use Rattle.words_files.proofs.EndingLemmas.{never_takes, open_is_cut_short, truncated}
-use Rattle.words_files.proofs.OffenceLemmas.{refusal-before, refused_offends}
+use Rattle.words_files.proofs.EndingLemmas.{open_is_cut_short, truncated}
+use Rattle.words_files.proofs.OffenceLemmas.{never_takes, refusal-before, refused_offends}
 
 abbrev pub IsByte : ℕ → Type 0
 IsByte byte = byte < 256

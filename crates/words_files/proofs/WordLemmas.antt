@@ -1,5 +1,5 @@
 -- Bytes as whole words: the words of unrefused bytes, and bytes that a file begins with.
-use Rattle.std.proofs.Common.{ℕ, ◌+◌, ◌*◌, ◌<◌, List, [], ◌∷◌, ◌++◌, refl, sym, subst, arith}
+use Rattle.std.proofs.Common.{◌≡◌, ℕ, ◌+◌, ◌*◌, ◌<◌, ◌≤◌, List, [], ◌∷◌, ◌++◌, length, refl, sym, subst, arith}
 use Rattle.std.proofs.lemmas.List.Elements.{All-append, All-cons, All-head, All-nil, All-tail}
 use Rattle.std.specs.List.{All}
 use Rattle.cc_base.specs.declared.why.Why.TheVariants as why
@@ -49,3 +49,11 @@ packets-ten_bits [] words are = subst (All (λ word. word < 1024)) (sym are) (Al
 packets-ten_bits (p ∷ packets) words (front, rest, spelled, is, are) =
     subst (All (λ word. word < 1024)) (sym spelled)
     (All-append (λ word. word < 1024) front rest (IsPacket-ten_bits p front is) (packets-ten_bits packets rest are))
+
+-- a list at the front of another one that is no shorter
+pub front_of : (xs ys front rest : List ℕ) → xs ++ front ≡ ys ++ rest → length xs ≤ length ys → (more : List ℕ) × (ys ≡ xs ++ more)
+front_of [] ys front rest is few = (ys, refl)
+front_of (x ∷ xs) [] front rest is few = absurd (omega (arith, few))
+front_of (x ∷ xs) (y ∷ ys) front rest is few =
+    let (more, same) = front_of xs ys front rest (cc) (omega (arith, few)) in
+    (more, cc)

@@ -7,12 +7,12 @@ use Rattle.std.specs.List.{flat_map}
 use Rattle.cc_base.specs.declared.refusal.Refusal.{Refusal}
 use Rattle.cc_base.specs.declared.why.Why.{Why}
 use Rattle.cc_base.specs.declared.why.Why.TheVariants as why
-use Rattle.cc_base.specs.Feeding.{Reading, Verdict, place_by, reading, why_of}
+use Rattle.cc_base.specs.Feeding.{Reading, Verdict, hand, place_by, reading, why_of}
 use Rattle.cc_base.specs.Steps.{front_from}
-use Rattle.cc_base.specs.Syntax.{judge_by, read_under}
+use Rattle.cc_base.specs.Syntax.{judge_by, open_behind, parts_of, read_under}
 use Rattle.anc_words.specs.declared.parts.WordPart.{WordPart}
 use Rattle.anc_words.specs.declared.parts.WordPart.TheVariants as part
-use Rattle.anc_words.specs.Reading.{anc_syntax}
+use Rattle.anc_words.specs.Reading.{anc_syntax, judge_word}
 use Rattle.cdp_packets.specs.declared.parts.CdpPart.{CdpPart}
 use Rattle.cdp_packets.specs.Reading.{cdp_syntax}
 
@@ -113,3 +113,9 @@ caught_in verdict bytes = caught_of verdict (read_under anc_syntax 2 (caption_ve
 -- the refusal of the first refused word, if one is refused
 abbrev pub refusal_of : Verdict CdpPart → List ℕ → Option Refusal
 refusal_of verdict bytes = (read_under anc_syntax 2 (caption_verdict verdict) bytes).refusal
+
+-- why a word is refused behind these bytes, if it is: its own reason, in the order high bits, flag, word parity, checksum; else that of
+-- the layer above whose field it carries
+abbrev pub reason_of : Verdict CdpPart → List ℕ → ℕ → Option Why
+reason_of verdict before word =
+    (hand (caption_verdict verdict) (parts_of anc_syntax before) (judge_word (open_behind anc_syntax before).words word)).why

@@ -1,20 +1,18 @@
 -- Where the bytes of a words file offend (SMPTE ST 291-1, ST 334-1 and ST 334-2; CTA-708-E). The layers above distribution
 -- packets are a parameter, as what they say of a part after the parts before it.
-use Rattle.std.specs.Prelude.{◌≡◌, ℕ, ◌+◌, ◌*◌, ◌%◌, ◌^◌, ◌≤◌, ◌⊎◌, List, [], ◌∷◌, ◌++◌, length, Option, Some}
+use Rattle.std.specs.Prelude.{◌≡◌, ℕ, ◌%◌, ◌^◌, ◌≤◌, ◌⊎◌, List, [], ◌∷◌, ◌++◌, length}
 use Rattle.std.specs.List.{All, flat_map}
 use Rattle.cc_base.specs.declared.refusal.Refusal.{Refusal}
-use Rattle.cc_base.specs.declared.why.Why.{Why}
 use Rattle.cc_base.specs.declared.why.Why.TheVariants as why
-use Rattle.cc_base.specs.Feeding.{Verdict, hand}
+use Rattle.cc_base.specs.Feeding.{Verdict}
 use Rattle.cc_base.specs.Steps.{AreAccepted}
 use Rattle.cc_base.specs.Syntax.{AllRead, open_behind, parts_from, parts_of}
-use Rattle.anc_words.specs.Reading.{anc_syntax, judge_word}
 use Rattle.cdp_packets.specs.declared.parts.CdpPart.{CdpPart}
 use Rattle.cdp_packets.specs.PacketParts.{packet_parts}
 use Rattle.cdp_packets.specs.Packets.{Packet as Frame}
 use Rattle.cdp_packets.specs.Reading.{IsFilling, cdp_syntax}
-use Rattle.words_files.specs.Catching.{caption_verdict}
 use Rattle.words_files.specs.Frames.{IsFileOf}
+use Rattle.words_files.specs.Reasons.{HasReason}
 
 -- the bytes are a words file of the frames, and the layers above take all that the frames say
 pub record IsFileUnder (verdict : Verdict CdpPart) (frames : List Frame) (bytes : List ℕ) : Type 0 where
@@ -31,14 +29,8 @@ pub record Begins (verdict : Verdict CdpPart) (bytes : List ℕ) : Type 0 where
 abbrev pub AreWholeWords : List ℕ → Type 0
 AreWholeWords bytes = length bytes % 2 ≡ 0
 
--- why a word is refused behind these bytes: its own reason, in the order high bits, flag, word parity, checksum; else that of
--- the layer above whose field it carries
-abbrev pub reason_of : Verdict CdpPart → List ℕ → ℕ → Option Why
-reason_of verdict before word =
-    (hand (caption_verdict verdict) (parts_of anc_syntax before) (judge_word (open_behind anc_syntax before).words word)).why
-
 -- the bytes have a first offending word: some file begins with the words before it, and none with these and the word itself;
--- its place is the number of its first byte, modulo 2^64
+-- its place is the number of its first byte, modulo 2^64, and its reason is that for which it offends behind them
 pub record FirstOffendingWord (verdict : Verdict CdpPart) (bytes : List ℕ) (refusal : Refusal) : Type 0 where
   pub before : List ℕ
   pub high : ℕ
@@ -49,7 +41,7 @@ pub record FirstOffendingWord (verdict : Verdict CdpPart) (bytes : List ℕ) (re
   pub begins : Begins verdict before
   pub offends : Begins verdict (before ++ high ∷ low ∷ []) → ⊥
   pub place_is : refusal.place ≡ length before % 2 ^ 64
-  pub why_is : reason_of verdict before (256 * high + low) ≡ Some refusal.why
+  pub why_is : HasReason verdict before high low refusal.why
 
 -- no word of the bytes offends: some file begins with their words. A single last byte is no word
 pub record IsUnoffending (verdict : Verdict CdpPart) (bytes : List ℕ) : Type 0 where

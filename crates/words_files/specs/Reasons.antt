@@ -1,15 +1,33 @@
 -- For what reason a word of a words file offends, by the words of the open packet before it and by what it is (SMPTE ST 291-1,
--- ST 334-1 and ST 334-2).
-use Rattle.std.specs.Prelude.{◌≡◌, ℕ, ◌%◌, ◌<◌, List, [], ◌∷◌, ◌++◌, length, map, None}
+-- ST 334-1 and ST 334-2); or else by what the layers above distribution packets refuse.
+use Rattle.std.specs.Prelude.{◌≡◌, ℕ, ◌+◌, ◌*◌, ◌%◌, ◌<◌, List, [], ◌∷◌, ◌++◌, length, map, Some, None}
+use Rattle.std.specs.List.{flat_map}
 use Rattle.cc_base.specs.declared.why.Why.{Why}
 use Rattle.cc_base.specs.declared.why.Why.TheVariants as why
 use Rattle.cc_base.specs.Feeding.{Verdict}
+use Rattle.cc_base.specs.Steps.{AreAccepted}
 use Rattle.anc_words.specs.EightBitWords.{IsEightBit}
+use Rattle.anc_words.specs.Packets.{IsPacket, Packet}
 use Rattle.anc_words.specs.Refusals.{WordOffends}
+use Rattle.anc_words.specs.Words.{AreWords}
+use Rattle.anc_words.specs.WordsFiles.{IsWordsFile}
 use Rattle.cdp_packets.specs.declared.parts.CdpPart.{CdpPart}
+use Rattle.cdp_packets.specs.PacketParts.{packet_parts}
 use Rattle.cdp_packets.specs.Packets.{IsCdp, Packet as Frame}
 use Rattle.cdp_packets.specs.Reading.{IsPacketLength}
 use Rattle.cdp_packets.specs.Refusals.{StandsAt}
+use Rattle.words_files.specs.Frames.{IsFileOf}
+
+-- these words are open behind the bytes: the bytes are whole packets, and behind them these words, with which no whole packet
+-- begins
+pub record AreOpenBehind (words bytes : List ℕ) : Type 0 where
+  pub packets : List Packet
+  pub file : List ℕ
+  pub behind : List ℕ
+  pub spelled : bytes ≡ file ++ behind
+  pub whole : IsWordsFile packets file
+  pub are : AreWords behind words
+  pub none_whole : (packet : Packet) (front rest : List ℕ) → words ≡ front ++ rest → IsPacket packet front → ⊥
 
 -- behind these words stands the count of a packet of captions
 abbrev pub CaptionCountIsNext : List ℕ → Type 0
@@ -35,6 +53,25 @@ pub data OffendsFor (words : List ℕ) (word : ℕ) : Why → Type 0 where
   as_length : CaptionCountIsNext words → IsEightBit (word % 256) word → (IsPacketLength (word % 256) → ⊥) → OffendsFor words word why.Length
   as_byte : (reason : Why) (size : ℕ) (bytes : List ℕ) → CaptionCarries words size bytes → IsPacketLength size → IsEightBit (word % 256) word
       → GoesNowhere size bytes (word % 256) → StandsAt size bytes reason → OffendsFor words word reason
+
+-- the layers above take the first of these parts, and refuse the next one for this reason
+pub record IsRefusedFor (verdict : Verdict CdpPart) (parts : List CdpPart) (reason : Why) : Type 0 where
+  pub taken : List CdpPart
+  pub part : CdpPart
+  pub rest : List CdpPart
+  pub spelled : parts ≡ taken ++ part ∷ rest
+  pub accepted : AreAccepted verdict [] taken
+  pub refused : verdict taken part ≡ Some reason
+
+-- behind these bytes the word of these two bytes offends for this reason: by the words of the open packet before it; or some file goes
+-- on with it, and of whatever file does, the layers above refuse a part of what the frames say for this reason, and none before it
+pub data HasReason (verdict : Verdict CdpPart) (before : List ℕ) (high low : ℕ) : Why → Type 0 where
+  by_its_packet : (reason : Why) (words : List ℕ) → AreOpenBehind words before → OffendsFor words (256 * high + low) reason
+      → HasReason verdict before high low reason
+  by_layers_above : (reason : Why) (more : List ℕ) (frames : List Frame) → IsFileOf frames (before ++ high ∷ low ∷ more)
+      → ((others : List ℕ) (said : List Frame) → IsFileOf said (before ++ high ∷ low ∷ others)
+      → IsRefusedFor verdict (flat_map packet_parts said) reason)
+      → HasReason verdict before high low reason
 
 -- a layer that refuses no part
 abbrev pub RefusesNone : Verdict CdpPart → Type 0

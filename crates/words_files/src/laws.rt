@@ -1,21 +1,21 @@
 //! Laws of the definitions: functions without a body, whose contract is the law.
 
-ghost use Rattle.std.specs.Prelude.{◌≡◌, ◌⊎◌, ◌%◌, ◌^◌, ◌<◌, ℕ, List, [], ◌++◌, All, None, Some, length, map, reverse};
+ghost use Rattle.std.specs.Prelude.{◌≡◌, ◌⊎◌, ◌+◌, ◌*◌, ◌%◌, ◌^◌, ◌<◌, ℕ, List, [], ◌∷◌, ◌++◌, All, None, Some, length, map, reverse};
 ghost use Rattle.cc_base.specs.declared.refusal.Refusal.{Refusal as Refused};
 ghost use Rattle.cc_base.specs.declared.why.Why.{Why as Reason};
 ghost use Rattle.cc_base.specs.declared.why.Why.TheVariants as why;
 ghost use Rattle.cc_base.specs.Feeding.{Verdict};
 ghost use Rattle.cc_base.specs.Steps.{AreAccepted};
-ghost use Rattle.cc_base.specs.Syntax.{open_behind};
+ghost use Rattle.cc_base.specs.Syntax.{AllRead, open_behind};
 ghost use Rattle.anc_words.specs.Reading.{anc_syntax, nothing_open};
 ghost use Rattle.cdp_packets.specs.declared.parts.CdpPart.{CdpPart as Part};
 ghost use Rattle.cdp_packets.specs.PacketParts.{packet_parts};
 ghost use Rattle.cdp_packets.specs.Packets.{Packet};
-ghost use Rattle.words_files.specs.Catching.{caught_in, never, refusal_of};
+ghost use Rattle.words_files.specs.Catching.{caught_in, never, reason_of, refusal_of};
 ghost use Rattle.words_files.specs.Frames.{IsFileOf};
 ghost use Rattle.words_files.specs.FramesOf.{AreFramesOf};
-ghost use Rattle.words_files.specs.Offences.{AreWholeWords, Begins, FirstOffendingWord, IsCutShort, IsFileUnder, IsUnoffending, TakesFilling, reason_of};
-ghost use Rattle.words_files.specs.Reasons.{OffendsFor, RefusesNone};
+ghost use Rattle.words_files.specs.Offences.{AreWholeWords, Begins, FirstOffendingWord, IsCutShort, IsFileUnder, IsUnoffending, TakesFilling};
+ghost use Rattle.words_files.specs.Reasons.{AreOpenBehind, HasReason, OffendsFor, RefusesNone};
 
 /// The bytes of a words file are a file of one list of frames alone.
 pub fn files_have_one_list_of_frames()
@@ -69,8 +69,8 @@ pub fn files_begin_with_their_first_bytes()
 pub fn first_offence_exact()
     ensures refused { (verdict : Verdict Part) → TakesFilling verdict → (bytes : List ℕ) (refused : Refused) → All (λ byte. byte < 256) bytes
         → refusal_of verdict bytes ≡ Some refused → FirstOffendingWord verdict bytes refused }
-    ensures offends { (verdict : Verdict Part) (bytes : List ℕ) (refused : Refused) → FirstOffendingWord verdict bytes refused
-        → refusal_of verdict bytes ≡ Some refused }
+    ensures offends { (verdict : Verdict Part) → TakesFilling verdict → (bytes : List ℕ) (refused : Refused)
+        → FirstOffendingWord verdict bytes refused → refusal_of verdict bytes ≡ Some refused }
     ensures unrefused { (verdict : Verdict Part) → TakesFilling verdict → (bytes : List ℕ) → All (λ byte. byte < 256) bytes
         → refusal_of verdict bytes ≡ None → IsUnoffending verdict bytes }
     ensures unoffending { (verdict : Verdict Part) (bytes : List ℕ) → IsUnoffending verdict bytes → refusal_of verdict bytes ≡ None }
@@ -115,13 +115,40 @@ pub fn no_layer_above_takes_all()
     ensures file { (frames : List Packet) (bytes : List ℕ) → IsFileOf frames bytes → IsFileUnder never frames bytes }
 {}
 
-/// Under a layer that refuses no part, a word behind bytes none of whose words is refused is refused for the reason for which it
-/// offends by the words of its packet; and there is one such reason.
+/// A word behind bytes none of whose words is refused, which offends by the words of its packet, is refused for this reason, whatever
+/// the layers above say; where these refuse no part, it is refused for no other; and there is one such reason.
 pub fn reasons_stand_at_their_words()
+    ensures given { (verdict : Verdict Part) (before : List ℕ) (word : ℕ) (reason : Reason) → refusal_of verdict before ≡ None
+        → OffendsFor (open_behind anc_syntax before).words word reason → reason_of verdict before word ≡ Some reason }
     ensures stands { (verdict : Verdict Part) → RefusesNone verdict → (before : List ℕ) (word : ℕ) (reason : Reason)
         → refusal_of verdict before ≡ None → reason_of verdict before word ≡ Some reason
         → OffendsFor (open_behind anc_syntax before).words word reason }
     ensures one { (words : List ℕ) (word : ℕ) (reason other : Reason) → OffendsFor words word reason → OffendsFor words word other
         → reason ≡ other }
     ensures never { RefusesNone never }
+{}
+
+/// The words that the reader keeps are those that are open behind whole words, and no other words are.
+pub fn the_reader_keeps_the_open_words()
+    ensures kept { (bytes : List ℕ) → All (λ byte. byte < 256) bytes → AllRead anc_syntax bytes → AreWholeWords bytes
+        → AreOpenBehind (open_behind anc_syntax bytes).words bytes }
+    ensures one { (words bytes : List ℕ) → AreOpenBehind words bytes → AllRead anc_syntax bytes
+        → (open_behind anc_syntax bytes).words ≡ words }
+{}
+
+/// Behind words with which a file begins, a word with which none goes on is refused for the reason for which it offends, by the words of
+/// its packet or for the layers above; and by the words of its packet where these refuse no part.
+pub fn words_are_refused_for_their_reasons()
+    ensures reason { (verdict : Verdict Part) (before : List ℕ) (high low : ℕ) (reason : Reason)
+        → All (λ byte. byte < 256) (before ++ high ∷ low ∷ []) → AreWholeWords before → Begins verdict before
+        → reason_of verdict before (256 * high + low) ≡ Some reason → HasReason verdict before high low reason }
+    ensures refused { (verdict : Verdict Part) → TakesFilling verdict → (before : List ℕ) (high low : ℕ) (reason : Reason)
+        → AreWholeWords before → Begins verdict before → (Begins verdict (before ++ high ∷ low ∷ []) → ⊥)
+        → HasReason verdict before high low reason → reason_of verdict before (256 * high + low) ≡ Some reason }
+    ensures one { (verdict : Verdict Part) (before : List ℕ) (high low : ℕ) (reason other : Reason) → AreWholeWords before
+        → Begins verdict before → HasReason verdict before high low reason → HasReason verdict before high low other
+        → reason ≡ other }
+    ensures packet { (verdict : Verdict Part) → RefusesNone verdict → (before : List ℕ) (high low : ℕ) (reason : Reason)
+        → HasReason verdict before high low reason
+        → (words : List ℕ) × AreOpenBehind words before × OffendsFor words (256 * high + low) reason }
 {}

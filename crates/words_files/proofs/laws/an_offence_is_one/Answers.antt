@@ -1,4 +1,5 @@
-use Rattle.words_files.proofs.EndingLemmas.{offence_is_one, offence_stays}
+use Rattle.words_files.proofs.EndingLemmas.{offence_stays}
+use Rattle.words_files.proofs.OffenceLemmas.{offence_is_one}
 use Rattle.words_files.proofs.laws.an_offence_is_one.Goals as goal
 
 pub returns-clause-one : goal.returns-clause-one

@@ -1,4 +1,4 @@
-use Rattle.words_files.proofs.EndingLemmas.{file_under_never, never_refuses, never_takes}
+use Rattle.words_files.proofs.OffenceLemmas.{file_under_never, never_refuses, never_takes}
 use Rattle.words_files.proofs.laws.no_layer_above_takes_all.Goals as goal
 
 pub returns-clause-filling : goal.returns-clause-filling

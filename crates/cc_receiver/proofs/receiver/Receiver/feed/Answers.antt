@@ -4,8 +4,7 @@ use Rattle.cc_base.specs.Syntax.{open_behind}
 use Rattle.anc_words.specs.Ending.{bytes_to_end}
 use Rattle.anc_words.specs.Reading.{anc_syntax}
 use Rattle.words_files.specs.Catching.{never, refusal_of}
-use Rattle.words_files.proofs.EndingLemmas.{never_takes}
-use Rattle.words_files.proofs.OffenceLemmas.{refused_offends, unrefused_is_unoffending}
+use Rattle.words_files.proofs.OffenceLemmas.{never_takes, refused_offends, unrefused_is_unoffending}
 use Rattle.cc_receiver.specs.declared.receiver.Ended.TheVariants as ended
 use Rattle.cc_receiver.specs.Feeds.{Feeds}
 use Rattle.cc_receiver.specs.Receiving.{EndsBy}
