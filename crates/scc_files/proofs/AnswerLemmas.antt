@@ -1,5 +1,5 @@
 -- How reading is answered.
-use Rattle.std.proofs.Common.{◌≡◌, ℕ, List, Result, Ok, Err}
+use Rattle.std.proofs.Common.{ℕ, List, Result, Ok, Err}
 use Rattle.cc_base.specs.declared.limit_of.LimitOf.TheVariants as limit
 use Rattle.line21_codes.specs.declared.pairs.Pair.{Pair}
 use Rattle.scc_files.specs.Offences.{FileAnswers}

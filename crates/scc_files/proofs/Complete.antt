@@ -1,5 +1,5 @@
 -- SCC files are read as their pairs: what a line says is taken byte by byte.
-use Rattle.std.proofs.Common.{◌≡◌, ℕ, ◌+◌, ◌-◌, ◌*◌, ◌<◌, ◌≤◌, Bool, true, false, cond, nat_lt, nat_eq, max, refl, sym, ◌∙◌, ap, subst, arith, List, [], ◌∷◌, ◌++◌, append_assoc, length, add-zero, Option, Some, None, is_some, unwrap_or, Result, Ok, Err, inl, inr, ⊎_elim}
+use Rattle.std.proofs.Common.{◌≡◌, ℕ, ◌+◌, ◌-◌, ◌*◌, ◌≤◌, Bool, true, false, cond, nat_lt, nat_eq, max, refl, sym, ◌∙◌, ap, subst, arith, List, [], ◌∷◌, ◌++◌, append_assoc, length, add-zero, Option, Some, None, is_some, unwrap_or, Result, Ok, Err, ⊎_elim}
 use Rattle.std.specs.Prelude.{slice_set}
 use Rattle.std.specs.Option.{option_and_then, option_map}
 use Rattle.std.specs.Result.{result_ok}
@@ -7,19 +7,18 @@ use Rattle.std.proofs.lemmas.Grind.{common_steps}
 use Rattle.line21_codes.specs.declared.pairs.Pair.{Pair}
 use Rattle.time_codes.proofs.TextLemmas.{ones_digit, spelled_is_read, tens_digit}
 use Rattle.time_codes.specs.Frames.{frame_number, frame_of}
-use Rattle.time_codes.specs.Texts.{HasTwoDigits, IsTimeText, mark, ones, tens, text_of, time_of_text}
+use Rattle.time_codes.specs.Texts.{HasTwoDigits, mark, ones, tens, text_of, time_of_text}
 use Rattle.time_codes.specs.TimeCodes.{is_time_code}
 use Rattle.time_codes.specs.declared.time_code.TimeCode.{TimeCode}
 use Rattle.cc_base.specs.declared.why.Why.TheVariants as why
-use Rattle.scc_files.specs.Lines.{AreBlanks, AreLines, AreSpaces, AreWords, IsForm, IsLine, IsLineEnd, IsTimedLine, IsWord, TimedLine}
-use Rattle.scc_files.specs.Phases.{ended, first_text, fits, hex_value, is_blank, is_digit, may_end, moved, why_in, word_or_end}
-use Rattle.scc_files.specs.Reading.{at_first, at_first_frame, behind, judged, line_at, pairs_on, read_file, read_from, reached, step, step_to, text_done, timed, timed_form, with_pair}
+use Rattle.scc_files.specs.Lines.{AreBlanks, AreLines, AreSpaces, AreWords, IsForm, IsLineEnd, IsTimedLine, IsWord, TimedLine}
+use Rattle.scc_files.specs.Phases.{ended, fits, hex_value, is_blank, may_end, moved, why_in, word_or_end}
+use Rattle.scc_files.specs.Reading.{at_first, at_first_frame, behind, judged, line_at, pairs_on, read_file, read_from, reached, step_to, text_done, timed, timed_form, with_pair}
 use Rattle.scc_files.specs.SccFiles.{AreTimed, IsSccFile, one_a_frame, placed_from}
 use Rattle.scc_files.specs.declared.phase.Phase.{Phase}
 use Rattle.scc_files.specs.declared.phase.Phase.TheVariants as phase
 use Rattle.scc_files.specs.declared.reader.Offence.{Offence}
 use Rattle.scc_files.specs.declared.reader.Position.{Position}
-use Rattle.scc_files.specs.declared.reader.Reader.{Reader}
 
 -- at any place, the bytes are read as these pairs
 pub record Reads (judging : Bool) (to : Phase) (p : Position) (bytes : List ℕ) (out : List (ℕ × Pair)) : Type 0 where

@@ -1,9 +1,9 @@
 -- The first offence of bytes: nothing before it offends, and no file goes on with it.
-use Rattle.std.proofs.Common.{◌≡◌, ℕ, zero, suc, ◌+◌, ◌-◌, ◌*◌, ◌<◌, ◌≤◌, ◌⊎◌, Bool, true, false, cond, nat_eq, nat_lt, refl, sym, ◌∙◌, ap, subst, arith, lit<, List, [], ◌∷◌, ◌++◌, append_assoc, append-nil, length, take, drop, drop-cons, add-one, get_or, Option, Some, None, Result, Ok, Err, inl, inr, ⊎_elim}
-use Rattle.std.specs.Prelude.{codes, slice_index, slice_set, ⊤}
+use Rattle.std.proofs.Common.{◌≡◌, ℕ, zero, suc, ◌+◌, ◌-◌, ◌*◌, ◌<◌, ◌⊎◌, Bool, true, false, cond, nat_eq, nat_lt, refl, sym, ◌∙◌, ap, subst, arith, lit<, List, [], ◌∷◌, ◌++◌, append_assoc, append-nil, length, take, drop, drop-cons, add-one, get_or, Option, Some, None, Result, Ok, Err, inl, inr, ⊎_elim}
+use Rattle.std.specs.Prelude.{codes, slice_set, ⊤}
 use Rattle.std.specs.Option.{option_and_then}
 use Rattle.std.specs.Result.{result_ok}
-use Rattle.std.proofs.lemmas.Bool.{eq-eqb, eqb-true}
+use Rattle.std.proofs.lemmas.Bool.{eq-eqb}
 use Rattle.std.proofs.lemmas.Grind.{common_steps}
 use Rattle.std.proofs.lemmas.List.{length-set, length-take-le}
 use Rattle.std.proofs.Math.Seq.{take-length}
@@ -14,22 +14,22 @@ use Rattle.cc_base.specs.declared.why.Why.TheVariants as why
 use Rattle.line21_codes.specs.declared.pairs.Pair.{Pair}
 use Rattle.time_codes.proofs.TextLemmas.{read_is_spelled}
 use Rattle.time_codes.specs.Frames.{frame_of}
-use Rattle.time_codes.specs.Texts.{IsTimeText, is_digit as is_time_digit, number_of, time_of_text}
+use Rattle.time_codes.specs.Texts.{number_of, time_of_text}
 use Rattle.time_codes.specs.declared.time_code.TimeCode.{TimeCode}
 use Rattle.scc_files.specs.Lines.{IsForm, IsTimedLine, TimedLine}
-use Rattle.scc_files.specs.Offences.{BeginsFile, BeginsForm, ByteOffends, EndsEarly, EndsLine, IsFirstOffence, IsUnoffending, TimeOffends, line_why, time_why, time_why_by}
-use Rattle.scc_files.specs.Phases.{first_text, fits, hex_value, is_digit, may_end, moved, why_in}
-use Rattle.scc_files.specs.Reading.{Stepped, at_first, at_first_frame, behind, judged, line_at, pairs_on, read_file, read_from, reached, step, step_to, text_done, timed}
-use Rattle.scc_files.specs.SccFiles.{IsSccFile, one_a_frame}
+use Rattle.scc_files.specs.Offences.{BeginsFile, BeginsForm, EndsEarly, IsFirstOffence, IsUnoffending, TimeOffends, line_why, time_why, time_why_by}
+use Rattle.scc_files.specs.Phases.{first_text, fits, may_end, moved, why_in}
+use Rattle.scc_files.specs.Reading.{Stepped, at_first, at_first_frame, behind, judged, line_at, read_file, read_from, reached, step, step_to, text_done, timed}
+use Rattle.scc_files.specs.SccFiles.{one_a_frame}
 use Rattle.scc_files.specs.declared.phase.Phase.{Phase}
 use Rattle.scc_files.specs.declared.phase.Phase.TheVariants as phase
 use Rattle.scc_files.specs.declared.reader.Offence.{Offence}
 use Rattle.scc_files.specs.declared.reader.Position.{Position}
 use Rattle.scc_files.specs.declared.reader.Reader.{Reader}
-use Rattle.scc_files.proofs.Complete.{Placed, Reads, after_pairs, file_read, form_read, judged_is, judged_time, lines_read, one, timed_read}
-use Rattle.scc_files.proofs.Origins.{AllFit, FirstByte, FirstMore, Origin, Target, TextOrigin, TextWhole, all_fit_more, origins, target}
-use Rattle.scc_files.proofs.Replay.{form_step, ReadsAll, RefusesAll, Split, Stops, moved_step, none_reader, reach, reader_of, replay, replay_refused, same_phase, some_reader, split}
-use Rattle.scc_files.proofs.Sound.{Pairs, err_ok, failed, form_sound, front_more, ok_is}
+use Rattle.scc_files.proofs.Complete.{Placed, Reads, after_pairs, file_read, form_read, judged_is, lines_read, one, timed_read}
+use Rattle.scc_files.proofs.Origins.{AllFit, Origin, Target, TextOrigin, TextWhole, all_fit_more, origins, target}
+use Rattle.scc_files.proofs.Replay.{form_step, ReadsAll, Stops, moved_step, none_reader, reach, reader_of, replay, replay_refused, same_phase, some_reader, split}
+use Rattle.scc_files.proofs.Sound.{Pairs, err_ok, form_sound, front_more}
 use Rattle.scc_files.proofs.Stays.{err_is}
 use Rattle.scc_files.proofs.Timed.{file_sound}
 

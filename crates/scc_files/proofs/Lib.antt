@@ -8,4 +8,7 @@ pub mod Replay
 pub mod Origins
 pub mod First
 pub mod AnswerLemmas
+pub mod Unique
+pub mod Rising
 pub mod RoundTrip
+pub mod StretchLemmas

@@ -1,23 +1,21 @@
 -- How a phase was reached: what the bytes before it are, and the reason where no line goes on behind them.
-use Rattle.std.proofs.Common.{◌≡◌, ℕ, suc, ◌+◌, ◌-◌, ◌*◌, ◌<◌, ◌≤◌, ◌⊎◌, Bool, true, false, cond, nat_eq, refl, sym, ◌∙◌, ap, subst, arith, lit<, List, [], ◌∷◌, ◌++◌, append_assoc, append-nil, length, take, get_or, Option, Some, None, Result, Ok, Err, inl, inr, ⊎_elim}
+use Rattle.std.proofs.Common.{◌≡◌, ℕ, ◌+◌, ◌*◌, ◌<◌, ◌⊎◌, Bool, true, false, cond, nat_eq, refl, sym, ◌∙◌, ap, subst, arith, lit<, List, [], ◌∷◌, ◌++◌, append_assoc, append-nil, length, take, Option, Some, None, Result, Ok, Err, inl, inr, ⊎_elim}
 use Rattle.std.specs.Prelude.{slice_index, slice_set, ⊤}
 use Rattle.std.specs.Option.{option_and_then, option_map}
 use Rattle.std.proofs.lemmas.Bool.{eqb-true}
 use Rattle.std.proofs.lemmas.Grind.{common_steps}
 use Rattle.std.proofs.lemmas.List.{length-set, length-take-le}
-use Rattle.cc_base.specs.declared.why.Why.{Why}
 use Rattle.cc_base.specs.declared.why.Why.TheVariants as why
-use Rattle.line21_codes.specs.declared.pairs.Pair.{Pair}
-use Rattle.scc_files.specs.Offences.{EndsLine, line_why}
+use Rattle.scc_files.specs.Offences.{EndsLine}
 use Rattle.scc_files.specs.Phases.{ended, first_text, fits, hex_value, is_blank, is_digit, moved, why_in, word_or_end}
-use Rattle.scc_files.specs.Reading.{Stepped, at_first, judged, reached, step, text_done}
+use Rattle.scc_files.specs.Reading.{Stepped, at_first, judged, reached, step}
 use Rattle.scc_files.specs.declared.phase.Phase.{Phase}
 use Rattle.scc_files.specs.declared.phase.Phase.TheVariants as phase
 use Rattle.scc_files.specs.declared.reader.Offence.{Offence}
 use Rattle.scc_files.specs.declared.reader.Position.{Position}
 use Rattle.scc_files.specs.declared.reader.Reader.{Reader}
 use Rattle.scc_files.proofs.Replay.{moved_step, none_reader, reach, reader_of, some_reader, text_step}
-use Rattle.scc_files.proofs.Sound.{chose, err_ok, front_more, mapped, none_some, ok_is, some_is}
+use Rattle.scc_files.proofs.Sound.{chose, front_more, mapped, none_some, ok_is, some_is}
 
 -- all bytes fit a time code's text, from a place on
 abbrev pub AllFit : ℕ → List ℕ → Type 0

@@ -1,10 +1,10 @@
 -- Bytes that are taken, and what is read behind them.
-use Rattle.std.proofs.Common.{◌≡◌, ℕ, suc, ◌+◌, ◌-◌, ◌<◌, Bool, true, false, cond, nat_eq, refl, sym, ◌∙◌, ap, subst, arith, add-zero, List, [], ◌∷◌, ◌++◌, append_assoc, append-nil, length, Option, Some, None, Result, Ok, Err}
+use Rattle.std.proofs.Common.{◌≡◌, ℕ, ◌+◌, ◌-◌, Bool, true, false, cond, refl, sym, ◌∙◌, ap, subst, arith, add-zero, List, [], ◌∷◌, ◌++◌, length, Option, Some, None, Result, Ok, Err}
 use Rattle.std.specs.Option.{option_and_then}
 use Rattle.cc_base.specs.declared.refusal.Refusal.{Refusal}
 use Rattle.line21_codes.specs.declared.pairs.Pair.{Pair}
 use Rattle.scc_files.specs.Phases.{may_end, moved, why_in}
-use Rattle.scc_files.specs.Reading.{Stepped, at_first, behind, judged, pairs_on, read_from, reached, step, step_to, text_done, with_pair}
+use Rattle.scc_files.specs.Reading.{Stepped, behind, judged, pairs_on, read_from, reached, step, step_to, text_done, with_pair}
 use Rattle.scc_files.specs.declared.phase.Phase.{Phase}
 use Rattle.scc_files.specs.declared.phase.Phase.TheVariants as phase
 use Rattle.scc_files.specs.declared.reader.Offence.{Offence}
@@ -12,7 +12,7 @@ use Rattle.scc_files.specs.declared.reader.Position.{Position}
 use Rattle.scc_files.specs.declared.reader.Reader.{Reader}
 use Rattle.scc_files.proofs.Complete.{judged_is}
 use Rattle.scc_files.proofs.Sound.{Pairs, err_ok, judged_text, ok_is}
-use Rattle.scc_files.proofs.Stays.{at_end, err_is, refused_ahead, refused_behind}
+use Rattle.scc_files.proofs.Stays.{err_is, refused_ahead, refused_behind}
 
 -- the reader behind bytes, where none of them offends
 abbrev pub reader_of : Result Stepped Offence → Option Reader

@@ -1,5 +1,5 @@
 -- What is read is an SCC file: the bytes that are taken from a phase on are what may follow there.
-use Rattle.std.proofs.Common.{◌≡◌, ℕ, suc, ◌+◌, ◌-◌, ◌*◌, ◌<◌, ◌≤◌, ◌⊎◌, Bool, true, false, cond, nat_lt, nat_eq, max, refl, sym, ◌∙◌, ap, subst, arith, List, [], ◌∷◌, ◌++◌, append_assoc, append-nil, length, take, drop, drop-cons, add-one, Option, Some, None, is_some, unwrap_or, Result, Ok, Err, inl, inr, ⊎_elim}
+use Rattle.std.proofs.Common.{◌≡◌, ℕ, ◌+◌, ◌*◌, ◌<◌, ◌⊎◌, Bool, true, false, cond, nat_eq, refl, sym, ◌∙◌, ap, subst, arith, List, [], ◌∷◌, ◌++◌, append_assoc, length, take, drop, drop-cons, add-one, Option, Some, None, is_some, Result, Ok, Err, inl, inr, ⊎_elim}
 use Rattle.std.specs.Prelude.{slice_index, slice_set}
 use Rattle.std.specs.Option.{option_and_then, option_map}
 use Rattle.std.specs.Result.{result_ok}
@@ -12,11 +12,11 @@ use Rattle.cc_base.specs.declared.refusal.Refusal.{Refusal}
 use Rattle.line21_codes.specs.declared.pairs.Pair.{Pair}
 use Rattle.time_codes.proofs.TextLemmas.{read_is_spelled}
 use Rattle.time_codes.specs.Frames.{frame_of}
-use Rattle.time_codes.specs.Texts.{IsTimeText, text_of, time_of_text}
+use Rattle.time_codes.specs.Texts.{IsTimeText, time_of_text}
 use Rattle.time_codes.specs.declared.time_code.TimeCode.{TimeCode}
-use Rattle.scc_files.specs.Lines.{AreBlanks, AreLines, AreSpaces, AreWords, IsForm, IsLine, IsLineEnd, IsTimedLine, IsWord, TimedLine}
-use Rattle.scc_files.specs.Phases.{ended, first_text, fits, hex_value, is_blank, is_digit, may_end, moved, started, text_moved, why_in, word_or_end}
-use Rattle.scc_files.specs.Reading.{Stepped, at_first, at_first_frame, behind, judged, pairs_on, read_from, reached, step_to, text_done, timed, timed_form, with_pair}
+use Rattle.scc_files.specs.Lines.{AreBlanks, AreLines, AreSpaces, AreWords, IsForm, IsLine, IsWord, TimedLine}
+use Rattle.scc_files.specs.Phases.{ended, first_text, fits, hex_value, is_blank, is_digit, moved, word_or_end}
+use Rattle.scc_files.specs.Reading.{at_first, at_first_frame, behind, judged, pairs_on, read_from, reached, step_to, text_done, timed, timed_form, with_pair}
 use Rattle.scc_files.specs.SccFiles.{one_a_frame}
 use Rattle.scc_files.specs.declared.phase.Phase.{Phase}
 use Rattle.scc_files.specs.declared.phase.Phase.TheVariants as phase

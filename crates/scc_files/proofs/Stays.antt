@@ -1,5 +1,5 @@
 -- A refusal of a byte stays, whatever follows.
-use Rattle.std.proofs.Common.{◌≡◌, ℕ, suc, ◌+◌, ◌<◌, Bool, true, false, cond, refl, sym, ◌∙◌, ap, arith, List, [], ◌∷◌, ◌++◌, length, Option, Some, None, Result, Ok, Err}
+use Rattle.std.proofs.Common.{◌≡◌, ℕ, ◌+◌, ◌<◌, Bool, true, false, cond, refl, sym, ◌∙◌, ap, arith, List, [], ◌∷◌, ◌++◌, length, Option, Some, None, Result, Ok, Err}
 use Rattle.cc_base.specs.declared.refusal.Refusal.{Refusal}
 use Rattle.line21_codes.specs.declared.pairs.Pair.{Pair}
 use Rattle.scc_files.specs.Phases.{may_end, why_in}

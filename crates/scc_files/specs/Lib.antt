@@ -7,3 +7,4 @@ pub mod Written
 pub mod Lines
 pub mod SccFiles
 pub mod Offences
+pub mod Stretches

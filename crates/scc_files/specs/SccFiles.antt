@@ -1,5 +1,5 @@
 -- Which bytes are an SCC file of which pairs at which frames.
-use Rattle.std.specs.Prelude.{◌≡◌, ℕ, ◌+◌, ◌-◌, ◌≤◌, max, List, [], ◌∷◌, ◌++◌, length, Option, Some, None, unwrap_or, Ok, ⊤}
+use Rattle.std.specs.Prelude.{◌≡◌, ℕ, ◌+◌, ◌-◌, ◌<◌, ◌≤◌, max, List, [], ◌∷◌, ◌++◌, length, Option, Some, None, unwrap_or, Ok, ⊤}
 use Rattle.line21_codes.specs.declared.pairs.Pair.{Pair}
 use Rattle.time_codes.specs.Frames.{frame_number, frame_of}
 use Rattle.scc_files.specs.Lines.{IsForm, TimedLine}
@@ -31,3 +31,13 @@ pub record IsSccFile (pairs : List (ℕ × Pair)) (bytes : List ℕ) : Type 0 wh
   pub form : IsForm lines bytes
   pub timed : AreTimed 0 lines
   pub placed : pairs ≡ placed_from None 0 lines
+
+-- pairs at frames that rise strictly, none before this one
+abbrev pub AreRising : ℕ → List (ℕ × Pair) → Type 0
+AreRising low [] = ⊤
+AreRising low (placed ∷ pairs) = (low ≤ placed.0) × AreRising (placed.0 + 1) pairs
+
+-- pairs of two bytes each
+abbrev pub AreBytes : List (ℕ × Pair) → Type 0
+AreBytes [] = ⊤
+AreBytes (placed ∷ pairs) = (placed.1.a < 256) × (placed.1.b < 256) × AreBytes pairs
