@@ -1,18 +1,16 @@
 -- The first offence of bytes is one.
-use Rattle.std.proofs.Common.{◌≡◌, ℕ, suc, ◌+◌, ◌-◌, ◌<◌, ◌≤◌, ◌⊎◌, Bool, true, false, cond, nat_eq, refl, sym, ◌∙◌, ap, subst, arith, List, [], ◌∷◌, ◌++◌, append_assoc, append-nil, length, length-append, get_or, Option, Some, None, Result, Ok, Err, inl, inr, ⊎_elim}
-use Rattle.std.specs.Prelude.{⊤}
+use Rattle.std.proofs.Common.{◌≡◌, ℕ, ◌+◌, ◌<◌, ◌≤◌, ◌⊎◌, Bool, true, false, cond, nat_eq, refl, sym, ◌∙◌, ap, subst, arith, List, [], ◌∷◌, ◌++◌, append_assoc, append-nil, length, length-append, get_or, Option, Some, None, Result, Ok, Err, inl, inr, ⊎_elim}
 use Rattle.std.specs.Option.{option_and_then}
 use Rattle.std.proofs.lemmas.Bool.{cases_lt}
 use Rattle.std.proofs.lemmas.Grind.{common_steps}
 use Rattle.cc_base.specs.declared.refusal.Refusal.{Refusal}
-use Rattle.cc_base.specs.declared.why.Why.{Why}
 use Rattle.line21_codes.specs.declared.pairs.Pair.{Pair}
 use Rattle.time_codes.proofs.TextLemmas.{spelled_is_read}
 use Rattle.time_codes.specs.Texts.{IsTimeText, mark, text_of, time_of_text}
 use Rattle.time_codes.specs.declared.time_code.TimeCode.{TimeCode}
 use Rattle.scc_files.specs.Lines.{IsForm, IsTimedLine, TimedLine}
 use Rattle.scc_files.specs.Offences.{BeginsFile, BeginsForm, ByteOffends, EndsEarly, EndsLine, IsFirstOffence, IsUnoffending, TimeOffends, line_why, time_why}
-use Rattle.scc_files.specs.Phases.{first_text, fits, moved}
+use Rattle.scc_files.specs.Phases.{first_text, moved}
 use Rattle.scc_files.specs.Reading.{Stepped, at_first, at_first_frame, behind, read_from, step}
 use Rattle.scc_files.specs.SccFiles.{IsSccFile, one_a_frame}
 use Rattle.scc_files.specs.declared.phase.Phase.{Phase}
