@@ -1,0 +1,4 @@
+pub mod TakenLemmas
+pub mod PendingLemmas
+pub mod FillingLemmas
+pub mod WholeFileLemmas

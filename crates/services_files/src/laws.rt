@@ -1,0 +1,69 @@
+//! Laws of the definitions: functions without a body, whose contract is the law.
+
+ghost use Rattle.std.specs.Prelude.{◌≡◌, ◌↔◌, ℕ, ◌%◌, ◌^◌, ◌<◌, List, [], ◌++◌, All, None, Some, length, map, reverse};
+ghost use Rattle.std.specs.List.{flat_map};
+ghost use Rattle.cc_base.specs.declared.refusal.Refusal.{Refusal as Refused};
+ghost use Rattle.cc_base.specs.declared.why.Why.{Why as Reason};
+ghost use Rattle.cc_base.specs.declared.why.Why.TheVariants as why;
+ghost use Rattle.cc_base.specs.Steps.{AreAccepted};
+ghost use Rattle.cc_base.specs.Syntax.{open_behind};
+ghost use Rattle.anc_words.specs.Reading.{anc_syntax, nothing_open};
+ghost use Rattle.cdp_packets.specs.declared.parts.CdpPart.{CdpPart as Part};
+ghost use Rattle.cdp_packets.specs.PacketParts.{packet_parts};
+ghost use Rattle.cdp_packets.specs.Packets.{Packet as Frame};
+ghost use Rattle.service_blocks.specs.Channels.{IsHeard, IsHeardBehind};
+ghost use Rattle.words_files.specs.Catching.{caught_in, refusal_of};
+ghost use Rattle.words_files.specs.Offences.{Begins, FirstOffendingWord, IsCutShort, IsFileUnder, IsUnoffending, TakesFilling};
+ghost use Rattle.services_files.specs.Services.{services_say, tried_at, whole_triplets};
+ghost use Rattle.services_files.specs.WholeFiles.{BeginsWhole, IsWhole, file_triplets};
+
+/// The services take a part exactly where the triplet that it tries is heard behind the whole triplets before it. Parts that are
+/// all taken have whole triplets that are heard, and those of frames' parts are the frames' triplets.
+pub fn triplets_are_tried_and_taken()
+    ensures taken { (before : List Part) (next : Part)
+        → (services_say before next ≡ None) ↔ IsHeardBehind (whole_triplets before) (tried_at next) }
+    ensures heard { (parts : List Part) → AreAccepted services_say [] parts → IsHeard (whole_triplets parts) }
+    ensures frames { (frames : List Frame) → whole_triplets (flat_map packet_parts frames) ≡ file_triplets frames }
+{}
+
+/// The services take what only fills the open packet, wherever they took what came before. So a file that was begun can be
+/// completed under them, whatever it lacks.
+pub fn filling_is_taken()
+    ensures { TakesFilling services_say }
+{}
+
+/// Files under the services are exactly the words files whose frames carry a caption channel: no part of a packet, no half of a
+/// triplet and no reader stands in this.
+pub fn files_carry_channels()
+    ensures whole { (frames : List Frame) (bytes : List ℕ) → IsFileUnder services_say frames bytes → IsWhole frames bytes }
+    ensures file { (frames : List Frame) (bytes : List ℕ) → IsWhole frames bytes → IsFileUnder services_say frames bytes }
+    ensures begins { (bytes : List ℕ) → Begins services_say bytes ↔ BeginsWhole bytes }
+{}
+
+/// Over all layers, bytes are refused exactly where they have an offending word, at the place of the first and for its reason, and
+/// they aren't refused exactly where no word of them offends. Of bytes that aren't refused, those behind which something is open
+/// are cut short.
+pub fn first_offence_over_all_layers()
+    ensures refused { (bytes : List ℕ) (refused : Refused) → All (λ byte. byte < 256) bytes
+        → refusal_of services_say bytes ≡ Some refused → FirstOffendingWord services_say bytes refused }
+    ensures offends { (bytes : List ℕ) (refused : Refused) → FirstOffendingWord services_say bytes refused
+        → refusal_of services_say bytes ≡ Some refused }
+    ensures unrefused { (bytes : List ℕ) → All (λ byte. byte < 256) bytes
+        → refusal_of services_say bytes ≡ None → IsUnoffending services_say bytes }
+    ensures unoffending { (bytes : List ℕ) → IsUnoffending services_say bytes → refusal_of services_say bytes ≡ None }
+    ensures cut_short { (bytes : List ℕ) → All (λ byte. byte < 256) bytes
+        → refusal_of services_say bytes ≡ None → (open_behind anc_syntax bytes ≡ nothing_open → ⊥)
+        → IsCutShort services_say bytes (record { place = length bytes % 2 ^ 64; why = why.Truncated }) }
+{}
+
+/// A whole file is caught to its end: the parts of its frames, nothing that is open, and no refusal. And bytes that aren't refused
+/// and leave nothing open are a whole file.
+pub fn whole_files_are_caught()
+    ensures caught { (frames : List Frame) (bytes : List ℕ) → IsWhole frames bytes
+        → caught_in services_say bytes ≡ record { open_caption = None; frames = reverse (map packet_parts frames); refused = None } }
+    ensures unrefused { (frames : List Frame) (bytes : List ℕ) → IsWhole frames bytes
+        → (refusal_of services_say bytes ≡ None) × (open_behind anc_syntax bytes ≡ nothing_open) }
+    ensures file { (bytes : List ℕ) → All (λ byte. byte < 256) bytes
+        → refusal_of services_say bytes ≡ None → open_behind anc_syntax bytes ≡ nothing_open
+        → (frames : List Frame) × IsWhole frames bytes }
+{}
