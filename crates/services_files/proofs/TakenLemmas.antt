@@ -1,5 +1,6 @@
 -- What the services say of parts, in terms of what is heard of their triplets.
 use Rattle.std.proofs.Common.{◌≡◌, List, [], ◌∷◌, ◌++◌, Option, Some, None, refl, ap, sym, subst, ◌∙◌, append_assoc, append-nil}
+use Rattle.std.proofs.lemmas.Grind.{flat_map-append}
 use Rattle.cc_base.specs.declared.step.Step.{Step}
 use Rattle.cc_base.specs.declared.step.Step.TheVariants.{Nothing, One, Two, Refuse}
 use Rattle.cc_base.specs.declared.why.Why.{Why}
@@ -56,9 +57,7 @@ heard-none before triplets is =
 
 -- the whole triplets of parts and more
 pub whole_triplets-append : (parts more : List CdpPart) → whole_triplets (parts ++ more) ≡ whole_triplets parts ++ whole_triplets more
-whole_triplets-append [] more = refl
-whole_triplets-append (p ∷ parts) more =
-    ap (λ ts. whole_triplet p ++ ts) (whole_triplets-append parts more) ∙ sym (append_assoc (whole_triplet p) (whole_triplets parts) (whole_triplets more))
+whole_triplets-append parts more = flat_map-append whole_triplet parts more
 
 one_more : (parts : List CdpPart) (p : CdpPart) → whole_triplets (parts ++ p ∷ []) ≡ whole_triplets parts ++ whole_triplet p
 one_more parts p = whole_triplets-append parts (p ∷ []) ∙ ap (λ ts. whole_triplets parts ++ ts) (append-nil (whole_triplet p))

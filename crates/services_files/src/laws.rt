@@ -1,6 +1,6 @@
 //! Laws of the definitions: functions without a body, whose contract is the law.
 
-ghost use Rattle.std.specs.Prelude.{◌≡◌, ◌↔◌, ℕ, ◌%◌, ◌^◌, ◌<◌, List, [], ◌++◌, All, None, Some, length, map, reverse};
+ghost use Rattle.std.specs.Prelude.{◌≡◌, ◌↔◌, ℕ, ◌%◌, ◌^◌, ◌<◌, List, [], ◌∷◌, ◌++◌, All, None, Some, length, map, reverse};
 ghost use Rattle.std.specs.List.{flat_map};
 ghost use Rattle.cc_base.specs.declared.refusal.Refusal.{Refusal as Refused};
 ghost use Rattle.cc_base.specs.declared.why.Why.{Why as Reason};
@@ -11,9 +11,13 @@ ghost use Rattle.anc_words.specs.Reading.{anc_syntax, nothing_open};
 ghost use Rattle.cdp_packets.specs.declared.parts.CdpPart.{CdpPart as Part};
 ghost use Rattle.cdp_packets.specs.PacketParts.{packet_parts};
 ghost use Rattle.cdp_packets.specs.Packets.{Packet as Frame};
-ghost use Rattle.service_blocks.specs.Channels.{IsHeard, IsHeardBehind};
+ghost use Rattle.cc_data.specs.declared.triplet.Triplet.{Triplet};
+ghost use Rattle.channel_packets.specs.ChannelPackets.{ChannelPacket};
+ghost use Rattle.service_blocks.specs.Channels.{AreChannel, IsHeard, IsHeardBehind, heard_behind, said};
+ghost use Rattle.service_blocks.specs.ServiceBlocks.{Block};
 ghost use Rattle.words_files.specs.Catching.{caught_in, refusal_of};
 ghost use Rattle.words_files.specs.Offences.{Begins, FirstOffendingWord, IsCutShort, IsFileUnder, IsUnoffending, TakesFilling};
+ghost use Rattle.services_files.specs.Events.{events_of, frame_events, rates_of, service_events, untimed};
 ghost use Rattle.services_files.specs.Services.{services_say, tried_at, whole_triplets};
 ghost use Rattle.services_files.specs.WholeFiles.{BeginsWhole, IsWhole, file_triplets};
 
@@ -66,4 +70,22 @@ pub fn whole_files_are_caught()
     ensures file { (bytes : List ℕ) → All (λ byte. byte < 256) bytes
         → refusal_of services_say bytes ≡ None → open_behind anc_syntax bytes ≡ nothing_open
         → (frames : List Frame) × IsWhole frames bytes }
+{}
+
+/// One more frame adds its events behind those of the frames before it.
+pub fn events_come_frame_by_frame()
+    ensures { (service : ℕ) (frames : List Frame) (frame : Frame) → service_events service (frames ++ frame ∷ [])
+        ≡ service_events service frames ++ frame_events service (file_triplets frames) frame }
+{}
+
+/// The events of a service have one tick for each frame, at the frame's rate. Beside the ticks, nothing but what the blocks of the
+/// file's channel packets say to the service is in them, once and in order.
+pub fn events_are_what_packets_say()
+    ensures ticks { (service : ℕ) (frames : List Frame) → rates_of (service_events service frames) ≡ map (λ frame. frame.rate) frames }
+    ensures said_packets { (service : ℕ) (frames : List Frame) (packets : List ChannelPacket) (blocks : List (List Block))
+        → AreChannel packets blocks (file_triplets frames)
+        → untimed (service_events service frames) ≡ events_of service (said None packets blocks) }
+    ensures frame { (before triplets : List Triplet) (packets others : List ChannelPacket) (blocks more : List (List Block))
+        → AreChannel packets blocks before → AreChannel others more (before ++ triplets)
+        → said None others more ≡ said None packets blocks ++ heard_behind before triplets }
 {}
