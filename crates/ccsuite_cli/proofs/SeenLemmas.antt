@@ -1,10 +1,11 @@
 -- A receiver that is fed the words that were built shows what was authored.
-use Rattle.std.proofs.Common.{◌≡◌, ◌∙◌, ◌++◌, ◌+◌, add-one, ap, arith, length, length-append, refl, subst, suc, sym, take, zero, ℕ, List}
+use Rattle.std.proofs.Common.{◌≡◌, ◌∙◌, ◌++◌, ◌+◌, add-one, ap, arith, length, length-append, refl, subst, suc, sym, take, zero, ℕ, List, false, true}
 use Rattle.std.proofs.lemmas.List.{take-append-le, take_all}
 use Rattle.cc_base.specs.declared.rate.Rate.{Rate}
 use Rattle.cdp_packets.specs.Packets.{Packet as Frame}
 use Rattle.frame_carrier.specs.Carrying.{column_packets}
 use Rattle.frame_scheduler.specs.Columns.{Columns}
+use Rattle.frame_scheduler.specs.Planned.{columns_of}
 use Rattle.line21_codes.specs.declared.channels.Chan.TheVariants.{Cc1, Cc2, Cc3, Cc4}
 use Rattle.words_files.specs.Catching.{never}
 use Rattle.words_files.specs.FramesOf.{AreFramesOf}
@@ -40,15 +41,16 @@ built_seen bytes list placed words rest receiver frame accepted output had count
     let count : frame + 1 ≡ length frames = sym counted ∙ frames_count frames words receiver had gotten.are in
     let front : take (suc frame) packets ≡ frames = front_is packets frames behind (suc frame) grown (sym (add-one frame) ∙ count) in
     let size : length packets ≡ length frames + length behind = ap length grown ∙ length-append frames behind in
-    let all : length packets ≡ list.frames = packets_count list.rate _ 0 list.frames in
-    let shows = sound.shown frame (omega arith) in
+    let all : length packets ≡ list.frames = packets_count list.rate (columns_of list placed) 0 list.frames in
+    let one = sound.shown frame (omega arith) false in
+    let two = sound.shown frame (omega arith) true in
     let cc1 = shown_received frames words receiver Cc1 had gotten.are ∙ ap (λ (f : List Frame). received_grids f Cc1) (sym front) in
     let cc2 = shown_received frames words receiver Cc2 had gotten.are ∙ ap (λ (f : List Frame). received_grids f Cc2) (sym front) in
     let cc3 = shown_received frames words receiver Cc3 had gotten.are ∙ ap (λ (f : List Frame). received_grids f Cc3) (sym front) in
     let cc4 = shown_received frames words receiver Cc4 had gotten.are ∙ ap (λ (f : List Frame). received_grids f Cc4) (sym front) in
     record {
-      cc1 = λ settled. cc1 ∙ shows.one.first settled;
-      cc2 = cc2 ∙ shows.one.second;
-      cc3 = λ settled. cc3 ∙ shows.two.first settled;
-      cc4 = cc4 ∙ shows.two.second;
+      cc1 = λ settled. cc1 ∙ one.first settled;
+      cc2 = cc2 ∙ one.second;
+      cc3 = λ settled. cc3 ∙ two.first settled;
+      cc4 = cc4 ∙ two.second;
     }

@@ -8,7 +8,7 @@ use Rattle.line21_screen.specs.Meaning.{after}
 use Rattle.cc_base.specs.declared.streams.Put.{Put}
 use Rattle.line21_codes.specs.declared.channels.Chan.TheVariants.{Cc1, Cc3}
 use Rattle.cue_lists.specs.Listing.{IsFormed, Listing}
-use Rattle.cue_lists.specs.declared.rules.lane.Lane.TheVariants.{Channel}
+use Rattle.cue_lists.specs.declared.lane.Lane.TheVariants.{Channel}
 use Rattle.frame_scheduler.specs.Columns.{Columns}
 use Rattle.frame_scheduler.specs.Frames.{GivesFrom, frames_left}
 use Rattle.frame_scheduler.specs.Planned.{Placement, authored_channel, columns_of}

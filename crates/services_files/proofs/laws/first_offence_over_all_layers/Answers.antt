@@ -8,7 +8,7 @@ pub returns-clause-refused : goal.returns-clause-refused
 returns-clause-refused c = refused_offends services_say takes_filling
 
 pub returns-clause-offends : goal.returns-clause-offends
-returns-clause-offends c = offence_refused services_say
+returns-clause-offends c = offence_refused services_say takes_filling
 
 pub returns-clause-unrefused : goal.returns-clause-unrefused
 returns-clause-unrefused c = unrefused_is_unoffending services_say takes_filling
