@@ -3,3 +3,7 @@ pub mod PendingLemmas
 pub mod FillingLemmas
 pub mod WholeFileLemmas
 pub mod EventLemmas
+pub mod WholeBlockLemmas
+pub mod FrontLemmas
+pub mod OverrunLemmas
+pub mod ExampleLemmas

@@ -1,3 +1,5 @@
 pub mod Services
 pub mod WholeFiles
 pub mod Events
+pub mod Overruns
+pub mod Examples

@@ -9,15 +9,18 @@ ghost use Rattle.cc_base.specs.Steps.{AreAccepted};
 ghost use Rattle.cc_base.specs.Syntax.{open_behind};
 ghost use Rattle.anc_words.specs.Reading.{anc_syntax, nothing_open};
 ghost use Rattle.cdp_packets.specs.declared.parts.CdpPart.{CdpPart as Part};
+ghost use Rattle.cdp_packets.specs.declared.parts.CdpPart.TheVariants as part;
 ghost use Rattle.cdp_packets.specs.PacketParts.{packet_parts};
 ghost use Rattle.cdp_packets.specs.Packets.{Packet as Frame};
 ghost use Rattle.cc_data.specs.declared.triplet.Triplet.{Triplet};
+ghost use Rattle.cc_data.specs.Triplets.{triplet_of};
 ghost use Rattle.channel_packets.specs.ChannelPackets.{ChannelPacket};
 ghost use Rattle.service_blocks.specs.Channels.{AreChannel, IsHeard, IsHeardBehind, heard_behind, said};
 ghost use Rattle.service_blocks.specs.ServiceBlocks.{Block};
 ghost use Rattle.words_files.specs.Catching.{caught_in, refusal_of};
 ghost use Rattle.words_files.specs.Offences.{Begins, FirstOffendingWord, IsCutShort, IsFileUnder, IsUnoffending, TakesFilling};
 ghost use Rattle.services_files.specs.Events.{events_of, frame_events, rates_of, service_events, untimed};
+ghost use Rattle.services_files.specs.Overruns.{Overruns};
 ghost use Rattle.services_files.specs.Services.{services_say, tried_at, whole_triplets};
 ghost use Rattle.services_files.specs.WholeFiles.{BeginsWhole, IsWhole, file_triplets};
 
@@ -88,4 +91,17 @@ pub fn events_are_what_packets_say()
     ensures frame { (before triplets : List Triplet) (packets others : List ChannelPacket) (blocks more : List (List Block))
         → AreChannel packets blocks before → AreChannel others more (before ++ triplets)
         → said None others more ≡ said None packets blocks ++ heard_behind before triplets }
+{}
+
+/// The services refuse a header that passes its packet at its own byte, and nothing else: at the second byte of a triplet, and at its
+/// third one, where the second one was taken.
+pub fn overrun_stands_at_its_own_byte()
+    ensures second { (before : List Part) (first next : ℕ) (reason : Reason)
+        → (services_say before (part.Half (triplet_of first next 0x00)) ≡ Some reason)
+        ↔ ((reason ≡ why.Overrun) × Overruns (whole_triplets before) (first ∷ []) next) }
+    ensures third { (before : List Part) (first second next : ℕ) (reason : Reason)
+        → services_say before (part.Half (triplet_of first second 0x00)) ≡ None
+        → (services_say before (part.Triplet (triplet_of first second next)) ≡ Some reason)
+        ↔ ((reason ≡ why.Overrun) × Overruns (whole_triplets before) (first ∷ second ∷ []) next) }
+    ensures others { (before : List Part) (next : Part) → tried_at next ≡ [] → services_say before next ≡ None }
 {}

@@ -1,0 +1,43 @@
+-- At which byte of a triplet a header of a service block is refused (CTA-708-E, sections 5 and 6.2). A header says how many bytes its
+-- block has behind it; where the channel packet's size leaves fewer, the header's own byte is refused. In a triplet that starts a
+-- packet the third byte can be a header, since the second one is the packet's; in one that goes on with a packet, each of both.
+use Rattle.std.specs.Prelude.{◌≡◌, ℕ, ◌+◌, ◌<◌, ◌==◌, ◌&&◌, ◌⊎◌, not, Bool, true, List, [], ◌∷◌, ◌++◌, length}
+use Rattle.std.specs.List.{flat_map, list_all}
+use Rattle.cc_data.specs.declared.triplet.Triplet.{Triplet}
+use Rattle.cc_data.specs.Triplets.{triplet_of}
+use Rattle.channel_packets.specs.ChannelPackets.{AreChannelPackets, ChannelPacket, continues, size_of, starts}
+use Rattle.service_blocks.specs.ServiceBlocks.{Block, rest_of}
+
+-- a block has all bytes that its header says; a header 00 is none
+abbrev pub is_whole : Block → Bool
+is_whole block = not (block.header == 0x00) && (length block.rest == rest_of block.header)
+
+-- the bytes of a block
+abbrev pub block_bytes : Block → List ℕ
+block_bytes block = block.header ∷ block.rest
+
+-- behind these bytes of a channel packet of this size, the next byte is a header, since they are whole blocks, and it says more bytes
+-- than the packet has left behind it
+pub record PassesPacket (size : ℕ) (bytes : List ℕ) (next : ℕ) : Type 0 where
+  pub blocks : List Block
+  pub whole : list_all is_whole blocks ≡ true
+  pub spelled : bytes ≡ flat_map block_bytes blocks
+  pub inside : length bytes < size
+  pub passes : size < length bytes + 1 + rest_of next
+
+-- behind the last channel packet of triplets, with these bytes more, the next byte passes the packet
+pub record PassesLastPacket (triplets : List Triplet) (more : List ℕ) (next : ℕ) : Type 0 where
+  pub before : List ChannelPacket
+  pub packet : ChannelPacket
+  pub packets_are : AreChannelPackets (before ++ packet ∷ []) triplets
+  pub passes : PassesPacket (size_of packet.header) (packet.bytes ++ more) next
+
+-- behind these triplets, and these first bytes of the next one, its next byte is a header that passes its packet: the second byte of
+-- a triplet that goes on with the last packet; the third one of a triplet that starts a packet, whose header is the second one; or
+-- the third one of a triplet that goes on with the last packet
+abbrev pub Overruns : List Triplet → List ℕ → ℕ → Type 0
+Overruns triplets (first ∷ []) next = (continues (triplet_of first next 0x00) ≡ true) × PassesLastPacket triplets [] next
+Overruns triplets (first ∷ second ∷ []) next =
+    (starts (triplet_of first second next) ≡ true) × PassesPacket (size_of second) [] next
+    ⊎ (continues (triplet_of first second next) ≡ true) × PassesLastPacket triplets (second ∷ []) next
+Overruns _ _ _ = ⊥
