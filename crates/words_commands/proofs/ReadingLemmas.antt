@@ -1,5 +1,5 @@
 -- A words file is judged piece by piece, and the text of its frames is gathered.
-use Rattle.std.proofs.Common.{◌≡◌, ◌≢◌, ◌∙◌, ◌+◌, ◌-◌, ◌++◌, ◌<◌, ◌≤◌, ap, append_assoc, append-nil, arith, drop, inl, inr, length, length-append, length-drop, refl, subst, sym, take, ℕ, List, [], ◌∷◌, Option, Some, None, Err, IfErr, IfOk, Ok, Result}
+use Rattle.std.proofs.Common.{◌≡◌, ◌≢◌, ◌∙◌, ◌+◌, ◌-◌, ◌++◌, ◌<◌, ◌≤◌, ap, append_assoc, append-nil, arith, drop, inl, inr, length, length-append, length-drop, refl, subst, sym, take, ℕ, List, [], ◌∷◌, Option, Some, None, Err, IfOk, Ok, Result}
 use Rattle.std.proofs.KnownBytes.{Appends-trans}
 use Rattle.std.proofs.Math.Seq.{take-add}
 use Rattle.std.proofs.lemmas.List.{length-take-le, take-append-drop, take_all}
@@ -17,7 +17,7 @@ use Rattle.cc_receiver.specs.declared.receiver.Receiver.{Receiver}
 use Rattle.cdp_packets.specs.Packets.{Packet as Frame}
 use Rattle.words_files.specs.Catching.{never, refusal_of}
 use Rattle.words_files.specs.FramesOf.{AreFramesOf}
-use Rattle.words_files.specs.Offences.{FirstOffendingWord, IsCutShort, IsMalformed, IsUnoffending}
+use Rattle.words_files.specs.Offences.{IsCutShort, IsMalformed, IsUnoffending}
 use Rattle.words_files.proofs.OffenceLemmas.{never_takes, offence_refused, some_or_none, unoffending_is_unrefused}
 use Rattle.command_base.specs.Gathered.{Flushes, IsGathered, held_of}
 use Rattle.words_commands.specs.Printing.{Prints}
