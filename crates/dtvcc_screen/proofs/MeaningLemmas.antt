@@ -1,0 +1,17 @@
+-- One event more.
+use Rattle.std.proofs.Common.{◌≡◌, List, [], ◌∷◌, ◌++◌, refl, sym, ap, subst, ◌∙◌}
+use Rattle.dtvcc_screen.specs.declared.clock.Clock.{Clock}
+use Rattle.dtvcc_screen.specs.declared.service.Service.{Service}
+use Rattle.dtvcc_screen.specs.Meaning.{Event, Served, after, on_event, start}
+use Rattle.dtvcc_screen.specs.Objects.{Leads, Stands}
+
+pub after_more : (s : Served) (events : List Event) (event : Event) → after s (events ++ event ∷ []) ≡ on_event event (after s events)
+after_more s [] event = refl
+after_more s (first ∷ events) event = after_more (on_event first s) events event
+
+pub leads_more : (events : List Event) (event : Event) (service : Service) → service.clock ≡ (on_event event (after start events)).clock
+    → Stands (on_event event (after start events)).core service.core → Leads (events ++ event ∷ []) service
+leads_more events event service clock core = record {
+  clock = clock ∙ sym (ap (λ (s : Served). s.clock) (after_more start events event));
+  core = subst (λ (s : Served). Stands s.core service.core) (sym (after_more start events event)) core;
+}

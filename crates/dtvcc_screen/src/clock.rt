@@ -1,0 +1,10 @@
+use cc_base::Rate;
+
+/// What all services are told of the frames.
+#[derive(Clone, Copy, Debug, PartialEq, Eq)]
+pub struct Clock {
+    /// The frames so far, the present one counted.
+    pub ticks: u64,
+    /// The rate of the present frame.
+    pub rate: Rate,
+}
