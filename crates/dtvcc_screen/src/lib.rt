@@ -12,3 +12,6 @@ mod service;
 pub use clock::Clock;
 pub use cores::Core;
 pub use service::Service;
+
+#[cfg(test)]
+mod tests;
