@@ -2,9 +2,19 @@
 # make          proves every crate and builds the program: build/ccsuite
 # make check    the gate: every proof from nothing, the must-fail edits, the tests, the program by two compilers
 # make bench    how fast `pairs` and `build` write and `decode` reads, and what cue lists, the receiver's pairs and bytes of services cost
-# make install  copies the program to PREFIX/bin (PREFIX=/usr/local)
+# make install  puts the program, its man page, completions, documents, examples and viewer under PREFIX (/usr/local), behind DESTDIR if it is set
+# make uninstall      takes away what install puts
+# make check-install  tries both in a folder of its own: the files, the man page, each shell's completions
+# make try      runs the commands of the manual, the cookbook and the man page and compares what they print; tries the viewer in a Chromium
 
 PREFIX ?= /usr/local
+# the program that install puts
+PROGRAM ?= build/ccsuite
+ROOT = $(DESTDIR)$(PREFIX)
+# where Debian's zsh looks: a package's completions stand apart from those of this machine's own programs
+ZSH = $(ROOT)/share/zsh/$(if $(filter /usr,$(PREFIX)),vendor-completions,site-functions)
+DOCUMENTS = README.md docs/MANUAL.md docs/COOKBOOK.md docs/PROVED.md docs/GLOSSARY.md
+EXAMPLES = $(wildcard examples/*)
 # how many crates are proved side by side
 JOBS ?= $(shell nproc)
 LIST := examples/hello.csv
@@ -45,10 +55,30 @@ bench: build/ccsuite
 	bench/blocks.sh
 	bench/dtvcc_codes.sh
 
-install: build/ccsuite
-	install -D -m 755 build/ccsuite $(DESTDIR)$(PREFIX)/bin/ccsuite
+install: $(PROGRAM)
+	install -D -m 755 $(PROGRAM) $(ROOT)/bin/ccsuite
+	install -D -m 644 man/ccsuite.1 $(ROOT)/share/man/man1/ccsuite.1
+	install -D -m 644 completions/ccsuite.bash $(ROOT)/share/bash-completion/completions/ccsuite
+	install -D -m 644 completions/_ccsuite $(ZSH)/_ccsuite
+	install -D -m 644 completions/ccsuite.fish $(ROOT)/share/fish/vendor_completions.d/ccsuite.fish
+	install -D -m 644 viewer/viewer.html $(ROOT)/share/ccsuite/viewer.html
+	install -d $(ROOT)/share/doc/ccsuite/examples
+	install -m 644 $(DOCUMENTS) $(ROOT)/share/doc/ccsuite
+	install -m 644 $(EXAMPLES) $(ROOT)/share/doc/ccsuite/examples
+
+uninstall:
+	rm -f $(ROOT)/bin/ccsuite $(ROOT)/share/man/man1/ccsuite.1 $(ROOT)/share/bash-completion/completions/ccsuite \
+	    $(ZSH)/_ccsuite $(ROOT)/share/fish/vendor_completions.d/ccsuite.fish
+	rm -rf $(ROOT)/share/doc/ccsuite $(ROOT)/share/ccsuite
+
+check-install: $(PROGRAM)
+	man/check_install.sh $(PROGRAM)
+
+try: $(PROGRAM)
+	docs/try.py $(PROGRAM)
+	viewer/try.py $(PROGRAM)
 
 clean:
 	rm -rf build crates/*/out
 
-.PHONY: all demo check bench install clean
+.PHONY: all demo check bench install uninstall check-install try clean

@@ -1,0 +1,11 @@
+# Completions of ccsuite for bash: the commands; numbers are left to the user.
+
+_ccsuite() {
+    local word=${COMP_WORDS[COMP_CWORD]}
+    COMPREPLY=()
+    if ((COMP_CWORD == 1)); then
+        COMPREPLY=($(compgen -W 'pairs build cues decode show' -- "$word"))
+    fi
+}
+
+complete -F _ccsuite ccsuite

@@ -1,0 +1,72 @@
+#!/usr/bin/env bash
+# Tries the completions that lie under a prefix, by running each shell that is there: try.sh PREFIX
+#
+# A shell is given the start of a command line, and must offer exactly the words that follow.
+prefix=$1
+folder=$(mktemp -d)
+trap 'rm -rf "$folder"' EXIT
+cd "$folder" || exit 1
+# Files that a completion of files would offer. `build` is a folder, since its name is a command's too.
+touch list.csv
+mkdir build
+failed=0
+
+# offers SHELL LINE WANTED: what the shell offers at the end of LINE is WANTED, words with blanks between, in any order.
+offers() {
+    local got wanted
+    got=$("$1_offers" "$2" | sort | xargs)
+    wanted=$(xargs -n 1 <<< "$3" | sort | xargs)
+    if [ "$got" != "$wanted" ]; then
+        echo "$1 offers '$got' and not '$wanted' behind '$2'"
+        failed=1
+    fi
+}
+
+# What bash's function for the program makes of a line.
+bash_offers() {
+    bash --norc -c '
+        source "$1/share/bash-completion/completions/ccsuite"
+        read -r -a COMP_WORDS <<< "$2"
+        [[ $2 == *" " ]] && COMP_WORDS+=("")
+        COMP_CWORD=$((${#COMP_WORDS[@]} - 1))
+        $(complete -p ccsuite | sed "s/.*-F \([^ ]*\).*/\1/")
+        printf "%s\n" "${COMPREPLY[@]}"' bash "$prefix" "$1"
+}
+
+# What zsh hands to compadd when the Tab key is pressed: a shell in a terminal of its own is typed the line.
+zsh_offers() {
+    zsh -f -c '
+        zmodload zsh/zpty
+        zpty shell zsh -f -i
+        zpty -w shell "PS1= PROMPT= RPS1= TERM=dumb; unsetopt zle_bracketed_paste 2> /dev/null"
+        zpty -w shell "fpath=($1/share/zsh/*-(functions|completions) \$fpath); autoload -Uz compinit; compinit -u -D"
+        zpty -w shell "compadd() { builtin compadd -A hits \"\$@\"; print -l -- \$hits > offered.\$\$.\$RANDOM; builtin compadd \"\$@\" }"
+        zpty -w shell "listed() { zle complete-word; print -r -- done > finished }; zle -N listed; bindkey \"^I\" listed"
+        zpty -w -n shell "$2"$'"'\t'"'
+        for turn in {1..100}; do [[ -e finished ]] && break; sleep 0.1; done
+        zpty -d shell' zsh "$prefix" "$1"
+    sleep 0.1
+    cat offered.* 2> /dev/null | grep -v '^$' | sort -u
+    rm -f offered.* finished
+}
+
+# What fish says that it would offer.
+fish_offers() {
+    HOME=$folder fish --no-config -c '
+        source $argv[1]/share/fish/vendor_completions.d/ccsuite.fish
+        complete -C $argv[2]' "$prefix" "$1" | cut -f 1
+}
+
+for shell in bash zsh fish; do
+    if ! command -v "$shell" > /dev/null; then
+        echo "$shell isn't installed: its completions weren't tried"
+        continue
+    fi
+    offers "$shell" 'ccsuite ' 'pairs build cues decode show'
+    offers "$shell" 'ccsuite b' 'build'
+    offers "$shell" 'ccsuite x' ''
+    offers "$shell" 'ccsuite show ' ''
+    offers "$shell" 'ccsuite build ' ''
+    [ "$failed" = 0 ] && echo "completions of $shell: as they should be"
+done
+exit "$failed"
