@@ -11,13 +11,14 @@ use Rattle.cdp_packets.specs.PacketTriplets.{packet_triplets}
 use Rattle.channel_packets.specs.ChannelPackets.{ChannelPacket}
 use Rattle.channel_packets.specs.Reading as packets
 use Rattle.channel_packets.specs.Reading.{packet_syntax}
+use Rattle.dtvcc_screen.specs.Meaning.{Byte, Event, Reset, Tick}
 use Rattle.service_blocks.specs.declared.parts.BlockPart.{BlockPart}
 use Rattle.service_blocks.specs.declared.parts.BlockPart.TheVariants as part
 use Rattle.service_blocks.specs.Channels.{AreChannel, heard_behind, said}
 use Rattle.service_blocks.specs.Reading.{block_syntax, nothing_open, open_after}
 use Rattle.service_blocks.specs.ServiceBlocks.{Block}
 use Rattle.service_blocks.proofs.ChannelLemmas.{channel_heard, heard-append}
-use Rattle.services_files.specs.Events.{Byte, Event, Reset, Tick, event_of, events_behind, events_of, frame_events, rates_of, service_events, untimed}
+use Rattle.services_files.specs.Events.{event_of, events_behind, events_of, frame_events, rates_of, service_events, untimed}
 use Rattle.services_files.specs.WholeFiles.{file_triplets}
 
 -- what is heard of triplets and more, behind others

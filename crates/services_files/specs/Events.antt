@@ -6,18 +6,10 @@ use Rattle.cc_base.specs.declared.rate.Rate.{Rate}
 use Rattle.cc_data.specs.declared.triplet.Triplet.{Triplet}
 use Rattle.cdp_packets.specs.Packets.{Packet as Frame}
 use Rattle.cdp_packets.specs.PacketTriplets.{packet_triplets}
+use Rattle.dtvcc_screen.specs.Meaning.{Event, Byte, Reset, Tick}
 use Rattle.service_blocks.specs.declared.parts.BlockPart.{BlockPart}
 use Rattle.service_blocks.specs.declared.parts.BlockPart.TheVariants as part
 use Rattle.service_blocks.specs.Channels.{heard_behind}
-
--- what happens to a service
-pub data Event : Type 0 where
-  -- a frame begins, at this rate
-  Tick : Rate → Event
-  -- the service's next byte
-  Byte : ℕ → Event
-  -- a channel packet is missing: the service begins anew
-  Reset : Event
 
 -- what a part of the service blocks is for a service: a byte of another service is nothing, and a reset is one for each service
 abbrev pub event_of : ℕ → BlockPart → List Event

@@ -7,7 +7,8 @@ ghost use Rattle.cc_base.specs.declared.why.Why.TheVariants as why;
 ghost use Rattle.anc_words.specs.Writing.{word_bytes};
 ghost use Rattle.words_files.specs.Examples.{frame_without_captions};
 ghost use Rattle.words_files.specs.Offences.{FirstOffendingWord};
-ghost use Rattle.services_files.specs.Events.{Byte, Reset, Tick, service_events};
+ghost use Rattle.dtvcc_screen.specs.Meaning.{Byte, Reset, Tick};
+ghost use Rattle.services_files.specs.Events.{service_events};
 ghost use Rattle.services_files.specs.Examples.{frame_with};
 ghost use Rattle.services_files.specs.Services.{services_say};
 
