@@ -4,6 +4,7 @@
 # make bench    how fast `pairs` and `build` write and `decode` reads, and what cue lists, the receiver's pairs and bytes of services cost
 # make install  puts the program, its man page, completions, documents, examples and viewer under PREFIX (/usr/local), behind DESTDIR if it is set
 # make uninstall      takes away what install puts
+# make faults   makes memory, reads and writes fail at each place of short runs, and compares how each run ends (needs strace)
 # make check-install  tries both in a folder of its own: the files, the man page, each shell's completions
 # make try      runs the commands of the manual, the cookbook and the man page and compares what they print; tries the viewer in a Chromium
 
@@ -74,6 +75,9 @@ uninstall:
 check-install: $(PROGRAM)
 	man/check_install.sh $(PROGRAM)
 
+faults: $(PROGRAM)
+	faults/try.py $(PROGRAM)
+
 try: $(PROGRAM)
 	docs/try.py $(PROGRAM)
 	viewer/try.py $(PROGRAM)
@@ -81,4 +85,4 @@ try: $(PROGRAM)
 clean:
 	rm -rf build crates/*/out
 
-.PHONY: all demo check bench install uninstall check-install try clean
+.PHONY: all demo check bench install uninstall check-install faults try clean

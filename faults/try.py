@@ -1,0 +1,361 @@
+#!/usr/bin/env python3
+"""Tries the program at every place at which its surroundings can fail it: try.py PROGRAM
+
+Each command is run over short inputs, and
+
+- each allocation is refused in turn: `out of memory`, status 4, nothing written, and none comes at a forbidden place (`decode` and `show` take no
+  memory once a byte of the words was taken, the commands on cue lists none once a byte was written);
+- each read fails in turn, over input in pieces of several sizes: `read fault`, status 2, and of the output what was due of the bytes before;
+- each write fails in turn: `write fault`, status 3, and the writes before it stand; and a file that is full at each byte has just these bytes;
+- each read and each write is short: nothing changes;
+- the ends are closed, folders, full devices or closed pipes, and standard error fails too.
+
+What is due comes from the run in which nothing fails, cut at its frames, and from what the manual says. `strace` makes a call fail by its number;
+with the heap's threshold at 0, each allocation is one call of `mmap`. It prints a line for each command with the places tried, and ends with status
+1 at the first run that differs.
+"""
+
+import os
+import pathlib
+import re
+import resource
+import shutil
+import signal
+import subprocess
+import sys
+import tempfile
+import threading
+from dataclasses import dataclass, field
+
+EXAMPLES = pathlib.Path(__file__).resolve().parent.parent / "examples"
+LINES = {2: b"read fault\n", 3: b"write fault\n", 4: b"out of memory\n"}
+PROGRAM = str(pathlib.Path(sys.argv[1]).resolve())
+
+
+@dataclass
+class Ended:
+    status: int
+    out: bytes
+    err: bytes
+    calls: list = field(default_factory=list)
+
+
+@dataclass
+class Case:
+    """The words of a command with an input, and how the whole run ends by the manual."""
+    words: list
+    given: bytes
+    status: int = 0
+    line: bytes = b""
+
+    @property
+    def reads_words(self):
+        return self.words[0] in ("decode", "show")
+
+    def __str__(self):
+        return f"{' '.join(self.words)} on {len(self.given)} bytes"
+
+
+# ---- Running ---------------------------------------------------------------------------------------------------------------------
+
+CALL = re.compile(r"^(read|write|mmap|mremap|brk|set_robust_list)\((.*)\)\s*= (-?\w+)(.*)$")
+
+
+def calls_of(log):
+    """The calls that strace wrote: name, arguments, result."""
+    found = (CALL.match(line) for line in log.read_text(errors="replace").splitlines())
+    return [(it[1], it[2], it[3]) for it in found if it]
+
+
+def feed(end, given, size):
+    """Writes the input in pieces, each of which is one read: a pipe of packets."""
+    try:
+        for place in range(0, len(given), size):
+            os.write(end, given[place:place + size])
+    except BrokenPipeError:
+        pass
+    finally:
+        os.close(end)
+
+
+def run(case, size=4096, inject=(), traced=False, **options):
+    """A run over the input in pieces of a size, with calls that fail."""
+    with tempfile.TemporaryDirectory() as folder:
+        log = pathlib.Path(folder, "log")
+        words = [PROGRAM, *case.words]
+        if inject or traced:
+            failing = [it for rule in inject for it in ("-e", f"inject={rule}")]
+            heap = ["-E", "GLIBC_TUNABLES=glibc.malloc.mmap_threshold=0"]
+            words = ["strace", "-o", str(log), *heap, "-e", "trace=read,write,mmap,mremap,brk,set_robust_list", *failing, *words]
+        taken, end = os.pipe2(os.O_DIRECT | os.O_CLOEXEC)
+        feeder = threading.Thread(target=feed, args=(end, case.given, size))
+        how = {"stdin": taken, "stdout": subprocess.PIPE, "stderr": subprocess.PIPE, **options}
+        ran = subprocess.Popen(words, restore_signals=False, **how)
+        os.close(taken)
+        feeder.start()
+        out, err = ran.communicate(timeout=120)
+        feeder.join()
+        return Ended(ran.returncode, out or b"", err or b"", calls_of(log) if log.exists() else [])
+
+
+def fail(case, place, ended, why):
+    print(f"{case}: {place}: {why}\n  status {ended.status}, {len(ended.out)} bytes, {ended.err!r}\n  {ended.out[-200:]!r}")
+    sys.exit(1)
+
+
+def need(case, place, ended, status, out, line=None):
+    """The run ended so, and not otherwise."""
+    line = LINES.get(status, b"") if line is None else line
+    if (ended.status, ended.err) != (status, line):
+        fail(case, place, ended, f"status {status} and {line!r} are wanted")
+    if ended.out != out:
+        fail(case, place, ended, f"{len(out)} other bytes are wanted")
+
+
+def numbers(calls, name, start):
+    """The numbers of the calls of a name, as strace counts them, whose arguments begin so."""
+    of_name = [arguments for called, arguments, _ in calls if called == name]
+    return [number for number, arguments in enumerate(of_name, 1) if arguments.startswith(start)]
+
+
+# ---- What is due -----------------------------------------------------------------------------------------------------------------
+
+def packet_ends(words):
+    """Where each ancillary packet of a words file ends, and whether it is a frame."""
+    ends, place = [], 0
+    while place + 12 <= len(words):
+        frame = words[place + 7] == 0x61 and words[place + 9] == 0x01
+        place += 2 * (7 + words[place + 11])
+        ends.append((place, frame))
+    return ends
+
+
+def due(case, whole, taken):
+    """What is written of the first bytes of the input, if the next take fails."""
+    if not case.reads_words:
+        return b""
+    frames = sum(1 for end, frame in packet_ends(case.given) if frame and end <= taken)
+    if case.words[0] == "show":
+        return whole.out if frames > int(case.words[1]) else b""
+    blocks = re.findall(rb"(?:frame (\d+)\n)(?:(?!frame).*\n)*", whole.out)
+    texts = [it[0] for it in re.finditer(rb"frame \d+\n(?:(?!frame).*\n)*", whole.out)]
+    return b"".join(text for number, text in zip(blocks, texts) if int(number) < frames)
+
+
+# ---- The trials, each of which gives the number of places that it tried ------------------------------------------------------------
+
+def try_allocations(case, whole):
+    """
+    Each allocation refused in turn: the heap asks for it by one mmap, then by brk and one more mmap. Where a refused vector then asks for less
+    and gets it, nothing changes; where all behind the refused one are refused too, the run has no memory.
+    """
+    started = [called for called, _, _ in whole.calls].index("set_robust_list")
+    before = sum(1 for called, _, _ in whole.calls[:started] if called == "mmap")
+    # The first is the heap's own cache.
+    places = [it for it in numbers(whole.calls, "mmap", "NULL") if it > before + 1]
+    for number in places:
+        here = f"allocation {number - before - 1} refused"
+        for last in (f"{number + 1}", ""):
+            refused = (f"mmap:error=ENOMEM:when={number}" + (f"..{last}" if last else "+"), "brk:error=ENOMEM:when=2+", "mremap:error=ENOMEM")
+            ended = run(case, inject=refused)
+            if last and ended.status != 4:
+                need(case, here, ended, whole.status, whole.out, whole.err)
+            else:
+                need(case, here, ended, 4, b"")
+            if case.reads_words and ended.status == 4 and taken(ended):
+                fail(case, here, ended, "memory is taken behind a byte of the words")
+    return len(places)
+
+
+def taken(ended):
+    """Whether a byte of standard input was taken."""
+    return any(called == "read" and arguments.startswith("0") and int(result) > 0 for called, arguments, result in ended.calls)
+
+
+def try_takes(case, whole, sizes):
+    tried = 0
+    for size in sizes:
+        plain = run(case, size, traced=True)
+        need(case, f"pieces of {size}", plain, whole.status, whole.out, whole.err)
+        for take, number in enumerate(numbers(plain.calls, "read", "0")):
+            ended = run(case, size, inject=(f"read:error=EIO:when={number}",))
+            need(case, f"take {take} of pieces of {size} fails", ended, 2, due(case, whole, take * size))
+            tried += 1
+    return tried
+
+
+def try_puts(case, whole):
+    """Each write fails in turn; is a write of nothing; is short, so that what strace kept from the file is missing."""
+    writes = numbers(whole.calls, "write", "1,")
+    pieces = [int(result) for called, arguments, result in whole.calls if called == "write" and arguments.startswith("1,")]
+    for put, number in enumerate(writes):
+        before = sum(pieces[:put])
+        if case.words[0] == "build" and before % 160:
+            fail(case, f"put {put}", whole, "a frame is written in parts")
+        for how in ("error=EIO", "error=ENOSPC", "retval=0"):
+            need(case, f"put {put}, {how}", run(case, inject=(f"write:{how}:when={number}",)), 3, whole.out[:before])
+        if pieces[put] > 1:
+            ended = run(case, inject=(f"write:retval=1:when={number}",))
+            need(case, f"put {put} of 1 byte", ended, whole.status, whole.out[:before] + whole.out[before + 1:], whole.err)
+    return len(writes)
+
+
+def try_full(case, whole):
+    """A file that is full at each byte; of a long output at those of its beginning and its end."""
+    rooms = [it for it in range(len(whole.out) + 1) if it <= 330 or it >= len(whole.out) - 170]
+    with tempfile.NamedTemporaryFile() as file:
+        for room in rooms:
+            os.truncate(file.name, 0)
+
+            def limit():
+                signal.signal(signal.SIGXFSZ, signal.SIG_IGN)
+                resource.setrlimit(resource.RLIMIT_FSIZE, (room, room))
+
+            with open(file.name, "wb") as out:
+                ended = run(case, preexec_fn=limit, stdout=out)
+            ended.out = pathlib.Path(file.name).read_bytes()
+            full = room < len(whole.out)
+            need(case, f"room for {room} bytes", ended, 3 if full else whole.status, whole.out[:room], None if full else whole.err)
+    return len(rooms)
+
+
+def try_ends(case, whole):
+    """Ends that are none."""
+    reads = {"closed": None, "a folder": "/", "no memory of a process": "/proc/self/mem"}
+    for name, path in reads.items():
+        end = os.open(path, os.O_RDONLY) if path else subprocess.DEVNULL
+        closing = {} if path else {"preexec_fn": lambda: os.close(0)}
+        need(case, f"input {name}", run(case, stdin=end, **closing), 2, b"")
+    written = bool(whole.out)
+    gone, closed = os.pipe()
+    os.close(gone)
+    puts = {
+        "/dev/full": {"stdout": os.open("/dev/full", os.O_WRONLY)}, "a closed pipe": {"stdout": closed},
+        "closed": {"preexec_fn": lambda: os.close(1)},
+    }
+    for name, how in puts.items():
+        ended = run(case, **how)
+        need(case, f"output {name}", ended, 3 if written else whole.status, b"", LINES[3] if written else whole.err)
+    for name, how in {"/dev/full": {"stderr": os.open("/dev/full", os.O_WRONLY)}, "closed": {"preexec_fn": lambda: os.close(2)}}.items():
+        need(case, f"error output {name}", run(case, **how), whole.status, whole.out, b"")
+    return len(reads) + len(puts) + 2
+
+
+def try_case(case, sizes):
+    whole = run(case, traced=True)
+    need(case, "nothing fails", whole, case.status, whole.out, case.line)
+    if case.status in (5, 6, 7, 8) and not case.reads_words:
+        need(case, "refused", whole, case.status, b"", case.line)
+    places = {
+        "allocations": try_allocations(case, whole), "takes": try_takes(case, whole, sizes), "puts": try_puts(case, whole),
+        "bytes at which a file is full": try_full(case, whole), "ends": try_ends(case, whole),
+    }
+    return places
+
+
+# ---- The commands ----------------------------------------------------------------------------------------------------------------
+
+def example(name):
+    return (EXAMPLES / name).read_bytes()
+
+
+def built(text):
+    return run(Case(["build"], text)).out
+
+
+def commands():
+    """Each command with its cases, and the sizes of the pieces in which they are read."""
+    hello = example("hello.csv")
+    dense = hello.replace(b",0,7,20", b",0,6,20")
+    clash = hello.replace(b",0,7,20", b",0,7,8")
+    wrong = hello.replace(b"HI", "中".encode())
+    words, silent = built(hello), built(b"ccsuite,1,29.97,3\n")
+    foreign = bytes.fromhex("000003FF03FF01610102010102000164")
+    mixed = foreign + silent[:160] + foreign * 2 + silent[160:]
+    flagged = silent[:320] + b"\x00\x01" + silent[322:]
+    lists = [
+        (dense, 8, b"no room: cue 1\n"), (clash, 7, b"rule Clash: cue 1\n"), (wrong, 6, b"malformed at record 3 field 5: NoCode\n"),
+        (b"", 6, b"malformed at record 1 field 1: Field\n"), (b"ccsuite,1,30,1000001\n", 5, b"limit Frames\n"),
+    ]
+    yield "pairs", [Case(["pairs"], hello)] + [Case(["pairs"], *it) for it in lists], [1, 7, 4096]
+    yield "build", [Case(["build"], hello)] + [Case(["build"], *it) for it in lists], [1, 7, 4096]
+    yield "cues", [Case(["cues"], hello)] + [Case(["cues"], *it) for it in lists[1:]] + [Case(["cues"], dense)], [1, 7, 4096]
+    decode = ["decode"]
+    yield "decode", [
+        Case(decode, words), Case(decode, mixed), Case(decode, b""), Case(decode, words[:900], 6, b"malformed at byte 900: Truncated\n"),
+        Case(decode, flagged, 6, b"malformed at byte 320: Flag\n"), Case(decode, example("damaged.words"), 6, b"malformed at byte 1628: Count\n"),
+    ], [80, 160, 4000]
+    yield "decode a byte at a time", [Case(decode, mixed)], [1, 2, 159]
+    yield "show", [
+        Case(["show", "12"], words), Case(["show", "0"], mixed), Case(["show", "3"], mixed, 10, b"short: 3 frames\n"),
+        Case(["show", "2"], flagged, 6, b"malformed at byte 320: Flag\n"), Case(["show", "1"], flagged, 6, b"malformed at byte 320: Flag\n"),
+    ], [16, 160, 4000]
+
+
+# ---- Limits ----------------------------------------------------------------------------------------------------------------------
+
+def repeated(piece, size):
+    """A piece over and over, up to a size, in parts that fit a pipe."""
+    part = piece * (2 ** 20 // len(piece))
+    for place in range(0, size, len(part)):
+        yield part[:size - place]
+
+
+def run_long(words, front, piece, size):
+    """A run over an input of a size, which is never kept as a whole: a front, and then a piece over and over."""
+    ran = subprocess.Popen([PROGRAM, *words], stdin=subprocess.PIPE, stdout=subprocess.PIPE, stderr=subprocess.PIPE)
+
+    def write():
+        try:
+            ran.stdin.write(front)
+            for part in repeated(piece, size - len(front)):
+                ran.stdin.write(part)
+            ran.stdin.close()
+        except BrokenPipeError:
+            pass
+
+    feeder = threading.Thread(target=write)
+    feeder.start()
+    out, err = ran.stdout.read(), ran.stderr.read()
+    feeder.join()
+    return Ended(ran.wait(), out, err)
+
+
+def cues_of(number):
+    """A list of so many cues."""
+    frames = 40 * number + 40
+    cue = "pop,CC1,%d,%d,%d\nrun,15,0,white,HI\n"
+    return (f"ccsuite,1,29.97,{frames}\n" + "".join(cue % (40 * it, 40 * it + 20, 40 * it + 30) for it in range(number))).encode()
+
+
+def try_limits():
+    """The last that is taken and the first that is refused."""
+    hello = example("hello.csv")
+    foreign = bytes.fromhex("000003FF03FF01610102010102000164")
+    listing = run(Case(["cues"], hello)).out
+    many = cues_of(20_000)
+    longs = [
+        (["cues"], hello, b"\n", 67_108_864, 0, listing, b""), (["cues"], hello, b"\n", 67_108_865, 5, b"", b"limit Bytes\n"),
+        (["decode"], b"", foreign, 2 ** 31 - 16, 0, b"frames 0\n", b""), (["decode"], b"", foreign, 2 ** 31, 5, b"", b"limit Bytes\n"),
+        (["cues"], many, b"\n", len(many), 0, many, b""), (["cues"], cues_of(20_001), b"\n", 0, 5, b"", b"limit Cues\n"),
+        (["build"], b"ccsuite,1,30,1000001\n", b"\n", 0, 5, b"", b"limit Frames\n"),
+    ]
+    for words, front, piece, size, status, out, line in longs:
+        need(Case(words, front), f"{size} bytes", run_long(words, front, piece, size), status, out, line)
+    print(f"limits: {len(longs)} inputs at and behind them")
+
+
+def main():
+    if not shutil.which("strace"):
+        sys.exit("strace is needed: apt-get install strace")
+    for name, cases, sizes in commands():
+        tried = {}
+        for case in cases:
+            for kind, places in try_case(case, sizes).items():
+                tried[kind] = tried.get(kind, 0) + places
+        print(f"{name}: {len(cases)} inputs; " + ", ".join(f"{places} {kind}" for kind, places in tried.items()), flush=True)
+    try_limits()
+
+
+if __name__ == "__main__":
+    main()
