@@ -62,7 +62,9 @@ def run(commands, program):
 
 def try_document(name, program):
     commands, missing = blocks_of(TOP / name)
-    printed = run(commands, program)
+    *printed, rest = run(commands, program)
+    if len(printed) != len(commands):
+        sys.exit(f"{name}: the shell ended behind\n{commands[len(printed) - 1][0]}\n{rest}")
     for (command, wanted), got in zip(commands, printed):
         if wanted != got:
             sys.exit(f"{name}: $ {command}\nprints\n{got}and not\n{wanted}")

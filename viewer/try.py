@@ -306,6 +306,9 @@ def decoded(program, name):
 
 
 def main():
+    if not CHROMIUM:
+        print("no Chromium is installed: the viewer wasn't tried")
+        return
     program = str(pathlib.Path(sys.argv[1]).resolve())
     texts = {it.name: decoded(program, it.name) for it in sorted(EXAMPLES.glob("*.csv"))}
     shown = subprocess.run([program, "show", "12"], input=words_of(program, "hello.csv"), capture_output=True, check=True).stdout
