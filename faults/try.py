@@ -49,8 +49,12 @@ class Case:
     line: bytes = b""
 
     @property
+    def reads_nothing(self):
+        return self.words[:1] == ["load"] or self.status == 1
+
+    @property
     def reads_words(self):
-        return self.words[0] in ("decode", "show")
+        return self.words[:1] in (["decode"], ["show"])
 
     def __str__(self):
         return f"{' '.join(self.words)} on {len(self.given)} bytes"
@@ -221,7 +225,7 @@ def try_full(case, whole):
 
 def try_ends(case, whole):
     """Ends that are none."""
-    reads = {"closed": None, "a folder": "/", "no memory of a process": "/proc/self/mem"}
+    reads = {} if case.reads_nothing else {"closed": None, "a folder": "/", "no memory of a process": "/proc/self/mem"}
     for name, path in reads.items():
         end = os.open(path, os.O_RDONLY) if path else subprocess.DEVNULL
         closing = {} if path else {"preexec_fn": lambda: os.close(0)}
@@ -265,6 +269,8 @@ def built(text):
 
 def commands():
     """Each command with its cases, and the sizes of the pieces in which they are read."""
+    usage = b"usage: ccsuite pairs|build|decode|show FRAME|verify CUES|insert CUES|import|export TIME|cues|load N\n"
+    yield "usage", [Case(it, b"x", 1, usage) for it in ([], ["load", "0"], ["show"], ["show", "01"], ["pairs", "x"])], []
     hello = example("hello.csv")
     dense = hello.replace(b",0,7,20", b",0,6,20")
     clash = hello.replace(b",0,7,20", b",0,7,8")
