@@ -11,13 +11,13 @@ use Rattle.cue_lists.specs.Listing.{IsFormed, Listing}
 use Rattle.cue_lists.specs.declared.lane.Lane.TheVariants.{Channel}
 use Rattle.frame_scheduler.specs.Columns.{Columns}
 use Rattle.frame_scheduler.specs.Frames.{GivesFrom, frames_left}
-use Rattle.frame_scheduler.specs.Planned.{Placement, authored_channel, columns_of}
+use Rattle.frame_scheduler.specs.Planned.{Placement, authored_channel, channel_pair, columns_of}
 use Rattle.frame_scheduler.proofs.ListDoublingLemmas.{columns_doubled}
-use Rattle.frame_carrier.specs.Carried.{AreBytePairs, AreCarried}
+use Rattle.frame_carrier.specs.Carried.{AreBytePairs, AreCarried, IsBytePair}
 use Rattle.frame_carrier.specs.Carrying.{column_bytes}
 use Rattle.frame_carrier.proofs.CarriedLemmas.{frames_carried}
 use Rattle.line21_shown.specs.Shown.{ShowsField}
-use Rattle.line21_shown.proofs.CaptionedLemmas.{slots_bytes}
+use Rattle.line21_shown.proofs.CaptionedLemmas.{AreBytes, frame_bytes}
 use Rattle.line21_shown.proofs.SequenceLemmas.{authored_seen}
 use Rattle.cue_list_commands.specs.Accepted.{IsAccepted}
 use Rattle.cue_list_commands.specs.ListAnswer.{PutsFront, PutsOutput}
@@ -37,10 +37,17 @@ sound_pairs bytes list placed accepted = record {
   shown = λ frame below. authored_seen list placed accepted.spelled.1 accepted.ruled accepted.placement frame;
 }
 
+-- a pair that is of bytes, where there is one
+of_bytes : (o : Option Pair) → IfSome o AreBytes → IfSome o IsBytePair
+of_bytes None are = tt
+of_bytes (Some pair) are = record { a = are.0; b = are.1 }
+
 -- the pairs of a placed list are of bytes
 byte_pairs : (list : Listing) (placed : Placement) → IsFormed list → AreBytePairs (columns_of list placed)
-byte_pairs list placed formed false frame = let are = slots_bytes list Cc1 (placed (Channel Cc1)) formed frame in record { a = are.0; b = are.1 }
-byte_pairs list placed formed true frame = let are = slots_bytes list Cc3 (placed (Channel Cc3)) formed frame in record { a = are.0; b = are.1 }
+byte_pairs list placed formed false frame =
+    of_bytes (channel_pair list Cc1 (placed (Channel Cc1)) frame) (frame_bytes list Cc1 (placed (Channel Cc1)) formed.cues frame)
+byte_pairs list placed formed true frame =
+    of_bytes (channel_pair list Cc3 (placed (Channel Cc3)) frame) (frame_bytes list Cc3 (placed (Channel Cc3)) formed.cues frame)
 
 -- what `build` puts of an accepted list is sound
 pub sound_words : (bytes : List ℕ) (list : Listing) (placed : Placement) → IsAccepted bytes list placed → IsSoundWords list placed

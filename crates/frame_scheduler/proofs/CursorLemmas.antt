@@ -37,11 +37,11 @@ unit_none m n (u ∷ us) a h =
     grind (arith, nat_tests)
 
 -- what begins where the first event does, and elsewhere
-at_first : (e : Event) (es : List Event) (n : ℕ) → e.frame ≡ n → event_at (e ∷ es) n ≡ Some (record { pair = e.pair; doubled = true })
-at_first e es n here = let test : eqb n e.frame ≡ true = grind (arith, nat_tests) in rw test refl
+at_first : (e : Event) (es : List Event) (n : ℕ) → e.slot ≡ n → event_at (e ∷ es) n ≡ Some (record { pair = e.pair; doubled = true })
+at_first e es n here = let test : eqb n e.slot ≡ true = grind (arith, nat_tests) in rw test refl
 
-passed_event : (e : Event) (es : List Event) (n : ℕ) → e.frame ≢ n → event_at (e ∷ es) n ≡ event_at es n
-passed_event e es n apart = let test : eqb n e.frame ≡ false = grind (arith, nat_tests) in rw test refl
+passed_event : (e : Event) (es : List Event) (n : ℕ) → e.slot ≢ n → event_at (e ∷ es) n ≡ event_at es n
+passed_event e es n apart = let test : eqb n e.slot ≡ false = grind (arith, nat_tests) in rw test refl
 
 -- what begins where the first unit does, and elsewhere
 at_first_unit : (u : PlacedUnit) (us : List PlacedUnit) (n : ℕ) → u.slot ≡ n → unit_at (u ∷ us) n ≡ Some u.unit
@@ -54,12 +54,12 @@ passed_unit u us n apart = let test : eqb n u.slot ≡ false = grind (arith, nat
 events_behind : (es : List Event) (n : ℕ) → AreFrom n es → AreApart es → event_at es n ≡ None → AreFrom (n + 1) es
 events_behind es n from apart none = from_first (n + 1) es apart (behind es from none)
   where
-    behind : (ds : List Event) → AreFrom n ds → event_at ds n ≡ None → (e : Event) (rest : List Event) → ds ≡ e ∷ rest → n + 1 ≤ e.frame
+    behind : (ds : List Event) → AreFrom n ds → event_at ds n ≡ None → (e : Event) (rest : List Event) → ds ≡ e ∷ rest → n + 1 ≤ e.slot
     behind [] from none e rest is = cc
     behind (d ∷ ds) from none e rest is =
         let same : d ≡ e = cc in
-        let other : d.frame ≢ n = λ here. some_none (record { pair = d.pair; doubled = true }) (sym (at_first d ds n here) ∙ none) in
-        subst (λ (x : Event). n + 1 ≤ x.frame) same (omega (arith, other, from.0))
+        let other : d.slot ≢ n = λ here. some_none (record { pair = d.pair; doubled = true }) (sym (at_first d ds n here) ∙ none) in
+        subst (λ (x : Event). n + 1 ≤ x.slot) same (omega (arith, other, from.0))
 
 -- so do units
 units_behind : (us : List PlacedUnit) (n : ℕ) → AreUnitsFrom n us → AreRising us → unit_at us n ≡ None → AreUnitsFrom (n + 1) us
@@ -112,7 +112,7 @@ module _ (t : Timeline) (es : List Event) (us : List PlacedUnit) (n : ℕ) where
       )
 
   -- at a slot where an event begins
-  event_step : (e : Event) → e.frame ≡ n → IsAhead t (e ∷ es) us n None → (slot t n ≡ e.pair) × IsAhead t es us (n + 1) (Some e.pair)
+  event_step : (e : Event) → e.slot ≡ n → IsAhead t (e ∷ es) us n None → (slot t n ≡ e.pair) × IsAhead t es us (n + 1) (Some e.pair)
   event_step e here g =
       let begins : event_at (e ∷ es) n ≡ Some (record { pair = e.pair; doubled = true }) = at_first e es n here in
       let is : t n ≡ Some (record { pair = e.pair; doubled = true }) = g.same n (omega arith) ∙ ap (λ x. first_of x (unit_at us n)) begins in (
@@ -121,7 +121,7 @@ module _ (t : Timeline) (es : List Event) (us : List PlacedUnit) (n : ℕ) where
           same = λ m h. g.same m (omega arith) ∙ ap (λ x. first_of x (unit_at us m)) (passed_event e es m (omega arith));
           due = due_next t n _ is;
           spaced = g.spaced;
-          events_from = from_earlier (n + 1) (e.frame + 2) es (omega arith) g.events_apart.0;
+          events_from = from_earlier (n + 1) (e.slot + 2) es (omega arith) g.events_apart.0;
           events_apart = g.events_apart.1;
           units_from = units_behind us n g.units_from g.units_rising (g.beside n _ begins);
           units_rising = g.units_rising;
@@ -130,11 +130,11 @@ module _ (t : Timeline) (es : List Event) (us : List PlacedUnit) (n : ℕ) where
       )
     where
       beside : (m : ℕ) (u : Unit) → event_at es m ≡ Some u → unit_at us m ≡ None
-      beside m u some = at (eqb m e.frame) refl
+      beside m u some = at (eqb m e.slot) refl
         where
-          at : (b : Bool) → eqb m e.frame ≡ b → unit_at us m ≡ None
-          at true test = let same : e.frame ≡ m = grind (arith, nat_tests) in g.beside m _ (at_first e es m same)
-          at false test = g.beside m u (let other : e.frame ≢ m = grind (arith, nat_tests) in passed_event e es m other ∙ some)
+          at : (b : Bool) → eqb m e.slot ≡ b → unit_at us m ≡ None
+          at true test = let same : e.slot ≡ m = grind (arith, nat_tests) in g.beside m _ (at_first e es m same)
+          at false test = g.beside m u (let other : e.slot ≢ m = grind (arith, nat_tests) in passed_event e es m other ∙ some)
 
   -- at a slot where a unit begins, and nothing else
   unit_step : (u : PlacedUnit) → u.slot ≡ n → AreFrom (n + 1) es → IsAhead t es (u ∷ us) n None
@@ -204,7 +204,7 @@ module _ (t : Timeline) (events : List Event) (units : List PlacedUnit) (old mid
       moved (record { slot = old.slot; next_unit = old.next_unit; next_event = old.next_event; repeat = None }) is (gives ∙ sym step.0, step.1) refl
 
   -- an event
-  pub event_gives : (e : Event) → old.repeat ≡ None → IsNext events old.next_event e → e.frame ≡ old.slot
+  pub event_gives : (e : Event) → old.repeat ≡ None → IsNext events old.next_event e → e.slot ≡ old.slot
       → mid ≡ record { slot = old.slot; next_unit = old.next_unit; next_event = old.next_event + 1; repeat = Some e.pair } → pair ≡ e.pair
       → GivesSlot t events units old (after mid) pair
   event_gives e due next here is gives =
@@ -214,13 +214,13 @@ module _ (t : Timeline) (events : List Event) (units : List PlacedUnit) (old mid
       moved (record { slot = old.slot; next_unit = old.next_unit; next_event = old.next_event + 1; repeat = Some e.pair }) is (gives ∙ sym step.0, step.1) refl
 
   -- the events to come are behind the slot where the next one isn't there
-  no_event : ((e : Event) → IsNext events old.next_event e → e.frame ≡ old.slot → ⊥) → AreFrom (old.slot + 1) (drop old.next_event events)
+  no_event : ((e : Event) → IsNext events old.next_event e → e.slot ≡ old.slot → ⊥) → AreFrom (old.slot + 1) (drop old.next_event events)
   no_event none = from_first (old.slot + 1) (drop old.next_event events) ready.events_apart behind
     where
-      behind : (e : Event) (rest : List Event) → drop old.next_event events ≡ e ∷ rest → old.slot + 1 ≤ e.frame
+      behind : (e : Event) (rest : List Event) → drop old.next_event events ≡ e ∷ rest → old.slot + 1 ≤ e.slot
       behind e rest is =
-          let from : old.slot ≤ e.frame = (subst (λ l. AreFrom old.slot l) is ready.events_from).0 in
-          let other : e.frame ≢ old.slot = none e (next_from_drop events old.next_event e rest is) in
+          let from : old.slot ≤ e.slot = (subst (λ l. AreFrom old.slot l) is ready.events_from).0 in
+          let other : e.slot ≢ old.slot = none e (next_from_drop events old.next_event e rest is) in
           omega (arith, from, other)
 
   -- and so the units
@@ -234,7 +234,7 @@ module _ (t : Timeline) (events : List Event) (units : List PlacedUnit) (old mid
           omega (arith, from, other)
 
   -- a unit
-  pub unit_gives : (u : PlacedUnit) → old.repeat ≡ None → ((e : Event) → IsNext events old.next_event e → e.frame ≡ old.slot → ⊥)
+  pub unit_gives : (u : PlacedUnit) → old.repeat ≡ None → ((e : Event) → IsNext events old.next_event e → e.slot ≡ old.slot → ⊥)
       → IsNext units old.next_unit u → u.slot ≡ old.slot
       → mid ≡ record { slot = old.slot; next_unit = old.next_unit + 1; next_event = old.next_event; repeat = repeat_of (Some u.unit) } → pair ≡ u.unit.pair
       → GivesSlot t events units old (after mid) pair
@@ -245,7 +245,7 @@ module _ (t : Timeline) (events : List Event) (units : List PlacedUnit) (old mid
       moved (record { slot = old.slot; next_unit = old.next_unit + 1; next_event = old.next_event; repeat = repeat_of (Some u.unit) }) is (gives ∙ sym step.0, step.1) refl
 
   -- nothing
-  pub null_gives : old.repeat ≡ None → ((e : Event) → IsNext events old.next_event e → e.frame ≡ old.slot → ⊥)
+  pub null_gives : old.repeat ≡ None → ((e : Event) → IsNext events old.next_event e → e.slot ≡ old.slot → ⊥)
       → ((u : PlacedUnit) → IsNext units old.next_unit u → u.slot ≡ old.slot → ⊥) → mid ≡ old → pair ≡ null_pair
       → GivesSlot t events units old (after mid) pair
   null_gives due none no_piece is gives =

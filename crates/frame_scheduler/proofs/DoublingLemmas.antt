@@ -22,18 +22,18 @@ use Rattle.frame_scheduler.proofs.EventLemmas.{event_none, some_slot}
 use Rattle.frame_scheduler.proofs.ColumnLemmas.{IsMarked, column_doubled}
 
 -- what begins at a frame where an event does
-pub at_event : (e : Event) (es : List Event) (n : ℕ) → (b : Bool) → eqb n e.frame ≡ b → event_at (e ∷ es) n ≡ cond b (Some (record { pair = e.pair; doubled = true })) (event_at es n)
+pub at_event : (e : Event) (es : List Event) (n : ℕ) → (b : Bool) → eqb n e.slot ≡ b → event_at (e ∷ es) n ≡ cond b (Some (record { pair = e.pair; doubled = true })) (event_at es n)
 at_event e es n b is = ap (λ c. cond c (Some (record { pair = e.pair; doubled = true })) (event_at es n)) is
 
 -- where an event begins, two slots aren't free
 pub event_held : (es : List Event) (n : ℕ) (u : Unit) → event_at es n ≡ Some u → (IsFree es n → ⊥) × (IsFree es (n + 1) → ⊥)
 event_held [] n u is = (λ f. cc, λ f. cc)
-event_held (e ∷ es) n u is = go (event_held es n u) (eqb n e.frame) refl
+event_held (e ∷ es) n u is = go (event_held es n u) (eqb n e.slot) refl
   where
-    go : (event_at es n ≡ Some u → (IsFree es n → ⊥) × (IsFree es (n + 1) → ⊥)) → (b : Bool) → eqb n e.frame ≡ b
+    go : (event_at es n ≡ Some u → (IsFree es n → ⊥) × (IsFree es (n + 1) → ⊥)) → (b : Bool) → eqb n e.slot ≡ b
         → (IsFree (e ∷ es) n → ⊥) × (IsFree (e ∷ es) (n + 1) → ⊥)
     go rest true b =
-        let here : n ≡ e.frame = grind (arith, nat_tests) in
+        let here : n ≡ e.slot = grind (arith, nat_tests) in
         (λ f. f.0 (sym here), λ f. f.1 (ap (λ m. m + 1) (sym here)))
     go rest false b =
         let w = rest (sym (at_event e es n false b) ∙ is) in
@@ -42,17 +42,17 @@ event_held (e ∷ es) n u is = go (event_held es n u) (eqb n e.frame) refl
 -- nothing begins in the second slot of an event among events that lie apart
 event_apart : (es : List Event) (n : ℕ) (u : Unit) → AreApart es → event_at es n ≡ Some u → event_at es (n + 1) ≡ None
 event_apart [] n u apart is = refl
-event_apart (e ∷ es) n u apart is = go (event_apart es n u apart.1) (eqb n e.frame) refl
+event_apart (e ∷ es) n u apart is = go (event_apart es n u apart.1) (eqb n e.slot) refl
   where
-    go : (event_at es n ≡ Some u → event_at es (n + 1) ≡ None) → (b : Bool) → eqb n e.frame ≡ b → event_at (e ∷ es) (n + 1) ≡ None
+    go : (event_at es n ≡ Some u → event_at es (n + 1) ≡ None) → (b : Bool) → eqb n e.slot ≡ b → event_at (e ∷ es) (n + 1) ≡ None
     go onward true b =
-        let here : n ≡ e.frame = grind (arith, nat_tests) in
-        let next : eqb (n + 1) e.frame ≡ false = grind (arith, nat_tests) in
-        at_event e es (n + 1) false next ∙ event_none (e.frame + 2) (n + 1) es apart.0 (omega arith)
+        let here : n ≡ e.slot = grind (arith, nat_tests) in
+        let next : eqb (n + 1) e.slot ≡ false = grind (arith, nat_tests) in
+        at_event e es (n + 1) false next ∙ event_none (e.slot + 2) (n + 1) es apart.0 (omega arith)
     go onward false b =
         let rest : event_at es n ≡ Some u = sym (at_event e es n false b) ∙ is in
-        let later : e.frame + 2 ≤ n = begins_from es (e.frame + 2) apart.0 rest in
-        let next : eqb (n + 1) e.frame ≡ false = grind (arith, nat_tests) in
+        let later : e.slot + 2 ≤ n = begins_from es (e.slot + 2) apart.0 rest in
+        let next : eqb (n + 1) e.slot ≡ false = grind (arith, nat_tests) in
         at_event e es (n + 1) false next ∙ onward rest
       where
         begins_from : (es : List Event) (m : ℕ) → AreFrom m es → event_at es n ≡ Some u → m ≤ n
@@ -63,9 +63,9 @@ event_apart (e ∷ es) n u apart is = go (event_apart es n u apart.1) (eqb n e.f
 -- an event is a doubled control pair
 event_marked : (es : List Event) (n : ℕ) (u : Unit) → All (λ e. IsTrue (is_control e.pair)) es → event_at es n ≡ Some u → is_control u.pair ≡ u.doubled
 event_marked [] n u all is = cc
-event_marked (e ∷ es) n u all is = go (event_marked es n u (All-tail (λ e. IsTrue (is_control e.pair)) e es all)) (eqb n e.frame) refl
+event_marked (e ∷ es) n u all is = go (event_marked es n u (All-tail (λ e. IsTrue (is_control e.pair)) e es all)) (eqb n e.slot) refl
   where
-    go : (event_at es n ≡ Some u → is_control u.pair ≡ u.doubled) → (b : Bool) → eqb n e.frame ≡ b → is_control u.pair ≡ u.doubled
+    go : (event_at es n ≡ Some u → is_control u.pair ≡ u.doubled) → (b : Bool) → eqb n e.slot ≡ b → is_control u.pair ≡ u.doubled
     go rest true b =
         let same : Some (record { pair = e.pair; doubled = true }) ≡ Some u = sym (at_event e es n true b) ∙ is in
         let it : record { pair = e.pair; doubled = true } ≡ u = cc in
@@ -77,7 +77,7 @@ event_marked (e ∷ es) n u all is = go (event_marked es n u (All-tail (λ e. Is
 event_over : (es : List Event) (k : ℕ) → AreOver (k + 1) es → event_at es k ≡ None
 event_over [] k a = refl
 event_over (e ∷ es) k a =
-    let test : eqb k e.frame ≡ false = let h : e.frame + 2 ≤ k + 1 = a.0 in grind (arith, nat_tests) in
+    let test : eqb k e.slot ≡ false = let h : e.slot + 2 ≤ k + 1 = a.0 in grind (arith, nat_tests) in
     at_event e es k false test ∙ event_over es k a.1
 
 -- what begins at a frame where a unit stands

@@ -18,16 +18,16 @@ over_later m n [] h a = tt
 over_later m n (e ∷ es) h a = (omega (arith, h, a.0), over_later m n es h a.1)
 
 -- one more event that is over
-pub over_push : (n : ℕ) (es : List Event) (e : Event) → AreOver n es → e.frame + 2 ≤ n → AreOver n (es ++ e ∷ [])
+pub over_push : (n : ℕ) (es : List Event) (e : Event) → AreOver n es → e.slot + 2 ≤ n → AreOver n (es ++ e ∷ [])
 over_push n [] e a h = (h, tt)
 over_push n (d ∷ es) e a h = (a.0, over_push n es e a.1 h)
 
 -- the events are from a frame on where the first one is
-pub from_first : (n : ℕ) (es : List Event) → AreApart es → ((e : Event) (rest : List Event) → es ≡ e ∷ rest → n ≤ e.frame) → AreFrom n es
+pub from_first : (n : ℕ) (es : List Event) → AreApart es → ((e : Event) (rest : List Event) → es ≡ e ∷ rest → n ≤ e.slot) → AreFrom n es
 from_first n [] a h = tt
 from_first n (e ∷ es) a h =
-    let here : n ≤ e.frame = h e es refl in
-    (here, from_earlier n (e.frame + 2) es (omega arith) a.0)
+    let here : n ≤ e.slot = h e es refl in
+    (here, from_earlier n (e.slot + 2) es (omega arith) a.0)
 
 -- events that are over hold no slot from there on
 pub free_over : (m n : ℕ) (es : List Event) → AreOver m es → m ≤ n → IsFree es n
@@ -45,7 +45,7 @@ free_append [] ds n a b = b
 free_append (e ∷ es) ds n a b = (a.0, a.1, free_append es ds n a.2 b)
 
 -- no slot of an event is free
-pub held_first : (past : List Event) (e : Event) (es : List Event) (n : ℕ) → IsFree (past ++ e ∷ es) n → (e.frame ≢ n) × (e.frame + 1 ≢ n)
+pub held_first : (past : List Event) (e : Event) (es : List Event) (n : ℕ) → IsFree (past ++ e ∷ es) n → (e.slot ≢ n) × (e.slot + 1 ≢ n)
 held_first [] e es n a = (a.0, a.1)
 held_first (d ∷ past) e es n a = held_first past e es n a.2
 
@@ -53,7 +53,7 @@ held_first (d ∷ past) e es n a = held_first past e es n a.2
 pub event_none : (m n : ℕ) (es : List Event) → AreFrom m es → n < m → event_at es n ≡ None
 event_none m n [] a h = refl
 event_none m n (e ∷ es) a h =
-    let later : m ≤ e.frame = a.0 in
+    let later : m ≤ e.slot = a.0 in
     let rest : event_at es n ≡ None = event_none m n es a.1 h in
     grind (arith, nat_tests)
 

@@ -1,4 +1,4 @@
--- The events of a channel of a list that keeps the rules are apart, and within its frames.
+-- The events of a channel of a list that keeps the rules in slots are apart, and within its slots.
 use Rattle.std.proofs.Common.{◌≡◌, ℕ, ◌+◌, ◌<◌, ◌≤◌, Bool, true, false, List, [], ◌∷◌, ◌++◌, refl, arith}
 use Rattle.std.specs.Prelude.{Option, Some, None, All, IfSome, IsSome, MatchOption, if◌then◌else◌}
 use Rattle.std.specs.List.{AllByRecursion}
@@ -6,8 +6,7 @@ use Rattle.std.proofs.lemmas.List.Elements.{All-from_recursion, recursion_from_A
 use Rattle.line21_codes.specs.declared.channels.Chan.{Chan}
 use Rattle.line21_codes.specs.declared.codes.Control.TheVariants.{Eoc, Edm}
 use Rattle.cue_lists.specs.Cues.{IsCueFormed}
-use Rattle.cue_lists.specs.Listing.{Listing, IsFormed}
-use Rattle.cue_lists.specs.Rules.{IsRuled}
+use Rattle.cue_lists.specs.Listing.{Listing}
 use Rattle.cue_lists.specs.Rules.Lane.{is_pop}
 use Rattle.cue_lists.specs.Rules.Sentences.{IsSound}
 use Rattle.cue_lists.specs.declared.cue.Cue.{Cue}
@@ -19,16 +18,17 @@ use Rattle.line21_author.specs.CueEvents.{event_of, is_replaced_at, show_events,
 use Rattle.line21_author.specs.EventOrder.{AreApart}
 use Rattle.line21_author.specs.declared.event.Event.{Event}
 use Rattle.line21_author.proofs.CueEventsLemmas.{events_of_apart}
+use Rattle.frame_scheduler.specs.SlotLists.{KeepsSlots, slot_cues, slots_in_list}
+use Rattle.frame_scheduler.proofs.SlotLemmas.{slot_cues_formed}
 
 -- the events of a channel are apart
-pub events_apart : (list : Listing) → IsFormed list → IsRuled list → (channel : Chan)
-    → AreApart (channel_events channel list.cues)
-events_apart list formed ruled channel =
-    events_of_apart (is_in_second_field channel) list.frames (cues_on channel list.cues) (ruled.channels channel)
+pub events_apart : (list : Listing) → KeepsSlots list → (channel : Chan) → AreApart (channel_events channel (slot_cues list channel))
+events_apart list keeps channel =
+    events_of_apart (is_in_second_field channel) (slots_in_list list channel) (cues_on channel (slot_cues list channel)) (keeps.sequence channel)
 
--- the event has ended when so many frames have
+-- the event has ended when so many slots have
 abbrev pub HasEnded : ℕ → Event → Type 0
-HasEnded frames event = event.frame + 2 ≤ frames
+HasEnded frames event = event.slot + 2 ≤ frames
 
 -- events before events
 ended-append : (frames : ℕ) (events more : List Event) → AllByRecursion (HasEnded frames) events
@@ -75,10 +75,11 @@ events_ended second_field frames (cue ∷ later) formed sound =
     (events_ended second_field frames later formed.1 sound.1)
 
 -- each event of a channel has ended when the list has, its repeat counted
-pub events_within : (list : Listing) → IsFormed list → IsRuled list → (channel : Chan)
-    → All (λ event. event.frame + 2 ≤ list.frames) (channel_events channel list.cues)
-events_within list formed ruled channel =
-    All-from_recursion (HasEnded list.frames) (channel_events channel list.cues)
-    (events_ended (is_in_second_field channel) list.frames (cues_on channel list.cues)
-    (recursion_from_All IsCueFormed (cues_on channel list.cues) (cues_on_formed channel list.cues formed.cues))
-    (in_sequence_sound list.frames (cues_on channel list.cues) (ruled.channels channel)))
+pub events_within : (list : Listing) → KeepsSlots list → (channel : Chan)
+    → All (λ event. event.slot + 2 ≤ slots_in_list list channel) (channel_events channel (slot_cues list channel))
+events_within list keeps channel =
+    let cues = cues_on channel (slot_cues list channel) in
+    All-from_recursion (HasEnded (slots_in_list list channel)) (channel_events channel (slot_cues list channel))
+    (events_ended (is_in_second_field channel) (slots_in_list list channel) cues
+    (recursion_from_All IsCueFormed cues (cues_on_formed channel (slot_cues list channel) (slot_cues_formed list keeps channel)))
+    (in_sequence_sound (slots_in_list list channel) cues (keeps.sequence channel)))

@@ -15,32 +15,32 @@ next_split : {T : Type 0} (xs : List T) (k : ℕ) (x : T) → IsNext xs k x → 
 next_split xs k x n = sym (take-append-drop k xs) ∙ ap (λ l. take k xs ++ l) n.splits
 
 -- the slots of the next event aren't free
-next_held : (events : List Event) (k : ℕ) (e : Event) (n : ℕ) → IsNext events k e → IsFree events n → (e.frame ≢ n) × (e.frame + 1 ≢ n)
+next_held : (events : List Event) (k : ℕ) (e : Event) (n : ℕ) → IsNext events k e → IsFree events n → (e.slot ≢ n) × (e.slot + 1 ≢ n)
 next_held events k e n next free = held_first (take k events) e (drop (k + 1) events) n (subst (λ l. IsFree l n) (next_split events k e next) free)
 
 -- one more event is passed
 pub over_next : (events : List Event) (k end : ℕ) (e : Event) → IsNext events k e → AreOver end (take k events)
-    → AreOver (max end (e.frame + 2)) (take (k + 1) events)
+    → AreOver (max end (e.slot + 2)) (take (k + 1) events)
 over_next events k end e next passed =
-    subst (λ l. AreOver (max end (e.frame + 2)) l) (sym (next_take events k e next))
-    (over_push (max end (e.frame + 2)) (take k events) e (over_later end (max end (e.frame + 2)) (take k events) (omega arith) passed) (omega arith))
+    subst (λ l. AreOver (max end (e.slot + 2)) l) (sym (next_take events k e next))
+    (over_push (max end (e.slot + 2)) (take k events) e (over_later end (max end (e.slot + 2)) (take k events) (omega arith) passed) (omega arith))
 
 -- no frame before the end of an event that begins before the slots' end has them all free
-pub first_next : (events : List Event) (slots start end k : ℕ) (e : Event) → 1 ≤ slots → IsNext events k e → e.frame < end + slots
-    → ((f : ℕ) → start ≤ f → AreFree events slots f → end ≤ f) → (f : ℕ) → start ≤ f → AreFree events slots f → max end (e.frame + 2) ≤ f
+pub first_next : (events : List Event) (slots start end k : ℕ) (e : Event) → 1 ≤ slots → IsNext events k e → e.slot < end + slots
+    → ((f : ℕ) → start ≤ f → AreFree events slots f → end ≤ f) → (f : ℕ) → start ≤ f → AreFree events slots f → max end (e.slot + 2) ≤ f
 first_next events slots start end k e some next low first f from free =
     let behind : end ≤ f = first f from free in
     ⊎_elim
-    (λ (h : f < e.frame + 2). ⊎_elim
-    (λ (i : e.frame < f). absurd ((next_held events k e f next (free f (omega arith) (omega arith))).1 (omega arith)))
-    (λ (i : f ≤ e.frame). absurd ((next_held events k e e.frame next (free e.frame i (omega arith))).0 refl))
-    (cases_lt e.frame f))
-    (λ (h : e.frame + 2 ≤ f). omega arith)
-    (cases_lt f (e.frame + 2))
+    (λ (h : f < e.slot + 2). ⊎_elim
+    (λ (i : e.slot < f). absurd ((next_held events k e f next (free f (omega arith) (omega arith))).1 (omega arith)))
+    (λ (i : f ≤ e.slot). absurd ((next_held events k e e.slot next (free e.slot i (omega arith))).0 refl))
+    (cases_lt e.slot f))
+    (λ (h : e.slot + 2 ≤ f). omega arith)
+    (cases_lt f (e.slot + 2))
 
 -- behind the events passed, slots before the next event are free
 pub free_behind : (events : List Event) (slots k end : ℕ) → AreApart (drop k events) → AreOver end (take k events)
-    → ((e : Event) → IsNext events k e → end + slots ≤ e.frame) → AreFree events slots end
+    → ((e : Event) → IsNext events k e → end + slots ≤ e.slot) → AreFree events slots end
 free_behind events slots k end apart passed clear n low high =
     let from : AreFrom (end + slots) (drop k events) = from_first (end + slots) (drop k events) apart (λ e rest is. clear e (next_from_drop events k e rest is)) in
     subst (λ l. IsFree l n) (take-append-drop k events)
@@ -53,10 +53,10 @@ apart_drop (suc k) [] a = a
 apart_drop (suc k) (e ∷ events) a = apart_drop k events a.1
 
 -- one more event behind the others
-pub apart_push : (es : List Event) (e : Event) → AreApart es → AreOver e.frame es → AreApart (es ++ e ∷ [])
+pub apart_push : (es : List Event) (e : Event) → AreApart es → AreOver e.slot es → AreApart (es ++ e ∷ [])
 apart_push [] e apart passed = (tt, tt)
 apart_push (d ∷ es) e apart passed = (from_push es apart.0, apart_push es e apart.1 passed.1)
   where
-    from_push : (ds : List Event) → AreFrom (d.frame + 2) ds → AreFrom (d.frame + 2) (ds ++ e ∷ [])
+    from_push : (ds : List Event) → AreFrom (d.slot + 2) ds → AreFrom (d.slot + 2) (ds ++ e ∷ [])
     from_push [] a = (passed.0, tt)
     from_push (f ∷ ds) a = (a.0, from_push ds a.1)

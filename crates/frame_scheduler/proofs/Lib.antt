@@ -1,6 +1,7 @@
 pub mod PlacingLemmas
 pub mod FieldLaneLemmas
 pub mod FirstFitLemmas
+pub mod SlotPlacingLemmas
 pub mod EventLemmas
 pub mod NextLemmas
 pub mod CursorLemmas
@@ -10,6 +11,7 @@ pub mod LanePlanLemmas
 pub mod ColumnLemmas
 pub mod DoublingLemmas
 pub mod OneCueLemmas
+pub mod SlotLemmas
 pub mod LanesLemmas
 pub mod NextFrameLemmas
 pub mod ChannelOrderLemmas

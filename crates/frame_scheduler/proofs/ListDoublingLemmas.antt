@@ -1,6 +1,7 @@
 -- In the columns of a placed list every control pair is doubled.
-use Rattle.std.proofs.Common.{◌≡◌, ◌<◌, ◌≤◌, ◌+◌, ◌++◌, ℕ, zero, suc, List, [], ◌∷◌, ap, refl, sym, subst, arith, true, false, Bool, Option, Some, None, All}
-use Rattle.std.specs.Prelude.{if◌then◌else◌, IfSome, IsTrue, MatchOption}
+use Rattle.std.proofs.Common.{◌≡◌, ◌∙◌, append-nil, ◌<◌, ◌≤◌, ◌+◌, ◌++◌, ℕ, zero, suc, List, [], ◌∷◌, ap, refl, sym, subst, arith, true, false, Bool, Option, Some, None, All}
+use Rattle.std.specs.Prelude.{if◌then◌else◌, IfSome, IsTrue, MatchOption, option_to_list}
+use Rattle.std.specs.Option.{option_map}
 use Rattle.std.specs.List.{AllByRecursion}
 use Rattle.std.proofs.lemmas.List.Elements.{All-append, All-head, All-map, All-nil, All-tail, All-weaker}
 use Rattle.line21_codes.specs.ControlPairs.{is_control}
@@ -15,6 +16,9 @@ use Rattle.cue_lists.specs.declared.cue.Cue.{Cue}
 use Rattle.cue_lists.specs.declared.lane.Lane.TheVariants.{Channel}
 use Rattle.line21_codes.specs.declared.pairs.Pair.{Pair}
 use Rattle.line21_author.specs.Channels.{cues_on, is_on}
+use Rattle.line21_slots.specs.Cadences.{cadence_of, has_slot_in, slot_from, slot_in}
+use Rattle.line21_slots.specs.declared.cadence.Cadence.{Cadence}
+use Rattle.line21_slots.proofs.CadenceLemmas.{slot_from_first, slot_more, slot_no_more}
 use Rattle.line21_author.specs.CueEvents.{channel_events}
 use Rattle.line21_author.specs.CueUnits.{units_of}
 use Rattle.line21_author.specs.EventPairs.{IsControlEvent}
@@ -24,16 +28,18 @@ use Rattle.line21_author.specs.declared.unit.Unit.{Unit}
 use Rattle.line21_author.proofs.CueEventsLemmas.{channel_events_control}
 use Rattle.line21_author.proofs.CueUnitsLemmas.{units_of_carried}
 use Rattle.frame_scheduler.specs.declared.lane.piece.Piece.{Piece}
-use Rattle.frame_scheduler.specs.ChannelLane.{IsChannelPlaced, channel_pieces, channel_slot, cue_pieces, pieces_from}
+use Rattle.frame_scheduler.specs.ChannelLane.{IsChannelPlaced, channel_pieces, cue_pieces, pieces_from}
 use Rattle.frame_scheduler.specs.Columns.{first_pairs}
 use Rattle.frame_scheduler.specs.DoubledPairs.{IsDoubled}
 use Rattle.frame_scheduler.specs.LaneDoubling.{AreDoubledControls, AreEnded}
 use Rattle.frame_scheduler.specs.LaneEvents.{AreOver}
 use Rattle.frame_scheduler.specs.LaneTimeline.{lane_timeline}
-use Rattle.frame_scheduler.specs.Planned.{IsListPlaced, Placement, columns_of}
-use Rattle.frame_scheduler.specs.Timeline.{column}
+use Rattle.frame_scheduler.specs.Planned.{IsListPlaced, Placement, channel_pair, columns_of}
+use Rattle.frame_scheduler.specs.SlotLists.{KeepsSlots, slot_cues, slots_in_list}
+use Rattle.frame_scheduler.specs.Timeline.{Timeline, column, slot}
 use Rattle.frame_scheduler.proofs.DoublingLemmas.{lane_doubled}
 use Rattle.frame_scheduler.proofs.EventsApartLemmas.{events_apart, events_within}
+use Rattle.frame_scheduler.proofs.SlotLemmas.{keeps_slots, slot_cues_formed}
 
 -- a unit's pair is a control pair where it is doubled, and its time has ended at the list's end
 record IsWithin (frames : ℕ) (piece : Piece) : Type 0 where
@@ -63,58 +69,81 @@ pieces_within channel frames number (cue ∷ cues) formed sound =
       | false ↦ λ all. behind all
     ]) sound
 
-events_over : (frames : ℕ) (events : List Event) → All (λ event. event.frame + 2 ≤ frames) events → AreOver frames events
+events_over : (frames : ℕ) (events : List Event) → All (λ event. event.slot + 2 ≤ frames) events → AreOver frames events
 events_over frames [] all = tt
 events_over frames (event ∷ events) all =
-    (All-head (λ event. event.frame + 2 ≤ frames) event events all, events_over frames events (All-tail (λ event. event.frame + 2 ≤ frames) event events all))
+    (All-head (λ event. event.slot + 2 ≤ frames) event events all, events_over frames events (All-tail (λ event. event.slot + 2 ≤ frames) event events all))
 
 -- the units of a channel's cues are within the list, and doubled where their pairs are control pairs
-channel_within : (list : Listing) (channel : Chan) → IsFormed list → IsRuled list → All (IsWithin list.frames) (channel_pieces channel list.cues)
-channel_within list channel formed ruled =
-    pieces_within channel list.frames 1 list.cues formed.cues
-    (in_sequence_sound list.frames (cues_on channel list.cues) (ruled.channels channel))
+channel_within : (list : Listing) (channel : Chan) → KeepsSlots list
+    → All (IsWithin (slots_in_list list channel)) (channel_pieces channel (slot_cues list channel))
+channel_within list channel keeps =
+    pieces_within channel (slots_in_list list channel) 1 (slot_cues list channel) (slot_cues_formed list keeps channel)
+    (in_sequence_sound (slots_in_list list channel) (cues_on channel (slot_cues list channel)) (keeps.sequence channel))
 
 -- what begins on a channel is doubled exactly where it is a control pair
-pub channel_controls : (list : Listing) (channel : Chan) → IsFormed list → IsRuled list
-    → AreDoubledControls (channel_events channel list.cues) (channel_pieces channel list.cues)
-channel_controls list channel formed ruled =
-    let events = channel_events channel list.cues in
-    let pieces = channel_pieces channel list.cues in
+pub channel_controls : (list : Listing) (channel : Chan) → KeepsSlots list
+    → AreDoubledControls (channel_events channel (slot_cues list channel)) (channel_pieces channel (slot_cues list channel))
+channel_controls list channel keeps =
+    let events = channel_events channel (slot_cues list channel) in
+    let pieces = channel_pieces channel (slot_cues list channel) in
     record {
       events_are = All-weaker IsControlEvent (λ event. IsTrue (is_control event.pair)) (λ event control. control.control) events
-          (channel_events_control channel list.cues events refl);
-      pieces_are = All-weaker (IsWithin list.frames) (λ piece. is_control piece.unit.pair ≡ piece.unit.doubled) (λ piece w. w.doubled) pieces
-          (channel_within list channel formed ruled);
+          (channel_events_control channel (slot_cues list channel) events refl);
+      pieces_are = All-weaker (IsWithin (slots_in_list list channel)) (λ piece. is_control piece.unit.pair ≡ piece.unit.doubled) (λ piece w. w.doubled) pieces
+          (channel_within list channel keeps);
     }
 
--- the slots of a channel are doubled
-channel_doubled : (list : Listing) (channel : Chan) (placed : List ℕ) → IsFormed list → IsRuled list → IsChannelPlaced channel list.cues placed
-    → IsDoubled (column (lane_timeline (channel_events channel list.cues) (channel_pieces channel list.cues) placed) list.frames)
-channel_doubled list channel placed formed ruled earliest =
-    let events = channel_events channel list.cues in
-    let pieces = channel_pieces channel list.cues in
-    let ended : AreEnded events pieces list.frames = record {
-      events_are = events_over list.frames events (events_within list formed ruled channel);
-      pieces_are = All-weaker (IsWithin list.frames) (λ piece. piece.until ≤ list.frames) (λ piece w. w.ended) pieces
-          (channel_within list channel formed ruled);
-    } in
-    lane_doubled events pieces placed list.frames (events_apart list formed ruled channel) (channel_controls list channel formed ruled) ended earliest.placed
+-- what begins in the slots of a channel
+abbrev pub channel_timeline : Listing → Chan → List ℕ → Timeline
+channel_timeline list channel placed = lane_timeline (channel_events channel (slot_cues list channel)) (channel_pieces channel (slot_cues list channel)) placed
 
--- the pairs of a field are the slots of its channel
+-- the slots of a channel are doubled
+channel_doubled : (list : Listing) (channel : Chan) (placed : List ℕ) → KeepsSlots list → IsChannelPlaced channel (slot_cues list channel) placed
+    → IsDoubled (column (channel_timeline list channel placed) (slots_in_list list channel))
+channel_doubled list channel placed keeps earliest =
+    let events = channel_events channel (slot_cues list channel) in
+    let pieces = channel_pieces channel (slot_cues list channel) in
+    let slots = slots_in_list list channel in
+    let ended : AreEnded events pieces slots = record {
+      events_are = events_over slots events (events_within list keeps channel);
+      pieces_are = All-weaker (IsWithin slots) (λ piece. piece.until ≤ slots) (λ piece w. w.ended) pieces (channel_within list channel keeps);
+    } in
+    lane_doubled events pieces placed slots (events_apart list keeps channel) (channel_controls list channel keeps) ended earliest.placed
+
+-- one more frame has one more pair where it has a slot
+column_and : (c : Cadence) (t : Timeline) (n : ℕ)
+    → column t (slot_from c n) ++ option_to_list (option_map (slot t) (slot_in c n)) ≡ column t (slot_from c (suc n))
+column_and c t n = by_test (has_slot_in c n) refl
+  where
+    by_test : (b : Bool) → has_slot_in c n ≡ b
+        → column t (slot_from c n) ++ option_to_list (option_map (slot t) (slot_in c n)) ≡ column t (slot_from c (suc n))
+    by_test true test = rw test (ap (column t) (sym (slot_more c n test)))
+    by_test false test = rw test (append-nil (column t (slot_from c n)) ∙ ap (column t) (sym (slot_no_more c n test)))
+
+-- the pairs of a field in the frames below n are the slots of its channel in these frames
 pub field_one_is : (list : Listing) (placed : Placement) (n : ℕ)
-    → first_pairs false (columns_of list placed) n ≡ column (lane_timeline (channel_events Cc1 list.cues) (channel_pieces Cc1 list.cues) (placed (Channel Cc1))) n
-field_one_is list placed zero = refl
-field_one_is list placed (suc n) = ap (λ (pairs : List Pair). pairs ++ channel_slot Cc1 list.cues (placed (Channel Cc1)) n ∷ []) (field_one_is list placed n)
+    → first_pairs false (columns_of list placed) n ≡ column (channel_timeline list Cc1 (placed (Channel Cc1))) (slot_from (cadence_of list.rate Cc1) n)
+field_one_is list placed zero = ap (column (channel_timeline list Cc1 (placed (Channel Cc1)))) (sym (slot_from_first (cadence_of list.rate Cc1)))
+field_one_is list placed (suc n) =
+    ap (λ (pairs : List Pair). pairs ++ option_to_list (channel_pair list Cc1 (placed (Channel Cc1)) n)) (field_one_is list placed n)
+    ∙ column_and (cadence_of list.rate Cc1) (channel_timeline list Cc1 (placed (Channel Cc1))) n
 
 pub field_two_is : (list : Listing) (placed : Placement) (n : ℕ)
-    → first_pairs true (columns_of list placed) n ≡ column (lane_timeline (channel_events Cc3 list.cues) (channel_pieces Cc3 list.cues) (placed (Channel Cc3))) n
-field_two_is list placed zero = refl
-field_two_is list placed (suc n) = ap (λ (pairs : List Pair). pairs ++ channel_slot Cc3 list.cues (placed (Channel Cc3)) n ∷ []) (field_two_is list placed n)
+    → first_pairs true (columns_of list placed) n ≡ column (channel_timeline list Cc3 (placed (Channel Cc3))) (slot_from (cadence_of list.rate Cc3) n)
+field_two_is list placed zero = ap (column (channel_timeline list Cc3 (placed (Channel Cc3)))) (sym (slot_from_first (cadence_of list.rate Cc3)))
+field_two_is list placed (suc n) =
+    ap (λ (pairs : List Pair). pairs ++ option_to_list (channel_pair list Cc3 (placed (Channel Cc3)) n)) (field_two_is list placed n)
+    ∙ column_and (cadence_of list.rate Cc3) (channel_timeline list Cc3 (placed (Channel Cc3))) n
 
 -- the pairs of each field of a placed list are doubled
+pub slots_doubled : (list : Listing) (placed : Placement) → KeepsSlots list → IsListPlaced list placed
+    → (second_field : Bool) → IsDoubled (first_pairs second_field (columns_of list placed) list.frames)
+slots_doubled list placed keeps is false =
+    subst IsDoubled (sym (field_one_is list placed list.frames)) (channel_doubled list Cc1 (placed (Channel Cc1)) keeps (is (Channel Cc1)))
+slots_doubled list placed keeps is true =
+    subst IsDoubled (sym (field_two_is list placed list.frames)) (channel_doubled list Cc3 (placed (Channel Cc3)) keeps (is (Channel Cc3)))
+
 pub columns_doubled : (list : Listing) (placed : Placement) → IsFormed list → IsRuled list → IsListPlaced list placed
     → (second_field : Bool) → IsDoubled (first_pairs second_field (columns_of list placed) list.frames)
-columns_doubled list placed formed ruled is false =
-    subst IsDoubled (sym (field_one_is list placed list.frames)) (channel_doubled list Cc1 (placed (Channel Cc1)) formed ruled (is (Channel Cc1)))
-columns_doubled list placed formed ruled is true =
-    subst IsDoubled (sym (field_two_is list placed list.frames)) (channel_doubled list Cc3 (placed (Channel Cc3)) formed ruled (is (Channel Cc3)))
+columns_doubled list placed formed ruled = slots_doubled list placed (keeps_slots list formed ruled)

@@ -1,58 +1,100 @@
 -- The next frame of a plan.
-use Rattle.std.proofs.Common.{◌≡◌, ◌∙◌, ◌+◌, ◌-◌, ◌^◌, ◌<◌, ◌≤◌, ℕ, List, [], ◌∷◌, Some, All, length, ap, refl, sym, subst, arith}
-use Rattle.std.specs.Prelude.{slice_get, slice_set}
+use Rattle.std.proofs.Common.{◌≡◌, ◌∙◌, ◌+◌, ◌-◌, ◌^◌, ◌<◌, ◌≤◌, ℕ, zero, suc, Bool, true, false, List, [], ◌∷◌, Option, Some, None, All, length, ap, refl, sym, subst, arith}
+use Rattle.std.specs.Prelude.{if◌then◌else◌, slice_get, slice_set}
+use Rattle.std.specs.Option.{option_map}
 use Rattle.std.proofs.lemmas.List.Elements.{All-cons, All-head, All-nil, All-tail}
 use Rattle.arrayvec.specs.ArrayVec.{ArrayVec}
+use Rattle.line21_codes.specs.declared.channels.Chan.TheVariants.{Cc1, Cc3}
 use Rattle.line21_codes.specs.declared.pairs.Pair.{Pair}
+use Rattle.line21_slots.specs.Cadences.{cadence_of, has_slot_in, slot_from}
+use Rattle.line21_slots.specs.declared.cadence.Cadence.{Cadence}
+use Rattle.line21_slots.proofs.CadenceLemmas.{slot_more, slot_no_more}
 use Rattle.frame_scheduler.specs.Columns.{Columns}
 use Rattle.frame_scheduler.specs.Frames.{GivesFrom}
-use Rattle.frame_scheduler.specs.LanePlan.{Planned, coming_pair}
-use Rattle.frame_scheduler.specs.LaneTimeline.{placed_timeline}
-use Rattle.frame_scheduler.specs.Timeline.{slot}
+use Rattle.frame_scheduler.specs.LanePlan.{Planned, behind_frame, given_in, lane_pair, pair_at}
 use Rattle.frame_scheduler.specs.declared.frames.FrameBytes.{FrameBytes}
 use Rattle.frame_scheduler.specs.declared.frames.Plan.{Plan}
 
--- a lane one slot on
-abbrev moved : Planned → Planned
-moved planned = record planned { slot = planned.slot + 1 }
+-- a step of one of the lanes in a frame
+abbrev Steps : Cadence → ℕ → List Planned → ℕ → Option Pair → List Planned → Type 0
+Steps cadence frame lanes index pair new = (lane : Planned) → slice_get lanes index ≡ Some lane
+    → (pair ≡ given_in cadence frame lane) × (new ≡ slice_set lanes index (behind_frame cadence frame lane))
 
--- a step of one of the lanes
-abbrev Steps : List Planned → ℕ → Pair → List Planned → Type 0
-Steps lanes index pair new = (lane : Planned) → slice_get lanes index ≡ Some lane
-    → (pair ≡ coming_pair lane 0) × (new ≡ slice_set lanes index (moved lane))
+-- a lane that is at the first slot that isn't before a frame gives the frame's pair
+given_is : (c : Cadence) (one : Planned) (f : ℕ) → one.slot ≡ slot_from c f → given_in c f one ≡ lane_pair c one f
+given_is c one f at =
+    subst (λ k. given_in c f one ≡ option_map (pair_at one) (if has_slot_in c f then Some k else None)) at (by_test (has_slot_in c f))
+  where
+    by_test : (b : Bool) → (if b then Some (pair_at one one.slot) else None) ≡ option_map (pair_at one) (if b then Some one.slot else None)
+    by_test true = refl
+    by_test false = refl
 
--- its pairs from there on
-moved_pair : (planned : Planned) (n : ℕ) → coming_pair planned (n + 1) ≡ coming_pair (moved planned) n
-moved_pair planned n =
-    let e : planned.slot + (n + 1) ≡ planned.slot + 1 + n = omega arith in
-    ap (λ m. slot (placed_timeline planned.events planned.units) m) e
+-- behind the frame it is at the first slot that isn't before the next
+behind_at : (c : Cadence) (one : Planned) (f : ℕ) → one.slot ≡ slot_from c f → (behind_frame c f one).slot ≡ slot_from c (f + 1)
+behind_at c one f at = by_test (has_slot_in c f) refl
+  where
+    next : suc f ≡ f + 1
+    next = omega arith
+
+    by_test : (b : Bool) → has_slot_in c f ≡ b → (if has_slot_in c f then one.slot + 1 else one.slot) ≡ slot_from c (f + 1)
+    by_test true test =
+        let more : slot_from c (suc f) ≡ suc (slot_from c f) = slot_more c f test in
+        let one_more : one.slot + 1 ≡ suc (slot_from c f) = omega arith in
+        rw test (one_more ∙ sym more ∙ ap (slot_from c) next)
+    by_test false test = rw test (at ∙ sym (slot_no_more c f test) ∙ ap (slot_from c) next)
+
+-- a lane that is put in its own place changes nothing
+set_own : (lanes : List Planned) (index : ℕ) (lane : Planned) → slice_get lanes index ≡ Some lane → slice_set lanes index lane ≡ lanes
+set_own [] index lane is = refl
+set_own (one ∷ rest) zero lane is = let same : one ≡ lane = cc in ap (λ (l : Planned). l ∷ rest) (sym same)
+set_own (one ∷ rest) (suc index) lane is = ap (λ (l : List Planned). one ∷ l) (set_own rest index lane is)
+
+-- so a frame without a slot leaves a lane as it is
+pub none_given : (c : Cadence) (f : ℕ) (lanes : List Planned) (index : ℕ) → has_slot_in c f ≡ false → (lane : Planned) → slice_get lanes index ≡ Some lane
+    → (◌≡◌ {A = Option Pair} None (given_in c f lane)) × (lanes ≡ slice_set lanes index (behind_frame c f lane))
+none_given c f lanes index none lane is = rw none (refl, sym (set_own lanes index lane is))
 
 -- what a frame carries, by its parts
-frame_same : (a b c d : Pair) (blocks : ArrayVec ℕ) → a ≡ b → c ≡ d → blocks.items ≡ []
-    → ◌≡◌ {A = FrameBytes} (record { one = Some a; two = Some c; blocks = blocks }) (record { one = Some b; two = Some d; blocks = record { items = [] } })
+frame_same : (a b c d : Option Pair) (blocks : ArrayVec ℕ) → a ≡ b → c ≡ d → blocks.items ≡ []
+    → ◌≡◌ {A = FrameBytes} (record { one = a; two = c; blocks = blocks }) (record { one = b; two = d; blocks = record { items = [] } })
 frame_same a b c d blocks one two none =
     let empty : blocks ≡ record { items = [] } = ap (λ (items : List ℕ). record { items = items }) none in
     rw (one, two, empty) refl
 
-pub next_frame : (columns : Columns) (frame : ℕ) (old new : Plan) (a b : Pair) (mid : List Planned) (blocks : ArrayVec ℕ) → GivesFrom columns frame old
-    → Steps old.lanes 0 a mid → Steps mid 1 b new.lanes → blocks.items ≡ []
-    → (◌≡◌ {A = FrameBytes} (record { one = Some a; two = Some b; blocks = blocks }) (columns frame)) × GivesFrom columns (frame + 1) new
-next_frame columns frame old new a b mid blocks gives first second none =
+pub next_frame : (columns : Columns) (frame : ℕ) (old new : Plan) (a b : Option Pair) (mid : List Planned) (blocks : ArrayVec ℕ) (c d : Cadence)
+    → c ≡ cadence_of old.rate Cc1 → d ≡ cadence_of old.rate Cc3 → GivesFrom columns frame old
+    → Steps c old.frame old.lanes 0 a mid → Steps d old.frame mid 1 b new.lanes
+    → new.rate ≡ old.rate → new.frame ≡ old.frame + 1 → blocks.items ≡ []
+    → (◌≡◌ {A = FrameBytes} (record { one = a; two = b; blocks = blocks }) (columns frame)) × GivesFrom columns (frame + 1) new
+next_frame columns frame old new a b mid blocks c d c_is d_is gives on_first on_second rate on none =
+    let first : Steps (cadence_of old.rate Cc1) old.frame old.lanes 0 a mid = subst (λ k. Steps k old.frame old.lanes 0 a mid) c_is on_first in
+    let second : Steps (cadence_of old.rate Cc3) old.frame mid 1 b new.lanes = subst (λ k. Steps k old.frame mid 1 b new.lanes) d_is on_second in
     let one = first gives.one (ap (λ lanes. slice_get lanes 0) gives.lanes) in
-    let mid_is : mid ≡ moved gives.one ∷ gives.two ∷ [] = one.1 ∙ ap (λ lanes. slice_set lanes 0 (moved gives.one)) gives.lanes in
+    let mid_is : mid ≡ behind_frame (cadence_of old.rate Cc1) old.frame gives.one ∷ gives.two ∷ [] =
+    one.1 ∙ ap (λ lanes. slice_set lanes 0 (behind_frame (cadence_of old.rate Cc1) old.frame gives.one)) gives.lanes in
     let two = second gives.two (ap (λ lanes. slice_get lanes 1) mid_is) in
-    let new_is : new.lanes ≡ moved gives.one ∷ moved gives.two ∷ [] = two.1 ∙ ap (λ lanes. slice_set lanes 1 (moved gives.two)) mid_is in
-    let here : frame + 0 ≡ frame = omega arith in (
-      frame_same a (coming_pair gives.one 0) b (coming_pair gives.two 0) blocks one.0 two.0 none ∙ sym (gives.frame_is 0) ∙ ap columns here,
+    let new_is : new.lanes ≡ behind_frame (cadence_of old.rate Cc1) old.frame gives.one ∷ behind_frame (cadence_of old.rate Cc3) old.frame gives.two ∷ [] =
+    two.1 ∙ ap (λ lanes. slice_set lanes 1 (behind_frame (cadence_of old.rate Cc3) old.frame gives.two)) mid_is in
+    let one_at : gives.one.slot ≡ slot_from (cadence_of old.rate Cc1) old.frame = gives.one_at ∙ ap (slot_from (cadence_of old.rate Cc1)) (sym gives.frame_is) in
+    let two_at : gives.two.slot ≡ slot_from (cadence_of old.rate Cc3) old.frame = gives.two_at ∙ ap (slot_from (cadence_of old.rate Cc3)) (sym gives.frame_is) in (
+      frame_same a (lane_pair (cadence_of old.rate Cc1) gives.one old.frame) b (lane_pair (cadence_of old.rate Cc3) gives.two old.frame) blocks
+          (one.0 ∙ given_is (cadence_of old.rate Cc1) gives.one old.frame one_at)
+          (two.0 ∙ given_is (cadence_of old.rate Cc3) gives.two old.frame two_at) none
+          ∙ sym (gives.column_is old.frame) ∙ ap columns gives.frame_is,
       record {
-        one = moved gives.one;
-        two = moved gives.two;
+        one = behind_frame (cadence_of old.rate Cc1) old.frame gives.one;
+        two = behind_frame (cadence_of old.rate Cc3) old.frame gives.two;
         lanes = new_is;
-        frame_is = λ n.
-            let on : frame + 1 + n ≡ frame + (n + 1) = omega arith in
-            ap columns on ∙ gives.frame_is (n + 1)
-            ∙ frame_same (coming_pair gives.one (n + 1)) (coming_pair (moved gives.one) n) (coming_pair gives.two (n + 1)) (coming_pair (moved gives.two) n)
-            (record { items = [] }) (moved_pair gives.one n) (moved_pair gives.two n) refl;
+        frame_is = on ∙ ap (λ (n : ℕ). n + 1) gives.frame_is;
+        one_at = behind_at (cadence_of old.rate Cc1) gives.one old.frame one_at ∙ ap (λ n. slot_from (cadence_of old.rate Cc1) (n + 1)) gives.frame_is
+            ∙ ap (λ r. slot_from (cadence_of r Cc1) (frame + 1)) (sym rate);
+        two_at = behind_at (cadence_of old.rate Cc3) gives.two old.frame two_at ∙ ap (λ n. slot_from (cadence_of old.rate Cc3) (n + 1)) gives.frame_is
+            ∙ ap (λ r. slot_from (cadence_of r Cc3) (frame + 1)) (sym rate);
+        column_is = λ n. subst (λ r. columns n ≡ record {
+          one = lane_pair (cadence_of r Cc1) gives.one n;
+          two = lane_pair (cadence_of r Cc3) gives.two n;
+          blocks = record { items = [] };
+        }) (sym rate) (gives.column_is n);
       },
     )
 
@@ -83,10 +125,18 @@ first_left lanes left long some within lane at =
     let same : two.0 ≡ lane = cc in
     subst (λ (p : Planned). p.slot + 1 < 2 ^ 32) same (omega arith)
 
-module _ (lanes mid : List Planned) (left : ℕ) (a : Pair) (long : length lanes ≡ 2) (some : 1 ≤ left) (within : All (Within left) lanes)
-    (first : Steps lanes 0 a mid) where
-  mid_is : (one two : Planned) → lanes ≡ one ∷ two ∷ [] → mid ≡ moved one ∷ two ∷ []
-  mid_is one two is = (first one (ap (λ l. slice_get l 0) is)).1 ∙ ap (λ l. slice_set l 0 (moved one)) is
+-- one step takes at most one slot
+behind_low : (c : Cadence) (f left : ℕ) (one : Planned) → 1 ≤ left → Within left one → Within (left - 1) (behind_frame c f one)
+behind_low c f left one some within = by_test (has_slot_in c f)
+  where
+    by_test : (b : Bool) → left - 1 + (if b then one.slot + 1 else one.slot) < 2 ^ 32
+    by_test true = omega arith
+    by_test false = omega arith
+
+module _ (c : Cadence) (f : ℕ) (lanes mid : List Planned) (left : ℕ) (a : Option Pair) (long : length lanes ≡ 2) (some : 1 ≤ left)
+    (within : All (Within left) lanes) (first : Steps c f lanes 0 a mid) where
+  mid_is : (one two : Planned) → lanes ≡ one ∷ two ∷ [] → mid ≡ behind_frame c f one ∷ two ∷ []
+  mid_is one two is = (first one (ap (λ l. slice_get l 0) is)).1 ∙ ap (λ l. slice_set l 0 (behind_frame c f one)) is
 
   -- between both steps
   pub second_left : (lane : Planned) → slice_get mid 1 ≡ Some lane → lane.slot + 1 < 2 ^ 32
@@ -99,14 +149,13 @@ module _ (lanes mid : List Planned) (left : ℕ) (a : Pair) (long : length lanes
       subst (λ (p : Planned). p.slot + 1 < 2 ^ 32) same (omega arith)
 
   -- and behind them
-  pub both_left : (new : List Planned) (b : Pair) → Steps mid 1 b new → All (Within (left - 1)) new
-  both_left new b second =
+  pub both_left : (d : Cadence) (new : List Planned) (b : Option Pair) → Steps d f mid 1 b new → All (Within (left - 1)) new
+  both_left d new b second =
       let two = two_of lanes long in
       let w = both_within lanes left within two.0 two.1 two.2 in
       let m = mid_is two.0 two.1 two.2 in
-      let is : new ≡ moved two.0 ∷ moved two.1 ∷ [] = (second two.1 (ap (λ l. slice_get l 1) m)).1 ∙ ap (λ l. slice_set l 1 (moved two.1)) m in
-      let low : left + two.0.slot < 2 ^ 32 = w.0 in
-      let lower : left + two.1.slot < 2 ^ 32 = w.1 in
+      let is : new ≡ behind_frame c f two.0 ∷ behind_frame d f two.1 ∷ [] =
+      (second two.1 (ap (λ l. slice_get l 1) m)).1 ∙ ap (λ l. slice_set l 1 (behind_frame d f two.1)) m in
       subst (All (Within (left - 1))) (sym is)
-      (All-cons (Within (left - 1)) (moved two.0) (moved two.1 ∷ []) (omega arith)
-      (All-cons (Within (left - 1)) (moved two.1) [] (omega arith) (All-nil (Within (left - 1)))))
+      (All-cons (Within (left - 1)) (behind_frame c f two.0) (behind_frame d f two.1 ∷ []) (behind_low c f left two.0 some w.0)
+      (All-cons (Within (left - 1)) (behind_frame d f two.1) [] (behind_low d f left two.1 some w.1) (All-nil (Within (left - 1)))))

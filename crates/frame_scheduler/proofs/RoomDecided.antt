@@ -22,6 +22,7 @@ use Rattle.frame_scheduler.specs.OneMore.{FitsEarlier}
 use Rattle.frame_scheduler.specs.Placing.{HasEarliest, IsEarliest}
 use Rattle.frame_scheduler.specs.Planned.{IsListPlaced, Placement}
 use Rattle.frame_scheduler.specs.Planned as list
+use Rattle.frame_scheduler.specs.SlotLists.{slot_cues}
 use Rattle.frame_scheduler.proofs.ChannelOrderLemmas.{channel_in_order}
 use Rattle.frame_scheduler.proofs.FieldLaneLemmas.{fits_earlier}
 use Rattle.frame_scheduler.proofs.LaneRoomLemmas.{no_room_at, room_all}
@@ -36,9 +37,9 @@ Decided P = P ⊎ (P → ⊥)
 free_decided : (events : List Event) (n : ℕ) → Decided (IsFree events n)
 free_decided [] n = inl tt
 free_decided (event ∷ events) n =
-    elim (cases_eq event.frame n) [
+    elim (cases_eq event.slot n) [
       | inl first ↦ inr (λ free. free.0 first)
-      | inr not_first ↦ elim (cases_eq (event.frame + 1) n) [
+      | inr not_first ↦ elim (cases_eq (event.slot + 1) n) [
         | inl second ↦ inr (λ free. free.1 second)
         | inr not_second ↦ elim (free_decided events n) [
           | inl rest ↦ inl (not_first, not_second, rest)
@@ -148,19 +149,19 @@ module _ {U : Type 0} (cue_of : U → ℕ) (allowed : List (U × ℕ) → U → 
 
 -- the channel's units have an earliest placement, or a first cue without room
 abbrev Decides : Listing → Chan → Type 0
-Decides l channel = HasEarliest (lane (channel_events channel l.cues)) (channel_pieces channel l.cues)
-    ⊎ ((cue : ℕ) × IsFirstCrowded (lane (channel_events channel l.cues)) piece_cue (channel_pieces channel l.cues) cue)
+Decides l channel = HasEarliest (lane (channel_events channel (slot_cues l channel))) (channel_pieces channel (slot_cues l channel))
+    ⊎ ((cue : ℕ) × IsFirstCrowded (lane (channel_events channel (slot_cues l channel))) piece_cue (channel_pieces channel (slot_cues l channel)) cue)
 
 channel_decided : (l : Listing) (channel : Chan) → Decides l channel
 channel_decided l channel =
-    room_decided piece_cue (lane (channel_events channel l.cues)) (fits_earlier (channel_events channel l.cues)) (first_decided (channel_events channel l.cues))
-    (channel_pieces channel l.cues) (channel_in_order channel l.cues)
+    room_decided piece_cue (lane (channel_events channel (slot_cues l channel))) (fits_earlier (channel_events channel (slot_cues l channel))) (first_decided (channel_events channel (slot_cues l channel)))
+    (channel_pieces channel (slot_cues l channel)) (channel_in_order channel (slot_cues l channel))
 
 -- each cue of a channel that is placed has room
-has_room : (l : Listing) (channel : Chan) → HasEarliest (lane (channel_events channel l.cues)) (channel_pieces channel l.cues)
-    → (cue : ℕ) → list.LaneHasRoom l.cues (Channel channel) cue
+has_room : (l : Listing) (channel : Chan) → HasEarliest (lane (channel_events channel (slot_cues l channel))) (channel_pieces channel (slot_cues l channel))
+    → (cue : ℕ) → list.LaneHasRoom l (Channel channel) cue
 has_room l channel placed cue =
-    room_all piece_cue (lane (channel_events channel l.cues)) (channel_pieces channel l.cues) (channel_in_order channel l.cues) placed.0 placed.1.placed cue
+    room_all piece_cue (lane (channel_events channel (slot_cues l channel))) (channel_pieces channel (slot_cues l channel)) (channel_in_order channel (slot_cues l channel)) placed.0 placed.1.placed cue
 
 -- every list in form has a placement, or a first cue without one
 pub list_decided : (l : Listing) → IsFormed l → ((placed : Placement) × IsListPlaced l placed) ⊎ ((cue : ℕ) × list.IsFirstWithoutRoom l cue)

@@ -1,4 +1,5 @@
--- The lane of a line 21 channel: the units of its cues, with what each cue asks of their place, and its events.
+-- The lane of a line 21 channel: the units of its cues, with what each cue asks of their place, and its events. The times of the
+-- cues are in slots of the channel's field.
 use Rattle.std.specs.Prelude.{ℕ, suc, if◌then◌else◌, List, [], ◌∷◌, ◌++◌, map}
 use Rattle.line21_codes.specs.declared.channels.Chan.{Chan}
 use Rattle.line21_codes.specs.declared.pairs.Pair.{Pair}
@@ -26,10 +27,10 @@ pieces_from channel number (cue ∷ cues) =
 abbrev pub channel_pieces : Chan → List Cue → List Piece
 channel_pieces channel cues = pieces_from channel 1 cues
 
--- the units of a channel stand in these frames in their earliest placement
+-- the units of a channel begin in these slots, in their earliest placement
 abbrev pub IsChannelPlaced : Chan → List Cue → List ℕ → Type 0
 IsChannelPlaced channel cues placed = IsEarliest (lane (channel_events channel cues)) (channel_pieces channel cues) placed
 
--- the pair in the slot of each frame, where the units of the channel stand in these frames
+-- the pair in each slot, where the units of the channel begin in these slots
 abbrev pub channel_slot : Chan → List Cue → List ℕ → ℕ → Pair
 channel_slot channel cues placed = slot (lane_timeline (channel_events channel cues) (channel_pieces channel cues) placed)

@@ -1,12 +1,13 @@
--- The events of a channel of a cue list that keeps the rules lie apart: each is sent in the slots of two frames, and
+-- The events of a channel of a cue list that keeps the rules lie apart: each is sent in two slots, and
 -- no two need one slot (CTA-608-E, control codes are sent twice).
 use Rattle.line21_codes.specs.declared.channels.Chan.{Chan}
 use Rattle.cue_lists.specs.Listing.{Listing, IsFormed}
 use Rattle.cue_lists.specs.Rules.{IsRuled}
 use Rattle.line21_author.specs.CueEvents.{channel_events}
 use Rattle.line21_author.specs.EventOrder.{AreApart}
+use Rattle.frame_scheduler.specs.SlotLists.{slot_cues}
 
 -- for every list and channel
 abbrev pub EventsAreApart : Type 0
 EventsAreApart = (list : Listing) → IsFormed list → IsRuled list → (channel : Chan)
-    → AreApart (channel_events channel list.cues)
+    → AreApart (channel_events channel (slot_cues list channel))

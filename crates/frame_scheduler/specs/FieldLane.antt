@@ -9,17 +9,17 @@ use Rattle.line21_author.specs.UnitSlots.{unit_slots}
 abbrev pub slots_of : Piece → ℕ
 slots_of piece = unit_slots piece.unit
 
--- the first frame behind the units placed so far
+-- the first slot behind the units placed so far
 abbrev pub end_of : List (Piece × ℕ) → ℕ
 end_of before = fold (λ (end : ℕ) (placed : Piece × ℕ). placed.1 + slots_of placed.0) 0 before
 
--- the unit may begin at the frame, where `end` is the first frame behind the units before it
-pub record IsAllowed (events : List Event) (end : ℕ) (piece : Piece) (frame : ℕ) : Type 0 where
-  pub behind : end ≤ frame
-  pub loaded : piece.load ≤ frame
-  pub ended : frame + slots_of piece ≤ piece.until
-  pub free : (n : ℕ) → frame ≤ n → n < frame + slots_of piece → IsFree events n
+-- the unit may begin at the slot, where `end` is the first slot behind the units before it
+pub record IsAllowed (events : List Event) (end : ℕ) (piece : Piece) (slot : ℕ) : Type 0 where
+  pub behind : end ≤ slot
+  pub loaded : piece.load ≤ slot
+  pub ended : slot + slots_of piece ≤ piece.until
+  pub free : (n : ℕ) → slot ≤ n → n < slot + slots_of piece → IsFree events n
 
 -- what the lane allows, for the placements of its units
 abbrev pub lane : List Event → List (Piece × ℕ) → Piece → ℕ → Type 0
-lane events before piece frame = IsAllowed events (end_of before) piece frame
+lane events before piece slot = IsAllowed events (end_of before) piece slot

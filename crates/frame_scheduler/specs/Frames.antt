@@ -1,24 +1,32 @@
 -- A plan: what it gives from frame to frame, and what planning a list answers.
-use Rattle.std.specs.Prelude.{◌≡◌, ℕ, ◌+◌, ⊤, [], ◌∷◌, Some, Result, Ok, Err}
+use Rattle.std.specs.Prelude.{◌≡◌, ℕ, ⊤, [], ◌∷◌, Result, Ok, Err}
+use Rattle.line21_codes.specs.declared.channels.Chan.TheVariants.{Cc1, Cc3}
 use Rattle.cue_lists.specs.Listing.{Listing}
+use Rattle.line21_slots.specs.Cadences.{cadence_of, slot_from}
 use Rattle.frame_scheduler.specs.declared.frames.Plan.{Plan}
 use Rattle.frame_scheduler.specs.declared.planning.PlanFault.{PlanFault}
 use Rattle.frame_scheduler.specs.declared.planning.PlanFault.TheVariants.{Memory, NoRoom}
 use Rattle.frame_scheduler.specs.Columns.{Columns}
-use Rattle.frame_scheduler.specs.LanePlan.{Planned, coming_pair}
+use Rattle.frame_scheduler.specs.LanePlan.{Planned, lane_pair}
 use Rattle.frame_scheduler.specs.Planned.{IsFirstWithoutRoom, IsListPlaced, Placement, columns_of}
 
 -- the frames that the plan hasn't given yet
 abbrev pub frames_left : Plan → ℕ
 frames_left plan = plan.left
 
--- the plan gives the columns, this frame next
+-- the plan gives the columns, this frame next: each lane is at the first of its slots that isn't before the frame
 pub record GivesFrom (columns : Columns) (frame : ℕ) (plan : Plan) : Type 0 where
   pub one : Planned
   pub two : Planned
   pub lanes : plan.lanes ≡ one ∷ two ∷ []
-  pub frame_is : (n : ℕ)
-      → columns (frame + n) ≡ record { one = Some (coming_pair one n); two = Some (coming_pair two n); blocks = record { items = [] } }
+  pub frame_is : plan.frame ≡ frame
+  pub one_at : one.slot ≡ slot_from (cadence_of plan.rate Cc1) frame
+  pub two_at : two.slot ≡ slot_from (cadence_of plan.rate Cc3) frame
+  pub column_is : (n : ℕ) → columns n ≡ record {
+    one = lane_pair (cadence_of plan.rate Cc1) one n;
+    two = lane_pair (cadence_of plan.rate Cc3) two n;
+    blocks = record { items = [] };
+  }
 
 -- planning gives the frames of the list's earliest placement, or the first cue without one; want of memory may come in
 -- their place

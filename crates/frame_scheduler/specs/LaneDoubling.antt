@@ -10,7 +10,7 @@ pub record AreDoubledControls (events : List Event) (pieces : List Piece) : Type
   pub events_are : All (λ event. IsTrue (is_control event.pair)) events
   pub pieces_are : All (λ piece. is_control piece.unit.pair ≡ piece.unit.doubled) pieces
 
--- the events are over before frame n, and so is the time of each unit
+-- the events are over before slot n, and so is the time of each unit
 pub record AreEnded (events : List Event) (pieces : List Piece) (n : ℕ) : Type 0 where
   pub events_are : AreOver n events
   pub pieces_are : All (λ piece. piece.until ≤ n) pieces

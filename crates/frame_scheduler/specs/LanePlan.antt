@@ -1,6 +1,9 @@
 -- A field's lane that is placed, and what placing one answers.
-use Rattle.std.specs.Prelude.{◌≡◌, ℕ, ◌+◌, List, min, ⊤, Result, Ok, Err}
+use Rattle.std.specs.Prelude.{◌≡◌, ℕ, ◌+◌, List, min, ⊤, Option, Some, None, if◌then◌else◌, Result, Ok, Err}
+use Rattle.std.specs.Option.{option_map}
 use Rattle.line21_codes.specs.declared.pairs.Pair.{Pair}
+use Rattle.line21_slots.specs.Cadences.{has_slot_in, slot_in}
+use Rattle.line21_slots.specs.declared.cadence.Cadence.{Cadence}
 use Rattle.line21_author.specs.declared.event.Event.{Event}
 use Rattle.frame_scheduler.specs.FieldLane.{lane}
 use Rattle.frame_scheduler.specs.LaneRoom.{IsFirstCrowded}
@@ -18,9 +21,22 @@ pub record Planned : Type 0 where
   pub events : List Event
   pub slot : ℕ
 
--- the pair of a lane so many slots on
-abbrev pub coming_pair : Planned → ℕ → Pair
-coming_pair planned n = slot (placed_timeline planned.events planned.units) (planned.slot + n)
+-- the pair of a lane in a slot
+abbrev pub pair_at : Planned → ℕ → Pair
+pair_at planned n = slot (placed_timeline planned.events planned.units) n
+
+-- the pair of a lane in a frame, where the frame has a slot
+abbrev pub lane_pair : Cadence → Planned → ℕ → Option Pair
+lane_pair cadence planned frame = option_map (pair_at planned) (slot_in cadence frame)
+
+-- what a lane gives in a frame: the pair of its next slot, where the frame has one
+abbrev pub given_in : Cadence → ℕ → Planned → Option Pair
+given_in cadence frame planned = if has_slot_in cadence frame then Some (pair_at planned planned.slot) else None
+
+-- the lane behind the frame
+abbrev pub behind_frame : Cadence → ℕ → Planned → Planned
+behind_frame cadence frame planned =
+    record planned { slot = if has_slot_in cadence frame then planned.slot + 1 else planned.slot }
 
 -- the number of a unit's cue
 abbrev pub piece_cue : Piece → ℕ

@@ -8,11 +8,13 @@ pub mod OneCue
 pub mod DoubledPairs
 pub mod OneMore
 pub mod FirstFit
+pub mod SlotPlacing
 pub mod LaneCursor
 pub mod LaneFront
 pub mod LanePlan
 pub mod LaneDoubling
 pub mod ChannelLane
+pub mod SlotLists
 pub mod Columns
 pub mod EventsApart
 pub mod Frames

@@ -1,23 +1,30 @@
 ghost use Rattle.std.specs.Prelude.{◌≡◌, ◌≤◌, ◌++◌, All, IfOk, OnOk, length};
 ghost use Rattle.cue_lists.specs.Cues.{IsCueFormed};
+ghost use Rattle.line21_author.specs.CueSlots.{cues_in_slots, timed_in_slots};
 ghost use Rattle.frame_scheduler.specs.ChannelLane.{channel_pieces, cue_pieces};
 
 use crate::lane::piece::Piece;
 use cue_lists::Cue;
 use line21_author::{is_on, units};
 use line21_codes::Chan;
+use line21_slots::Cadence;
 use std::alloc::{AllocError, Global};
 
-/// The units of the cues on a channel, in the order of the cues.
-pub(crate) fn pieces(alloc: Global, cues: &[Cue], channel: Chan) -> Result<Vec<Piece>, AllocError>
+/// The units of the cues on a channel, in the order of the cues, their times in slots of the channel's field.
+pub(crate) fn pieces(
+    alloc: Global,
+    cues: &[Cue],
+    channel: Chan,
+    cadence: Cadence,
+) -> Result<Vec<Piece>, AllocError>
     requires formed { All IsCueFormed cues.now }
     requires few { length cues.now ≤ 20000 }
-    ensures { IfOk result (λ pieces. pieces.items ≡ channel_pieces channel cues.now) }
+    ensures { IfOk result (λ pieces. pieces.items ≡ channel_pieces channel (cues_in_slots cadence cues.now)) }
 {
     let mut pieces = Vec::new(alloc);
     for (index, cue) in cues.iter().enumerate() {
         if is_on(channel, cue.kind) {
-            push_cue(alloc, &mut pieces, index as u32 + 1, cue)?;
+            push_cue(alloc, &mut pieces, index as u32 + 1, cue, cadence)?;
         }
     }
     Ok(pieces)
@@ -29,15 +36,18 @@ fn push_cue(
     pieces: &mut Vec<Piece>,
     number: u32,
     cue: &Cue,
+    cadence: Cadence,
 ) -> Result<(), AllocError>
     requires { IsCueFormed cue.now }
-    ensures { OnOk result (pieces.new.items ≡ pieces.old.items ++ cue_pieces number cue.now) }
+    ensures { OnOk result (pieces.new.items ≡ pieces.old.items ++ cue_pieces number (timed_in_slots cadence cue.now)) }
 {
+    let load = cadence.slot_from(cue.load);
+    let until = cadence.slot_from(cue.show);
     for unit in units(alloc, cue)?.as_slice() {
         pieces.push(Piece {
             unit: *unit,
-            load: cue.load,
-            until: cue.show,
+            load,
+            until,
             cue: number,
         })?;
     }

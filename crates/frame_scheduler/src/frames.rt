@@ -1,9 +1,11 @@
 ghost use Rattle.std.specs.Prelude.{◌≡◌, ◌+◌, ◌^◌, ◌<◌, ℕ, All, IfSome, MatchOption, Some, [], ◌∷◌, slice_get, slice_set};
-ghost use Rattle.frame_scheduler.specs.LanePlan.{Planned, coming_pair};
+ghost use Rattle.frame_scheduler.specs.LanePlan.{Planned, behind_frame, given_in};
 
 use crate::lane::placed::PlacedLane;
 use arrayvec::ArrayVec;
-use line21_codes::Pair;
+use cc_base::Rate;
+use line21_slots::Cadence;
+use line21_codes::{Chan, Pair};
 
 #[cfg(test)]
 mod tests;
@@ -23,7 +25,10 @@ pub struct FrameBytes {
 #[derive(Drop)]
 pub struct Plan {
     lanes: [PlacedLane; 2],
+    rate: Rate,
+    frame: u32,
     left: u32,
+    ghost counted: { frame + left < 2 ^ 32 },
     ghost within: { All (λ lane. left + lane.slot < 2 ^ 32) lanes },
 }
 
@@ -31,15 +36,19 @@ impl Plan {
     ghost use Rattle.frame_scheduler.specs.Columns.{Columns};
     ghost use Rattle.frame_scheduler.specs.Frames.{GivesFrom, frames_left};
 
-    /// A plan of the lanes of field 1 and field 2, of so many frames.
-    pub(crate) fn new(one: PlacedLane, two: PlacedLane, frames: u32) -> Plan
+    /// A plan of the lanes of field 1 and field 2, of so many frames at a rate.
+    pub(crate) fn new(one: PlacedLane, two: PlacedLane, rate: Rate, frames: u32) -> Plan
         requires at_one { one.slot ≡ 0 }
         requires at_two { two.slot ≡ 0 }
         ensures lanes { result.lanes ≡ one ∷ two ∷ [] }
+        ensures rate { result.rate ≡ rate }
+        ensures frame { result.frame ≡ 0 }
         ensures left { result.left ≡ frames }
     {
         Plan {
             lanes: [one, two],
+            rate,
+            frame: 0,
             left: frames,
         }
     }
@@ -54,21 +63,34 @@ impl Plan {
         if self.left == 0 {
             return None;
         }
+        let frame = self.frame;
         self.left -= 1;
+        self.frame += 1;
+        let one = Cadence::of(self.rate, Chan::Cc1);
+        let two = Cadence::of(self.rate, Chan::Cc3);
         Some(FrameBytes {
-            one: Some(next_pair(&mut self.lanes, 0)),
-            two: Some(next_pair(&mut self.lanes, 1)),
+            one: next_pair(&mut self.lanes, 0, one, frame),
+            two: next_pair(&mut self.lanes, 1, two, frame),
             blocks: ArrayVec::new(),
         })
     }
 }
 
-/// The pair of the next slot of one of the lanes.
-fn next_pair(lanes: &mut [PlacedLane; 2], index: usize) -> Pair
+/// The pair of a frame in one of the lanes, where the frame has a slot.
+fn next_pair(
+    lanes: &mut [PlacedLane; 2],
+    index: usize,
+    cadence: Cadence,
+    frame: u32,
+) -> Option<Pair>
     requires index { index < 2 }
     requires within { (lane : Planned) → slice_get lanes.old index ≡ Some lane → lane.slot + 1 < 2 ^ 32 }
     ensures { (lane : Planned) → slice_get lanes.old index ≡ Some lane
-        → (result ≡ coming_pair lane 0) × (lanes.new ≡ slice_set lanes.old index (record lane { slot = lane.slot + 1 })) }
+        → (result ≡ given_in cadence frame lane) × (lanes.new ≡ slice_set lanes.old index (behind_frame cadence frame lane)) }
 {
-    lanes[index].next()
+    if cadence.has_slot_in(frame) {
+        Some(lanes[index].next())
+    } else {
+        None
+    }
 }

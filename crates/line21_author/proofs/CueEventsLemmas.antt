@@ -86,11 +86,11 @@ IsFitFrom-weaker : (n m : ℕ) (events : List Event) → m ≤ n → IsFitFrom n
 IsFitFrom-weaker n m events below fit = record { from = AreFrom-weaker n m events below fit.from; apart = fit.apart }
 
 -- one event two frames before others
-IsFitFrom-cons : (n : ℕ) (event : Event) (events : List Event) → n ≤ event.frame → IsFitFrom (event.frame + 2) events
+IsFitFrom-cons : (n : ℕ) (event : Event) (events : List Event) → n ≤ event.slot → IsFitFrom (event.slot + 2) events
     → IsFitFrom n (event ∷ events)
 IsFitFrom-cons n event events below fit =
     record {
-      from = (below, AreFrom-weaker (event.frame + 2) n events (omega arith) fit.from);
+      from = (below, AreFrom-weaker (event.slot + 2) n events (omega arith) fit.from);
       apart = (fit.from, fit.apart);
     }
 

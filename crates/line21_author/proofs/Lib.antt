@@ -1,3 +1,4 @@
+pub mod CueSlotLemmas
 pub mod TextCodesLemmas
 pub mod RunCodesLemmas
 pub mod CueCodesLemmas

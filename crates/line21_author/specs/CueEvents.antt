@@ -1,5 +1,5 @@
 -- The events of a channel: the end-of-caption code that shows a pop-on cue, and the erasure of the
--- displayed memory that hides a cue (CTA-608-E; 47 CFR 79.101).
+-- displayed memory that hides a cue (CTA-608-E; 47 CFR 79.101). The times of the cues are in slots of the channel's field.
 use Rattle.std.specs.Prelude.{ℕ, ◌==◌, ◌&&◌, Bool, false, if◌then◌else◌, Option, Some, None, List, [], ◌∷◌, ◌++◌}
 use Rattle.line21_codes.specs.declared.channels.Chan.{Chan}
 use Rattle.line21_codes.specs.declared.codes.Control.{Control}
@@ -12,18 +12,18 @@ use Rattle.line21_codes.specs.Channels.{is_in_second_field}
 use Rattle.line21_author.specs.Channels.{cues_on}
 use Rattle.line21_author.specs.FirstChannel.{first_channel}
 
--- a control code at a frame, in a field
+-- a control code at a slot, in a field
 abbrev pub event_of : Bool → ℕ → Control → Event
-event_of second_field frame control = record { frame = frame; pair = written second_field (first_channel control) }
+event_of second_field slot control = record { slot = slot; pair = written second_field (first_channel control) }
 
 -- a pop-on cue is shown at its SHOW; other cues are written onto the screen
 abbrev pub show_events : Bool → Cue → List Event
 show_events second_field cue = if is_pop cue.kind then event_of second_field cue.show Eoc ∷ [] else []
 
--- the next cue is a pop-on cue that is shown at the frame, and so takes the place of what was displayed
+-- the next cue is a pop-on cue that is shown at the slot, and so takes the place of what was displayed
 abbrev pub is_replaced_at : ℕ → List Cue → Bool
-is_replaced_at frame [] = false
-is_replaced_at frame (next ∷ later) = is_pop next.kind && (next.show == frame)
+is_replaced_at slot [] = false
+is_replaced_at slot (next ∷ later) = is_pop next.kind && (next.show == slot)
 
 -- a cue with a HIDE is erased there, unless the next cue replaces it then
 abbrev pub hide_events : Bool → Option ℕ → List Cue → List Event

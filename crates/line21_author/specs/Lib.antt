@@ -1,4 +1,5 @@
 pub mod Channels
+pub mod CueSlots
 pub mod FirstChannel
 pub mod TextCodes
 pub mod RunCodes

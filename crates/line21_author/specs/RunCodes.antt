@@ -1,6 +1,6 @@
 -- The codes of a run: the pen is brought to its place and style, and its text follows
 -- (preambles, tab offsets and mid-row codes: CTA-608-E; 47 CFR 79.101).
-use Rattle.std.specs.Prelude.{ℕ, ◌-◌, ◌%◌, ◌==◌, ◌&&◌, not, Bool, true, false, if◌then◌else◌, Option, Some, None, List, [], ◌∷◌, ◌++◌}
+use Rattle.std.specs.Prelude.{ℕ, ◌-◌, ◌%◌, ◌==◌, ◌&&◌, not, Bool, false, if◌then◌else◌, Option, Some, None, List, [], ◌∷◌, ◌++◌}
 use Rattle.line21_codes.specs.declared.codes.Code.{Code}
 use Rattle.line21_codes.specs.declared.codes.Control.TheVariants.{Preamble, Tab, MidRow}
 use Rattle.line21_codes.specs.declared.styles.Colour.{Colour}

@@ -1,4 +1,4 @@
--- The slots that a unit takes: one a frame, two where it is doubled (CTA-608-E, 47 CFR 79.101).
+-- The slots that a unit takes: one, or two where it is doubled (CTA-608-E, 47 CFR 79.101).
 use Rattle.std.specs.Prelude.{ℕ, if◌then◌else◌, Option, Some, None}
 use Rattle.line21_codes.specs.declared.pairs.Pair.{Pair}
 use Rattle.line21_author.specs.declared.unit.Unit.{Unit}

@@ -6,6 +6,7 @@ use crate::cue::units;
 use crate::event::{Event, events};
 use cue_lists::{Cue, Kind, Pen, Run, Runs, Text};
 use line21_codes::{Chan, Colour, Style, spell};
+use line21_slots::Cadence;
 use std::alloc::{AllocError, Global};
 use std::test::Fail;
 
@@ -304,7 +305,7 @@ fn shows_and_hides_the_cues_of_a_channel(rt: HostRuntime) -> Result<(), Fail> {
         timed(alloc, Kind::Paint(Chan::Cc1), 260, Some(300)),
         timed(alloc, Kind::Roll(Chan::Cc1, 2), 400, None),
     ]?;
-    let first = events(alloc, &cues, Chan::Cc1)?;
+    let first = events(alloc, &cues, Chan::Cc1, Cadence::EveryFrame)?;
     let want = [
         (100, 0x94, 0x2F),
         (150, 0x94, 0x2F),
@@ -312,18 +313,38 @@ fn shows_and_hides_the_cues_of_a_channel(rt: HostRuntime) -> Result<(), Fail> {
         (300, 0x94, 0x2C),
     ];
     assert_eq!(rt; event_listing(alloc, &first)?.as_slice(), want.as_slice());
-    let third = events(alloc, &cues, Chan::Cc3)?;
+    let third = events(alloc, &cues, Chan::Cc3, Cadence::EveryFrame)?;
     let want = [(120, 0x15, 0x2F), (180, 0x15, 0x2C)];
     assert_eq!(rt; event_listing(alloc, &third)?.as_slice(), want.as_slice());
-    assert_eq!(rt; events(alloc, &cues, Chan::Cc2)?.len(), 0);
+    assert_eq!(rt;
+        events(alloc, &cues, Chan::Cc2, Cadence::EveryFrame)?.len(),
+        0
+    );
     Ok(())
 }
 
-// Events as they stand in a listing: the frame of each, and the bytes of its pair.
+// At 59.94 frames a second field 1 has slot n in frame 2 n, and field 2 in frame 2 n + 1.
+#[test]
+fn shows_and_hides_cues_in_the_slots_of_the_field(rt: HostRuntime) -> Result<(), Fail> {
+    let alloc = rt.alloc();
+    let cues = vec![in alloc;
+        timed(alloc, Kind::Pop(Chan::Cc1), 14, Some(40)),
+        timed(alloc, Kind::Pop(Chan::Cc3), 15, Some(41)),
+    ]?;
+    let first = events(alloc, &cues, Chan::Cc1, Cadence::EvenFrames)?;
+    let want = [(7, 0x94, 0x2F), (20, 0x94, 0x2C)];
+    assert_eq!(rt; event_listing(alloc, &first)?.as_slice(), want.as_slice());
+    let third = events(alloc, &cues, Chan::Cc3, Cadence::OddFrames)?;
+    let want = [(7, 0x15, 0x2F), (20, 0x15, 0x2C)];
+    assert_eq!(rt; event_listing(alloc, &third)?.as_slice(), want.as_slice());
+    Ok(())
+}
+
+// Events as they stand in a listing: the slot of each, and the bytes of its pair.
 fn event_listing(alloc: Global, events: &[Event]) -> Result<Vec<(u32, u8, u8)>, AllocError> {
     let mut listing = Vec::new(alloc);
     for event in events {
-        listing.push((event.frame, event.pair.a, event.pair.b))?;
+        listing.push((event.slot, event.pair.a, event.pair.b))?;
     }
     Ok(listing)
 }

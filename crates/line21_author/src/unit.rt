@@ -14,7 +14,7 @@ pub struct Unit {
 impl Unit {
     ghost use Rattle.line21_author.specs.UnitSlots.{repeat_of_unit, unit_slots};
 
-    /// The number of slots, one a frame, that the unit takes: 2 where it is doubled, else 1.
+    /// The number of slots that the unit takes: 2 where it is doubled, else 1.
     pub fn slots(self) -> u32
         ensures { result ≡ unit_slots self }
     {

@@ -1,6 +1,7 @@
 -- What begins on a channel of a placed list: captions in data channel 1, each control pair doubled.
 use Rattle.std.proofs.Common.{◌≡◌, ℕ, suc, Bool, true, false, eqb, List, [], ◌∷◌, ◌++◌, map, Option, Some, None, All, zero, ◌<◌, refl, sym, ◌∙◌, subst, arith, ⊎_elim}
-use Rattle.std.specs.Prelude.{if◌then◌else◌}
+use Rattle.std.specs.Prelude.{IfSome, if◌then◌else◌}
+use Rattle.std.specs.Option.{option_map}
 use Rattle.std.specs.List.{flat_map}
 use Rattle.std.proofs.lemmas.List.Elements.{All-append, All-cons, All-head, All-nil, All-tail}
 use Rattle.line21_codes.specs.declared.channels.Chan.{Chan}
@@ -13,14 +14,14 @@ use Rattle.line21_codes.specs.Writable.{IsWritable, IsWritableControl}
 use Rattle.line21_codes.specs.Writing.{written}
 use Rattle.line21_codes.proofs.CodeLemmas.{written-a, written-b, written-code_of}
 use Rattle.cue_lists.specs.Cues.{IsCueFormed}
-use Rattle.cue_lists.specs.Listing.{IsFormed, Listing}
-use Rattle.cue_lists.specs.Rules.{IsRuled}
+use Rattle.cue_lists.specs.Listing.{Listing}
 use Rattle.cue_lists.specs.Rules.Lane.{is_pop}
 use Rattle.cue_lists.specs.declared.cue.Cue.{Cue}
 use Rattle.cue_lists.specs.declared.cue.Kind.{Kind}
 use Rattle.cue_lists.specs.declared.cue.Kind.TheVariants as kind
 use Rattle.line21_codes.specs.Channels.{is_in_second_field}
 use Rattle.line21_author.specs.Channels.{cues_on, is_for_second_field, is_on}
+use Rattle.line21_slots.specs.Cadences.{cadence_of, slot_in}
 use Rattle.line21_author.specs.CueCodes.{cue_codes, opening_codes}
 use Rattle.line21_author.specs.CueEvents.{channel_events, event_of, events_of, hide_events, is_replaced_at, show_events}
 use Rattle.line21_author.specs.CueUnits.{unit_of}
@@ -28,15 +29,19 @@ use Rattle.line21_author.specs.FirstChannel.{first_channel}
 use Rattle.line21_author.specs.RunCodes.{run_codes}
 use Rattle.line21_author.specs.declared.event.Event.{Event}
 use Rattle.line21_author.specs.declared.unit.Unit.{Unit}
+use Rattle.line21_author.proofs.CueSlotLemmas.{cues_formed_in_slots}
 use Rattle.line21_author.proofs.CueCodesLemmas.{cue_codes_writable}
 use Rattle.frame_scheduler.specs.declared.lane.piece.Piece.{Piece}
 use Rattle.frame_scheduler.specs.ChannelLane.{IsChannelPlaced, channel_pieces, channel_slot, cue_pieces, pieces_from}
 use Rattle.frame_scheduler.specs.LaneEvents.{event_at}
 use Rattle.frame_scheduler.specs.LaneTimeline.{lane_timeline, stands}
+use Rattle.frame_scheduler.specs.Planned.{channel_pair}
+use Rattle.frame_scheduler.specs.SlotLists.{KeepsSlots, slot_cues}
 use Rattle.frame_scheduler.specs.Timeline.{Timeline, null_pair, repeat_at, repeat_of, slot}
 use Rattle.frame_scheduler.proofs.DoublingLemmas.{at_event, at_unit, lane_marked, lane_spaced, over_cases}
 use Rattle.frame_scheduler.proofs.EventsApartLemmas.{events_apart}
-use Rattle.frame_scheduler.proofs.ListDoublingLemmas.{channel_controls}
+use Rattle.frame_scheduler.proofs.ListDoublingLemmas.{channel_controls, channel_timeline}
+use Rattle.frame_scheduler.proofs.SlotLemmas.{slot_cues_formed}
 use Rattle.line21_shown.specs.Reading.{IsCaptioned, IsForFirst}
 use Rattle.line21_shown.proofs.BlindLemmas.{AreWriting, IsWriting, runs_writing, text, special_is, extended_is, preamble, tab, mid_row}
 
@@ -128,9 +133,9 @@ module _ (P : Pair → Type 0) (written_is : (second_field : Bool) (code : Code)
   -- what begins at an event
   at_events : (es : List Event) (n : ℕ) (u : Unit) → All OfEvent es → event_at es n ≡ Some u → P u.pair
   at_events [] n u all is = cc
-  at_events (e ∷ es) n u all is = go (at_events es n u (All-tail OfEvent e es all)) (eqb n e.frame) refl
+  at_events (e ∷ es) n u all is = go (at_events es n u (All-tail OfEvent e es all)) (eqb n e.slot) refl
     where
-      go : (event_at es n ≡ Some u → P u.pair) → (b : Bool) → eqb n e.frame ≡ b → P u.pair
+      go : (event_at es n ≡ Some u → P u.pair) → (b : Bool) → eqb n e.slot ≡ b → P u.pair
       go rest true b =
           let same : Some (record { pair = e.pair; doubled = true }) ≡ Some u = sym (at_event e es n true b) ∙ is in
           let it : record { pair = e.pair; doubled = true } ≡ u = cc in
@@ -151,22 +156,22 @@ module _ (P : Pair → Type 0) (written_is : (second_field : Bool) (code : Code)
       go rest false b = rest (sym (at_unit p ps f fs n false b) ∙ is)
 
   -- what begins on a channel
-  pub channel_all : (list : Listing) (channel : Chan) (placed : List ℕ) → IsFormed list → (n : ℕ) (u : Unit)
-      → lane_timeline (channel_events channel list.cues) (channel_pieces channel list.cues) placed n ≡ Some u → P u.pair
-  channel_all list channel placed formed n u is =
-      let events = channel_events channel list.cues in
-      let pieces = channel_pieces channel list.cues in
+  pub channel_all : (cues : List Cue) (channel : Chan) (placed : List ℕ) → All IsCueFormed cues → (n : ℕ) (u : Unit)
+      → lane_timeline (channel_events channel cues) (channel_pieces channel cues) placed n ≡ Some u → P u.pair
+  channel_all cues channel placed formed n u is =
+      let events = channel_events channel cues in
+      let pieces = channel_pieces channel cues in
       ⊎_elim
-      (λ (at : event_at events n ≡ Some u). at_events events n u (events_all (is_in_second_field channel) (cues_on channel list.cues)) at)
-      (λ (at : (event_at events n ≡ None) × (stands pieces placed n ≡ Some u)). at_units pieces placed n u (pieces_all channel 1 list.cues formed.cues) at.1)
+      (λ (at : event_at events n ≡ Some u). at_events events n u (events_all (is_in_second_field channel) (cues_on channel cues)) at)
+      (λ (at : (event_at events n ≡ None) × (stands pieces placed n ≡ Some u)). at_units pieces placed n u (pieces_all channel 1 cues formed) at.1)
       (over_cases events pieces placed n u is)
 
   -- and so of the pairs of its slots, where it holds of the null pair
-  pub slots_all : (list : Listing) (channel : Chan) (placed : List ℕ) → IsFormed list → P null_pair → (n : ℕ) → P (channel_slot channel list.cues placed n)
-  slots_all list channel placed formed null n = at_slot (repeat_at t n) refl (t n) refl
+  pub slots_all : (cues : List Cue) (channel : Chan) (placed : List ℕ) → All IsCueFormed cues → P null_pair → (n : ℕ) → P (channel_slot channel cues placed n)
+  slots_all cues channel placed formed null n = at_slot (repeat_at t n) refl (t n) refl
     where
       t : Timeline
-      t = lane_timeline (channel_events channel list.cues) (channel_pieces channel list.cues) placed
+      t = lane_timeline (channel_events channel cues) (channel_pieces channel cues) placed
 
       begun : (m : ℕ) (o : Option Unit) (p : Pair) → t m ≡ o → repeat_of o ≡ Some p → P p
       begun m None p is due = cc
@@ -176,7 +181,7 @@ module _ (P : Pair → Type 0) (written_is : (second_field : Bool) (code : Code)
           by_doubled true twice =
               let same : Some u.pair ≡ Some p = sym (rw twice refl) ∙ due in
               let it : u.pair ≡ p = cc in
-              subst P it (channel_all list channel placed formed m u is)
+              subst P it (channel_all cues channel placed formed m u is)
           by_doubled false once = let wrong : None ≡ Some p = sym (rw once refl) ∙ due in absurd (cc)
 
       repeated : (m : ℕ) (p : Pair) → repeat_at t m ≡ Some p → P p
@@ -185,7 +190,7 @@ module _ (P : Pair → Type 0) (written_is : (second_field : Bool) (code : Code)
 
       at_slot : (r : Option Pair) → repeat_at t n ≡ r → (o : Option Unit) → t n ≡ o → P (slot t n)
       at_slot (Some p) due o at = subst P (sym (rw due refl)) (repeated n p due)
-      at_slot None due (Some u) at = subst P (sym (rw (due, at) refl)) (channel_all list channel placed formed n u at)
+      at_slot None due (Some u) at = subst P (sym (rw (due, at) refl)) (channel_all cues channel placed formed n u at)
       at_slot None due None at = subst P (sym (rw (due, at) refl)) null
 
 -- the pair is read as a code for data channel 1
@@ -196,16 +201,16 @@ IsFirstPair pair = IsForFirst (code_of pair)
 written_first : (second_field : Bool) (code : Code) → IsWritable code → IsForFirst code → IsFirstPair (written second_field code)
 written_first second_field code writable first = subst IsForFirst (sym (written-code_of second_field code writable)) first
 
--- the timeline of a channel of a list that keeps the rules and is placed
-pub channel_captioned : (list : Listing) (channel : Chan) (placed : List ℕ) → IsFormed list → IsRuled list → IsChannelPlaced channel list.cues placed
-    → IsCaptioned (lane_timeline (channel_events channel list.cues) (channel_pieces channel list.cues) placed)
-channel_captioned list channel placed formed ruled earliest =
-    let events = channel_events channel list.cues in
-    let pieces = channel_pieces channel list.cues in
+-- the timeline of a channel of a list that keeps the rules in slots and is placed
+pub channel_captioned : (list : Listing) (channel : Chan) (placed : List ℕ) → KeepsSlots list → IsChannelPlaced channel (slot_cues list channel) placed
+    → IsCaptioned (channel_timeline list channel placed)
+channel_captioned list channel placed keeps earliest =
+    let events = channel_events channel (slot_cues list channel) in
+    let pieces = channel_pieces channel (slot_cues list channel) in
     record {
-      marked = lane_marked events pieces placed (channel_controls list channel formed ruled);
-      spaced = lane_spaced events pieces placed (events_apart list formed ruled channel) earliest.placed;
-      first = channel_all IsFirstPair written_first list channel placed formed;
+      marked = lane_marked events pieces placed (channel_controls list channel keeps);
+      spaced = lane_spaced events pieces placed (events_apart list keeps channel) earliest.placed;
+      first = channel_all IsFirstPair written_first (slot_cues list channel) channel placed (slot_cues_formed list keeps channel);
     }
 
 -- both of the pair are bytes
@@ -216,5 +221,13 @@ written_bytes : (second_field : Bool) (code : Code) → IsWritable code → IsFo
 written_bytes second_field code writable first = (written-a second_field code writable, written-b second_field code writable)
 
 -- the pairs of a channel's slots are of bytes
-pub slots_bytes : (list : Listing) (channel : Chan) (placed : List ℕ) → IsFormed list → (n : ℕ) → AreBytes (channel_slot channel list.cues placed n)
-slots_bytes list channel placed formed n = slots_all AreBytes written_bytes list channel placed formed (omega arith, omega arith) n
+slots_bytes : (cues : List Cue) (channel : Chan) (placed : List ℕ) → All IsCueFormed cues → (n : ℕ) → AreBytes (channel_slot channel cues placed n)
+slots_bytes cues channel placed formed n = slots_all AreBytes written_bytes cues channel placed formed (omega arith, omega arith) n
+
+-- and so are those of the frames that have one
+pub frame_bytes : (list : Listing) (channel : Chan) (placed : List ℕ) → All IsCueFormed list.cues → (n : ℕ) → IfSome (channel_pair list channel placed n) AreBytes
+frame_bytes list channel placed formed n = of_slot (slot_in (cadence_of list.rate channel) n)
+  where
+    of_slot : (o : Option ℕ) → IfSome (option_map (channel_slot channel (slot_cues list channel) placed) o) AreBytes
+    of_slot None = tt
+    of_slot (Some k) = slots_bytes (slot_cues list channel) channel placed (cues_formed_in_slots (cadence_of list.rate channel) list.cues formed) k

@@ -13,6 +13,7 @@ pub mod RunWritingLemmas
 pub mod ScreenLemmas
 pub mod SentenceLemmas
 pub mod SequenceLemmas
+pub mod SlotGridLemmas
 pub mod SuffixLemmas
 pub mod TextWritingLemmas
 pub mod WritingLemmas

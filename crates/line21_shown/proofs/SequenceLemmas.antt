@@ -10,13 +10,13 @@ use Rattle.line21_codes.specs.declared.channels.Chan.TheVariants.{Cc1, Cc3}
 use Rattle.line21_codes.specs.declared.pairs.Pair.{Pair}
 use Rattle.cue_lists.specs.AuthoredGrid.{IsSettled, IsSettledFor, authored_grid, shown_by, shown_from, shown_of_newest}
 use Rattle.cue_lists.specs.Cues.{IsCueFormed}
-use Rattle.cue_lists.specs.Listing.{IsFormed, Listing}
-use Rattle.cue_lists.specs.Rules.{IsRuled}
+use Rattle.cue_lists.specs.Listing.{Listing}
 use Rattle.cue_lists.specs.Rules.Lane.{is_line21, is_pop}
 use Rattle.cue_lists.specs.declared.cue.Cue.{Cue}
 use Rattle.cue_lists.specs.declared.lane.Lane.TheVariants.{Channel}
 use Rattle.line21_codes.specs.Channels.{is_in_second_field}
 use Rattle.line21_author.specs.Channels.{cues_on}
+use Rattle.line21_slots.specs.Cadences.{cadence_of, slot_from}
 use Rattle.line21_author.specs.CueEvents.{channel_events, hide_events}
 use Rattle.line21_screen.specs.Channels.{ChannelState}
 use Rattle.line21_screen.specs.Grid.{Grid, empty_grid}
@@ -27,11 +27,13 @@ use Rattle.cue_lists.specs.Rules.Sentences.{AreInSequence}
 use Rattle.frame_scheduler.specs.LaneEvents.{event_at}
 use Rattle.frame_scheduler.specs.LaneTimeline.{lane_timeline, stands}
 use Rattle.frame_scheduler.specs.Planned.{columns_of}
+use Rattle.frame_scheduler.specs.SlotLists.{KeepsSlots, slot_cues, slots_in_list}
 use Rattle.frame_scheduler.specs.Timeline.{Timeline, column, first_of, slot}
-use Rattle.frame_scheduler.proofs.ListDoublingLemmas.{field_one_is, field_two_is}
+use Rattle.frame_scheduler.proofs.ListDoublingLemmas.{channel_timeline, field_one_is, field_two_is}
+use Rattle.frame_scheduler.proofs.SlotLemmas.{keeps_slots, slot_cues_formed}
 use Rattle.cue_lists.proofs.ChannelCues.{cues_on_are_on, cues_on_formed, hides_unless_roll, line21_on, pop_is_not_roll}
 use Rattle.line21_shown.specs.Reading.{acts, first_alone, pairs_before}
-use Rattle.line21_shown.specs.Shown.{AuthoredIsSeen, ShowsField}
+use Rattle.line21_shown.specs.Shown.{AuthoredIsSeen, ShowsField, SlotsAreSeen}
 use Rattle.line21_shown.proofs.CaptionedLemmas.{channel_captioned}
 use Rattle.line21_shown.proofs.HeadLemmas.{Continues, first_sound, rest_in_sequence}
 use Rattle.line21_shown.proofs.LoadingLemmas.{erases, loads, until}
@@ -39,6 +41,7 @@ use Rattle.line21_shown.proofs.OnScreenLemmas.{screen_before, screen_continues, 
 use Rattle.line21_shown.proofs.PopOnLemmas.{pop_before, pop_continues, pop_shown, showing_own}
 use Rattle.line21_shown.proofs.ReadingLemmas.{columns_read}
 use Rattle.line21_shown.proofs.ScreenLemmas.{AreBehind, IsShown, newest_first, newest_first-reverse}
+use Rattle.line21_shown.proofs.SlotGridLemmas.{grid_before_slots, grid_in_slots, settled_in_slots}
 use Rattle.line21_shown.proofs.SuffixLemmas.{pieces_are, placed_from}
 
 -- a cue of line 21 in its ranges
@@ -168,18 +171,28 @@ any_begin : (cues : List Cue) → BeginFrom 0 cues
 any_begin [] = tt
 any_begin (cue ∷ later) = (λ plain. omega arith, omega arith)
 
--- a channel of a placed list that keeps the rules
-channel_shown : (list : Listing) (channel : Chan) (placed : List ℕ) → IsFormed list → IsRuled list → IsChannelPlaced channel list.cues placed
-    → (f : ℕ) → IsSettled channel list.cues f
-    → (acts (lane_timeline (channel_events channel list.cues) (channel_pieces channel list.cues) placed) (suc f)).displayed ≡ authored_grid channel list.cues f
-channel_shown list channel placed formed ruled earliest f settled =
-    let t = lane_timeline (channel_events channel list.cues) (channel_pieces channel list.cues) placed in
-    cues_shown (is_in_second_field channel) t list.frames 0 0 None empty_grid (cues_on channel list.cues) []
-    (recursion_from_All IsCaption (cues_on channel list.cues) (captions_are channel list.cues formed.cues))
-    (ruled.channels channel) (any_begin (cues_on channel list.cues)) tt
-    (begins channel list.cues placed earliest) (empty_first t) (omega arith) f (omega arith)
-    (recursion_from_All (IsSettledFor f) (cues_on channel list.cues) settled)
-    ∙ authored_is channel list.cues f
+-- the cues of a channel in sequence, at a slot that is settled
+channel_shown : (slots : ℕ) (channel : Chan) (cues : List Cue) (placed : List ℕ) → All IsCueFormed cues → AreInSequence slots (cues_on channel cues)
+    → IsChannelPlaced channel cues placed → (k : ℕ) → AllByRecursion (IsSettledFor k) (cues_on channel cues)
+    → (acts (lane_timeline (channel_events channel cues) (channel_pieces channel cues) placed) (suc k)).displayed ≡ authored_grid channel cues k
+channel_shown slots channel cues placed formed sequence earliest k settled =
+    let t = lane_timeline (channel_events channel cues) (channel_pieces channel cues) placed in
+    cues_shown (is_in_second_field channel) t slots 0 0 None empty_grid (cues_on channel cues) []
+    (recursion_from_All IsCaption (cues_on channel cues) (captions_are channel cues formed))
+    sequence (any_begin (cues_on channel cues)) tt
+    (begins channel cues placed earliest) (empty_first t) (omega arith) k (omega arith) settled
+    ∙ authored_is channel cues k
+
+-- a channel of a placed list that keeps the rules in slots, behind the slots that have come by a settled frame
+slots_shown : (list : Listing) (channel : Chan) (placed : List ℕ) → KeepsSlots list → IsChannelPlaced channel (slot_cues list channel) placed
+    → (f m : ℕ) → slot_from (cadence_of list.rate channel) (suc f) ≡ m → IsSettled channel list.cues f
+    → (acts (channel_timeline list channel placed) m).displayed ≡ authored_grid channel list.cues f
+slots_shown list channel placed keeps earliest f zero come settled =
+    sym (grid_before_slots (cadence_of list.rate channel) f come channel list.cues (keeps.on_slots channel))
+slots_shown list channel placed keeps earliest f (suc k) come settled =
+    channel_shown (slots_in_list list channel) channel (slot_cues list channel) placed (slot_cues_formed list keeps channel) (keeps.sequence channel) earliest k
+    (settled_in_slots (cadence_of list.rate channel) f k come channel list.cues (keeps.on_slots channel) settled)
+    ∙ grid_in_slots (cadence_of list.rate channel) f k come channel list.cues (keeps.on_slots channel)
 
 -- the pairs of the first slots, the newest first
 newest_pairs : (t : Timeline) (n : ℕ) → reverse (column t n) ≡ pairs_before (slot t) n
@@ -187,25 +200,30 @@ newest_pairs t zero = refl
 newest_pairs t (suc n) = reverse-append (column t n) (slot t n ∷ []) ∙ ap (λ (pairs : List Pair). slot t n ∷ pairs) (newest_pairs t n)
 
 -- and the field that carries it
-field_shown : (list : Listing) (channel : Chan) (second_field : Bool) (placed : List ℕ) → IsFormed list → IsRuled list
-    → IsChannelPlaced channel list.cues placed → (f : ℕ) (pairs : List Pair)
-    → pairs ≡ column (lane_timeline (channel_events channel list.cues) (channel_pieces channel list.cues) placed) (suc f)
+field_shown : (list : Listing) (channel : Chan) (second_field : Bool) (placed : List ℕ) → KeepsSlots list
+    → IsChannelPlaced channel (slot_cues list channel) placed → (f : ℕ) (pairs : List Pair)
+    → pairs ≡ column (channel_timeline list channel placed) (slot_from (cadence_of list.rate channel) (suc f))
     → ShowsField (after second_field (reverse pairs)) channel list.cues f
-field_shown list channel second_field placed formed ruled earliest f pairs are =
-    let t = lane_timeline (channel_events channel list.cues) (channel_pieces channel list.cues) placed in
-    let state : after second_field (reverse pairs) ≡ first_alone (acts t (suc f)) =
-    ap (λ (l : List Pair). after second_field (reverse l)) are ∙ ap (after second_field) (newest_pairs t (suc f))
-    ∙ columns_read second_field t (channel_captioned list channel placed formed ruled earliest) (suc f) in
+field_shown list channel second_field placed keeps earliest f pairs are =
+    let t = channel_timeline list channel placed in
+    let m = slot_from (cadence_of list.rate channel) (suc f) in
+    let state : after second_field (reverse pairs) ≡ first_alone (acts t m) =
+    ap (λ (l : List Pair). after second_field (reverse l)) are ∙ ap (after second_field) (newest_pairs t m)
+    ∙ columns_read second_field t (channel_captioned list channel placed keeps earliest) m in
     record {
-      first = λ settled. ap (λ s. s.first.displayed) state ∙ channel_shown list channel placed formed ruled earliest f settled;
+      first = λ settled. ap (λ s. s.first.displayed) state ∙ slots_shown list channel placed keeps earliest f m refl settled;
       second = ap (λ s. s.second.displayed) state;
     }
 
 -- what is authored is what is seen
-pub authored_seen : AuthoredIsSeen
-authored_seen list placed formed ruled is f false =
-    field_shown list Cc1 false (placed (Channel Cc1)) formed ruled (is (Channel Cc1)) f (first_pairs false (columns_of list placed) (suc f))
+pub slots_seen : SlotsAreSeen
+slots_seen list placed keeps is f false =
+    field_shown list Cc1 false (placed (Channel Cc1)) keeps (is (Channel Cc1)) f (first_pairs false (columns_of list placed) (suc f))
     (field_one_is list placed (suc f))
-authored_seen list placed formed ruled is f true =
-    field_shown list Cc3 true (placed (Channel Cc3)) formed ruled (is (Channel Cc3)) f (first_pairs true (columns_of list placed) (suc f))
+slots_seen list placed keeps is f true =
+    field_shown list Cc3 true (placed (Channel Cc3)) keeps (is (Channel Cc3)) f (first_pairs true (columns_of list placed) (suc f))
     (field_two_is list placed (suc f))
+
+-- also where every frame has a slot in each field
+pub authored_seen : AuthoredIsSeen
+authored_seen list placed formed ruled = slots_seen list placed (keeps_slots list formed ruled)

@@ -1,8 +1,13 @@
 -- Slots and frames.
-use Rattle.std.proofs.Common.{◌≡◌, ◌≢◌, ℕ, suc, ◌%◌, ◌≤◌, ◌↔◌, true, false, refl, sym, subst, arith}
+use Rattle.std.proofs.Common.{◌≡◌, ◌≢◌, ℕ, suc, ◌+◌, ◌*◌, ◌%◌, ◌<◌, ◌≤◌, ◌↔◌, Bool, true, false, refl, sym, subst, arith}
 use Rattle.std.proofs.lemmas.Bool.{eqb-true}
 use Rattle.std.proofs.lemmas.Bool.Decides.{nat_tests}
-use Rattle.line21_slots.specs.Cadences.{frame_of, has_slot_in, slot_from}
+use Rattle.std.specs.Prelude.{if◌then◌else◌}
+use Rattle.cc_base.specs.declared.rate.Rate.{Rate}
+use Rattle.cc_base.specs.declared.rate.Rate.TheVariants as rates
+use Rattle.line21_codes.specs.Channels.{is_in_second_field}
+use Rattle.line21_codes.specs.declared.channels.Chan.{Chan}
+use Rattle.line21_slots.specs.Cadences.{cadence_of, frame_of, has_slot_in, slot_from, slot_step, step_of}
 use Rattle.line21_slots.specs.declared.cadence.Cadence.{Cadence}
 use Rattle.line21_slots.specs.declared.cadence.Cadence.TheVariants.{EveryFrame, EvenFrames, OddFrames}
 
@@ -44,6 +49,12 @@ slots_rise EveryFrame f g low = low
 slots_rise EvenFrames f g low = omega arith
 slots_rise OddFrames f g low = omega arith
 
+-- times that lie two steps apart lie two slots apart
+pub slots_apart : (c : Cadence) (f g : ℕ) → f + 2 * step_of c ≤ g → slot_from c f + 2 ≤ slot_from c g
+slots_apart EveryFrame f g apart = omega arith
+slots_apart EvenFrames f g apart = omega arith
+slots_apart OddFrames f g apart = omega arith
+
 -- a frame that has a slot is that slot's
 pub own_frame : (c : Cadence) (f : ℕ) → has_slot_in c f ≡ true → frame_of c (slot_from c f) ≡ f
 own_frame EveryFrame f has = refl
@@ -72,3 +83,31 @@ pub slot_no_more : (c : Cadence) (f : ℕ) → has_slot_in c f ≡ false → slo
 slot_no_more EveryFrame f none = cc
 slot_no_more EvenFrames f none = let other : f % 2 ≢ 0 = grind (arith, nat_tests) in omega arith
 slot_no_more OddFrames f none = let other : f % 2 ≢ 1 = grind (arith, nat_tests) in omega arith
+
+-- the slot of a frame that has one is before those of later frames
+pub slot_before : (c : Cadence) (f g : ℕ) → has_slot_in c f ≡ true → f < g → slot_from c f < slot_from c g
+slot_before c f g has less =
+    let more : slot_from c (suc f) ≡ suc (slot_from c f) = slot_more c f has in
+    let low : slot_from c (suc f) ≤ slot_from c g = slots_rise c (suc f) g (omega arith) in
+    omega arith
+
+-- a pair that is sent at a slot and again at the next has ended where a step and a frame more have
+pub slots_ended : (c : Cadence) (f frames : ℕ) → has_slot_in c f ≡ true → f + step_of c + 1 ≤ frames → slot_from c f + 2 ≤ slot_from c frames
+slots_ended EveryFrame f frames has ended = omega arith
+slots_ended EvenFrames f frames has ended = let even : f % 2 ≡ 0 = eqb-true (f % 2) 0 has in omega arith
+slots_ended OddFrames f frames has ended = let odd : f % 2 ≡ 1 = eqb-true (f % 2) 1 has in omega arith
+
+-- the step of a channel's field is that of the rate
+double_step : (second_field : Bool) → 2 ≡ step_of (if second_field then OddFrames else EvenFrames)
+double_step true = refl
+double_step false = refl
+
+pub slot_step_is : (r : Rate) (channel : Chan) → slot_step r ≡ step_of (cadence_of r channel)
+slot_step_is rates.F23976 channel = refl
+slot_step_is rates.F24 channel = refl
+slot_step_is rates.F25 channel = refl
+slot_step_is rates.F2997 channel = refl
+slot_step_is rates.F30 channel = refl
+slot_step_is rates.F50 channel = refl
+slot_step_is rates.F5994 channel = double_step (is_in_second_field channel)
+slot_step_is rates.F60 channel = double_step (is_in_second_field channel)

@@ -29,6 +29,12 @@ frame_of EveryFrame slot = slot
 frame_of EvenFrames slot = 2 * slot
 frame_of OddFrames slot = 2 * slot + 1
 
+-- the frames from one slot to the next
+abbrev pub step_of : Cadence → ℕ
+step_of EveryFrame = 1
+step_of EvenFrames = 2
+step_of OddFrames = 2
+
 -- a frame has a slot
 abbrev pub has_slot_in : Cadence → ℕ → Bool
 has_slot_in EveryFrame frame = true

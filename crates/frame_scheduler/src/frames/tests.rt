@@ -1,6 +1,7 @@
 use crate::frames::Plan;
 use crate::lane::placed::PlacedLane;
 use crate::plan;
+use cc_base::Rate;
 use cue_lists::{check, parse};
 use std::test::Fail;
 
@@ -16,8 +17,13 @@ fn a_plan_keeps_two_lanes_and_the_number_of_frames_left(rt: HostRuntime) -> Resu
     let Ok(plan) = plan(alloc, &list) else {
         return Err(Fail::from("no cue lacks room"));
     };
-    let Plan { lanes, left } = plan;
+    let Plan {
+        lanes,
+        rate,
+        frame,
+        left,
+    } = plan;
     let _lanes: [PlacedLane; 2] = lanes;
-    assert_eq!(rt; left, 30);
+    assert_eq!(rt; (rate, frame, left), (Rate::F2997, 0, 30));
     Ok(())
 }

@@ -60,12 +60,12 @@ impl Cursor {
     // The next event, if it begins at the cursor's slot.
     fn event_here(&self, events: &[Event]) -> Option<Event>
         ensures some { IfSome result
-            (λ event. IsNext events.now self.now.next_event event × (event.frame ≡ self.now.slot)) }
+            (λ event. IsNext events.now self.now.next_event event × (event.slot ≡ self.now.slot)) }
         ensures none { IfNone result
-            ((event : Event) → IsNext events.now self.now.next_event event → event.frame ≡ self.now.slot → ⊥) }
+            ((event : Event) → IsNext events.now self.now.next_event event → event.slot ≡ self.now.slot → ⊥) }
     {
         match events.get(self.next_event) {
-            Some(event) if event.frame == self.slot => Some(*event),
+            Some(event) if event.slot == self.slot => Some(*event),
             _ => None,
         }
     }

@@ -62,7 +62,7 @@ impl Front {
     {
         let slots = u64::from(slots);
         while let Some(event) = events.get(self.passed)
-            && u64::from(event.frame) < self.end + slots
+            && u64::from(event.slot) < self.end + slots
         {
             self.end = self.end.max(event.end());
             self.passed += 1;

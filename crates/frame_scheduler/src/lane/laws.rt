@@ -13,6 +13,7 @@ ghost use Rattle.frame_scheduler.specs.LaneTimeline.{lane_timeline};
 ghost use Rattle.frame_scheduler.specs.OneCue.{AreOfOneCue, total_slots};
 ghost use Rattle.frame_scheduler.specs.OneMore.{OneMore};
 ghost use Rattle.frame_scheduler.specs.Placing.{IsPlaced, IsEarliest};
+ghost use Rattle.frame_scheduler.specs.SlotPlacing.{EarliestInFrames};
 ghost use Rattle.frame_scheduler.specs.Timeline.{column};
 
 /// A lane's units with one more: there is a placement exactly where some slot is allowed for that
@@ -26,6 +27,12 @@ pub fn law_of_one_more()
 /// allowed, and where each unit in turn stands so, the placement is the earliest.
 pub fn law_of_first_fit()
     ensures { (events : List Event) → EarliestIsFirstFit (lane events) }
+{}
+
+/// A lane's earliest placement, slot by slot, is the earliest one frame by frame: no unit could begin in an earlier frame that
+/// has a slot, with every cadence.
+pub fn law_of_slots_and_frames()
+    ensures { (events : List Event) → EarliestInFrames (lane events) }
 {}
 
 /// In any placement of a lane, every longest stretch of equal control pairs in the slots below one

@@ -1,12 +1,12 @@
 use line21_author::Unit;
 
-/// A unit with what its cue asks of its place. Frames are counted from 0.
+/// A unit with what its cue asks of its place. Slots are counted from 0.
 #[derive(Clone, Copy, Debug, PartialEq, Eq)]
 pub struct Piece {
     pub unit: Unit,
-    /// The frame before which the unit doesn't stand.
+    /// The slot before which the unit doesn't stand.
     pub load: u32,
-    /// The frame before which the unit has ended.
+    /// The slot before which the unit has ended.
     pub until: u32,
     /// The number of its cue, counted from 1.
     pub cue: u32,

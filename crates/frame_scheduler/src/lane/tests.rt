@@ -55,9 +55,9 @@ macro_rules! text {
 }
 
 macro_rules! event {
-    ($pair:expr, $frame:expr) => {
+    ($pair:expr, $slot:expr) => {
         Event {
-            frame: $frame,
+            slot: $slot,
             pair: $pair,
         }
     };
@@ -75,7 +75,7 @@ fn gives(rt: &impl Abort, lane: &mut PlacedLane, pairs: &[Pair])
 
 // The text HI and the control pairs before it take 7 slots.
 #[test]
-fn a_cue_fills_the_frames_before_its_show(rt: HostRuntime) -> Result<(), Fail> {
+fn a_cue_fills_the_slots_before_its_show(rt: HostRuntime) -> Result<(), Fail> {
     let pieces = vec![in rt.alloc();
         control!(RCL, 1, 0, 7),
         control!(ENM, 1, 0, 7),
@@ -119,7 +119,7 @@ fn a_cue_with_a_slot_too_few_has_no_room(rt: HostRuntime) -> Result<(), Fail> {
     Ok(())
 }
 
-// EDM is due at frames 14 and 15: the preamble doesn't begin at frame 13, since its repeat would
+// EDM is due in slots 14 and 15: the preamble doesn't begin in slot 13, since its repeat would
 // stand there.
 #[test]
 fn a_doubled_pair_is_not_split_round_an_event(rt: HostRuntime) -> Result<(), Fail> {
@@ -152,7 +152,7 @@ fn a_doubled_pair_is_not_split_round_an_event(rt: HostRuntime) -> Result<(), Fai
     Ok(())
 }
 
-// The second cue's units end in frame 18, behind EDM; before frame 18 there is no room for them.
+// The second cue's units end in slot 18, behind EDM; before slot 18 there is no room for them.
 #[test]
 fn the_first_cue_without_room_is_named(rt: HostRuntime) -> Result<(), Fail> {
     let pieces = vec![in rt.alloc();

@@ -1,4 +1,5 @@
 use Rattle.std.proofs.Common.{◌≡◌, ◌++◌, drop, map}
+use Rattle.line21_author.specs.CueSlots.{timed_in_slots}
 use Rattle.line21_author.specs.declared.unit.Unit.{Unit}
 use Rattle.frame_scheduler.specs.ChannelLane.{cue_pieces}
 use Rattle.frame_scheduler.proofs.channel.push_cue.Given as goal
@@ -6,5 +7,5 @@ use Rattle.frame_scheduler.proofs.channel.push_cue.Given as goal
 -- the units so far, and those to come
 abbrev pub invariant-loop-unit : goal.invariant-loop-unit
 invariant-loop-unit l =
-    l.pieces.items ++ map (λ (unit : Unit). record { unit = unit; load = l.cue.load; until = l.cue.show; cue = l.number }) (drop l.unit-index l.unit-items)
-    ≡ l.initial.pieces.items ++ cue_pieces l.number l.cue
+    l.pieces.items ++ map (λ (unit : Unit). record { unit = unit; load = l.load; until = l.until; cue = l.number }) (drop l.unit-index l.unit-items)
+    ≡ l.initial.pieces.items ++ cue_pieces l.number (timed_in_slots l.fn.cadence l.cue)

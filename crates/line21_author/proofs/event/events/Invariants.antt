@@ -1,4 +1,5 @@
 use Rattle.std.proofs.Common.{◌≡◌, ◌++◌, drop}
+use Rattle.line21_author.specs.CueSlots.{cues_in_slots}
 use Rattle.line21_author.specs.Channels.{cues_on}
 use Rattle.line21_author.specs.CueEvents.{hide_events, events_of}
 use Rattle.line21_author.proofs.event.events.Given as goal
@@ -7,6 +8,6 @@ use Rattle.line21_author.proofs.event.events.Given as goal
 abbrev pub invariant-loop-cue : goal.invariant-loop-cue
 invariant-loop-cue l =
     l.events.items
-    ++ (hide_events l.second_field l.hide (cues_on l.channel (drop l.cue-index l.cues))
-    ++ events_of l.second_field (cues_on l.channel (drop l.cue-index l.cues)))
-    ≡ events_of l.second_field (cues_on l.channel l.cues)
+    ++ (hide_events l.second_field l.hide (cues_on l.channel (cues_in_slots l.cadence (drop l.cue-index l.cues)))
+    ++ events_of l.second_field (cues_on l.channel (cues_in_slots l.cadence (drop l.cue-index l.cues))))
+    ≡ events_of l.second_field (cues_on l.channel (cues_in_slots l.cadence l.cues))

@@ -13,7 +13,7 @@ loop-event-preserved c =
     let front = c.loop-event.self in
     let inv = c.loop-event.invariant in
     let here : IsNext events front.passed c.in-Some.event.now = next_from_read _ _ _ found.3.0 found.1 in
-    let is : c.max-self.result ≡ max front.end (c.in-Some.event.now.frame + 2) = c.max-self.ensures ∙ ap (λ n. max front.end n) c.end.ensures.end in
+    let is : c.max-self.result ≡ max front.end (c.in-Some.event.now.slot + 2) = c.max-self.ensures ∙ ap (λ n. max front.end n) c.end.ensures.end in
     record {
       small = omega (arith, c.end.ensures.small, c.max-self.ensures);
       behind = omega arith;
@@ -47,11 +47,11 @@ returns-else-from-self-clause-first c =
     let found = c.in-Some.ensures.lookup in
     let here : IsNext events front.passed c.in-Some.event.now = next_from_read _ _ _ found.3.0 found.1 in
     let slots : c.from-slots.result ≡ c.args.slots = c.from-slots.ensures in
-    let clear : front.end + c.from-slots.result ≤ c.in-Some.event.now.frame = omega arith in
+    let clear : front.end + c.from-slots.result ≤ c.in-Some.event.now.slot = omega arith in
     subst (λ n. IsFirstFree events n c.args.self.now.end front.end) slots (record {
       behind = inv.behind;
       free = free_behind events c.from-slots.result front.passed front.end (apart_drop front.passed events c.requires.apart) inv.front.passed
           (λ e next. let same : e ≡ c.in-Some.event.now = next_same _ _ _ _ next here in
-          subst (λ d. front.end + c.from-slots.result ≤ d.frame) (sym same) clear);
+          subst (λ d. front.end + c.from-slots.result ≤ d.slot) (sym same) clear);
       first = inv.first;
     })
