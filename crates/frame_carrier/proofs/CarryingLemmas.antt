@@ -67,6 +67,11 @@ frame_number rate frame =
     length-replicate (triplets_of rate - length (front_triplets frame [])) filler in
     omega arith
 
+-- those of a frame with a pair in each field, where the rate has twenty
+pub twenty_are : (rate : Rate) (frame : FrameBytes) (one two : Pair) → triplets_of rate ≡ 20 → frame.one ≡ Some one → frame.two ≡ Some two
+    → frame_triplets rate frame [] ≡ pair_triplet 0 one ∷ pair_triplet 1 two ∷ replicate 18 filler
+twenty_are rate frame one two number first second = rw (number, first, second) refl
+
 -- one more triplet that doesn't count
 pub fill_more : (old : List Triplet) (number : ℕ) (all : List Triplet) → length old < number → old ++ replicate (number - length old) filler ≡ all
     → (length (old ++ filler ∷ []) ≤ number) × ((old ++ filler ∷ []) ++ replicate (number - length (old ++ filler ∷ [])) filler ≡ all)

@@ -29,11 +29,14 @@ frame_packet rate frame bytes packet = record {
   sections = cc_data_section (frame_triplets rate bytes packet) ∷ [];
 }
 
+-- the bytes of the ancillary packet of a distribution packet with this counter and these triplets
+abbrev pub carried_bytes : Rate → ℕ → List Triplet → List ℕ
+carried_bytes rate counter triplets =
+    packet_bytes 0x61 0x01 (written_packet rate caption_flags counter (cc_data_section triplets))
+
 -- the bytes of the ancillary packet of a frame
 abbrev pub frame_bytes : Rate → ℕ → FrameBytes → List Triplet → List ℕ
-frame_bytes rate frame bytes packet =
-    packet_bytes 0x61 0x01
-    (written_packet rate caption_flags (counter_of frame) (cc_data_section (frame_triplets rate bytes packet)))
+frame_bytes rate frame bytes packet = carried_bytes rate (counter_of frame) (frame_triplets rate bytes packet)
 
 -- the distribution packets of so many frames of columns, from a frame on
 abbrev pub column_packets : Rate → Columns → ℕ → ℕ → List Frame

@@ -1,11 +1,13 @@
-ghost use Rattle.std.specs.Prelude.{◌≡◌, ◌+◌, ◌<◌, ℕ, [], All};
+ghost use Rattle.std.specs.Prelude.{◌≡◌, ◌+◌, ◌<◌, ◌≤◌, ℕ, [], All, length};
+ghost use Rattle.frame_carrier.specs.Carrying.{carried_bytes};
+ghost use Rattle.frame_carrier.specs.FrameTriplets.{frame_triplets};
 
-use crate::triplets::{frame_triplets, put_section};
+use crate::triplets::{FIELD_1, FIELD_2, frame_triplets, ten_triplets, twenty_triplets};
 use anc_words::write_packet;
 use arrayvec::ArrayVec;
 use cc_base::Rate;
 use cc_data::Triplet;
-use cdp_packets::write_cdp;
+use cdp_packets::{cc_section, write_cdp};
 use frame_scheduler::FrameBytes;
 
 /// The identifiers of ancillary packets of captions (SMPTE ST 334-1).
@@ -26,7 +28,6 @@ pub struct Carrier {
 impl Carrier {
     ghost use Rattle.cc_base.specs.declared.rate.Rate.{Rate};
     ghost use Rattle.frame_carrier.specs.Carrying.{IsAt, frame_bytes};
-    ghost use Rattle.frame_carrier.specs.FrameTriplets.{frame_triplets};
 
     /// A carrier for a programme of this rate, at its frame 0.
     pub fn new(rate: Rate) -> Carrier
@@ -72,11 +73,7 @@ impl Carrier {
     {
         let counter = self.counter;
         self.pass();
-        let mut section = ArrayVec::new();
-        put_section(self.rate, frame, &mut section);
-        let mut packet = ArrayVec::new();
-        write_cdp(self.rate, CAPTION_FLAGS, counter, &section, &mut packet);
-        write_packet(CAPTION_DID, CAPTION_SDID, &packet, out);
+        put_frame(self.rate, counter, frame, out);
     }
 
     /// Passes to the next frame.
@@ -86,4 +83,34 @@ impl Carrier {
     {
         self.counter = self.counter.wrapping_add(1);
     }
+}
+
+/// Writes the bytes of a frame with this counter into an empty `out`. A frame with a pair in each field that it has a slot of has
+/// an array of triplets, so the compiler knows how long its section, its packet and its words are.
+fn put_frame(rate: Rate, counter: u16, frame: &FrameBytes, out: &mut ArrayVec<u8, 524>)
+    requires { out.old.items ≡ [] }
+    ensures { out.new.items ≡ carried_bytes rate counter (frame_triplets rate frame.now []) }
+{
+    match (rate.triplets(), frame.one, frame.two) {
+        (20, Some(one), Some(two)) => put_triplets(rate, counter, &twenty_triplets(one, two), out),
+        (10, Some(one), None) => put_triplets(rate, counter, &ten_triplets(FIELD_1, one), out),
+        (10, None, Some(two)) => put_triplets(rate, counter, &ten_triplets(FIELD_2, two), out),
+        _ => put_triplets(rate, counter, &frame_triplets(rate, frame), out),
+    }
+}
+
+/// Writes the ancillary packet of a distribution packet with these triplets into an empty `out`.
+#[inline(always)]
+#[tactic(auto, using(crate::proofs::CarryingLemmas::no_sections))]
+fn put_triplets(rate: Rate, counter: u16, triplets: &[Triplet], out: &mut ArrayVec<u8, 524>)
+    requires few { length triplets.now ≤ 31 }
+    requires kinds { All (λ t. t.kind < 4) triplets.now }
+    requires empty { out.old.items ≡ [] }
+    ensures { out.new.items ≡ carried_bytes rate counter triplets.now }
+{
+    let mut section = ArrayVec::new();
+    cc_section(triplets, &mut section);
+    let mut packet = ArrayVec::new();
+    write_cdp(rate, CAPTION_FLAGS, counter, &section, &mut packet);
+    write_packet(CAPTION_DID, CAPTION_SDID, &packet, out);
 }

@@ -1,25 +1,19 @@
 ghost use Rattle.std.specs.Prelude.{◌≡◌, ◌+◌, ◌-◌, ◌<◌, ◌≤◌, ◌++◌, [], ◌∷◌, Some, length, replicate};
 ghost use Rattle.cc_base.specs.Rate.{triplets_of};
-ghost use Rattle.cdp_packets.specs.Sections.{IsSectionList};
-ghost use Rattle.cdp_packets.specs.Written.{cc_data_section};
 ghost use Rattle.frame_carrier.specs.FrameTriplets.{field_triplets, filler, frame_triplets, pair_triplet};
 
 use arrayvec::ArrayVec;
 use cc_base::Rate;
 use cc_data::Triplet;
-use cdp_packets::cc_section;
 use frame_scheduler::FrameBytes;
 use line21_codes::Pair;
 
 /// The kinds of triplets (CTA-708-E, cc_type): the pairs of both fields, and bytes of a caption channel packet.
-const FIELD_1: u8 = 0;
+pub(crate) const FIELD_1: u8 = 0;
 
-const FIELD_2: u8 = 1;
+pub(crate) const FIELD_2: u8 = 1;
 
 const PACKET_DATA: u8 = 2;
-
-/// The number of triplets of a frame at 29.97 and 30 frames a second.
-const TWENTY: usize = 20;
 
 /// The triplets of a frame without service bytes: those of the fields in which it has a pair, and triplets that don't count up
 /// to the rate's number.
@@ -54,27 +48,22 @@ fn fill(number: u8, triplets: &mut ArrayVec<Triplet, 31>)
     }
 }
 
-/// Appends the cc_data section of a frame without service bytes to an empty vector. The frames of 29.97 and 30 frames a second
-/// go by an array of a known length, which is faster.
-#[tactic(auto, using(crate::proofs::CarryingLemmas::no_sections))]
-pub(crate) fn put_section(rate: Rate, frame: &FrameBytes, out: &mut ArrayVec<u8, 244>)
-    requires { out.old.items ≡ [] }
-    ensures section { out.new.items ≡ cc_data_section (frame_triplets rate frame.now []) }
-    ensures list { IsSectionList out.new.items }
-{
-    match (frame.one, frame.two, rate.triplets()) {
-        (Some(one), Some(two), 20) => cc_section(&twenty_triplets(one, two), out),
-        _ => cc_section(&frame_triplets(rate, frame), out),
-    }
-}
-
 /// The twenty triplets of a frame with a pair in each field.
-fn twenty_triplets(one: Pair, two: Pair) -> [Triplet; TWENTY]
+pub(crate) fn twenty_triplets(one: Pair, two: Pair) -> [Triplet; 20]
     ensures { result ≡ pair_triplet 0 one ∷ pair_triplet 1 two ∷ replicate 18 filler }
 {
-    let mut triplets = [filler(); TWENTY];
+    let mut triplets = [filler(); 20];
     triplets[0] = pair_triplet(FIELD_1, one);
     triplets[1] = pair_triplet(FIELD_2, two);
+    triplets
+}
+
+/// The ten triplets of a frame with a pair in the field of this kind alone.
+pub(crate) fn ten_triplets(kind: u8, pair: Pair) -> [Triplet; 10]
+    ensures { result ≡ pair_triplet kind pair ∷ replicate 9 filler }
+{
+    let mut triplets = [filler(); 10];
+    triplets[0] = pair_triplet(kind, pair);
     triplets
 }
 
