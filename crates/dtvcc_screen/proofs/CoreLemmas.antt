@@ -1,13 +1,11 @@
 -- What a byte, a command and the end of a delay do, case by case.
-use Rattle.std.proofs.Common.{◌≡◌, ℕ, ◌+◌, ◌<◌, ◌≤◌, ◌==◌, Bool, true, false, if◌then◌else◌, List, [], ◌∷◌, ◌++◌, All, Option, Some, None, get_or, length, take, drop, refl, sym, ap, subst, ◌∙◌, arith, add-one, zero, suc}
-use Rattle.std.proofs.lemmas.Bool.Decides.{nat_tests}
+use Rattle.std.proofs.Common.{◌≡◌, ℕ, ◌+◌, ◌<◌, ◌≤◌, Bool, true, false, if◌then◌else◌, List, [], ◌∷◌, ◌++◌, Option, Some, None, get_or, length, take, drop, refl, sym, ap, subst, ◌∙◌, arith, add-one, zero, suc}
 use Rattle.cc_base.specs.Steps.{front_from}
 use Rattle.dtvcc_codes.specs.declared.commands.Command.{Command}
-use Rattle.dtvcc_codes.specs.declared.commands.Command.TheVariants.{Dlc}
 use Rattle.dtvcc_codes.specs.Reading.{command_of, completed, completions, is_whole, open_after}
 use Rattle.dtvcc_screen.specs.declared.clock.Clock.{Clock}
 use Rattle.dtvcc_screen.specs.Commands.{on_screen}
-use Rattle.dtvcc_screen.specs.Cores.{CoreState, acted, acted_if, after_byte, all_acted, arrived, arrived_in, clean, fill, fill_in, go_on, held_more, is_cancel, is_reset, released, tenths_of, until_of}
+use Rattle.dtvcc_screen.specs.Cores.{CoreState, acted, acted_if, after_byte, all_acted, arrived, arrived_in, clean, fill_in, go_on, held_more, is_cancel, is_reset, released, tenths_of, until_of}
 use Rattle.dtvcc_screen.specs.Objects.{acting_on}
 use Rattle.dtvcc_screen.specs.Screens.{ScreenState}
 

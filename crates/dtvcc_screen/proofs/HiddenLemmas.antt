@@ -1,14 +1,14 @@
 -- Text that goes to a hidden window shows nothing.
-use Rattle.std.proofs.Common.{◌≡◌, ℕ, ◌+◌, ◌-◌, ◌==◌, Bool, true, false, if◌then◌else◌, Option, Some, None, option_map, refl, sym, ap, subst, ◌∙◌, arith}
+use Rattle.std.proofs.Common.{◌≡◌, ℕ, ◌+◌, ◌==◌, Bool, true, false, if◌then◌else◌, Option, Some, None, is_some, option_map, refl, sym, ap, subst, ◌∙◌, arith}
 use Rattle.std.proofs.lemmas.Bool.Decides.{nat_tests}
 use Rattle.dtvcc_codes.specs.declared.commands.Command.{Command}
 use Rattle.dtvcc_codes.specs.declared.commands.Command.TheVariants.{Put, Bs, Ff, Cr, Hcr, Spa, Spc, Spl, Swa}
 use Rattle.dtvcc_windows.specs.Showing.{ShownWindow, as_shown, shown}
-use Rattle.dtvcc_windows.specs.Text.{backspaced, carriage_returned, written}
 use Rattle.dtvcc_windows.specs.Windows.{WindowState}
 use Rattle.dtvcc_screen.specs.Commands.{edited_by, on_screen}
-use Rattle.dtvcc_screen.specs.Laws.{IsCurrentHidden, grids, is_text}
-use Rattle.dtvcc_screen.specs.Screens.{ScreenState, on_current, on_window, with_window}
+use Rattle.dtvcc_screen.specs.Laws.{IsCurrentHidden, is_text}
+use Rattle.dtvcc_screen.specs.Shown.{LooksSame, grids}
+use Rattle.dtvcc_screen.specs.Screens.{ScreenState, on_current, on_window}
 
 -- a choice of two windows that are as visible
 as_visible : (b : Bool) (one other : WindowState) (visible : Bool) → one.visible ≡ visible → other.visible ≡ visible → (if b then one else other).visible ≡ visible
@@ -16,17 +16,17 @@ as_visible true one other visible a o = a
 as_visible false one other visible a o = o
 
 -- text leaves a window as visible as it was
-text_keeps : (command : Command) (w : WindowState) → is_text command ≡ true → (edited_by command w).visible ≡ w.visible
-text_keeps (Put ch) w is = as_visible (w.col == w.definition.cols) w _ w.visible refl refl
-text_keeps Bs w is = as_visible (w.col == 0) w _ w.visible refl refl
-text_keeps Ff w is = refl
-text_keeps Cr w is = as_visible (w.row + 1 == w.definition.rows) _ _ w.visible refl refl
-text_keeps Hcr w is = refl
-text_keeps (Spa pen) w is = refl
-text_keeps (Spc colors) w is = refl
-text_keeps (Spl row col) w is = refl
-text_keeps (Swa attributes) w is = refl
-text_keeps _ w is = refl
+text_keeps : (command : Command) (w : WindowState) → (edited_by command w).visible ≡ w.visible
+text_keeps (Put ch) w = as_visible (w.col == w.definition.cols) w _ w.visible refl refl
+text_keeps Bs w = as_visible (w.col == 0) w _ w.visible refl refl
+text_keeps Ff w = refl
+text_keeps Cr w = as_visible (w.row + 1 == w.definition.rows) _ _ w.visible refl refl
+text_keeps Hcr w = refl
+text_keeps (Spa pen) w = refl
+text_keeps (Spc colors) w = refl
+text_keeps (Spl row col) w = refl
+text_keeps (Swa attributes) w = refl
+text_keeps _ w = refl
 
 -- it goes to the current window
 text_goes : (command : Command) (s : ScreenState) → is_text command ≡ true → on_screen command s ≡ on_current (edited_by command) s
@@ -72,4 +72,22 @@ pub hidden_shows_nothing : (command : Command) (s : ScreenState) (id : ℕ) → 
     → grids (on_screen command s) id ≡ grids s id
 hidden_shows_nothing command s id is hidden =
     ap (λ (t : ScreenState). grids t id) (text_goes command s is)
-    ∙ on_hidden (edited_by command) (λ w. text_keeps command w is) s.current s.windows hidden id
+    ∙ on_hidden (edited_by command) (text_keeps command) s.current s.windows hidden id
+
+-- an edit of a current window of which nothing is shown
+none_shown : (seen : Option ShownWindow) → is_some seen ≡ false → seen ≡ None
+none_shown None is = refl
+none_shown (Some seen) is = cc
+
+pub edit_unseen : (command : Command) (s t : ScreenState) (id : ℕ) (window : Option WindowState) → s.current ≡ Some id → s.windows id ≡ window
+    → is_some (shown window) ≡ false → t ≡ on_current (edited_by command) s → LooksSame s t
+edit_unseen command s t id window current here hidden is i =
+    ap (λ (u : ScreenState). grids u i) is ∙ on_hidden (edited_by command) (text_keeps command) s.current s.windows unseen i where
+      at : (n : ℕ) → id ≡ n → shown (s.windows n) ≡ None
+      at n same = subst (λ (m : ℕ). shown (s.windows m) ≡ None) same (ap shown here ∙ none_shown (shown window) hidden)
+
+      inside : (n : ℕ) → Some id ≡ Some n → id ≡ n
+      inside n same = cc
+
+      unseen : (n : ℕ) → s.current ≡ Some n → shown (s.windows n) ≡ None
+      unseen n is_current = at n (inside n (sym current ∙ is_current))

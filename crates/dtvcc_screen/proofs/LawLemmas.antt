@@ -1,13 +1,11 @@
 -- Delays only put off, and hold few bytes.
 use Rattle.std.proofs.Common.{◌≡◌, ℕ, ◌+◌, ◌<◌, ◌≤◌, ◌==◌, ◌⊎◌, Bool, true, false, if◌then◌else◌, List, [], ◌∷◌, ◌++◌, Option, Some, None, length, length-append, refl, sym, ap, subst, ◌∙◌, arith, inl, inr}
 use Rattle.std.proofs.lemmas.Bool.Decides.{nat_tests}
-use Rattle.cc_base.specs.declared.rate.Rate.{Rate}
 use Rattle.dtvcc_codes.specs.declared.commands.Command.{Command}
-use Rattle.dtvcc_codes.specs.declared.commands.Command.TheVariants.{Dlc}
 use Rattle.dtvcc_codes.specs.Reading.{completed, completions, open_after}
 use Rattle.dtvcc_screen.specs.declared.clock.Clock.{Clock}
 use Rattle.dtvcc_screen.specs.Commands.{on_screen}
-use Rattle.dtvcc_screen.specs.Cores.{CoreState, acted, acted_if, after_byte, after_tick, all_acted, arrived, arrived_in, clean, fill, fill_in, go_on, held_more, is_cancel, is_due, is_reset, released, tenths_of, until_of}
+use Rattle.dtvcc_screen.specs.Cores.{CoreState, acted_if, after_byte, after_tick, all_acted, arrived_in, clean, fill, fill_in, go_on, held_more, is_cancel, is_due, is_reset, released, tenths_of, until_of}
 use Rattle.dtvcc_screen.specs.Laws.{HasNoReset, bytes_of, on_screen_all, on_screen_if}
 use Rattle.dtvcc_screen.specs.Meaning.{Event, Tick, Byte, Reset, Served, after, on_event, start, ticked}
 use Rattle.dtvcc_screen.specs.Objects.{acting_on}

@@ -1,6 +1,5 @@
 -- One event more.
 use Rattle.std.proofs.Common.{◌≡◌, List, [], ◌∷◌, ◌++◌, refl, sym, ap, subst, ◌∙◌}
-use Rattle.dtvcc_screen.specs.declared.clock.Clock.{Clock}
 use Rattle.dtvcc_screen.specs.declared.service.Service.{Service}
 use Rattle.dtvcc_screen.specs.Meaning.{Event, Served, after, on_event, start}
 use Rattle.dtvcc_screen.specs.Objects.{Leads, Stands}

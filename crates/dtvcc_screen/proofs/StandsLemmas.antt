@@ -5,6 +5,7 @@ use Rattle.std.proofs.lemmas.List.Elements.{All-append, All-cons, All-nil}
 use Rattle.cc_base.specs.Steps.{front_from}
 use Rattle.dtvcc_codes.specs.declared.commands.Command.{Command}
 use Rattle.dtvcc_codes.specs.declared.commands.Command.TheVariants.{Dlc}
+use Rattle.dtvcc_codes.specs.declared.open_command.OpenCommand.{OpenCommand}
 use Rattle.dtvcc_codes.specs.Reading.{completed, completions, is_whole, open_after}
 use Rattle.dtvcc_codes.specs.Readers.{Keeps}
 use Rattle.dtvcc_codes.proofs.CutLemmas.{completed_is_spelled}
@@ -15,7 +16,7 @@ use Rattle.dtvcc_screen.specs.Commands.{on_screen}
 use Rattle.dtvcc_screen.specs.Cores.{CoreState, acted, acted_if, after_byte, after_tick, all_acted, arrived, fill, fill_in, held_more, is_cancel, is_due, is_reset, released, tenths_of, until_of}
 use Rattle.dtvcc_screen.specs.Objects.{Carries, Stands, acting_on, screen_of}
 use Rattle.dtvcc_screen.specs.Screens.{ScreenState}
-use Rattle.dtvcc_screen.proofs.CoreLemmas.{all_acted-open, arrived_cancel, arrived_held, arrived_now, arrived_reset, by_byte, closed, completions_length, completions_more, fill_held, front, front_more, front_next, front_rest, next_delayed, rest_acted}
+use Rattle.dtvcc_screen.proofs.CoreLemmas.{all_acted-open, arrived_cancel, arrived_held, arrived_now, by_byte, closed, completions_length, completions_more, fill_held, front, front_more, front_rest, next_delayed, rest_acted}
 
 -- the bytes of an unfinished command stay bytes
 abbrev IsByte : ℕ → Type 0
@@ -300,3 +301,18 @@ delayed_carries bytes k byte command clock first screen until now within is says
       calm = λ nothing. absurd (let both : Some ends.0 ≡ None = sym (begun ∙ ends.1) ∙ nothing in cc);
     } in
     subst (λ (s : CoreState). Carries s now.held.items now) (sym to_state) carries
+
+-- a state doesn't speak of what was noted
+pub stands_still : (state : CoreState) (core next : Core) → Stands state core → next.screen ≡ core.screen → next.until ≡ core.until
+    → next.held.items ≡ core.held.items → next.reader ≡ core.reader → Stands state next
+stands_still state core next stands screen until held reader = record {
+  carries = record {
+    screen = ap screen_of screen ∙ stands.carries.screen;
+    until = until ∙ stands.carries.until;
+    held = ap (completions []) held ∙ stands.carries.held;
+    along = λ end is. ap (front_from open_after []) held ∙ stands.carries.along end is;
+    calm = λ is. held ∙ stands.carries.calm is;
+  };
+  unfinished = subst (λ (r : OpenCommand). Keeps state.open_bytes r) (sym reader) stands.unfinished;
+  are_bytes = stands.are_bytes;
+}

@@ -3,11 +3,11 @@ use Rattle.std.specs.Prelude.{◌≡◌, ℕ, Bool, true, false, List, [], ◌�
 use Rattle.dtvcc_codes.specs.declared.commands.Command.{Command}
 use Rattle.dtvcc_codes.specs.declared.commands.Command.TheVariants.{Put, Bs, Ff, Cr, Hcr, Spa, Spc, Spl, Swa}
 use Rattle.dtvcc_codes.specs.Reading.{completed, open_after}
-use Rattle.dtvcc_windows.specs.Showing.{ShownWindow, shown}
 use Rattle.dtvcc_screen.specs.Commands.{on_screen}
 use Rattle.dtvcc_screen.specs.Cores.{is_reset}
 use Rattle.dtvcc_screen.specs.Meaning.{Event, Tick, Byte, Reset}
 use Rattle.dtvcc_screen.specs.Screens.{ScreenState}
+use Rattle.dtvcc_screen.specs.Shown.{grids}
 
 -- the command that a byte completed, if it completed one, acts on the screen
 abbrev pub on_screen_if : Option Command → ScreenState → ScreenState
@@ -46,10 +46,6 @@ is_text (Spc colors) = true
 is_text (Spl row col) = true
 is_text (Swa attributes) = true
 is_text _ = false
-
--- what a viewer sees of the window of each id
-abbrev pub grids : ScreenState → ℕ → Option ShownWindow
-grids s id = shown (s.windows id)
 
 -- nothing is seen of the current window
 abbrev pub IsCurrentHidden : ScreenState → Type 0

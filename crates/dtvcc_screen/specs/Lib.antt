@@ -1,4 +1,5 @@
 pub mod Screens
+pub mod Shown
 pub mod Commands
 pub mod Changes
 pub mod Cores

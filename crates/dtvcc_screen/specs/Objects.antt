@@ -1,18 +1,18 @@
 -- What the objects of the program stand for.
-use Rattle.std.specs.Prelude.{◌≡◌, ℕ, ◌<◌, List, [], All, Option, Some, None, slice_get}
+use Rattle.std.specs.Prelude.{◌≡◌, ℕ, ◌<◌, Bool, false, List, [], All, Option, Some, None, slice_get}
 use Rattle.cc_base.specs.Steps.{front_from}
 use Rattle.dtvcc_codes.specs.Reading.{completions, open_after}
 use Rattle.dtvcc_codes.specs.Readers.{Keeps}
 use Rattle.dtvcc_windows.specs.declared.window.Window.{Window}
 use Rattle.dtvcc_windows.specs.Objects.{window_of}
 use Rattle.dtvcc_windows.specs.Windows.{WindowState}
-use Rattle.dtvcc_screen.specs.declared.clock.Clock.{Clock}
 use Rattle.dtvcc_screen.specs.declared.cores.Core.{Core}
 use Rattle.dtvcc_screen.specs.declared.screen.Screen.{Screen}
 use Rattle.dtvcc_screen.specs.declared.service.Service.{Service}
 use Rattle.dtvcc_screen.specs.Cores.{CoreState}
 use Rattle.dtvcc_screen.specs.Meaning.{Event, after, start}
 use Rattle.dtvcc_screen.specs.Screens.{ScreenState, Windows}
+use Rattle.dtvcc_screen.specs.Shown.{LooksSame}
 
 -- the window at a place of a list, where there is one and it is live
 abbrev pub window_at : Option Window → Option WindowState
@@ -40,6 +40,26 @@ pub record Stands (state : CoreState) (core : Core) : Type 0 where
   pub carries : Carries state core.held.items core
   pub unfinished : Keeps state.open_bytes core.reader
   pub are_bytes : All (λ byte. byte < 256) state.open_bytes
+
+-- its screen
+abbrev pub screen_in : Core → ScreenState
+screen_in core = screen_of core.screen
+
+-- in a delay, the frame that ends it
+abbrev pub delay_end : Core → Option ℕ
+delay_end core = core.until
+
+-- a change was noted since it was last asked for
+abbrev pub has_changed : Core → Bool
+has_changed core = core.changed
+
+-- where no change is noted none was noted before, and the same is seen of each window
+pub record IsUnnoted (old new : Core) : Type 0 where
+  pub before : has_changed old ≡ false
+  pub same : LooksSame (screen_in old) (screen_in new)
+
+abbrev pub Notes : Core → Core → Type 0
+Notes old new = has_changed new ≡ false → IsUnnoted old new
 
 -- the state from which what is held acts, over a screen: outside of a delay, nothing is held, and these bytes are open
 abbrev pub acting_on : List ℕ → ScreenState → CoreState

@@ -36,22 +36,22 @@ pub(crate) fn change_window(window: &mut Window, change: Change)
 }
 
 /// Does what a command of text says to a window, where there is one.
-pub(crate) fn edit_window(window: &mut Window, command: Command)
-    ensures { window_of window.new ≡ option_map (edited_by command) (window_of window.old) }
+pub(crate) fn edit_window(window: &mut Window, command: &Command)
+    ensures { window_of window.new ≡ option_map (edited_by command.now) (window_of window.old) }
 {
     if !window.live() {
         return;
     }
     match command {
-        Command::Put(ch) => window.put(ch),
+        Command::Put(ch) => window.put(*ch),
         Command::Bs => window.back(),
         Command::Ff => window.form_feed(),
         Command::Cr => window.carriage_return(),
         Command::Hcr => window.row_return(),
-        Command::Spa(pen) => window.set_pen(pen),
-        Command::Spc(colors) => window.set_colors(colors),
-        Command::Spl { row, col } => window.locate(row, col),
-        Command::Swa(attributes) => window.set_attributes(attributes),
+        Command::Spa(pen) => window.set_pen(*pen),
+        Command::Spc(colors) => window.set_colors(*colors),
+        Command::Spl { row, col } => window.locate(*row, *col),
+        Command::Swa(attributes) => window.set_attributes(*attributes),
         Command::Etx
         | Command::Cw(_)
         | Command::Clw(_)

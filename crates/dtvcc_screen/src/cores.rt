@@ -7,6 +7,7 @@ use arrayvec::ArrayVec;
 use dtvcc_codes::{Command, OpenCommand};
 use dtvcc_windows::Window;
 use std::alloc::{AllocError, Global};
+use std::mem;
 
 /// A service without a clock of its own: its windows, and what a delay holds (CTA-708-E). Each call is told what all services
 /// are told of the frames.
@@ -18,35 +19,40 @@ pub struct Core {
     until: Option<u64>,
     // In a delay, the bytes that came.
     held: ArrayVec<u8, FULL>,
+    // Whether something that is shown may have changed since it was last asked.
+    changed: bool,
     ghost room: { length held.items < 128 },
 }
 
 impl Core {
-    ghost use Rattle.std.specs.Prelude.{◌≡◌, ◌==◌, ◌≤◌, ◌^◌, ℕ, [], Some, None, IfOk, IfSome, IsTrue, MatchOption};
+    ghost use Rattle.std.specs.Prelude.{◌≡◌, ◌==◌, ◌≤◌, ◌^◌, ℕ, [], true, false, Some, None, IfOk, IfSome, IsTrue, MatchOption};
     ghost use Rattle.cc_base.specs.Steps.{front_from};
     ghost use Rattle.dtvcc_codes.specs.Reading.{completed, completions, open_after};
     ghost use Rattle.dtvcc_codes.specs.Spellable.{IsSpellable};
     ghost use Rattle.dtvcc_windows.specs.Objects.{is_live, window_of};
     ghost use Rattle.dtvcc_screen.specs.Commands.{on_screen};
     ghost use Rattle.dtvcc_screen.specs.Cores.{CoreState, after_byte, after_tick, all_acted, clean, fill, released, tenths_of, until_of};
-    ghost use Rattle.dtvcc_screen.specs.Objects.{Carries, Stands, acting_on, screen_of};
+    ghost use Rattle.dtvcc_screen.specs.Objects.{Carries, Notes, Stands, acting_on, delay_end, has_changed, screen_in, screen_of};
 
     /// A service before its first byte. All memory that it ever takes is taken here.
     pub fn new(alloc: Global) -> Result<Core, AllocError>
-        ensures { IfOk result (Stands clean) }
+        ensures clean { IfOk result (Stands clean) }
+        ensures asked { IfOk result (λ core. has_changed core ≡ false) }
     {
         Ok(Core {
             screen: Screen::new(alloc)?,
             reader: OpenCommand::new(),
             until: None,
             held: ArrayVec::new(),
+            changed: false,
         })
     }
 
     /// A frame begins, which the clock counts already: a delay that ends in it ends (CTA-708-E, Delay).
     pub fn tick(&mut self, clock: Clock)
         requires { clock.ticks < 2 ^ 32 }
-        ensures { (state : CoreState) → Stands state self.old → Stands (after_tick clock state) self.new }
+        ensures stands { (state : CoreState) → Stands state self.old → Stands (after_tick clock state) self.new }
+        ensures noted { Notes self.old self.new }
     {
         if is_due(self.until, clock.ticks) {
             self.end_delay(clock);
@@ -58,6 +64,7 @@ impl Core {
         requires { clock.ticks < 2 ^ 32 }
         ensures stands { (state : CoreState) → Stands state self.old → Stands (after_byte byte clock state) self.new }
         ensures full { (state : CoreState) → Stands state self.old → result ≡ (fill byte state == 128) }
+        ensures noted { Notes self.old self.new }
     {
         let completed = self.reader.take(byte);
         if is_reset(completed) {
@@ -65,7 +72,7 @@ impl Core {
             return false;
         }
         if self.until.is_none() {
-            if let Some(command) = completed {
+            if let Some(command) = &completed {
                 self.act(clock, command);
             }
             return false;
@@ -81,17 +88,20 @@ impl Core {
         let mut filled = self.held.take();
         filled.push(byte);
         self.act_all(clock, filled.as_slice());
+        self.changed = true;
         true
     }
 
     /// Resets the service, as a Reset command does (CTA-708-E, Reset).
     pub fn reset(&mut self)
-        ensures { Stands clean self.new }
+        ensures clean { Stands clean self.new }
+        ensures noted { Notes self.old self.new }
     {
         self.screen.reset();
         self.reader = OpenCommand::new();
         self.until = None;
         self.held.clear();
+        self.changed = true;
     }
 
     /// The number of held bytes, at most 127.
@@ -104,7 +114,8 @@ impl Core {
 
     /// In a delay, the frame that ends it, counted as the clock counts.
     pub fn until(&self) -> Option<u64>
-        ensures { (state : CoreState) → Stands state self.now → result ≡ state.until }
+        ensures state { (state : CoreState) → Stands state self.now → result ≡ state.until }
+        ensures end { result ≡ delay_end self.now }
     {
         self.until
     }
@@ -118,14 +129,28 @@ impl Core {
         self.screen.window(id)
     }
 
+    /// Whether what is shown of any window may have changed since this was last asked, or since the service was new: where it
+    /// says no, it is the same.
+    pub fn take_changed(&mut self) -> bool
+        ensures told { result ≡ has_changed self.old }
+        ensures asked { has_changed self.new ≡ false }
+        ensures stands { (state : CoreState) → Stands state self.old → Stands state self.new }
+        ensures end { delay_end self.new ≡ delay_end self.old }
+        ensures screen { screen_in self.new ≡ screen_in self.old }
+    {
+        mem::replace(&mut self.changed, false)
+    }
+
     // A delay ends.
     fn end_delay(&mut self, clock: Clock)
         requires { clock.ticks < 2 ^ 32 }
-        ensures { (state : CoreState) (end : ℕ) → Stands state self.old → state.until ≡ Some end
+        ensures noted { has_changed self.new ≡ true }
+        ensures stands { (state : CoreState) (end : ℕ) → Stands state self.old → state.until ≡ Some end
             → Stands (released clock state) self.new }
     {
         let held = self.held.take();
         self.act_all(clock, held.as_slice());
+        self.changed = true;
     }
 
     // Held bytes act in order; a delay that starts there holds all that stands behind it.
@@ -141,7 +166,7 @@ impl Core {
         self.until = None;
         for (k, byte) in bytes.iter().enumerate() {
             if let Some(command) = reader.take(*byte) {
-                self.act(clock, command);
+                self.act(clock, &command);
                 if self.until.is_some() {
                     hold(&mut self.held, &bytes[k + 1..]);
                     return;
@@ -151,11 +176,12 @@ impl Core {
     }
 
     // A command acts.
-    fn act(&mut self, clock: Clock, command: Command)
+    fn act(&mut self, clock: Clock, command: &Command)
         requires ticks { clock.ticks < 2 ^ 32 }
-        requires fits { IsSpellable command }
-        ensures screen { screen_of self.new.screen ≡ on_screen command (screen_of self.old.screen) }
-        ensures until { self.new.until ≡ until_of (tenths_of command) clock self.old.until }
+        requires fits { IsSpellable command.now }
+        ensures screen { screen_of self.new.screen ≡ on_screen command.now (screen_of self.old.screen) }
+        ensures until { self.new.until ≡ until_of (tenths_of command.now) clock self.old.until }
+        ensures noted { Notes self.old self.new }
         ensures held { self.new.held.items ≡ self.old.held.items }
         ensures reader { self.new.reader ≡ self.old.reader }
     {
@@ -163,6 +189,8 @@ impl Core {
         if tenths != 0 {
             self.until = Some(clock.ticks + u64::from(clock.rate.delay_frames(tenths)));
         }
-        self.screen.run(command);
+        if self.screen.run(command) {
+            self.changed = true;
+        }
     }
 }

@@ -32,11 +32,11 @@ pub(crate) fn is_due(until: Option<u64>, now: u64) -> bool
 }
 
 /// The tenths of a second for which a command puts off what follows it.
-pub(crate) fn tenths_of(command: Command) -> u8
-    ensures { result ≡ tenths_of command }
+pub(crate) fn tenths_of(command: &Command) -> u8
+    ensures { result ≡ tenths_of command.now }
 {
     match command {
-        Command::Dly(tenths) => tenths,
+        Command::Dly(tenths) => *tenths,
         _ => 0,
     }
 }

@@ -6,9 +6,10 @@ ghost use Rattle.dtvcc_codes.specs.Reading.{completed, completions};
 ghost use Rattle.dtvcc_screen.specs.declared.clock.Clock.{Clock};
 ghost use Rattle.dtvcc_screen.specs.Commands.{on_screen};
 ghost use Rattle.dtvcc_screen.specs.Cores.{CoreState, after_byte, clean, fill, is_reset};
-ghost use Rattle.dtvcc_screen.specs.Laws.{HasNoReset, IsCurrentHidden, bytes_of, grids, is_text, on_screen_all};
+ghost use Rattle.dtvcc_screen.specs.Laws.{HasNoReset, IsCurrentHidden, bytes_of, is_text, on_screen_all};
 ghost use Rattle.dtvcc_screen.specs.Meaning.{Event, Reset, Served, after, on_event, start};
 ghost use Rattle.dtvcc_screen.specs.Screens.{ScreenState, empty_screen};
+ghost use Rattle.dtvcc_screen.specs.Shown.{grids};
 
 /// A delay only puts off: where all that is held has acted, the screen is the one to which all commands lead that came, in the
 /// order in which they came, as if there were no delays.

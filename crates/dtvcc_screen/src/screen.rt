@@ -18,13 +18,14 @@ pub(crate) struct Screen {
 }
 
 impl Screen {
-    ghost use Rattle.std.specs.Prelude.{None, Option, IfOk, IfSome, IsTrue, MatchOption};
+    ghost use Rattle.std.specs.Prelude.{false, None, Option, IfOk, IfSome, IsTrue, MatchOption};
     ghost use Rattle.dtvcc_codes.specs.Spellable.{IsDefinition, IsSpellable};
     ghost use Rattle.dtvcc_windows.specs.Objects.{is_live, window_of};
     ghost use Rattle.dtvcc_screen.specs.Changes.{changed_by};
     ghost use Rattle.dtvcc_screen.specs.Commands.{current_without, deleted, edited_by, is_named, on_named, on_screen, with_current, with_definition};
     ghost use Rattle.dtvcc_screen.specs.Objects.{screen_of, windows_of};
     ghost use Rattle.dtvcc_screen.specs.Screens.{empty_screen, on_current, on_windows};
+    ghost use Rattle.dtvcc_screen.specs.Shown.{LooksSame};
 
     /// A screen without windows. All memory that it ever takes is taken here.
     pub(crate) fn new(alloc: Global) -> Result<Screen, AllocError>
@@ -64,19 +65,13 @@ impl Screen {
         if window.live() { Some(window) } else { None }
     }
 
-    /// Does what a command says.
-    pub(crate) fn run(&mut self, command: Command)
-        requires { IsSpellable command }
-        ensures { screen_of self.new ≡ on_screen command (screen_of self.old) }
+    /// Does what a command says, and says whether a viewer may see a change.
+    pub(crate) fn run(&mut self, command: &Command) -> bool
+        requires { IsSpellable command.now }
+        ensures screen { screen_of self.new ≡ on_screen command.now (screen_of self.old) }
+        ensures seen { result ≡ false → LooksSame (screen_of self.old) (screen_of self.new) }
     {
         match command {
-            Command::Df(definition) => self.define(&definition),
-            Command::Cw(id) => self.choose(id),
-            Command::Clw(bits) => self.change(bits, Change::Clear),
-            Command::Dsw(bits) => self.change(bits, Change::Show),
-            Command::Hdw(bits) => self.change(bits, Change::Hide),
-            Command::Tgw(bits) => self.change(bits, Change::Toggle),
-            Command::Dlw(bits) => self.delete(bits),
             Command::Put(_)
             | Command::Bs
             | Command::Ff
@@ -85,9 +80,21 @@ impl Screen {
             | Command::Spa(_)
             | Command::Spc(_)
             | Command::Spl { .. }
-            | Command::Swa(_) => self.edit(command),
-            Command::Dly(_) | Command::Dlc | Command::Rst | Command::Etx | Command::Skipped => {}
+            | Command::Swa(_) => return self.edit(command),
+            Command::Cw(id) => {
+                self.choose(*id);
+                return false;
+            }
+            Command::Dly(_) | Command::Dlc | Command::Rst | Command::Etx | Command::Skipped =>
+                return false,
+            Command::Df(definition) => self.define(definition),
+            Command::Clw(bits) => self.change(*bits, Change::Clear),
+            Command::Dsw(bits) => self.change(*bits, Change::Show),
+            Command::Hdw(bits) => self.change(*bits, Change::Hide),
+            Command::Tgw(bits) => self.change(*bits, Change::Toggle),
+            Command::Dlw(bits) => self.delete(*bits),
         }
+        true
     }
 
     // DefineWindow.
@@ -135,12 +142,17 @@ impl Screen {
         }
     }
 
-    // Does what a command of text says to the current window.
-    fn edit(&mut self, command: Command)
-        ensures { screen_of self.new ≡ on_current (edited_by command) (screen_of self.old) }
+    // Does what a command of text says to the current window, and says whether this is shown.
+    fn edit(&mut self, command: &Command) -> bool
+        ensures screen { screen_of self.new ≡ on_current (edited_by command.now) (screen_of self.old) }
+        ensures seen { result ≡ false → LooksSame (screen_of self.old) (screen_of self.new) }
     {
-        if let Some(id) = self.current {
-            edit_window(&mut self.windows[id], command);
-        }
+        let Some(id) = self.current else {
+            return false;
+        };
+        let window = &mut self.windows[id];
+        let shown = window.is_shown();
+        edit_window(window, command);
+        shown
     }
 }

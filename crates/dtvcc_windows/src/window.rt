@@ -126,10 +126,17 @@ impl Window {
         ensures noted { Notes self.old self.new }
     {
         if self.col < self.definition.cols {
-            let pen = self.pen;
-            let colors = self.colors;
-            let cell = ch.map(|ch| DCell { ch, pen, colors });
-            self.cells.put(self.row, self.col, cell);
+            match ch {
+                Some(ch) => {
+                    let cell = DCell {
+                        ch,
+                        pen: self.pen,
+                        colors: self.colors,
+                    };
+                    self.cells.put(self.row, self.col, Some(cell));
+                }
+                None => self.cells.put(self.row, self.col, None),
+            }
             self.col += 1;
             self.changed = true;
         }
@@ -345,8 +352,8 @@ impl Window {
         self.cells.differs(&other.cells)
     }
 
-    // Whether there is something to see.
-    fn is_shown(&self) -> bool
+    /// Whether the window is live and visible: whether there is something to see.
+    pub fn is_shown(&self) -> bool
         ensures { result ≡ is_some (shown (window_of self.now)) }
     {
         self.live && self.visible

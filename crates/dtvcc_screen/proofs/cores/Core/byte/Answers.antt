@@ -1,9 +1,9 @@
-use Rattle.std.proofs.Common.{◌≡◌, ℕ, ◌+◌, ◌<◌, List, [], ◌∷◌, ◌++◌, not, length, refl, sym, ap, subst, ◌∙◌, arith}
+use Rattle.std.proofs.Common.{◌≡◌, [], ◌∷◌, ◌++◌, not, length, refl, sym, ap, subst, ◌∙◌, arith}
 use Rattle.dtvcc_codes.specs.declared.open_command.OpenCommand.{OpenCommand}
 use Rattle.dtvcc_codes.specs.Reading.{open_after}
 use Rattle.dtvcc_codes.specs.Readers.{Keeps}
 use Rattle.dtvcc_screen.specs.Objects.{screen_of}
-use Rattle.dtvcc_screen.proofs.StandsLemmas.{acts_stands, cancel_stands, cancelled_stands, fill_count, fills_stands, holds_stands, idles_stands, is_full, not_full, opened, until_none, until_some}
+use Rattle.dtvcc_screen.proofs.StandsLemmas.{acts_stands, cancel_stands, cancelled_stands, fill_count, fills_stands, holds_stands, idles_stands, is_full, not_full, opened, stands_still, until_none, until_some}
 use Rattle.dtvcc_screen.proofs.cores.Core.byte.Goals as goal
 
 pub returns-in-Some-clause-stands : goal.returns-in-Some-clause-stands
@@ -30,7 +30,7 @@ returns-then-is_cancel-clause-stands c = λ state stands.
     let cancels = sym c.is_cancel.ensures ∙ c.if-is_cancel.true in
     cancelled_stands state c.args.byte ends.0 c.args.clock c.take-completed.result c.end_delay.new.self in_delay says
     (sym c.is_reset.ensures ∙ c.if-is_reset.false) cancels
-    (c.end_delay.ensures (opened c.args.byte state) ends.0
+    (c.end_delay.ensures.stands (opened c.args.byte state) ends.0
     (cancel_stands state c.args.byte ends.0 c.take-completed.result c.args.self.now _ stands (omega (arith, c.ranges.byte.fits)) in_delay says cancels
     (c.take-completed.ensures.leads state.open_bytes stands.unfinished) refl refl refl)
     in_delay)
@@ -60,14 +60,14 @@ returns-clause-stands c = λ state stands.
     let count : c.len.result ≡ length c.args.self.now.held.items = c.len.ensures.value in
     let are : c.as_slice.result.now ≡ c.args.self.now.held.items ++ c.args.byte ∷ [] =
     c.as_slice.ensures.value ∙ rw (← c.take-filled.ensures.value) c.push-2.ensures.items in
-    fills_stands state c.args.byte ends.0 c.args.clock c.take-completed.result c.args.self.now c.act_all.new.self c.as_slice.result.now
+    stands_still _ c.act_all.new.self _ (fills_stands state c.args.byte ends.0 c.args.clock c.take-completed.result c.args.self.now c.act_all.new.self c.as_slice.result.now
     (screen_of c.args.self.now.screen) stands (omega (arith, c.ranges.byte.fits))
     (sym stands.carries.until ∙ ends.1) (c.take-completed.ensures.says state.open_bytes stands.unfinished)
     (sym c.is_reset.ensures ∙ c.if-is_reset.false) (sym c.is_cancel.ensures ∙ c.if-is_cancel.false)
     (omega (arith, count, c.if-len-lt-FULL.false, c.args.self.now.room))
     (subst (λ (r : OpenCommand). Keeps (open_after state.open_bytes c.args.byte) r) (sym c.act_all.ensures.reader)
     (c.take-completed.ensures.leads state.open_bytes stands.unfinished))
-    refl are c.act_all.ensures.acted
+    refl are c.act_all.ensures.acted) refl refl refl refl
 
 pub returns-clause-full : goal.returns-clause-full
 returns-clause-full c = λ state stands.

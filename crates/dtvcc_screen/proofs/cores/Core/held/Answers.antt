@@ -1,4 +1,4 @@
-use Rattle.std.proofs.Common.{◌∙◌, ap, sym, arith, length, List, Option}
+use Rattle.std.proofs.Common.{◌∙◌, ap, sym, length, List, Option}
 use Rattle.dtvcc_codes.specs.declared.commands.Command.{Command}
 use Rattle.dtvcc_screen.proofs.CoreLemmas.{completions_length}
 use Rattle.dtvcc_screen.proofs.cores.Core.held.Goals as goal

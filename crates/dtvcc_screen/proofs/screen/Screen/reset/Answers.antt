@@ -1,4 +1,4 @@
-use Rattle.std.proofs.Common.{◌∙◌, ap, sym, arith, refl, true, ℕ, Option}
+use Rattle.std.proofs.Common.{◌∙◌, ap, arith, refl, true, ℕ, Option}
 use Rattle.std.proofs.lemmas.Grind.{common_steps}
 use Rattle.dtvcc_screen.specs.declared.change.Change.TheVariants.{Delete}
 use Rattle.dtvcc_screen.specs.Screens.{Windows, no_windows}

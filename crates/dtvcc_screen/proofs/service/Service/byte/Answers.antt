@@ -1,4 +1,4 @@
-use Rattle.std.proofs.Common.{refl, ap, subst}
+use Rattle.std.proofs.Common.{subst}
 use Rattle.dtvcc_screen.specs.declared.clock.Clock.{Clock}
 use Rattle.dtvcc_screen.specs.Cores.{after_byte}
 use Rattle.dtvcc_screen.specs.Meaning.{Byte, after, start}

@@ -1,4 +1,4 @@
-use Rattle.std.proofs.Common.{refl, ap, subst}
+use Rattle.std.proofs.Common.{ap, subst}
 use Rattle.dtvcc_screen.specs.declared.clock.Clock.{Clock}
 use Rattle.dtvcc_screen.specs.Cores.{after_tick}
 use Rattle.dtvcc_screen.specs.Meaning.{Tick, after, start, ticked}
@@ -10,4 +10,4 @@ pub returns-clause-leads : goal.returns-clause-leads
 returns-clause-leads c = λ events leads.
     leads_more events (Tick c.args.rate) _ (ap (ticked c.args.rate) leads.clock)
     (subst (λ (clock : Clock). Stands (after_tick (ticked c.args.rate clock) (after start events).core) c.tick.new.self) leads.clock
-    (c.tick.ensures (after start events).core leads.core))
+    (c.tick.ensures.stands (after start events).core leads.core))

@@ -1,0 +1,3 @@
+pub mod PlaceLemmas
+pub mod PassLemmas
+pub mod LeadsLemmas
