@@ -1,0 +1,4 @@
+pub mod Newest
+pub mod Lines
+pub mod Timed
+pub mod Cursors

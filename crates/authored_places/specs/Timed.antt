@@ -1,0 +1,8 @@
+-- The times of the cues of a channel: each is loaded before it is shown, and not before the one before it is shown.
+use Rattle.std.specs.Prelude.{ℕ, ◌<◌, ◌≤◌, List, [], ◌∷◌, ⊤}
+use Rattle.cue_types.specs.declared.cue.Cue.{Cue}
+
+-- from a frame on
+abbrev pub AreTimed : ℕ → List Cue → Type 0
+AreTimed from [] = ⊤
+AreTimed from (cue ∷ later) = (from ≤ cue.load) × (cue.load < cue.show) × AreTimed cue.show later
