@@ -1,82 +1,106 @@
 -- What is kept of an open packet of captions behind one more of its bytes.
-use Rattle.std.proofs.Common.{◌≡◌, ℕ, ◌%◌, ◌^◌, true, false, length, ◌++◌, List, [], ◌∷◌, Option, Some, None, refl, ap, sym, subst, ◌∙◌}
-use Rattle.cc_base.specs.declared.refusal.Refusal.{Refusal}
+use Rattle.std.proofs.Common.{◌≡◌, ℕ, ◌%◌, ◌^◌, true, false, length, ◌++◌, List, [], ◌∷◌, Option, Some, None, refl, ap, sym, subst, ◌∙◌, append-nil}
+use Rattle.cc_base.specs.declared.step.Step.{Step}
 use Rattle.cc_base.specs.declared.why.Why.{Why}
-use Rattle.cc_base.specs.Feeding.{Reading, place_by, reading, why_of}
-use Rattle.cc_base.specs.Syntax.{judge_by}
+use Rattle.cc_base.specs.Feeding.{Handed, Reading, hand, place_by, read_first, refused_at, why_of}
+use Rattle.cc_base.specs.Steps.{IsTaken}
+use Rattle.cc_base.specs.Syntax.{open_behind}
+use Rattle.cc_base.proofs.StepLemmas.{hand-none}
 use Rattle.cdp_packets.specs.declared.parts.CdpPart.{CdpPart}
 use Rattle.cdp_packets.specs.declared.reader.CdpReader.{CdpReader}
 use Rattle.cdp_packets.specs.Readers.{HasRead}
-use Rattle.cdp_packets.specs.Reading.{cdp_syntax}
-use Rattle.words_files.specs.Catching.{Caught, OpenCaption, goes_on, never, taken_in}
-use Rattle.cc_receiver.specs.declared.frame.Frame.{Frame}
+use Rattle.cdp_packets.specs.Reading.{cdp_syntax, judge_cdp}
 use Rattle.line21_screen.specs.Objects.{Leads}
+use Rattle.words_files.specs.Catching.{Caught, OpenCaption, goes_on, taken_in, verdict_behind}
+use Rattle.services_files.specs.Services.{services_say}
 use Rattle.cc_receiver.specs.declared.captions.Captions.{Captions}
-use Rattle.cc_receiver.specs.Hearing.{heard}
-use Rattle.cc_receiver.specs.Catchers.{Keeps, KeepsLast, KeepsOpen}
+use Rattle.cc_receiver.specs.declared.channel.Channel.{Channel}
+use Rattle.cc_receiver.specs.declared.frame.Frame.{Frame}
+use Rattle.cc_receiver.specs.Catchers.{Judges, Keeps, KeepsLast, KeepsOpen}
+use Rattle.cc_receiver.specs.Channels.{HasTried, frames_parts}
 use Rattle.cc_receiver.specs.Gatherers.{HasGathered}
+use Rattle.cc_receiver.specs.Hearing.{heard}
 
--- what is read of a byte behind these bytes and parts of a packet of this length
-abbrev pub byte_reading : ℕ → List ℕ → List CdpPart → ℕ → Reading CdpPart
-byte_reading size bytes parts byte = reading (judge_by (cdp_syntax size)) never (place_by 1) bytes parts (byte ∷ [])
+-- what is handed on of a step, behind frames and the parts of the open packet
+abbrev pub handed_of : List (List CdpPart) → List CdpPart → Step CdpPart → Handed CdpPart
+handed_of frames parts step = hand (verdict_behind services_say frames) parts step
 
--- a reader of a packet was fed a byte, and a frame took its parts
-pub record FeedsByte (byte : ℕ) (answer : Option Refusal) (reader next : CdpReader) (was now : Frame) : Type 0 where
-  pub answer_is : (size : ℕ) (bytes : List ℕ) (parts : List CdpPart) → HasRead size bytes reader → HasGathered parts was
-      → answer ≡ (byte_reading size bytes parts byte).refusal
-  pub handed : (size : ℕ) (bytes : List ℕ) (parts : List CdpPart) → HasRead size bytes reader → HasGathered parts was
-      → HasGathered (parts ++ (byte_reading size bytes parts byte).parts) now
-  pub leads : (size : ℕ) (bytes : List ℕ) (parts : List CdpPart) → HasRead size bytes reader → HasGathered parts was
-      → answer ≡ None → HasRead size (bytes ++ byte ∷ []) next
+-- a reader of a packet read a byte, and what it made of it was gathered and judged
+pub record FeedsByte (byte : ℕ) (answer : Option Why) (reader next : CdpReader) (was now : Frame) (old new : Channel) : Type 0 where
+  pub step : Step CdpPart
+  pub says : (size : ℕ) (bytes : List ℕ) → HasRead size bytes reader → step ≡ judge_cdp size (open_behind (cdp_syntax size) bytes) byte
+  pub leads : (size : ℕ) (bytes : List ℕ) → HasRead size bytes reader → IsTaken step → HasRead size (bytes ++ byte ∷ []) next
+  pub why : (frames : List (List CdpPart)) (parts : List CdpPart) → HasTried (frames_parts frames ++ parts) old → answer ≡ (handed_of frames parts step).why
+  pub gathered : (frames : List (List CdpPart)) (parts : List CdpPart) → HasTried (frames_parts frames ++ parts) old → HasGathered parts was
+      → HasGathered (parts ++ (handed_of frames parts step).parts) now
+  pub tried : (frames : List (List CdpPart)) (parts : List CdpPart) → HasTried (frames_parts frames ++ parts) old → answer ≡ None
+      → HasTried (frames_parts frames ++ (parts ++ (handed_of frames parts step).parts)) new
 
--- what is caught behind a byte that isn't refused
-pub record Goes (caught : Caught) (next : CdpReader) (now : Frame) (frames : List (List CdpPart)) : Type 0 where
-  pub unrefused : caught.refused ≡ None
-  pub is_open : KeepsOpen caught.open_caption (Some next) now
-  pub same : caught.frames ≡ frames
+-- what is caught behind a step
+abbrev caught_behind : Caught → OpenCaption → ℕ → Reading CdpPart → Caught
+caught_behind caught o byte read =
+    goes_on (why_of read.refusal) (record { size = o.size; bytes = o.bytes ++ byte ∷ []; parts = o.parts ++ read.parts }) caught
 
-pub goes : (o : Option OpenCaption) (caught : Caught) (byte : ℕ) (reader next : CdpReader) (was now : Frame) → KeepsOpen o (Some reader) was
-    → FeedsByte byte None reader next was now → caught.refused ≡ None → Goes (taken_in never o byte caught) next now caught.frames
-goes None caught byte reader next was now kept fed none = absurd kept
-goes (Some o) caught byte reader next was now kept fed none =
-    let read = byte_reading o.size o.bytes o.parts byte in
-    let no : read.refusal ≡ None = sym (fed.answer_is o.size o.bytes o.parts kept.0 kept.1) in
-    let more : OpenCaption = record { size = o.size; bytes = o.bytes ++ byte ∷ []; parts = o.parts ++ read.parts } in
-    subst (λ refusal. Goes (goes_on (why_of refusal) more caught) next now caught.frames) (sym no) (record {
-      unrefused = none;
-      is_open = (fed.leads o.size o.bytes o.parts kept.0 kept.1 refl, fed.handed o.size o.bytes o.parts kept.0 kept.1);
-      same = refl;
-    })
+abbrev read_of : ℕ → Option Why → List CdpPart → Reading CdpPart
+read_of place why parts = read_first (refused_at place why) parts (record { parts = []; refusal = None })
 
--- what is caught where it is refused
-pub stops : (o : Option OpenCaption) (caught : Caught) (byte : ℕ) (refused : Refusal) (reader next : CdpReader) (was now : Frame) → KeepsOpen o (Some reader) was
-    → FeedsByte byte (Some refused) reader next was now → taken_in never o byte caught ≡ record caught { refused = Some refused.why }
-stops None caught byte refused reader next was now kept fed = absurd kept
-stops (Some o) caught byte refused reader next was now kept fed =
-    let read = byte_reading o.size o.bytes o.parts byte in
-    let some : read.refusal ≡ Some refused = sym (fed.answer_is o.size o.bytes o.parts kept.0 kept.1) in
-    ap (λ refusal. goes_on (why_of refusal) (record { size = o.size; bytes = o.bytes ++ byte ∷ []; parts = o.parts ++ read.parts }) caught) some
+read_is : (caught : Caught) (o : OpenCaption) (byte place : ℕ) (why : Option Why) (parts : List CdpPart)
+    → caught_behind caught o byte (read_of place why parts) ≡ goes_on why (record { size = o.size; bytes = o.bytes ++ byte ∷ []; parts = o.parts ++ parts }) caught
+read_is caught o byte place None parts =
+    ap (λ ps. goes_on None (record { size = o.size; bytes = o.bytes ++ byte ∷ []; parts = o.parts ++ ps }) caught) (append-nil parts)
+read_is caught o byte place (Some why) parts = refl
 
--- captions that keep what was caught keep it behind a byte that isn't refused
-pub kept_going : (caught more : Caught) (captions : Captions) (next : CdpReader) (now : Frame) → Keeps caught captions → captions.refused ≡ None
-    → Goes more next now caught.frames → Keeps more (record captions { «open» = Some next; gathered = now })
-kept_going caught more captions next now keeps none goes_on = record {
-  refused = none ∙ sym goes_on.unrefused;
-  is_open = λ _. goes_on.is_open;
+-- what is caught behind a byte of which this step is made
+taken_is : (o : OpenCaption) (caught : Caught) (byte : ℕ) (step : Step CdpPart) → step ≡ judge_cdp o.size (open_behind (cdp_syntax o.size) o.bytes) byte
+    → taken_in services_say (Some o) byte caught
+    ≡ goes_on (handed_of caught.frames o.parts step).why
+    (record { size = o.size; bytes = o.bytes ++ byte ∷ []; parts = o.parts ++ (handed_of caught.frames o.parts step).parts }) caught
+taken_is o caught byte step is =
+    let read : Step CdpPart → Reading CdpPart = λ step.
+    read_of (place_by 1 o.bytes) (handed_of caught.frames o.parts step).why (handed_of caught.frames o.parts step).parts in
+    ap (λ s. caught_behind caught o byte (read s)) (sym is)
+    ∙ read_is caught o byte (place_by 1 o.bytes) (handed_of caught.frames o.parts step).why (handed_of caught.frames o.parts step).parts
+
+-- what is caught goes on
+pub record Goes (caught more : Caught) (answer : Option Why) (next : CdpReader) (now : Frame) (new : Channel) : Type 0 where
+  pub refused : more.refused ≡ answer
+  pub is_open : more.refused ≡ None → KeepsOpen more.open_caption (Some next) now
+  pub judges : more.refused ≡ None → Judges more.frames more.open_caption new
+  pub same : more.frames ≡ caught.frames
+
+pub goes : (o : Option OpenCaption) (caught : Caught) (byte : ℕ) (answer : Option Why) (reader next : CdpReader) (was now : Frame) (old new : Channel)
+    → KeepsOpen o (Some reader) was → Judges caught.frames o old → FeedsByte byte answer reader next was now old new → caught.refused ≡ None
+    → Goes caught (taken_in services_say o byte caught) answer next now new
+goes None caught byte answer reader next was now old new kept judged fed none = absurd kept
+goes (Some o) caught byte answer reader next was now old new kept judged fed none =
+    let handed = handed_of caught.frames o.parts fed.step in
+    let more : OpenCaption = record { size = o.size; bytes = o.bytes ++ byte ∷ []; parts = o.parts ++ handed.parts } in
+    let why : answer ≡ handed.why = fed.why caught.frames o.parts judged in
+    let cases : (w : Option Why) → handed.why ≡ w → Goes caught (goes_on w more caught) w next now new = elim [
+      | None ↦ λ fine. record {
+          refused = none;
+          is_open = λ _. (
+            fed.leads o.size o.bytes kept.0 (hand-none (verdict_behind services_say caught.frames) o.parts fed.step fine).0,
+            fed.gathered caught.frames o.parts judged kept.1,
+          );
+          judges = λ _. fed.tried caught.frames o.parts judged (why ∙ fine);
+          same = refl;
+        }
+      | Some w ↦ λ _. record { refused = refl; is_open = λ no. absurd cc; judges = λ no. absurd cc; same = refl }
+    ] in
+    subst (λ (m : Caught). Goes caught m answer next now new) (sym (taken_is o caught byte fed.step (fed.says o.size o.bytes kept.0)))
+    (subst (λ w. Goes caught (goes_on handed.why more caught) w next now new) (sym why) (cases handed.why refl))
+
+-- captions that keep what was caught keep it behind a byte
+pub kept_going : (caught more : Caught) (captions : Captions) (answer : Option Why) (next : CdpReader) (now : Frame) (new : Channel) → Keeps caught captions
+    → Goes caught more answer next now new → Keeps more (record captions { «open» = Some next; gathered = now; judging = new; refused = answer })
+kept_going caught more captions answer next now new keeps goes_on = record {
+  refused = sym goes_on.refused;
+  is_open = goes_on.is_open;
+  judges = goes_on.judges;
   last = subst (λ fs. KeepsLast fs captions.last) (sym goes_on.same) keeps.last;
+  channel = subst (λ fs. HasTried (frames_parts fs) captions.channel) (sym goes_on.same) keeps.channel;
   first = subst (λ fs. Leads false (heard false fs) captions.first) (sym goes_on.same) keeps.first;
   second = subst (λ fs. Leads true (heard true fs) captions.second) (sym goes_on.same) keeps.second;
   count = keeps.count ∙ sym (ap (λ fs. length fs % 2 ^ 32) goes_on.same);
 }
-
--- and behind one that is
-pub kept_stopped : (caught more : Caught) (captions : Captions) (next : CdpReader) (now : Frame) (why : Why) → Keeps caught captions
-    → more ≡ record caught { refused = Some why } → Keeps more (record captions { «open» = Some next; gathered = now; refused = Some why })
-kept_stopped caught more captions next now why keeps is = subst (λ (m : Caught). Keeps m (record captions { «open» = Some next; gathered = now; refused = Some why })) (sym is) (record {
-  refused = refl;
-  is_open = λ none. absurd cc;
-  last = keeps.last;
-  first = keeps.first;
-  second = keeps.second;
-  count = keeps.count;
-})

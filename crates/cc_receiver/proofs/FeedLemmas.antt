@@ -12,7 +12,8 @@ use Rattle.anc_words.specs.Packets.{Packet}
 use Rattle.anc_words.specs.Reading.{anc_syntax}
 use Rattle.anc_words.specs.WordsFiles.{IsWordsFile}
 use Rattle.anc_words.proofs.EndingLemmas.{ends_no_sooner}
-use Rattle.words_files.specs.Catching.{never, refusal_of}
+use Rattle.words_files.specs.Catching.{refusal_of}
+use Rattle.services_files.specs.Services.{services_say}
 use Rattle.cc_receiver.specs.declared.receiver.Ended.{Ended}
 use Rattle.cc_receiver.specs.declared.receiver.Ended.TheVariants as ended
 use Rattle.cc_receiver.specs.declared.receiver.Receiver.{Receiver}
@@ -22,7 +23,7 @@ use Rattle.cc_receiver.specs.Receivers.{HasReceived}
 -- so many of the bytes were read after those before: none was refused, and none of them ended a packet
 pub record Underway (before bytes : List ℕ) (count : ℕ) (receiver : Receiver) : Type 0 where
   pub received : HasReceived (before ++ take count bytes) receiver
-  pub none : refusal_of never (before ++ take count bytes) ≡ None
+  pub none : refusal_of services_say (before ++ take count bytes) ≡ None
   pub within : (packets : List Packet) (fewer : ℕ) → 0 < fewer → fewer ≤ count → IsWordsFile packets (before ++ take fewer bytes) → ⊥
 
 -- a piece behind the bytes that were read

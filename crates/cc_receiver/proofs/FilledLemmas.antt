@@ -1,5 +1,6 @@
 -- A frame that is filled from a whole packet holds what is gathered of the packet's parts.
-use Rattle.std.proofs.Common.{◌≡◌, ℕ, zero, suc, ◌+◌, ◌*◌, ◌<◌, ◌≤◌, ◌==◌, ◌&&◌, true, false, List, [], ◌∷◌, ◌++◌, length, map, get_or, take, refl, sym, ap, subst, ◌∙◌, append_assoc, append-nil, length-append, arith}
+use Rattle.std.proofs.Common.{◌≡◌, ℕ, zero, suc, ◌+◌, ◌*◌, ◌/◌, ◌<◌, ◌≤◌, ◌==◌, ◌&&◌, true, false, List, [], ◌∷◌, ◌++◌, length, map, get_or, take, refl, sym, ap, subst, ◌∙◌, append_assoc, append-nil, length-append, arith}
+use Rattle.std.proofs.Math.Seq.{take-length}
 use Rattle.std.proofs.lemmas.List.{map-append, take_more}
 use Rattle.std.specs.List.{concat, flat_map}
 use Rattle.std.specs.Simd.{first_chunks}
@@ -35,8 +36,22 @@ read_in_threes (suc count) (_ ∷ []) enough few = absurd (omega arith)
 read_in_threes (suc count) (_ ∷ _ ∷ []) enough few = absurd (omega arith)
 read_in_threes (suc count) (a ∷ b ∷ c ∷ bytes) enough few = ap (λ ts. triplet_of a b c ∷ ts) (read_in_threes count bytes (omega arith) (omega arith))
 
+-- those of one more chunk
+pub chunk_more : (chunks : List (List ℕ)) (i : ℕ) (t : Triplet) → i < length chunks → t ≡ read_as (get_or chunks i [])
+    → map read_as (take (i + 1) chunks) ≡ map read_as (take i chunks) ++ t ∷ []
+chunk_more chunks i t below is =
+    let more : take (i + 1) chunks ≡ take i chunks ++ get_or chunks i [] ∷ [] = take_more chunks i [] below in
+    ap (map read_as) more ∙ map-append read_as (take i chunks) (get_or chunks i [] ∷ []) ∙ ap (λ x. map read_as (take i chunks) ++ x ∷ []) (sym is)
+
+-- all chunks
+pub chunks_read : (bytes : List ℕ) (chunks : List (List ℕ)) (i : ℕ) → chunks ≡ first_chunks 3 (length bytes / 3) bytes → i ≡ length chunks
+    → map read_as (take i chunks) ≡ triplets_of bytes
+chunks_read bytes chunks i front all =
+    ap (λ n. map read_as (take n chunks)) all ∙ ap (map read_as) (take-length chunks) ∙ ap (map read_as) front
+    ∙ read_in_threes (length bytes / 3) bytes (omega arith) (omega arith)
+
 -- more triplets behind others
-with_all-append : (triplets more : List Triplet) (g : Gathered) → with_all (triplets ++ more) g ≡ with_all more (with_all triplets g)
+pub with_all-append : (triplets more : List Triplet) (g : Gathered) → with_all (triplets ++ more) g ≡ with_all more (with_all triplets g)
 with_all-append triplets more g = front_from-append (λ before t. with_triplet t before) g triplets more
 
 -- one more triplet, which the next three bytes are read as
@@ -44,23 +59,21 @@ pub one_more_read : (chunks : List (List ℕ)) (i : ℕ) (t : Triplet) (g : Gath
     → t ≡ read_as (get_or chunks i []) → Holds (with_triplet t (with_all (map read_as (take i chunks)) g)) frame
     → Holds (with_all (map read_as (take (i + 1) chunks)) g) frame
 one_more_read chunks i t g frame below is holds =
-    let more : take (i + 1) chunks ≡ take i chunks ++ get_or chunks i [] ∷ [] = take_more chunks i [] below in
-    let read : map read_as (take (i + 1) chunks) ≡ map read_as (take i chunks) ++ t ∷ [] =
-    ap (map read_as) more ∙ map-append read_as (take i chunks) (get_or chunks i [] ∷ []) ∙ ap (λ x. map read_as (take i chunks) ++ x ∷ []) (sym is) in
-    subst (λ ts. Holds (with_all ts g) frame) (sym read) (subst (λ h. Holds h frame) (sym (with_all-append (map read_as (take i chunks)) (t ∷ []) g)) holds)
+    subst (λ ts. Holds (with_all ts g) frame) (sym (chunk_more chunks i t below is))
+    (subst (λ h. Holds h frame) (sym (with_all-append (map read_as (take i chunks)) (t ∷ []) g)) holds)
 
--- a frame that holds what leads to a goal by the sections that are left
-pub record IsOnTheWay (goal : Gathered) (rest : List ℕ) (frame : Frame) : Type 0 where
+-- the triplets that were taken lead to a goal by those of the sections that are left
+pub record IsOnTheWay (goal : List Triplet) (rest : List ℕ) (Has : List Triplet → Type 0) : Type 0 where
   pub cut : List (List ℕ)
   pub are : AreSections cut
   pub joined : concat cut ≡ rest
-  pub so_far : Gathered
-  pub holds : Holds so_far frame
-  pub leads : with_all (flat_map section_triplets cut) so_far ≡ goal
+  pub so_far : List Triplet
+  pub has : Has so_far
+  pub leads : so_far ++ flat_map section_triplets cut ≡ goal
 
-pub way_begun : (cut : List (List ℕ)) (g : Gathered) (rest : List ℕ) (frame : Frame) → AreSections cut → concat cut ≡ rest → Holds g frame
-    → IsOnTheWay (with_all (flat_map section_triplets cut) g) rest frame
-way_begun cut g rest frame are joined holds = record { cut = cut; are = are; joined = joined; so_far = g; holds = holds; leads = refl }
+pub way_begun : (cut : List (List ℕ)) (rest : List ℕ) (Has : List Triplet → Type 0) → AreSections cut → concat cut ≡ rest → Has []
+    → IsOnTheWay (flat_map section_triplets cut) rest Has
+way_begun cut rest Has are joined has = record { cut = cut; are = are; joined = joined; so_far = []; has = has; leads = refl }
 
 -- a section has bytes
 no_section : (bytes behind : List ℕ) → IsSection bytes → [] ≡ bytes ++ behind → ⊥
@@ -68,14 +81,13 @@ no_section [] behind is none = is
 no_section (_ ∷ bytes) behind is none = cc
 
 -- behind one more section
-pub way_next : (goal : Gathered) (rest section behind : List ℕ) (frame next : Frame) → IsOnTheWay goal rest frame → IsSection section
-    → rest ≡ section ++ behind → ((g : Gathered) → Holds g frame → Holds (with_all (section_triplets section) g) next)
-    → IsOnTheWay goal behind next
-way_next goal rest section behind frame next way is spelled taken =
+pub way_next : (goal : List Triplet) (rest section behind : List ℕ) (Has Next : List Triplet → Type 0) → IsOnTheWay goal rest Has → IsSection section
+    → rest ≡ section ++ behind → ((ts : List Triplet) → Has ts → Next (ts ++ section_triplets section)) → IsOnTheWay goal behind Next
+way_next goal rest section behind Has Next way is spelled taken =
     next_of way.cut way.are (way.joined ∙ spelled) way.leads
   where
     next_of : (cut : List (List ℕ)) → AreSections cut → concat cut ≡ section ++ behind
-        → with_all (flat_map section_triplets cut) way.so_far ≡ goal → IsOnTheWay goal behind next
+        → way.so_far ++ flat_map section_triplets cut ≡ goal → IsOnTheWay goal behind Next
     next_of [] are joined leads = absurd (no_section section behind is joined)
     next_of (first ∷ cut) are joined leads =
         let long : length first ≡ length section =
@@ -85,20 +97,20 @@ way_next goal rest section behind frame next way is spelled taken =
           cut = cut;
           are = are.1;
           joined = split.tails;
-          so_far = with_all (section_triplets section) way.so_far;
-          holds = taken way.so_far way.holds;
-          leads = ap (λ s. with_all (flat_map section_triplets cut) (with_all (section_triplets s) way.so_far)) (sym split.heads)
-              ∙ sym (with_all-append (section_triplets first) (flat_map section_triplets cut) way.so_far) ∙ leads;
+          so_far = way.so_far ++ section_triplets section;
+          has = taken way.so_far way.has;
+          leads = ap (λ s. (way.so_far ++ section_triplets s) ++ flat_map section_triplets cut) (sym split.heads)
+              ∙ append_assoc way.so_far (section_triplets first) (flat_map section_triplets cut) ∙ leads;
         }
 
 -- where no section stands, the way is at its end
-pub way_ended : (goal : Gathered) (rest : List ℕ) (frame : Frame) → IsOnTheWay goal rest frame
-    → ((section behind : List ℕ) → IsSection section → rest ≡ section ++ behind → ⊥) → Holds goal frame
-way_ended goal rest frame way none = ended_of way.cut way.are way.joined way.leads
+pub way_ended : (goal : List Triplet) (rest : List ℕ) (Has : List Triplet → Type 0) → IsOnTheWay goal rest Has
+    → ((section behind : List ℕ) → IsSection section → rest ≡ section ++ behind → ⊥) → Has goal
+way_ended goal rest Has way none = ended_of way.cut way.are way.joined way.leads
   where
     ended_of : (cut : List (List ℕ)) → AreSections cut → concat cut ≡ rest
-        → with_all (flat_map section_triplets cut) way.so_far ≡ goal → Holds goal frame
-    ended_of [] are joined leads = subst (λ g. Holds g frame) leads way.holds
+        → way.so_far ++ flat_map section_triplets cut ≡ goal → Has goal
+    ended_of [] are joined leads = subst Has (sym (append-nil way.so_far) ∙ leads) way.has
     ended_of (section ∷ cut) are joined leads = absurd (none section (concat cut) are.0 (sym joined))
 
 -- triplets for which there is room

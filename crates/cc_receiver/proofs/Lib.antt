@@ -1,6 +1,8 @@
 pub mod TakenLemmas
 pub mod FeedLemmas
 pub mod RefusedLemmas
+pub mod ChannelLemmas
+pub mod JudgingLemmas
 pub mod ByteLemmas
 pub mod GatheredLemmas
 pub mod FilledLemmas

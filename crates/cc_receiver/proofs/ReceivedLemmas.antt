@@ -12,7 +12,8 @@ use Rattle.line21_codes.specs.Channels.{is_in_second_field, is_second_channel}
 use Rattle.line21_screen.specs.Fields.{FieldState, channel}
 use Rattle.line21_screen.specs.Meaning.{after}
 use Rattle.line21_screen.specs.Objects.{field_of}
-use Rattle.words_files.specs.Catching.{caught_in, never, refusal_of}
+use Rattle.words_files.specs.Catching.{caught_in, refusal_of}
+use Rattle.services_files.specs.Services.{services_say}
 use Rattle.words_files.specs.FramesOf.{AreFramesOf}
 use Rattle.words_files.specs.Received.{field_pairs, received, received_grids, received_pairs}
 use Rattle.words_files.proofs.GotLemmas.{frames_are_caught}
@@ -26,27 +27,27 @@ use Rattle.cc_receiver.proofs.GatheredLemmas.{packet_gathered}
 use Rattle.cc_receiver.proofs.HeardLemmas.{AllFit, Fits, frames_of_fit, heard_frames}
 
 -- the refusal that is kept is that of the bytes
-pub kept_is : (bytes : List ℕ) (receiver : Receiver) → HasReceived bytes receiver → receiver_refusal receiver ≡ refusal_of never bytes
+pub kept_is : (bytes : List ℕ) (receiver : Receiver) → HasReceived bytes receiver → receiver_refusal receiver ≡ refusal_of services_say bytes
 kept_is bytes receiver had =
-    let cases : (refusal : Option Refusal) → refusal_of never bytes ≡ refusal → receiver_refusal receiver ≡ refusal = elim [
+    let cases : (refusal : Option Refusal) → refusal_of services_say bytes ≡ refusal → receiver_refusal receiver ≡ refusal = elim [
       | None ↦ λ none. (had.reached.leads none).1.unrefused
       | Some refused ↦ λ some. had.reached.kept refused some
     ] in cases _ refl
 
 -- what is heard of bytes are the pairs of their frames
-heard_of : (second_field : Bool) (frames : List Frame) (bytes : List ℕ) (receiver : Receiver) → HasReceived bytes receiver → AreFramesOf never frames bytes
-    → heard second_field (caught_in never bytes).frames ≡ reverse (received_pairs second_field frames)
+heard_of : (second_field : Bool) (frames : List Frame) (bytes : List ℕ) (receiver : Receiver) → HasReceived bytes receiver → AreFramesOf services_say frames bytes
+    → heard second_field (caught_in services_say bytes).frames ≡ reverse (received_pairs second_field frames)
 heard_of second_field frames bytes receiver had are =
-    ap (heard second_field) (frames_are_caught never frames bytes had.bytes_are are) ∙ heard_frames second_field frames (frames_of_fit never frames bytes are)
+    ap (heard second_field) (frames_are_caught services_say frames bytes had.bytes_are are) ∙ heard_frames second_field frames (frames_of_fit services_say frames bytes are)
 
 -- the state of a field
-field_received : (second_field : Bool) (frames : List Frame) (bytes : List ℕ) (receiver : Receiver) → HasReceived bytes receiver → AreFramesOf never frames bytes
+field_received : (second_field : Bool) (frames : List Frame) (bytes : List ℕ) (receiver : Receiver) → HasReceived bytes receiver → AreFramesOf services_say frames bytes
     → field_of (field_in second_field receiver) ≡ received second_field frames
 field_received false frames bytes receiver had are = had.reached.took.first.state ∙ ap (after false) (heard_of false frames bytes receiver had are)
 field_received true frames bytes receiver had are = had.reached.took.second.state ∙ ap (after true) (heard_of true frames bytes receiver had are)
 
 -- a receiver shows what its frames leave on the screens
-pub shown_received : (frames : List Frame) (bytes : List ℕ) (receiver : Receiver) (chan : Chan) → HasReceived bytes receiver → AreFramesOf never frames bytes
+pub shown_received : (frames : List Frame) (bytes : List ℕ) (receiver : Receiver) (chan : Chan) → HasReceived bytes receiver → AreFramesOf services_say frames bytes
     → shown receiver chan ≡ received_grids frames chan
 shown_received frames bytes receiver chan had are =
     ap (λ (s : FieldState). (channel (is_second_channel chan) s).displayed) (field_received (is_in_second_field chan) frames bytes receiver had are)
@@ -70,10 +71,10 @@ said frame = record {
 
 -- the last frame is kept
 pub last_received : (earlier : List Frame) (last : Frame) (bytes : List ℕ) (receiver : Receiver) → HasReceived bytes receiver
-    → AreFramesOf never (earlier ++ last ∷ []) bytes → Holds (said last) receiver.captions.last
+    → AreFramesOf services_say (earlier ++ last ∷ []) bytes → Holds (said last) receiver.captions.last
 last_received earlier last bytes receiver had are =
     let newest : reverse (map packet_parts (earlier ++ last ∷ [])) ≡ packet_parts last ∷ reverse (map packet_parts earlier) =
     ap reverse (map-append packet_parts earlier (last ∷ [])) ∙ reverse-append (map packet_parts earlier) (packet_parts last ∷ []) in
-    let kept = subst (λ (fs : List (List CdpPart)). KeepsLast fs receiver.captions.last) (frames_are_caught never (earlier ++ last ∷ []) bytes had.bytes_are are ∙ newest) had.reached.took.last in
-    let fits = last_fits earlier last (frames_of_fit never (earlier ++ last ∷ []) bytes are) in
+    let kept = subst (λ (fs : List (List CdpPart)). KeepsLast fs receiver.captions.last) (frames_are_caught services_say (earlier ++ last ∷ []) bytes had.bytes_are are ∙ newest) had.reached.took.last in
+    let fits = last_fits earlier last (frames_of_fit services_say (earlier ++ last ∷ []) bytes are) in
     subst (λ (g : Gathered). Holds g receiver.captions.last) (packet_gathered last fits.are fits.few) kept

@@ -9,25 +9,26 @@ use Rattle.cc_base.proofs.ReadingLemmas.{reading-append}
 use Rattle.anc_words.specs.declared.parts.WordPart.{WordPart}
 use Rattle.anc_words.specs.Reading.{anc_syntax}
 use Rattle.cc_receiver.specs.declared.receiver.Receiver.{Receiver}
-use Rattle.words_files.specs.Catching.{caption_verdict, caught_of, refusal_of, never}
+use Rattle.words_files.specs.Catching.{caption_verdict, caught_of, refusal_of}
+use Rattle.services_files.specs.Services.{services_say}
 use Rattle.cc_receiver.specs.Catchers.{HasCaught}
 use Rattle.cc_receiver.specs.Receivers.{HasReceived}
 
 -- what is read of them
-read-refused : (before more : List ℕ) (refused : Refusal) → refusal_of never before ≡ Some refused
-    → read_under anc_syntax 2 (caption_verdict never) (before ++ more) ≡ record { parts = (read_under anc_syntax 2 (caption_verdict never) before).parts; refusal = Some refused }
+read-refused : (before more : List ℕ) (refused : Refusal) → refusal_of services_say before ≡ Some refused
+    → read_under anc_syntax 2 (caption_verdict services_say) (before ++ more) ≡ record { parts = (read_under anc_syntax 2 (caption_verdict services_say) before).parts; refusal = Some refused }
 read-refused before more refused some =
     let judge = judge_by anc_syntax in
-    let one = read_under anc_syntax 2 (caption_verdict never) before in
-    let rest = reading judge (caption_verdict never) (place_by 2) before one.parts more in
-    reading-append judge (caption_verdict never) (place_by 2) [] [] before more ∙ ap (λ a. read_first a one.parts rest) some
+    let one = read_under anc_syntax 2 (caption_verdict services_say) before in
+    let rest = reading judge (caption_verdict services_say) (place_by 2) before one.parts more in
+    reading-append judge (caption_verdict services_say) (place_by 2) [] [] before more ∙ ap (λ a. read_first a one.parts rest) some
 
 -- the refusal stays
-pub refusal-stays : (before more : List ℕ) (refused : Refusal) → refusal_of never before ≡ Some refused → refusal_of never (before ++ more) ≡ Some refused
+pub refusal-stays : (before more : List ℕ) (refused : Refusal) → refusal_of services_say before ≡ Some refused → refusal_of services_say (before ++ more) ≡ Some refused
 refusal-stays before more refused some = ap (λ (r : Reading WordPart). r.refusal) (read-refused before more refused some)
 
 -- and so does the receiver
-pub received-refused : (before more : List ℕ) (refused : Refusal) (receiver : Receiver) → refusal_of never before ≡ Some refused → All (λ byte. byte < 256) more → HasReceived before receiver
+pub received-refused : (before more : List ℕ) (refused : Refusal) (receiver : Receiver) → refusal_of services_say before ≡ Some refused → All (λ byte. byte < 256) more → HasReceived before receiver
     → HasReceived (before ++ more) receiver
 received-refused before more refused receiver some bytes had =
     let parts = sym (ap (λ (r : Reading WordPart). r.parts) (read-refused before more refused some)) in
@@ -39,5 +40,5 @@ received-refused before more refused receiver some bytes had =
         kept = λ other is. had.reached.kept other (some ∙ sym stays ∙ is);
       };
       bytes_are = All-append (λ byte. byte < 256) before more had.bytes_are bytes;
-      counted = had.counted ∙ ap (λ ps. length (caught_of never ps).frames) parts;
+      counted = had.counted ∙ ap (λ ps. length (caught_of services_say ps).frames) parts;
     }

@@ -16,7 +16,8 @@ use Rattle.cdp_packets.specs.PacketParts.{packet_parts}
 use Rattle.cdp_packets.specs.Packets.{Packet as Frame}
 use Rattle.line21_codes.specs.declared.channels.Chan.{Chan}
 use Rattle.words_files.specs.Received.{received_grids}
-use Rattle.words_files.specs.Catching.{caption_verdict, caught_in, never, refusal_of}
+use Rattle.words_files.specs.Catching.{caption_verdict, caught_in, refusal_of}
+use Rattle.services_files.specs.Services.{services_say}
 use Rattle.words_files.specs.FramesOf.{AreFramesOf}
 use Rattle.words_files.specs.Offences.{IsFileUnder}
 use Rattle.anc_words.proofs.ByteLemmas.{file_is_read}
@@ -45,10 +46,10 @@ same_count old new modulo is one few =
     omega (arith, is, least, most, few)
 
 -- as many frames are caught as there are
-pub caught_count : (frames : List Frame) (bytes : List ℕ) → All (λ b. b < 256) bytes → AreFramesOf never frames bytes
-    → length (caught_in never bytes).frames ≡ length frames
+pub caught_count : (frames : List Frame) (bytes : List ℕ) → All (λ b. b < 256) bytes → AreFramesOf services_say frames bytes
+    → length (caught_in services_say bytes).frames ≡ length frames
 caught_count frames bytes all are =
-    ap length (frames_are_caught never frames bytes all are) ∙ length-reverse (map packet_parts frames) ∙ length-map frames packet_parts
+    ap length (frames_are_caught services_say frames bytes all are) ∙ length-reverse (map packet_parts frames) ∙ length-map frames packet_parts
 
 one_more : (frames more : List Frame) → (more ≡ frames) ⊎ ((frame : Frame) × (more ≡ frames ++ frame ∷ [])) → OneMore (length frames) (length more)
 one_more frames more (inl same) = let e = ap length same in record { least = omega (arith, e); most = omega (arith, e) }
@@ -59,31 +60,31 @@ one_more frames more (inr (frame, spelled)) =
 
 -- at most one frame more is caught of a piece
 caught_more : (before piece : List ℕ) → 0 < length piece → length piece ≤ bytes_to_end (open_behind anc_syntax before) → All (λ b. b < 256) before
-    → All (λ b. b < 256) (before ++ piece) → OneMore (length (caught_in never before).frames) (length (caught_in never (before ++ piece)).frames)
+    → All (λ b. b < 256) (before ++ piece) → OneMore (length (caught_in services_say before).frames) (length (caught_in services_say (before ++ piece)).frames)
 caught_more before piece some few all whole =
-    let first = got never before all in
-    let one = at_most_one never first.frames before piece some few whole first.are in
+    let first = got services_say before all in
+    let one = at_most_one services_say first.frames before piece some few whole first.are in
     let was = caught_count first.frames before all first.are in
     let is = caught_count one.more (before ++ piece) whole one.are in
-    subst (λ n. OneMore n (length (caught_in never (before ++ piece)).frames)) (sym was)
+    subst (λ n. OneMore n (length (caught_in services_say (before ++ piece)).frames)) (sym was)
     (subst (λ n. OneMore (length first.frames) n) (sym is) (one_more first.frames one.more one.brings))
 
 -- a receiver after a piece, and its answer
 pub record Takes (bytes : List ℕ) (answer : Option Refusal) (new : Receiver) : Type 0 where
   pub received : HasReceived bytes new
-  pub refusal : answer ≡ refusal_of never bytes
+  pub refusal : answer ≡ refusal_of services_say bytes
 
 pub takes : (before piece : List ℕ) (answer : Option Refusal) (old new : Receiver) → frame_count old < 4294967295 → 0 < length piece
     → length piece ≤ bytes_to_end (open_behind anc_syntax before) → All (λ b. b < 256) piece → HasReceived before old
-    → Feeds (judge_by anc_syntax) (caption_verdict never) (place_by 2) HasRead kept_refusal HasCaught piece answer
+    → Feeds (judge_by anc_syntax) (caption_verdict services_say) (place_by 2) HasRead kept_refusal HasCaught piece answer
     old.words new.words old.captions new.captions → Takes (before ++ piece) answer new
 takes before piece answer old new few some most bytes had fed =
-    let more = Reached-more (judge_by anc_syntax) (caption_verdict never) (place_by 2) HasRead kept_refusal HasCaught [] [] before piece
+    let more = Reached-more (judge_by anc_syntax) (caption_verdict services_say) (place_by 2) HasRead kept_refusal HasCaught [] [] before piece
     answer old.words new.words old.captions new.captions had.reached fed in
     let whole = All-append (λ b. b < 256) before piece had.bytes_are bytes in
-    let one : OneMore (frame_count old) (length (caught_in never (before ++ piece)).frames) =
-    subst (λ n. OneMore n (length (caught_in never (before ++ piece)).frames)) (sym had.counted) (caught_more before piece some most had.bytes_are whole) in
-    let counted = same_count (frame_count old) (length (caught_in never (before ++ piece)).frames) (frame_count new) more.reached.took.count one few in
+    let one : OneMore (frame_count old) (length (caught_in services_say (before ++ piece)).frames) =
+    subst (λ n. OneMore n (length (caught_in services_say (before ++ piece)).frames)) (sym had.counted) (caught_more before piece some most had.bytes_are whole) in
+    let counted = same_count (frame_count old) (length (caught_in services_say (before ++ piece)).frames) (frame_count new) more.reached.took.count one few in
     record {
       received = record { reached = more.reached; bytes_are = whole; counted = counted };
       refusal = more.answer_is;
@@ -92,11 +93,11 @@ takes before piece answer old new few some most bytes had fed =
 -- how a piece ended, by the counts of frames
 pub record PieceEnds (bytes : List ℕ) (old new : ℕ) : Type 0 where
   pub caption : new ≢ old → EndsBy ended.Caption bytes
-  pub foreign : new ≡ old → (packets : List Packet) → IsWordsFile packets bytes → refusal_of never bytes ≡ None → EndsBy ended.Foreign bytes
+  pub foreign : new ≡ old → (packets : List Packet) → IsWordsFile packets bytes → refusal_of services_say bytes ≡ None → EndsBy ended.Foreign bytes
   pub one : new ≢ old → new ≡ old + 1
 
 -- the count of frames
-pub frames_count : (frames : List Frame) (bytes : List ℕ) (receiver : Receiver) → HasReceived bytes receiver → AreFramesOf never frames bytes
+pub frames_count : (frames : List Frame) (bytes : List ℕ) (receiver : Receiver) → HasReceived bytes receiver → AreFramesOf services_say frames bytes
     → frame_count receiver ≡ length frames
 frames_count frames bytes receiver had are = had.counted ∙ caught_count frames bytes had.bytes_are are
 
@@ -124,19 +125,19 @@ ends_by frames more bytes earlier packet old new was is are (inr (other, same)) 
 pub piece_ends : (before piece : List ℕ) (old new : Receiver) → 0 < length piece → length piece ≤ bytes_to_end (open_behind anc_syntax before)
     → HasReceived before old → HasReceived (before ++ piece) new → PieceEnds (before ++ piece) (frame_count old) (frame_count new)
 piece_ends before piece old new some few had has =
-    let first = got never before had.bytes_are in
+    let first = got services_say before had.bytes_are in
     let was = frames_count first.frames before old had first.are in
-    elim (file_or_none never (before ++ piece) has.bytes_are) [
+    elim (file_or_none services_say (before ++ piece) has.bytes_are) [
       | inl (frames, file) ↦
-          let ends = ends_bringing never first.frames frames before piece some few first.are file in
-          let is = frames_count frames (before ++ piece) new has (file_frames never frames (before ++ piece) file) in
+          let ends = ends_bringing services_say first.frames frames before piece some few first.are file in
+          let is = frames_count frames (before ++ piece) new has (file_frames services_say frames (before ++ piece) file) in
           ends_by first.frames frames (before ++ piece) ends.earlier ends.packet (frame_count old) (frame_count new) was is ends.are ends.brings.brings
       | inr no_file ↦
-          let is = frames_count first.frames (before ++ piece) new has (no_end never first.frames before piece few no_file first.are) in
+          let is = frames_count first.frames (before ++ piece) new has (no_end services_say first.frames before piece few no_file first.are) in
           record {
             caption = λ differs. absurd (differs (is ∙ sym was));
             foreign = λ same packets file none.
-                let (frames, whole) = caught_file never (before ++ piece) has.bytes_are none (file_is_read packets (before ++ piece) file).leads in
+                let (frames, whole) = caught_file services_say (before ++ piece) has.bytes_are none (file_is_read packets (before ++ piece) file).leads in
                 absurd (no_file frames whole);
             one = λ differs. absurd (differs (is ∙ sym was));
           }
@@ -144,21 +145,21 @@ piece_ends before piece old new some few had has =
 
 -- no frame ends with a piece that is refused
 pub refused_counts : (before piece : List ℕ) (refusal : Refusal) (old new : Receiver) → length piece ≤ bytes_to_end (open_behind anc_syntax before)
-    → refusal_of never (before ++ piece) ≡ Some refusal → HasReceived before old → HasReceived (before ++ piece) new → frame_count new ≡ frame_count old
+    → refusal_of services_say (before ++ piece) ≡ Some refusal → HasReceived before old → HasReceived (before ++ piece) new → frame_count new ≡ frame_count old
 refused_counts before piece refusal old new few some had has =
-    let first = got never before had.bytes_are in
-    let no_file : (others : List Frame) → IsFileUnder never others (before ++ piece) → ⊥ =
-    λ others is. some_or_none (refusal_of never (before ++ piece)) refusal some (file_caught never others (before ++ piece) is).1 in
-    let are = no_end never first.frames before piece few no_file first.are in
+    let first = got services_say before had.bytes_are in
+    let no_file : (others : List Frame) → IsFileUnder services_say others (before ++ piece) → ⊥ =
+    λ others is. some_or_none (refusal_of services_say (before ++ piece)) refusal some (file_caught services_say others (before ++ piece) is).1 in
+    let are = no_end services_say first.frames before piece few no_file first.are in
     frames_count first.frames (before ++ piece) new has are ∙ sym (frames_count first.frames before old had first.are)
 
 -- more bytes that bring no frame leave the screens
 pub screens_stay : (before more : List ℕ) (old new : Receiver) (chan : Chan) → HasReceived before old → HasReceived (before ++ more) new
     → frame_count new ≡ frame_count old → shown new chan ≡ shown old chan
 screens_stay before more old new chan had has same =
-    let first = got never before had.bytes_are in
-    let next = got never (before ++ more) has.bytes_are in
-    let (behind, spelled) = frames_grow never first.frames next.frames before more first.are next.are in
+    let first = got services_say before had.bytes_are in
+    let next = got services_say (before ++ more) has.bytes_are in
+    let (behind, spelled) = frames_grow services_say first.frames next.frames before more first.are next.are in
     let was = frames_count first.frames before old had first.are in
     let is = frames_count next.frames (before ++ more) new has next.are in
     let long = ap length spelled ∙ length-append first.frames behind in

@@ -13,11 +13,18 @@ use Rattle.anc_words.proofs.PacketLemmas.{IsPacketBytes-unique}
 use Rattle.anc_words.proofs.WordsFileLemmas.{IsWordsFile-append, IsWordsFile-first, IsWordsFile-one}
 use Rattle.cdp_packets.specs.PacketParts.{packet_parts}
 use Rattle.cdp_packets.specs.Packets.{IsCdp, Packet as Frame}
-use Rattle.words_files.specs.Catching.{Caught, caught_in, never, refusal_of}
+use Rattle.words_files.specs.Catching.{Caught, caught_in, refusal_of}
+use Rattle.services_files.specs.Services.{services_say}
 use Rattle.words_files.specs.Frames.{IsFileOf, none, caption}
 use Rattle.words_files.proofs.CaughtLemmas.{caught_file, file_caught}
-use Rattle.words_files.proofs.OffenceLemmas.{file_under_never}
 use Rattle.words_files.proofs.FrameLemmas.{joined}
+use Rattle.service_blocks.specs.Channels.{IsHeard}
+use Rattle.service_blocks.proofs.ChannelLemmas.{heard_channel}
+use Rattle.services_files.specs.Services.{whole_triplets}
+use Rattle.services_files.specs.WholeFiles.{file_triplets}
+use Rattle.services_files.proofs.WholeFileLemmas.{frames_whole, whole-under}
+use Rattle.cc_receiver.specs.Channels.{frames_parts}
+use Rattle.cc_receiver.proofs.JudgingLemmas.{packets_parts}
 use Rattle.words_files.proofs.FramesOfLemmas.{empty_file, file_front}
 use Rattle.cc_receiver.specs.declared.receiver.Receiver.{Receiver}
 use Rattle.cc_receiver.specs.declared.receiver.Ended.TheVariants as ended
@@ -32,30 +39,38 @@ use Rattle.cc_receiver.proofs.TakenLemmas.{OneMore, same_count}
 -- the bytes before, and a packet of captions with its frame
 pub record IsWhole (before piece : List ℕ) (packet : Packet) (frame : Frame) : Type 0 where
   pub bytes_are : All (λ b. b < 256) before
-  pub unrefused : refusal_of never before ≡ None
+  pub unrefused : refusal_of services_say before ≡ None
   pub closed : open_behind anc_syntax before ≡ nothing_open
   pub is_caption : IsCaption packet
   pub is_packet : IsPacketBytes packet piece
   pub is_cdp : IsCdp frame (user_bytes packet)
+  pub is_heard : IsHeard (whole_triplets (frames_parts (packet_parts frame ∷ (caught_in services_say before).frames)))
 
 -- what is caught of them
 pub record CatchesWhole (before piece : List ℕ) (packet : Packet) (frame : Frame) : Type 0 where
-  pub caught : caught_in never (before ++ piece) ≡ with_frame (packet_parts frame) (caught_in never before)
-  pub unrefused : refusal_of never (before ++ piece) ≡ None
+  pub caught : caught_in services_say (before ++ piece) ≡ with_frame (packet_parts frame) (caught_in services_say before)
+  pub unrefused : refusal_of services_say (before ++ piece) ≡ None
   pub earlier : List Packet
   pub first : IsWordsFile earlier before
   pub are : IsWordsFile (earlier ++ packet ∷ []) (before ++ piece)
 
 pub catches_whole : (before piece : List ℕ) (packet : Packet) (frame : Frame) → IsWhole before piece packet frame → CatchesWhole before piece packet frame
 catches_whole before piece packet frame is =
-    let (frames, file) = caught_file never before is.bytes_are is.unrefused is.closed in
+    let (frames, file) = caught_file services_say before is.bytes_are is.unrefused is.closed in
     let one : IsFileOf (frame ∷ []) piece =
     record { packets = packet ∷ []; file = IsWordsFile-one packet piece is.is_packet; carried = caption packet [] frame [] is.is_caption is.is_cdp none } in
-    let whole = file_under_never (frames ++ frame ∷ []) (before ++ piece) (joined frames (frame ∷ []) before piece file.file one) in
-    let was = (file_caught never frames before file).0 in
-    let (now, unrefused) = file_caught never (frames ++ frame ∷ []) (before ++ piece) whole in
+    let was = (file_caught services_say frames before file).0 in
     let newest : reverse (map packet_parts (frames ++ frame ∷ [])) ≡ packet_parts frame ∷ reverse (map packet_parts frames) =
     ap reverse (map-append packet_parts frames (frame ∷ [])) ∙ reverse-append (map packet_parts frames) (packet_parts frame ∷ []) in
+    let triplets : whole_triplets (frames_parts (packet_parts frame ∷ (caught_in services_say before).frames)) ≡ file_triplets (frames ++ frame ∷ []) =
+    ap (λ (c : Caught). whole_triplets (frames_parts (packet_parts frame ∷ c.frames))) was
+    ∙ ap (λ fs. whole_triplets (frames_parts fs)) (sym newest) ∙ ap whole_triplets (packets_parts (frames ++ frame ∷ [])) ∙ frames_whole (frames ++ frame ∷ []) in
+    let (packets, (blocks, channel)) = heard_channel (file_triplets (frames ++ frame ∷ [])) (subst IsHeard triplets is.is_heard) in
+    let whole = whole-under (frames ++ frame ∷ []) (before ++ piece) (record {
+      file = joined frames (frame ∷ []) before piece file.file one;
+      channel = record { packets = packets; blocks = blocks; channel = channel };
+    }) in
+    let (now, unrefused) = file_caught services_say (frames ++ frame ∷ []) (before ++ piece) whole in
     record {
       caught = now ∙ ap (λ fs. let c : Caught = record { open_caption = None; frames = fs; refused = None } in c) newest ∙ sym (ap (with_frame (packet_parts frame)) was);
       unrefused = unrefused;
@@ -67,13 +82,13 @@ catches_whole before piece packet frame is =
 -- the receiver
 pub whole_received : (before piece : List ℕ) (packet : Packet) (frame : Frame) (old new : Receiver) → IsWhole before piece packet frame
     → frame_count old < 4294967295 → All (λ b. b < 256) piece → HasReceived before old → HasRead (before ++ piece) new.words
-    → Keeps (with_frame (packet_parts frame) (caught_in never before)) new.captions → HasReceived (before ++ piece) new
+    → Keeps (with_frame (packet_parts frame) (caught_in services_say before)) new.captions → HasReceived (before ++ piece) new
 whole_received before piece packet frame old new is few bytes had read keeps =
     let catches = catches_whole before piece packet frame is in
-    let kept : Keeps (caught_in never (before ++ piece)) new.captions = subst (λ (c : Caught). Keeps c new.captions) (sym catches.caught) keeps in
+    let kept : Keeps (caught_in services_say (before ++ piece)) new.captions = subst (λ (c : Caught). Keeps c new.captions) (sym catches.caught) keeps in
     let frames = ap (λ (c : Caught). length c.frames) catches.caught in
     let counted = had.counted in
-    let one : OneMore (frame_count old) (length (caught_in never (before ++ piece)).frames) =
+    let one : OneMore (frame_count old) (length (caught_in services_say (before ++ piece)).frames) =
     record { least = omega (arith, frames, counted); most = omega (arith, frames, counted) } in
     record {
       reached = record {
@@ -82,7 +97,7 @@ whole_received before piece packet frame old new is few bytes had read keeps =
         kept = λ refused some. absurd (let clash : Some refused ≡ None = sym some ∙ catches.unrefused in cc);
       };
       bytes_are = All-append (λ b. b < 256) before piece had.bytes_are bytes;
-      counted = same_count (frame_count old) (length (caught_in never (before ++ piece)).frames) (frame_count new) kept.count one few;
+      counted = same_count (frame_count old) (length (caught_in services_say (before ++ piece)).frames) (frame_count new) kept.count one few;
     }
 
 -- it counts one frame more
@@ -140,10 +155,10 @@ pub reads_whole : (before bytes : List ℕ) (size : ℕ) (packet : Packet) (old 
     → ((caught : Caught) → Keeps caught old.captions → TakesFrame (user_bytes packet) caught new.captions)
     → (HasRead before old.words → open_behind anc_syntax before ≡ nothing_open → HasRead (before ++ take size bytes) new.words) → ReadsWhole before bytes size old new
 reads_whole before bytes size packet old new few all had kept closes is_caption within is_packet takes passes =
-    let unrefused : refusal_of never before ≡ None = sym (kept_is before old had) ∙ kept in
+    let unrefused : refusal_of services_say before ≡ None = sym (kept_is before old had) ∙ kept in
     let read = had.reached.leads unrefused in
     let closed = closes read in
-    let took = takes (caught_in never before) had.reached.took in
+    let took = takes (caught_in services_say before) had.reached.took in
     let whole : IsWhole before (take size bytes) packet took.frame = record {
       bytes_are = had.bytes_are;
       unrefused = unrefused;
@@ -151,6 +166,7 @@ reads_whole before bytes size packet old new few all had kept closes is_caption 
       is_caption = is_caption;
       is_packet = is_packet;
       is_cdp = took.is_cdp;
+      is_heard = took.keeps.channel.blocks_read.all;
     } in
     let received = whole_received before (take size bytes) packet took.frame old new whole few (All-take (λ b. b < 256) size bytes all) had (passes read closed) took.keeps in
     record {

@@ -1,14 +1,17 @@
--- What is kept of the parts of ancillary packets: the reader of the open packet of captions with what it says so far, what
--- the last whole frame says, both fields of line 21 (CTA-608-E), and the number of whole frames.
-use Rattle.std.specs.Prelude.{◌≡◌, ◌%◌, ◌^◌, true, false, List, [], ◌∷◌, length, Option, Some, None}
+-- What is kept of the parts of ancillary packets: the reader of the open packet of captions with what it says so far and what judges
+-- its triplets, what the last whole frame says, both fields of line 21 (CTA-608-E), and the number of whole frames.
+use Rattle.std.specs.Prelude.{◌≡◌, ◌%◌, ◌^◌, true, false, List, [], ◌∷◌, ◌++◌, length, Option, Some, None}
 use Rattle.anc_words.specs.declared.parts.WordPart.{WordPart}
 use Rattle.cdp_packets.specs.declared.parts.CdpPart.{CdpPart}
 use Rattle.cdp_packets.specs.declared.reader.CdpReader.{CdpReader}
 use Rattle.cdp_packets.specs.Readers.{HasRead}
 use Rattle.line21_screen.specs.Objects.{Leads}
 use Rattle.cc_receiver.specs.declared.captions.Captions.{Captions}
+use Rattle.cc_receiver.specs.declared.channel.Channel.{Channel}
 use Rattle.cc_receiver.specs.declared.frame.Frame.{Frame}
-use Rattle.words_files.specs.Catching.{Caught, OpenCaption, caught_of, never}
+use Rattle.words_files.specs.Catching.{Caught, OpenCaption, caught_of}
+use Rattle.services_files.specs.Services.{services_say}
+use Rattle.cc_receiver.specs.Channels.{HasTried, frames_parts}
 use Rattle.cc_receiver.specs.Hearing.{heard}
 use Rattle.cc_receiver.specs.Gatherers.{HasGathered}
 
@@ -23,11 +26,18 @@ abbrev pub KeepsLast : List (List CdpPart) → Frame → Type 0
 KeepsLast [] frame = Unit {0}
 KeepsLast (parts ∷ frames) frame = HasGathered parts frame
 
+-- what judges is behind the parts of the frames and of the open packet
+abbrev pub Judges : List (List CdpPart) → Option OpenCaption → Channel → Type 0
+Judges frames None judging = Unit {0}
+Judges frames (Some o) judging = HasTried (frames_parts frames ++ o.parts) judging
+
 -- it keeps what was caught
 pub record Keeps (caught : Caught) (captions : Captions) : Type 0 where
   pub refused : captions.refused ≡ caught.refused
   pub is_open : caught.refused ≡ None → KeepsOpen caught.open_caption captions.open captions.gathered
+  pub judges : caught.refused ≡ None → Judges caught.frames caught.open_caption captions.judging
   pub last : KeepsLast caught.frames captions.last
+  pub channel : HasTried (frames_parts caught.frames) captions.channel
   pub first : Leads false (heard false caught.frames) captions.first
   pub second : Leads true (heard true caught.frames) captions.second
   pub count : captions.frames ≡ length caught.frames % 2 ^ 32
@@ -38,4 +48,4 @@ with_frame parts caught = record { open_caption = None; frames = parts ∷ caugh
 
 -- it was handed these parts
 abbrev pub HasCaught : List WordPart → Captions → Type 0
-HasCaught parts captions = Keeps (caught_of never parts) captions
+HasCaught parts captions = Keeps (caught_of services_say parts) captions

@@ -2,6 +2,7 @@ pub mod Receiving
 pub mod Gathering
 pub mod Hearing
 pub mod Gatherers
+pub mod Channels
 pub mod Catchers
 pub mod Receivers
 pub mod Wholes

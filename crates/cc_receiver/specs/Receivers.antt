@@ -13,7 +13,8 @@ use Rattle.line21_screen.specs.Grid.{Grid}
 use Rattle.line21_screen.specs.Objects.{field_of}
 use Rattle.line21_screen.specs.declared.field.Field.{Field}
 use Rattle.cc_receiver.specs.declared.receiver.Receiver.{Receiver}
-use Rattle.words_files.specs.Catching.{caption_verdict, caught_in, never}
+use Rattle.words_files.specs.Catching.{caption_verdict, caught_in}
+use Rattle.services_files.specs.Services.{services_say}
 use Rattle.cc_receiver.specs.Catchers.{HasCaught}
 
 -- the number of whole frames that it counts
@@ -34,7 +35,7 @@ shown receiver chan = (channel (is_second_channel chan) (field_of (field_in (is_
 
 -- it was fed these bytes, those too behind a refused word, and counts their frames
 pub record HasReceived (bytes : List ℕ) (receiver : Receiver) : Type 0 where
-  pub reached : Reached (judge_by anc_syntax) (caption_verdict never) (place_by 2) HasRead kept_refusal HasCaught
+  pub reached : Reached (judge_by anc_syntax) (caption_verdict services_say) (place_by 2) HasRead kept_refusal HasCaught
       [] [] bytes receiver.words receiver.captions
   pub bytes_are : All (λ byte. byte < 256) bytes
-  pub counted : frame_count receiver ≡ length (caught_in never bytes).frames
+  pub counted : frame_count receiver ≡ length (caught_in services_say bytes).frames

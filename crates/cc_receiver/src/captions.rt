@@ -1,16 +1,21 @@
-ghost use Rattle.std.specs.Prelude.{◌≡◌, ◌<◌, if◌then◌else◌, ◌++◌, Bool, false, List, None, IfOk, IsTrue, reverse};
+ghost use Rattle.std.specs.Prelude.{◌≡◌, ◌<◌, if◌then◌else◌, ◌++◌, Bool, false, List, [], ◌∷◌, None, IfOk, IsTrue, reverse};
+ghost use Rattle.cc_base.specs.Feeding.{hand};
 ghost use Rattle.cdp_packets.specs.declared.parts.CdpPart.{CdpPart as Part};
 ghost use Rattle.cdp_packets.specs.PacketParts.{packet_parts};
 ghost use Rattle.cdp_packets.specs.Packets.{IsCdp, Packet as FrameOf};
 ghost use Rattle.line21_codes.specs.declared.pairs.Pair.{Pair as PairOf};
 ghost use Rattle.line21_screen.specs.Objects.{Leads};
-ghost use Rattle.words_files.specs.Catching.{Caught, begun, caught_after, ended, never, nothing_caught, taken};
+ghost use Rattle.words_files.specs.Catching.{Caught, begun, caught_after, ended, nothing_caught, taken, verdict_behind};
+ghost use Rattle.services_files.specs.Services.{services_say};
+ghost use Rattle.cc_receiver.specs.Channels.{HasTried, frames_parts};
+ghost use Rattle.cc_receiver.specs.Gatherers.{HasGathered};
 ghost use Rattle.cc_receiver.specs.Hearing.{heard};
 
+use crate::channel::Channel;
 use crate::frame::Frame;
 use anc_words::WordPart;
-use cc_base::{Resume, Upward, Why};
-use cdp_packets::{CdpReader, read_packet};
+use cc_base::{Step, Upward, Why};
+use cdp_packets::{CdpPart, CdpReader, read_packet};
 use line21_codes::Pair;
 use line21_screen::Field;
 use std::alloc::{AllocError, Global};
@@ -29,8 +34,12 @@ pub(crate) struct Captions {
     pub(crate) open: Option<CdpReader>,
     /// What the open packet says so far.
     pub(crate) gathered: Frame,
+    /// What judges the triplets of the open packet, behind those of the whole frames.
+    pub(crate) judging: Channel,
     /// What the last whole frame says.
     pub(crate) last: Frame,
+    /// What took the triplets of the whole frames.
+    pub(crate) channel: Channel,
     /// Field 1 of line 21.
     pub(crate) first: Field,
     /// Field 2 of line 21.
@@ -51,9 +60,39 @@ fn apply_all(field: &mut Field, pairs: &[Pair])
     }
 }
 
+// A frame gathers the next part of a distribution packet, and the part is judged: why it is refused, if it is.
+fn take_part(frame: &mut Frame, judging: &mut Channel, part: CdpPart) -> Option<Why>
+    ensures why { (before : List Part) → HasTried before judging.old → result ≡ services_say before part }
+    ensures gathered { (parts : List Part) → HasGathered parts frame.old → HasGathered (parts ++ part ∷ []) frame.new }
+    ensures tried { (before : List Part) → HasTried before judging.old → result ≡ None → HasTried (before ++ part ∷ []) judging.new }
+{
+    frame.gather(part);
+    judging.judge(part)
+}
+
+// Takes the parts of a step in the same way, up to one that is refused.
+fn take_step(frame: &mut Frame, judging: &mut Channel, step: Step<CdpPart>) -> Option<Why>
+    ensures why { (frames : List (List Part)) (parts : List Part) → HasTried (frames_parts frames ++ parts) judging.old
+        → result ≡ (hand (verdict_behind services_say frames) parts step).why }
+    ensures gathered { (frames : List (List Part)) (parts : List Part) → HasTried (frames_parts frames ++ parts) judging.old → HasGathered parts frame.old
+        → HasGathered (parts ++ (hand (verdict_behind services_say frames) parts step).parts) frame.new }
+    ensures tried { (frames : List (List Part)) (parts : List Part) → HasTried (frames_parts frames ++ parts) judging.old → result ≡ None
+        → HasTried (frames_parts frames ++ (parts ++ (hand (verdict_behind services_say frames) parts step).parts)) judging.new }
+{
+    match step {
+        Step::Nothing => None,
+        Step::One(part) => take_part(frame, judging, part),
+        Step::Two(first, second) => match take_part(frame, judging, first) {
+            None => take_part(frame, judging, second),
+            Some(why) => Some(why),
+        },
+        Step::Refuse(why) => Some(why),
+    }
+}
+
 impl Captions {
+    ghost use Rattle.cc_receiver.specs.declared.channel.Channel.{Channel as ChannelOf};
     ghost use Rattle.cc_receiver.specs.Catchers.{HasCaught, Keeps, with_frame};
-    ghost use Rattle.cc_receiver.specs.Gatherers.{HasGathered};
     ghost use Rattle.cc_receiver.specs.declared.frame.Frame.{Frame as Said};
 
     /// It was handed nothing. All memory that it ever takes is taken here.
@@ -63,7 +102,9 @@ impl Captions {
         Ok(Captions {
             open: None,
             gathered: Frame::new(),
+            judging: Channel::new(),
             last: Frame::new(),
+            channel: Channel::new(),
             first: Field::new(alloc, false)?,
             second: Field::new(alloc, true)?,
             frames: 0,
@@ -96,6 +137,7 @@ impl Captions {
         match CdpReader::new(count) {
             Ok(reader) => {
                 self.gathered.clear();
+                self.judging = self.channel;
                 self.open = Some(reader);
             }
             Err(why) => self.refused = Some(why),
@@ -105,13 +147,11 @@ impl Captions {
     // Takes the next byte of the open packet, if that is one of captions.
     fn byte(&mut self, byte: u8)
         ensures { (caught : Caught) → Keeps caught self.old → self.old.refused ≡ None
-            → Keeps (taken never byte caught) self.new }
+            → Keeps (taken services_say byte caught) self.new }
     {
         if let Some(reader) = &mut self.open {
-            match reader.feed(&[byte], &mut self.gathered) {
-                Ok(()) => {}
-                Err(refusal) => self.refused = Some(refusal.why),
-            }
+            let step = reader.step(byte);
+            self.refused = take_step(&mut self.gathered, &mut self.judging, step);
         }
     }
 
@@ -121,14 +161,17 @@ impl Captions {
     {
         if self.open.is_some() {
             mem::swap(&mut self.gathered, &mut self.last);
+            self.channel = self.judging;
             self.act();
         }
     }
 
-    // A frame ended, and `last` is what it says: its pairs act now, and no packet is open.
+    // A frame ended, `last` is what it says, and `channel` took its triplets: its pairs act now, and no packet is open.
     fn act(&mut self)
-        ensures { (caught : Caught) (parts : List Part) (gathered last : Said) → Keeps caught (record self.old { gathered = gathered; last = last })
-            → HasGathered parts self.old.last → Keeps (with_frame parts caught) self.new }
+        ensures { (caught : Caught) (parts : List Part) (gathered last : Said) (judging channel : ChannelOf)
+            → Keeps caught (record self.old { gathered = gathered; judging = judging; last = last; channel = channel })
+            → HasGathered parts self.old.last → HasTried (frames_parts (parts ∷ caught.frames)) self.old.channel
+            → Keeps (with_frame parts caught) self.new }
     {
         self.open = None;
         apply_all(&mut self.first, self.last.pairs_one.as_slice());
@@ -136,27 +179,29 @@ impl Captions {
         self.frames = self.frames.wrapping_add(1);
     }
 
-    /// Takes the bytes that a whole packet of captions carries. Says whether they are a distribution packet: it is a frame then,
-    /// whose pairs act now, and no packet is open; else nothing has changed.
+    /// Takes the bytes that a whole packet of captions carries. Says whether they are a distribution packet of which nothing is
+    /// refused: it is a frame then, whose pairs act now, and no packet is open; else nothing has changed.
     pub(crate) fn whole(&mut self, bytes: &[u8]) -> bool
         ensures frame { (caught : Caught) → Keeps caught self.old → IsTrue result
             → (frame : FrameOf) × IsCdp frame bytes.now × Keeps (with_frame (packet_parts frame) caught) self.new }
-        ensures all { (frame : FrameOf) → IsCdp frame bytes.now → IsTrue result }
         ensures none { result ≡ false → self.new ≡ self.old }
     {
-        match read_packet(bytes) {
-            Some(packet) => {
-                self.last.fill(packet);
-                self.act();
-                true
-            }
-            None => false,
+        let Some(packet) = read_packet(bytes) else {
+            return false;
+        };
+        let mut judging = self.channel;
+        if !judging.takes_sections(packet.sections) {
+            return false;
         }
+        self.channel = judging;
+        self.last.fill(packet);
+        self.act();
+        true
     }
 
     // Takes the next part, unless one was refused.
     fn go_on(&mut self, part: WordPart)
-        ensures { (caught : Caught) → Keeps caught self.old → Keeps (caught_after never caught part) self.new }
+        ensures { (caught : Caught) → Keeps caught self.old → Keeps (caught_after services_say caught part) self.new }
     {
         if self.refused.is_some() {
             return;
@@ -171,11 +216,12 @@ impl Captions {
 
 impl Upward<WordPart> for Captions {
     ghost use Rattle.cc_receiver.specs.Catchers.{HasCaught};
-    ghost use Rattle.words_files.specs.Catching.{caption_verdict, never};
+    ghost use Rattle.words_files.specs.Catching.{caption_verdict};
+    ghost use Rattle.services_files.specs.Services.{services_say};
 
     ghost Took = { λ parts captions. HasCaught parts captions };
 
-    ghost verdict = { caption_verdict never };
+    ghost verdict = { caption_verdict services_say };
 
     fn part(&mut self, part: WordPart) -> Result<(), Why> {
         self.go_on(part);

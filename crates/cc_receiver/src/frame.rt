@@ -10,7 +10,7 @@ ghost use Rattle.cc_receiver.specs.Gathering.{Gathered, gather, with_triplet, wi
 ghost use Rattle.cc_receiver.specs.Idle.{are_null, is_null};
 
 use arrayvec::ArrayVec;
-use cc_base::{Rate, Upward, Why};
+use cc_base::Rate;
 use cc_data::{Triplet, read_triplet};
 use cdp_packets::{CdpPart, WholePacket, split_section, triplet_bytes};
 use line21_codes::Pair;
@@ -129,8 +129,8 @@ impl Frame {
         }
     }
 
-    // Takes the next part.
-    fn gather(&mut self, part: CdpPart)
+    /// Takes the next part.
+    pub(crate) fn gather(&mut self, part: CdpPart)
         ensures { (gathered : Gathered) → Holds gathered self.old → Holds (gather gathered part) self.new }
     {
         match part {
@@ -143,19 +143,5 @@ impl Frame {
             CdpPart::Triplet(triplet) => self.triplet(triplet),
             CdpPart::Half(_) | CdpPart::End => {}
         }
-    }
-}
-
-impl Upward<CdpPart> for Frame {
-    ghost use Rattle.cc_receiver.specs.Gatherers.{HasGathered};
-    ghost use Rattle.words_files.specs.Catching.{never};
-
-    ghost Took = { λ parts frame. HasGathered parts frame };
-
-    ghost verdict = { never };
-
-    fn part(&mut self, part: CdpPart) -> Result<(), Why> {
-        self.gather(part);
-        Ok(())
     }
 }

@@ -3,7 +3,7 @@
 ghost use Rattle.std.specs.Prelude.{◌≡◌, ◌++◌, ℕ, List, length};
 ghost use Rattle.cdp_packets.specs.Packets.{Packet as FrameOf};
 ghost use Rattle.line21_codes.specs.declared.channels.Chan.{Chan};
-ghost use Rattle.words_files.specs.Catching.{never};
+ghost use Rattle.services_files.specs.Services.{services_say};
 ghost use Rattle.words_files.specs.FramesOf.{AreFramesOf};
 ghost use Rattle.words_files.specs.Received.{received_grids};
 ghost use Rattle.cc_receiver.specs.declared.receiver.Receiver.{Receiver as ReceiverOf};
@@ -13,9 +13,9 @@ ghost use Rattle.cc_receiver.specs.Receivers.{HasReceived, frame_count, shown};
 /// receiver that was reset before the first one.
 pub fn receiver_equals_meaning()
     ensures count { (bytes : List ℕ) (frames : List FrameOf) (receiver : ReceiverOf) → HasReceived bytes receiver
-        → AreFramesOf never frames bytes → frame_count receiver ≡ length frames }
+        → AreFramesOf services_say frames bytes → frame_count receiver ≡ length frames }
     ensures shown { (bytes : List ℕ) (frames : List FrameOf) (receiver : ReceiverOf) (chan : Chan) → HasReceived bytes receiver
-        → AreFramesOf never frames bytes
+        → AreFramesOf services_say frames bytes
         → shown receiver chan ≡ received_grids frames chan }
 {}
 

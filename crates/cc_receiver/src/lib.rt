@@ -3,6 +3,7 @@
 #![tactic(auto)]
 
 mod captions;
+mod channel;
 mod frame;
 pub mod laws;
 mod receiver;

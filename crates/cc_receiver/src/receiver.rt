@@ -9,7 +9,8 @@ ghost use Rattle.anc_words.specs.Reading.{anc_syntax};
 ghost use Rattle.anc_words.specs.WordsFiles.{IsWordsFile};
 ghost use Rattle.cdp_packets.specs.Packets.{Packet as FrameOf};
 ghost use Rattle.cdp_packets.specs.PacketTriplets.{packet_triplets};
-ghost use Rattle.words_files.specs.Catching.{never, refusal_of};
+ghost use Rattle.words_files.specs.Catching.{refusal_of};
+ghost use Rattle.services_files.specs.Services.{services_say};
 ghost use Rattle.words_files.specs.FramesOf.{AreFramesOf};
 ghost use Rattle.words_files.specs.Offences.{IsFileUnder, IsMalformed};
 ghost use Rattle.words_files.specs.Received.{field_pairs, received_grids};
@@ -144,7 +145,7 @@ impl Receiver {
         ensures received { (before : List ℕ) → HasReceived before self.old → length piece.now ≤ bytes_to_end (open_behind anc_syntax before)
             → HasReceived (before ++ piece.now) self.new }
         ensures refusal { (before : List ℕ) → HasReceived before self.old → length piece.now ≤ bytes_to_end (open_behind anc_syntax before)
-            → result_err result ≡ refusal_of never (before ++ piece.now) }
+            → result_err result ≡ refusal_of services_say (before ++ piece.now) }
         ensures ended { (before : List ℕ) → HasReceived before self.old → length piece.now ≤ bytes_to_end (open_behind anc_syntax before)
             → IfOk result (λ answer. EndsBy answer (before ++ piece.now)) }
         ensures told { receiver_refusal self.new ≡ result_err result }
@@ -170,7 +171,7 @@ impl Receiver {
         ensures received { (before : List ℕ) → HasReceived before self.old → length piece.now ≤ bytes_to_end (open_behind anc_syntax before)
             → HasReceived (before ++ piece.now) self.new }
         ensures refusal { (before : List ℕ) → HasReceived before self.old → length piece.now ≤ bytes_to_end (open_behind anc_syntax before)
-            → result_err result ≡ refusal_of never (before ++ piece.now) }
+            → result_err result ≡ refusal_of services_say (before ++ piece.now) }
         ensures told { receiver_refusal self.new ≡ result_err result }
     {
         self.words.feed(piece, &mut self.captions)
@@ -181,10 +182,10 @@ impl Receiver {
     pub fn finish(&self) -> Result<(), Refusal>
         ensures kept { (refused : Refused) → receiver_refusal self.now ≡ Some refused → result_err result ≡ Some refused }
         ensures whole { (bytes : List ℕ) → HasReceived bytes self.now → IsOk result
-            → (frames : List FrameOf) × IsFileUnder never frames bytes }
-        ensures file { (bytes : List ℕ) (frames : List FrameOf) → HasReceived bytes self.now → IsFileUnder never frames bytes
+            → (frames : List FrameOf) × IsFileUnder services_say frames bytes }
+        ensures file { (bytes : List ℕ) (frames : List FrameOf) → HasReceived bytes self.now → IsFileUnder services_say frames bytes
             → IsOk result }
-        ensures malformed { (bytes : List ℕ) → HasReceived bytes self.now → IfErr result (λ refused. IsMalformed never bytes refused) }
+        ensures malformed { (bytes : List ℕ) → HasReceived bytes self.now → IfErr result (λ refused. IsMalformed services_say bytes refused) }
     {
         self.words.finish()
     }
@@ -192,7 +193,7 @@ impl Receiver {
     /// The number of whole frames.
     pub fn frames(&self) -> u32
         ensures count { result ≡ frame_count self.now }
-        ensures frames { (bytes : List ℕ) (frames : List FrameOf) → HasReceived bytes self.now → AreFramesOf never frames bytes
+        ensures frames { (bytes : List ℕ) (frames : List FrameOf) → HasReceived bytes self.now → AreFramesOf services_say frames bytes
             → result ≡ length frames }
     {
         self.captions.frames
@@ -205,7 +206,7 @@ impl Receiver {
         requires row_to { row ≤ 15 }
         requires col { col < 32 }
         ensures shown { result ≡ shown self.now chan row col }
-        ensures received { (bytes : List ℕ) (frames : List FrameOf) → HasReceived bytes self.now → AreFramesOf never frames bytes
+        ensures received { (bytes : List ℕ) (frames : List FrameOf) → HasReceived bytes self.now → AreFramesOf services_say frames bytes
             → result ≡ received_grids frames chan row col }
     {
         self.captions
@@ -227,9 +228,9 @@ impl Receiver {
     pub fn is_idle(&self) -> bool
         requires { 0 < frame_count self.now }
         ensures idle { (bytes : List ℕ) (earlier : List FrameOf) (last : FrameOf) → HasReceived bytes self.now
-            → AreFramesOf never (earlier ++ last ∷ []) bytes → result ≡ is_idle last }
+            → AreFramesOf services_say (earlier ++ last ∷ []) bytes → result ≡ is_idle last }
         ensures still { (bytes : List ℕ) (earlier : List FrameOf) (last : FrameOf) → HasReceived bytes self.now
-            → AreFramesOf never (earlier ++ last ∷ []) bytes → IsTrue result → (chan : Channel)
+            → AreFramesOf services_say (earlier ++ last ∷ []) bytes → IsTrue result → (chan : Channel)
             → shown self.now chan ≡ received_grids earlier chan }
     {
         self.captions.last.is_idle()
@@ -239,7 +240,7 @@ impl Receiver {
     pub fn rate(&self) -> Rate
         requires { 0 < frame_count self.now }
         ensures { (bytes : List ℕ) (earlier : List FrameOf) (last : FrameOf) → HasReceived bytes self.now
-            → AreFramesOf never (earlier ++ last ∷ []) bytes → result ≡ last.rate }
+            → AreFramesOf services_say (earlier ++ last ∷ []) bytes → result ≡ last.rate }
     {
         self.captions.last.rate
     }
@@ -248,7 +249,7 @@ impl Receiver {
     pub fn flags(&self) -> u8
         requires { 0 < frame_count self.now }
         ensures { (bytes : List ℕ) (earlier : List FrameOf) (last : FrameOf) → HasReceived bytes self.now
-            → AreFramesOf never (earlier ++ last ∷ []) bytes → result ≡ last.flags }
+            → AreFramesOf services_say (earlier ++ last ∷ []) bytes → result ≡ last.flags }
     {
         self.captions.last.flags
     }
@@ -257,7 +258,7 @@ impl Receiver {
     pub fn counter(&self) -> u16
         requires { 0 < frame_count self.now }
         ensures { (bytes : List ℕ) (earlier : List FrameOf) (last : FrameOf) → HasReceived bytes self.now
-            → AreFramesOf never (earlier ++ last ∷ []) bytes → result ≡ last.counter }
+            → AreFramesOf services_say (earlier ++ last ∷ []) bytes → result ≡ last.counter }
     {
         self.captions.last.counter
     }
@@ -267,7 +268,7 @@ impl Receiver {
     pub fn triplet_count(&self) -> u16
         requires { 0 < frame_count self.now }
         ensures { (bytes : List ℕ) (earlier : List FrameOf) (last : FrameOf) → HasReceived bytes self.now
-            → AreFramesOf never (earlier ++ last ∷ []) bytes → result ≡ length (packet_triplets last) }
+            → AreFramesOf services_say (earlier ++ last ∷ []) bytes → result ≡ length (packet_triplets last) }
     {
         self.captions.last.triplets.len() as u16
     }
@@ -276,7 +277,7 @@ impl Receiver {
     pub fn sections(&self) -> &[u8]
         requires { 0 < frame_count self.now }
         ensures { (bytes : List ℕ) (earlier : List FrameOf) (last : FrameOf) → HasReceived bytes self.now
-            → AreFramesOf never (earlier ++ last ∷ []) bytes → result.now ≡ concat last.sections }
+            → AreFramesOf services_say (earlier ++ last ∷ []) bytes → result.now ≡ concat last.sections }
     {
         self.captions.last.sections.as_slice()
     }
@@ -286,7 +287,7 @@ impl Receiver {
     pub fn triplets(&self) -> &[Triplet]
         requires { 0 < frame_count self.now }
         ensures { (bytes : List ℕ) (earlier : List FrameOf) (last : FrameOf) → HasReceived bytes self.now
-            → AreFramesOf never (earlier ++ last ∷ []) bytes → result.now ≡ packet_triplets last }
+            → AreFramesOf services_say (earlier ++ last ∷ []) bytes → result.now ≡ packet_triplets last }
     {
         self.captions.last.triplets.as_slice()
     }
@@ -296,7 +297,7 @@ impl Receiver {
     pub fn pairs_one(&self) -> &[Pair]
         requires { 0 < frame_count self.now }
         ensures { (bytes : List ℕ) (earlier : List FrameOf) (last : FrameOf) → HasReceived bytes self.now
-            → AreFramesOf never (earlier ++ last ∷ []) bytes → result.now ≡ field_pairs false (packet_triplets last) }
+            → AreFramesOf services_say (earlier ++ last ∷ []) bytes → result.now ≡ field_pairs false (packet_triplets last) }
     {
         self.captions.last.pairs_one.as_slice()
     }

@@ -204,6 +204,41 @@ fn refusals_have_the_first_byte_of_their_word(rt: HostRuntime) -> Result<(), All
     Ok(())
 }
 
+// The first two triplets of a frame without captions, and these words behind them.
+fn with_third_triplet(alloc: Global, words: &[u16]) -> Result<Vec<u8>, AllocError> {
+    let frame = file_of(alloc, &[SILENT])?;
+    let mut bytes = Vec::new(alloc);
+    bytes.extend_from_slice(&frame.as_slice()[..42.min(frame.len())])?;
+    put_words(words, &mut bytes)?;
+    Ok(bytes)
+}
+
+// A header of a block that passes its packet is refused at its own word: as the third byte of the triplet that starts a packet of three
+// bytes, also where all that stands behind it is good; and as the second byte of one that goes on with it.
+#[test]
+fn a_header_that_passes_its_packet_is_refused(rt: HostRuntime) -> Result<(), AllocError> {
+    let third = [0x2FF, 0x102, 0x23F];
+    let mut whole = Vec::new(rt.alloc());
+    whole.extend_from_slice(&third)?;
+    whole.extend_from_slice([[0x2FA, 0x200, 0x200]; 17].as_flattened())?;
+    whole.extend_from_slice(&[0x274, 0x200, 0x200, 0x179, 0x2AB])?;
+    for (words, place) in [
+        (third.as_slice(), 46),
+        (whole.as_slice(), 46),
+        (&[0x2FF, 0x102, 0x120, 0x1FE, 0x222], 50),
+    ] {
+        let bytes = with_third_triplet(rt.alloc(), words)?;
+        for size in SIZES {
+            let (receiver, answer) = fed(rt.alloc(), bytes.as_slice(), size)?;
+            let want = refusal(place, Why::Overrun);
+            assert_eq!(rt; answer, want, "place {place}, size {size}");
+            assert_eq!(rt; receiver.finish(), want, "place {place}, size {size}");
+            assert_eq!(rt; receiver.frames(), 0, "place {place}, size {size}");
+        }
+    }
+    Ok(())
+}
+
 // Frames 0, 1 and 2 without captions, with a packet between the first two that isn't one of captions.
 fn with_a_foreign_packet(alloc: Global) -> Result<Vec<u8>, AllocError> {
     let mut bytes = file_of(alloc, &[SILENT])?;

@@ -1,16 +1,24 @@
 -- A receiver that is fed the words that were built shows what was authored.
-use Rattle.std.proofs.Common.{◌≡◌, ◌∙◌, ◌++◌, ◌+◌, add-one, ap, arith, length, length-append, refl, subst, suc, sym, take, zero, ℕ, List, false, true}
+use Rattle.std.proofs.Common.{[], ◌≡◌, ◌∙◌, ◌++◌, ◌∷◌, ◌+◌, ◌<◌, ◌==◌, ◌&&◌, ◌||◌, if◌then◌else◌, Bool, add-one, ap, arith, length, length-append, refl, subst, suc, sym, take, zero, ℕ, List, false, true}
 use Rattle.std.proofs.lemmas.List.{take-append-le, take_all}
+use Rattle.std.proofs.lemmas.List.Elements.{All-head, All-tail}
 use Rattle.cc_base.specs.declared.rate.Rate.{Rate}
+use Rattle.std.specs.List.{All}
+use Rattle.cc_data.specs.declared.triplet.Triplet.{Triplet}
 use Rattle.cdp_packets.specs.Packets.{Packet as Frame}
-use Rattle.frame_carrier.specs.Carrying.{column_packets}
+use Rattle.cdp_packets.specs.PacketTriplets.{packet_triplets}
+use Rattle.channel_packets.specs.ChannelPackets.{channel_triplets}
+use Rattle.frame_carrier.specs.Carried.{AreCarried, IsWithinRoom}
+use Rattle.frame_carrier.specs.Carrying.{column_bytes, column_packets, frame_packet}
 use Rattle.frame_scheduler.specs.Columns.{Columns}
 use Rattle.frame_scheduler.specs.Planned.{columns_of}
 use Rattle.line21_codes.specs.declared.channels.Chan.TheVariants.{Cc1, Cc2, Cc3, Cc4}
-use Rattle.words_files.specs.Catching.{never}
+use Rattle.services_files.specs.Services.{services_say}
+use Rattle.services_files.specs.WholeFiles.{file_triplets}
+use Rattle.services_files.proofs.WholeFileLemmas.{whole-under}
+use Rattle.words_files.specs.Offences.{IsFileUnder}
 use Rattle.words_files.specs.FramesOf.{AreFramesOf}
 use Rattle.words_files.specs.Received.{received_grids}
-use Rattle.words_files.proofs.OffenceLemmas.{file_under_never}
 use Rattle.words_files.proofs.FramesOfLemmas.{file_frames, frames_grow}
 use Rattle.words_files.proofs.GotLemmas.{got}
 use Rattle.cc_receiver.proofs.ReceivedLemmas.{shown_received}
@@ -24,6 +32,51 @@ packets_count : (rate : Rate) (columns : Columns) (frame n : ℕ) → length (co
 packets_count rate columns frame zero = refl
 packets_count rate columns frame (suc n) = ap suc (packets_count rate columns (suc frame) n)
 
+-- triplets of line 21 and fillers are none of channel packets
+not_of_channel : (valid : Bool) (kind : ℕ) → (valid ≡ true → kind < 2) → ((valid && (kind == 3)) || (valid && (kind == 2))) ≡ false
+not_of_channel false kind few = refl
+not_of_channel true zero few = refl
+not_of_channel true (suc zero) few = refl
+not_of_channel true (suc (suc more)) few = let less = few refl in absurd (omega (arith, less))
+
+quiet_triplets : (triplets more : List Triplet) → All (λ t. t.valid ≡ true → t.kind < 2) triplets → channel_triplets more ≡ [] → channel_triplets (triplets ++ more) ≡ []
+quiet_triplets [] more all none = none
+quiet_triplets (t ∷ triplets) more all none =
+    let rest = channel_triplets (triplets ++ more) in
+    ap (λ (b : Bool). if b then t ∷ rest else rest) (not_of_channel t.valid t.kind (All-head (λ (t : Triplet). t.valid ≡ true → t.kind < 2) t triplets all))
+    ∙ quiet_triplets triplets more (All-tail (λ (t : Triplet). t.valid ≡ true → t.kind < 2) t triplets all) none
+
+-- so the frames that are built carry no channel packet
+quiet_packets : (rate : Rate) (columns : Columns) → ((frame : ℕ) → IsWithinRoom rate (columns frame) (frame_packet rate frame (columns frame) [])) → (frame n : ℕ)
+    → channel_triplets (file_triplets (column_packets rate columns frame n)) ≡ []
+quiet_packets rate columns room frame zero = refl
+quiet_packets rate columns room frame (suc n) =
+    quiet_triplets (packet_triplets (frame_packet rate frame (columns frame) [])) (file_triplets (column_packets rate columns (suc frame) n)) (room frame).no_service
+    (quiet_packets rate columns room (suc frame) n)
+
+built_file : (rate : Rate) (columns : Columns) (n : ℕ) → AreCarried rate columns n
+    → IsFileUnder services_say (column_packets rate columns 0 n) (column_bytes rate columns 0 n)
+built_file rate columns n carried =
+    let packets = column_packets rate columns 0 n in
+    whole-under packets (column_bytes rate columns 0 n) (record {
+      file = carried.file;
+      channel = record {
+        packets = [];
+        blocks = [];
+        channel = record {
+          packets_are = record {
+            strays = [];
+            stretches = [];
+            spelled = quiet_packets rate columns carried.room 0 n;
+            before = refl;
+            are = refl;
+            packets_are = refl;
+          };
+          blocks_are = tt;
+        };
+      };
+    })
+
 -- so many frames, and others behind them
 front_is : (packets frames behind : List Frame) (n : ℕ) → packets ≡ frames ++ behind → n ≡ length frames → take n packets ≡ frames
 front_is packets frames behind n is count =
@@ -33,11 +86,11 @@ pub built_seen : BuiltWordsAreSeen
 built_seen bytes list placed words rest receiver frame accepted output had counted =
     let sound = sound_words bytes list placed accepted in
     let packets = built_packets list placed in
-    let gotten = got never words had.bytes_are in
+    let gotten = got services_say words had.bytes_are in
     let frames = gotten.frames in
-    let whole : AreFramesOf never packets (words ++ rest) =
-    subst (AreFramesOf never packets) output (file_frames never packets (build_output list placed) (file_under_never packets (build_output list placed) sound.carried.file)) in
-    let (behind, grown) = frames_grow never frames packets words rest gotten.are whole in
+    let whole : AreFramesOf services_say packets (words ++ rest) =
+    subst (AreFramesOf services_say packets) output (file_frames services_say packets (build_output list placed) (built_file list.rate (columns_of list placed) list.frames sound.carried)) in
+    let (behind, grown) = frames_grow services_say frames packets words rest gotten.are whole in
     let count : frame + 1 ≡ length frames = sym counted ∙ frames_count frames words receiver had gotten.are in
     let front : take (suc frame) packets ≡ frames = front_is packets frames behind (suc frame) grown (sym (add-one frame) ∙ count) in
     let size : length packets ≡ length frames + length behind = ap length grown ∙ length-append frames behind in

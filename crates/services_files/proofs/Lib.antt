@@ -7,3 +7,4 @@ pub mod WholeBlockLemmas
 pub mod FrontLemmas
 pub mod OverrunLemmas
 pub mod ExampleLemmas
+pub mod ReasonLemmas

@@ -19,8 +19,9 @@ ghost use Rattle.service_blocks.specs.Channels.{AreChannel, IsHeard, IsHeardBehi
 ghost use Rattle.service_blocks.specs.ServiceBlocks.{Block};
 ghost use Rattle.words_files.specs.Catching.{caught_in, refusal_of};
 ghost use Rattle.words_files.specs.Offences.{Begins, FirstOffendingWord, IsCutShort, IsFileUnder, IsUnoffending, TakesFilling};
+ghost use Rattle.words_files.specs.Reasons.{HasReason};
 ghost use Rattle.services_files.specs.Events.{events_of, frame_events, rates_of, service_events, untimed};
-ghost use Rattle.services_files.specs.Overruns.{Overruns};
+ghost use Rattle.services_files.specs.Overruns.{OffendsOverAll, Overruns};
 ghost use Rattle.services_files.specs.Services.{services_say, tried_at, whole_triplets};
 ghost use Rattle.services_files.specs.WholeFiles.{BeginsWhole, IsWhole, file_triplets};
 
@@ -104,4 +105,11 @@ pub fn overrun_stands_at_its_own_byte()
         → (services_say before (part.Triplet (triplet_of first second next)) ≡ Some reason)
         ↔ ((reason ≡ why.Overrun) × Overruns (whole_triplets before) (first ∷ second ∷ []) next) }
     ensures others { (before : List Part) (next : Part) → tried_at next ≡ [] → services_say before next ≡ None }
+{}
+
+/// Over all layers, a word is refused for what stands in its own packet, or since in whatever file goes on with it a header of a
+/// service block passes its packet. The layers above refuse nothing else.
+pub fn words_offend_for_these_reasons()
+    ensures { (before : List ℕ) (high low : ℕ) (reason : Reason) → HasReason services_say before high low reason
+        → OffendsOverAll before high low reason }
 {}

@@ -3,7 +3,7 @@ use Rattle.std.proofs.Common.{◌≡◌, ◌∙◌, ◌+◌, ◌++◌, ap, appen
 use Rattle.cc_receiver.specs.Receivers.{HasReceived, frame_count, shown}
 use Rattle.cc_receiver.specs.declared.receiver.Receiver.{Receiver}
 use Rattle.cdp_packets.specs.Packets.{Packet as Frame}
-use Rattle.words_files.specs.Catching.{never}
+use Rattle.services_files.specs.Services.{services_say}
 use Rattle.words_files.specs.Frames.CarryFrames.{none}
 use Rattle.words_files.specs.FramesOf.{AreFramesOf}
 use Rattle.words_files.specs.Offences.{IsFileUnder, IsUnoffending}
@@ -15,7 +15,7 @@ use Rattle.words_files.proofs.FramesOfLemmas.{frames_grow}
 use Rattle.words_files.proofs.GotLemmas.{got}
 
 -- a receiver shows what the pairs of the frames leave
-pub frames_shown : (bytes : List ℕ) (frames : List Frame) (receiver : Receiver) → HasReceived bytes receiver → AreFramesOf never frames bytes
+pub frames_shown : (bytes : List ℕ) (frames : List Frame) (receiver : Receiver) → HasReceived bytes receiver → AreFramesOf services_say frames bytes
     → shown receiver ≡ received_grids frames
 frames_shown bytes frames receiver had are = fun_ext (λ chan. shown_received frames bytes receiver chan had are)
 
@@ -32,14 +32,14 @@ no_item (item ∷ items) is = absurd (omega arith)
 -- a frame more came
 pub record IsNextFrame (frames : List Frame) (bytes : List ℕ) (receiver : Receiver) : Type 0 where
   pub frame : Frame
-  pub frames_are : AreFramesOf never (frames ++ frame ∷ []) bytes
+  pub frames_are : AreFramesOf services_say (frames ++ frame ∷ []) bytes
 
 -- where a receiver counted a frame more, the bytes brought one more
-pub frame_more : (before more : List ℕ) (old new : Receiver) (frames : List Frame) → AreFramesOf never frames before → HasReceived before old
+pub frame_more : (before more : List ℕ) (old new : Receiver) (frames : List Frame) → AreFramesOf services_say frames before → HasReceived before old
     → HasReceived (before ++ more) new → frame_count new ≡ frame_count old + 1 → IsNextFrame frames (before ++ more) new
 frame_more before more old new frames are was now counted =
-    let all = got never (before ++ more) now.bytes_are in
-    let (rest, is) = frames_grow never frames all.frames before more are all.are in
+    let all = got services_say (before ++ more) now.bytes_are in
+    let (rest, is) = frames_grow services_say frames all.frames before more are all.are in
     let one : frame_count old ≡ length frames = frames_count frames before old was are in
     let two : frame_count new ≡ length all.frames = frames_count all.frames (before ++ more) new now all.are in
     let sum : length all.frames ≡ length frames + length rest = ap length is ∙ length-append frames rest in
@@ -47,31 +47,31 @@ frame_more before more old new frames are was now counted =
     let spelled : all.frames ≡ frames ++ frame ∷ [] = is ∙ ap (λ r. frames ++ r) only in
     record {
       frame = frame;
-      frames_are = subst (λ l. AreFramesOf never l (before ++ more)) spelled all.are;
+      frames_are = subst (λ l. AreFramesOf services_say l (before ++ more)) spelled all.are;
     }
 
 -- where it counted none more, they brought none
-pub frames_still : (before more : List ℕ) (old new : Receiver) (frames : List Frame) → AreFramesOf never frames before → HasReceived before old
-    → HasReceived (before ++ more) new → frame_count new ≡ frame_count old → AreFramesOf never frames (before ++ more)
+pub frames_still : (before more : List ℕ) (old new : Receiver) (frames : List Frame) → AreFramesOf services_say frames before → HasReceived before old
+    → HasReceived (before ++ more) new → frame_count new ≡ frame_count old → AreFramesOf services_say frames (before ++ more)
 frames_still before more old new frames are was now counted =
-    let all = got never (before ++ more) now.bytes_are in
-    let (rest, is) = frames_grow never frames all.frames before more are all.are in
+    let all = got services_say (before ++ more) now.bytes_are in
+    let (rest, is) = frames_grow services_say frames all.frames before more are all.are in
     let one : frame_count old ≡ length frames = frames_count frames before old was are in
     let two : frame_count new ≡ length all.frames = frames_count all.frames (before ++ more) new now all.are in
     let sum : length all.frames ≡ length frames + length rest = ap length is ∙ length-append frames rest in
     let only : rest ≡ [] = no_item rest (omega arith) in
     let spelled : all.frames ≡ frames = is ∙ ap (λ r. frames ++ r) only ∙ append-nil frames in
-    subst (λ l. AreFramesOf never l (before ++ more)) spelled all.are
+    subst (λ l. AreFramesOf services_say l (before ++ more)) spelled all.are
 
 -- no byte is a file of no frame
-pub nothing_is_file : IsFileUnder never [] []
+pub nothing_is_file : IsFileUnder services_say [] []
 nothing_is_file = record {
   file = record { packets = []; file = record { words = []; spelled = tt; are_packets = refl }; carried = none };
   accepted = tt;
 }
 
 -- no word of no bytes offends
-pub nothing_offends : IsUnoffending never []
+pub nothing_offends : IsUnoffending services_say []
 nothing_offends = record {
   words = [];
   half = [];

@@ -15,10 +15,12 @@ use Rattle.cc_receiver.specs.declared.receiver.Ended.TheVariants as ended
 use Rattle.cc_receiver.specs.declared.receiver.Fed.{Fed}
 use Rattle.cc_receiver.specs.declared.receiver.Receiver.{Receiver}
 use Rattle.cdp_packets.specs.Packets.{Packet as Frame}
-use Rattle.words_files.specs.Catching.{never, refusal_of}
+use Rattle.words_files.specs.Catching.{refusal_of}
+use Rattle.services_files.specs.Services.{services_say}
 use Rattle.words_files.specs.FramesOf.{AreFramesOf}
 use Rattle.words_files.specs.Offences.{IsCutShort, IsMalformed, IsUnoffending}
-use Rattle.words_files.proofs.OffenceLemmas.{never_takes, offence_refused, some_or_none, unoffending_is_unrefused}
+use Rattle.words_files.proofs.OffenceLemmas.{offence_refused, some_or_none, unoffending_is_unrefused}
+use Rattle.services_files.proofs.FillingLemmas.{takes_filling}
 use Rattle.command_base.specs.Gathered.{Flushes, IsGathered, held_of}
 use Rattle.words_commands.specs.Printing.{Prints}
 use Rattle.words_commands.specs.WordsAnswer.{words_limit}
@@ -37,7 +39,7 @@ nothing_put (Some bytes) = sym (append-nil bytes)
 
 -- a receiver that was fed nothing counted nothing
 counted_nothing : (receiver : Receiver) → HasReceived [] receiver → frame_count receiver ≡ 0
-counted_nothing receiver received = frames_count [] [] receiver received (file_frames never [] [] nothing_is_file)
+counted_nothing receiver received = frames_count [] [] receiver received (file_frames services_say [] [] nothing_is_file)
 
 -- a reading that judged nothing
 pub judged_nothing : (text : List Frame → List ℕ) (start : Option (List ℕ)) (reading : Reading) → HasReceived [] reading.receiver
@@ -50,7 +52,7 @@ judged_nothing text start reading received held prints none =
         received = received;
         few = omega arith;
         unoffending = nothing_offends;
-        frames_are = file_frames never [] [] nothing_is_file;
+        frames_are = file_frames services_say [] [] nothing_is_file;
         prints = prints;
         way = record { sent = []; appended = nothing_put start; whole = held ∙ sym none };
       };
@@ -134,7 +136,7 @@ step_done text start now then before bytes old new fed printer kept had read cap
 
 -- a put of its text failed
 pub step_failed : (text : List Frame → List ℕ) (start then : Option (List ℕ)) (before bytes : List ℕ) (used : ℕ) (frames : List Frame)
-    → AreFramesOf never frames (before ++ take used bytes) → Puts start then put.Failed (text frames) → HasFailed text start then (before ++ bytes)
+    → AreFramesOf services_say frames (before ++ take used bytes) → Puts start then put.Failed (text frames) → HasFailed text start then (before ++ bytes)
 step_failed text start then before bytes used frames are failed = record {
   frames = frames;
   judged = before ++ take used bytes;
@@ -256,9 +258,9 @@ offended_failed text start a b bytes held refusal had failed = record {
 }
 
 -- bytes of which no word offends are cut short where they are no file
-pub cut_short : (bytes : List ℕ) (refusal : Refusal) → IsUnoffending never bytes → IsMalformed never bytes refusal → IsCutShort never bytes refusal
+pub cut_short : (bytes : List ℕ) (refusal : Refusal) → IsUnoffending services_say bytes → IsMalformed services_say bytes refusal → IsCutShort services_say bytes refusal
 cut_short bytes refusal unoffending (inl offence) =
-    absurd (some_or_none (refusal_of never bytes) refusal (offence_refused never never_takes bytes refusal offence) (unoffending_is_unrefused never bytes unoffending))
+    absurd (some_or_none (refusal_of services_say bytes) refusal (offence_refused services_say takes_filling bytes refusal offence) (unoffending_is_unrefused services_say bytes unoffending))
 cut_short bytes refusal unoffending (inr cut) = cut
 
 -- of some bytes some are read

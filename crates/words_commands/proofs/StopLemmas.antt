@@ -10,7 +10,7 @@ use Rattle.cc_receiver.specs.Receivers.{HasReceived}
 use Rattle.cc_receiver.proofs.TakenLemmas.{frames_count}
 use Rattle.cdp_packets.specs.Packets.{Packet as Frame}
 use Rattle.words_files.proofs.FramesOfLemmas.{file_frames, frames_of_once}
-use Rattle.words_files.specs.Catching.{never}
+use Rattle.services_files.specs.Services.{services_say}
 use Rattle.words_files.specs.Offences.{IsFileUnder, IsUnoffending}
 use Rattle.command_base.specs.Ends.{Ends, ends}
 use Rattle.command_base.specs.Gathered.{IsGathered, held_of}
@@ -76,13 +76,13 @@ all_taken (Some all) (Some rest) taken consumed ended = consumed ∙ ap (λ l. t
 -- the input is a words file
 pub file_ended : (text : List Frame → List ℕ) (first left after start now : Option (List ℕ)) (reads later writes still : ℕ) (printer : Printer) (reading : Reading) (room count : ℕ)
     → IsUnderway first left start now printer reading room → Prints text [] printer → text [] ≡ [] → IsAtEnd left × Keeps left after → later ≡ reads → still ≡ writes
-    → ((bytes : List ℕ) → HasReceived bytes reading.receiver → IsUnoffending never bytes → EndsAt bytes reading.receiver (Ok count))
+    → ((bytes : List ℕ) → HasReceived bytes reading.receiver → IsUnoffending services_say bytes → EndsAt bytes reading.receiver (Ok count))
     → ReadsWords text (ends first reads start writes) (ends after later now still) (Ok count)
 file_ended text first left after start now reads later writes still printer reading room count on prints none (ended, keeps) steady same file =
     let had = on.put_all text prints none in
     let within = on.within in
     let (is, (frames, is_file)) = file on.taken had.judged.received had.judged.unoffending in
-    let frames_is = frames_of_once never frames had.judged.frames on.taken (file_frames never frames on.taken is_file) had.judged.frames_are in (
+    let frames_is = frames_of_once services_say frames had.judged.frames on.taken (file_frames services_say frames on.taken is_file) had.judged.frames_are in (
       record { reads = steady; writes = same },
       record {
         frames = had.judged.frames;
@@ -92,7 +92,7 @@ file_ended text first left after start now reads later writes still printer read
         within = omega arith;
         frames_are = had.judged.frames_are;
         cause = (
-          ((all_taken first left on.taken on.consumed ended, refl), subst (λ f. IsFileUnder never f on.taken) frames_is is_file),
+          ((all_taken first left on.taken on.consumed ended, refl), subst (λ f. IsFileUnder services_say f on.taken) frames_is is_file),
           is ∙ frames_count had.judged.frames on.taken reading.receiver had.judged.received had.judged.frames_are,
         );
         output = all_put start now (held_of reading.text) (text had.judged.frames) had.judged.way had.none_held;
@@ -102,7 +102,7 @@ file_ended text first left after start now reads later writes still printer read
 -- the input is cut short
 pub file_cut : (text : List Frame → List ℕ) (first left after start now : Option (List ℕ)) (reads later writes still : ℕ) (printer : Printer) (reading : Reading) (room : ℕ) (why : Stop)
     → IsUnderway first left start now printer reading room → Prints text [] printer → text [] ≡ [] → IsAtEnd left × Keeps left after → later ≡ reads → still ≡ writes
-    → ((bytes : List ℕ) → HasReceived bytes reading.receiver → IsUnoffending never bytes → EndsAt bytes reading.receiver (Err why))
+    → ((bytes : List ℕ) → HasReceived bytes reading.receiver → IsUnoffending services_say bytes → EndsAt bytes reading.receiver (Err why))
     → StopsEarly text (ends first reads start writes) (ends after later now still) (stop_status why)
 file_cut text first left after start now reads later writes still printer reading room (stop.Refused refusal) on prints none (ended, keeps) steady same file =
     let had = on.put_all text prints none in

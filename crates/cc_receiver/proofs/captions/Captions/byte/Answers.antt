@@ -1,22 +1,24 @@
-use Rattle.std.proofs.Common.{◌∙◌, Option, Some, None, sym, subst}
+use Rattle.std.proofs.Common.{◌∙◌, Option, sym, subst}
 use Rattle.cdp_packets.specs.declared.reader.CdpReader.{CdpReader}
-use Rattle.words_files.specs.Catching.{never, taken}
+use Rattle.words_files.specs.Catching.{taken}
+use Rattle.services_files.specs.Services.{services_say}
 use Rattle.cc_receiver.specs.Catchers.{KeepsOpen}
-use Rattle.cc_receiver.proofs.ByteLemmas.{FeedsByte, goes, kept_going, kept_stopped, stops}
+use Rattle.cc_receiver.proofs.ByteLemmas.{FeedsByte, goes, kept_going}
 use Rattle.cc_receiver.proofs.captions.Captions.byte.Goals as goal
 
-pub returns-in-Ok : goal.returns-in-Ok
-returns-in-Ok c = λ caught keeps none.
-    let kept = subst (λ (o : Option CdpReader). KeepsOpen caught.open_caption o c.args.self.now.gathered) c.in-Some.is (keeps.is_open (sym keeps.refused ∙ none)) in
-    let fed : FeedsByte c.args.byte None c.in-Some.reader c.feed.new.self c.args.self.now.gathered c.feed.new.up =
-    record { answer_is = c.in-Ok.ensures.answer; handed = c.feed.ensures.handed; leads = c.in-Ok.ensures.leads } in
-    let next = goes caught.open_caption caught c.args.byte c.in-Some.reader c.feed.new.self c.args.self.now.gathered c.feed.new.up kept fed (sym keeps.refused ∙ none) in
-    kept_going caught (taken never c.args.byte caught) c.args.self.now c.feed.new.self c.feed.new.up keeps none next
-
-pub returns-in-Err : goal.returns-in-Err
-returns-in-Err c = λ caught keeps none.
-    let kept = subst (λ (o : Option CdpReader). KeepsOpen caught.open_caption o c.args.self.now.gathered) c.in-Some.is (keeps.is_open (sym keeps.refused ∙ none)) in
-    let fed : FeedsByte c.args.byte (Some c.in-Err.refusal) c.in-Some.reader c.feed.new.self c.args.self.now.gathered c.feed.new.up =
-    record { answer_is = c.in-Err.ensures.answer; handed = c.feed.ensures.handed; leads = c.in-Err.ensures.leads } in
-    let next = stops caught.open_caption caught c.args.byte c.in-Err.refusal c.in-Some.reader c.feed.new.self c.args.self.now.gathered c.feed.new.up kept fed in
-    kept_stopped caught (taken never c.args.byte caught) c.args.self.now c.feed.new.self c.feed.new.up c.in-Err.refusal.why keeps next
+pub returns-in-Some : goal.returns-in-Some
+returns-in-Some c = λ caught keeps none.
+    let fine = sym keeps.refused ∙ none in
+    let kept = subst (λ (o : Option CdpReader). KeepsOpen caught.open_caption o c.args.self.now.gathered) c.in-Some.is (keeps.is_open fine) in
+    let fed : FeedsByte c.args.byte c.take_step-self.result c.in-Some.reader c.step-step.new.self c.args.self.now.gathered c.take_step-self.new.frame
+    c.args.self.now.judging c.take_step-self.new.judging = record {
+      step = c.step-step.result;
+      says = c.step-step.ensures.says;
+      leads = c.step-step.ensures.leads;
+      why = c.take_step-self.ensures.why;
+      gathered = c.take_step-self.ensures.gathered;
+      tried = c.take_step-self.ensures.tried;
+    } in
+    kept_going caught (taken services_say c.args.byte caught) c.args.self.now c.take_step-self.result c.step-step.new.self c.take_step-self.new.frame c.take_step-self.new.judging keeps
+    (goes caught.open_caption caught c.args.byte c.take_step-self.result c.in-Some.reader c.step-step.new.self c.args.self.now.gathered c.take_step-self.new.frame
+    c.args.self.now.judging c.take_step-self.new.judging kept (keeps.judges fine) fed fine)

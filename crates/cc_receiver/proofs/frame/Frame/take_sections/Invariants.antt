@@ -10,7 +10,7 @@ use Rattle.cc_receiver.proofs.frame.Frame.take_sections.Given as goal
 abbrev pub invariant-loop-section : goal.invariant-loop-section
 invariant-loop-section l =
     (gathered : Gathered) (cut : List (List ℕ)) → AreSections cut → concat cut ≡ l.sections → Holds gathered l.fn.self
-    → IsOnTheWay (with_all (flat_map section_triplets cut) gathered) l.rest l.self
+    → IsOnTheWay (flat_map section_triplets cut) l.rest (λ ts. Holds (with_all ts gathered) l.self)
 
 abbrev pub decreases-loop-section : goal.decreases-loop-section
 decreases-loop-section l = length l.rest
