@@ -68,8 +68,8 @@ built_file rate columns n carried =
             strays = [];
             stretches = [];
             spelled = quiet_packets rate columns carried.room 0 n;
-            before = refl;
-            are = refl;
+            strays_are = refl;
+            stretches_are = refl;
             packets_are = refl;
           };
           blocks_are = tt;
