@@ -2,6 +2,7 @@
 use Rattle.std.proofs.Common.{◌≡◌, ℕ, ◌+◌, ◌-◌, ◌<◌, ◌≤◌, ◌==◌, ◌||◌, nat_lt, min, Bool, true, false, if◌then◌else◌, List, [], ◌∷◌, ◌++◌, Option, Some, None, append_assoc, append-nil, get_or, length, refl, take, take_at, sym, ap, subst, ◌∙◌, arith, zero, suc}
 use Rattle.std.proofs.Math.ListN.{set}
 use Rattle.std.proofs.lemmas.Bool.Decides.{nat_tests}
+use Rattle.std.proofs.lemmas.Grind.{common_steps}
 use Rattle.std.proofs.lemmas.Option.{same_Some, slice_get_read, slice_get_within}
 use Rattle.std.specs.List.{slice_get}
 use Rattle.cc_base.specs.declared.rate.Rate.{Rate}
@@ -14,9 +15,10 @@ use Rattle.dtvcc_screen.specs.Screens.{ScreenState}
 use Rattle.dtvcc_screen.specs.Shown.{LooksSame, grids}
 use Rattle.dtvcc_screen.proofs.MeaningLemmas.{after_more}
 use Rattle.dtvcc_services.specs.declared.members.Member.{Member}
+use Rattle.dtvcc_services.specs.declared.services.Services.{Services}
 use Rattle.dtvcc_services.specs.Filling.{is_filled, is_filled_by}
 use Rattle.dtvcc_services.specs.Numbers.{IsFirst, IsLowest, IsService}
-use Rattle.dtvcc_services.specs.Objects.{Events, LeadTo, Serves, screen_at, served, served_now}
+use Rattle.dtvcc_services.specs.Objects.{Events, LeadTo, Leads, Serves, screen_at, served, served_now}
 use Rattle.dtvcc_services.specs.Passing.{HaveStepped, least_with}
 use Rattle.dtvcc_services.proofs.PassLemmas.{clean_waits, least_first, least_second}
 use Rattle.dtvcc_services.proofs.PlaceLemmas.{set_other, set_same, some_at}
@@ -370,3 +372,58 @@ pub written_back : (before frame : Events) (members rest : List Member) (count :
     → LeadTo before frame (take count (members ++ rest)) now next touched filled
 written_back before frame members rest count now next touched filled is leads =
     subst (λ (list : List Member). LeadTo before frame list now next touched filled) (sym (take_at members rest count is)) leads
+
+-- events that are the same for each service lead to the same
+lowest_alike : (test other : ℕ → Bool) (found : Option ℕ) → ((service : ℕ) → IsService service → other service ≡ test service)
+    → IsLowest test found → IsLowest other found
+lowest_alike test other None same lowest = λ service is. same service is ∙ lowest service is
+lowest_alike test other (Some found) same lowest = record {
+  is = lowest.is;
+  holds = same found lowest.is ∙ lowest.holds;
+  below = λ service from less.
+      same service (record { from = from; to = let most = lowest.is.to in omega (arith, less, most) }) ∙ lowest.below service from less;
+}
+
+leads_same : (before frame before_too frame_too : Events) (members : List Member) (now : Clock) (next : ℕ) (touched : Bool) (filled : Option ℕ)
+    → length members ≡ 63 → ((service : ℕ) → IsService service → before_too service ≡ before service)
+    → ((service : ℕ) → IsService service → frame_too service ≡ frame service)
+    → LeadTo before frame members now next touched filled → LeadTo before_too frame_too members now next touched filled
+leads_same before frame before_too frame_too members now next touched filled count before_is frame_is leads = record {
+  serves = λ place member here.
+      subst (λ (events : List Event). Serves events now member.core) (sym (both (place + 1) (is_place place member here))) (leads.serves place member here);
+  waits = leads.waits;
+  same = λ none service is id.
+      ap (λ (events : List Event). grids (screen_at (after start events)) id) (both service is)
+      ∙ leads.same none service is id
+      ∙ sym (ap (λ (events : List Event). grids (screen_at (after start events)) id) (before_is service is));
+  lowest = lowest_alike (λ service. is_filled (served before service) (frame service))
+      (λ service. is_filled (served before_too service) (frame_too service)) filled
+      (λ service is. ap (λ (events : List Event). is_filled (after start events) (frame_too service)) (before_is service is)
+      ∙ ap (is_filled (served before service)) (frame_is service is)) leads.lowest;
+} where
+  both : (service : ℕ) → IsService service → before_too service ++ frame_too service ≡ before service ++ frame service
+  both service is =
+      ap (λ (events : List Event). events ++ frame_too service) (before_is service is)
+      ∙ ap (λ (events : List Event). before service ++ events) (frame_is service is)
+
+  is_place : (place : ℕ) (member : Member) → slice_get members place ≡ Some member → IsService (place + 1)
+  is_place place member here =
+      let within = slice_get_within members place member here in
+      record { from = omega arith; to = omega (arith, count, within) }
+
+pub leads_alike : (before frame before_too frame_too : Events) (services : Services)
+    → ((service : ℕ) → IsService service → before_too service ≡ before service)
+    → ((service : ℕ) → IsService service → frame_too service ≡ frame service)
+    → Leads before frame services → Leads before_too frame_too services
+leads_alike before frame before_too frame_too services before_is frame_is leads =
+    let known = services.count in
+    let count : length services.members.items ≡ 63 = grind (arith, common_steps) in
+    leads_same before frame before_too frame_too services.members.items services.clock services.next services.touched services.filled count
+    before_is frame_is leads
+
+-- a byte of no service is nothing
+pub byte_of_none : (before frame : Events) (services : Services) (service byte : ℕ) → (IsService service → ⊥) → Leads before frame services
+    → Leads before (with_byte service byte frame) services
+byte_of_none before frame services service byte none leads =
+    leads_alike before frame before (with_byte service byte frame) services (λ s is. refl)
+    (λ s is. byte_other service byte frame s (λ same. none (subst IsService (sym same) is))) leads

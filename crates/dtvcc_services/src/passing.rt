@@ -1,4 +1,4 @@
-ghost use Rattle.std.specs.Prelude.{◌≡◌, ◌+◌, ◌<◌, ◌^◌, ◌||◌, ℕ, if◌then◌else◌, Some};
+ghost use Rattle.std.specs.Prelude.{◌≡◌, ◌+◌, ◌<◌, ◌^◌, ◌||◌, ℕ, true, false, if◌then◌else◌, Some};
 ghost use Rattle.dtvcc_screen.specs.Cores.{after_tick, clean};
 ghost use Rattle.dtvcc_services.specs.Numbers.{IsService};
 ghost use Rattle.dtvcc_services.specs.Passing.{HaveStepped, NoneEndsBefore, least_with};
@@ -13,6 +13,14 @@ pub(crate) struct Passed {
     pub(crate) next: u64,
     /// Something that is shown may have changed.
     pub(crate) seen: bool,
+}
+
+/// Whether a number is that of a service.
+pub(crate) fn is_service(number: u8) -> bool
+    ensures yes { result ≡ true → IsService number }
+    ensures no { result ≡ false → IsService number → ⊥ }
+{
+    matches!(number, 1..=63)
 }
 
 /// The place of a service among all.

@@ -1,7 +1,7 @@
 ghost use Rattle.std.specs.Prelude.{◌≡◌, vec_len};
 
 use crate::members::Member;
-use crate::passing::{earlier, either, lowest, pass, place, reset_all};
+use crate::passing::{earlier, either, is_service, lowest, pass, place, reset_all};
 use cc_base::Rate;
 use dtvcc_screen::Clock;
 use dtvcc_windows::Window;
@@ -72,10 +72,21 @@ impl Services {
         self.filled = None;
     }
 
-    /// A service takes its next byte of the present frame.
+    /// A service takes its next byte of the present frame. A byte of a service that isn't one of 1 to 63 changes nothing.
     pub fn byte(&mut self, service: u8, byte: u8)
+        requires { frames_of self.old < 2 ^ 32 }
+        ensures leads { (before frame : Events) → Leads before frame self.old
+            → Leads before (λ other. frame other ++ (if service == other then Byte byte ∷ [] else [])) self.new }
+        ensures frames { frames_of self.new ≡ frames_of self.old }
+    {
+        if is_service(service) {
+            self.take(service, byte);
+        }
+    }
+
+    // One of the services takes a byte.
+    fn take(&mut self, service: u8, byte: u8)
         requires service { IsService service }
-        requires some_frame { 1 ≤ frames_of self.old }
         requires frames { frames_of self.old < 2 ^ 32 }
         ensures leads { (before frame : Events) → Leads before frame self.old
             → Leads before (λ other. frame other ++ (if service == other then Byte byte ∷ [] else [])) self.new }
@@ -99,6 +110,13 @@ impl Services {
         let seen = reset_all(&mut self.members);
         self.next = u64::MAX;
         self.touched = either(self.touched, seen);
+    }
+
+    /// The number of frames that the services were told of.
+    pub fn frames(&self) -> u64
+        ensures { result ≡ frames_of self.now }
+    {
+        self.clock.ticks
     }
 
     /// The window of an id below 8 of a service, where there is one.
