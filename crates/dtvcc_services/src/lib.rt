@@ -7,3 +7,6 @@ mod passing;
 mod services;
 
 pub use services::Services;
+
+#[cfg(test)]
+mod tests;

@@ -1,0 +1,31 @@
+use Rattle.std.proofs.Common.{◌≡◌, ◌++◌, ◌∙◌, [], encode_utf8, refl, sym, append_assoc, true}
+use Rattle.std.proofs.lemmas.List.{append-nil, at_drop_all}
+use Rattle.window_texts.specs.Alike.{written_alike}
+use Rattle.window_texts.specs.Runs.{front_text}
+use Rattle.window_texts.proofs.TextLemmas.{front_done, front_more, front_stop, holds_same}
+use Rattle.window_texts.proofs.text.WindowText.front.Goals as goal
+
+pub loop-cell-init : goal.loop-cell-init
+loop-cell-init c before holds = ([], holds_same _ _ c.args.self.now (sym (append-nil before)) holds, refl)
+
+pub loop-cell-preserved : goal.loop-cell-preserved
+loop-cell-preserved c before holds =
+    let (done, so_far, is) = c.loop-cell.invariant before holds in
+    let same : written_alike c.args.first c.in-Some.cell ≡ true = sym c.written_alike.ensures ∙ c.if-written_alike.true in
+    let next = front_more c.args.first c.args.cells.now c.loop-cell.cell-index c.in-Some.cell c.loop-cell-test.true c.in-Some.is same in (
+      done ++ encode_utf8 c.in-Some.cell.ch,
+      holds_same _ _ c.character.new.self (append_assoc before done (encode_utf8 c.in-Some.cell.ch)) (c.character.ensures (before ++ done) so_far),
+      append_assoc done (encode_utf8 c.in-Some.cell.ch) _ ∙ (rw next at is),
+    )
+
+pub returns-in_default : goal.returns-in_default
+returns-in_default c before holds =
+    let (done, so_far, is) = c.loop-cell.invariant before holds in
+    front_done c.args.first c.args.cells.now c.loop-cell.cell-index before done c.loop-cell.self
+    (front_stop c.args.first c.args.cells.now c.loop-cell.cell-index c.loop-cell-test.true (rw c.in-Some.is (sym c.written_alike.ensures ∙ c.if-written_alike.false))) so_far is
+
+pub returns : goal.returns
+returns c before holds =
+    let (done, so_far, is) = c.loop-cell.invariant before holds in
+    front_done c.args.first c.args.cells.now c.loop-cell.cell-index before done c.loop-cell.self
+    (at_drop_all (front_text c.args.first) c.args.cells.now c.loop-cell.cell-index c.loop-cell-test.false) so_far is

@@ -1,0 +1,5 @@
+pub mod Alike
+pub mod Runs
+pub mod WindowTexts
+pub mod Objects
+pub mod Examples

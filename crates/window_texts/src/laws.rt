@@ -1,0 +1,11 @@
+//! Worked examples of the definitions, as laws: functions without a body, whose contract is the example.
+
+ghost use Rattle.std.specs.Prelude.{◌≡◌, codes};
+ghost use Rattle.window_texts.specs.Examples.{hello, no_service};
+ghost use Rattle.window_texts.specs.WindowTexts.{service_text};
+
+/// The text of service 1 where its window 0 has one row of ten columns with HELLO in it, and of service 63 without a window.
+pub fn a_window_is_printed()
+    ensures hello { service_text 1 hello ≡ codes "S1 1\nW0 at 0 60 50 0 size 1 10 lock 1 1 pri 0 attr 0 0 3 0 0 0 0 fill 0000 border 0000 runs 1\n0 0 1 0 0 1 0 0 0 0222 0000 000 HELLO\n" }
+    ensures none { service_text 63 no_service ≡ codes "S63 0\n" }
+{}
