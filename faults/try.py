@@ -278,6 +278,8 @@ def commands():
     words, silent = built(hello), built(b"ccsuite,1,29.97,3\n")
     foreign = bytes.fromhex("000003FF03FF01610102010102000164")
     mixed = foreign + silent[:160] + foreign * 2 + silent[160:]
+    # The header of a service block, in the second byte of its triplet, passes the channel packet.
+    overrun = silent[:42] + bytes.fromhex("02FF0102012001FE0222") + silent[52:160]
     flagged = silent[:320] + b"\x00\x01" + silent[322:]
     lists = [
         (dense, 8, b"no room: cue 1\n"), (clash, 7, b"rule Clash: cue 1\n"), (wrong, 6, b"malformed at record 3 field 5: NoCode\n"),
@@ -289,7 +291,8 @@ def commands():
     decode = ["decode"]
     yield "decode", [
         Case(decode, words), Case(decode, mixed), Case(decode, b""), Case(decode, words[:900], 6, b"malformed at byte 900: Truncated\n"),
-        Case(decode, flagged, 6, b"malformed at byte 320: Flag\n"), Case(decode, example("damaged.words"), 6, b"malformed at byte 1628: Count\n"),
+        Case(decode, overrun, 6, b"malformed at byte 50: Overrun\n"), Case(decode, flagged, 6, b"malformed at byte 320: Flag\n"),
+        Case(decode, example("damaged.words"), 6, b"malformed at byte 1628: Count\n"),
     ], [80, 160, 4000]
     yield "decode a byte at a time", [Case(decode, mixed)], [1, 2, 159]
     yield "show", [
