@@ -1,5 +1,5 @@
 -- Lists as literals, whose authored grids are worked out by hand.
-use Rattle.std.specs.Prelude.{ℕ, false, List, [], ◌∷◌, Option, Some}
+use Rattle.std.specs.Prelude.{ℕ, false, List, [], ◌∷◌, Option, Some, None}
 use Rattle.line21_codes.specs.declared.channels.Chan.TheVariants as chan
 use Rattle.line21_codes.specs.declared.styles.Cell.{Cell}
 use Rattle.line21_codes.specs.declared.styles.Colour.TheVariants as colour
@@ -19,6 +19,7 @@ red_hi = record {
     col = 2;
     pen = pen.Line21 (record { colour = colour.Red; italic = false; underline = false });
     text = 72 ∷ 73 ∷ [];
+    colors = None;
   } ∷ [];
 } ∷ []
 

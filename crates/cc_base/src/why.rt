@@ -61,6 +61,8 @@ pub enum Why {
     Share,
     /// A cue ends past the last frame.
     PastEnd,
+    /// A line 21 cue is shown or hidden in a frame in which its field has no slot.
+    OffSlot,
     /// A packet's counter isn't the one before plus 1 modulo 65536.
     CounterJump,
     /// A packet hasn't its rate's number of triplets.
@@ -76,8 +78,8 @@ pub enum Why {
 }
 
 impl Why {
-    /// The reason's number: 1 to 13 for words and packets, 14 to 17 for SCC files, 19 to 29 for cue lists and their
-    /// rules, 40 to 45 for findings.
+    /// The reason's number: 1 to 13 for words and packets, 14 to 17 for SCC files, 19 to 29 and 31 for cue lists and
+    /// their rules, 40 to 45 for findings.
     pub fn number(self) -> u8
         ensures { result ≡ number_of self }
     {
@@ -110,6 +112,7 @@ impl Why {
             Why::DelayCovers => 27,
             Why::Share => 28,
             Why::PastEnd => 29,
+            Why::OffSlot => 31,
             Why::CounterJump => 40,
             Why::WrongCount => 41,
             Why::BufferFull => 42,
@@ -152,6 +155,7 @@ impl Why {
             Why::DelayCovers => "DelayCovers",
             Why::Share => "Share",
             Why::PastEnd => "PastEnd",
+            Why::OffSlot => "OffSlot",
             Why::CounterJump => "CounterJump",
             Why::WrongCount => "WrongCount",
             Why::BufferFull => "BufferFull",

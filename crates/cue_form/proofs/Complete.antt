@@ -6,6 +6,7 @@ use Rattle.std.proofs.lemmas.List.Elements.{All-head, All-tail}
 use Rattle.std.proofs.lemmas.Str.{chars-encodes, is_utf8-from_IsUtf8, length-le-encodes}
 use Rattle.line21_codes.specs.Spellings.{spelling_of}
 use Rattle.line21_codes.specs.declared.channels.Chan.{Chan}
+use Rattle.dtvcc_codes.specs.declared.pens.PenColors.{PenColors}
 use Rattle.cue_form.specs.Begun.{Begun, IsCueBegun, awaits_run, cue_with_run, no_runs, nothing}
 use Rattle.cue_types.specs.Cues.{IsCueFormed, IsOfKind}
 use Rattle.cue_form.specs.Form.{suits_row}
@@ -38,17 +39,18 @@ line21_text-encode col text some fits coded =
     rw (is_utf8-from_IsUtf8 (encode_utf8_all text) utf8, bytes, chars-encodes text scalars, coded_tests text coded, le-leb (col + length text) 32 fits) refl
 
 -- a run's record is read
-run_of-parts : (cue : Cue) (row col : ℕ) (p : Pen) (text : List ℕ) → IsLine21Run (record { row = row; col = col; pen = p; text = text }) → suits_row cue.kind cue.runs row ≡ true
-    → run_of cue (run_record (record { row = row; col = col; pen = p; text = text })) ≡ Ok (record { row = row; col = col; pen = p; text = text })
-run_of-parts cue row col (pen.Line21 style) text formed suits =
+run_of-parts : (cue : Cue) (row col : ℕ) (p : Pen) (text : List ℕ) (c : Option PenColors) → IsLine21Run (record { row = row; col = col; pen = p; text = text; colors = c }) → suits_row cue.kind cue.runs row ≡ true
+    → run_of cue (run_record (record { row = row; col = col; pen = p; text = text; colors = c })) ≡ Ok (record { row = row; col = col; pen = p; text = text; colors = c })
+run_of-parts cue row col (pen.Line21 style) text c formed suits =
     rw (
       number_within-decimal 1 15 row formed.row.0 formed.row.1 (omega arith),
       suits,
       number_within-decimal 0 31 col (omega arith) formed.col (omega arith),
       pen_field-pen_word style.colour style.italic style.underline formed.pen,
       line21_text-encode col text formed.some formed.fits formed.coded,
+      formed.colors,
     ) refl
-run_of-parts cue row col (pen.Dtv italic underline) text formed suits = absurd formed.pen
+run_of-parts cue row col (pen.Dtv italic underline) text c formed suits = absurd formed.pen
 
 -- a begun list without shares
 abbrev pub begun_of : Option Head → List Cue → Option Cue → Begun
@@ -63,7 +65,7 @@ head_read head rest rated some few =
 -- a run of the last cue is read
 next_run : (head : Option Head) (earlier : List Cue) (cue : Cue) (run : Run) → IsLine21Run run → suits_row cue.kind cue.runs run.row ≡ true
     → next (begun_of head earlier (Some cue)) (run_record run) ≡ Ok (begun_of head earlier (Some (cue_with_run cue run)))
-next_run head earlier cue run formed suits = rw (run_of-parts cue run.row run.col run.pen run.text formed suits) refl
+next_run head earlier cue run formed suits = rw (run_of-parts cue run.row run.col run.pen run.text run.colors formed suits) refl
 
 -- an element between others
 All-middle : {X : Type 0} (P : X → Type 0) (before : List X) (x : X) (after : List X) → All P (before ++ x ∷ after) → P x

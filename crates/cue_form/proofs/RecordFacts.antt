@@ -2,9 +2,9 @@
 use Rattle.std.proofs.Common.{◌≡◌, ◌<◌, ◌≤◌, ◌==◌, ◌^◌, true, nat_le, [], ◌∷◌, length, ℕ, codes, bytes_eq, encode_utf8_all, Option, Some, None, Ok, refl, ◌∙◌, arith, eqb-true, leb-true}
 use Rattle.std.proofs.lemmas.List.Elements.{All-nil}
 use Rattle.cue_form.specs.Begun.{IsCueBegun}
+use Rattle.cue_types.specs.Listing.{IsListRate}
 use Rattle.cue_types.specs.Cues.{IsFrameOrNone}
 use Rattle.cue_types.specs.Line21Cues.{IsAuthoredChannel, IsLine21Run, IsRolled}
-use Rattle.cue_types.specs.Listing.{IsListRate}
 use Rattle.cue_form.specs.Fields.{channel_field, frame_field, number_field, number_within, pen_field, rate_field}
 use Rattle.cue_form.specs.Form.{frame_or_none_field, suits_row}
 use Rattle.cue_form.specs.Reading.{cue_of, head_of, rolled_cue_of, run_of, shown_cue, shown_of, line21_text}
@@ -223,13 +223,13 @@ run_passed cue r run e =
     let e5 = rw is_pen at e4 in
     with_part _ (line21_text col (field r 4)) (λ error failed. let q = rw failed at e5 in cc) (λ text is_text.
     let e6 = rw is_text at e5 in
-    let same : record { row = row; col = col; pen = pen.Line21 style; text = text } ≡ run = cc in
+    let same : record { row = row; col = col; pen = pen.Line21 style; text = text; colors = None } ≡ run = cc in
     let at_row = within_passed 1 15 (field r 1) row is_row in
     let at_col = within_passed 0 31 (field r 2) col is_col in
     let at_pen = pen_passed (field r 3) style is_pen in
     let at_text = text_passed col (field r 4) text is_text in
     rw (← same) (record {
-      formed = record { row = (at_row.1, at_row.2); col = at_col.2; pen = at_pen.0; some = at_text.some; fits = at_text.fits; coded = at_text.coded };
+      formed = record { row = (at_row.1, at_row.2); col = at_col.2; pen = at_pen.0; some = at_text.some; fits = at_text.fits; coded = at_text.coded; colors = refl };
       suits = suits;
       fields = λ word is. five_fields r count ∙ rw (is, at_row.0, at_col.0, at_pen.1, at_text.spelled) refl;
     })))))

@@ -1,10 +1,10 @@
 -- A list that was read: its records spell it, and this version authors it.
-use Rattle.std.proofs.Common.{◌≡◌, ℕ, ◌+◌, is_none, List, [], ◌∷◌, ◌++◌, map, true, false, Option, Some, None, Ok, refl, sym, ap, ◌∙◌, append_assoc}
+use Rattle.std.proofs.Common.{◌≡◌, ℕ, ◌+◌, List, [], ◌∷◌, ◌++◌, map, true, false, Option, Some, None, Ok, refl, sym, ap, ◌∙◌, append_assoc}
 use Rattle.std.specs.List.{flat_map}
 use Rattle.std.proofs.lemmas.Grind.{flat_map-append}
 use Rattle.std.proofs.lemmas.List.{append-nil, map-append}
 use Rattle.std.proofs.lemmas.List.Elements.{All-nil, All-pop, All-push}
-use Rattle.cue_form.specs.Begun.{Begun, IsBegun, IsHeadOrNothing, awaits_run, cue_with_run, cues_of, nothing, with_cue}
+use Rattle.cue_form.specs.Begun.{Begun, IsBegun, awaits_run, cue_with_run, cues_of, nothing, with_cue}
 use Rattle.cue_types.specs.Listing.{Listing}
 use Rattle.cue_form.specs.Form.{may_stand, record_kind_of}
 use Rattle.cue_form.specs.Reading.{adds, head_of, list_of, next, opens, read_from, run_of}
@@ -21,7 +21,7 @@ use Rattle.cue_form.specs.declared.record_kind.RecordKind.{RecordKind}
 use Rattle.cue_form.specs.declared.record_kind.RecordKind.TheVariants as record_kind
 use Rattle.cue_form.proofs.Passing.{denied, with_part, with_value}
 use Rattle.cue_form.proofs.RecordFacts.{head_passed, run_passed}
-use Rattle.cue_form.proofs.Steps.{IsBegun-next, IsBegun-nothing, IsFormed-list_ended, next_passed, opens_passed}
+use Rattle.cue_form.proofs.Steps.{nothing_before, IsBegun-next, IsBegun-nothing, IsFormed-list_ended, next_passed, opens_passed}
 use Rattle.cue_form.proofs.WordFacts.{kind_passed}
 
 -- what one element more adds at the end
@@ -53,10 +53,6 @@ begun_records-with_run b cue run last =
     ∙ (sym (append_assoc (h ++ (s ++ flat_map cue_records b.earlier)) (cue_records cue) (run_record run ∷ [])) ∙ ap (λ rs. rs ++ run_record run ∷ []) (sym old)))
 
 -- the head comes first
-nothing_before : (b : Begun) (head : Option Head) → is_none head ≡ true → IsHeadOrNothing b head → b ≡ nothing
-nothing_before b None none begun = begun
-nothing_before b (Some head) none begun = cc
-
 begun_records-with_head : (b : Begun) (head : Head) → b ≡ nothing → begun_records (record b { head = Some head }) ≡ begun_records b ++ head_record head ∷ []
 begun_records-with_head b head none = rw none refl
 

@@ -1,11 +1,13 @@
 -- From record to record: what a begun list keeps, and the records that spell it.
-use Rattle.std.proofs.Common.{◌≡◌, ℕ, ◌≤◌, ◌==◌, ◌&&◌, not, nat_lt, nat_le, if◌then◌else◌, is_some, List, [], ◌∷◌, ◌++◌, true, false, length, All, Option, Some, None, option_to_list, Ok, arith, refl, ap, length-append, ltb-true, leb-true, eqb-true}
+use Rattle.std.proofs.Common.{◌≡◌, ℕ, ◌≤◌, ◌==◌, ◌&&◌, not, nat_lt, nat_le, if◌then◌else◌, is_some, is_none, List, [], ◌∷◌, ◌++◌, true, false, length, All, Option, Some, None, option_to_list, Ok, arith, refl, sym, ap, subst, length-append, ltb-true, leb-true, eqb-true}
 use Rattle.std.proofs.lemmas.List.{append-nil}
 use Rattle.std.proofs.lemmas.List.Elements.{All-cons, All-nil, All-push}
 use Rattle.cue_form.specs.Begun.{Begun, IsBegun, IsCueBegun, IsHeadOrNothing, IsLastOrNone, awaits_run, cue_with_run, cues_of, no_runs, nothing, with_cue}
 use Rattle.cue_types.specs.Cues.{IsCueFormed, IsOfKind}
 use Rattle.cue_types.specs.Line21Cues.{IsLine21Run, IsRolled, base_row}
-use Rattle.cue_types.specs.Listing.{IsFormed}
+use Rattle.cue_types.specs.Listing.{IsFormed, IsListRate, most_frames}
+use Rattle.cue_types.specs.Shares.{AreShares}
+use Rattle.cc_base.specs.declared.rate.Rate.{Rate}
 use Rattle.cue_form.specs.Form.{may_stand, record_kind_of, suits_row}
 use Rattle.cue_form.specs.Reading.{adds, cue_of, head_of, next, opens, run_of}
 use Rattle.cue_form.specs.Records.{Record, field}
@@ -24,7 +26,6 @@ use Rattle.cue_form.proofs.RecordFacts.{CuePassed, cue_passed, head_passed, run_
 pub IsBegun-nothing : IsBegun nothing
 IsBegun-nothing = record {
   head = refl;
-  shares = record { each = λ k d h. absurd (omega arith); once = λ i j d h k. absurd (omega arith); fits = omega arith };
   earlier = λ k d h. absurd (omega arith);
   last = refl;
   few = omega arith;
@@ -46,17 +47,21 @@ formed_with_last earlier (Some cue) formed begun e = All-push IsCueFormed earlie
 all_formed : (b : Begun) → IsBegun b → awaits_run b.last ≡ false → All IsCueFormed (cues_of b)
 all_formed b begun e = formed_with_last b.earlier b.last begun.earlier begun.last e
 
+-- a list without shares keeps within the room of any rate
+pub AreShares-nil : (r : Rate) → AreShares r []
+AreShares-nil r = record { each = λ k d h. absurd (omega arith); once = λ i j d h k. absurd (omega arith); fits = omega arith }
+
 -- a begun list that has a head, and a run in its last cue, is a cue list
 pub IsFormed-list_ended : (b : Begun) (head : Head) → IsBegun b → b.head ≡ Some head → awaits_run b.last ≡ false
     → IsFormed (record { rate = head.rate; frames = head.frames; shares = b.shares; cues = cues_of b })
 IsFormed-list_ended b head begun headed full =
-    let (rate, some, frames) = rw headed at begun.head in
-    record { rate = rate; some = some; frames = frames; shares = begun.shares; few = begun.few; cues = all_formed b begun full }
+    let (rated, some, frames, shares) = rw headed at begun.head in
+    record { rate = rated; some = some; frames = frames; shares = shares; few = begun.few; cues = all_formed b begun full }
 
 -- a head stays
-kept_head : (b more : Begun) (head : Option Head) → is_some head ≡ true → IsHeadOrNothing b head → IsHeadOrNothing more head
-kept_head b more None some begun = cc
-kept_head b more (Some head) some begun = begun
+kept_head : (b more : Begun) (head : Option Head) → b.shares ≡ more.shares → is_some head ≡ true → IsHeadOrNothing b head → IsHeadOrNothing more head
+kept_head b more None same some begun = cc
+kept_head b more (Some head) same some begun = subst (λ shares. IsListRate head.rate × (1 ≤ head.frames) × (head.frames ≤ most_frames) × AreShares head.rate shares) same begun
 
 -- a list with a cue has a head
 headed_by_last : (b : Begun) (head : Option Head) (cue : Cue) → IsHeadOrNothing b head → b.last ≡ Some cue → is_some head ≡ true
@@ -68,8 +73,7 @@ pub IsBegun-with_cue : (b : Begun) (cue : Cue) → IsBegun b → is_some b.head 
 IsBegun-with_cue b cue begun headed full few new =
     let room = ltb-true (length (cues_of b)) 20000 few in
     record {
-      head = kept_head b (with_cue b cue) b.head headed begun.head;
-      shares = begun.shares;
+      head = kept_head b (with_cue b cue) b.head refl headed begun.head;
       earlier = all_formed b begun full;
       last = new;
       few = rw length-append (omega arith);
@@ -102,8 +106,7 @@ IsBegun-with_run b cue run begun last formed suits =
     let open_cue : IsCueBegun cue = rw last at begun.last in
     let few : length (b.earlier ++ cue ∷ []) ≤ 20000 = rw last at begun.few in
     record {
-      head = kept_head b (record b { last = Some (cue_with_run cue run) }) b.head (headed_by_last b b.head cue begun.head last) begun.head;
-      shares = begun.shares;
+      head = kept_head b (record b { last = Some (cue_with_run cue run) }) b.head refl (headed_by_last b b.head cue begun.head last) begun.head;
       earlier = begun.earlier;
       last = record { load = open_cue.load; show = open_cue.show; hide = open_cue.hide; kind = IsOfKind-push cue.kind cue.hide cue.runs run open_cue.kind formed suits };
       few = rw length-append (rw length-append at few);
@@ -125,6 +128,11 @@ IsBegun-opens b more k r begun may taken =
     let (headed, full) = both_of (is_some b.head) (not (awaits_run b.last)) may in
     opens_passed _ b more k r taken (λ cue few at same. rw (← same) (IsBegun-with_cue b cue begun headed (not_of (awaits_run b.last) full) few at.begun))
 
+-- the head comes first
+pub nothing_before : (b : Begun) (head : Option Head) → is_none head ≡ true → IsHeadOrNothing b head → b ≡ nothing
+nothing_before b None none begun = begun
+nothing_before b (Some head) none begun = cc
+
 -- a record of a kind more leaves a begun list
 IsBegun-adds : (b more : Begun) (k : RecordKind) (r : Record) → IsBegun b → may_stand b k ≡ true → is_built_kind k ≡ true → adds b k r ≡ Ok more → IsBegun more
 IsBegun-adds b more record_kind.Ccsuite r begun may built taken =
@@ -132,7 +140,8 @@ IsBegun-adds b more record_kind.Ccsuite r begun may built taken =
     let t1 = rw is_head at taken in
     let same : record b { head = Some head } ≡ more = cc in
     let at = head_passed r head is_head in
-    rw (← same) (record { head = (at.rate, at.some, at.frames); shares = begun.shares; earlier = begun.earlier; last = begun.last; few = begun.few }))
+    let none : b ≡ nothing = nothing_before b b.head may begun.head in
+    rw (← same) (record { head = (at.rate, at.some, at.frames, subst (λ c. AreShares head.rate c.shares) (sym none) (AreShares-nil head.rate)); earlier = begun.earlier; last = begun.last; few = begun.few }))
 IsBegun-adds b more record_kind.Pop r begun may built taken = IsBegun-opens b more record_kind.Pop r begun may taken
 IsBegun-adds b more record_kind.Paint r begun may built taken = IsBegun-opens b more record_kind.Paint r begun may taken
 IsBegun-adds b more record_kind.Roll r begun may built taken = IsBegun-opens b more record_kind.Roll r begun may taken

@@ -1,5 +1,5 @@
 -- Words in fields: a field is read as a rate, a channel or a pen exactly where it is its word.
-use Rattle.std.proofs.Common.{◌≡◌, ◌-◌, Bool, true, false, ◌++◌, length, take, drop, Some, codes, bytes_eq, refl, sym, ◌∙◌, inl, inr}
+use Rattle.std.proofs.Common.{◌≡◌, ◌-◌, Bool, true, false, ◌++◌, length, take, drop, List, [], ◌∷◌, Option, Some, subst, codes, bytes_eq, refl, sym, ◌∙◌, inl, inr}
 use Rattle.std.proofs.lemmas.Bool.{cases_Bool}
 use Rattle.std.proofs.lemmas.List.{append-nil, take-append-drop}
 use Rattle.std.proofs.lemmas.Slice.Eq.{bytes_eq-Decides}
@@ -10,7 +10,7 @@ use Rattle.line21_codes.specs.declared.channels.Chan.TheVariants as chan
 use Rattle.line21_codes.specs.declared.styles.Colour.{Colour}
 use Rattle.line21_codes.specs.declared.styles.Colour.TheVariants as colour
 use Rattle.line21_codes.specs.declared.styles.Style.{Style}
-use Rattle.cue_form.specs.Fields.{channel_field, pen_field, plain_pen_field, rate_field}
+use Rattle.cue_form.specs.Fields.{channel_field, named, pen_field, plain_pen_field, rate_field, rate_words}
 use Rattle.cue_types.specs.Line21Cues.{IsAuthoredChannel, IsLine21Pen}
 use Rattle.cue_types.specs.Listing.{IsListRate}
 use Rattle.cue_form.specs.Records.{Field}
@@ -24,15 +24,28 @@ use Rattle.cue_form.specs.declared.record_kind.RecordKind.TheVariants as record_
 pub is_word : (text word : Field) → bytes_eq text word ≡ true → text ≡ word
 is_word text word = (bytes_eq-Decides text word).0
 
+-- what holds of each entry of a table of words
+abbrev pub OfEntries : {A : Type 0} → (Field → A → Type 0) → List (Field × A) → Type 0
+OfEntries P [] = Unit {0}
+OfEntries P (entry ∷ table) = P entry.0 entry.1 × OfEntries P table
+
+-- holds of what a word names
+pub of_named : {A : Type 0} (P : Field → A → Type 0) (table : List (Field × A)) → OfEntries P table
+    → (text : Field) (value : A) → named table text ≡ Some value → P text value
+of_named P [] each text value e = cc
+of_named P (entry ∷ table) each text value e = elim (cases_Bool (bytes_eq text entry.0)) [
+  | inl is ↦
+      let q = rw is at e in
+      let same : entry.1 ≡ value = cc in
+      subst (P text) same (subst (λ word. P word entry.1) (sym (is_word text entry.0 is)) each.0)
+  | inr other ↦ let e1 = rw other at e in of_named P table each.1 text value e1
+]
+
 -- a rate
 pub rate_passed : (text : Field) (r : Rate) → rate_field text ≡ Some r → IsListRate r × (text ≡ rate_word r)
-rate_passed text r e = elim (cases_Bool (bytes_eq text (codes "29.97"))) [
-  | inl is ↦ let q = rw is at e in let same : rate.F2997 ≡ r = cc in rw (← same) (tt, is_word text _ is)
-  | inr other ↦ let e1 = rw other at e in elim (cases_Bool (bytes_eq text (codes "30"))) [
-    | inl is ↦ let q = rw is at e1 in let same : rate.F30 ≡ r = cc in rw (← same) (tt, is_word text _ is)
-    | inr other ↦ let q = rw other at e1 in cc
-  ]
-]
+rate_passed text r e =
+    of_named (λ text r. IsListRate r × (text ≡ rate_word r)) rate_words
+    ((tt, refl), ((tt, refl), ((tt, refl), ((tt, refl), tt)))) text r e
 
 -- a channel
 pub channel_passed : (text : Field) (c : Chan) → channel_field text ≡ Some c → IsAuthoredChannel c × (text ≡ channel_word c)

@@ -24,8 +24,8 @@ rate_field-rate_word rate.F23976 is = absurd is
 rate_field-rate_word rate.F24 is = absurd is
 rate_field-rate_word rate.F25 is = absurd is
 rate_field-rate_word rate.F50 is = absurd is
-rate_field-rate_word rate.F5994 is = absurd is
-rate_field-rate_word rate.F60 is = absurd is
+rate_field-rate_word rate.F5994 is = refl
+rate_field-rate_word rate.F60 is = refl
 
 -- a channel's word is read
 pub channel_field-channel_word : (c : Chan) → IsAuthoredChannel c → channel_field (channel_word c) ≡ Some c

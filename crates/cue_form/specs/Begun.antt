@@ -51,7 +51,7 @@ pub record IsCueBegun (cue : Cue) : Type 0 where
 -- a head in its ranges; a list without one has nothing else
 abbrev pub IsHeadOrNothing : Begun → Option Head → Type 0
 IsHeadOrNothing b None = b ≡ nothing
-IsHeadOrNothing b (Some head) = IsListRate head.rate × (1 ≤ head.frames) × (head.frames ≤ most_frames)
+IsHeadOrNothing b (Some head) = IsListRate head.rate × (1 ≤ head.frames) × (head.frames ≤ most_frames) × AreShares head.rate b.shares
 
 -- a last cue in its ranges; a list without one has no other
 abbrev pub IsLastOrNone : List Cue → Option Cue → Type 0
@@ -61,7 +61,6 @@ IsLastOrNone earlier (Some cue) = IsCueBegun cue
 -- what holds of every begun list
 pub record IsBegun (b : Begun) : Type 0 where
   pub head : IsHeadOrNothing b b.head
-  pub shares : AreShares b.shares
   pub earlier : All IsCueFormed b.earlier
   pub last : IsLastOrNone b.earlier b.last
   pub few : length (cues_of b) ≤ most_cues

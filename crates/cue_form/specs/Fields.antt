@@ -31,12 +31,18 @@ number_within low high text = option_and_then (λ n. if nat_le low n && nat_le n
 abbrev pub frame_field : Field → Option ℕ
 frame_field text = number_within 0 4294967295 text
 
--- a rate of lists: 29.97 or 30 frames a second
+-- what a word names in a table of words
+abbrev pub named : {A : Type 0} → List (Field × A) → Field → Option A
+named [] text = None
+named (entry ∷ table) text = if bytes_eq text entry.0 then Some entry.1 else named table text
+
+-- the rates of lists, each by its word
+abbrev pub rate_words : List (Field × Rate)
+rate_words = (codes "29.97", rate.F2997) ∷ (codes "30", rate.F30) ∷ (codes "59.94", rate.F5994) ∷ (codes "60", rate.F60) ∷ []
+
+-- a rate of lists
 abbrev pub rate_field : Field → Option Rate
-rate_field text =
-    if bytes_eq text (codes "29.97") then Some rate.F2997
-    else if bytes_eq text (codes "30") then Some rate.F30
-    else None
+rate_field text = named rate_words text
 
 -- a channel that cues are authored on
 abbrev pub channel_field : Field → Option Chan

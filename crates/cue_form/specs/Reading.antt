@@ -102,7 +102,7 @@ run_of cue r =
     (reads (number_within 0 31 (field r 2)) 3 (λ col.
     reads (pen_field (field r 3)) 4 (λ style.
     on_ok (line21_text col (field r 4)) (λ text.
-    Ok (record { row = row; col = col; pen = pen.Line21 style; text = text })))))))
+    Ok (record { row = row; col = col; pen = pen.Line21 style; text = text; colors = None })))))))
 
 -- the cue of a record of its kind
 abbrev pub cue_of : RecordKind → Record → Result Cue Offence

@@ -23,6 +23,8 @@ use Rattle.cue_types.specs.declared.list.Share.{Share}
 abbrev pub rate_word : Rate → Field
 rate_word rate.F2997 = codes "29.97"
 rate_word rate.F30 = codes "30"
+rate_word rate.F5994 = codes "59.94"
+rate_word rate.F60 = codes "60"
 rate_word _ = []
 
 -- the word of a channel

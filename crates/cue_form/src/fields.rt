@@ -65,7 +65,7 @@ pub fn read_frame(text: &[u8]) -> Option<u32>
     }
 }
 
-/// A rate of lists: 29.97 or 30 frames a second.
+/// A rate of lists: 29.97, 30, 59.94 or 60 frames a second.
 pub fn read_rate(text: &[u8]) -> Option<Rate>
     ensures { result ≡ rate_field text.now }
 {
@@ -73,6 +73,10 @@ pub fn read_rate(text: &[u8]) -> Option<Rate>
         Some(Rate::F2997)
     } else if is_word(text, "30") {
         Some(Rate::F30)
+    } else if is_word(text, "59.94") {
+        Some(Rate::F5994)
+    } else if is_word(text, "60") {
+        Some(Rate::F60)
     } else {
         None
     }

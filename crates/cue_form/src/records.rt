@@ -165,6 +165,7 @@ pub fn read_run(alloc: Global, cue: &Cue, row: &ByteRecord) -> Result<Run, Offen
         col: col as u8,
         pen: Pen::Line21(style),
         text,
+        colors: None,
     })
 }
 

@@ -176,6 +176,8 @@ fn rate_word(rate: Rate) -> &'static str
     match rate {
         Rate::F2997 => "29.97",
         Rate::F30 => "30",
+        Rate::F5994 => "59.94",
+        Rate::F60 => "60",
         _ => "",
     }
 }

@@ -95,7 +95,7 @@ pub reverse-cons : (cue : Cue) (earlier : List Cue) → reverse (cue ∷ earlier
 reverse-cons cue earlier = reverse-append (cue ∷ []) earlier
 
 -- the cues on a channel in the reverse order
-cues_on-reverse : (channel : Chan) (cues : List Cue) → cues_on channel (reverse cues) ≡ reverse (cues_on channel cues)
+pub cues_on-reverse : (channel : Chan) (cues : List Cue) → cues_on channel (reverse cues) ≡ reverse (cues_on channel cues)
 cues_on-reverse channel [] = refl
 cues_on-reverse channel (cue ∷ cues) =
     ap (cues_on channel) (reverse-cons cue cues)

@@ -1,7 +1,10 @@
 -- A cue on a channel of which the sentences hold has no fault.
-use Rattle.std.proofs.Common.{◌≡◌, ◌≢◌, ℕ, ◌+◌, ◌<◌, ◌≤◌, ◌==◌, ◌&&◌, ◌||◌, Bool, true, false, not, List, Option, Some, None, refl, ap, subst}
+use Rattle.std.proofs.Common.{◌≡◌, ℕ, ◌+◌, ◌*◌, ◌<◌, ◌≤◌, ◌==◌, ◌∙◌, ◌&&◌, ltb-true, ◌||◌, Bool, true, false, not, List, Option, Some, None, refl, ap, subst}
 use Rattle.std.specs.Prelude.{is_none, nat_le, nat_lt, MatchOption}
 use Rattle.cc_base.specs.Rate.{delay_frames_of}
+use Rattle.cc_base.specs.declared.rate.Rate.{Rate}
+use Rattle.line21_codes.specs.declared.channels.Chan.{Chan}
+use Rattle.cue_types.specs.Channels.{is_on}
 use Rattle.cue_types.specs.Line21Cues.{base_row, continues, same_roll}
 use Rattle.cue_types.specs.Listing.{Listing}
 use Rattle.cue_rules.specs.Rules.{fault_of}
@@ -13,17 +16,20 @@ use Rattle.cue_rules.specs.Rules.Former.{former_cue}
 use Rattle.cue_types.specs.Lane.{is_line21, is_paint, is_pop, is_roll, is_win}
 use Rattle.cue_rules.specs.Rules.Order.{order, loads_before_it_loads, loads_before_it_shows}
 use Rattle.cue_rules.specs.Rules.Overlap.{overlap, shows_before_it_hides}
-use Rattle.cue_rules.specs.Rules.Sentences.{ComesAfter, IsContinued, IsSound}
+use Rattle.cue_rules.specs.Rules.Sentences.{ComesAfter, IsContinued, IsOnSlots, IsSound}
+use Rattle.cue_rules.specs.Rules.OffSlot.{lacks_slot, off_slot}
 use Rattle.cue_rules.specs.Rules.PastEnd.{past_end}
+use Rattle.line21_slots.specs.Cadences.{cadence_of, has_slot_in, slot_step}
 use Rattle.cue_rules.specs.Rules.Share.{lacks_share}
 use Rattle.cue_rules.specs.Rules.Unhidden.{unhidden, leaves_unhidden, loads_before_it_hides}
 use Rattle.cue_rules.specs.Rules.WindowBusy.{keeps_window, window_busy}
 use Rattle.cue_types.specs.declared.cue.Cue.{Cue}
 use Rattle.cue_types.specs.declared.cue.Kind.{Kind}
 use Rattle.cue_types.specs.declared.cue.Kind.TheVariants as kind
+use Rattle.cue_rules.proofs.ChannelCues.{same_channel_is}
 use Rattle.cue_rules.proofs.RuleKept.{AllKept, kept_faultless}
 use Rattle.cue_rules.proofs.RuleNearest.{delays_cross_of_line21, keeps_window_of_line21, nearest_none}
-use Rattle.cue_rules.proofs.RuleTests.{eq_fails, equal_itself, former_test_fails, guarded, hide_test_fails, le_fails, lt_fails}
+use Rattle.cue_rules.proofs.RuleTests.{equal_itself, former_test_fails, guarded, hide_test_fails, le_fails, lt_fails}
 
 -- a line 21 cue is no window cue, and so has no delay and needs no share
 line21_is_no_window : (k : Kind) → is_line21 k ≡ true → is_win k ≡ false
@@ -73,15 +79,26 @@ is_none_is None none = refl
 is_none_is (Some hide) none = cc
 
 -- a cue that ends within the list doesn't end past it
-hide_fits : (hide : Option ℕ) (show frames : ℕ) → MatchOption hide (show < frames) (λ h. h + 2 ≤ frames)
-    → hide_is hide (λ h. nat_lt frames (h + 2)) ≡ false
-hide_fits None show frames ended = refl
-hide_fits (Some hide) show frames ended = lt_fails frames (hide + 2) ended
+hide_fits : (hide : Option ℕ) (show step frames : ℕ) → MatchOption hide (show < frames) (λ h. h + step + 1 ≤ frames)
+    → hide_is hide (λ h. nat_lt frames (h + step + 1)) ≡ false
+hide_fits None show step frames ended = refl
+hide_fits (Some hide) show step frames ended = lt_fails frames (hide + step + 1) ended
 
-show_fits : (hide : Option ℕ) (show frames : ℕ) → MatchOption hide (show < frames) (λ h. h + 2 ≤ frames)
+show_fits : (hide : Option ℕ) (show step frames : ℕ) → MatchOption hide (show < frames) (λ h. h + step + 1 ≤ frames)
     → is_none hide ≡ true → nat_le frames show ≡ false
-show_fits None show frames ended none = le_fails frames show ended
-show_fits (Some hide) show frames ended none = cc
+show_fits None show step frames ended none = le_fails frames show ended
+show_fits (Some hide) show step frames ended none = cc
+
+-- a HIDE that isn't between, where it is far enough behind or not above
+apart_fails : (hide show reach : ℕ) → (hide < show → hide + reach ≤ show) → (nat_lt hide show && nat_lt show (hide + reach)) ≡ false
+apart_fails hide show reach apart = guarded (nat_lt hide show) (nat_lt show (hide + reach)) (λ above. lt_fails show (hide + reach) (apart (ltb-true hide show above)))
+
+-- a cue on a channel needs the slots of the channel's field
+pub slot_of_kind : (r : Rate) (channel : Chan) (k : Kind) (frame : ℕ) → is_on channel k ≡ true → lacks_slot r k frame ≡ not (has_slot_in (cadence_of r channel) frame)
+slot_of_kind r channel (kind.Pop own) frame on = ap (λ c. not (has_slot_in (cadence_of r c) frame)) (same_channel_is channel own on)
+slot_of_kind r channel (kind.Paint own) frame on = ap (λ c. not (has_slot_in (cadence_of r c) frame)) (same_channel_is channel own on)
+slot_of_kind r channel (kind.Roll own rows) frame on = ap (λ c. not (has_slot_in (cadence_of r c) frame)) (same_channel_is channel own on)
+slot_of_kind r channel (kind.Win window) frame on = cc
 
 -- a test after one that fails
 behind_false : (a b : Bool) → a ≡ false → (a && b) ≡ false
@@ -92,8 +109,9 @@ second_passes true b passes = passes
 second_passes false b passes = cc
 
 -- a cue on a channel of which the sentences hold, behind these cues
-module _ (list : Listing) (earlier : List Cue) (cue : Cue) (line21 : is_line21 cue.kind ≡ true) (sound : IsSound list.frames cue)
-    (after : (former : Cue) → former_cue cue earlier ≡ Some former → ComesAfter former cue) where
+module _ (list : Listing) (earlier : List Cue) (cue : Cue) (line21 : is_line21 cue.kind ≡ true) (sound : IsSound (slot_step list.rate) list.frames cue)
+    (after : (former : Cue) → former_cue cue earlier ≡ Some former → ComesAfter (slot_step list.rate) former cue)
+    (channel : Chan) (on_it : is_on channel cue.kind ≡ true) (slots : IsOnSlots (cadence_of list.rate channel) cue) where
   no_window : is_win cue.kind ≡ false
   no_window = line21_is_no_window cue.kind line21
 
@@ -134,16 +152,29 @@ module _ (list : Listing) (earlier : List Cue) (cue : Cue) (line21 : is_line21 c
     ),
   )
 
-  clash_kept : AllKept (clash cue (former_cue cue earlier))
+  clash_kept : AllKept (clash (slot_step list.rate) cue (former_cue cue earlier))
   clash_kept = (
-    guarded (is_pop cue.kind) (hide_is cue.hide (λ hide. hide == cue.show + 1))
-        (λ pop. hide_test_fails cue.hide (λ hide. hide == cue.show + 1) (λ hide. hide ≢ cue.show + 1)
-        (λ hide differ. eq_fails hide (cue.show + 1) differ) (sound.stays pop)),
+    guarded (is_pop cue.kind) (hide_is cue.hide (λ hide. nat_lt hide (cue.show + 2 * slot_step list.rate)))
+        (λ pop. hide_test_fails cue.hide (λ hide. nat_lt hide (cue.show + 2 * slot_step list.rate)) (λ hide. cue.show + 2 * slot_step list.rate ≤ hide)
+        (λ hide far. lt_fails hide (cue.show + 2 * slot_step list.rate) far) (sound.stays pop)),
     (
-      former_test_fails (former_cue cue earlier) (shows_as_it_hides cue)
-          (λ former is. guarded (is_pop cue.kind) (hide_is former.hide (λ hide. cue.show == hide + 1))
-          (λ pop. hide_test_fails former.hide (λ hide. cue.show == hide + 1) (λ hide. cue.show ≢ hide + 1)
-          (λ hide differ. eq_fails cue.show (hide + 1) differ) ((after former is).apart pop))),
+      former_test_fails (former_cue cue earlier) (shows_as_it_hides (slot_step list.rate) cue)
+          (λ former is. guarded (is_pop cue.kind) (hide_is former.hide (λ hide. nat_lt hide cue.show && nat_lt cue.show (hide + 2 * slot_step list.rate)))
+          (λ pop. hide_test_fails former.hide (λ hide. nat_lt hide cue.show && nat_lt cue.show (hide + 2 * slot_step list.rate)) (λ hide. hide < cue.show → hide + 2 * slot_step list.rate ≤ cue.show)
+          (λ hide apart. apart_fails hide cue.show (2 * slot_step list.rate) apart) ((after former is).apart pop))),
+      tt,
+    ),
+  )
+
+  slot_kept : (frame : ℕ) → has_slot_in (cadence_of list.rate channel) frame ≡ true → lacks_slot list.rate cue.kind frame ≡ false
+  slot_kept frame has = slot_of_kind list.rate channel cue.kind frame on_it ∙ ap not has
+
+  off_slot_kept : AllKept (off_slot list.rate cue)
+  off_slot_kept = (
+    slot_kept cue.show slots.show,
+    (
+      hide_test_fails cue.hide (λ hide. lacks_slot list.rate cue.kind hide) (λ hide. has_slot_in (cadence_of list.rate channel) hide ≡ true)
+          (λ hide has. slot_kept hide has) slots.hide,
       tt,
     ),
   )
@@ -174,13 +205,13 @@ module _ (list : Listing) (earlier : List Cue) (cue : Cue) (line21 : is_line21 c
       rw (nearest_none (delays_cross list.rate cue) earlier (λ other. delays_cross_of_line21 list.rate cue other no_window))
       (refl, tt)
 
-  past_end_kept : AllKept (past_end list.frames cue)
+  past_end_kept : AllKept (past_end (slot_step list.rate) list.frames cue)
   past_end_kept = (
-    guarded (is_line21 cue.kind) (hide_is cue.hide (λ hide. nat_lt list.frames (hide + 2)))
-        (λ on. hide_fits cue.hide cue.show list.frames sound.ended),
+    guarded (is_line21 cue.kind) (hide_is cue.hide (λ hide. nat_lt list.frames (hide + slot_step list.rate + 1)))
+        (λ on. hide_fits cue.hide cue.show (slot_step list.rate) list.frames sound.ended),
     (
       guarded (is_line21 cue.kind && is_none cue.hide) (nat_le list.frames cue.show)
-          (λ on. show_fits cue.hide cue.show list.frames sound.ended (second_passes (is_line21 cue.kind) (is_none cue.hide) on)),
+          (λ on. show_fits cue.hide cue.show (slot_step list.rate) list.frames sound.ended (second_passes (is_line21 cue.kind) (is_none cue.hide) on)),
       (behind_false (is_win cue.kind) _ no_window, tt),
     ),
   )
@@ -196,4 +227,5 @@ module _ (list : Listing) (earlier : List Cue) (cue : Cue) (line21 : is_line21 c
         delay_covers = delays_kept;
         share = (needs_no_share list cue.kind line21, tt);
         past_end = past_end_kept;
+        off_slot = off_slot_kept;
       })

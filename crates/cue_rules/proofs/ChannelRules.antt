@@ -1,9 +1,10 @@
 -- The cues of a channel of a list are in sequence exactly where none of them has a fault.
-use Rattle.std.proofs.Common.{◌≡◌, ◌≢◌, ℕ, ◌+◌, ◌<◌, ◌≤◌, ◌==◌, ◌&&◌, ◌||◌, Bool, true, false, not, cond, List, [], ◌∷◌, ◌++◌, reverse, refl, sym, ap, ◌∙◌, subst, append_assoc}
-use Rattle.std.specs.Prelude.{Option, Some, None, is_none, IfSome, MatchOption, ⊤}
+use Rattle.std.proofs.Common.{◌≡◌, ℕ, ◌+◌, ◌*◌, ◌<◌, ◌≤◌, ◌==◌, ◌&&◌, ◌||◌, Bool, true, false, not, cond, List, [], ◌∷◌, ◌++◌, reverse, refl, sym, ap, ◌∙◌, subst, append_assoc}
+use Rattle.std.specs.Prelude.{Option, Some, None, is_none, All, IfSome, MatchOption, ⊤}
 use Rattle.std.specs.List.{AllByRecursion}
 use Rattle.std.proofs.lemmas.Bool.{and_parts, eqb-true}
-use Rattle.std.proofs.lemmas.List.Elements.{recursion_from_All}
+use Rattle.std.proofs.lemmas.List.{reverse-reverse}
+use Rattle.std.proofs.lemmas.List.Elements.{All-cons, All-nil, recursion_from_All}
 use Rattle.line21_codes.specs.declared.channels.Chan.{Chan}
 use Rattle.cue_types.specs.Channels.{is_on, cues_on}
 use Rattle.cue_types.specs.Line21Cues.{base_row, continues, same_roll}
@@ -11,12 +12,15 @@ use Rattle.cue_types.specs.Listing.{Listing}
 use Rattle.cue_rules.specs.Rules.{AreFaultless}
 use Rattle.cue_rules.specs.Rules.Former.{former_cue}
 use Rattle.cue_types.specs.Lane.{is_line21, is_paint, is_pop, is_roll}
-use Rattle.cue_rules.specs.Rules.Sentences.{AreInSequence, ComesAfter, IsContinued, IsSound}
+use Rattle.cue_rules.specs.Rules.Sentences.{AreInSequence, ComesAfter, IsContinued, IsOnSlots, IsSound}
+use Rattle.cue_rules.specs.Rules.OffSlot.{lacks_slot}
+use Rattle.line21_slots.specs.Cadences.{cadence_of, has_slot_in, slot_step}
 use Rattle.cue_types.specs.declared.cue.Cue.{Cue}
 use Rattle.cue_types.specs.declared.cue.Kind.{Kind}
 use Rattle.cue_types.specs.declared.cue.Kind.TheVariants as kind
-use Rattle.cue_rules.proofs.ChannelCues.{newest, same_channel_is, line21_on, former_on, cues_on_are_on, reverse-cons, cues_on_back}
-use Rattle.cue_rules.proofs.RuleKept.{KeepsRules, keeps_rules, load_below_show, show_below_hide, load_from_former_show, runs_share_none, show_from_former_hide, hide_not_next, show_not_next, load_from_former_hide, continues_unhidden, hide_within, show_within}
+use Rattle.cue_rules.proofs.ChannelCues.{All-reverse, cues_on-reverse, newest, same_channel_is, line21_on, former_on, cues_on_are_on, reverse-cons, cues_on_back}
+use Rattle.cue_rules.proofs.RuleKept.{KeepsRules, keeps_rules, load_below_show, show_below_hide, load_from_former_show, runs_share_none, show_from_former_hide, hide_not_next, show_not_next, load_from_former_hide, continues_unhidden, hide_within, show_within, show_on_slot, hide_on_slot}
+use Rattle.cue_rules.proofs.ChannelKept.{slot_of_kind}
 
 -- a HIDE that is there, or not
 by_hide : (hide : Option ℕ) (P : Type 0) (Q : ℕ → Type 0) → (hide ≡ None → P) → ((frame : ℕ) → hide ≡ Some frame → Q frame)
@@ -29,14 +33,14 @@ if_hidden hide P some = by_hide hide ⊤ P (λ none. tt) some
 
 -- a cue on a channel that keeps the rules is sound
 sound : (list : Listing) (earlier : List Cue) (cue : Cue) → is_line21 cue.kind ≡ true
-    → KeepsRules list earlier cue → IsSound list.frames cue
+    → KeepsRules list earlier cue → IsSound (slot_step list.rate) list.frames cue
 sound list earlier cue line21 keeps =
     record {
       loaded = load_below_show list earlier cue keeps;
       hidden = if_hidden cue.hide (λ frame. cue.show < frame) (λ frame is. show_below_hide list earlier cue keeps frame is);
-      stays = λ pop. if_hidden cue.hide (λ frame. frame ≢ cue.show + 1)
+      stays = λ pop. if_hidden cue.hide (λ frame. cue.show + 2 * slot_step list.rate ≤ frame)
           (λ frame is. hide_not_next list earlier cue keeps frame pop is);
-      ended = by_hide cue.hide (cue.show < list.frames) (λ frame. frame + 2 ≤ list.frames)
+      ended = by_hide cue.hide (cue.show < list.frames) (λ frame. frame + slot_step list.rate + 1 ≤ list.frames)
           (λ none. show_within list earlier cue keeps line21 none)
           (λ frame is. hide_within list earlier cue keeps frame line21 is);
       apart = runs_share_none list earlier cue keeps;
@@ -89,14 +93,14 @@ continuing channel former cue former_on on same =
 -- a cue on a channel that keeps the rules comes after the former one
 comes_after : (list : Listing) (channel : Chan) (earlier : List Cue) (former cue : Cue)
     → former_cue cue earlier ≡ Some former → is_on channel former.kind ≡ true → is_on channel cue.kind ≡ true
-    → KeepsRules list earlier cue → ComesAfter former cue
+    → KeepsRules list earlier cue → ComesAfter (slot_step list.rate) former cue
 comes_after list channel earlier former cue is former_on on keeps =
     record {
       loaded = load_from_former_show list earlier cue keeps former line21 is;
       shown = if_hidden former.hide (λ frame. frame ≤ cue.show)
           (λ frame hides. show_from_former_hide list earlier cue keeps former frame line21 is hides);
-      apart = λ pop. if_hidden former.hide (λ frame. cue.show ≢ frame + 1)
-          (λ frame hides. show_not_next list earlier cue keeps former frame pop is hides);
+      apart = λ pop. if_hidden former.hide (λ frame. frame < cue.show → frame + 2 * slot_step list.rate ≤ cue.show)
+          (λ frame hides above. show_not_next list earlier cue keeps former frame pop is hides above);
       cleared = λ other. if_hidden former.hide (λ frame. frame ≤ cue.load)
           (λ frame hides. load_from_former_hide list earlier cue keeps former frame
           (written_anew cue.kind (same_roll cue.kind former.kind) (base_row cue.runs == base_row former.runs)
@@ -110,36 +114,36 @@ comes_after list channel earlier former cue is former_on on keeps =
     line21 = line21_on channel cue.kind on
 
 -- a cue comes after the newest of those before it
-abbrev pub IsBehind : List Cue → Cue → Type 0
-IsBehind [] cue = ⊤
-IsBehind (former ∷ earlier) cue = ComesAfter former cue
+abbrev pub IsBehind : ℕ → List Cue → Cue → Type 0
+IsBehind step [] cue = ⊤
+IsBehind step (former ∷ earlier) cue = ComesAfter step former cue
 
 -- the first of the later cues comes after a cue
-abbrev IsBefore : Cue → List Cue → Type 0
-IsBefore cue [] = ⊤
-IsBefore cue (next ∷ later) = ComesAfter cue next
+abbrev IsBefore : ℕ → Cue → List Cue → Type 0
+IsBefore step cue [] = ⊤
+IsBefore step cue (next ∷ later) = ComesAfter step cue next
 
 -- and after the newest of those before it
-abbrev AreJoined : List Cue → List Cue → Type 0
-AreJoined [] later = ⊤
-AreJoined (former ∷ earlier) later = IsBefore former later
+abbrev AreJoined : ℕ → List Cue → List Cue → Type 0
+AreJoined step [] later = ⊤
+AreJoined step (former ∷ earlier) later = IsBefore step former later
 
 -- the newest first, each of the cues is sound, and comes after the one before it
-abbrev pub AreInSequenceBack : ℕ → List Cue → Type 0
-AreInSequenceBack frames [] = ⊤
-AreInSequenceBack frames (cue ∷ earlier) = IsSound frames cue × IsBehind earlier cue × AreInSequenceBack frames earlier
+abbrev pub AreInSequenceBack : ℕ → ℕ → List Cue → Type 0
+AreInSequenceBack step frames [] = ⊤
+AreInSequenceBack step frames (cue ∷ earlier) = IsSound step frames cue × IsBehind step earlier cue × AreInSequenceBack step frames earlier
 
 -- a cue comes after the newest one on its channel
 behind : (list : Listing) (channel : Chan) (earlier : List Cue) (cue : Cue) (before : List Cue)
     → former_cue cue earlier ≡ newest before → AllByRecursion (λ former. is_on channel former.kind ≡ true) before
-    → is_on channel cue.kind ≡ true → KeepsRules list earlier cue → IsBehind before cue
+    → is_on channel cue.kind ≡ true → KeepsRules list earlier cue → IsBehind (slot_step list.rate) before cue
 behind list channel earlier cue [] is all on keeps = tt
 behind list channel earlier cue (former ∷ others) is all on keeps =
     comes_after list channel earlier former cue is all.0 on keeps
 
 -- the cues on a channel, the newest first, are in sequence
 pub faultless_sequence : (list : Listing) (channel : Chan) (earlier : List Cue) → AreFaultless list earlier
-    → AreInSequenceBack list.frames (cues_on channel earlier)
+    → AreInSequenceBack (slot_step list.rate) list.frames (cues_on channel earlier)
 faultless_sequence list channel [] faultless = tt
 faultless_sequence list channel (cue ∷ earlier) faultless =
     by_test (is_on channel cue.kind) refl (faultless_sequence list channel earlier faultless.1)
@@ -151,8 +155,8 @@ faultless_sequence list channel (cue ∷ earlier) faultless =
     all_on = recursion_from_All (λ (former : Cue). is_on channel former.kind ≡ true) (cues_on channel earlier)
         (cues_on_are_on channel earlier)
 
-    by_test : (b : Bool) → is_on channel cue.kind ≡ b → AreInSequenceBack list.frames (cues_on channel earlier)
-        → AreInSequenceBack list.frames (cond b (cue ∷ cues_on channel earlier) (cues_on channel earlier))
+    by_test : (b : Bool) → is_on channel cue.kind ≡ b → AreInSequenceBack (slot_step list.rate) list.frames (cues_on channel earlier)
+        → AreInSequenceBack (slot_step list.rate) list.frames (cond b (cue ∷ cues_on channel earlier) (cues_on channel earlier))
     by_test true on rest = (
       sound list earlier cue (line21_on channel cue.kind on) keeps,
       behind list channel earlier cue (cues_on channel earlier) (former_on channel cue earlier on) all_on on keeps,
@@ -160,68 +164,106 @@ faultless_sequence list channel (cue ∷ earlier) faultless =
     )
     by_test false on rest = rest
 
+-- the cues on a channel, the newest first, are on its slots
+pub faultless_on_slots : (list : Listing) (channel : Chan) (earlier : List Cue) → AreFaultless list earlier
+    → All (IsOnSlots (cadence_of list.rate channel)) (cues_on channel earlier)
+faultless_on_slots list channel [] faultless = All-nil (IsOnSlots (cadence_of list.rate channel))
+faultless_on_slots list channel (cue ∷ earlier) faultless =
+    by_test (is_on channel cue.kind) refl (faultless_on_slots list channel earlier faultless.1)
+  where
+    keeps : KeepsRules list earlier cue
+    keeps = keeps_rules list earlier cue faultless.0
+
+    has : (b : Bool) → not b ≡ false → b ≡ true
+    has true e = refl
+    has false e = cc
+
+    slot : is_on channel cue.kind ≡ true → (frame : ℕ) → lacks_slot list.rate cue.kind frame ≡ false → has_slot_in (cadence_of list.rate channel) frame ≡ true
+    slot on frame lacks = has _ (sym (slot_of_kind list.rate channel cue.kind frame on) ∙ lacks)
+
+    on_slots : is_on channel cue.kind ≡ true → IsOnSlots (cadence_of list.rate channel) cue
+    on_slots on = record {
+      show = slot on cue.show (show_on_slot list earlier cue keeps);
+      hide = if_hidden cue.hide (λ frame. has_slot_in (cadence_of list.rate channel) frame ≡ true)
+          (λ frame is. slot on frame (hide_on_slot list earlier cue keeps frame is));
+    }
+
+    by_test : (b : Bool) → is_on channel cue.kind ≡ b → All (IsOnSlots (cadence_of list.rate channel)) (cues_on channel earlier)
+        → All (IsOnSlots (cadence_of list.rate channel)) (cond b (cue ∷ cues_on channel earlier) (cues_on channel earlier))
+    by_test true on rest = All-cons (IsOnSlots (cadence_of list.rate channel)) cue (cues_on channel earlier) (on_slots on) rest
+    by_test false on rest = rest
+
+-- what holds of the cues on a channel holds of them from the newest on, and back
+pub all_on_from_back : (P : Cue → Type 0) (channel : Chan) (cues : List Cue) → All P (cues_on channel (reverse cues)) → All P (cues_on channel cues)
+all_on_from_back P channel cues all =
+    subst (All P) (reverse-reverse (cues_on channel cues))
+    (All-reverse P (reverse (cues_on channel cues)) (subst (All P) (cues_on-reverse channel cues) all))
+
+pub all_on_back : (P : Cue → Type 0) (channel : Chan) (cues : List Cue) → All P (cues_on channel cues) → All P (cues_on channel (reverse cues))
+all_on_back P channel cues all = subst (All P) (sym (cues_on-reverse channel cues)) (All-reverse P (cues_on channel cues) all)
+
 -- one more cue at the front
-in_sequence-cons : (frames : ℕ) (cue : Cue) (later : List Cue) → IsSound frames cue → IsBefore cue later
-    → AreInSequence frames later → AreInSequence frames (cue ∷ later)
-in_sequence-cons frames cue [] is_sound before sequence = is_sound
-in_sequence-cons frames cue (next ∷ later) is_sound before sequence = (is_sound, before, sequence)
+in_sequence-cons : (step frames : ℕ) (cue : Cue) (later : List Cue) → IsSound step frames cue → IsBefore step cue later
+    → AreInSequence step frames later → AreInSequence step frames (cue ∷ later)
+in_sequence-cons step frames cue [] is_sound before sequence = is_sound
+in_sequence-cons step frames cue (next ∷ later) is_sound before sequence = (is_sound, before, sequence)
 
 -- where a cue comes after the newest of those before it, they are joined
-joined : (earlier : List Cue) (cue : Cue) (later : List Cue) → IsBehind earlier cue → AreJoined earlier (cue ∷ later)
-joined [] cue later is_behind = tt
-joined (former ∷ earlier) cue later is_behind = is_behind
+joined : (step : ℕ) (earlier : List Cue) (cue : Cue) (later : List Cue) → IsBehind step earlier cue → AreJoined step earlier (cue ∷ later)
+joined step [] cue later is_behind = tt
+joined step (former ∷ earlier) cue later is_behind = is_behind
 
-joined_end : (earlier : List Cue) → AreJoined earlier []
-joined_end [] = tt
-joined_end (former ∷ earlier) = tt
+joined_end : (step : ℕ) (earlier : List Cue) → AreJoined step earlier []
+joined_end step [] = tt
+joined_end step (former ∷ earlier) = tt
 
 -- the earlier cues and the later ones, in their order
-turned : (frames : ℕ) (earlier later : List Cue) → AreInSequenceBack frames earlier → AreJoined earlier later
-    → AreInSequence frames later → AreInSequence frames (reverse earlier ++ later)
-turned frames [] later back join sequence = sequence
-turned frames (cue ∷ earlier) later back join sequence =
-    subst (λ (cues : List Cue). AreInSequence frames cues)
+turned : (step frames : ℕ) (earlier later : List Cue) → AreInSequenceBack step frames earlier → AreJoined step earlier later
+    → AreInSequence step frames later → AreInSequence step frames (reverse earlier ++ later)
+turned step frames [] later back join sequence = sequence
+turned step frames (cue ∷ earlier) later back join sequence =
+    subst (λ (cues : List Cue). AreInSequence step frames cues)
     (sym (ap (λ (cues : List Cue). cues ++ later) (reverse-cons cue earlier) ∙ append_assoc (reverse earlier) (cue ∷ []) later))
-    (turned frames earlier (cue ∷ later) back.2 (joined earlier cue later back.1)
-    (in_sequence-cons frames cue later back.0 join sequence))
+    (turned step frames earlier (cue ∷ later) back.2 (joined step earlier cue later back.1)
+    (in_sequence-cons step frames cue later back.0 join sequence))
 
 -- where they are in sequence, so are they from the newest on
-turned_back : (frames : ℕ) (earlier later : List Cue) → AreInSequence frames (reverse earlier ++ later)
-    → AreInSequenceBack frames earlier × AreJoined earlier later × AreInSequence frames later
-turned_back frames [] later sequence = (tt, tt, sequence)
-turned_back frames (cue ∷ earlier) later sequence =
-    let whole = turned_back frames earlier (cue ∷ later)
-    (subst (λ (cues : List Cue). AreInSequence frames cues)
+turned_back : (step frames : ℕ) (earlier later : List Cue) → AreInSequence step frames (reverse earlier ++ later)
+    → AreInSequenceBack step frames earlier × AreJoined step earlier later × AreInSequence step frames later
+turned_back step frames [] later sequence = (tt, tt, sequence)
+turned_back step frames (cue ∷ earlier) later sequence =
+    let whole = turned_back step frames earlier (cue ∷ later)
+    (subst (λ (cues : List Cue). AreInSequence step frames cues)
     (ap (λ (cues : List Cue). cues ++ later) (reverse-cons cue earlier) ∙ append_assoc (reverse earlier) (cue ∷ []) later)
     sequence) in
-    let here = first_of_sequence frames cue later whole.2 in
-    ((here.0, behind_joined earlier cue later whole.1, whole.0), here.1, here.2)
+    let here = first_of_sequence step frames cue later whole.2 in
+    ((here.0, behind_joined step earlier cue later whole.1, whole.0), here.1, here.2)
   where
-    first_of_sequence : (frames : ℕ) (cue : Cue) (later : List Cue) → AreInSequence frames (cue ∷ later)
-        → IsSound frames cue × IsBefore cue later × AreInSequence frames later
-    first_of_sequence frames cue [] sequence = (sequence, tt, tt)
-    first_of_sequence frames cue (next ∷ later) sequence = sequence
+    first_of_sequence : (step frames : ℕ) (cue : Cue) (later : List Cue) → AreInSequence step frames (cue ∷ later)
+        → IsSound step frames cue × IsBefore step cue later × AreInSequence step frames later
+    first_of_sequence step frames cue [] sequence = (sequence, tt, tt)
+    first_of_sequence step frames cue (next ∷ later) sequence = sequence
 
-    behind_joined : (earlier : List Cue) (cue : Cue) (later : List Cue) → AreJoined earlier (cue ∷ later) → IsBehind earlier cue
-    behind_joined [] cue later join = tt
-    behind_joined (former ∷ earlier) cue later join = join
+    behind_joined : (step : ℕ) (earlier : List Cue) (cue : Cue) (later : List Cue) → AreJoined step earlier (cue ∷ later) → IsBehind step earlier cue
+    behind_joined step [] cue later join = tt
+    behind_joined step (former ∷ earlier) cue later join = join
 
 -- the cues of a channel are in sequence as they are from the newest on
-pub sequence_from_back : (frames : ℕ) (channel : Chan) (cues : List Cue)
-    → AreInSequenceBack frames (cues_on channel (reverse cues)) → AreInSequence frames (cues_on channel cues)
-sequence_from_back frames channel cues back =
-    subst (λ (cues : List Cue). AreInSequence frames cues) (cues_on_back channel cues)
-    (turned frames (cues_on channel (reverse cues)) [] back (joined_end (cues_on channel (reverse cues))) tt)
+pub sequence_from_back : (step frames : ℕ) (channel : Chan) (cues : List Cue)
+    → AreInSequenceBack step frames (cues_on channel (reverse cues)) → AreInSequence step frames (cues_on channel cues)
+sequence_from_back step frames channel cues back =
+    subst (λ (cues : List Cue). AreInSequence step frames cues) (cues_on_back channel cues)
+    (turned step frames (cues_on channel (reverse cues)) [] back (joined_end step (cues_on channel (reverse cues))) tt)
 
-pub sequence_back : (frames : ℕ) (channel : Chan) (cues : List Cue)
-    → AreInSequence frames (cues_on channel cues) → AreInSequenceBack frames (cues_on channel (reverse cues))
-sequence_back frames channel cues sequence =
-    (turned_back frames (cues_on channel (reverse cues)) []
-    (subst (λ (cues : List Cue). AreInSequence frames cues) (sym (cues_on_back channel cues)) sequence)).0
+pub sequence_back : (step frames : ℕ) (channel : Chan) (cues : List Cue)
+    → AreInSequence step frames (cues_on channel cues) → AreInSequenceBack step frames (cues_on channel (reverse cues))
+sequence_back step frames channel cues sequence =
+    (turned_back step frames (cues_on channel (reverse cues)) []
+    (subst (λ (cues : List Cue). AreInSequence step frames cues) (sym (cues_on_back channel cues)) sequence)).0
 
 -- each of the cues in sequence is sound
-pub in_sequence_sound : (frames : ℕ) (cues : List Cue) → AreInSequence frames cues → AllByRecursion (IsSound frames) cues
-in_sequence_sound frames [] sequence = tt
-in_sequence_sound frames (cue ∷ []) sequence = (sequence, tt)
-in_sequence_sound frames (cue ∷ (next ∷ later)) sequence =
-    (sequence.0, in_sequence_sound frames (next ∷ later) sequence.2)
+pub in_sequence_sound : (step frames : ℕ) (cues : List Cue) → AreInSequence step frames cues → AllByRecursion (IsSound step frames) cues
+in_sequence_sound step frames [] sequence = tt
+in_sequence_sound step frames (cue ∷ []) sequence = (sequence, tt)
+in_sequence_sound step frames (cue ∷ (next ∷ later)) sequence =
+    (sequence.0, in_sequence_sound step frames (next ∷ later) sequence.2)

@@ -13,26 +13,29 @@ use Rattle.cue_rules.specs.Rules.Former.{nearest, nearest_number, former_cue, fo
 use Rattle.cue_types.specs.Lane.{lane_of, on_lane}
 use Rattle.cue_rules.specs.Rules.Order.{order}
 use Rattle.cue_rules.specs.Rules.Overlap.{overlap}
+use Rattle.cue_rules.specs.Rules.OffSlot.{off_slot}
 use Rattle.cue_rules.specs.Rules.PastEnd.{past_end}
 use Rattle.cue_rules.specs.Rules.Share.{share}
 use Rattle.cue_rules.specs.Rules.Unhidden.{unhidden}
 use Rattle.cue_rules.specs.Rules.WindowBusy.{window_busy}
 use Rattle.cue_types.specs.declared.cue.Cue.{Cue}
+use Rattle.line21_slots.specs.Cadences.{slot_step}
 use Rattle.cue_rules.specs.declared.rules.RuleFault.{RuleFault}
 use Rattle.cue_rules.specs.declared.rules.against.Against.{Against}
 
 -- the verdicts, by each rule's own
 pub verdicts_are : (list : Listing) (earlier : List Cue) (cue : Cue) (former : Option Cue)
-    (o v c u b d s p : Option Against) → former ≡ former_cue cue earlier
+    (o v c u b d s p t : Option Against) → former ≡ former_cue cue earlier
     → o ≡ first_broken (order list.rate cue former) → v ≡ first_broken (overlap cue former)
-    → c ≡ first_broken (clash cue former) → u ≡ first_broken (unhidden cue former)
+    → c ≡ first_broken (clash (slot_step list.rate) cue former) → u ≡ first_broken (unhidden cue former)
     → b ≡ first_broken (window_busy cue earlier) → d ≡ first_broken (delay_covers list.rate cue earlier)
-    → s ≡ first_broken (share list cue) → p ≡ first_broken (past_end list.frames cue)
+    → s ≡ first_broken (share list cue) → p ≡ first_broken (past_end (slot_step list.rate) list.frames cue)
+    → t ≡ first_broken (off_slot list.rate cue)
     → (why.Order, o) ∷ (why.Overlap, v) ∷ (why.Clash, c) ∷ (why.Unhidden, u) ∷ (why.WindowBusy, b)
-    ∷ (why.DelayCovers, d) ∷ (why.Share, s) ∷ (why.PastEnd, p) ∷ [] ≡ verdicts list earlier cue
+    ∷ (why.DelayCovers, d) ∷ (why.Share, s) ∷ (why.PastEnd, p) ∷ (why.OffSlot, t) ∷ [] ≡ verdicts list earlier cue
 unfolding verdicts
-verdicts_are list earlier cue former o v c u b d s p f eo ev ec eu eb ed es ep =
-    rw (eo, ev, ec, eu, eb, ed, es, ep, f) refl
+verdicts_are list earlier cue former o v c u b d s p t f eo ev ec eu eb ed es ep et =
+    rw (eo, ev, ec, eu, eb, ed, es, ep, et, f) refl
 
 -- an element of the first of two joined lists
 slice_get-append : (xs ys : List Cue) (i : ℕ) → i < length xs → slice_get (xs ++ ys) i ≡ slice_get xs i
@@ -100,23 +103,24 @@ nearest_at test (cue ∷ earlier) = by_test (test cue) (nearest_at test earlier)
 
 -- the answer of the verdicts is that of the cue
 pub judged : (list : Listing) (earlier : List Cue) (cue : Cue) (number : Option ℕ) (former : Option Cue)
-    (o v c u b d s p : Option Against) (r : Result (Unit {0}) RuleFault)
+    (o v c u b d s p t : Option Against) (r : Result (Unit {0}) RuleFault)
     → number ≡ former_number cue (reverse earlier)
     → former ≡ option_and_then (λ n. slice_get earlier (n - 1)) number
     → o ≡ first_broken (order list.rate cue former) → v ≡ first_broken (overlap cue former)
-    → c ≡ first_broken (clash cue former) → u ≡ first_broken (unhidden cue former)
+    → c ≡ first_broken (clash (slot_step list.rate) cue former) → u ≡ first_broken (unhidden cue former)
     → b ≡ first_broken (window_busy cue (reverse earlier)) → d ≡ first_broken (delay_covers list.rate cue (reverse earlier))
-    → s ≡ first_broken (share list cue) → p ≡ first_broken (past_end list.frames cue)
+    → s ≡ first_broken (share list cue) → p ≡ first_broken (past_end (slot_step list.rate) list.frames cue)
+    → t ≡ first_broken (off_slot list.rate cue)
     → AnswersFault r (first_fault (length earlier + 1) number
     ((why.Order, o) ∷ (why.Overlap, v) ∷ (why.Clash, c) ∷ (why.Unhidden, u) ∷ (why.WindowBusy, b)
-    ∷ (why.DelayCovers, d) ∷ (why.Share, s) ∷ (why.PastEnd, p) ∷ []))
+    ∷ (why.DelayCovers, d) ∷ (why.Share, s) ∷ (why.PastEnd, p) ∷ (why.OffSlot, t) ∷ []))
     → AnswersFault r (fault_of list (reverse earlier) cue)
-judged list earlier cue number former o v c u b d s p r en ef eo ev ec eu eb ed es ep judges =
+judged list earlier cue number former o v c u b d s p t r en ef eo ev ec eu eb ed es ep et judges =
     let is_former : former ≡ former_cue cue (reverse earlier) =
     ef ∙ rw en (sym (nearest_at (on_lane (lane_of cue.kind)) (reverse earlier)
     ∙ rw reverse-reverse refl)) in
     rw (
       length-reverse,
-      ← verdicts_are list (reverse earlier) cue former o v c u b d s p is_former eo ev ec eu eb ed es ep,
+      ← verdicts_are list (reverse earlier) cue former o v c u b d s p t is_former eo ev ec eu eb ed es ep et,
       ← en,
     ) judges

@@ -1,5 +1,5 @@
 -- What a cue that keeps the rules has, in plain facts: each for one alternative of a rule that isn't broken.
-use Rattle.std.proofs.Common.{◌≡◌, ◌≢◌, ℕ, ◌+◌, ◌<◌, ◌≤◌, Bool, true, false, if◌then◌else◌, not, ◌&&◌, ◌||◌, List, [], ◌∷◌, Option, Some, None, suc, refl, sym, ap, ◌∙◌, inl, inr, arith}
+use Rattle.std.proofs.Common.{◌≡◌, ◌≢◌, ℕ, ◌+◌, ◌*◌, ◌<◌, ◌≤◌, lt-ltb, Bool, true, false, if◌then◌else◌, not, ◌&&◌, ◌||◌, List, [], ◌∷◌, Option, Some, None, suc, refl, sym, ap, ◌∙◌, inl, inr, arith}
 use Rattle.std.specs.Prelude.{nat_le, nat_lt, ◌==◌, is_none, filter, slice_get}
 use Rattle.std.proofs.lemmas.Bool.Decides.{leb_tells, eqb_tells}
 use Rattle.cc_base.specs.declared.why.Why.{Why}
@@ -14,11 +14,13 @@ use Rattle.cue_rules.specs.Rules.Former.{nearest, former_cue}
 use Rattle.cue_types.specs.Lane.{is_line21, is_pop, is_paint, is_roll}
 use Rattle.cue_rules.specs.Rules.Order.{order, loads_before_it_shows}
 use Rattle.cue_rules.specs.Rules.Overlap.{overlap, shows_before_it_hides}
+use Rattle.cue_rules.specs.Rules.OffSlot.{lacks_slot, off_slot}
 use Rattle.cue_rules.specs.Rules.PastEnd.{past_end}
 use Rattle.cue_rules.specs.Rules.Share.{share}
 use Rattle.cue_rules.specs.Rules.Unhidden.{unhidden, loads_before_it_hides, leaves_unhidden}
 use Rattle.cue_rules.specs.Rules.WindowBusy.{window_busy}
 use Rattle.cue_types.specs.declared.cue.Cue.{Cue}
+use Rattle.line21_slots.specs.Cadences.{slot_step}
 use Rattle.cue_rules.specs.declared.rules.RuleFault.{RuleFault}
 use Rattle.cue_rules.specs.declared.rules.against.Against.{Against}
 
@@ -31,12 +33,13 @@ AllKept (alternative ∷ rest) = (alternative.broken ≡ false) × AllKept rest
 pub record KeepsRules (list : Listing) (earlier : List Cue) (cue : Cue) : Type 0 where
   pub order : AllKept (order list.rate cue (former_cue cue earlier))
   pub overlap : AllKept (overlap cue (former_cue cue earlier))
-  pub clash : AllKept (clash cue (former_cue cue earlier))
+  pub clash : AllKept (clash (slot_step list.rate) cue (former_cue cue earlier))
   pub unhidden : AllKept (unhidden cue (former_cue cue earlier))
   pub window_busy : AllKept (window_busy cue earlier)
   pub delay_covers : AllKept (delay_covers list.rate cue earlier)
   pub share : AllKept (share list cue)
-  pub past_end : AllKept (past_end list.frames cue)
+  pub past_end : AllKept (past_end (slot_step list.rate) list.frames cue)
+  pub off_slot : AllKept (off_slot list.rate cue)
 
 -- where no alternative is the first broken one, none is broken
 all_kept : (alternatives : List Alternative) → first_broken alternatives ≡ None → AllKept alternatives
@@ -67,15 +70,17 @@ keeps_rules list earlier cue none =
     let f = no_fault _ _ _ _ _ e.1 in
     let g = no_fault _ _ _ _ _ f.1 in
     let h = no_fault _ _ _ _ _ g.1 in
+    let i = no_fault _ _ _ _ _ h.1 in
     record {
       order = all_kept (order list.rate cue (former_cue cue earlier)) a.0;
       overlap = all_kept (overlap cue (former_cue cue earlier)) b.0;
-      clash = all_kept (clash cue (former_cue cue earlier)) c.0;
+      clash = all_kept (clash (slot_step list.rate) cue (former_cue cue earlier)) c.0;
       unhidden = all_kept (unhidden cue (former_cue cue earlier)) d.0;
       window_busy = all_kept (window_busy cue earlier) e.0;
       delay_covers = all_kept (delay_covers list.rate cue earlier) f.0;
       share = all_kept (share list cue) g.0;
-      past_end = all_kept (past_end list.frames cue) h.0;
+      past_end = all_kept (past_end (slot_step list.rate) list.frames cue) h.0;
+      off_slot = all_kept (off_slot list.rate cue) i.0;
     }
 
 -- where no alternative is broken, none is the first
@@ -91,12 +96,13 @@ kept_faultless list earlier cue keeps =
     rw (
       none_broken (order list.rate cue (former_cue cue earlier)) keeps.order,
       none_broken (overlap cue (former_cue cue earlier)) keeps.overlap,
-      none_broken (clash cue (former_cue cue earlier)) keeps.clash,
+      none_broken (clash (slot_step list.rate) cue (former_cue cue earlier)) keeps.clash,
       none_broken (unhidden cue (former_cue cue earlier)) keeps.unhidden,
       none_broken (window_busy cue earlier) keeps.window_busy,
       none_broken (delay_covers list.rate cue earlier) keeps.delay_covers,
       none_broken (share list cue) keeps.share,
-      none_broken (past_end list.frames cue) keeps.past_end,
+      none_broken (past_end (slot_step list.rate) list.frames cue) keeps.past_end,
+      none_broken (off_slot list.rate cue) keeps.off_slot,
     )
     refl
 
@@ -155,19 +161,20 @@ module _ (list : Listing) (earlier : List Cue) (cue : Cue) (keeps : KeepsRules l
       (second_fails (is_line21 cue.kind) (hide_is former.hide (λ h. nat_lt cue.show h))
       (former_fails (former_cue cue earlier) (shows_before_it_hides cue) former keeps.overlap.1.0 is) line21) at)
 
-  -- a pop-on cue: HIDE isn't SHOW + 1
-  pub hide_not_next : (hide : ℕ) → is_pop cue.kind ≡ true → cue.hide ≡ Some hide → hide ≢ cue.show + 1
+  -- a pop-on cue: HIDE is two steps behind SHOW or later
+  pub hide_not_next : (hide : ℕ) → is_pop cue.kind ≡ true → cue.hide ≡ Some hide → cue.show + 2 * slot_step list.rate ≤ hide
   hide_not_next hide pop is =
-      not_eq hide (cue.show + 1) (hide_fails (λ h. h == cue.show + 1) cue.hide hide
-      (second_fails (is_pop cue.kind) (hide_is cue.hide (λ h. h == cue.show + 1)) keeps.clash.0 pop) is)
+      not_lt hide (cue.show + 2 * slot_step list.rate) (hide_fails (λ h. nat_lt h (cue.show + 2 * slot_step list.rate)) cue.hide hide
+      (second_fails (is_pop cue.kind) (hide_is cue.hide (λ h. nat_lt h (cue.show + 2 * slot_step list.rate))) keeps.clash.0 pop) is)
 
-  -- a pop-on cue: SHOW isn't the former cue's HIDE plus 1
+  -- a pop-on cue: SHOW is the former cue's HIDE, or two steps behind it or later
   pub show_not_next : (former : Cue) (hide : ℕ) → is_pop cue.kind ≡ true → former_cue cue earlier ≡ Some former
-      → former.hide ≡ Some hide → cue.show ≢ hide + 1
-  show_not_next former hide pop is at =
-      not_eq cue.show (hide + 1) (hide_fails (λ h. cue.show == h + 1) former.hide hide
-      (second_fails (is_pop cue.kind) (hide_is former.hide (λ h. cue.show == h + 1))
-      (former_fails (former_cue cue earlier) (shows_as_it_hides cue) former keeps.clash.1.0 is) pop) at)
+      → former.hide ≡ Some hide → hide < cue.show → hide + 2 * slot_step list.rate ≤ cue.show
+  show_not_next former hide pop is at above =
+      let fails = hide_fails (λ h. nat_lt h cue.show && nat_lt cue.show (h + 2 * slot_step list.rate)) former.hide hide
+      (second_fails (is_pop cue.kind) (hide_is former.hide (λ h. nat_lt h cue.show && nat_lt cue.show (h + 2 * slot_step list.rate)))
+      (former_fails (former_cue cue earlier) (shows_as_it_hides (slot_step list.rate) cue) former keeps.clash.1.0 is) pop) at in
+      not_lt cue.show (hide + 2 * slot_step list.rate) (second_fails (nat_lt hide cue.show) _ fails (lt-ltb hide cue.show above))
 
   -- a paint-on cue, or a roll-up cue that doesn't continue: LOAD isn't below the former cue's HIDE
   pub load_from_former_hide : (former : Cue) (hide : ℕ)
@@ -191,11 +198,18 @@ module _ (list : Listing) (earlier : List Cue) (cue : Cue) (keeps : KeepsRules l
       not_false true e = refl
       not_false false e = cc
 
-  -- on line 21: HIDE + 2 is at most FRAMES
-  pub hide_within : (hide : ℕ) → is_line21 cue.kind ≡ true → cue.hide ≡ Some hide → hide + 2 ≤ list.frames
+  -- on line 21: HIDE, a step and 1 together are at most FRAMES
+  pub hide_within : (hide : ℕ) → is_line21 cue.kind ≡ true → cue.hide ≡ Some hide → hide + slot_step list.rate + 1 ≤ list.frames
   hide_within hide line21 is =
-      not_lt list.frames (hide + 2) (hide_fails (λ h. nat_lt list.frames (h + 2)) cue.hide hide
-      (second_fails (is_line21 cue.kind) (hide_is cue.hide (λ h. nat_lt list.frames (h + 2))) keeps.past_end.0 line21) is)
+      not_lt list.frames (hide + slot_step list.rate + 1) (hide_fails (λ h. nat_lt list.frames (h + slot_step list.rate + 1)) cue.hide hide
+      (second_fails (is_line21 cue.kind) (hide_is cue.hide (λ h. nat_lt list.frames (h + slot_step list.rate + 1))) keeps.past_end.0 line21) is)
+
+  -- the cue has a slot at its SHOW, and at its HIDE
+  pub show_on_slot : lacks_slot list.rate cue.kind cue.show ≡ false
+  show_on_slot = keeps.off_slot.0
+
+  pub hide_on_slot : (hide : ℕ) → cue.hide ≡ Some hide → lacks_slot list.rate cue.kind hide ≡ false
+  hide_on_slot hide is = hide_fails (λ h. lacks_slot list.rate cue.kind h) cue.hide hide keeps.off_slot.1.0 is
 
   -- on line 21, without a HIDE: SHOW is below FRAMES
   pub show_within : is_line21 cue.kind ≡ true → cue.hide ≡ None → cue.show < list.frames

@@ -1,9 +1,10 @@
 -- The cues of a service of a list keep the rules exactly where none of them has a fault.
-use Rattle.std.proofs.Common.{◌≡◌, ℕ, ◌+◌, ◌<◌, ◌≤◌, ◌==◌, ◌&&◌, ◌||◌, Bool, true, false, not, if◌then◌else◌, cond, List, [], ◌∷◌, ◌++◌, length, reverse, Option, Some, None, refl, sym, ap, subst, ◌∙◌, append_assoc, arith}
+use Rattle.std.proofs.Common.{◌≡◌, ℕ, ◌+◌, ◌*◌, ◌<◌, ◌≤◌, ◌==◌, ◌&&◌, ◌||◌, Bool, true, false, not, if◌then◌else◌, cond, List, [], ◌∷◌, ◌++◌, length, reverse, Option, Some, None, refl, sym, ap, subst, ◌∙◌, append_assoc, arith}
 use Rattle.std.specs.Prelude.{is_none, nat_le, nat_lt, IfSome, IsSome, ⊤}
 use Rattle.std.specs.List.{AllByRecursion}
 use Rattle.std.proofs.lemmas.Bool.{eqb-true}
 use Rattle.cc_base.specs.Rate.{delay_frames_of}
+use Rattle.cc_base.specs.declared.rate.Rate.{Rate}
 use Rattle.cue_types.specs.Channels.{cues_of_service, is_of_service}
 use Rattle.cue_types.specs.Cues.{IsCueFormed, IsOfKind}
 use Rattle.cue_types.specs.Listing.{Listing, share_of}
@@ -17,7 +18,9 @@ use Rattle.cue_rules.specs.Rules.Former.{former_cue, nearest_number}
 use Rattle.cue_types.specs.Lane.{is_line21, is_paint, is_pop, is_roll, is_win}
 use Rattle.cue_rules.specs.Rules.Order.{order, loads_before_it_loads, loads_before_it_shows}
 use Rattle.cue_rules.specs.Rules.Overlap.{overlap, shows_before_it_hides}
+use Rattle.cue_rules.specs.Rules.OffSlot.{lacks_slot, off_slot}
 use Rattle.cue_rules.specs.Rules.PastEnd.{past_end}
+use Rattle.line21_slots.specs.Cadences.{slot_step}
 use Rattle.cue_rules.specs.Rules.Sentences.{AreInService, IsSoundWindow, KeepsClear}
 use Rattle.cue_rules.specs.Rules.Share.{lacks_share}
 use Rattle.cue_rules.specs.Rules.Unhidden.{unhidden, leaves_unhidden, loads_before_it_hides}
@@ -314,15 +317,31 @@ module _ (list : Listing) (service : ℕ) (earlier : List Cue) (cue : Cue) (on :
     ),
   )
 
-  clash_kept : AllKept (clash cue (former_cue cue earlier))
+  clash_kept : AllKept (clash (slot_step list.rate) cue (former_cue cue earlier))
   clash_kept = (
-    nothing_pop (hide_is cue.hide (λ hide. hide == cue.show + 1)),
+    nothing_pop (hide_is cue.hide (λ hide. nat_lt hide (cue.show + 2 * slot_step list.rate))),
     (
-      former_test_fails (former_cue cue earlier) (shows_as_it_hides cue)
-          (λ former is. nothing_pop (hide_is former.hide (λ hide. cue.show == hide + 1))),
+      former_test_fails (former_cue cue earlier) (shows_as_it_hides (slot_step list.rate) cue)
+          (λ former is. nothing_pop (hide_is former.hide (λ hide. nat_lt hide cue.show && nat_lt cue.show (hide + 2 * slot_step list.rate)))),
       tt,
     ),
   )
+
+  off_slot_kept : AllKept (off_slot list.rate cue)
+  off_slot_kept = (
+    needs_no_slot list.rate cue.kind cue.show win,
+    (hide_never cue.hide (λ hide. lacks_slot list.rate cue.kind hide) (λ hide. needs_no_slot list.rate cue.kind hide win), tt),
+  )
+    where
+      needs_no_slot : (r : Rate) (k : Kind) (frame : ℕ) → is_win k ≡ true → lacks_slot r k frame ≡ false
+      needs_no_slot r (kind.Pop channel) frame w = cc
+      needs_no_slot r (kind.Paint channel) frame w = cc
+      needs_no_slot r (kind.Roll channel rows) frame w = cc
+      needs_no_slot r (kind.Win window) frame w = refl
+
+      hide_never : (o : Option ℕ) (test : ℕ → Bool) → ((hide : ℕ) → test hide ≡ false) → hide_is o test ≡ false
+      hide_never None test fails = refl
+      hide_never (Some hide) test fails = fails hide
 
   unhidden_kept : AllKept (unhidden cue (former_cue cue earlier))
   unhidden_kept = (
@@ -375,9 +394,9 @@ module _ (list : Listing) (service : ℕ) (earlier : List Cue) (cue : Cue) (on :
       each_apart [] all = tt
       each_apart (c ∷ cs) all = (delays_apart list.rate c cue all.0, each_apart cs all.1)
 
-  past_end_kept : AllKept (past_end list.frames cue)
+  past_end_kept : AllKept (past_end (slot_step list.rate) list.frames cue)
   past_end_kept = (
-    nothing_line21 (hide_is cue.hide (λ hide. nat_lt list.frames (hide + 2))),
+    nothing_line21 (hide_is cue.hide (λ hide. nat_lt list.frames (hide + slot_step list.rate + 1))),
     (
       second_none (is_none cue.hide) (nat_le list.frames cue.show),
       (
@@ -403,6 +422,7 @@ module _ (list : Listing) (service : ℕ) (earlier : List Cue) (cue : Cue) (on :
         delay_covers = delays_kept;
         share = (has_share list service cue.kind on sound.shared, tt);
         past_end = past_end_kept;
+        off_slot = off_slot_kept;
       })
 
 -- each of the cues before keeps clear of each of the later ones

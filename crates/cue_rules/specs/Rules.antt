@@ -1,6 +1,6 @@
 -- The rules of a cue list: what it is to keep them, the rule that a cue breaks against the cues before it, and the first
 -- fault of a list.
-use Rattle.std.specs.Prelude.{◌≡◌, ℕ, ◌+◌, List, [], ◌∷◌, ◌++◌, length, reverse, Option, Some, None, Result, Ok, Err}
+use Rattle.std.specs.Prelude.{◌≡◌, ℕ, ◌+◌, List, [], ◌∷◌, ◌++◌, length, reverse, All, Option, Some, None, Result, Ok, Err}
 use Rattle.cc_base.specs.declared.why.Why.{Why}
 use Rattle.cc_base.specs.declared.why.Why.TheVariants as why
 use Rattle.line21_codes.specs.declared.channels.Chan.{Chan}
@@ -20,7 +20,9 @@ use Rattle.cue_rules.specs.Rules.WindowBusy.{window_busy}
 use Rattle.cue_rules.specs.Rules.DelayCovers.{delay_covers}
 use Rattle.cue_rules.specs.Rules.Share.{share}
 use Rattle.cue_rules.specs.Rules.PastEnd.{past_end}
-use Rattle.cue_rules.specs.Rules.Sentences.{AreInSequence, AreInService}
+use Rattle.cue_rules.specs.Rules.OffSlot.{off_slot}
+use Rattle.cue_rules.specs.Rules.Sentences.{AreInSequence, AreInService, IsOnSlots}
+use Rattle.line21_slots.specs.Cadences.{cadence_of, slot_step}
 pub use Rattle.cue_types.specs.Cells
 pub use Rattle.cue_types.specs.Lane
 pub mod Alternatives
@@ -36,6 +38,7 @@ pub mod WindowBusy
 pub mod DelayCovers
 pub mod Share
 pub mod PastEnd
+pub mod OffSlot
 pub mod Sentences
 
 -- the rules in the order in which they are tried, each with whom a cue breaks it against, if it does: the cue stands
@@ -44,12 +47,13 @@ unfoldable pub verdicts : Listing → List Cue → Cue → List (Why × Option A
 verdicts list earlier cue =
     (why.Order, first_broken (order list.rate cue (former_cue cue earlier)))
     ∷ (why.Overlap, first_broken (overlap cue (former_cue cue earlier)))
-    ∷ (why.Clash, first_broken (clash cue (former_cue cue earlier)))
+    ∷ (why.Clash, first_broken (clash (slot_step list.rate) cue (former_cue cue earlier)))
     ∷ (why.Unhidden, first_broken (unhidden cue (former_cue cue earlier)))
     ∷ (why.WindowBusy, first_broken (window_busy cue earlier))
     ∷ (why.DelayCovers, first_broken (delay_covers list.rate cue earlier))
     ∷ (why.Share, first_broken (share list cue))
-    ∷ (why.PastEnd, first_broken (past_end list.frames cue))
+    ∷ (why.PastEnd, first_broken (past_end (slot_step list.rate) list.frames cue))
+    ∷ (why.OffSlot, first_broken (off_slot list.rate cue))
     ∷ []
 
 -- the number of the other cue of a fault, if it has one
@@ -85,7 +89,8 @@ AreFaultless list (cue ∷ earlier) = (fault_of list earlier cue ≡ None) × Ar
 
 -- the list keeps the rules: the cues of each channel and those of each service do
 pub record IsRuled (list : Listing) : Type 0 where
-  pub channels : (channel : Chan) → AreInSequence list.frames (cues_on channel list.cues)
+  pub channels : (channel : Chan) → AreInSequence (slot_step list.rate) list.frames (cues_on channel list.cues)
+  pub on_slots : (channel : Chan) → All (IsOnSlots (cadence_of list.rate channel)) (cues_on channel list.cues)
   pub services : (service : ℕ) → AreInService list service (cues_of_service service list.cues)
 
 -- the list has this fault: it is that of the first cue that breaks a rule

@@ -9,6 +9,7 @@ ghost use Rattle.cue_rules.specs.declared.rules.RuleFault.{RuleFault};
 use crate::rules::against::Against;
 use crate::rules::clash::breaks_clash;
 use crate::rules::formers::{Formers, cue_of};
+use crate::rules::off_slot::breaks_off_slot;
 use crate::rules::order::breaks_order;
 use crate::rules::overlap::breaks_overlap;
 use crate::rules::past_end::breaks_past_end;
@@ -16,12 +17,14 @@ use crate::rules::unhidden::breaks_unhidden;
 use crate::rules::windows::{breaks_delay_covers, breaks_share, breaks_window_busy};
 use cc_base::Why;
 use cue_types::{Cue, CueList};
+use line21_slots::slot_step;
 
 mod against;
 mod cells;
 mod clash;
 mod examples;
 mod formers;
+mod off_slot;
 mod order;
 mod overlap;
 mod past_end;
@@ -67,15 +70,17 @@ fn judge(list: &CueList, earlier: &[Cue], formers: Formers, cue: &Cue) -> Result
     let number = formers.number(earlier, cue);
     let former = cue_of(earlier, number);
     let rate = list.rate();
+    let step = slot_step(rate);
     let verdicts = [
         (Why::Order, breaks_order(rate, cue, former)),
         (Why::Overlap, breaks_overlap(cue, former)),
-        (Why::Clash, breaks_clash(cue, former)),
+        (Why::Clash, breaks_clash(step, cue, former)),
         (Why::Unhidden, breaks_unhidden(cue, former)),
         (Why::WindowBusy, breaks_window_busy(cue, earlier)),
         (Why::DelayCovers, breaks_delay_covers(rate, cue, earlier)),
         (Why::Share, breaks_share(list, cue)),
-        (Why::PastEnd, breaks_past_end(list.frames(), cue)),
+        (Why::PastEnd, breaks_past_end(step, list.frames(), cue)),
+        (Why::OffSlot, breaks_off_slot(rate, cue)),
     ];
     first_fault(&verdicts, earlier.len() as u32 + 1, number)
 }

@@ -1,5 +1,5 @@
 -- Line 21 cues: their channels, their pens and their runs on 15 rows of 32 columns (CTA-608-E; 47 CFR 79.101).
-use Rattle.std.specs.Prelude.{◌≡◌, ℕ, ◌+◌, ◌≤◌, ◌==◌, ◌&&◌, Bool, true, false, is_none, List, [], ◌∷◌, length, All, IsSome}
+use Rattle.std.specs.Prelude.{◌≡◌, ℕ, ◌+◌, ◌≤◌, ◌==◌, ◌&&◌, Bool, true, false, is_none, None, List, [], ◌∷◌, length, All, IsSome}
 use Rattle.line21_codes.specs.declared.channels.Chan.{Chan}
 use Rattle.line21_codes.specs.declared.channels.Chan.TheVariants as chan
 use Rattle.line21_codes.specs.declared.styles.Colour.TheVariants as colour
@@ -30,6 +30,7 @@ pub record IsLine21Run (run : Run) : Type 0 where
   pub some : 1 ≤ length run.text
   pub fits : run.col + length run.text ≤ 32
   pub coded : All (λ ch. IsSome (spelling_of ch)) run.text
+  pub colors : run.colors ≡ None
 
 -- the row of the first run, which is the base row of a roll-up cue
 abbrev pub base_row : List Run → ℕ

@@ -29,6 +29,8 @@ most_cues = 20000
 abbrev pub IsListRate : Rate → Type 0
 IsListRate rate.F2997 = Unit {0}
 IsListRate rate.F30 = Unit {0}
+IsListRate rate.F5994 = Unit {0}
+IsListRate rate.F60 = Unit {0}
 IsListRate _ = ⊥
 
 -- what holds of every cue list
@@ -36,6 +38,6 @@ pub record IsFormed (l : Listing) : Type 0 where
   pub rate : IsListRate l.rate
   pub some : 1 ≤ l.frames
   pub frames : l.frames ≤ most_frames
-  pub shares : AreShares l.shares
+  pub shares : AreShares l.rate l.shares
   pub few : length l.cues ≤ most_cues
   pub cues : All IsCueFormed l.cues

@@ -1,9 +1,18 @@
 -- Cues in windows of a DTVCC service: the ranges of the window and of its runs (CTA-708-E, 8.4).
-use Rattle.std.specs.Prelude.{◌+◌, ◌<◌, ◌≤◌, length}
+use Rattle.std.specs.Prelude.{◌+◌, ◌<◌, ◌≤◌, length, All, IfSome, IsSome}
+use Rattle.dtvcc_codes.specs.CharacterSpellings.{spelling_of}
+use Rattle.dtvcc_codes.specs.Spellable.{IsPenColors, IsWinAttr}
+use Rattle.dtvcc_codes.specs.declared.windows.WinAttr.{WinAttr}
 use Rattle.cue_types.specs.declared.cue.Pen.{Pen}
 use Rattle.cue_types.specs.declared.cue.Pen.TheVariants as pen
 use Rattle.cue_types.specs.declared.cue.Run.{Run}
 use Rattle.cue_types.specs.declared.cue.WinCue.{WinCue}
+
+-- attributes that have a meaning: an effect and a border that the standard names
+pub record AreWindowAttributes (attributes : WinAttr) : Type 0 where
+  pub spellable : IsWinAttr attributes
+  pub effect : attributes.effect ≤ 2
+  pub border_kind : attributes.border_kind ≤ 5
 
 -- a DTVCC window in its ranges
 pub record IsWindow (w : WinCue) : Type 0 where
@@ -18,16 +27,19 @@ pub record IsWindow (w : WinCue) : Type 0 where
   pub priority : w.priority ≤ 7
   pub ws : (1 ≤ w.ws) × (w.ws ≤ 7)
   pub ps : (1 ≤ w.ps) × (w.ps ≤ 7)
+  pub attr : IfSome w.attr AreWindowAttributes
 
 -- the pen of a window's run
 abbrev pub IsWindowPen : Pen → Type 0
 IsWindowPen (pen.Line21 _) = ⊥
 IsWindowPen (pen.Dtv _ _) = Unit {0}
 
--- a run in the rows and columns of its window
+-- a run in the rows and columns of its window, each of whose characters has a code
 pub record IsWindowRun (w : WinCue) (run : Run) : Type 0 where
   pub row : run.row < w.rows
   pub col : run.col < w.cols
   pub pen : IsWindowPen run.pen
   pub some : 1 ≤ length run.text
   pub fits : run.col + length run.text ≤ w.cols
+  pub coded : All (λ ch. IsSome (spelling_of ch)) run.text
+  pub colors : IfSome run.colors IsPenColors

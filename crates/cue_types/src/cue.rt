@@ -1,5 +1,6 @@
 use crate::runs::Runs;
 use crate::text::Text;
+use dtvcc_codes::{PenColors, WinAttr};
 use line21_codes::{Chan, Style};
 
 /// How a cue is shown, and where.
@@ -40,6 +41,8 @@ pub struct WinCue {
     pub ws: u8,
     /// The predefined pen style, 1 to 7.
     pub ps: u8,
+    /// The window's attributes (CTA-708-E, SWA); without them, those of the window style.
+    pub attr: Option<WinAttr>,
 }
 
 /// What a run is written with.
@@ -62,6 +65,8 @@ pub struct Run {
     pub pen: Pen,
     /// The characters, one a column.
     pub text: Text,
+    /// The colours of a window's run (CTA-708-E, SPC); without them, those of the window's pen style. A line 21 run has none.
+    pub colors: Option<PenColors>,
 }
 
 /// A caption.

@@ -55,7 +55,7 @@ impl CueList {
         }
     }
 
-    /// The frame rate, 29.97 or 30 frames a second.
+    /// The frame rate, 29.97, 30, 59.94 or 60 frames a second.
     pub fn rate(&self) -> Rate
         ensures { result ≡ self.now.rate }
     {

@@ -79,6 +79,7 @@ fn records_of_services_are_spelled(rt: HostRuntime) -> Result<(), Fail> {
         priority: 5,
         ws: 6,
         ps: 7,
+        attr: None,
     };
     let cue = Cue {
         load: 0,
@@ -100,6 +101,7 @@ fn records_of_services_are_spelled(rt: HostRuntime) -> Result<(), Fail> {
             underline: true,
         },
         text: Text::from_vec(Vec::from_array(rt.alloc(), ['(', '\u{e9}', ')'])?),
+        colors: None,
     };
     let row = run_record(rt.alloc(), &run)?;
     has_fields(

@@ -1,5 +1,5 @@
 -- Worked examples of the rules: short lists of 100 frames, and their faults.
-use Rattle.std.specs.Prelude.{ℕ, false, List, [], ◌∷◌, Option, Some}
+use Rattle.std.specs.Prelude.{ℕ, false, List, [], ◌∷◌, Option, Some, None}
 use Rattle.cc_base.specs.declared.rate.Rate.TheVariants as rate
 use Rattle.cc_base.specs.declared.why.Why.{Why}
 use Rattle.line21_codes.specs.declared.channels.Chan.{Chan}
@@ -25,6 +25,7 @@ example_run colour row col text = record {
   col = col;
   pen = pen.Line21 (record { colour = colour; italic = false; underline = false });
   text = text;
+  colors = None;
 }
 
 -- a cue with these runs

@@ -4,9 +4,9 @@ use Rattle.cue_types.specs.declared.cue.Cue.{Cue}
 use Rattle.cue_rules.specs.Rules.Alternatives.{Alternative, alone, hide_is}
 use Rattle.cue_types.specs.Lane.{is_line21, is_win}
 
--- on a channel, HIDE + 2 is above FRAMES
-abbrev pub hides_past_end : ℕ → Cue → Bool
-hides_past_end frames cue = is_line21 cue.kind && hide_is cue.hide (λ hide. nat_lt frames (hide + 2))
+-- on a channel, HIDE, a step from slot to slot and 1 together are above FRAMES
+abbrev pub hides_past_end : ℕ → ℕ → Cue → Bool
+hides_past_end step frames cue = is_line21 cue.kind && hide_is cue.hide (λ hide. nat_lt frames (hide + step + 1))
 
 -- on a channel, HIDE is empty, and SHOW isn't below FRAMES
 abbrev pub shows_past_end : ℕ → Cue → Bool
@@ -17,9 +17,9 @@ abbrev pub window_past_end : ℕ → Cue → Bool
 window_past_end frames cue = is_win cue.kind && hide_is cue.hide (λ hide. nat_le frames hide)
 
 -- the ways to break the rule
-abbrev pub past_end : ℕ → Cue → List Alternative
-past_end frames cue =
-    alone (hides_past_end frames cue)
+abbrev pub past_end : ℕ → ℕ → Cue → List Alternative
+past_end step frames cue =
+    alone (hides_past_end step frames cue)
     ∷ alone (shows_past_end frames cue)
     ∷ alone (window_past_end frames cue)
     ∷ []
