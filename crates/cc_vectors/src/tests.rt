@@ -9,6 +9,7 @@ use std::test::Fail;
 mod build;
 mod cues;
 mod decode;
+mod double_rates;
 mod pairs;
 mod seen;
 mod show;

@@ -1,6 +1,7 @@
 -- What holds of the output of an accepted list.
-use Rattle.std.proofs.Common.{sym, subst, true, false, ℕ, suc, List, reverse, arith, Option, Some, None}
+use Rattle.std.proofs.Common.{◌≡◌, ◌∙◌, sym, subst, true, false, ℕ, suc, List, reverse, arith, Option, Some, None}
 use Rattle.std.specs.Prelude.{IfSome}
+use Rattle.std.specs.Io.KnownBytes.{Appends}
 use Rattle.cc_base.specs.Streams.{Puts}
 use Rattle.cc_base.specs.declared.streams.Put.TheVariants as put
 use Rattle.line21_codes.specs.declared.pairs.Pair.{Pair}
@@ -8,6 +9,9 @@ use Rattle.line21_screen.specs.Meaning.{after}
 use Rattle.cc_base.specs.declared.streams.Put.{Put}
 use Rattle.line21_codes.specs.declared.channels.Chan.TheVariants.{Cc1, Cc3}
 use Rattle.cue_lists.specs.Listing.{IsFormed, Listing}
+use Rattle.cue_lists.specs.Printing.{in_order, list_bytes}
+use Rattle.cue_lists.specs.Records.{records_of}
+use Rattle.cue_lists.specs.Spelling.{list_records}
 use Rattle.cue_lists.specs.declared.lane.Lane.TheVariants.{Channel}
 use Rattle.frame_scheduler.specs.Columns.{Columns}
 use Rattle.frame_scheduler.specs.Frames.{GivesFrom, frames_left}
@@ -19,8 +23,8 @@ use Rattle.frame_carrier.proofs.CarriedLemmas.{frames_carried}
 use Rattle.line21_shown.specs.Shown.{ShowsField}
 use Rattle.line21_shown.proofs.CaptionedLemmas.{AreBytes, frame_bytes}
 use Rattle.line21_shown.proofs.SequenceLemmas.{authored_seen}
-use Rattle.cue_list_commands.specs.Accepted.{IsAccepted}
-use Rattle.cue_list_commands.specs.ListAnswer.{PutsFront, PutsOutput}
+use Rattle.cue_list_commands.specs.Accepted.{IsAccepted, IsGoodList}
+use Rattle.cue_list_commands.specs.ListAnswer.{PutsFront, PutsList, PutsOutput}
 use Rattle.cue_list_commands.specs.Output.{AreDoubled, IsSoundPairs, IsSoundWords, build_output, pairs_output}
 use Rattle.cue_list_commands.specs.Lines.{pair_lines}
 use Rattle.cue_list_commands.specs.Reads.{IsProgrammeOf}
@@ -125,3 +129,15 @@ pub words_front : (left old new : Option (List ℕ)) (programme : Programme) →
     → IfSome left (λ bytes. PutsFront build_output bytes old new)
 words_front left old new programme is puts =
     front_put build_output left old new programme is (λ bytes of. words_are old new put.Failed bytes programme of puts)
+
+-- a list was put as it is written
+pub list_put : (left old new : Option (List ℕ)) (list : Listing) (text piece : List ℕ) → IfSome left (λ bytes. IsGoodList bytes list)
+    → text ≡ list_bytes list → records_of text ≡ list_records (in_order list) → piece ≡ text → Appends old new piece
+    → IfSome left (λ bytes. PutsList bytes old new)
+list_put None old new list text piece good is again same puts = tt
+list_put (Some bytes) old new list text piece good is again same puts = record {
+  list = list;
+  good = good;
+  output_is = subst (Appends old new) (same ∙ is) puts;
+  again = subst (λ (t : List ℕ). records_of t ≡ list_records (in_order list)) is again;
+}

@@ -1,4 +1,4 @@
--- The events of a channel of a list that keeps the rules in slots are apart, and within its slots.
+-- The events of a channel of a list that keeps the rules are apart, and within its slots.
 use Rattle.std.proofs.Common.{◌≡◌, ℕ, ◌+◌, ◌<◌, ◌≤◌, Bool, true, false, List, [], ◌∷◌, ◌++◌, refl, arith}
 use Rattle.std.specs.Prelude.{Option, Some, None, All, IfSome, IsSome, MatchOption, if◌then◌else◌}
 use Rattle.std.specs.List.{AllByRecursion}
@@ -6,25 +6,25 @@ use Rattle.std.proofs.lemmas.List.Elements.{All-from_recursion, recursion_from_A
 use Rattle.line21_codes.specs.declared.channels.Chan.{Chan}
 use Rattle.line21_codes.specs.declared.codes.Control.TheVariants.{Eoc, Edm}
 use Rattle.cue_lists.specs.Cues.{IsCueFormed}
-use Rattle.cue_lists.specs.Listing.{Listing}
+use Rattle.cue_lists.specs.Listing.{IsFormed, Listing}
+use Rattle.cue_lists.specs.Rules.{IsRuled}
 use Rattle.cue_lists.specs.Rules.Lane.{is_pop}
-use Rattle.cue_lists.specs.Rules.Sentences.{IsSound}
 use Rattle.cue_lists.specs.declared.cue.Cue.{Cue}
 use Rattle.cue_lists.proofs.ChannelCues.{cues_on_formed, hides_unless_roll, pop_is_not_roll}
-use Rattle.cue_lists.proofs.ChannelRules.{in_sequence_sound}
 use Rattle.line21_codes.specs.Channels.{is_in_second_field}
 use Rattle.line21_author.specs.Channels.{cues_on}
 use Rattle.line21_author.specs.CueEvents.{event_of, is_replaced_at, show_events, hide_events, events_of, channel_events}
 use Rattle.line21_author.specs.EventOrder.{AreApart}
 use Rattle.line21_author.specs.declared.event.Event.{Event}
 use Rattle.line21_author.proofs.CueEventsLemmas.{events_of_apart}
-use Rattle.frame_scheduler.specs.SlotLists.{KeepsSlots, slot_cues, slots_in_list}
-use Rattle.frame_scheduler.proofs.SlotLemmas.{slot_cues_formed}
+use Rattle.line21_author.proofs.SlotSequenceLemmas.{IsSoundInSlots, all_sound_in_slots}
+use Rattle.frame_scheduler.specs.SlotLists.{slot_cues, slots_in_list}
+use Rattle.frame_scheduler.proofs.SlotLemmas.{slot_cues_formed, slot_sequence}
 
 -- the events of a channel are apart
-pub events_apart : (list : Listing) → KeepsSlots list → (channel : Chan) → AreApart (channel_events channel (slot_cues list channel))
-events_apart list keeps channel =
-    events_of_apart (is_in_second_field channel) (slots_in_list list channel) (cues_on channel (slot_cues list channel)) (keeps.sequence channel)
+pub events_apart : (list : Listing) → IsRuled list → (channel : Chan) → AreApart (channel_events channel (slot_cues list channel))
+events_apart list ruled channel =
+    events_of_apart (is_in_second_field channel) (slots_in_list list channel) (cues_on channel (slot_cues list channel)) (slot_sequence list ruled channel)
 
 -- the event has ended when so many slots have
 abbrev pub HasEnded : ℕ → Event → Type 0
@@ -62,7 +62,7 @@ hide_ended second_field frames show (Some hide) later ended =
 
 -- the events of sound cues have ended when the list has
 events_ended : (second_field : Bool) (frames : ℕ) (cues : List Cue) → AllByRecursion IsCueFormed cues
-    → AllByRecursion (IsSound frames) cues → AllByRecursion (HasEnded frames) (events_of second_field cues)
+    → AllByRecursion (IsSoundInSlots frames) cues → AllByRecursion (HasEnded frames) (events_of second_field cues)
 events_ended second_field frames [] formed sound = tt
 events_ended second_field frames (cue ∷ later) formed sound =
     ended-append frames (show_events second_field cue ++ hide_events second_field cue.hide later)
@@ -75,11 +75,11 @@ events_ended second_field frames (cue ∷ later) formed sound =
     (events_ended second_field frames later formed.1 sound.1)
 
 -- each event of a channel has ended when the list has, its repeat counted
-pub events_within : (list : Listing) → KeepsSlots list → (channel : Chan)
+pub events_within : (list : Listing) → IsFormed list → IsRuled list → (channel : Chan)
     → All (λ event. event.slot + 2 ≤ slots_in_list list channel) (channel_events channel (slot_cues list channel))
-events_within list keeps channel =
+events_within list formed ruled channel =
     let cues = cues_on channel (slot_cues list channel) in
     All-from_recursion (HasEnded (slots_in_list list channel)) (channel_events channel (slot_cues list channel))
     (events_ended (is_in_second_field channel) (slots_in_list list channel) cues
-    (recursion_from_All IsCueFormed cues (cues_on_formed channel (slot_cues list channel) (slot_cues_formed list keeps channel)))
-    (in_sequence_sound (slots_in_list list channel) cues (keeps.sequence channel)))
+    (recursion_from_All IsCueFormed cues (cues_on_formed channel (slot_cues list channel) (slot_cues_formed list formed channel)))
+    (all_sound_in_slots (slots_in_list list channel) cues (slot_sequence list ruled channel)))

@@ -10,8 +10,6 @@ use Rattle.line21_codes.specs.declared.channels.Chan.TheVariants.{Cc1, Cc3}
 use Rattle.cue_lists.specs.Cues.{IsCueFormed}
 use Rattle.cue_lists.specs.Listing.{IsFormed, Listing}
 use Rattle.cue_lists.specs.Rules.{IsRuled}
-use Rattle.cue_lists.specs.Rules.Sentences.{IsSound}
-use Rattle.cue_lists.proofs.ChannelRules.{in_sequence_sound}
 use Rattle.cue_lists.specs.declared.cue.Cue.{Cue}
 use Rattle.cue_lists.specs.declared.lane.Lane.TheVariants.{Channel}
 use Rattle.line21_codes.specs.declared.pairs.Pair.{Pair}
@@ -27,6 +25,7 @@ use Rattle.line21_author.specs.declared.event.Event.{Event}
 use Rattle.line21_author.specs.declared.unit.Unit.{Unit}
 use Rattle.line21_author.proofs.CueEventsLemmas.{channel_events_control}
 use Rattle.line21_author.proofs.CueUnitsLemmas.{units_of_carried}
+use Rattle.line21_author.proofs.SlotSequenceLemmas.{IsSoundInSlots, all_sound_in_slots}
 use Rattle.frame_scheduler.specs.declared.lane.piece.Piece.{Piece}
 use Rattle.frame_scheduler.specs.ChannelLane.{IsChannelPlaced, channel_pieces, cue_pieces, pieces_from}
 use Rattle.frame_scheduler.specs.Columns.{first_pairs}
@@ -35,11 +34,11 @@ use Rattle.frame_scheduler.specs.LaneDoubling.{AreDoubledControls, AreEnded}
 use Rattle.frame_scheduler.specs.LaneEvents.{AreOver}
 use Rattle.frame_scheduler.specs.LaneTimeline.{lane_timeline}
 use Rattle.frame_scheduler.specs.Planned.{IsListPlaced, Placement, channel_pair, columns_of}
-use Rattle.frame_scheduler.specs.SlotLists.{KeepsSlots, slot_cues, slots_in_list}
+use Rattle.frame_scheduler.specs.SlotLists.{slot_cues, slots_in_list}
 use Rattle.frame_scheduler.specs.Timeline.{Timeline, column, slot}
 use Rattle.frame_scheduler.proofs.DoublingLemmas.{lane_doubled}
 use Rattle.frame_scheduler.proofs.EventsApartLemmas.{events_apart, events_within}
-use Rattle.frame_scheduler.proofs.SlotLemmas.{keeps_slots, slot_cues_formed}
+use Rattle.frame_scheduler.proofs.SlotLemmas.{slot_cues_formed, slot_sequence}
 
 -- a unit's pair is a control pair where it is doubled, and its time has ended at the list's end
 record IsWithin (frames : ℕ) (piece : Piece) : Type 0 where
@@ -50,19 +49,19 @@ show_within : (show frames : ℕ) (hide : Option ℕ) → MatchOption hide (show
 show_within show frames None ended hidden = omega arith
 show_within show frames (Some h) ended hidden = omega arith
 
-cue_within : (frames number : ℕ) (cue : Cue) → IsCueFormed cue → IsSound frames cue → All (IsWithin frames) (cue_pieces number cue)
+cue_within : (frames number : ℕ) (cue : Cue) → IsCueFormed cue → IsSoundInSlots frames cue → All (IsWithin frames) (cue_pieces number cue)
 cue_within frames number cue formed sound =
     All-map (IsWithin frames) (λ (unit : Unit). record { unit = unit; load = cue.load; until = cue.show; cue = number }) (units_of cue)
     (All-weaker IsCarried (λ (unit : Unit). IsWithin frames (record { unit = unit; load = cue.load; until = cue.show; cue = number }))
     (λ unit carried. record { doubled = carried.doubled; ended = show_within cue.show frames cue.hide sound.ended sound.hidden })
     (units_of cue) (units_of_carried cue formed))
 
-pieces_within : (channel : Chan) (frames number : ℕ) (cues : List Cue) → All IsCueFormed cues → AllByRecursion (IsSound frames) (cues_on channel cues)
+pieces_within : (channel : Chan) (frames number : ℕ) (cues : List Cue) → All IsCueFormed cues → AllByRecursion (IsSoundInSlots frames) (cues_on channel cues)
     → All (IsWithin frames) (pieces_from channel number cues)
 pieces_within channel frames number [] formed sound = All-nil (IsWithin frames)
 pieces_within channel frames number (cue ∷ cues) formed sound =
     let behind = pieces_within channel frames (suc number) cues (All-tail IsCueFormed cue cues formed) in
-    (elim (is_on channel cue.kind) as (λ on. AllByRecursion (IsSound frames) (if on then cue ∷ cues_on channel cues else cues_on channel cues)
+    (elim (is_on channel cue.kind) as (λ on. AllByRecursion (IsSoundInSlots frames) (if on then cue ∷ cues_on channel cues else cues_on channel cues)
     → All (IsWithin frames) ((if on then cue_pieces number cue else []) ++ pieces_from channel (suc number) cues)) [
       | true ↦ λ all. All-append (IsWithin frames) (cue_pieces number cue) (pieces_from channel (suc number) cues)
           (cue_within frames number cue (All-head IsCueFormed cue cues formed) all.0) (behind all.1)
@@ -75,23 +74,23 @@ events_over frames (event ∷ events) all =
     (All-head (λ event. event.slot + 2 ≤ frames) event events all, events_over frames events (All-tail (λ event. event.slot + 2 ≤ frames) event events all))
 
 -- the units of a channel's cues are within the list, and doubled where their pairs are control pairs
-channel_within : (list : Listing) (channel : Chan) → KeepsSlots list
+channel_within : (list : Listing) (channel : Chan) → IsFormed list → IsRuled list
     → All (IsWithin (slots_in_list list channel)) (channel_pieces channel (slot_cues list channel))
-channel_within list channel keeps =
-    pieces_within channel (slots_in_list list channel) 1 (slot_cues list channel) (slot_cues_formed list keeps channel)
-    (in_sequence_sound (slots_in_list list channel) (cues_on channel (slot_cues list channel)) (keeps.sequence channel))
+channel_within list channel formed ruled =
+    pieces_within channel (slots_in_list list channel) 1 (slot_cues list channel) (slot_cues_formed list formed channel)
+    (all_sound_in_slots (slots_in_list list channel) (cues_on channel (slot_cues list channel)) (slot_sequence list ruled channel))
 
 -- what begins on a channel is doubled exactly where it is a control pair
-pub channel_controls : (list : Listing) (channel : Chan) → KeepsSlots list
+pub channel_controls : (list : Listing) (channel : Chan) → IsFormed list → IsRuled list
     → AreDoubledControls (channel_events channel (slot_cues list channel)) (channel_pieces channel (slot_cues list channel))
-channel_controls list channel keeps =
+channel_controls list channel formed ruled =
     let events = channel_events channel (slot_cues list channel) in
     let pieces = channel_pieces channel (slot_cues list channel) in
     record {
       events_are = All-weaker IsControlEvent (λ event. IsTrue (is_control event.pair)) (λ event control. control.control) events
           (channel_events_control channel (slot_cues list channel) events refl);
       pieces_are = All-weaker (IsWithin (slots_in_list list channel)) (λ piece. is_control piece.unit.pair ≡ piece.unit.doubled) (λ piece w. w.doubled) pieces
-          (channel_within list channel keeps);
+          (channel_within list channel formed ruled);
     }
 
 -- what begins in the slots of a channel
@@ -99,17 +98,17 @@ abbrev pub channel_timeline : Listing → Chan → List ℕ → Timeline
 channel_timeline list channel placed = lane_timeline (channel_events channel (slot_cues list channel)) (channel_pieces channel (slot_cues list channel)) placed
 
 -- the slots of a channel are doubled
-channel_doubled : (list : Listing) (channel : Chan) (placed : List ℕ) → KeepsSlots list → IsChannelPlaced channel (slot_cues list channel) placed
+channel_doubled : (list : Listing) (channel : Chan) (placed : List ℕ) → IsFormed list → IsRuled list → IsChannelPlaced channel (slot_cues list channel) placed
     → IsDoubled (column (channel_timeline list channel placed) (slots_in_list list channel))
-channel_doubled list channel placed keeps earliest =
+channel_doubled list channel placed formed ruled earliest =
     let events = channel_events channel (slot_cues list channel) in
     let pieces = channel_pieces channel (slot_cues list channel) in
     let slots = slots_in_list list channel in
     let ended : AreEnded events pieces slots = record {
-      events_are = events_over slots events (events_within list keeps channel);
-      pieces_are = All-weaker (IsWithin slots) (λ piece. piece.until ≤ slots) (λ piece w. w.ended) pieces (channel_within list channel keeps);
+      events_are = events_over slots events (events_within list formed ruled channel);
+      pieces_are = All-weaker (IsWithin slots) (λ piece. piece.until ≤ slots) (λ piece w. w.ended) pieces (channel_within list channel formed ruled);
     } in
-    lane_doubled events pieces placed slots (events_apart list keeps channel) (channel_controls list channel keeps) ended earliest.placed
+    lane_doubled events pieces placed slots (events_apart list ruled channel) (channel_controls list channel formed ruled) ended earliest.placed
 
 -- one more frame has one more pair where it has a slot
 column_and : (c : Cadence) (t : Timeline) (n : ℕ)
@@ -137,13 +136,9 @@ field_two_is list placed (suc n) =
     ∙ column_and (cadence_of list.rate Cc3) (channel_timeline list Cc3 (placed (Channel Cc3))) n
 
 -- the pairs of each field of a placed list are doubled
-pub slots_doubled : (list : Listing) (placed : Placement) → KeepsSlots list → IsListPlaced list placed
-    → (second_field : Bool) → IsDoubled (first_pairs second_field (columns_of list placed) list.frames)
-slots_doubled list placed keeps is false =
-    subst IsDoubled (sym (field_one_is list placed list.frames)) (channel_doubled list Cc1 (placed (Channel Cc1)) keeps (is (Channel Cc1)))
-slots_doubled list placed keeps is true =
-    subst IsDoubled (sym (field_two_is list placed list.frames)) (channel_doubled list Cc3 (placed (Channel Cc3)) keeps (is (Channel Cc3)))
-
 pub columns_doubled : (list : Listing) (placed : Placement) → IsFormed list → IsRuled list → IsListPlaced list placed
     → (second_field : Bool) → IsDoubled (first_pairs second_field (columns_of list placed) list.frames)
-columns_doubled list placed formed ruled = slots_doubled list placed (keeps_slots list formed ruled)
+columns_doubled list placed formed ruled is false =
+    subst IsDoubled (sym (field_one_is list placed list.frames)) (channel_doubled list Cc1 (placed (Channel Cc1)) formed ruled (is (Channel Cc1)))
+columns_doubled list placed formed ruled is true =
+    subst IsDoubled (sym (field_two_is list placed list.frames)) (channel_doubled list Cc3 (placed (Channel Cc3)) formed ruled (is (Channel Cc3)))

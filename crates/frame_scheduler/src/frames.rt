@@ -4,8 +4,8 @@ ghost use Rattle.frame_scheduler.specs.LanePlan.{Planned, behind_frame, given_in
 use crate::lane::placed::PlacedLane;
 use arrayvec::ArrayVec;
 use cc_base::Rate;
-use line21_slots::Cadence;
 use line21_codes::{Chan, Pair};
+use line21_slots::Cadence;
 
 #[cfg(test)]
 mod tests;

@@ -1,4 +1,5 @@
 pub mod CueSlotLemmas
+pub mod SlotSequenceLemmas
 pub mod TextCodesLemmas
 pub mod RunCodesLemmas
 pub mod CueCodesLemmas

@@ -1,9 +1,9 @@
 ghost use Rattle.std.specs.Prelude.{◌≡◌, ℕ, ◌+◌, ◌^◌, ◌<◌, List, ◌∷◌, ◌++◌, [], All, IfOk, OnOk};
 ghost use Rattle.line21_codes.specs.Writable.{IsWritableControl};
 ghost use Rattle.cue_lists.specs.Rules.Lane.{is_pop};
-ghost use Rattle.cue_lists.specs.Rules.Sentences.{AreInSequence};
+ghost use Rattle.cue_lists.specs.Rules.Sentences.{AreInSequence, IsOnSlots};
 ghost use Rattle.std.specs.Option.{option_map};
-ghost use Rattle.line21_slots.specs.Cadences.{slot_from};
+ghost use Rattle.line21_slots.specs.Cadences.{slot_from, step_of};
 ghost use Rattle.line21_author.specs.CueSlots.{cues_in_slots, timed_in_slots};
 ghost use Rattle.line21_author.specs.Channels.{cues_on};
 ghost use Rattle.line21_author.specs.CueEvents.{event_of, show_events, hide_events, channel_events};
@@ -47,7 +47,8 @@ pub fn events(
 ) -> Result<Vec<Event>, AllocError>
     ensures events { IfOk result (λ events. events.items ≡ channel_events channel (cues_in_slots cadence cues.now)) }
     ensures control { IfOk result (λ events. All IsControlEvent events.items) }
-    ensures apart { IfOk result (λ events. (slots : ℕ) → AreInSequence slots (cues_on channel (cues_in_slots cadence cues.now)) → AreApart events.items) }
+    ensures apart { IfOk result (λ events. (frames : ℕ) → AreInSequence (step_of cadence) frames (cues_on channel cues.now)
+        → All (IsOnSlots cadence) (cues_on channel cues.now) → AreApart events.items) }
 {
     let second_field = channel.is_in_second_field();
     let mut events = Vec::new(alloc);

@@ -23,6 +23,7 @@ fn run(alloc: Global, row: u8, col: u8, style: Style, text: &str) -> Result<Run,
         col,
         pen: Pen::Line21(style),
         text: Text::from_vec(text.chars().collect(alloc)?),
+        colors: None,
     })
 }
 

@@ -14,7 +14,8 @@ use Rattle.line21_codes.specs.Writable.{IsWritable, IsWritableControl}
 use Rattle.line21_codes.specs.Writing.{written}
 use Rattle.line21_codes.proofs.CodeLemmas.{written-a, written-b, written-code_of}
 use Rattle.cue_lists.specs.Cues.{IsCueFormed}
-use Rattle.cue_lists.specs.Listing.{Listing}
+use Rattle.cue_lists.specs.Listing.{IsFormed, Listing}
+use Rattle.cue_lists.specs.Rules.{IsRuled}
 use Rattle.cue_lists.specs.Rules.Lane.{is_pop}
 use Rattle.cue_lists.specs.declared.cue.Cue.{Cue}
 use Rattle.cue_lists.specs.declared.cue.Kind.{Kind}
@@ -36,7 +37,7 @@ use Rattle.frame_scheduler.specs.ChannelLane.{IsChannelPlaced, channel_pieces, c
 use Rattle.frame_scheduler.specs.LaneEvents.{event_at}
 use Rattle.frame_scheduler.specs.LaneTimeline.{lane_timeline, stands}
 use Rattle.frame_scheduler.specs.Planned.{channel_pair}
-use Rattle.frame_scheduler.specs.SlotLists.{KeepsSlots, slot_cues}
+use Rattle.frame_scheduler.specs.SlotLists.{slot_cues}
 use Rattle.frame_scheduler.specs.Timeline.{Timeline, null_pair, repeat_at, repeat_of, slot}
 use Rattle.frame_scheduler.proofs.DoublingLemmas.{at_event, at_unit, lane_marked, lane_spaced, over_cases}
 use Rattle.frame_scheduler.proofs.EventsApartLemmas.{events_apart}
@@ -201,16 +202,16 @@ IsFirstPair pair = IsForFirst (code_of pair)
 written_first : (second_field : Bool) (code : Code) → IsWritable code → IsForFirst code → IsFirstPair (written second_field code)
 written_first second_field code writable first = subst IsForFirst (sym (written-code_of second_field code writable)) first
 
--- the timeline of a channel of a list that keeps the rules in slots and is placed
-pub channel_captioned : (list : Listing) (channel : Chan) (placed : List ℕ) → KeepsSlots list → IsChannelPlaced channel (slot_cues list channel) placed
+-- the timeline of a channel of a list that keeps the rules and is placed
+pub channel_captioned : (list : Listing) (channel : Chan) (placed : List ℕ) → IsFormed list → IsRuled list → IsChannelPlaced channel (slot_cues list channel) placed
     → IsCaptioned (channel_timeline list channel placed)
-channel_captioned list channel placed keeps earliest =
+channel_captioned list channel placed formed ruled earliest =
     let events = channel_events channel (slot_cues list channel) in
     let pieces = channel_pieces channel (slot_cues list channel) in
     record {
-      marked = lane_marked events pieces placed (channel_controls list channel keeps);
-      spaced = lane_spaced events pieces placed (events_apart list keeps channel) earliest.placed;
-      first = channel_all IsFirstPair written_first (slot_cues list channel) channel placed (slot_cues_formed list keeps channel);
+      marked = lane_marked events pieces placed (channel_controls list channel formed ruled);
+      spaced = lane_spaced events pieces placed (events_apart list ruled channel) earliest.placed;
+      first = channel_all IsFirstPair written_first (slot_cues list channel) channel placed (slot_cues_formed list formed channel);
     }
 
 -- both of the pair are bytes

@@ -1,5 +1,6 @@
 -- The first of the cues that a channel's timeline goes on with: its units, and what begins before and behind its SHOW.
-use Rattle.std.proofs.Common.{◌≡◌, ℕ, ◌<◌, ◌≤◌, Bool, List, [], ◌∷◌, ◌++◌, map, Option, Some, None, All, refl, sym, ap, ◌∙◌, subst, arith, append_assoc}
+use Rattle.std.proofs.Common.{◌≡◌, ℕ, ◌+◌, ◌*◌, ◌<◌, ◌≤◌, Bool, List, [], ◌∷◌, ◌++◌, map, Option, Some, None, All, refl, sym, ap, ◌∙◌, subst, arith, append_assoc}
+use Rattle.std.specs.Prelude.{IfSome, MatchOption}
 use Rattle.std.proofs.lemmas.List.Elements.{All-head, All-tail}
 use Rattle.line21_codes.specs.declared.codes.Code.{Code}
 use Rattle.line21_codes.specs.Reading.{code_of}
@@ -14,6 +15,7 @@ use Rattle.line21_author.specs.CueUnits.{unit_of}
 use Rattle.line21_author.specs.declared.event.Event.{Event}
 use Rattle.line21_author.specs.declared.unit.Unit.{Unit}
 use Rattle.line21_author.proofs.CueCodesLemmas.{cue_codes_writable}
+use Rattle.line21_author.proofs.SlotSequenceLemmas.{AreInSlots, IsSoundInSlots}
 use Rattle.frame_scheduler.specs.declared.lane.piece.Piece.{Piece}
 use Rattle.frame_scheduler.specs.ChannelLane.{cue_pieces}
 use Rattle.cue_lists.specs.Rules.Sentences.{AreInSequence}
@@ -25,17 +27,53 @@ use Rattle.line21_shown.proofs.LoadingLemmas.{erases, piece_code, piece_codes}
 use Rattle.line21_shown.proofs.SuffixLemmas.{ArePieces, ArePlacedFrom, LoadFrom, cue_loads, cue_until, events_behind, loads_from, parts, placed_behind, raised, stands_high, stands_low, stands_parts}
 
 -- the first of cues in sequence is sound
-pub first_sound : (frames : ℕ) (cue : Cue) (later : List Cue) → AreInSequence frames (cue ∷ later) → IsSound frames cue
-first_sound frames cue [] sequence = sequence
-first_sound frames cue (next ∷ later) sequence = sequence.0
+pub first_sound : (step frames : ℕ) (cue : Cue) (later : List Cue) → AreInSequence step frames (cue ∷ later) → IsSound step frames cue
+first_sound step frames cue [] sequence = sequence
+first_sound step frames cue (next ∷ later) sequence = sequence.0
 
 -- those behind it are in sequence
-pub rest_in_sequence : (frames : ℕ) (cue : Cue) (later : List Cue) → AreInSequence frames (cue ∷ later) → AreInSequence frames later
-rest_in_sequence frames cue [] sequence = tt
-rest_in_sequence frames cue (next ∷ later) sequence = sequence.2
+pub rest_in_sequence : (step frames : ℕ) (cue : Cue) (later : List Cue) → AreInSequence step frames (cue ∷ later) → AreInSequence step frames later
+rest_in_sequence step frames cue [] sequence = tt
+rest_in_sequence step frames cue (next ∷ later) sequence = sequence.2
+
+-- cues in sequence, slots being frames
+sound_in_slots : (slots : ℕ) (cue : Cue) → IsSound 1 slots cue → IsSoundInSlots slots cue
+sound_in_slots slots cue sound = record {
+  loaded = omega (arith, sound.loaded);
+  hidden = sound.hidden;
+  apart = sound.apart;
+  stays = λ pop. stays cue.hide (sound.stays pop);
+  ended = ended cue.hide sound.ended;
+}
+  where
+    stays : (hide : Option ℕ) → IfSome hide (λ h. cue.show + 2 * 1 ≤ h) → IfSome hide (λ h. cue.show + 2 ≤ h)
+    stays None below = tt
+    stays (Some h) below = omega arith
+
+    ended : (hide : Option ℕ) → MatchOption hide (cue.show < slots) (λ h. h + 1 + 1 ≤ slots) → MatchOption hide (cue.show < slots) (λ h. h + 2 ≤ slots)
+    ended None over = over
+    ended (Some h) over = omega arith
+
+vacated_before : (hide : Option ℕ) (load show : ℕ) → load < show → IfSome hide (λ h. h ≤ load) → IfSome hide (λ h. h < show)
+vacated_before None load show loaded low = tt
+vacated_before (Some h) load show loaded low = omega arith
+
+pub sequence_in_slots : (slots : ℕ) (cues : List Cue) → AreInSequence 1 slots cues → AreInSlots slots cues
+sequence_in_slots slots [] sequence = tt
+sequence_in_slots slots (cue ∷ []) sequence = sound_in_slots slots cue sequence
+sequence_in_slots slots (cue ∷ (next ∷ later)) sequence =
+    let loaded : next.load < next.show = (first_sound 1 slots next later sequence.2).loaded in (
+      sound_in_slots slots cue sequence.0,
+      record {
+        link = sequence.1;
+        later = omega (arith, sequence.1.loaded, loaded);
+        vacated = λ plain. vacated_before cue.hide next.load next.show loaded (sequence.1.cleared plain);
+      },
+      sequence_in_slots slots (next ∷ later) sequence.2,
+    )
 
 -- they load behind its SHOW
-rest_loads : (frames : ℕ) (cue : Cue) (later : List Cue) → AreInSequence frames (cue ∷ later) → LoadFrom cue.show later
+rest_loads : (frames : ℕ) (cue : Cue) (later : List Cue) → AreInSequence 1 frames (cue ∷ later) → LoadFrom cue.show later
 rest_loads frames cue [] sequence = tt
 rest_loads frames cue (next ∷ later) sequence = sequence.1.loaded
 
@@ -80,7 +118,7 @@ pub record Head (second_field : Bool) (t : Timeline) (a z : ℕ) (hide : Option 
 
 -- it is found, where a frame from SHOW on that is free is z or later
 pub head : (second_field : Bool) (t : Timeline) (frames a z : ℕ) (hide : Option ℕ) (cue : Cue) (later : List Cue) → IsCueFormed cue
-    → AreInSequence frames (cue ∷ later) → Continues second_field t a hide (cue ∷ later)
+    → AreInSequence 1 frames (cue ∷ later) → Continues second_field t a hide (cue ∷ later)
     → ((f : ℕ) → cue.show ≤ f → IsFree (events_on second_field hide (cue ∷ later)) f → z ≤ f)
     → Head second_field t a z hide cue later
 head second_field t frames a z hide cue later formed sequence on from =
@@ -100,7 +138,7 @@ head second_field t frames a z hide cue later formed sequence on from =
       first = split.first;
       rest = raised events a z (λ (piece : Piece). cue.show ≤ piece.load) behind split.back
           (λ piece f loads at free. from f (omega arith) free)
-          (loads_from frames cue.show later behind (rest_in_sequence frames cue later sequence) (rest_loads frames cue later sequence) on.are.3)
+          (loads_from frames cue.show later behind (rest_in_sequence 1 frames cue later sequence) (rest_loads frames cue later sequence) on.are.3)
           split.rest;
       same = λ n above.
           on.same n above

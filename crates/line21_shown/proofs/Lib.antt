@@ -4,6 +4,7 @@ pub mod CaptionedLemmas
 pub mod ChainLemmas
 pub mod CueWritingLemmas
 pub mod HeadLemmas
+pub mod LoadedLemmas
 pub mod LoadingLemmas
 pub mod OnScreenLemmas
 pub mod PopOnLemmas

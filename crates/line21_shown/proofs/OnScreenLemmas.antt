@@ -181,11 +181,11 @@ on_screen_of (kind.Roll channel rows) cue earlier s is plain line21 formed sever
 on_screen_of (kind.Win window) cue earlier s is plain line21 formed several apart begins = cc
 
 module _ (second_field : Bool) (t : Timeline) (frames a from : ℕ) (hide : Option ℕ) (g : Grid) (earlier : List Cue) (cue : Cue) (later : List Cue)
-    (plain : is_pop cue.kind ≡ false) (line21 : is_line21 cue.kind ≡ true) (formed : IsCueFormed cue) (sequence : AreInSequence frames (cue ∷ later))
+    (plain : is_pop cue.kind ≡ false) (line21 : is_line21 cue.kind ≡ true) (formed : IsCueFormed cue) (sequence : AreInSequence 1 frames (cue ∷ later))
     (on : Continues second_field t a hide (cue ∷ later)) (is : IsShown t a from hide g earlier) (link : AreBehind earlier (cue ∷ later))
     (low : a ≤ suc from) (before : a ≤ cue.load) where
-  sound : IsSound frames cue
-  sound = first_sound frames cue later sequence
+  sound : IsSound 1 frames cue
+  sound = first_sound 1 frames cue later sequence
 
   hidden : IfSome hide (λ h. h ≤ cue.load)
   hidden = hidden_by_load hide g earlier (acts t a) cue later is.newest link plain

@@ -30,7 +30,7 @@ use Rattle.line21_shown.specs.Doing.{does_all}
 use Rattle.line21_shown.specs.Reading.{does_unit, acts}
 use Rattle.line21_shown.proofs.BlindLemmas.{AreBlind, showing, pop_blind}
 use Rattle.line21_shown.proofs.CueWritingLemmas.{pop_written, runs_are_cells}
-use Rattle.line21_shown.proofs.HeadLemmas.{Continues, Head, continues_behind, events_on, first_sound, head, loading}
+use Rattle.line21_shown.proofs.HeadLemmas.{Continues, continues_behind, events_on, first_sound, Head, head, loading, sequence_in_slots}
 use Rattle.line21_shown.proofs.LoadingLemmas.{StandBeside, all_standing, erases, loads, standing, until}
 use Rattle.line21_shown.proofs.ScreenLemmas.{AreBehind, IsRollingFor, IsShown, hidden_by, is_shown, newest_first, shown_yet}
 use Rattle.line21_shown.proofs.SuffixLemmas.{at_show, before_show, behind_show, beside, showing_unit}
@@ -59,14 +59,14 @@ pub showing_own : (s : ChannelState) (g : Grid) → s.displayed ≡ g → s ≡ 
 showing_own s g is = ap (λ (shown : Grid). showing shown s) is
 
 module _ (second_field : Bool) (t : Timeline) (frames a from : ℕ) (hide : Option ℕ) (g : Grid) (earlier : List Cue) (cue : Cue) (later : List Cue)
-    (pop : is_pop cue.kind ≡ true) (formed : IsCueFormed cue) (sequence : AreInSequence frames (cue ∷ later))
+    (pop : is_pop cue.kind ≡ true) (formed : IsCueFormed cue) (sequence : AreInSequence 1 frames (cue ∷ later))
     (on : Continues second_field t a hide (cue ∷ later)) (is : IsShown t a from hide g earlier) (link : AreBehind earlier (cue ∷ later))
     (low : a ≤ suc from) (before : a ≤ cue.show) where
   apart : AreApart (events_of second_field (cue ∷ later))
-  apart = events_of_apart second_field frames (cue ∷ later) sequence
+  apart = events_of_apart second_field frames (cue ∷ later) (sequence_in_slots frames (cue ∷ later) sequence)
 
-  sound : IsSound frames cue
-  sound = first_sound frames cue later sequence
+  sound : IsSound 1 frames cue
+  sound = first_sound 1 frames cue later sequence
 
   -- at SHOW stands what shows the cue
   shows : event_at (events_on second_field hide (cue ∷ later)) cue.show ≡ Some (showing_unit second_field)

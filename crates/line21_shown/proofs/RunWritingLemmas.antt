@@ -103,7 +103,7 @@ coloured_is style =
 
 -- a run of its parts
 abbrev run_of : ℕ → ℕ → Style → List ℕ → Run
-run_of row col style text = record { row = row; col = col; pen = Line21 style; text = text }
+run_of row col style text = record { row = row; col = col; pen = Line21 style; text = text; colors = None }
 
 -- a place that the run covers, by whether it has a lead cell
 abbrev covered : Bool → ℕ → ℕ → ℕ → ℕ → ℕ → Bool
@@ -171,12 +171,16 @@ cells_is g row col style text =
     (fun_ext (λ r. fun_ext (λ c. cells_at lead g row col style text r c (lead_right (is_coloured (Line21 style)) col)))
     ∙ ap (λ x. with_text x row col style text) (led_is (is_upright_white style) (col == 0) lead g row col style (lead_is row col style text)))
 
+-- a run with this pen
+abbrev run_with : Pen → ℕ → ℕ → List ℕ → Run
+run_with pen row col text = record { row = row; col = col; pen = pen; text = text; colors = None }
+
 -- the codes of a run of its parts
 run_by_pen : (pen : Pen) (row col : ℕ) (text : List ℕ) (k : Captions) (o : Grid) (b : ℕ) (g : Grid) (p : PenState)
-    → IsLine21Run (record { row = row; col = col; pen = pen; text = text }) → IsHeld k b g row
-    → does_all (run_codes (record { row = row; col = col; pen = pen; text = text })) (canvas k o b g p)
-    ≡ canvas k o b (with_run (record { row = row; col = col; pen = pen; text = text }) g)
-    (pen_behind pen (record { row = row; col = col; pen = pen; text = text }) p)
+    → IsLine21Run (run_with pen row col text) → IsHeld k b g row
+    → does_all (run_codes (run_with pen row col text)) (canvas k o b g p)
+    ≡ canvas k o b (with_run (run_with pen row col text) g)
+    (pen_behind pen (run_with pen row col text) p)
 run_by_pen (Line21 style) row col text k o b g p formed held =
     let start : Grid = led (is_upright_white style) (col == 0) g row col style in
     does_all-append (approach row col style) (text_codes text) (canvas k o b g p)
@@ -186,7 +190,13 @@ run_by_pen (Line21 style) row col text k o b g p formed held =
     ∙ ap (λ x. canvas k o b x (pen_at row (col + length text) style)) (cells_is g row col style text)
 run_by_pen (Dtv italic underline) row col text k o b g p formed held = absurd formed.pen
 
+-- a line 21 run has no colours of its own
+run_is : (run : Run) → run.colors ≡ None → run ≡ run_with run.pen run.row run.col run.text
+run_is run none = ap (λ colors. record run { colors = colors }) none
+
 -- the codes of a run write it
 pub run_on : (run : Run) (k : Captions) (o : Grid) (b : ℕ) (g : Grid) (p : PenState) → IsLine21Run run → IsHeld k b g run.row
     → does_all (run_codes run) (canvas k o b g p) ≡ canvas k o b (with_run run g) (pen_behind run.pen run p)
-run_on run k o b g p formed held = run_by_pen run.pen run.row run.col run.text k o b g p formed held
+run_on run k o b g p formed held =
+    let same : run ≡ run_with run.pen run.row run.col run.text = run_is run formed.colors in
+    rw same (run_by_pen run.pen run.row run.col run.text k o b g p (rw (← same) formed) held)

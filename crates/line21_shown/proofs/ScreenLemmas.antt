@@ -40,7 +40,7 @@ pub record IsShown (t : Timeline) (a from : ℕ) (hide : Option ℕ) (g : Grid) 
 abbrev pub AreBehind : List Cue → List Cue → Type 0
 AreBehind [] cues = ⊤
 AreBehind (former ∷ earlier) [] = ⊤
-AreBehind (former ∷ earlier) (cue ∷ later) = ComesAfter former cue
+AreBehind (former ∷ earlier) (cue ∷ later) = ComesAfter 1 former cue
 
 -- what is shown is hidden by the SHOW of the next cue
 pub hidden_by : (hide : Option ℕ) (g : Grid) (earlier : List Cue) (s : ChannelState) (cue : Cue) (later : List Cue) → IsOfNewest hide g earlier s
@@ -71,18 +71,18 @@ not_shown_yet f (cue ∷ cues) earlier later =
     not_shown_yet f cues (cue ∷ earlier) later.1 ∙ rw test refl
 
 -- the cues behind a cue that isn't shown yet aren't either
-pub all_later : (frames f : ℕ) (cue : Cue) (later : List Cue) → AreInSequence frames (cue ∷ later) → f < cue.show → AreLater f (cue ∷ later)
-all_later frames f cue [] sequence above = (above, tt)
-all_later frames f cue (next ∷ later) sequence above =
+pub all_later : (step frames f : ℕ) (cue : Cue) (later : List Cue) → AreInSequence step frames (cue ∷ later) → f < cue.show → AreLater f (cue ∷ later)
+all_later step frames f cue [] sequence above = (above, tt)
+all_later step frames f cue (next ∷ later) sequence above =
     let behind : cue.show ≤ next.load = sequence.1.loaded in
-    let shown : next.load < next.show = (first_sound frames next later sequence.2).loaded in
-    (above, all_later frames f next later sequence.2 (omega arith))
+    let shown : next.load < next.show = (first_sound step frames next later sequence.2).loaded in
+    (above, all_later step frames f next later sequence.2 (omega arith))
 
 -- before the SHOW of the first of the cues, what is shown is what the earlier ones show
-pub shown_yet : (frames f : ℕ) (cue : Cue) (later earlier : List Cue) → AreInSequence frames (cue ∷ later) → f < cue.show
+pub shown_yet : (frames f : ℕ) (cue : Cue) (later earlier : List Cue) → AreInSequence 1 frames (cue ∷ later) → f < cue.show
     → shown_of_newest f (shown_by f earlier) ≡ shown_of_newest f (shown_by f (newest_first (cue ∷ later) earlier))
 shown_yet frames f cue later earlier sequence below =
-    ap (shown_of_newest f) (sym (not_shown_yet f (cue ∷ later) earlier (all_later frames f cue later sequence below)))
+    ap (shown_of_newest f) (sym (not_shown_yet f (cue ∷ later) earlier (all_later 1 frames f cue later sequence below)))
 
 -- a HIDE behind a frame hides nothing yet
 not_hidden_yet : (hide : Option ℕ) (n : ℕ) (g : Grid) → IfSome hide (λ h. n ≤ h) → until hide n g ≡ g

@@ -6,6 +6,7 @@ use Rattle.std.proofs.lemmas.Bool.Decides.{nat_tests}
 use Rattle.std.proofs.lemmas.List.{reverse-append, reverse-reverse}
 use Rattle.std.proofs.lemmas.List.Elements.{All-contains, All-contains_itself, All-from_recursion, All-head, All-tail, All-weaker, Contains-append_right, recursion_from_All}
 use Rattle.line21_codes.specs.declared.channels.Chan.{Chan}
+use Rattle.line21_slots.specs.Cadences.{slot_step}
 use Rattle.cue_lists.specs.AuthoredGrid.{Picture, authored_grid, blank, cell_in, cells_of, cells_of_cue, chain_of, is_past, chain_rows, shown_by, shown_from, shown_of_newest}
 use Rattle.cue_lists.specs.Cues.{IsCueFormed, IsOfKind}
 use Rattle.cue_lists.specs.Line21Cues.{base_row}
@@ -114,11 +115,11 @@ newest_is f cue later earlier shown behind =
     not_shown_yet f later (cue ∷ earlier) behind ∙ rw test refl
 
 -- behind a cue that isn't hidden yet, no cue is shown
-behind_hidden : (frames f : ℕ) (cue : Cue) (later : List Cue) → AreInSequence frames (cue ∷ later) → IsSome cue.hide → IfSome cue.hide (λ h. f < h)
+behind_hidden : (step frames f : ℕ) (cue : Cue) (later : List Cue) → AreInSequence step frames (cue ∷ later) → IsSome cue.hide → IfSome cue.hide (λ h. f < h)
     → AllByRecursion (λ (next : Cue). f < next.show) later
-behind_hidden frames f cue [] sequence some up = tt
-behind_hidden frames f cue (next ∷ later) sequence some up =
-    all_later frames f next later sequence.2 (next_later cue.hide some up sequence.1.shown)
+behind_hidden step frames f cue [] sequence some up = tt
+behind_hidden step frames f cue (next ∷ later) sequence some up =
+    all_later step frames f next later sequence.2 (next_later cue.hide some up sequence.1.shown)
   where
     next_later : (hide : Option ℕ) → IsSome hide → IfSome hide (λ h. f < h) → IfSome hide (λ h. h ≤ next.show) → f < next.show
     next_later None some up shown = cc
@@ -128,11 +129,11 @@ behind_hidden frames f cue (next ∷ later) sequence some up =
 abbrev IsNewest : ℕ → List Cue → Cue → Type 0
 IsNewest f back cue = is_roll cue.kind ≡ false → IsUp f cue → (earlier : List Cue) × (shown_by f back ≡ cue ∷ earlier)
 
-each_newest : (frames f : ℕ) (cues earlier : List Cue) → AllByRecursion IsCueFormed cues → AreInSequence frames cues → AllByRecursion (IsNewest f (newest_first cues earlier)) cues
-each_newest frames f [] earlier formed sequence = tt
-each_newest frames f (cue ∷ later) earlier formed sequence = (
-  λ plain up. (earlier, newest_is f cue later earlier up.0 (behind_hidden frames f cue later sequence (hides_unless_roll cue formed.0 plain) up.1)),
-  each_newest frames f later (cue ∷ earlier) formed.1 (rest_in_sequence frames cue later sequence),
+each_newest : (step frames f : ℕ) (cues earlier : List Cue) → AllByRecursion IsCueFormed cues → AreInSequence step frames cues → AllByRecursion (IsNewest f (newest_first cues earlier)) cues
+each_newest step frames f [] earlier formed sequence = tt
+each_newest step frames f (cue ∷ later) earlier formed sequence = (
+  λ plain up. (earlier, newest_is f cue later earlier up.0 (behind_hidden step frames f cue later sequence (hides_unless_roll cue formed.0 plain) up.1)),
+  each_newest step frames f later (cue ∷ earlier) formed.1 (rest_in_sequence step frames cue later sequence),
 )
 
 -- a pop-on or paint-on cue shows its cells
@@ -173,7 +174,7 @@ module _ (list : Listing) (formed : IsFormed list) (ruled : IsRuled list) (chann
   abbrev cues : List Cue
   cues = cues_on channel list.cues
 
-  sequence : AreInSequence list.frames cues
+  sequence : AreInSequence (slot_step list.rate) list.frames cues
   sequence = ruled.channels channel
 
   all_formed : AllByRecursion IsCueFormed cues
@@ -189,9 +190,9 @@ module _ (list : Listing) (formed : IsFormed list) (ruled : IsRuled list) (chann
   captioned : (cue : Cue) → Contains cues cue → is_roll cue.kind ≡ false → IsUp f cue → HasCells cue.runs (authored_grid channel list.cues f)
   captioned cue among plain up =
       let newest = All-contains (IsNewest f (newest_first cues [])) cues cue
-      (All-from_recursion (IsNewest f (newest_first cues [])) cues (each_newest list.frames f cues [] all_formed sequence)) among plain up in
-      let sound : IsSound list.frames cue =
-      All-contains (IsSound list.frames) cues cue (All-from_recursion (IsSound list.frames) cues (in_sequence_sound list.frames cues sequence)) among in
+      (All-from_recursion (IsNewest f (newest_first cues [])) cues (each_newest (slot_step list.rate) list.frames f cues [] all_formed sequence)) among plain up in
+      let sound : IsSound (slot_step list.rate) list.frames cue =
+      All-contains (IsSound (slot_step list.rate) list.frames) cues cue (All-from_recursion (IsSound (slot_step list.rate) list.frames) cues (in_sequence_sound (slot_step list.rate) list.frames cues sequence)) among in
       let line21 : is_line21 cue.kind ≡ true =
       line21_on channel cue.kind (All-contains (λ (x : Cue). is_on channel x.kind ≡ true) cues cue (cues_on_are_on channel list.cues) among) in
       subst (HasCells cue.runs)

@@ -10,7 +10,8 @@ use Rattle.line21_codes.specs.declared.channels.Chan.TheVariants.{Cc1, Cc3}
 use Rattle.line21_codes.specs.declared.pairs.Pair.{Pair}
 use Rattle.cue_lists.specs.AuthoredGrid.{IsSettled, IsSettledFor, authored_grid, shown_by, shown_from, shown_of_newest}
 use Rattle.cue_lists.specs.Cues.{IsCueFormed}
-use Rattle.cue_lists.specs.Listing.{Listing}
+use Rattle.cue_lists.specs.Listing.{IsFormed, Listing}
+use Rattle.cue_lists.specs.Rules.{IsRuled}
 use Rattle.cue_lists.specs.Rules.Lane.{is_line21, is_pop}
 use Rattle.cue_lists.specs.declared.cue.Cue.{Cue}
 use Rattle.cue_lists.specs.declared.lane.Lane.TheVariants.{Channel}
@@ -18,6 +19,7 @@ use Rattle.line21_codes.specs.Channels.{is_in_second_field}
 use Rattle.line21_author.specs.Channels.{cues_on}
 use Rattle.line21_slots.specs.Cadences.{cadence_of, slot_from}
 use Rattle.line21_author.specs.CueEvents.{channel_events, hide_events}
+use Rattle.line21_author.proofs.SlotSequenceLemmas.{AreInSlots, in_sequence}
 use Rattle.line21_screen.specs.Channels.{ChannelState}
 use Rattle.line21_screen.specs.Grid.{Grid, empty_grid}
 use Rattle.line21_screen.specs.Meaning.{after}
@@ -27,15 +29,16 @@ use Rattle.cue_lists.specs.Rules.Sentences.{AreInSequence}
 use Rattle.frame_scheduler.specs.LaneEvents.{event_at}
 use Rattle.frame_scheduler.specs.LaneTimeline.{lane_timeline, stands}
 use Rattle.frame_scheduler.specs.Planned.{columns_of}
-use Rattle.frame_scheduler.specs.SlotLists.{KeepsSlots, slot_cues, slots_in_list}
+use Rattle.frame_scheduler.specs.SlotLists.{slot_cues, slots_in_list}
 use Rattle.frame_scheduler.specs.Timeline.{Timeline, column, first_of, slot}
 use Rattle.frame_scheduler.proofs.ListDoublingLemmas.{channel_timeline, field_one_is, field_two_is}
-use Rattle.frame_scheduler.proofs.SlotLemmas.{keeps_slots, slot_cues_formed}
+use Rattle.frame_scheduler.proofs.SlotLemmas.{slot_cues_formed, slot_sequence}
 use Rattle.cue_lists.proofs.ChannelCues.{cues_on_are_on, cues_on_formed, hides_unless_roll, line21_on, pop_is_not_roll}
 use Rattle.line21_shown.specs.Reading.{acts, first_alone, pairs_before}
-use Rattle.line21_shown.specs.Shown.{AuthoredIsSeen, ShowsField, SlotsAreSeen}
+use Rattle.line21_shown.specs.Shown.{AuthoredIsSeen, ShowsField}
 use Rattle.line21_shown.proofs.CaptionedLemmas.{channel_captioned}
 use Rattle.line21_shown.proofs.HeadLemmas.{Continues, first_sound, rest_in_sequence}
+use Rattle.line21_shown.proofs.LoadedLemmas.{all_have_time, cues_loaded}
 use Rattle.line21_shown.proofs.LoadingLemmas.{erases, loads, until}
 use Rattle.line21_shown.proofs.OnScreenLemmas.{screen_before, screen_continues, screen_shown}
 use Rattle.line21_shown.proofs.PopOnLemmas.{pop_before, pop_continues, pop_shown, showing_own}
@@ -79,31 +82,31 @@ hidden_behind None show load some later cleared = cc
 hidden_behind (Some h) show load some later cleared = omega arith
 
 -- the cues behind a cue begin behind it
-begin_behind_pop : (frames : ℕ) (cue : Cue) (later : List Cue) → is_pop cue.kind ≡ true → IsCueFormed cue → AreInSequence frames (cue ∷ later)
+begin_behind_pop : (frames : ℕ) (cue : Cue) (later : List Cue) → is_pop cue.kind ≡ true → IsCueFormed cue → AreInSequence 1 frames (cue ∷ later)
     → BeginFrom (suc cue.show) later
 begin_behind_pop frames cue [] pop formed sequence = tt
 begin_behind_pop frames cue (next ∷ later) pop formed sequence =
     let behind : cue.show ≤ next.load = sequence.1.loaded in
-    let shown : next.load < next.show = (first_sound frames next later sequence.2).loaded in (
+    let shown : next.load < next.show = (first_sound 1 frames next later sequence.2).loaded in (
       λ plain. hidden_behind cue.hide cue.show next.load (hides_unless_roll cue formed (pop_is_not_roll cue.kind pop)) sequence.0.hidden (sequence.1.cleared plain),
       omega arith,
     )
 
-begin_behind : (frames : ℕ) (cue : Cue) (later : List Cue) → AreInSequence frames (cue ∷ later) → BeginFrom cue.show later
+begin_behind : (frames : ℕ) (cue : Cue) (later : List Cue) → AreInSequence 1 frames (cue ∷ later) → BeginFrom cue.show later
 begin_behind frames cue [] sequence = tt
 begin_behind frames cue (next ∷ later) sequence =
     let behind : cue.show ≤ next.load = sequence.1.loaded in
-    let shown : next.load < next.show = (first_sound frames next later sequence.2).loaded in
+    let shown : next.load < next.show = (first_sound 1 frames next later sequence.2).loaded in
     (λ plain. behind, omega arith)
 
 -- and after it
-after_it : (frames : ℕ) (cue : Cue) (later earlier : List Cue) → AreInSequence frames (cue ∷ later) → AreBehind (cue ∷ earlier) later
+after_it : (frames : ℕ) (cue : Cue) (later earlier : List Cue) → AreInSequence 1 frames (cue ∷ later) → AreBehind (cue ∷ earlier) later
 after_it frames cue [] earlier sequence = tt
 after_it frames cue (next ∷ later) earlier sequence = sequence.1
 
 -- cues in sequence: at each settled frame the screen has what they show
 cues_shown : (second_field : Bool) (t : Timeline) (frames a from : ℕ) (hide : Option ℕ) (g : Grid) (cues earlier : List Cue)
-    → AllByRecursion IsCaption cues → AreInSequence frames cues → BeginFrom a cues → AreBehind earlier cues
+    → AllByRecursion IsCaption cues → AreInSequence 1 frames cues → BeginFrom a cues → AreBehind earlier cues
     → Continues second_field t a hide cues → IsShown t a from hide g earlier → a ≤ suc from
     → (f : ℕ) → from ≤ f → AllByRecursion (IsSettledFor f) cues
     → (acts t (suc f)).displayed ≡ shown_of_newest f (shown_by f (newest_first cues earlier))
@@ -112,12 +115,12 @@ cues_shown second_field t frames a from hide g [] earlier captions sequence begi
 cues_shown second_field t frames a from hide g (cue ∷ later) earlier captions sequence begin link on is low f above settled =
     by_kind (is_pop cue.kind) refl
     (λ pop h. cues_shown second_field t frames (suc cue.show) cue.show cue.hide (shown_from cue.kind cue earlier) later (cue ∷ earlier) captions.1
-    (rest_in_sequence frames cue later sequence) (begin_behind_pop frames cue later pop captions.0.formed sequence) (after_it frames cue later earlier sequence)
+    (rest_in_sequence 1 frames cue later sequence) (begin_behind_pop frames cue later pop captions.0.formed sequence) (after_it frames cue later earlier sequence)
     (pop_continues second_field t frames a from hide g earlier cue later pop captions.0.formed sequence on is link low begin.1)
     (pop_shown second_field t frames a from hide g earlier cue later pop captions.0.formed sequence on is link low begin.1)
     (omega arith) f h settled.1)
     (λ plain h. cues_shown second_field t frames cue.show cue.show cue.hide (shown_from cue.kind cue earlier) later (cue ∷ earlier) captions.1
-    (rest_in_sequence frames cue later sequence) (begin_behind frames cue later sequence) (after_it frames cue later earlier sequence)
+    (rest_in_sequence 1 frames cue later sequence) (begin_behind frames cue later sequence) (after_it frames cue later earlier sequence)
     (screen_continues second_field t frames a from hide g earlier cue later plain captions.0.line21 captions.0.formed sequence on is link low (begin.0 plain))
     (screen_shown second_field t frames a from hide g earlier cue later plain captions.0.line21 captions.0.formed sequence on is link low (begin.0 plain))
     (omega arith) f h settled.1)
@@ -171,28 +174,36 @@ any_begin : (cues : List Cue) → BeginFrom 0 cues
 any_begin [] = tt
 any_begin (cue ∷ later) = (λ plain. omega arith, omega arith)
 
--- the cues of a channel in sequence, at a slot that is settled
-channel_shown : (slots : ℕ) (channel : Chan) (cues : List Cue) (placed : List ℕ) → All IsCueFormed cues → AreInSequence slots (cues_on channel cues)
+-- each is a cue of line 21
+lines_are : (cues : List Cue) → AllByRecursion IsCaption cues → AllByRecursion (λ (cue : Cue). is_line21 cue.kind ≡ true) cues
+lines_are [] captions = tt
+lines_are (cue ∷ cues) captions = (captions.0.line21, lines_are cues captions.1)
+
+-- the cues of a channel that are in sequence and placed, at a slot that is settled
+channel_shown : (slots : ℕ) (channel : Chan) (cues : List Cue) (placed : List ℕ) → All IsCueFormed cues → AreInSlots slots (cues_on channel cues)
     → IsChannelPlaced channel cues placed → (k : ℕ) → AllByRecursion (IsSettledFor k) (cues_on channel cues)
     → (acts (lane_timeline (channel_events channel cues) (channel_pieces channel cues) placed) (suc k)).displayed ≡ authored_grid channel cues k
 channel_shown slots channel cues placed formed sequence earliest k settled =
     let t = lane_timeline (channel_events channel cues) (channel_pieces channel cues) placed in
+    let captions = recursion_from_All IsCaption (cues_on channel cues) (captions_are channel cues formed) in
+    let stand = placed_from (channel_events channel cues) [] 0 (channel_pieces channel cues) placed (omega arith) earliest.placed in
+    let loaded = cues_loaded (cues_on channel cues) (channel_pieces channel cues) (lines_are (cues_on channel cues) captions) (pieces_are channel 1 cues)
+    (all_have_time (channel_events channel cues) 0 (channel_pieces channel cues) placed stand) in
     cues_shown (is_in_second_field channel) t slots 0 0 None empty_grid (cues_on channel cues) []
-    (recursion_from_All IsCaption (cues_on channel cues) (captions_are channel cues formed))
-    sequence (any_begin (cues_on channel cues)) tt
+    captions (in_sequence slots (cues_on channel cues) sequence loaded) (any_begin (cues_on channel cues)) tt
     (begins channel cues placed earliest) (empty_first t) (omega arith) k (omega arith) settled
     ∙ authored_is channel cues k
 
--- a channel of a placed list that keeps the rules in slots, behind the slots that have come by a settled frame
-slots_shown : (list : Listing) (channel : Chan) (placed : List ℕ) → KeepsSlots list → IsChannelPlaced channel (slot_cues list channel) placed
+-- a channel of a placed list that keeps the rules, behind the slots that have come by a settled frame
+slots_shown : (list : Listing) (channel : Chan) (placed : List ℕ) → IsFormed list → IsRuled list → IsChannelPlaced channel (slot_cues list channel) placed
     → (f m : ℕ) → slot_from (cadence_of list.rate channel) (suc f) ≡ m → IsSettled channel list.cues f
     → (acts (channel_timeline list channel placed) m).displayed ≡ authored_grid channel list.cues f
-slots_shown list channel placed keeps earliest f zero come settled =
-    sym (grid_before_slots (cadence_of list.rate channel) f come channel list.cues (keeps.on_slots channel))
-slots_shown list channel placed keeps earliest f (suc k) come settled =
-    channel_shown (slots_in_list list channel) channel (slot_cues list channel) placed (slot_cues_formed list keeps channel) (keeps.sequence channel) earliest k
-    (settled_in_slots (cadence_of list.rate channel) f k come channel list.cues (keeps.on_slots channel) settled)
-    ∙ grid_in_slots (cadence_of list.rate channel) f k come channel list.cues (keeps.on_slots channel)
+slots_shown list channel placed formed ruled earliest f zero come settled =
+    sym (grid_before_slots (cadence_of list.rate channel) f come channel list.cues (ruled.on_slots channel))
+slots_shown list channel placed formed ruled earliest f (suc k) come settled =
+    channel_shown (slots_in_list list channel) channel (slot_cues list channel) placed (slot_cues_formed list formed channel) (slot_sequence list ruled channel) earliest k
+    (settled_in_slots (cadence_of list.rate channel) f k come channel list.cues (ruled.on_slots channel) settled)
+    ∙ grid_in_slots (cadence_of list.rate channel) f k come channel list.cues (ruled.on_slots channel)
 
 -- the pairs of the first slots, the newest first
 newest_pairs : (t : Timeline) (n : ℕ) → reverse (column t n) ≡ pairs_before (slot t) n
@@ -200,30 +211,26 @@ newest_pairs t zero = refl
 newest_pairs t (suc n) = reverse-append (column t n) (slot t n ∷ []) ∙ ap (λ (pairs : List Pair). slot t n ∷ pairs) (newest_pairs t n)
 
 -- and the field that carries it
-field_shown : (list : Listing) (channel : Chan) (second_field : Bool) (placed : List ℕ) → KeepsSlots list
+field_shown : (list : Listing) (channel : Chan) (second_field : Bool) (placed : List ℕ) → IsFormed list → IsRuled list
     → IsChannelPlaced channel (slot_cues list channel) placed → (f : ℕ) (pairs : List Pair)
     → pairs ≡ column (channel_timeline list channel placed) (slot_from (cadence_of list.rate channel) (suc f))
     → ShowsField (after second_field (reverse pairs)) channel list.cues f
-field_shown list channel second_field placed keeps earliest f pairs are =
+field_shown list channel second_field placed formed ruled earliest f pairs are =
     let t = channel_timeline list channel placed in
     let m = slot_from (cadence_of list.rate channel) (suc f) in
     let state : after second_field (reverse pairs) ≡ first_alone (acts t m) =
     ap (λ (l : List Pair). after second_field (reverse l)) are ∙ ap (after second_field) (newest_pairs t m)
-    ∙ columns_read second_field t (channel_captioned list channel placed keeps earliest) m in
+    ∙ columns_read second_field t (channel_captioned list channel placed formed ruled earliest) m in
     record {
-      first = λ settled. ap (λ s. s.first.displayed) state ∙ slots_shown list channel placed keeps earliest f m refl settled;
+      first = λ settled. ap (λ s. s.first.displayed) state ∙ slots_shown list channel placed formed ruled earliest f m refl settled;
       second = ap (λ s. s.second.displayed) state;
     }
 
 -- what is authored is what is seen
-pub slots_seen : SlotsAreSeen
-slots_seen list placed keeps is f false =
-    field_shown list Cc1 false (placed (Channel Cc1)) keeps (is (Channel Cc1)) f (first_pairs false (columns_of list placed) (suc f))
-    (field_one_is list placed (suc f))
-slots_seen list placed keeps is f true =
-    field_shown list Cc3 true (placed (Channel Cc3)) keeps (is (Channel Cc3)) f (first_pairs true (columns_of list placed) (suc f))
-    (field_two_is list placed (suc f))
-
--- also where every frame has a slot in each field
 pub authored_seen : AuthoredIsSeen
-authored_seen list placed formed ruled = slots_seen list placed (keeps_slots list formed ruled)
+authored_seen list placed formed ruled is f false =
+    field_shown list Cc1 false (placed (Channel Cc1)) formed ruled (is (Channel Cc1)) f (first_pairs false (columns_of list placed) (suc f))
+    (field_one_is list placed (suc f))
+authored_seen list placed formed ruled is f true =
+    field_shown list Cc3 true (placed (Channel Cc3)) formed ruled (is (Channel Cc3)) f (first_pairs true (columns_of list placed) (suc f))
+    (field_two_is list placed (suc f))

@@ -13,6 +13,7 @@ use Rattle.line21_codes.specs.declared.channels.Chan.{Chan}
 use Rattle.cue_lists.specs.AuthoredGrid.{IsSettled, IsSettledFor, Picture, authored_grid, blank, cells_of_cue, chain_of, chain_rows, is_past, shown_by, shown_from, shown_of_newest}
 use Rattle.cue_lists.specs.Channels.{cues_on}
 use Rattle.cue_lists.specs.Line21Cues.{base_row, continues}
+use Rattle.cue_lists.specs.Rules.Sentences.{IsOnSlots}
 use Rattle.cue_lists.specs.declared.cue.Cue.{Cue}
 use Rattle.cue_lists.specs.declared.cue.Kind.{Kind}
 use Rattle.cue_lists.specs.declared.cue.Kind.TheVariants as kind
@@ -22,7 +23,6 @@ use Rattle.line21_author.specs.CueSlots.{cues_in_slots, timed_in_slots}
 use Rattle.line21_slots.specs.declared.cadence.Cadence.{Cadence}
 use Rattle.line21_slots.proofs.CadenceLemmas.{frame_not_before, own_frame, slots_rise}
 use Rattle.line21_author.proofs.CueSlotLemmas.{cues_on_slots}
-use Rattle.frame_scheduler.specs.SlotLists.{IsOnSlots}
 
 -- the cues of a chain in slots
 still_none : (c : Cadence) (hide : Option ℕ) → is_none (option_map (slot_from c) hide) ≡ is_none hide

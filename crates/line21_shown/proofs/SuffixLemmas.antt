@@ -192,7 +192,7 @@ LoadFrom b [] = ⊤
 LoadFrom b (cue ∷ later) = b ≤ cue.load
 
 -- then all of them do
-pub loads_from : (frames b : ℕ) (cues : List Cue) (pieces : List Piece) → AreInSequence frames cues → LoadFrom b cues → ArePieces cues pieces
+pub loads_from : (frames b : ℕ) (cues : List Cue) (pieces : List Piece) → AreInSequence 1 frames cues → LoadFrom b cues → ArePieces cues pieces
     → All (λ piece. b ≤ piece.load) pieces
 loads_from frames b [] pieces sequence from are = subst (All (λ (piece : Piece). b ≤ piece.load)) (sym are) (All-nil (λ (piece : Piece). b ≤ piece.load))
 loads_from frames b (cue ∷ []) pieces sequence from are =
@@ -320,7 +320,7 @@ hides_from second_field show None later hidden = tt
 hides_from second_field show (Some hide) later hidden = hides_from_at second_field (is_replaced_at hide later) show hide hidden
 
 -- the events of cues in sequence are at the SHOW of the first of them or later
-pub events_from : (second_field : Bool) (frames : ℕ) (cue : Cue) (later : List Cue) → AreInSequence frames (cue ∷ later)
+pub events_from : (second_field : Bool) (frames : ℕ) (cue : Cue) (later : List Cue) → AreInSequence 1 frames (cue ∷ later)
     → AreFrom cue.show (events_of second_field (cue ∷ later))
 events_from second_field frames cue [] sequence =
     from-append cue.show (show_events second_field cue ++ hide_events second_field cue.hide []) []
@@ -333,7 +333,7 @@ events_from second_field frames cue (next ∷ later) sequence =
     (from_earlier cue.show next.show (events_of second_field (next ∷ later)) (next_shown next later sequence.1.loaded sequence.2)
     (events_from second_field frames next later sequence.2))
   where
-    next_shown : (next : Cue) (later : List Cue) → cue.show ≤ next.load → AreInSequence frames (next ∷ later) → cue.show ≤ next.show
+    next_shown : (next : Cue) (later : List Cue) → cue.show ≤ next.load → AreInSequence 1 frames (next ∷ later) → cue.show ≤ next.show
     next_shown next [] behind sequence = let shown : next.load < next.show = sequence.loaded in omega arith
     next_shown next (third ∷ later) behind sequence = let shown : next.load < next.show = sequence.0.loaded in omega arith
 

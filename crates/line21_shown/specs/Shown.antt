@@ -9,7 +9,6 @@ use Rattle.cue_lists.specs.declared.cue.Cue.{Cue}
 use Rattle.line21_screen.specs.Fields.{FieldState}
 use Rattle.line21_screen.specs.Meaning.{after}
 use Rattle.frame_scheduler.specs.Columns.{Columns, first_pairs}
-use Rattle.frame_scheduler.specs.SlotLists.{KeepsSlots}
 use Rattle.frame_scheduler.specs.Planned.{IsListPlaced, Placement, authored_channel, columns_of}
 
 -- a field's state at a frame: what its pairs up to that of the frame leave in a receiver that was reset
@@ -24,12 +23,6 @@ pub record ShowsField (state : FieldState) (channel : Chan) (cues : List Cue) (f
 -- the states of the fields at a frame show a list's cues: each field those of its channel, CC1 or CC3, with CC2 or CC4 blank
 abbrev pub ShowsList : Listing → (Bool → FieldState) → ℕ → Type 0
 ShowsList list states frame = (second_field : Bool) → ShowsField (states second_field) (authored_channel second_field) list.cues frame
-
--- what is authored is what is seen at every rate: the pairs of a list that keeps the rules in slots, in its earliest
--- placement, at every frame
-abbrev pub SlotsAreSeen : Type 0
-SlotsAreSeen = (list : Listing) (placed : Placement) → KeepsSlots list → IsListPlaced list placed → (frame : ℕ)
-    → ShowsList list (λ second_field. state_at second_field (columns_of list placed) frame) frame
 
 -- what is authored is what is seen: the pairs of a list that keeps the rules, in its earliest placement, at every frame
 abbrev pub AuthoredIsSeen : Type 0

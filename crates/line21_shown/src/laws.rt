@@ -4,7 +4,7 @@ ghost use Rattle.std.specs.Prelude.{[], ◌∷◌, ◌++◌};
 ghost use Rattle.line21_shown.specs.Examples.{IsSent, Shows, shown_cue, two_colours, two_colours_screen, rolling, letter_row, empty_rows};
 ghost use Rattle.line21_shown.specs.Reading.{ColumnsAreRead};
 ghost use Rattle.line21_shown.specs.Sentences.{AuthoredGridIsSaid, IsUp};
-ghost use Rattle.line21_shown.specs.Shown.{AuthoredIsSeen, SlotsAreSeen};
+ghost use Rattle.line21_shown.specs.Shown.{AuthoredIsSeen};
 ghost use Rattle.line21_shown.specs.Writing.{RunsAreWritten};
 
 /// The pairs of a field whose control pairs are doubled mean what its units do, one after another, each
@@ -23,13 +23,6 @@ pub fn runs_are_written()
 /// show, at every settled frame, the authored grids of CC1 and CC3, and blank grids on CC2 and CC4.
 pub fn authored_is_seen()
     ensures { AuthoredIsSeen }
-{}
-
-/// What is authored is what is seen at every rate, also where only every other frame has a slot of a field: the pairs of a list
-/// whose cues keep the rules in slots, and whose SHOW and HIDE are frames that have a slot, show the authored grids at every
-/// settled frame.
-pub fn slots_are_seen()
-    ensures { SlotsAreSeen }
 {}
 
 /// The authored grid, sentence by sentence: a pop-on or paint-on cue that is up shows the cells of its runs and

@@ -6,7 +6,7 @@ use std::alloc::Global;
 use std::test::Fail;
 
 /// Lines that come so often one after another.
-type Lines = &'static [(usize, &'static str)];
+pub(super) type Lines = &'static [(usize, &'static str)];
 
 /// A frame with nothing in either field.
 const NOTHING: &str = "8080 8080";
@@ -156,7 +156,7 @@ const FIVE_LINES_LINES: Lines = &[
 ];
 
 /// Lines written out.
-fn written_out(alloc: Global, lines: Lines) -> Result<Vec<u8>, Fail> {
+pub(super) fn written_out(alloc: Global, lines: Lines) -> Result<Vec<u8>, Fail> {
     let mut text = Vec::new(alloc);
     for (count, line) in lines {
         for _ in 0..*count {

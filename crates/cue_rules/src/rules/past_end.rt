@@ -11,7 +11,10 @@ pub fn breaks_past_end(step: u32, frames: u32, cue: &Cue) -> Option<Against>
     requires { step < 3 }
     ensures { result ≡ first_broken (past_end step frames cue.now) }
 {
-    if hides_past_end(step, frames, cue) || shows_past_end(frames, cue) || window_past_end(frames, cue) {
+    if hides_past_end(step, frames, cue)
+        || shows_past_end(frames, cue)
+        || window_past_end(frames, cue)
+    {
         return Some(Against::Itself);
     }
     None

@@ -1,12 +1,11 @@
 use Rattle.line21_codes.specs.declared.channels.Chan.TheVariants.{Cc3}
 use Rattle.frame_scheduler.proofs.EventsApartLemmas.{events_apart}
-use Rattle.frame_scheduler.proofs.SlotLemmas.{keeps_slots}
 use Rattle.frame_scheduler.proofs.LanesLemmas.{refused_beside}
 use Rattle.frame_scheduler.proofs.lanes.first_fault.Goals as goal
 
 pub placed_channel-two-requires-clause-apart : goal.placed_channel-two-requires-clause-apart
 placed_channel-two-requires-clause-apart c =
-    rw (c.cues.ensures.cues, c.rate.ensures) (events_apart c.args.list.now (keeps_slots c.args.list.now c.cues.ensures.formed c.requires.ruled) Cc3)
+    rw (c.cues.ensures.cues, c.rate.ensures) (events_apart c.args.list.now c.requires.ruled Cc3)
 
 pub returns : goal.returns
 returns c =

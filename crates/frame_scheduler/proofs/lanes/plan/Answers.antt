@@ -2,16 +2,15 @@ use Rattle.std.proofs.Common.{◌∙◌}
 use Rattle.line21_codes.specs.declared.channels.Chan.TheVariants.{Cc1, Cc3}
 use Rattle.frame_scheduler.proofs.EventsApartLemmas.{events_apart}
 use Rattle.frame_scheduler.proofs.LanesLemmas.{both_planned, two_refused}
-use Rattle.frame_scheduler.proofs.SlotLemmas.{keeps_slots}
 use Rattle.frame_scheduler.proofs.lanes.plan.Goals as goal
 
 pub placed_channel-requires-clause-apart : goal.placed_channel-requires-clause-apart
 placed_channel-requires-clause-apart c =
-    rw (c.cues-cues.ensures.cues, c.rate-rate.ensures) (events_apart c.args.list.now (keeps_slots c.args.list.now c.cues-cues.ensures.formed c.requires) Cc1)
+    rw (c.cues-cues.ensures.cues, c.rate-rate.ensures) (events_apart c.args.list.now c.requires Cc1)
 
 pub placed_channel-requires-in-Ok-clause-apart : goal.placed_channel-requires-in-Ok-clause-apart
 placed_channel-requires-in-Ok-clause-apart c =
-    rw (c.cues-cues.ensures.cues, c.rate-rate.ensures) (events_apart c.args.list.now (keeps_slots c.args.list.now c.cues-cues.ensures.formed c.requires) Cc3)
+    rw (c.cues-cues.ensures.cues, c.rate-rate.ensures) (events_apart c.args.list.now c.requires Cc3)
 
 pub returns-in-Ok-placed_channel : goal.returns-in-Ok-placed_channel
 returns-in-Ok-placed_channel c =

@@ -17,4 +17,4 @@ pub returns-clause-apart : goal.returns-clause-apart
 returns-clause-apart c =
     let is : c.push_last_hide.new.events.items ≡ channel_events c.args.channel (cues_in_slots c.args.cadence c.args.cues.now) =
     first_of (search rules, grind (arith, common_steps)) in
-    channel_events_apart c.args.channel (cues_in_slots c.args.cadence c.args.cues.now) c.push_last_hide.new.events.items is
+    channel_events_apart c.args.cadence c.args.channel c.args.cues.now c.push_last_hide.new.events.items is
