@@ -3,3 +3,4 @@ pub mod Runs
 pub mod WindowTexts
 pub mod Objects
 pub mod Examples
+pub mod RunsOf

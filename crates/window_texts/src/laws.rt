@@ -1,8 +1,17 @@
-//! Worked examples of the definitions, as laws: functions without a body, whose contract is the example.
+//! Laws of the definitions, and worked examples: functions without a body, whose contract is the law.
 
 ghost use Rattle.std.specs.Prelude.{◌≡◌, codes};
+ghost use Rattle.dtvcc_windows.specs.Showing.{ShownWindow};
 ghost use Rattle.window_texts.specs.Examples.{hello, no_service};
+ghost use Rattle.window_texts.specs.Runs.{runs};
+ghost use Rattle.window_texts.specs.RunsOf.{AreRunsOf};
 ghost use Rattle.window_texts.specs.WindowTexts.{service_text};
+
+/// The runs of a window are the longest stretches of neighbouring cells of one row with one pen and the same colours: each is
+/// one, each cell is in one, and they stand by row, then column.
+pub fn runs_are_the_longest_stretches()
+    ensures { (window : ShownWindow) → AreRunsOf window (runs window) }
+{}
 
 /// The text of service 1 where its window 0 has one row of ten columns with HELLO in it, and of service 63 without a window.
 pub fn a_window_is_printed()
