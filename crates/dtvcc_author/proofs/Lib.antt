@@ -1,0 +1,2 @@
+pub mod WritableLemmas
+pub mod SpelledLemmas

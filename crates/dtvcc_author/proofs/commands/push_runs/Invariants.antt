@@ -1,0 +1,8 @@
+use Rattle.std.proofs.Common.{◌≡◌, ◌++◌, take}
+use Rattle.std.specs.List.{flat_map}
+use Rattle.dtvcc_author.specs.WindowCommands.{run_commands}
+use Rattle.dtvcc_author.proofs.commands.push_runs.Given as goal
+
+-- the commands of the runs so far stand behind what was there
+abbrev pub invariant-loop-run : goal.invariant-loop-run
+invariant-loop-run l = l.commands.items ≡ l.initial.commands.items ++ flat_map (run_commands l.coloured l.pen l.colors) (take l.run-index l.runs)

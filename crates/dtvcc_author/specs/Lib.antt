@@ -1,0 +1,4 @@
+pub mod WindowCommands
+pub mod CueUnits
+pub mod Captions
+pub mod FrameEvents

@@ -1,0 +1,14 @@
+//! What a caption in a window of DTVCC sends (CTA-708-E): its units, which are the commands that load it into its window, and
+//! the bytes that hide and show the windows of a service.
+#![tactic(auto)]
+
+pub use crate::caption::{Caption, caption_of, captions};
+pub use crate::cue::units;
+pub use crate::unit::DUnits;
+
+mod caption;
+mod commands;
+mod cue;
+#[cfg(test)]
+mod tests;
+mod unit;

@@ -1,0 +1,3 @@
+pub mod ServiceLanes
+pub mod Soundness
+pub mod Filling
