@@ -87,7 +87,7 @@ fn first_wrong(alloc: Global, cases: &[Case]) -> Result<Option<usize>, AllocErro
 
 #[test]
 fn windows_are_defined_and_changed(rt: HostRuntime) -> Result<(), AllocError> {
-    let cases: [Case; 8] = [
+    let cases: [Case; 10] = [
         (b"\x98\x20\0\0\x00\x03\x09AB", &[(0, true, &["AB.."])]),
         (
             b"\x98\x20\0\0\x00\x01\x09AB\x98\x20\0\0\x00\x01\x09C",
@@ -114,6 +114,14 @@ fn windows_are_defined_and_changed(rt: HostRuntime) -> Result<(), AllocError> {
             &[(0, true, &["A..."]), (1, true, &["B..."])],
         ),
         (b"\x98\x20\0\0\x00\x03\x00A", &[(0, true, &["A..."])]),
+        (
+            b"\x98\x20\0\0\x01\x02\x09ABC\x0dDE\x98\x20\0\0\x02\x01\x09",
+            &[(0, true, &["AB", "DE", ".."])],
+        ),
+        (
+            b"\x98\x20\0\0\x01\x02\x09A\x0dB\x98\x20\0\0\x00\x02\x00C",
+            &[(0, true, &["AC."])],
+        ),
     ];
     assert_eq!(rt; first_wrong(rt.alloc(), &cases)?, None);
     Ok(())
@@ -121,7 +129,7 @@ fn windows_are_defined_and_changed(rt: HostRuntime) -> Result<(), AllocError> {
 
 #[test]
 fn windows_are_chosen_cleared_shown_and_deleted(rt: HostRuntime) -> Result<(), AllocError> {
-    let cases: [Case; 12] = [
+    let cases: [Case; 14] = [
         (
             b"\x98\x20\0\0\x00\x03\x09A\x99\x20\0\0\x00\x03\x09B\x80C",
             &[(0, true, &["AC.."]), (1, true, &["B..."])],
@@ -164,6 +172,14 @@ fn windows_are_chosen_cleared_shown_and_deleted(rt: HostRuntime) -> Result<(), A
             b"\x98\x20\0\0\x00\x03\x09AB\x8c\x01\x98\x20\0\0\x00\x03\x09C",
             &[(0, true, &["C..."])],
         ),
+        (
+            b"\x98\x00\0\0\x00\x03\x09A\x99\x00\0\0\x00\x03\x09B\x89\x03\x8a\x01",
+            &[(0, false, &["A..."]), (1, true, &["B..."])],
+        ),
+        (
+            b"\x98\x20\0\0\x00\x03\x09A\x99\x20\0\0\x00\x03\x09B\x88\x03",
+            &[(0, true, &["...."]), (1, true, &["...."])],
+        ),
     ];
     assert_eq!(rt; first_wrong(rt.alloc(), &cases)?, None);
     Ok(())
@@ -189,7 +205,7 @@ fn without_a_current_window_text_is_dropped(rt: HostRuntime) -> Result<(), Alloc
 
 #[test]
 fn text_stands_at_the_pen(rt: HostRuntime) -> Result<(), AllocError> {
-    let cases: [Case; 16] = [
+    let cases: [Case; 19] = [
         (b"\x98\x20\0\0\x00\x03\x09ABCDE", &[(0, true, &["ABCD"])]),
         (
             b"\x98\x20\0\0\x00\x03\x09AB\x92\x00\x00\x10\x20C",
@@ -241,6 +257,18 @@ fn text_stands_at_the_pen(rt: HostRuntime) -> Result<(), AllocError> {
         (
             b"\x98\x20\0\0\x00\x03\x09\x10\x90\x02XYA",
             &[(0, true, &["A..."])],
+        ),
+        (
+            b"\x98\x20\0\0\x00\x03\x09ABCD\x08E",
+            &[(0, true, &["ABCE"])],
+        ),
+        (
+            b"\x98\x20\0\0\x01\x02\x09A\x0dBC\x0eD",
+            &[(0, true, &["A..", "D.."])],
+        ),
+        (
+            b"\x98\x20\0\0\x02\x01\x09A\x0dB\x0dC\x0dD\x0dE",
+            &[(0, true, &["C.", "D.", "E."])],
         ),
     ];
     assert_eq!(rt; first_wrong(rt.alloc(), &cases)?, None);
@@ -419,7 +447,7 @@ fn attributes_and_pens_go_to_the_current_window(rt: HostRuntime) -> Result<(), A
     service.tick(Rate::F2997);
     feed(
         &mut service,
-        b"\x98\x20\0\0\x00\x03\x00\x97\x40\x00\x02\x00\x90\x05\x80\x91\x3f\x00\x00A",
+        b"\x98\x20\0\0\x00\x03\x00\x97\x40\x00\x02\x00\x90\x05\x80\x91\x3f\x00\x00A\x98\x20\0\0\x00\x03\x00",
     );
     let set = match service.window(0) {
         Some(window) => is_set(window),
