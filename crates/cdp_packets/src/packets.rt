@@ -13,6 +13,7 @@ use cc_base::Rate;
 /// time code, cc_data, service information, that this begins, is a change of, and is the whole of it, and
 /// that captions are active; the lowest is one. The four bits beside the rate are written as ones
 /// (SMPTE ST 334-2).
+#[inline(always)]
 pub fn write_cdp(rate: Rate, flags: u8, counter: u16, sections: &[u8], out: &mut ArrayVec<u8, 255>)
     requires short { length sections.now ≤ 244 }
     requires list { IsSectionList sections.now }
