@@ -194,7 +194,7 @@ def try_puts(case, whole):
     pieces = [int(result) for called, arguments, result in whole.calls if called == "write" and arguments.startswith("1,")]
     for put, number in enumerate(writes):
         before = sum(pieces[:put])
-        if case.words[0] == "build" and before % 160:
+        if case.words[0] == "build" and before % (100 if b",59.94," in case.given else 160):
             fail(case, f"put {put}", whole, "a frame is written in parts")
         for how in ("error=EIO", "error=ENOSPC", "retval=0"):
             need(case, f"put {put}, {how}", run(case, inject=(f"write:{how}:when={number}",)), 3, whole.out[:before])
@@ -285,8 +285,10 @@ def commands():
         (dense, 8, b"no room: cue 1\n"), (clash, 7, b"rule Clash: cue 1\n"), (wrong, 6, b"malformed at record 3 field 5: NoCode\n"),
         (b"", 6, b"malformed at record 1 field 1: Field\n"), (b"ccsuite,1,30,1000001\n", 5, b"limit Frames\n"),
     ]
-    yield "pairs", [Case(["pairs"], hello)] + [Case(["pairs"], *it) for it in lists], [1, 7, 4096]
-    yield "build", [Case(["build"], hello)] + [Case(["build"], *it) for it in lists], [1, 7, 4096]
+    double = example("double_rate.csv")
+    off_slot = (double.replace(b",0,14,40", b",0,13,40"), 7, b"rule OffSlot: cue 1\n")
+    yield "pairs", [Case(["pairs"], hello), Case(["pairs"], double), Case(["pairs"], *off_slot)] + [Case(["pairs"], *it) for it in lists], [1, 7, 4096]
+    yield "build", [Case(["build"], hello), Case(["build"], double)] + [Case(["build"], *it) for it in lists], [1, 7, 4096]
     yield "cues", [Case(["cues"], hello)] + [Case(["cues"], *it) for it in lists[1:]] + [Case(["cues"], dense)], [1, 7, 4096]
     decode = ["decode"]
     yield "decode", [
