@@ -1,5 +1,5 @@
 -- What is kept of an open packet of captions behind one more of its bytes.
-use Rattle.std.proofs.Common.{◌≡◌, ℕ, ◌%◌, ◌^◌, true, false, length, ◌++◌, List, [], ◌∷◌, Option, Some, None, refl, ap, sym, subst, ◌∙◌, append-nil}
+use Rattle.std.proofs.Common.{◌≡◌, ℕ, ◌<◌, ◌%◌, ◌^◌, true, false, length, ◌++◌, List, [], ◌∷◌, Option, Some, None, refl, ap, sym, subst, ◌∙◌, append-nil}
 use Rattle.cc_base.specs.declared.step.Step.{Step}
 use Rattle.cc_base.specs.declared.why.Why.{Why}
 use Rattle.cc_base.specs.Feeding.{Handed, Reading, hand, place_by, read_first, refused_at, why_of}
@@ -20,6 +20,8 @@ use Rattle.cc_receiver.specs.Catchers.{Judges, Keeps, KeepsLast, KeepsOpen}
 use Rattle.cc_receiver.specs.Channels.{HasTried, frames_parts}
 use Rattle.cc_receiver.specs.Gatherers.{HasGathered}
 use Rattle.cc_receiver.specs.Hearing.{heard}
+use Rattle.cc_receiver.specs.Serving.{ServesFrames, said_triplets}
+use Rattle.service_blocks.specs.Channels.{IsHeard}
 
 -- what is handed on of a step, behind frames and the parts of the open packet
 abbrev pub handed_of : List (List CdpPart) → List CdpPart → Step CdpPart → Handed CdpPart
@@ -78,14 +80,14 @@ goes (Some o) caught byte answer reader next was now old new kept judged fed non
     let why : answer ≡ handed.why = fed.why caught.frames o.parts judged in
     let cases : (w : Option Why) → handed.why ≡ w → Goes caught (goes_on w more caught) w next now new = elim [
       | None ↦ λ fine. record {
-          refused = none;
-          is_open = λ _. (
-            fed.leads o.size o.bytes kept.0 (hand-none (verdict_behind services_say caught.frames) o.parts fed.step fine).0,
-            fed.gathered caught.frames o.parts judged kept.1,
-          );
-          judges = λ _. fed.tried caught.frames o.parts judged (why ∙ fine);
-          same = refl;
-        }
+        refused = none;
+        is_open = λ _. (
+          fed.leads o.size o.bytes kept.0 (hand-none (verdict_behind services_say caught.frames) o.parts fed.step fine).0,
+          fed.gathered caught.frames o.parts judged kept.1,
+        );
+        judges = λ _. fed.tried caught.frames o.parts judged (why ∙ fine);
+        same = refl;
+      }
       | Some w ↦ λ _. record { refused = refl; is_open = λ no. absurd cc; judges = λ no. absurd cc; same = refl }
     ] in
     subst (λ (m : Caught). Goes caught m answer next now new) (sym (taken_is o caught byte fed.step (fed.says o.size o.bytes kept.0)))
@@ -102,5 +104,6 @@ kept_going caught more captions answer next now new keeps goes_on = record {
   channel = subst (λ fs. HasTried (frames_parts fs) captions.channel) (sym goes_on.same) keeps.channel;
   first = subst (λ fs. Leads false (heard false fs) captions.first) (sym goes_on.same) keeps.first;
   second = subst (λ fs. Leads true (heard true fs) captions.second) (sym goes_on.same) keeps.second;
+  services = subst (λ fs. length fs < 2 ^ 32 → IsHeard (said_triplets fs) → ServesFrames fs captions.served) (sym goes_on.same) keeps.services;
   count = keeps.count ∙ sym (ap (λ fs. length fs % 2 ^ 32) goes_on.same);
 }

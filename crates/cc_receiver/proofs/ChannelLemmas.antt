@@ -25,7 +25,7 @@ neither : (one two : Bool) → (one || two) ≡ false → (one ≡ false) × (tw
 neither true two is = absurd cc
 neither false two is = (refl, is)
 
-passed_over : (front : Open) (triplet : Triplet) → (starts triplet || continues triplet) ≡ false
+pub passed_over : (front : Open) (triplet : Triplet) → (starts triplet || continues triplet) ≡ false
     → (judge_triplet front triplet ≡ Nothing) × (open_after front triplet ≡ front)
 passed_over front triplet is =
     let (one, two) = neither (starts triplet) (continues triplet) is in
@@ -94,7 +94,7 @@ passes_over triplets triplet channel other heard =
     }
 
 -- the pieces of a triplet, of which this step is made
-pieces_of : (triplets : List Triplet) (triplet : Triplet) (step : Step PacketPart) → step ≡ judge_triplet (open_behind packet_syntax (channel_triplets triplets)) triplet
+pub pieces_of : (triplets : List Triplet) (triplet : Triplet) (step : Step PacketPart) → step ≡ judge_triplet (open_behind packet_syntax (channel_triplets triplets)) triplet
     → step_parts (judge_triplet (open_behind packet_syntax triplets) triplet) ≡ step_parts step
 pieces_of triplets triplet step is = sym (ap step_parts is ∙ ap (λ f. step_parts (judge_triplet f triplet)) (open_of_channel triplets))
 

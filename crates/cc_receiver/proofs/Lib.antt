@@ -3,6 +3,7 @@ pub mod FeedLemmas
 pub mod RefusedLemmas
 pub mod ChannelLemmas
 pub mod JudgingLemmas
+pub mod ServingLemmas
 pub mod ByteLemmas
 pub mod GatheredLemmas
 pub mod FilledLemmas
@@ -12,3 +13,4 @@ pub mod FinishLemmas
 pub mod WholeLemmas
 pub mod KeepsLemmas
 pub mod IdleLemmas
+pub mod ServedLemmas

@@ -1,6 +1,7 @@
 -- What is kept of the parts of ancillary packets: the reader of the open packet of captions with what it says so far and what judges
--- its triplets, what the last whole frame says, both fields of line 21 (CTA-608-E), and the number of whole frames.
-use Rattle.std.specs.Prelude.{◌≡◌, ◌%◌, ◌^◌, true, false, List, [], ◌∷◌, ◌++◌, length, Option, Some, None}
+-- its triplets, what the last whole frame says, both fields of line 21 (CTA-608-E), the services of DTVCC (CTA-708-E), and the number of
+-- whole frames.
+use Rattle.std.specs.Prelude.{◌≡◌, ◌<◌, ◌%◌, ◌^◌, true, false, List, [], ◌∷◌, ◌++◌, length, Option, Some, None}
 use Rattle.anc_words.specs.declared.parts.WordPart.{WordPart}
 use Rattle.cdp_packets.specs.declared.parts.CdpPart.{CdpPart}
 use Rattle.cdp_packets.specs.declared.reader.CdpReader.{CdpReader}
@@ -14,6 +15,8 @@ use Rattle.services_files.specs.Services.{services_say}
 use Rattle.cc_receiver.specs.Channels.{HasTried, frames_parts}
 use Rattle.cc_receiver.specs.Hearing.{heard}
 use Rattle.cc_receiver.specs.Gatherers.{HasGathered}
+use Rattle.cc_receiver.specs.Serving.{ServesFrames, said_triplets}
+use Rattle.service_blocks.specs.Channels.{IsHeard}
 
 -- the reader has read the bytes of the open packet, and the frame took the parts that they make
 abbrev pub KeepsOpen : Option OpenCaption → Option CdpReader → Frame → Type 0
@@ -40,6 +43,7 @@ pub record Keeps (caught : Caught) (captions : Captions) : Type 0 where
   pub channel : HasTried (frames_parts caught.frames) captions.channel
   pub first : Leads false (heard false caught.frames) captions.first
   pub second : Leads true (heard true caught.frames) captions.second
+  pub services : length caught.frames < 2 ^ 32 → IsHeard (said_triplets caught.frames) → ServesFrames caught.frames captions.served
   pub count : captions.frames ≡ length caught.frames % 2 ^ 32
 
 -- one more frame of these parts was caught, and nothing is open

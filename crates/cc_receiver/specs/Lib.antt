@@ -3,6 +3,8 @@ pub mod Gathering
 pub mod Hearing
 pub mod Gatherers
 pub mod Channels
+pub mod Serving
+pub mod ReceivedServices
 pub mod Catchers
 pub mod Receivers
 pub mod Wholes

@@ -13,6 +13,7 @@ ghost use Rattle.cc_receiver.specs.Hearing.{heard};
 
 use crate::channel::Channel;
 use crate::frame::Frame;
+use crate::services::Served;
 use anc_words::WordPart;
 use cc_base::{Step, Upward, Why};
 use cdp_packets::{CdpPart, CdpReader, read_packet};
@@ -44,6 +45,8 @@ pub(crate) struct Captions {
     pub(crate) first: Field,
     /// Field 2 of line 21.
     pub(crate) second: Field,
+    /// The services of DTVCC.
+    pub(crate) served: Served,
     /// The number of whole frames, modulo 2^32.
     pub(crate) frames: u32,
     /// Why a part was refused, if one was.
@@ -107,6 +110,7 @@ impl Captions {
             channel: Channel::new(),
             first: Field::new(alloc, false)?,
             second: Field::new(alloc, true)?,
+            served: Served::new(alloc)?,
             frames: 0,
             refused: None,
         })
@@ -166,7 +170,8 @@ impl Captions {
         }
     }
 
-    // A frame ended, `last` is what it says, and `channel` took its triplets: its pairs act now, and no packet is open.
+    // A frame ended, `last` is what it says, and `channel` took its triplets: its pairs and its bytes of services act now, and no packet
+    // is open.
     fn act(&mut self)
         ensures { (caught : Caught) (parts : List Part) (gathered last : Said) (judging channel : ChannelOf)
             → Keeps caught (record self.old { gathered = gathered; judging = judging; last = last; channel = channel })
@@ -176,6 +181,8 @@ impl Captions {
         self.open = None;
         apply_all(&mut self.first, self.last.pairs_one.as_slice());
         apply_all(&mut self.second, self.last.pairs_two.as_slice());
+        self.served
+            .frame(self.last.rate, self.last.triplets.as_slice());
         self.frames = self.frames.wrapping_add(1);
     }
 

@@ -7,6 +7,7 @@ mod channel;
 mod frame;
 pub mod laws;
 mod receiver;
+mod services;
 
 pub use receiver::{Ended, Fed, Receiver};
 

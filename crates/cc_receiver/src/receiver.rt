@@ -1,4 +1,4 @@
-ghost use Rattle.std.specs.Prelude.{◌≡◌, ◌≢◌, false, ◌<◌, ◌≤◌, ◌+◌, ◌++◌, ℕ, List, [], ◌∷◌, None, Some, IfErr, IfOk, IfSome, IsNone, IsOk, IsSome, IsTrue, length, take};
+ghost use Rattle.std.specs.Prelude.{◌≡◌, ◌≢◌, false, ◌<◌, ◌≤◌, ◌+◌, ◌++◌, ℕ, List, [], ◌∷◌, None, Some, IfErr, IfOk, IfSome, IsNone, IsOk, IsSome, IsTrue, MatchOption, length, take};
 ghost use Rattle.std.specs.List.{concat};
 ghost use Rattle.std.specs.Result.{result_err};
 ghost use Rattle.cc_base.specs.Syntax.{Reads, open_behind};
@@ -24,6 +24,7 @@ use crate::captions::Captions;
 use anc_words::{CaptionPacket, WordReader};
 use cc_base::{Rate, Refusal, Resume};
 use cc_data::Triplet;
+use dtvcc_windows::Window;
 use line21_codes::{Cell, Chan, Pair};
 use line21_screen::Memory;
 use std::alloc::{AllocError, Global};
@@ -48,8 +49,8 @@ pub struct Fed {
     pub ended: Ended,
 }
 
-/// The receiver of a words file, whose bytes come in any pieces: the screens of line 21 behind the last whole frame, and
-/// what that frame says (SMPTE ST 291-1, ST 334-1 and ST 334-2; CTA-608-E; 47 CFR 79.101).
+/// The receiver of a words file, whose bytes come in any pieces: the screens of line 21 and the windows of the 63 services of DTVCC
+/// behind the last whole frame, and what that frame says (SMPTE ST 291-1, ST 334-1 and ST 334-2; CTA-608-E; CTA-708-E; 47 CFR 79.101).
 ///
 /// A packet of captions acts when it ends, behind a good checksum word, and other packets change nothing. After a refusal the
 /// receiver stays at the last whole frame. All memory that it ever takes is taken by `new`.
@@ -63,6 +64,9 @@ impl Receiver {
     ghost use Rattle.line21_screen.specs.Objects.{grid_in};
     ghost use Rattle.cc_receiver.specs.Receivers.{HasReceived, frame_count, receiver_refusal, shown};
     ghost use Rattle.cc_receiver.specs.Wholes.{ReadsWhole};
+    ghost use Rattle.cc_receiver.specs.ReceivedServices.{fills_in, received_service, received_windows};
+    ghost use Rattle.dtvcc_services.specs.Numbers.{IsLowest, IsService};
+    ghost use Rattle.dtvcc_windows.specs.Objects.{is_live, window_of};
 
     /// A receiver that was fed nothing. The error comes where memory for its four screens isn't found.
     pub fn new(alloc: Global) -> Result<Receiver, AllocError>
@@ -234,6 +238,57 @@ impl Receiver {
             → shown self.now chan ≡ received_grids earlier chan }
     {
         self.captions.last.is_idle()
+    }
+
+    /// The window of an id of a service, 1 to 63, behind the last whole frame, where there is one (CTA-708-E).
+    pub fn window(&self, service: u8, id: u8) -> Option<&Window>
+        requires { IsService service }
+        ensures received { (bytes : List ℕ) (frames : List FrameOf) → HasReceived bytes self.now → AreFramesOf services_say frames bytes
+            → let windows = (received_service frames service).screen.windows in
+            MatchOption result (windows id ≡ None) (λ window. window_of window.now ≡ windows id) }
+        ensures live { IfSome result (λ window. IsTrue (is_live window.now)) }
+    {
+        self.captions.served.services.window(service, id)
+    }
+
+    /// The number of bytes that a delay of a service, 1 to 63, holds behind the last whole frame, at most 127 (CTA-708-E, Delay).
+    pub fn held(&self, service: u8) -> u8
+        requires { IsService service }
+        ensures received { (bytes : List ℕ) (frames : List FrameOf) → HasReceived bytes self.now → AreFramesOf services_say frames bytes
+            → result ≡ length (received_service frames service).held }
+        ensures most { result ≤ 127 }
+    {
+        self.captions.served.services.held(service)
+    }
+
+    /// Whether a service, 1 to 63, was sent a byte since the first frame, or since it was last reset: where it wasn't, it has no window.
+    pub fn is_used(&self, service: u8) -> bool
+        requires { IsService service }
+        ensures { (bytes : List ℕ) (frames : List FrameOf) → HasReceived bytes self.now → AreFramesOf services_say frames bytes
+            → result ≡ false → (id : ℕ) → received_windows frames service id ≡ None }
+    {
+        self.captions.served.services.is_used(service)
+    }
+
+    /// Whether something that is seen of a service may have changed in the last whole frame: where it says no, all windows of all
+    /// services are seen as they were before it.
+    pub fn is_touched(&self) -> bool
+        requires { 0 < frame_count self.now }
+        ensures { (bytes : List ℕ) (earlier : List FrameOf) (last : FrameOf) → HasReceived bytes self.now
+            → AreFramesOf services_say (earlier ++ last ∷ []) bytes → result ≡ false → (service id : ℕ) → IsService service
+            → received_windows (earlier ++ last ∷ []) service id ≡ received_windows earlier service id }
+    {
+        self.captions.served.services.is_touched()
+    }
+
+    /// The lowest service of which a byte of the last whole frame brought the held bytes to 128, which ended its delay (CTA-708-E,
+    /// Delay).
+    pub fn filled(&self) -> Option<u8>
+        requires { 0 < frame_count self.now }
+        ensures { (bytes : List ℕ) (earlier : List FrameOf) (last : FrameOf) → HasReceived bytes self.now
+            → AreFramesOf services_say (earlier ++ last ∷ []) bytes → IsLowest (fills_in earlier last) result }
+    {
+        self.captions.served.services.filled()
     }
 
     /// The frame rate of the last whole frame, where there is one (SMPTE ST 334-2, cdp_header).

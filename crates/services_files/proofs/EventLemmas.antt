@@ -22,7 +22,7 @@ use Rattle.services_files.specs.Events.{event_of, events_behind, events_of, fram
 use Rattle.services_files.specs.WholeFiles.{file_triplets}
 
 -- what is heard of triplets and more, behind others
-heard_behind-append : (before triplets more : List Triplet)
+pub heard_behind-append : (before triplets more : List Triplet)
     → heard_behind before (triplets ++ more) ≡ heard_behind before triplets ++ heard_behind (before ++ triplets) more
 heard_behind-append before triplets more =
     let front = open_behind packet_syntax before in

@@ -85,13 +85,25 @@ overrun_in : (before rest : List Triplet) (first second third : ℕ) (reason : W
 overrun_in before rest first second third reason heard some =
     let cases : (w : Option Why) → why_unheard before (triplet_of first second 0 ∷ []) ≡ w → HaveOverrun (before ++ triplet_of first second third ∷ rest) = elim [
       | None ↦ λ none. record {
-          before = before; first = first; second = second; third = third; rest = rest; spelled = refl; heard = heard;
-          overruns = inr (refused-third before first second third reason none some).1;
-        }
+        before = before;
+        first = first;
+        second = second;
+        third = third;
+        rest = rest;
+        spelled = refl;
+        heard = heard;
+        overruns = inr (refused-third before first second third reason none some).1;
+      }
       | Some other ↦ λ is. record {
-          before = before; first = first; second = second; third = third; rest = rest; spelled = refl; heard = heard;
-          overruns = inl (refused-second before first second other is).1;
-        }
+        before = before;
+        first = first;
+        second = second;
+        third = third;
+        rest = rest;
+        spelled = refl;
+        heard = heard;
+        overruns = inl (refused-second before first second other is).1;
+      }
     ] in cases _ refl
 
 heard_or_not : (before triplets : List Triplet) → IsHeard before → AreSpelled triplets → IsHeard (before ++ triplets) ⊎ HaveOverrun (before ++ triplets)

@@ -73,4 +73,3 @@ returns-in-Some-clause-why c before heard =
     first_reason before c.in-Two.first c.in-Two.second c.in-Some.why
     (sym c.in-Some.is ∙ c.piece-in-Two.ensures.why (parts_of packet_syntax before) heard.blocks_read)
     ∙ why_of_pieces before c.args.triplet (Two c.in-Two.first c.in-Two.second) is
-
