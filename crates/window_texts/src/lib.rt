@@ -6,3 +6,6 @@ mod runs;
 mod text;
 
 pub use text::WindowText;
+
+#[cfg(test)]
+mod tests;
