@@ -1,0 +1,2 @@
+pub mod SideOf
+pub mod SideFiles
