@@ -37,7 +37,7 @@ fn is_line21_pen(pen: Pen) -> bool
     }
 }
 
-// Whether the run stands on the caption grid, with characters of line 21.
+// Whether the run stands on the caption grid, with characters of line 21 and no colours of a window.
 fn is_line21_run(run: &Run) -> bool
     ensures { IsTrue result → IsLine21Run run.now }
 {
@@ -45,7 +45,8 @@ fn is_line21_run(run: &Run) -> bool
     let in_rows = 1 <= run.row && run.row <= 15;
     let in_columns = run.col <= 31 && text.len() <= 32 && run.col as usize + text.len() <= 32;
     let is_coded = text.iter().all(|ch| spell(*ch).is_some());
-    in_rows && in_columns && is_coded && is_line21_pen(run.pen) && !text.is_empty()
+    let is_plain = matches!(run.colors, None);
+    in_rows && in_columns && is_coded && is_plain && is_line21_pen(run.pen) && !text.is_empty()
 }
 
 // Whether cues are authored on the channel.
