@@ -9,6 +9,7 @@ pub mod laws;
 mod receiver;
 mod services;
 
+pub use findings::{Finding, Kind45, Which};
 pub use receiver::{Ended, Fed, Receiver};
 
 #[cfg(test)]

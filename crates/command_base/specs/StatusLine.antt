@@ -7,6 +7,15 @@ use Rattle.cc_base.specs.Texts.{text}
 use Rattle.cc_base.specs.Why.{name_of}
 use Rattle.cc_base.specs.declared.streams.Put.TheVariants as put
 use Rattle.cc_base.specs.declared.why.Why.{Why}
+use Rattle.cc_base.specs.declared.why.Why.TheVariants as why
+use Rattle.cc_base.specs.Rate.{code_of}
+use Rattle.findings.specs.declared.finding.Finding.{Finding}
+use Rattle.findings.specs.declared.finding.Kind45.{Kind45}
+use Rattle.findings.specs.declared.finding.Kind45.TheVariants as kind
+use Rattle.findings.specs.declared.finding.Which.{Which}
+use Rattle.findings.specs.declared.finding.Which.TheVariants as which
+use Rattle.line21_codes.specs.declared.channels.Chan.{Chan}
+use Rattle.line21_codes.specs.declared.channels.Chan.TheVariants as chan
 use Rattle.command_base.specs.declared.status.Place.{Place}
 use Rattle.command_base.specs.declared.status.Place.TheVariants.{Byte, Field}
 use Rattle.command_base.specs.declared.status.Status.{Status}
@@ -23,6 +32,7 @@ status_code (status.Limit limit) = 5
 status_code (status.Malformed place why) = 6
 status_code (status.Rule fault) = 7
 status_code (status.NoRoom cue) = 8
+status_code (status.Differs finding) = 9
 status_code (status.Short frames) = 10
 
 -- the line of a malformed input
@@ -37,6 +47,46 @@ rule_line why cue None = text (codes "rule " ∷ name_of why ∷ codes ": cue " 
 rule_line why cue (Some other) =
     text (codes "rule " ∷ name_of why ∷ codes ": cue " ∷ decimal cue ∷ codes " and cue " ∷ decimal other ∷ codes "\n" ∷ [])
 
+-- the line of a finding with what is expected and what was seen
+abbrev pub seen_line : ℕ → Why → ℕ → ℕ → List ℕ
+seen_line frame why expected seen =
+    text (codes "differs at frame " ∷ decimal frame ∷ codes ": " ∷ name_of why ∷ codes " expected " ∷ decimal expected
+    ∷ codes " seen " ∷ decimal seen ∷ codes "\n" ∷ [])
+
+-- the line of a finding of a service
+abbrev pub service_line : ℕ → Why → ℕ → List ℕ
+service_line frame why service =
+    text (codes "differs at frame " ∷ decimal frame ∷ codes ": " ∷ name_of why ∷ codes " S" ∷ decimal service ∷ codes "\n" ∷ [])
+
+-- the name of a channel, as grids are printed
+abbrev pub channel_name : Chan → List ℕ
+channel_name chan.Cc1 = codes "CC1"
+channel_name chan.Cc2 = codes "CC2"
+channel_name chan.Cc3 = codes "CC3"
+channel_name chan.Cc4 = codes "CC4"
+
+-- the line of a finding of a channel
+abbrev pub channel_line : ℕ → Why → Chan → List ℕ
+channel_line frame why chan =
+    text (codes "differs at frame " ∷ decimal frame ∷ codes ": " ∷ name_of why ∷ codes " " ∷ channel_name chan ∷ codes "\n" ∷ [])
+
+-- the line of a grid that differs
+abbrev pub grid_line : ℕ → Which → List ℕ
+grid_line frame (which.Chan chan) = channel_line frame why.GridDiffers chan
+grid_line frame (which.Service service) = service_line frame why.GridDiffers service
+
+-- the line of a finding; rates as their codes, and of two pairs 1 is expected
+abbrev pub line_of_kind : ℕ → Kind45 → List ℕ
+line_of_kind frame (kind.CounterJump expected seen) = seen_line frame why.CounterJump expected seen
+line_of_kind frame (kind.WrongCount expected seen) = seen_line frame why.WrongCount expected seen
+line_of_kind frame (kind.WrongRate expected seen) = seen_line frame why.WrongRate (code_of expected) (code_of seen)
+line_of_kind frame (kind.BufferFull service) = service_line frame why.BufferFull service
+line_of_kind frame (kind.GridDiffers which) = grid_line frame which
+line_of_kind frame (kind.TwoPairs seen) = seen_line frame why.TwoPairs 1 seen
+
+abbrev pub finding_line : Finding → List ℕ
+finding_line finding = line_of_kind finding.frame finding.kind
+
 -- the line of a status; Ok has none
 abbrev pub status_line : Status → List ℕ
 status_line status.Ok = []
@@ -49,6 +99,7 @@ status_line (status.Limit limit) = text (codes "limit " ∷ limit_name_of limit 
 status_line (status.Malformed place why) = malformed_line place why
 status_line (status.Rule fault) = rule_line fault.why fault.cue fault.other
 status_line (status.NoRoom cue) = text (codes "no room: cue " ∷ decimal cue ∷ codes "\n" ∷ [])
+status_line (status.Differs finding) = finding_line finding
 status_line (status.Short frames) = text (codes "short: " ∷ decimal frames ∷ codes " frames\n" ∷ [])
 
 -- the line of a status was put, or, where the count of faults rose, a front of it

@@ -4,8 +4,11 @@
 
 pub use crate::gathered::Gathered;
 pub use crate::status::{Place, Status, put_status};
+pub use crate::whole_input::read_input;
 
+mod finding_line;
 mod gathered;
 mod status;
 #[cfg(test)]
 mod tests;
+mod whole_input;

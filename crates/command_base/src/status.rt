@@ -2,8 +2,10 @@ ghost use Rattle.std.specs.Prelude.{◌≡◌};
 ghost use Rattle.cc_base.specs.Streams.{PutCause, Puts};
 ghost use Rattle.command_base.specs.StatusLine.{status_code, status_line};
 
+use crate::finding_line::put_finding;
 use cc_base::{LimitOf, Put, Sink, Why, put_pieces};
 use cue_lists::RuleFault;
+use findings::Finding;
 use itoa::Buffer;
 
 /// Where an input is malformed.
@@ -36,6 +38,8 @@ pub enum Status {
     Rule(RuleFault),
     /// The cue of this number, counted from 1, is the first without a placement.
     NoRoom(u32),
+    /// This was found at a frame of the words file.
+    Differs(Finding),
     /// The words file has only so many frames.
     Short(u32),
 }
@@ -55,6 +59,7 @@ impl Status {
             Status::Malformed(..) => 6,
             Status::Rule(_) => 7,
             Status::NoRoom(_) => 8,
+            Status::Differs(_) => 9,
             Status::Short(_) => 10,
         }
     }
@@ -86,6 +91,7 @@ pub fn put_status<E: Sink>(status: Status, err: &mut E) -> Put
             ],
             err,
         ),
+        Status::Differs(finding) => put_finding(finding.frame, finding.kind, err),
         Status::Short(frames) => put_pieces(
             &[
                 b"short: ",

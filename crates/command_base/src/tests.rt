@@ -1,12 +1,19 @@
 use crate::status::{Place, Status};
 use cc_base::{LimitOf, Why};
 use cue_lists::RuleFault;
+use findings::{Finding, Kind45};
 
 /// A list whose first cue breaks the rule of shares.
 const SHARE_BROKEN: RuleFault = RuleFault {
     why: Why::Share,
     cue: 1,
     other: None,
+};
+
+/// A frame with two pairs.
+const FOUND: Finding = Finding {
+    frame: 0,
+    kind: Kind45::TwoPairs(2),
 };
 
 #[test]
@@ -21,6 +28,7 @@ fn each_status_has_its_code(rt: HostRuntime) {
         (Status::Malformed(Place::Byte(0), Why::Flag), 6),
         (Status::Rule(SHARE_BROKEN), 7),
         (Status::NoRoom(1), 8),
+        (Status::Differs(FOUND), 9),
         (Status::Short(3), 10),
     ] {
         assert_eq!(rt; status.code(), code);

@@ -1,18 +1,18 @@
 -- What the commands answer that read a cue list: each status has its cause, and what was put, in one place.
-use Rattle.std.specs.Prelude.{◌≡◌, ℕ, List, IfSome, Option}
+use Rattle.std.specs.Prelude.{◌≡◌, ℕ, List, Option}
 use Rattle.std.specs.Io.KnownBytes.{Appends}
-use Rattle.cc_base.specs.Streams.{Puts, Rose, TakesWithin}
+use Rattle.cc_base.specs.Streams.{Puts}
 use Rattle.cc_base.specs.declared.streams.Put.TheVariants as put
 use Rattle.cue_lists.specs.Listing.{Listing}
 use Rattle.cue_lists.specs.Printing.{in_order, list_bytes}
 use Rattle.cue_lists.specs.Records.{records_of}
 use Rattle.cue_lists.specs.Spelling.{list_records}
 use Rattle.frame_scheduler.specs.Planned.{Placement}
-use Rattle.cue_list_commands.specs.Accepted.{IsAccepted, IsGoodList, IsRefused, IsRefusedList, list_limit}
-use Rattle.command_base.specs.Ends.{Ends, PutsNothing}
+use Rattle.cue_list_commands.specs.Accepted.{IsAccepted, IsGoodList, IsRefused, IsRefusedList}
+use Rattle.command_base.specs.Ends.{Ends}
+use Rattle.command_base.specs.WholeInput.{WholeAnswer}
 use Rattle.cue_list_commands.specs.Output.{IsSoundPairs, IsSoundWords, build_output, pairs_output}
 use Rattle.command_base.specs.declared.status.Status.{Status}
-use Rattle.command_base.specs.declared.status.Status.TheVariants as status
 
 -- the output of an accepted list was put, and it is sound
 pub record PutsOutput (output : Listing → Placement → List ℕ) (IsSound : Listing → Placement → Type 0) (bytes : List ℕ) (old new : Option (List ℕ)) : Type 0 where
@@ -42,31 +42,14 @@ pub record PutsListFront (bytes : List ℕ) (old new : Option (List ℕ)) : Type
   pub good : IsGoodList bytes list
   pub front : Puts old new put.Failed (list_bytes list)
 
--- what such a command answers: on Ok the whole of its output was put, where a put failed a front of it, and
--- what is refused is refused so
-abbrev pub ListAnswer : (List ℕ → Option (List ℕ) → Option (List ℕ) → Type 0) → (List ℕ → Option (List ℕ) → Option (List ℕ) → Type 0)
-    → (List ℕ → Status → Type 0) → Ends → Ends → Status → Type 0
-ListAnswer Whole Front Refused old new status.Ok =
-    (new.read_faults ≡ old.read_faults) × (new.write_faults ≡ old.write_faults)
-    × IfSome old.left (λ bytes. Whole bytes old.written new.written)
-ListAnswer Whole Front Refused old new status.Usage = ⊥
-ListAnswer Whole Front Refused old new status.ReadFault =
-    Rose old.read_faults new.read_faults × TakesWithin list_limit old.left new.left × PutsNothing old new
-ListAnswer Whole Front Refused old new status.WriteFault =
-    (new.read_faults ≡ old.read_faults) × Rose old.write_faults new.write_faults
-    × IfSome old.left (λ bytes. Front bytes old.written new.written)
-ListAnswer Whole Front Refused old new status.Memory = (new.read_faults ≡ old.read_faults) × PutsNothing old new
-ListAnswer Whole Front Refused old new refusal =
-    (new.read_faults ≡ old.read_faults) × PutsNothing old new × IfSome old.left (λ bytes. Refused bytes refusal)
-
 -- what `pairs` answers
 abbrev pub PairsAnswer : Ends → Ends → Status → Type 0
-PairsAnswer old new answer = ListAnswer (PutsOutput pairs_output IsSoundPairs) (PutsFront pairs_output) IsRefused old new answer
+PairsAnswer old new answer = WholeAnswer (PutsOutput pairs_output IsSoundPairs) (PutsFront pairs_output) IsRefused old new answer
 
 -- what `build` answers
 abbrev pub BuildAnswer : Ends → Ends → Status → Type 0
-BuildAnswer old new answer = ListAnswer (PutsOutput build_output IsSoundWords) (PutsFront build_output) IsRefused old new answer
+BuildAnswer old new answer = WholeAnswer (PutsOutput build_output IsSoundWords) (PutsFront build_output) IsRefused old new answer
 
 -- what `cues` answers
 abbrev pub CuesAnswer : Ends → Ends → Status → Type 0
-CuesAnswer old new answer = ListAnswer PutsList PutsListFront IsRefusedList old new answer
+CuesAnswer old new answer = WholeAnswer PutsList PutsListFront IsRefusedList old new answer

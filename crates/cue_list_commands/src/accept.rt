@@ -1,23 +1,21 @@
-ghost use Rattle.std.specs.Prelude.{◌≡◌, ◌≤◌, IfOk, length};
+ghost use Rattle.std.specs.Prelude.{◌≡◌, ◌≤◌, length};
 ghost use Rattle.cue_list_commands.specs.Accepted.{IsGoodList, IsRefused, IsRefusedList, list_limit};
-ghost use Rattle.cue_list_commands.specs.Reads.{IsProgrammeOf, IsTooLong, Judges, Reads, ReadsList, ReadsProgramme, form_status};
+ghost use Rattle.command_base.specs.WholeInput.{Judges};
+ghost use Rattle.cue_list_commands.specs.Reads.{IsProgrammeOf, ReadsList, ReadsProgramme, form_status};
 
 use crate::programme::Programme;
-use cc_base::{LimitOf, ReadError, Source, read_whole};
-use command_base::{Place, Status};
+use cc_base::Source;
+use command_base::{Place, Status, read_input};
 use cue_lists::{CueFault, CueList, check, parse};
 use frame_scheduler::{PlanFault, plan};
 use std::alloc::Global;
-
-/// The most bytes of a cue list.
-const LIST_LIMIT: usize = 67_108_864;
 
 /// Reads a cue list to its end and judges it: its bytes' number, its form and limits, its rules, its room. Gives its
 /// programme, or the status with which it is refused.
 pub fn read_programme<M: Source>(alloc: Global, input: &mut M) -> Result<Programme, Status>
     ensures { ReadsProgramme (M.left input.old) (M.left input.new) (M.faults input.old) (M.faults input.new) result }
 {
-    match read_bytes(alloc, input) {
+    match read_input(alloc, input) {
         Ok(bytes) => judge(alloc, &bytes),
         Err(status) => Err(status),
     }
@@ -27,23 +25,9 @@ pub fn read_programme<M: Source>(alloc: Global, input: &mut M) -> Result<Program
 pub fn read_list<M: Source>(alloc: Global, input: &mut M) -> Result<CueList, Status>
     ensures { ReadsList (M.left input.old) (M.left input.new) (M.faults input.old) (M.faults input.new) result }
 {
-    match read_bytes(alloc, input) {
+    match read_input(alloc, input) {
         Ok(bytes) => judge_list(alloc, &bytes),
         Err(status) => Err(status),
-    }
-}
-
-/// Reads the bytes of a cue list to their end.
-fn read_bytes<M: Source>(alloc: Global, input: &mut M) -> Result<Vec<u8>, Status>
-    ensures bytes { Reads (λ bytes value. value.items ≡ bytes) IsTooLong
-        (M.left input.old) (M.left input.new) (M.faults input.old) (M.faults input.new) result }
-    ensures within { IfOk result (λ bytes. length bytes.items ≤ list_limit) }
-{
-    match read_whole(alloc, input, LIST_LIMIT) {
-        Ok(bytes) => Ok(bytes),
-        Err(ReadError::Memory) => Err(Status::Memory),
-        Err(ReadError::Fault) => Err(Status::ReadFault),
-        Err(ReadError::Limit) => Err(Status::Limit(LimitOf::Bytes)),
     }
 }
 

@@ -66,6 +66,7 @@ decode_stopped old new (status.Limit which) stops = stops
 decode_stopped old new (status.Malformed place why) stops = stops
 decode_stopped old new (status.Rule fault) stops = stops
 decode_stopped old new (status.NoRoom cue) stops = stops
+decode_stopped old new (status.Differs finding) stops = stops
 decode_stopped old new (status.Short count) stops = stops
 
 pub show_stopped : (frame : ℕ) (old new : Ends) (answer : Status) → ReadsWords (show_output frame) old new (Err answer) → ShowAnswer frame old new answer
@@ -78,6 +79,7 @@ show_stopped frame old new (status.Limit which) stops = stops
 show_stopped frame old new (status.Malformed place why) stops = stops
 show_stopped frame old new (status.Rule fault) stops = stops
 show_stopped frame old new (status.NoRoom cue) stops = stops
+show_stopped frame old new (status.Differs finding) stops = stops
 show_stopped frame old new (status.Short count) stops = absurd stops
 
 -- the frame is one of the file

@@ -3,7 +3,7 @@ use Rattle.cue_list_commands.specs.ListAnswer.{PutsFront, PutsOutput}
 use Rattle.cue_list_commands.specs.Output.{IsSoundWords, build_output}
 use Rattle.cue_list_commands.specs.Reads.{IsProgrammeOf}
 use Rattle.cue_list_commands.proofs.Outputs.{words_front, words_put}
-use Rattle.cue_list_commands.proofs.Refusals.{read_refused}
+use Rattle.command_base.proofs.WholeInputLemmas.{read_refused}
 use Rattle.cue_list_commands.proofs.build.run_build.Goals as goal
 
 pub returns-in-Done : goal.returns-in-Done

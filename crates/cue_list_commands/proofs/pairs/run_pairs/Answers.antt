@@ -3,7 +3,7 @@ use Rattle.cue_list_commands.specs.ListAnswer.{PutsFront, PutsOutput}
 use Rattle.cue_list_commands.specs.Output.{IsSoundPairs, pairs_output}
 use Rattle.cue_list_commands.specs.Reads.{IsProgrammeOf}
 use Rattle.cue_list_commands.proofs.Outputs.{pairs_front, pairs_put}
-use Rattle.cue_list_commands.proofs.Refusals.{read_refused}
+use Rattle.command_base.proofs.WholeInputLemmas.{read_refused}
 use Rattle.cue_list_commands.proofs.pairs.run_pairs.Goals as goal
 
 pub returns-in-Done : goal.returns-in-Done

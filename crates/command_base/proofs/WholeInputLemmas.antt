@@ -1,0 +1,150 @@
+-- Commands that read their input to its end and judge it before they put anything.
+use Rattle.std.proofs.Common.{◌≡◌, ◌⊎◌, ◌<◌, ℕ, List, length, Option, Some, None, Result, Ok, Err, inl, inr, refl, subst, sym}
+use Rattle.std.specs.Prelude.{IfSome, ⊤}
+use Rattle.std.specs.Io.KnownBytes.{Keeps}
+use Rattle.cc_base.specs.declared.limit_of.LimitOf.TheVariants as limit
+use Rattle.command_base.proofs.CountLemmas.{read_told, steady_told, write_told}
+use Rattle.command_base.specs.Counts.{IsReadOf, TellsFaults}
+use Rattle.command_base.specs.Ends.{Ends, ends}
+use Rattle.command_base.specs.WholeInput.{IsRefusal, IsTooLong, Judges, Putting, Reads, WholeAnswer, whole_limit}
+use Rattle.command_base.specs.declared.status.Status.{Status}
+use Rattle.command_base.specs.declared.status.Status.TheVariants as status
+
+-- nothing was put where nothing changed
+keeps_same : (w : Option (List ℕ)) → Keeps w w
+keeps_same None = tt
+keeps_same (Some xs) = refl
+
+-- what isn't read is answered so, and nothing was put
+pub read_refused : {A : Type 0} (Whole Front : Putting) (Is : List ℕ → A → Type 0) (Refused : List ℕ → Status → Type 0)
+    (left now_left written : Option (List ℕ)) (before now faults : ℕ) (s : Status)
+    → Reads Is Refused left now_left before now (Err s) → WholeAnswer Whole Front Refused (ends left before written faults) (ends now_left now written faults) s
+read_refused Whole Front Is Refused left now_left written before now faults status.Ok h = absurd h
+read_refused Whole Front Is Refused left now_left written before now faults status.Usage h = absurd h
+read_refused Whole Front Is Refused left now_left written before now faults status.ReadFault h = (h.0, h.1, (refl, keeps_same written))
+read_refused Whole Front Is Refused left now_left written before now faults status.WriteFault h = absurd h
+read_refused Whole Front Is Refused left now_left written before now faults status.Memory h = (h, (refl, keeps_same written))
+read_refused Whole Front Is Refused left now_left written before now faults (status.Limit which) h = (h.0, (refl, keeps_same written), h.1)
+read_refused Whole Front Is Refused left now_left written before now faults (status.Malformed place why) h = (h.0, (refl, keeps_same written), h.1)
+read_refused Whole Front Is Refused left now_left written before now faults (status.Rule fault) h = (h.0, (refl, keeps_same written), h.1)
+read_refused Whole Front Is Refused left now_left written before now faults (status.NoRoom cue) h = (h.0, (refl, keeps_same written), h.1)
+read_refused Whole Front Is Refused left now_left written before now faults (status.Differs finding) h = (h.0, (refl, keeps_same written), h.1)
+read_refused Whole Front Is Refused left now_left written before now faults (status.Short frames) h = (h.0, (refl, keeps_same written), h.1)
+
+-- a fact of the bytes that were read is one of the bytes that were left
+of_left : (P : List ℕ → Type 0) (left : Option (List ℕ)) (bytes : List ℕ) → IfSome left (λ all. bytes ≡ all) → P bytes → IfSome left P
+of_left P None bytes is fact = tt
+of_left P (Some all) bytes is fact = subst P is fact
+
+-- a fact of what was left that follows from another
+if_left : (P Q : List ℕ → Type 0) (left : Option (List ℕ)) → ((bytes : List ℕ) → P bytes → Q bytes) → IfSome left P → IfSome left Q
+if_left P Q None each fact = tt
+if_left P Q (Some all) each fact = each all fact
+
+-- statuses that are refusals
+abbrev pub AreRefusals : (List ℕ → Status → Type 0) → Type 0
+AreRefusals Refused = (bytes : List ℕ) (answer : Status) → Refused bytes answer → IsRefusal answer
+
+-- the judgement of the bytes that were read to their end
+pub judged : {A : Type 0} (Is : List ℕ → A → Type 0) (Refused : List ℕ → Status → Type 0) → AreRefusals Refused → (left now_left : Option (List ℕ))
+    (before now : ℕ) (bytes : List ℕ) (r : Result A Status)
+    → IfSome left (λ all. bytes ≡ all) → now ≡ before → Judges Is Refused bytes r → Reads Is Refused left now_left before now r
+judged Is Refused are left now_left before now bytes (Ok value) is same fact = (same, of_left (λ all. Is all value) left bytes is fact)
+judged Is Refused are left now_left before now bytes (Err status.Ok) is same fact = absurd (are bytes status.Ok fact)
+judged Is Refused are left now_left before now bytes (Err status.Usage) is same fact = absurd (are bytes status.Usage fact)
+judged Is Refused are left now_left before now bytes (Err status.ReadFault) is same fact = absurd (are bytes status.ReadFault fact)
+judged Is Refused are left now_left before now bytes (Err status.WriteFault) is same fact = absurd (are bytes status.WriteFault fact)
+judged Is Refused are left now_left before now bytes (Err status.Memory) is same fact = same
+judged Is Refused are left now_left before now bytes (Err (status.Limit which)) is same fact =
+    (same, of_left (λ all. Refused all (status.Limit which)) left bytes is fact)
+judged Is Refused are left now_left before now bytes (Err (status.Malformed place why)) is same fact =
+    (same, of_left (λ all. Refused all (status.Malformed place why)) left bytes is fact)
+judged Is Refused are left now_left before now bytes (Err (status.Rule fault)) is same fact =
+    (same, of_left (λ all. Refused all (status.Rule fault)) left bytes is fact)
+judged Is Refused are left now_left before now bytes (Err (status.NoRoom cue)) is same fact =
+    (same, of_left (λ all. Refused all (status.NoRoom cue)) left bytes is fact)
+judged Is Refused are left now_left before now bytes (Err (status.Differs finding)) is same fact =
+    (same, of_left (λ all. Refused all (status.Differs finding)) left bytes is fact)
+judged Is Refused are left now_left before now bytes (Err (status.Short frames)) is same fact =
+    (same, of_left (λ all. Refused all (status.Short frames)) left bytes is fact)
+
+-- bytes that were too many are refused so
+too_long : (Refused : List ℕ → Status → Type 0) → ((bytes : List ℕ) → whole_limit < length bytes → Refused bytes (status.Limit limit.Bytes))
+    → (left : Option (List ℕ)) (s : Status) → IfSome left (λ bytes. IsTooLong bytes s) → IfSome left (λ bytes. Refused bytes s)
+too_long Refused long left s h = if_left (λ bytes. IsTooLong bytes s) (λ bytes. Refused bytes s) left (λ bytes too. subst (Refused bytes) (sym too.0) (long bytes too.1)) h
+
+-- bytes that weren't read to their end
+pub unread : {A : Type 0} (Is : List ℕ → A → Type 0) (Refused : List ℕ → Status → Type 0)
+    → ((bytes : List ℕ) → whole_limit < length bytes → Refused bytes (status.Limit limit.Bytes)) → (left now_left : Option (List ℕ)) (before now : ℕ) (s : Status)
+    → Reads (λ (bytes : List ℕ) (value : List ℕ). value ≡ bytes) IsTooLong left now_left before now (Err s) → Reads Is Refused left now_left before now (Err s)
+unread Is Refused long left now_left before now status.Ok h = absurd h
+unread Is Refused long left now_left before now status.Usage h = absurd h
+unread Is Refused long left now_left before now status.WriteFault h = absurd h
+unread Is Refused long left now_left before now status.ReadFault h = h
+unread Is Refused long left now_left before now status.Memory h = h
+unread Is Refused long left now_left before now (status.Limit which) h = (h.0, too_long Refused long left (status.Limit which) h.1)
+unread Is Refused long left now_left before now (status.Malformed place why) h = (h.0, too_long Refused long left (status.Malformed place why) h.1)
+unread Is Refused long left now_left before now (status.Rule fault) h = (h.0, too_long Refused long left (status.Rule fault) h.1)
+unread Is Refused long left now_left before now (status.NoRoom cue) h = (h.0, too_long Refused long left (status.NoRoom cue) h.1)
+unread Is Refused long left now_left before now (status.Differs finding) h = (h.0, too_long Refused long left (status.Differs finding) h.1)
+unread Is Refused long left now_left before now (status.Short frames) h = (h.0, too_long Refused long left (status.Short frames) h.1)
+
+-- all was put, or memory was wanted, or the bytes are refused so
+abbrev pub IsAnswered : Putting → (List ℕ → Status → Type 0) → List ℕ → Ends → Ends → Status → Type 0
+IsAnswered Whole Refused bytes old new answer =
+    ((answer ≡ status.Ok) × Whole bytes old.written new.written) ⊎ (answer ≡ status.Memory) ⊎ Refused bytes answer
+
+-- a fact of what was left is one of the bytes
+of_bytes : (P : List ℕ → Type 0) (bytes : List ℕ) (old new : Ends) → IsReadOf bytes old new → IfSome old.left P → P bytes
+of_bytes P bytes old new read fact = subst (λ l. IfSome l P) read.left fact
+
+pub answered : (Whole Front : Putting) (Refused : List ℕ → Status → Type 0) (bytes : List ℕ) (old new : Ends) (answer : Status)
+    → IsReadOf bytes old new → WholeAnswer Whole Front Refused old new answer → IsAnswered Whole Refused bytes old new answer
+answered Whole Front Refused bytes old new status.Ok read answer =
+    inl (refl, of_bytes (λ all. Whole all old.written new.written) bytes old new read answer.2)
+answered Whole Front Refused bytes old new status.Memory read answer = inr (inl refl)
+answered Whole Front Refused bytes old new status.Usage read answer = absurd answer
+answered Whole Front Refused bytes old new status.ReadFault read answer = absurd (read.reads answer.0)
+answered Whole Front Refused bytes old new status.WriteFault read answer = absurd (read.writes answer.1)
+answered Whole Front Refused bytes old new (status.Limit which) read answer =
+    inr (inr (of_bytes (λ all. Refused all (status.Limit which)) bytes old new read answer.2))
+answered Whole Front Refused bytes old new (status.Malformed place why) read answer =
+    inr (inr (of_bytes (λ all. Refused all (status.Malformed place why)) bytes old new read answer.2))
+answered Whole Front Refused bytes old new (status.Rule fault) read answer =
+    inr (inr (of_bytes (λ all. Refused all (status.Rule fault)) bytes old new read answer.2))
+answered Whole Front Refused bytes old new (status.NoRoom cue) read answer =
+    inr (inr (of_bytes (λ all. Refused all (status.NoRoom cue)) bytes old new read answer.2))
+answered Whole Front Refused bytes old new (status.Differs finding) read answer =
+    inr (inr (of_bytes (λ all. Refused all (status.Differs finding)) bytes old new read answer.2))
+answered Whole Front Refused bytes old new (status.Short frames) read answer =
+    inr (inr (of_bytes (λ all. Refused all (status.Short frames)) bytes old new read answer.2))
+
+-- bytes that are refused with no status are answered Ok, or want of memory
+pub unrefused : (Whole : Putting) (Refused : List ℕ → Status → Type 0) (bytes : List ℕ) (old new : Ends) (answer : Status)
+    → ((refusal : Status) → Refused bytes refusal → ⊥) → IsAnswered Whole Refused bytes old new answer → (answer ≡ status.Ok) ⊎ (answer ≡ status.Memory)
+unrefused Whole Refused bytes old new answer never (inl done) = inl done.0
+unrefused Whole Refused bytes old new answer never (inr (inl memory)) = inr memory
+unrefused Whole Refused bytes old new answer never (inr (inr refused)) = absurd (never answer refused)
+
+-- those that are refused with one status are answered with it, or want of memory
+pub refused : (Whole : Putting) (Refused : List ℕ → Status → Type 0) (bytes : List ℕ) (refusal : Status) (old new : Ends) (answer : Status)
+    → (Whole bytes old.written new.written → ⊥) → ((other : Status) → Refused bytes other → other ≡ refusal)
+    → IsAnswered Whole Refused bytes old new answer → (answer ≡ refusal) ⊎ (answer ≡ status.Memory)
+refused Whole Refused bytes refusal old new answer never one (inl done) = absurd (never done.1)
+refused Whole Refused bytes refusal old new answer never one (inr (inl memory)) = inr memory
+refused Whole Refused bytes refusal old new answer never one (inr (inr other)) = inl (one answer other)
+
+-- a count of faults that is greater than before
+pub told : (Whole Front : Putting) (Refused : List ℕ → Status → Type 0) (old new : Ends) (answer : Status)
+    → WholeAnswer Whole Front Refused old new answer → TellsFaults old new answer
+told Whole Front Refused old new status.Ok answer = steady_told old new status.Ok answer.0 answer.1
+told Whole Front Refused old new status.Usage answer = absurd answer
+told Whole Front Refused old new status.ReadFault answer = read_told old new answer.2.0
+told Whole Front Refused old new status.WriteFault answer = write_told old new answer.0
+told Whole Front Refused old new status.Memory answer = steady_told old new status.Memory answer.0 answer.1.0
+told Whole Front Refused old new (status.Limit which) answer = steady_told old new _ answer.0 answer.1.0
+told Whole Front Refused old new (status.Malformed place why) answer = steady_told old new _ answer.0 answer.1.0
+told Whole Front Refused old new (status.Rule fault) answer = steady_told old new _ answer.0 answer.1.0
+told Whole Front Refused old new (status.NoRoom cue) answer = steady_told old new _ answer.0 answer.1.0
+told Whole Front Refused old new (status.Differs finding) answer = steady_told old new _ answer.0 answer.1.0
+told Whole Front Refused old new (status.Short count) answer = steady_told old new _ answer.0 answer.1.0

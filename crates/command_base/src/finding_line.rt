@@ -1,0 +1,121 @@
+ghost use Rattle.std.specs.Prelude.{◌≡◌};
+ghost use Rattle.cc_base.specs.Streams.{PutCause, Puts};
+ghost use Rattle.command_base.specs.StatusLine.{channel_line, channel_name, grid_line, line_of_kind, seen_line, service_line};
+
+use cc_base::{Put, Sink, Why, put_pieces};
+use findings::{Kind45, Which};
+use itoa::Buffer;
+use line21_codes::Chan;
+
+/// Puts the line of what was found at a frame.
+pub fn put_finding<E: Sink>(frame: u32, kind: Kind45, err: &mut E) -> Put
+    ensures bytes { Puts (E.written err.old) (E.written err.new) result (line_of_kind frame kind) }
+    ensures cause { PutCause (E.faults err.old) (E.faults err.new) result }
+{
+    match kind {
+        Kind45::CounterJump { expected, seen } => {
+            put_seen(frame, Why::CounterJump, expected, seen, err)
+        }
+        Kind45::WrongCount { expected, seen } => put_seen(
+            frame,
+            Why::WrongCount,
+            expected,
+            seen,
+            err,
+        ),
+        Kind45::WrongRate { expected, seen } => {
+            put_seen(
+                frame,
+                Why::WrongRate,
+                u16::from(expected.code()),
+                u16::from(seen.code()),
+                err,
+            )
+        }
+        Kind45::BufferFull(service) => put_service(frame, Why::BufferFull, service, err),
+        Kind45::GridDiffers(which) => put_grid(frame, which, err),
+        Kind45::TwoPairs(seen) => put_seen(frame, Why::TwoPairs, 1, seen, err),
+    }
+}
+
+/// Puts the line of a grid that differs.
+fn put_grid<E: Sink>(frame: u32, which: Which, err: &mut E) -> Put
+    ensures bytes { Puts (E.written err.old) (E.written err.new) result (grid_line frame which) }
+    ensures cause { PutCause (E.faults err.old) (E.faults err.new) result }
+{
+    match which {
+        Which::Chan(chan) => put_channel(frame, Why::GridDiffers, chan, err),
+        Which::Service(service) => put_service(frame, Why::GridDiffers, service, err),
+    }
+}
+
+/// Puts the line of a finding with what is expected and what was seen.
+fn put_seen<E: Sink>(frame: u32, why: Why, expected: u16, seen: u16, err: &mut E) -> Put
+    ensures bytes { Puts (E.written err.old) (E.written err.new) result (seen_line frame why expected seen) }
+    ensures cause { PutCause (E.faults err.old) (E.faults err.new) result }
+{
+    put_pieces(
+        &[
+            b"differs at frame ",
+            Buffer::new().format(frame).as_bytes(),
+            b": ",
+            why.name().as_bytes(),
+            b" expected ",
+            Buffer::new().format(expected).as_bytes(),
+            b" seen ",
+            Buffer::new().format(seen).as_bytes(),
+            b"\n",
+        ],
+        err,
+    )
+}
+
+/// Puts the line of a finding of a service.
+fn put_service<E: Sink>(frame: u32, why: Why, service: u8, err: &mut E) -> Put
+    ensures bytes { Puts (E.written err.old) (E.written err.new) result (service_line frame why service) }
+    ensures cause { PutCause (E.faults err.old) (E.faults err.new) result }
+{
+    put_pieces(
+        &[
+            b"differs at frame ",
+            Buffer::new().format(frame).as_bytes(),
+            b": ",
+            why.name().as_bytes(),
+            b" S",
+            Buffer::new().format(service).as_bytes(),
+            b"\n",
+        ],
+        err,
+    )
+}
+
+/// Puts the line of a finding of a channel.
+fn put_channel<E: Sink>(frame: u32, why: Why, chan: Chan, err: &mut E) -> Put
+    ensures bytes { Puts (E.written err.old) (E.written err.new) result (channel_line frame why chan) }
+    ensures cause { PutCause (E.faults err.old) (E.faults err.new) result }
+{
+    put_pieces(
+        &[
+            b"differs at frame ",
+            Buffer::new().format(frame).as_bytes(),
+            b": ",
+            why.name().as_bytes(),
+            b" ",
+            channel_name(chan),
+            b"\n",
+        ],
+        err,
+    )
+}
+
+/// The name of a channel, as grids are printed.
+fn channel_name(chan: Chan) -> &'static [u8]
+    ensures { result.now ≡ channel_name chan }
+{
+    match chan {
+        Chan::Cc1 => b"CC1",
+        Chan::Cc2 => b"CC2",
+        Chan::Cc3 => b"CC3",
+        Chan::Cc4 => b"CC4",
+    }
+}

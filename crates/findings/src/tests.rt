@@ -1,0 +1,44 @@
+use crate::finding::{Kind45, Which};
+use cc_base::Rate;
+use line21_codes::Chan;
+
+#[test]
+fn findings_have_the_reasons_40_to_45(rt: HostRuntime) {
+    for (kind, number, name) in [
+        (
+            Kind45::CounterJump {
+                expected: 0,
+                seen: 2,
+            },
+            40,
+            "CounterJump",
+        ),
+        (
+            Kind45::WrongCount {
+                expected: 20,
+                seen: 10,
+            },
+            41,
+            "WrongCount",
+        ),
+        (Kind45::BufferFull(1), 42, "BufferFull"),
+        (
+            Kind45::GridDiffers(Which::Chan(Chan::Cc1)),
+            43,
+            "GridDiffers",
+        ),
+        (Kind45::GridDiffers(Which::Service(63)), 43, "GridDiffers"),
+        (
+            Kind45::WrongRate {
+                expected: Rate::F2997,
+                seen: Rate::F30,
+            },
+            44,
+            "WrongRate",
+        ),
+        (Kind45::TwoPairs(2), 45, "TwoPairs"),
+    ] {
+        assert_eq!(rt; kind.why().number(), number);
+        assert_eq!(rt; kind.why().name(), name);
+    }
+}
