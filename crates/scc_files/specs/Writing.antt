@@ -53,6 +53,16 @@ piece_of w frame pair =
 abbrev pub stand_behind : Standing → ℕ → Pair → Standing
 stand_behind w frame pair = if is_null pair then w else record w { behind = Some (frame + 1) }
 
+-- a writer before all pairs
+abbrev pub StandsFirst : TimeCode → SccWriter → Type 0
+StandsFirst start w = (frame_of start ≡ Ok w.start) × (w.drop_frame ≡ start.drop_frame) × (w.behind ≡ None)
+
+-- what is to be put of a pair is given, or that it stands past the day
+abbrev pub GivesPiece : Standing → Standing → ℕ → Pair → Option (List ℕ) → Type 0
+GivesPiece w v frame pair (Some piece) =
+    (is_past_day w frame pair ≡ false) × (piece ≡ piece_of w frame pair) × (v ≡ stand_behind w frame pair)
+GivesPiece w v frame pair None = (is_past_day w frame pair ≡ true) × (v ≡ w)
+
 -- a piece was put, or a front of it where the sink failed
 abbrev pub PutsPiece : Option (List ℕ) → Option (List ℕ) → ℕ → ℕ → Put → List ℕ → Type 0
 PutsPiece old new before now answer piece = Puts old new answer piece × PutCause before now answer
@@ -60,7 +70,7 @@ PutsPiece old new before now answer piece = Puts old new answer piece × PutCaus
 -- a writer begins
 abbrev pub BeginsWriting : TimeCode → Option (List ℕ) → Option (List ℕ) → ℕ → ℕ → Result SccWriter SccPut → Type 0
 BeginsWriting start old new before now (Ok w) =
-    PutsPiece old new before now put.Done head_text × (frame_of start ≡ Ok w.start) × (w.drop_frame ≡ start.drop_frame) × (w.behind ≡ None)
+    PutsPiece old new before now put.Done head_text × StandsFirst start w
 BeginsWriting start old new before now (Err scc_put.Fault) = PutsPiece old new before now put.Failed head_text
 BeginsWriting start old new before now (Err scc_put.Day) = ⊥
 

@@ -5,7 +5,7 @@
 pub use crate::fault::SccFault;
 pub use crate::pairs::SccPairs;
 pub use crate::reading::read_scc;
-pub use crate::writer::{SccPut, SccWriter};
+pub use crate::writer::{HEAD, PIECE, SccPut, SccWriter};
 
 mod fault;
 pub mod laws;

@@ -1,10 +1,17 @@
-ghost use Rattle.std.specs.Prelude.{◌≡◌, ◌+◌, ◌<◌, false, true};
+ghost use Rattle.std.specs.Prelude.{◌≡◌, ◌+◌, ◌<◌, ◌≤◌, ◌++◌, false, length, option_map, true};
 ghost use Rattle.time_codes.specs.TimeCodes.{day_frames};
 
 use crate::words::word;
-use cc_base::{Put, Sink, put_pieces};
+use arrayvec::ArrayVec;
+use cc_base::{Put, Sink};
 use line21_codes::Pair;
 use time_codes::{TimeCode, frame_of, time_of, time_text};
+
+/// The first line and an empty one, with which every file that is written begins.
+pub const HEAD: &[u8] = b"Scenarist_SCC V1.0\n\n";
+
+/// The most bytes that are put of a pair: two line ends, a time code, a TAB and a word.
+pub const PIECE: usize = 18;
 
 /// Why a writer's call gave up.
 #[derive(Clone, Copy, Debug, PartialEq, Eq)]
@@ -29,45 +36,79 @@ pub struct SccWriter {
 
 impl SccWriter {
     ghost use Rattle.time_codes.specs.TimeCodes.{is_time_code};
-    ghost use Rattle.scc_files.specs.Writing.{BeginsWriting, FinishesWriting, PutsPiece, WritesPair, piece_of, standing_of};
+    ghost use Rattle.scc_files.specs.Writing.{BeginsWriting, FinishesWriting, GivesPiece, StandsFirst, WritesPair, end_text, piece_of, standing_of};
     ghost use Rattle.scc_files.specs.Words.{is_null};
+
+    /// A writer of a file whose frame 0 has this time code, which a frame of the day must have. It puts nothing: it is for those
+    /// who put `HEAD`, and then what `piece` and `ending` give, themselves.
+    pub fn new(start: TimeCode) -> SccWriter
+        requires { is_time_code start ≡ true }
+        ensures { StandsFirst start result }
+    {
+        let Ok(frame) = frame_of(start) else {
+            unreachable!();
+        };
+        SccWriter {
+            start: frame,
+            drop_frame: start.drop_frame,
+            behind: None,
+        }
+    }
 
     /// Begins a file whose frame 0 has this time code, which a frame of the day must have: puts the first line and an empty one.
     pub fn begin<O: Sink>(start: TimeCode, out: &mut O) -> Result<SccWriter, SccPut>
         requires { is_time_code start ≡ true }
         ensures { BeginsWriting start (O.written out.old) (O.written out.new) (O.faults out.old) (O.faults out.new) result }
     {
-        let Ok(frame) = frame_of(start) else {
-            unreachable!();
-        };
-        match out.put(b"Scenarist_SCC V1.0\n\n") {
-            Put::Done => Ok(SccWriter {
-                start: frame,
-                drop_frame: start.drop_frame,
-                behind: None,
-            }),
+        let writer = SccWriter::new(start);
+        match out.put(HEAD) {
+            Put::Done => Ok(writer),
             Put::Failed => Err(SccPut::Fault),
         }
     }
 
-    // Puts a pair that isn't null, of a frame of the day.
-    fn put_pair<O: Sink>(&self, frame: u32, pair: Pair, out: &mut O) -> Put
+    // The piece of a pair that isn't null, of a frame of the day.
+    fn pair_piece(&self, frame: u32, pair: Pair) -> ArrayVec<u8, PIECE>
         requires shown { is_null pair ≡ false }
         requires within { self.now.start + frame < day_frames self.now.drop_frame }
-        ensures { PutsPiece (O.written out.old) (O.written out.new) (O.faults out.old) (O.faults out.new) result (piece_of (standing_of self.now) frame pair) }
+        ensures { result.items ≡ piece_of (standing_of self.now) frame pair }
     {
-        let word = word(pair);
-        let time = time_text(time_of(self.start + frame, self.drop_frame));
-        match self.behind {
-            None => put_pieces(&[&time, b"\t", &word], out),
-            Some(behind) => {
-                if behind == frame {
-                    put_pieces(&[b" ", &word], out)
-                } else {
-                    put_pieces(&[b"\n\n", &time, b"\t", &word], out)
-                }
+        let mut piece = ArrayVec::new();
+        if self.behind == Some(frame) {
+            add(b" ", &mut piece);
+        } else {
+            if self.behind.is_some() {
+                add(b"\n\n", &mut piece);
             }
+            add(
+                &time_text(time_of(self.start + frame, self.drop_frame)),
+                &mut piece,
+            );
+            add(b"\t", &mut piece);
         }
+        add(&word(pair), &mut piece);
+        piece
+    }
+
+    /// What is put of the pair of a frame above those before: nothing of a null pair (80 80), which so ends a stretch; None exactly
+    /// where the pair isn't null and its frame stands at or past the end of the start's day.
+    pub fn piece(&mut self, frame: u32, pair: Pair) -> Option<ArrayVec<u8, PIECE>>
+        ensures { GivesPiece (standing_of self.old) (standing_of self.new) frame pair (option_map (λ piece. piece.items) result) }
+    {
+        if pair.a == 0x80 && pair.b == 0x80 {
+            return Some(ArrayVec::new());
+        }
+        let day = if self.drop_frame {
+            2_589_408
+        } else {
+            2_592_000
+        };
+        if frame >= day - self.start {
+            return None;
+        }
+        let piece = self.pair_piece(frame, pair);
+        self.behind = Some(frame + 1);
+        Some(piece)
     }
 
     /// Writes the pair of a frame above those before. A null pair (80 80) is left out, and so ends a stretch.
@@ -77,23 +118,22 @@ impl SccWriter {
     pub fn pair<O: Sink>(&mut self, frame: u32, pair: Pair, out: &mut O) -> Result<(), SccPut>
         ensures { WritesPair (standing_of self.old) (standing_of self.new) frame pair (O.written out.old) (O.written out.new) (O.faults out.old) (O.faults out.new) result }
     {
-        if pair.a == 0x80 && pair.b == 0x80 {
-            return Ok(());
+        match self.piece(frame, pair) {
+            Some(piece) => match out.put(&piece) {
+                Put::Done => Ok(()),
+                Put::Failed => Err(SccPut::Fault),
+            },
+            None => Err(SccPut::Day),
         }
-        let day = if self.drop_frame {
-            2_589_408
-        } else {
-            2_592_000
-        };
-        if frame >= day - self.start {
-            return Err(SccPut::Day);
-        }
-        match self.put_pair(frame, pair, out) {
-            Put::Done => {
-                self.behind = Some(frame + 1);
-                Ok(())
-            }
-            Put::Failed => Err(SccPut::Fault),
+    }
+
+    /// What ends the file: the two line ends behind the last stretch, if there is one.
+    pub fn ending(&self) -> &'static [u8]
+        ensures { result.now ≡ end_text self.now.behind }
+    {
+        match self.behind {
+            Some(_) => b"\n\n",
+            None => b"",
         }
     }
 
@@ -101,12 +141,19 @@ impl SccWriter {
     pub fn finish<O: Sink>(&mut self, out: &mut O) -> Result<(), SccPut>
         ensures { FinishesWriting (standing_of self.old) (O.written out.old) (O.written out.new) (O.faults out.old) (O.faults out.new) result }
     {
-        if self.behind.is_none() {
-            return Ok(());
-        }
-        match out.put(b"\n\n") {
+        match out.put(self.ending()) {
             Put::Done => Ok(()),
             Put::Failed => Err(SccPut::Fault),
         }
+    }
+}
+
+/// Adds bytes to a piece that has room for them.
+fn add(bytes: &[u8], piece: &mut ArrayVec<u8, PIECE>)
+    requires { length piece.old.items + length bytes.now ≤ PIECE }
+    ensures { piece.new.items ≡ piece.old.items ++ bytes.now }
+{
+    if piece.try_extend_from_slice(bytes).is_err() {
+        unreachable!();
     }
 }
