@@ -55,6 +55,7 @@ bench: build/ccsuite
 	bench/screen.sh
 	bench/blocks.sh
 	bench/dtvcc_codes.sh
+	bench/scc.sh
 
 install: $(PROGRAM)
 	install -D -m 755 $(PROGRAM) $(ROOT)/bin/ccsuite

@@ -11,6 +11,7 @@ mod cues;
 mod decode;
 mod double_rates;
 mod pairs;
+mod scc;
 mod seen;
 mod show;
 mod words;
@@ -105,7 +106,7 @@ fn words_that_are_no_command_are_usage(rt: HostRuntime) -> Result<(), Fail> {
     let usage =
         b"usage: ccsuite pairs|build|decode|show FRAME|verify CUES|insert CUES|import|export TIME|cues|load N\n";
     let none: [&str; 0] = [];
-    let lists: [&[&str]; 17] = [
+    let lists: [&[&str]; 24] = [
         &none,
         &["pairs", "x"],
         &["Pairs"],
@@ -123,6 +124,13 @@ fn words_that_are_no_command_are_usage(rt: HostRuntime) -> Result<(), Fail> {
         &["build", "x"],
         &["build "],
         &["pairs", "build"],
+        &["import", "x"],
+        &["export"],
+        &["export", ""],
+        &["export", "01:00:00"],
+        &["export", "00:01:00;00"],
+        &["export", "24:00:00:00"],
+        &["export", "00:00:00:00", "x"],
     ];
     for words in lists {
         let ended = run_to_end(

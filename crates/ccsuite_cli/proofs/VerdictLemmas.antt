@@ -2,26 +2,25 @@
 use Rattle.std.proofs.Common.{Some, None}
 use Rattle.command_base.proofs.CountLemmas.{same_told}
 use Rattle.cue_list_commands.proofs.ListAnswerLemmas.{accepted_build, accepted_cues, accepted_pairs, refused_build, refused_cues, refused_pairs, told_build, told_cues, told_pairs}
+use Rattle.scc_commands.proofs.SccVerdictLemmas.{told_export, told_import}
 use Rattle.words_commands.proofs.LongWordsLemmas.{decode_long, show_long}
 use Rattle.words_commands.proofs.WordsVerdictLemmas.{decode_refused, decode_told, show_refused, show_told}
 use Rattle.ccsuite_cli.specs.Verdict.{AcceptedIsAnswered, FaultsAreTold, LongWordsAreRefused, MalformedIsRefused, RefusedListIsAnswered}
-use Rattle.ccsuite_cli.specs.declared.command.Command.TheVariants.{Build, Cues, Decode, Pairs, Show}
+use Rattle.ccsuite_cli.specs.declared.command.Command.TheVariants.{Build, Cues, Decode, Export, Import, Pairs, Show}
 
 -- an accepted list
 pub accepted_answered : AcceptedIsAnswered
 accepted_answered bytes list placed Pairs old new answer reads accepted read is = accepted_pairs bytes list placed old new answer accepted read is
 accepted_answered bytes list placed Build old new answer reads accepted read is = accepted_build bytes list placed old new answer accepted read is
 accepted_answered bytes list placed Cues old new answer reads accepted read is = accepted_cues bytes list placed old new answer accepted read is
-accepted_answered bytes list placed Decode old new answer reads accepted read is = absurd reads
-accepted_answered bytes list placed (Show frame) old new answer reads accepted read is = absurd reads
+accepted_answered bytes list placed _ old new answer reads accepted read is = absurd reads
 
 -- a refused list
 pub refused_answered : RefusedListIsAnswered
 refused_answered bytes refusal Pairs old new answer refuses read is = refused_pairs bytes refusal old new answer refuses read is
 refused_answered bytes refusal Build old new answer refuses read is = refused_build bytes refusal old new answer refuses read is
 refused_answered bytes refusal Cues old new answer refuses read is = refused_cues bytes refusal old new answer refuses read is
-refused_answered bytes refusal Decode old new answer refuses read is = absurd refuses
-refused_answered bytes refusal (Show frame) old new answer refuses read is = absurd refuses
+refused_answered bytes refusal _ old new answer refuses read is = absurd refuses
 
 -- malformed words
 pub malformed_refused : MalformedIsRefused
@@ -43,3 +42,5 @@ faults_told (Some Build) old new answer is = told_build old new answer is
 faults_told (Some Cues) old new answer is = told_cues old new answer is
 faults_told (Some Decode) old new answer is = decode_told old new answer is
 faults_told (Some (Show frame)) old new answer is = show_told frame old new answer is
+faults_told (Some Import) old new answer is = told_import old new answer is
+faults_told (Some (Export time)) old new answer is = told_export time old new answer is

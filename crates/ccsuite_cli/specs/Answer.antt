@@ -5,8 +5,10 @@ use Rattle.command_base.specs.declared.status.Status.{Status}
 use Rattle.command_base.specs.declared.status.Status.TheVariants as status
 use Rattle.cue_list_commands.specs.ListAnswer.{BuildAnswer, CuesAnswer, PairsAnswer}
 use Rattle.words_commands.specs.WordsAnswer.{DecodeAnswer, ShowAnswer}
+use Rattle.scc_commands.specs.Export.{ExportAnswer}
+use Rattle.scc_commands.specs.Import.{ImportAnswer}
 use Rattle.ccsuite_cli.specs.declared.command.Command.{Command}
-use Rattle.ccsuite_cli.specs.declared.command.Command.TheVariants.{Build, Cues, Decode, Pairs, Show}
+use Rattle.ccsuite_cli.specs.declared.command.Command.TheVariants.{Build, Cues, Decode, Export, Import, Pairs, Show}
 
 -- what a run answers
 abbrev pub Answer : Option Command → Ends → Ends → Status → Type 0
@@ -16,3 +18,5 @@ Answer (Some Build) old new answer = BuildAnswer old new answer
 Answer (Some Cues) old new answer = CuesAnswer old new answer
 Answer (Some Decode) old new answer = DecodeAnswer old new answer
 Answer (Some (Show frame)) old new answer = ShowAnswer frame old new answer
+Answer (Some Import) old new answer = ImportAnswer old new answer
+Answer (Some (Export time)) old new answer = ExportAnswer time old new answer

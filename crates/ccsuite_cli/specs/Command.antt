@@ -1,13 +1,26 @@
 -- The command lines of the program.
-use Rattle.std.specs.Prelude.{ℕ, List, [], ◌∷◌, Option, option_map, Some, None, codes, if◌then◌else◌}
+use Rattle.std.specs.Prelude.{◌≡◌, ℕ, List, [], ◌∷◌, Option, option_map, Some, None, codes, if◌then◌else◌, true, ⊤}
+use Rattle.std.specs.Option.{option_and_then}
 use Rattle.std.specs.Str.{bytes_eq}
 use Rattle.cue_lists.specs.Fields.{number_within}
+use Rattle.time_codes.specs.Texts.{time_of_text}
+use Rattle.time_codes.specs.TimeCodes.{is_time_code}
+use Rattle.time_codes.specs.declared.time_code.TimeCode.{TimeCode}
 use Rattle.ccsuite_cli.specs.declared.command.Command.{Command}
-use Rattle.ccsuite_cli.specs.declared.command.Command.TheVariants.{Build, Cues, Decode, Pairs, Show}
+use Rattle.ccsuite_cli.specs.declared.command.Command.TheVariants.{Build, Cues, Decode, Export, Import, Pairs, Show}
 
 -- the last frame that `show` can name
 abbrev pub last_frame : ℕ
 last_frame = 4294967294
+
+-- the time code of a text, if it spells one and a frame of the day has it
+abbrev pub start_of : List ℕ → Option TimeCode
+start_of text = option_and_then (λ t. if is_time_code t then Some t else None) (time_of_text text)
+
+-- a command whose time code, if it has one, is of the day
+abbrev pub IsRunnable : Option Command → Type 0
+IsRunnable (Some (Export time)) = is_time_code time ≡ true
+IsRunnable _ = ⊤
 
 -- the command that these words are, if they are one
 abbrev pub command_of : List (List ℕ) → Option Command
@@ -16,6 +29,10 @@ command_of (word ∷ []) =
     else if bytes_eq word (codes "build") then Some Build
     else if bytes_eq word (codes "cues") then Some Cues
     else if bytes_eq word (codes "decode") then Some Decode
+    else if bytes_eq word (codes "import") then Some Import
     else None
-command_of (word ∷ number ∷ []) = if bytes_eq word (codes "show") then option_map Show (number_within 0 last_frame number) else None
+command_of (word ∷ argument ∷ []) =
+    if bytes_eq word (codes "show") then option_map Show (number_within 0 last_frame argument)
+    else if bytes_eq word (codes "export") then option_map Export (start_of argument)
+    else None
 command_of _ = None

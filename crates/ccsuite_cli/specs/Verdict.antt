@@ -15,17 +15,17 @@ use Rattle.command_base.specs.declared.status.Status.TheVariants as status
 use Rattle.cue_list_commands.specs.Accepted.{IsAccepted, IsGoodList, IsRefused, IsRefusedList}
 use Rattle.words_commands.specs.WordsAnswer.{words_limit}
 use Rattle.words_commands.specs.WordsVerdict.{IsPastLimit, IsShown}
+use Rattle.scc_commands.specs.Import.{IsImport, IsRefusedImport, Placed}
 use Rattle.ccsuite_cli.specs.Answer.{Answer}
 use Rattle.ccsuite_cli.specs.declared.command.Command.{Command}
-use Rattle.ccsuite_cli.specs.declared.command.Command.TheVariants.{Build, Cues, Decode, Pairs, Show}
+use Rattle.ccsuite_cli.specs.declared.command.Command.TheVariants.{Build, Cues, Decode, Import, Pairs, Show}
 
 -- the commands that read a cue list
 abbrev pub ReadsCueList : Command → Type 0
 ReadsCueList Pairs = Unit {0}
 ReadsCueList Build = Unit {0}
 ReadsCueList Cues = Unit {0}
-ReadsCueList Decode = ⊥
-ReadsCueList (Show frame) = ⊥
+ReadsCueList _ = ⊥
 
 -- every command that reads a cue list answers an input that is an accepted one Ok, or want of memory
 abbrev pub AcceptedIsAnswered : Type 0
@@ -44,8 +44,7 @@ abbrev pub Refuses : Command → List ℕ → Status → Type 0
 Refuses Pairs bytes refusal = IsRefused bytes refusal
 Refuses Build bytes refusal = IsRefused bytes refusal
 Refuses Cues bytes refusal = IsRefusedList bytes refusal
-Refuses Decode bytes refusal = ⊥
-Refuses (Show frame) bytes refusal = ⊥
+Refuses _ bytes refusal = ⊥
 
 -- it answers them with that status, or want of memory
 abbrev pub RefusedListIsAnswered : Type 0
@@ -82,6 +81,16 @@ abbrev pub LongWordsAreRefused : Type 0
 LongWordsAreRefused = (bytes : List ℕ) (command : Command) (old new : Ends) (answer : Status)
     → ReadsWordsFile command → words_limit < length bytes → IsReadOf bytes old new → Answer (Some command) old new answer
     → IsPastLimit bytes answer ⊎ (answer ≡ status.Memory)
+
+-- `import` answers an SCC file within the limits Ok, or want of memory
+abbrev pub SccFileIsImported : Type 0
+SccFileIsImported = (bytes : List ℕ) (pairs : Placed) (old new : Ends) (answer : Status)
+    → IsImport bytes pairs → IsReadOf bytes old new → Answer (Some Import) old new answer → (answer ≡ status.Ok) ⊎ (answer ≡ status.Memory)
+
+-- and any other input with its one refusal, or want of memory
+abbrev pub RefusedImportIsAnswered : Type 0
+RefusedImportIsAnswered = (bytes : List ℕ) (refusal : Status) (old new : Ends) (answer : Status)
+    → IsRefusedImport bytes refusal → IsReadOf bytes old new → Answer (Some Import) old new answer → (answer ≡ refusal) ⊎ (answer ≡ status.Memory)
 
 -- every run tells faults
 abbrev pub FaultsAreTold : Type 0

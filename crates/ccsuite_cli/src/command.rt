@@ -1,8 +1,10 @@
-ghost use Rattle.std.specs.Prelude.{◌≡◌, [], ◌∷◌, map, string_bytes};
-ghost use Rattle.ccsuite_cli.specs.Command.{command_of, last_frame};
+ghost use Rattle.std.specs.Prelude.{◌≡◌, [], ◌∷◌, IfSome, map, string_bytes, true};
+ghost use Rattle.ccsuite_cli.specs.Command.{IsRunnable, command_of, last_frame, start_of};
 ghost use Rattle.cue_lists.specs.Fields.{number_within};
+ghost use Rattle.time_codes.specs.TimeCodes.{is_time_code};
 
 use cue_lists::read_within;
+use time_codes::{TimeCode, frame_of, read_time};
 
 /// What the words of a command line ask for.
 #[derive(Clone, Copy, Debug, PartialEq, Eq)]
@@ -17,6 +19,10 @@ pub enum Command {
     Decode,
     /// `show FRAME`: all screens at a frame of a words file.
     Show(u32),
+    /// `import`: the words that carry the pairs of an SCC file.
+    Import,
+    /// `export TIME`: the SCC file of the field 1 pairs of a words file, whose frame 0 has this time code.
+    Export(TimeCode),
 }
 
 /// The last frame that `show` can name.
@@ -24,18 +30,20 @@ const LAST_FRAME: u64 = 4_294_967_294;
 
 /// The command of the words after the program's name; None where they are no command.
 pub fn read_command(words: &[String]) -> Option<Command>
-    ensures { result ≡ command_of (map string_bytes words.now) }
+    ensures command { result ≡ command_of (map string_bytes words.now) }
+    ensures runnable { IsRunnable result }
 {
     match words {
         [word] => read_word(word.as_str()),
-        [word, number] => read_show(word.as_str(), number.as_str()),
+        [word, argument] => read_two(word.as_str(), argument.as_str()),
         _ => None,
     }
 }
 
 /// The command of one word.
 fn read_word(word: &str) -> Option<Command>
-    ensures { result ≡ command_of (word.now ∷ []) }
+    ensures command { result ≡ command_of (word.now ∷ []) }
+    ensures runnable { IsRunnable result }
 {
     if word == "pairs" {
         Some(Command::Pairs)
@@ -45,19 +53,39 @@ fn read_word(word: &str) -> Option<Command>
         Some(Command::Cues)
     } else if word == "decode" {
         Some(Command::Decode)
+    } else if word == "import" {
+        Some(Command::Import)
     } else {
         None
     }
 }
 
-/// The command `show` with the number of a frame.
-fn read_show(word: &str, number: &str) -> Option<Command>
-    ensures { result ≡ command_of (word.now ∷ number.now ∷ []) }
+/// The command of a word and its argument: `show` with the number of a frame, `export` with a time code.
+fn read_two(word: &str, argument: &str) -> Option<Command>
+    ensures command { result ≡ command_of (word.now ∷ argument.now ∷ []) }
+    ensures runnable { IsRunnable result }
 {
     if word == "show" {
-        read_frame(number).map(Command::Show)
+        read_frame(argument).map(Command::Show)
+    } else if word == "export" {
+        match read_start(argument) {
+            Some(time) => Some(Command::Export(time)),
+            None => None,
+        }
     } else {
         None
+    }
+}
+
+/// The time code of a text, `HH:MM:SS:FF` or `HH:MM:SS;FF` for drop frame, if a frame of the day has it.
+fn read_start(text: &str) -> Option<TimeCode>
+    ensures time { result ≡ start_of text.now }
+    ensures of_day { IfSome result (λ time. is_time_code time ≡ true) }
+{
+    let time = read_time(text)?;
+    match frame_of(time) {
+        Ok(_) => Some(time),
+        Err(_) => None,
     }
 }
 

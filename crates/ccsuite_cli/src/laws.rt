@@ -1,6 +1,7 @@
 //! Laws of what a run answers and puts: functions that do nothing, with the laws as their contracts.
 ghost use Rattle.ccsuite_cli.specs.Seen.{BuiltWordsAreSeen};
-ghost use Rattle.ccsuite_cli.specs.Verdict.{AcceptedIsAnswered, FaultsAreTold, FileIsDecoded, FileIsShown, GoodListIsWritten, LongWordsAreRefused, MalformedIsRefused, RefusedListIsAnswered};
+ghost use Rattle.ccsuite_cli.specs.Verdict.{AcceptedIsAnswered, FaultsAreTold, FileIsDecoded, FileIsShown, GoodListIsWritten, LongWordsAreRefused, MalformedIsRefused, RefusedImportIsAnswered, RefusedListIsAnswered, SccFileIsImported};
+ghost use Rattle.scc_commands.specs.ExportVerdict.{FileIsExported, MalformedIsNotExported};
 
 /// The law that every command that reads a cue list answers Ok to an input that is an accepted cue list, or Memory, where
 /// neither count of faults rose.
@@ -41,6 +42,28 @@ pub fn malformed_is_refused()
 /// limit where no word within it offends, or Memory.
 pub fn long_words_are_refused()
     ensures { LongWordsAreRefused }
+{}
+
+/// The law that `import` answers Ok to an input that is an SCC file within the limits, or Memory, where neither count of faults rose.
+pub fn scc_file_is_imported()
+    ensures { SccFileIsImported }
+{}
+
+/// The law that it answers any other input with its one refusal: the first offence, or the limit that it passes, or Memory.
+pub fn refused_import_is_answered()
+    ensures { RefusedImportIsAnswered }
+{}
+
+/// The law that `export` answers Ok to an input that is a words file within the limit, at none of whose frames anything is found and
+/// none of whose pairs stands past the day, or Memory, where neither count of faults rose.
+pub fn file_is_exported()
+    ensures { FileIsExported }
+{}
+
+/// The law that it answers malformed words with no such frame with the place and the reason of their first offending word, or of their
+/// end, or Memory.
+pub fn malformed_is_not_exported()
+    ensures { MalformedIsNotExported }
 {}
 
 /// The law that every run answers ReadFault where the input's count of faults is greater than before, and WriteFault where the

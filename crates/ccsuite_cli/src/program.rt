@@ -1,6 +1,6 @@
-ghost use Rattle.std.specs.Prelude.{◌≡◌, map, string_bytes};
+ghost use Rattle.std.specs.Prelude.{◌≡◌, Some, map, string_bytes};
 ghost use Rattle.ccsuite_cli.specs.Answer.{Answer};
-ghost use Rattle.ccsuite_cli.specs.Command.{command_of};
+ghost use Rattle.ccsuite_cli.specs.Command.{IsRunnable, command_of};
 ghost use Rattle.command_base.specs.Ends.{ends};
 ghost use Rattle.command_base.specs.StatusLine.{PutsLine};
 
@@ -8,6 +8,7 @@ use crate::command::{Command, read_command};
 use cc_base::{Sink, Source};
 use command_base::{Status, put_status};
 use cue_list_commands::{run_build, run_cues, run_pairs};
+use scc_commands::{run_export, run_import};
 use std::alloc::Global;
 use words_commands::{run_decode, run_show};
 
@@ -40,16 +41,36 @@ fn obey<M: Source, O: Sink>(
     input: &mut M,
     out: &mut O,
 ) -> Status
+    requires { IsRunnable command }
     ensures { Answer command
         (ends (M.left input.old) (M.faults input.old) (O.written out.old) (O.faults out.old))
         (ends (M.left input.new) (M.faults input.new) (O.written out.new) (O.faults out.new)) result }
 {
     match command {
         None => Status::Usage,
-        Some(Command::Pairs) => run_pairs(alloc, input, out),
-        Some(Command::Build) => run_build(alloc, input, out),
-        Some(Command::Cues) => run_cues(alloc, input, out),
-        Some(Command::Decode) => run_decode(alloc, input, out),
-        Some(Command::Show(frame)) => run_show(alloc, frame, input, out),
+        Some(command) => perform(alloc, command, input, out),
+    }
+}
+
+/// Runs a command.
+fn perform<M: Source, O: Sink>(
+    alloc: Global,
+    command: Command,
+    input: &mut M,
+    out: &mut O,
+) -> Status
+    requires { IsRunnable (Some command) }
+    ensures { Answer (Some command)
+        (ends (M.left input.old) (M.faults input.old) (O.written out.old) (O.faults out.old))
+        (ends (M.left input.new) (M.faults input.new) (O.written out.new) (O.faults out.new)) result }
+{
+    match command {
+        Command::Pairs => run_pairs(alloc, input, out),
+        Command::Build => run_build(alloc, input, out),
+        Command::Cues => run_cues(alloc, input, out),
+        Command::Decode => run_decode(alloc, input, out),
+        Command::Show(frame) => run_show(alloc, frame, input, out),
+        Command::Import => run_import(alloc, input, out),
+        Command::Export(time) => run_export(alloc, time, input, out),
     }
 }

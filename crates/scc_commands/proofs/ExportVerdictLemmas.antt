@@ -1,0 +1,189 @@
+-- The verdict of an export.
+use Rattle.std.proofs.Common.{◌≡◌, ◌≢◌, ◌∙◌, ◌+◌, ◌<◌, ◌≤◌, ◌++◌, ◌⊎◌, ap, append_assoc, arith, inl, inr, length, length-append, refl, subst, suc, sym, ℕ, List, [], ◌∷◌, Option, Some, None, IfSome, Err, false, true}
+use Rattle.std.specs.Io.KnownBytes.{Consumes}
+use Rattle.cc_base.specs.declared.limit_of.LimitOf.TheVariants as limit
+use Rattle.cc_base.specs.declared.refusal.Refusal.{Refusal}
+use Rattle.cc_base.specs.declared.streams.Put.{Put}
+use Rattle.cdp_packets.specs.Packets.{Packet as Frame}
+use Rattle.command_base.specs.Counts.{IsReadOf}
+use Rattle.command_base.specs.Ends.{Ends}
+use Rattle.command_base.specs.declared.status.Place.TheVariants.{Byte}
+use Rattle.command_base.specs.declared.status.Status.{Status}
+use Rattle.command_base.specs.declared.status.Status.TheVariants as status
+use Rattle.findings.specs.declared.finding.Finding.{Finding}
+use Rattle.findings.specs.declared.finding.Kind45.{Kind45}
+use Rattle.findings.specs.declared.finding.Kind45.TheVariants as kind
+use Rattle.scc_files.specs.Writing.{is_past_day}
+use Rattle.time_codes.specs.declared.time_code.TimeCode.{TimeCode}
+use Rattle.words_files.proofs.EndingLemmas.{cut_short_has_no_offence, file_has_no_offence, offence_stays}
+use Rattle.services_files.proofs.FillingLemmas.{takes_filling}
+use Rattle.words_files.proofs.FramesOfLemmas.{file_frames, frames_grow}
+use Rattle.words_files.proofs.OffenceLemmas.{offence_refused}
+use Rattle.services_files.specs.Services.{services_say}
+use Rattle.words_files.specs.Catching.{refusal_of}
+use Rattle.words_files.specs.FramesOf.{AreFramesOf}
+use Rattle.words_files.specs.Offences.{FirstOffendingWord, IsCutShort, IsFileUnder, IsMalformed}
+use Rattle.scc_commands.specs.Export.{AreExported, AreWithinDay, Cause, ExportAnswer, HasFinding, HasNoFinding, HaveNoFinding, IsFoundAt, IsRefusedWith, IsWhole, PassesDay, PassesLimit, Stops, StopsEarly, at_number, export_front, exported, exported_from, first_standing, pairs_of, words_limit}
+use Rattle.scc_commands.specs.ExportVerdict.{FileIsExported, MalformedIsNotExported}
+use Rattle.scc_commands.specs.Import.{Placed}
+
+-- what was judged of known bytes, and the rest of them
+known_judged : (old new : Option (List ℕ)) (bytes judged unjudged : List ℕ) → old ≡ Some bytes → Consumes old new (judged ++ unjudged)
+    → (rest : List ℕ) × (bytes ≡ judged ++ (unjudged ++ rest))
+known_judged old None bytes judged unjudged known consumed = absurd (subst (λ l. Consumes l None (judged ++ unjudged)) known consumed)
+known_judged old (Some rest) bytes judged unjudged known consumed =
+    (rest, subst (λ l. Consumes l (Some rest) (judged ++ unjudged)) known consumed ∙ append_assoc judged unjudged rest)
+
+-- what was judged of known bytes that were read to their end is all of them
+known_whole : (left : Option (List ℕ)) (bytes judged : List ℕ) → left ≡ Some bytes → IfSome left (λ all. all ≡ judged) → bytes ≡ judged
+known_whole left bytes judged known whole = subst (λ l. IfSome l (λ all. all ≡ judged)) known whole
+
+-- within the day, in front and behind
+within_back : (time : TimeCode) (pairs more : Placed) → AreWithinDay time (pairs ++ more) → AreWithinDay time more
+within_back time [] more within = within
+within_back time (placed ∷ pairs) more (fits, within) = within_back time pairs more within
+
+within_front : (time : TimeCode) (pairs more : Placed) → AreWithinDay time (pairs ++ more) → AreWithinDay time pairs
+within_front time [] more within = tt
+within_front time (placed ∷ pairs) more (fits, within) = (fits, within_front time pairs more within)
+
+-- so is one frame of them
+within_at : (time : TimeCode) (number : ℕ) (frames : List Frame) (last : Frame) (behind : List Frame)
+    → AreWithinDay time (exported_from number ((frames ++ last ∷ []) ++ behind)) → AreWithinDay time (at_number (number + length frames) (pairs_of last))
+within_at time number [] last behind within =
+    subst (λ n. AreWithinDay time (at_number n (pairs_of last))) (none number)
+    (within_front time (at_number number (pairs_of last)) (exported_from (suc number) behind) within)
+  where
+    none : (n : ℕ) → n ≡ n + 0
+    none n = omega arith
+within_at time number (frame ∷ frames) last behind within =
+    let count : suc number + length frames ≡ number + suc (length frames) = omega arith in
+    subst (λ n. AreWithinDay time (at_number n (pairs_of last))) count
+    (within_at time (suc number) frames last behind
+    (within_back time (at_number number (pairs_of frame)) (exported_from (suc number) ((frames ++ last ∷ []) ++ behind)) within))
+
+-- nothing is found at one frame of them
+no_finding_at : (frames : List Frame) (last : Frame) (behind : List Frame) → HaveNoFinding ((frames ++ last ∷ []) ++ behind) → HasNoFinding last
+no_finding_at [] last behind (none, more) = none
+no_finding_at (frame ∷ frames) last behind (none, more) = no_finding_at frames last behind more
+
+not_found : (frame : Frame) (found : Kind45) → HasNoFinding frame → HasFinding frame found → ⊥
+not_found frame (kind.WrongRate expected seen) none finding = finding.2 none.rate_is
+not_found frame (kind.TwoPairs seen) none finding = let one = none.one in let more = finding.2 in omega arith
+not_found frame _ none finding = absurd finding
+
+-- no export of bytes whose frames are exported stops at a frame
+never_at : (time : TimeCode) (bytes more : List ℕ) (all frames at : List Frame) (last : Frame) (judged : List ℕ) → AreFramesOf services_say all bytes → bytes ≡ judged ++ more
+    → AreFramesOf services_say (frames ++ at) judged → at ≡ last ∷ []
+    → (behind : List Frame) × (all ≡ (frames ++ last ∷ []) ++ behind)
+never_at time bytes more all frames at last judged are is front is_last =
+    let (behind, grown) = frames_grow services_say (frames ++ at) all judged more front (subst (AreFramesOf services_say all) is are) in
+    (behind, grown ∙ ap (λ l. (frames ++ l) ++ behind) is_last)
+
+never_found : (time : TimeCode) (bytes : List ℕ) (all : List Frame) (finding : Finding) (answer : Put) (old new : Ends) → AreFramesOf services_say all bytes → AreExported time all
+    → IsReadOf bytes old new → Stops time (export_front time) (IsFoundAt finding) answer old new → ⊥
+never_found time bytes all finding answer old new are good read stops =
+    let (rest, is) = known_judged old.left new.left bytes stops.judged stops.unjudged read.left stops.taken in
+    let (behind, grown) = never_at time bytes (stops.unjudged ++ rest) all stops.frames stops.at stops.cause.last stops.judged are is stops.frames_are stops.cause.is_last in
+    not_found stops.cause.last finding.kind (no_finding_at stops.frames stops.cause.last behind (subst HaveNoFinding grown good.no_finding)) stops.cause.found
+
+never_past : (time : TimeCode) (bytes : List ℕ) (all : List Frame) (answer : Put) (old new : Ends) → AreFramesOf services_say all bytes → AreExported time all
+    → IsReadOf bytes old new → Stops time (export_front time) (PassesDay time) answer old new → ⊥
+never_past time bytes all answer old new are good read stops =
+    let (rest, is) = known_judged old.left new.left bytes stops.judged stops.unjudged read.left stops.taken in
+    let (behind, grown) = never_at time bytes (stops.unjudged ++ rest) all stops.frames stops.at stops.cause.last stops.judged are is stops.frames_are stops.cause.is_last in
+    let within = within_at time 0 stops.frames stops.cause.last behind (subst (λ f. AreWithinDay time (exported f)) grown good.within_day) in
+    let one = subst (λ l. AreWithinDay time (at_number (0 + length stops.frames) l)) stops.cause.is_pair within in
+    let past = stops.cause.past in
+    let isnt : true ≡ false = sym past ∙ ap (λ n. is_past_day (first_standing time) n stops.cause.pair) (count (length stops.frames)) ∙ one.0 in cc
+  where
+    count : (n : ℕ) → n ≡ 0 + n
+    count n = omega arith
+
+-- no more bytes than the limit pass it
+never_passes : (time : TimeCode) (bytes : List ℕ) (answer : Put) (old new : Ends) → length bytes ≤ words_limit → IsReadOf bytes old new
+    → Stops time (export_front time) PassesLimit answer old new → ⊥
+never_passes time bytes answer old new within read stops =
+    let (rest, is) = known_judged old.left new.left bytes stops.judged stops.unjudged read.left stops.taken in
+    let size = ap length is ∙ length-append stops.judged (stops.unjudged ++ rest) in
+    let more = length-append stops.unjudged rest in
+    let at_limit = stops.cause.1 in
+    let some = stops.cause.2 in omega arith
+
+-- a refusal is one of the bytes
+refused_so : (time : TimeCode) (bytes : List ℕ) (refusal : Refusal) (answer : Put) (old new : Ends) → IsReadOf bytes old new
+    → Stops time (export_front time) (IsRefusedWith refusal old.left) answer old new → IsMalformed services_say bytes refusal
+refused_so time bytes refusal answer old new read stops =
+    let (rest, is) = known_judged old.left new.left bytes stops.judged stops.unjudged read.left stops.taken in
+    elim stops.cause.1 [
+      | inl offence ↦ inl (subst (λ l. FirstOffendingWord services_say l refusal) (sym is) (offence_stays services_say stops.judged (stops.unjudged ++ rest) refusal offence))
+      | inr cut ↦ inr (subst (λ l. IsCutShort services_say l refusal) (sym (known_whole old.left bytes stops.judged read.left cut.0.0)) cut.1)
+    ]
+
+-- what is malformed is no file
+malformed_no_file : (bytes : List ℕ) (refusal : Refusal) (frames : List Frame) → IsMalformed services_say bytes refusal → IsFileUnder services_say frames bytes → ⊥
+malformed_no_file bytes refusal frames (inl offence) file = file_has_no_offence services_say frames bytes refusal file offence
+malformed_no_file bytes refusal frames (inr cut) file = cut.no_file frames file
+
+-- a file that is exported stops for nothing
+file_early : (time : TimeCode) (bytes : List ℕ) (frames : List Frame) (old new : Ends) (answer : Status) → IsFileUnder services_say frames bytes → AreExported time frames
+    → length bytes ≤ words_limit → IsReadOf bytes old new → StopsEarly time old new answer → ⊥
+file_early time bytes frames old new status.ReadFault file good within read stops = read.reads stops.0
+file_early time bytes frames old new status.WriteFault file good within read stops = read.writes stops.1
+file_early time bytes frames old new (status.Limit limit.Bytes) file good within read stops = never_passes time bytes _ old new within read stops.1
+file_early time bytes frames old new (status.Limit limit.Day) file good within read stops =
+    never_past time bytes frames _ old new (file_frames services_say frames bytes file) good read stops.1
+file_early time bytes frames old new (status.Malformed (Byte place) why) file good within read stops =
+    malformed_no_file bytes (record { place = place; why = why }) frames (refused_so time bytes (record { place = place; why = why }) _ old new read stops.1) file
+file_early time bytes frames old new (status.Differs finding) file good within read stops =
+    never_found time bytes frames finding _ old new (file_frames services_say frames bytes file) good read stops.1
+file_early time bytes frames old new _ file good within read stops = absurd stops
+
+pub file_exported : FileIsExported
+file_exported time bytes frames old new status.Ok file good within read answered = inl refl
+file_exported time bytes frames old new status.Memory file good within read answered = inr refl
+file_exported time bytes frames old new status.WriteFault file good within read (inl answered) = absurd (read.writes answered.1)
+file_exported time bytes frames old new status.WriteFault file good within read (inr answered) = absurd (read.writes answered.1)
+file_exported time bytes frames old new answer file good within read answered =
+    absurd (file_early time bytes frames old new answer file good within read answered)
+
+-- malformed in one way
+one_malformed : (bytes : List ℕ) (refusal other : Refusal) → IsMalformed services_say bytes refusal → IsMalformed services_say bytes other → refusal ≡ other
+one_malformed bytes refusal other (inl one) (inl two) =
+    same_some refusal other (sym (offence_refused services_say takes_filling bytes refusal one) ∙ offence_refused services_say takes_filling bytes other two)
+  where
+    same_some : (a b : Refusal) → Some a ≡ Some b → a ≡ b
+    same_some a b same = cc
+one_malformed bytes refusal other (inl one) (inr two) = absurd (cut_short_has_no_offence services_say bytes other refusal two one)
+one_malformed bytes refusal other (inr one) (inl two) = absurd (cut_short_has_no_offence services_say bytes refusal other one two)
+one_malformed bytes refusal other (inr one) (inr two) = same_refusal refusal other (one.place_is ∙ sym two.place_is) (one.why_is ∙ sym two.why_is)
+  where
+    same_refusal : (a b : Refusal) → a.place ≡ b.place → a.why ≡ b.why → a ≡ b
+    same_refusal a b place why = rw (place, why) refl
+
+malformed_early : (time : TimeCode) (bytes : List ℕ) (frames : List Frame) (refusal : Refusal) (old new : Ends) (answer : Status) → AreFramesOf services_say frames bytes
+    → AreExported time frames → IsMalformed services_say bytes refusal → length bytes ≤ words_limit → IsReadOf bytes old new → StopsEarly time old new answer
+    → answer ≡ status.Malformed (Byte refusal.place) refusal.why
+malformed_early time bytes frames refusal old new status.ReadFault are good malformed within read stops = absurd (read.reads stops.0)
+malformed_early time bytes frames refusal old new status.WriteFault are good malformed within read stops = absurd (read.writes stops.1)
+malformed_early time bytes frames refusal old new (status.Limit limit.Bytes) are good malformed within read stops =
+    absurd (never_passes time bytes _ old new within read stops.1)
+malformed_early time bytes frames refusal old new (status.Limit limit.Day) are good malformed within read stops =
+    absurd (never_past time bytes frames _ old new are good read stops.1)
+malformed_early time bytes frames refusal old new (status.Malformed (Byte place) why) are good malformed within read stops =
+    ap (λ (r : Refusal). status.Malformed (Byte r.place) r.why)
+    (one_malformed bytes (record { place = place; why = why }) refusal (refused_so time bytes (record { place = place; why = why }) _ old new read stops.1) malformed)
+malformed_early time bytes frames refusal old new (status.Differs finding) are good malformed within read stops =
+    absurd (never_found time bytes frames finding _ old new are good read stops.1)
+malformed_early time bytes frames refusal old new _ are good malformed within read stops = absurd stops
+
+pub malformed_not_exported : MalformedIsNotExported
+malformed_not_exported time bytes frames refusal old new status.Ok are good malformed within read answered =
+    let (at_end, whole, file) = answered.1.cause in
+    absurd (malformed_no_file bytes refusal answered.1.frames malformed
+    (subst (λ l. IsFileUnder services_say answered.1.frames l) (sym (known_whole old.left bytes answered.1.judged read.left whole.0)) file))
+malformed_not_exported time bytes frames refusal old new status.Memory are good malformed within read answered = inr refl
+malformed_not_exported time bytes frames refusal old new status.WriteFault are good malformed within read (inl answered) = absurd (read.writes answered.1)
+malformed_not_exported time bytes frames refusal old new status.WriteFault are good malformed within read (inr answered) = absurd (read.writes answered.1)
+malformed_not_exported time bytes frames refusal old new answer are good malformed within read answered =
+    inl (malformed_early time bytes frames refusal old new answer are good malformed within read answered)

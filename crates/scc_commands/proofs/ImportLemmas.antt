@@ -1,0 +1,221 @@
+-- The words of an SCC file's pairs, frame by frame.
+use Rattle.std.proofs.Common.{◌==◌, if◌then◌else◌, Bool, IfOk, Some, None, length, ◌≡◌, ◌≢◌, ◌∙◌, ◌+◌, ◌-◌, ◌<◌, ◌≤◌, ◌++◌, add-one, ap, append-nil, arith, refl, subst, suc, sym, zero, ℕ, List, [], ◌∷◌, Option, Ok, Err, Result, false, true}
+use Rattle.std.specs.Prelude.{IfSome, nat_eq}
+use Rattle.cc_base.specs.declared.limit_of.LimitOf.TheVariants as limit
+use Rattle.std.specs.Io.KnownBytes.{Appends}
+use Rattle.cc_base.specs.Streams.{Puts}
+use Rattle.cc_base.specs.declared.rate.Rate.TheVariants as rate
+use Rattle.cc_base.specs.declared.streams.Put.TheVariants as put
+use Rattle.cc_base.proofs.Puts.{puts_front, puts_more}
+use Rattle.line21_codes.specs.declared.pairs.Pair.{Pair}
+use Rattle.frame_scheduler.specs.declared.frames.FrameBytes.{FrameBytes}
+use Rattle.frame_carrier.proofs.CarriedLemmas.{frames_carried}
+use Rattle.frame_carrier.specs.Carried.{AreBytePairs, IsBytePair}
+use Rattle.frame_carrier.specs.Carrying.{IsAt, column_bytes, frame_bytes}
+use Rattle.frame_carrier.specs.declared.carrier.Carrier.{Carrier}
+use Rattle.scc_files.specs.Reading.{frames_of, frames_to}
+use Rattle.scc_files.proofs.Rising.{file_bytes, file_rises}
+use Rattle.scc_files.specs.Offences.{FileAnswers}
+use Rattle.scc_files.specs.SccFiles.{AreBytes, AreRising}
+use Rattle.scc_files.specs.declared.fault.SccFault.{SccFault}
+use Rattle.scc_files.specs.declared.fault.SccFault.TheVariants as fault
+use Rattle.command_base.proofs.WholeInputLemmas.{AreRefusals}
+use Rattle.command_base.specs.WholeInput.{Judges, whole_limit}
+use Rattle.command_base.specs.declared.status.Status.{Status}
+use Rattle.command_base.specs.declared.status.Status.TheVariants as status
+use Rattle.scc_commands.specs.Cursors.{Passes}
+use Rattle.scc_commands.specs.Import.{IsImport, IsRefusedImport, Placed, PutsImport, PutsImportFront, import_columns, import_words, null_pair, pair_at}
+use Rattle.scc_commands.specs.ImportSteps.{ArePlaced, fault_status, frame_with}
+
+-- numbers that aren't equal
+pub other_number : (n m : ℕ) → n ≢ m → nat_eq n m ≡ false
+other_number n m other = grind arith
+
+-- no pair stands before the first of pairs
+pub none_before : (pairs : Placed) (low frame : ℕ) → AreRising low pairs → frame < low → pair_at pairs frame ≡ null_pair
+none_before [] low frame rising before = refl
+none_before (placed ∷ pairs) low frame (from, rising) before =
+    rw (other_number placed.0 frame (λ same. omega arith)) (none_before pairs (placed.0 + 1) frame rising (omega arith))
+
+-- pairs that rise from a frame do from an earlier one
+from_earlier : (pairs : Placed) (low lower : ℕ) → AreRising low pairs → lower ≤ low → AreRising lower pairs
+from_earlier [] low lower rising earlier = tt
+from_earlier (placed ∷ pairs) low lower (from, rising) earlier = (omega arith, rising)
+
+-- the first pair stands at the frame that is passed
+pub passes_pair : (frame : ℕ) (left : Placed) (placed : ℕ × Pair) (rest : Placed) → AreRising frame left → left ≡ placed ∷ rest → placed.0 ≡ frame
+    → Passes frame left rest placed.1
+passes_pair frame left placed rest rising is at =
+    let (from, more) = subst (AreRising frame) is rising in
+    record {
+      pair_is = rw (is, at, nat_eq-refl frame) refl;
+      rising = subst (λ f. AreRising (f + 1) rest) at more;
+      later = λ other after. rw (is, other_number placed.0 other (λ same. omega arith)) refl;
+    }
+  where
+    nat_eq-refl : (n : ℕ) → nat_eq n n ≡ true
+    nat_eq-refl n = grind arith
+
+-- there is none
+pub passes_end : (frame : ℕ) (left : Placed) → length left ≡ 0 → Passes frame left left null_pair
+passes_end frame [] none = record { pair_is = refl; rising = tt; later = λ f after. refl }
+passes_end frame (placed ∷ left) none = absurd (omega arith)
+
+-- or it doesn't, and then none does
+pub passes_none : (frame : ℕ) (left : Placed) (placed : ℕ × Pair) (rest : Placed) → AreRising frame left → left ≡ placed ∷ rest → placed.0 ≢ frame
+    → Passes frame left left null_pair
+passes_none frame left placed rest rising is apart =
+    let (from, more) = subst (AreRising frame) is rising in
+    let behind : frame < placed.0 = omega (arith, from, apart) in
+    let null : pair_at (placed ∷ rest) frame ≡ null_pair = none_before (placed ∷ rest) placed.0 frame (omega arith, more) behind in
+    let fits : AreRising (frame + 1) (placed ∷ rest) = (omega arith, more) in
+    record {
+      pair_is = sym (ap (λ l. pair_at l frame) is ∙ null);
+      rising = subst (AreRising (frame + 1)) (sym is) fits;
+      later = λ f after. refl;
+    }
+
+-- the frames of pairs end behind the last one
+pub frames_behind : (pairs : Placed) (n : ℕ) (last : ℕ × Pair) → frames_to n (pairs ++ last ∷ []) ≡ last.0 + 1
+frames_behind [] n last = refl
+frames_behind (placed ∷ pairs) n last = frames_behind pairs (placed.0 + 1) last
+
+-- the words of pairs are on their way: those of the frames before this one were put
+pub record WordsOnTheWay (pairs left : Placed) (frame frames : ℕ) (carrier : Carrier) (old new : Option (List ℕ)) : Type 0 where
+  pub at_frame : IsAt rate.F2997 frame carrier
+  pub rising : AreRising frame left
+  pub same : (other : ℕ) → frame ≤ other → pair_at left other ≡ pair_at pairs other
+  pub sent : List ℕ
+  pub appended : Appends old new sent
+  pub whole : sent ++ column_bytes rate.F2997 (import_columns pairs) frame (frames - frame) ≡ import_words pairs
+
+-- nothing was put yet
+nothing_put : (start : Option (List ℕ)) → Appends start start []
+nothing_put None = tt
+nothing_put (Some bytes) = sym (append-nil bytes)
+
+none_less : (n : ℕ) → n - 0 ≡ n
+none_less n = omega arith
+
+pub words_begun : (pairs left : Placed) (frames : ℕ) (carrier : Carrier) (start : Option (List ℕ)) → IsAt rate.F2997 0 carrier → AreRising 0 pairs
+    → left ≡ pairs → frames ≡ frames_of pairs → WordsOnTheWay pairs left 0 frames carrier start start
+words_begun pairs left frames carrier start at rising is count = record {
+  at_frame = at;
+  rising = subst (AreRising 0) (sym is) rising;
+  same = λ other from. ap (λ l. pair_at l other) is;
+  sent = [];
+  appended = nothing_put start;
+  whole = ap (column_bytes rate.F2997 (import_columns pairs) 0) (none_less frames ∙ count);
+}
+
+-- the words of a frame are the first of those that are left
+first_words : (pairs left now : Placed) (frame frames : ℕ) (carrier : Carrier) (old new : Option (List ℕ)) (pair : Pair) (bytes : FrameBytes) (words : List ℕ)
+    → WordsOnTheWay pairs left frame frames carrier old new → Passes frame left now pair → bytes ≡ frame_with pair → frame < frames
+    → words ≡ frame_bytes rate.F2997 frame bytes []
+    → column_bytes rate.F2997 (import_columns pairs) frame (frames - frame)
+    ≡ words ++ column_bytes rate.F2997 (import_columns pairs) (frame + 1) (frames - (frame + 1))
+first_words pairs left now frame frames carrier old new pair bytes words on passes bytes_are below words_are =
+    let next : frames - frame ≡ suc (frames - (frame + 1)) = omega arith in
+    let pair_is : pair ≡ pair_at pairs frame = passes.pair_is ∙ on.same frame (omega arith) in
+    let columns_are : import_columns pairs frame ≡ bytes = sym (bytes_are ∙ ap frame_with pair_is) in
+    ap (column_bytes rate.F2997 (import_columns pairs) frame) next
+    ∙ ap (λ (b : FrameBytes). frame_bytes rate.F2997 frame b [] ++ column_bytes rate.F2997 (import_columns pairs) (suc frame) (frames - (frame + 1))) columns_are
+    ∙ ap (λ w. w ++ column_bytes rate.F2997 (import_columns pairs) (suc frame) (frames - (frame + 1))) (sym words_are)
+    ∙ ap (λ f. words ++ column_bytes rate.F2997 (import_columns pairs) f (frames - (frame + 1))) (sym (add-one frame))
+
+-- they were put
+pub words_added : (pairs left now : Placed) (frame frames : ℕ) (carrier moved : Carrier) (old new after : Option (List ℕ)) (pair : Pair) (bytes : FrameBytes) (words : List ℕ)
+    → WordsOnTheWay pairs left frame frames carrier old new → Passes frame left now pair → bytes ≡ frame_with pair → frame < frames
+    → words ≡ frame_bytes rate.F2997 frame bytes [] → IsAt rate.F2997 (frame + 1) moved → Puts new after put.Done words
+    → WordsOnTheWay pairs now (frame + 1) frames moved old after
+words_added pairs left now frame frames carrier moved old new after pair bytes words on passes bytes_are below words_are at puts =
+    let first = first_words pairs left now frame frames carrier old new pair bytes words on passes bytes_are below words_are in
+    let rest = column_bytes rate.F2997 (import_columns pairs) (frame + 1) (frames - (frame + 1)) in
+    let more = puts_more old new after put.Done on.sent words rest (import_words pairs) on.appended puts refl (ap (λ l. on.sent ++ l) (sym first) ∙ on.whole) in
+    record {
+      at_frame = at;
+      rising = passes.rising;
+      same = λ other from. passes.later other (omega arith) ∙ on.same other (omega arith);
+      sent = on.sent ++ words;
+      appended = more.0;
+      whole = more.1;
+    }
+
+-- a put of them failed
+pub words_failed : (pairs left now : Placed) (frame frames : ℕ) (carrier : Carrier) (old new after : Option (List ℕ)) (pair : Pair) (bytes : FrameBytes) (words : List ℕ)
+    → WordsOnTheWay pairs left frame frames carrier old new → Passes frame left now pair → bytes ≡ frame_with pair → frame < frames
+    → words ≡ frame_bytes rate.F2997 frame bytes [] → Puts new after put.Failed words → Puts old after put.Failed (import_words pairs)
+words_failed pairs left now frame frames carrier old new after pair bytes words on passes bytes_are below words_are puts =
+    let first = first_words pairs left now frame frames carrier old new pair bytes words on passes bytes_are below words_are in
+    let rest = column_bytes rate.F2997 (import_columns pairs) (frame + 1) (frames - (frame + 1)) in
+    puts_front old new after put.Failed on.sent words rest (import_words pairs) on.appended puts refl (ap (λ l. on.sent ++ l) (sym first) ∙ on.whole)
+
+-- all were put
+pub words_ended : (pairs left : Placed) (frame frames : ℕ) (carrier : Carrier) (old new : Option (List ℕ)) → WordsOnTheWay pairs left frame frames carrier old new
+    → frames ≤ frame → Appends old new (import_words pairs)
+words_ended pairs left frame frames carrier old new on ended =
+    let none : frames - frame ≡ 0 = omega arith in
+    let whole : on.sent ≡ import_words pairs =
+    sym (append-nil on.sent) ∙ sym (ap (λ n. on.sent ++ column_bytes rate.F2997 (import_columns pairs) frame n) none) ∙ on.whole in
+    subst (Appends old new) whole on.appended
+
+-- the refusals of an import are refusals
+pub import_refusals : AreRefusals IsRefusedImport
+import_refusals bytes status.Ok refused = absurd refused
+import_refusals bytes status.Usage refused = absurd refused
+import_refusals bytes status.ReadFault refused = absurd refused
+import_refusals bytes status.WriteFault refused = absurd refused
+import_refusals bytes _ refused = tt
+
+-- a file that isn't read is refused so
+pub fault_refused : (bytes : List ℕ) (f : SccFault) → length bytes ≤ whole_limit → FileAnswers bytes (Err f)
+    → Judges IsImport IsRefusedImport bytes (Err (fault_status f))
+fault_refused bytes (fault.Memory error) within answers = tt
+fault_refused bytes (fault.Limit limit.Bytes) within answers = absurd answers
+fault_refused bytes (fault.Limit limit.Frames) within (pairs, file, many) = record { within = within; pairs = pairs; file = file; many = many }
+fault_refused bytes (fault.Limit limit.Cues) within answers = absurd answers
+fault_refused bytes (fault.Limit limit.Packet) within answers = absurd answers
+fault_refused bytes (fault.Limit limit.Day) within answers = absurd answers
+fault_refused bytes (fault.Malformed refusal) within answers = (within, answers.0)
+
+-- one that is read stands at frames of the day in order
+pub placed_read : (bytes : List ℕ) (r : Result Placed Status) → Judges IsImport IsRefusedImport bytes r → IfOk r ArePlaced
+placed_read bytes (Ok pairs) is = record { rising = file_rises pairs bytes is.file; few = is.few }
+placed_read bytes (Err s) is = tt
+
+-- all pairs of columns are bytes
+pair_bytes : (pairs : Placed) (frame : ℕ) → AreBytes pairs → IsBytePair (pair_at pairs frame)
+pair_bytes [] frame are = record { a = omega arith; b = omega arith }
+pair_bytes (placed ∷ pairs) frame (a, b, are) = chosen (placed.0 == frame) placed.1 (pair_at pairs frame) (record { a = a; b = b }) (pair_bytes pairs frame are)
+  where
+    chosen : (test : Bool) (one other : Pair) → IsBytePair one → IsBytePair other → IsBytePair (if test then one else other)
+    chosen true one other is isnt = is
+    chosen false one other is isnt = isnt
+
+pub columns_bytes : (pairs : Placed) → AreBytes pairs → AreBytePairs (import_columns pairs)
+columns_bytes pairs are false frame = pair_bytes pairs frame are
+columns_bytes pairs are true frame = record { a = omega arith; b = omega arith }
+
+-- the words of a file were put
+pub import_put : (left old new : Option (List ℕ)) (pairs : Placed) → IfSome left (λ bytes. IsImport bytes pairs) → Puts old new put.Done (import_words pairs)
+    → IfSome left (λ bytes. PutsImport bytes old new)
+import_put None old new pairs is puts = tt
+import_put (Some bytes) old new pairs is puts = record {
+  pairs = pairs;
+  is = is;
+  output_is = puts;
+  carried = frames_carried rate.F2997 (import_columns pairs) (frames_of pairs) (columns_bytes pairs (file_bytes pairs bytes is.file));
+}
+
+-- or a front of them
+pub import_failed : (left old new : Option (List ℕ)) (pairs : Placed) → IfSome left (λ bytes. IsImport bytes pairs) → Puts old new put.Failed (import_words pairs)
+    → IfSome left (λ bytes. PutsImportFront bytes old new)
+import_failed None old new pairs is puts = tt
+import_failed (Some bytes) old new pairs is puts = record { pairs = pairs; is = is; front = puts }
+
+pub frames_are : (pairs rest : Placed) (last : ℕ × Pair) → pairs ≡ rest ++ last ∷ [] → last.0 + 1 ≡ frames_of pairs
+frames_are pairs rest last is = sym (ap frames_of is ∙ frames_behind rest 0 last)
+
+pub no_frames : (pairs : Placed) → length pairs ≡ 0 → 0 ≡ frames_of pairs
+no_frames [] none = refl
+no_frames (placed ∷ pairs) none = absurd (omega arith)

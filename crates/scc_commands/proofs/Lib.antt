@@ -1,0 +1,9 @@
+pub mod ExportVerdictLemmas
+pub mod ExportingLemmas
+pub mod FrameLemmas
+pub mod FramesLemmas
+pub mod ImportLemmas
+pub mod RoundTripLemmas
+pub mod SccVerdictLemmas
+pub mod StopLemmas
+pub mod WrittenLemmas

@@ -1,0 +1,9 @@
+use Rattle.std.proofs.Common.{◌≡◌, ◌≤◌, ℕ}
+use Rattle.scc_commands.specs.Cursors.{left_of}
+use Rattle.scc_commands.proofs.ImportLemmas.{WordsOnTheWay}
+use Rattle.scc_commands.proofs.import.put_frames.Given as goal
+
+-- no fault came, and the words of the frames before this one were put
+abbrev pub invariant-loop-frame : goal.invariant-loop-frame
+invariant-loop-frame g l = (g.O.Sink.faults l.out ≡ g.O.Sink.faults l.initial.out)
+    × WordsOnTheWay l.pairs (left_of l.cursor) l.frame l.frame-end l.carrier (g.O.Sink.written l.initial.out) (g.O.Sink.written l.out)

@@ -1,0 +1,188 @@
+-- What `export` answers: the SCC file of the field 1 pairs that the frames of a words file carry, or why the run stopped, and with what
+-- text before.
+use Rattle.std.specs.Prelude.{◌≡◌, ◌≢◌, ◌<◌, ◌≤◌, ◌⊎◌, ℕ, suc, Bool, true, false, List, [], ◌∷◌, ◌++◌, length, Option, IfSome, None, ⊤}
+use Rattle.std.specs.Io.KnownBytes.{Consumes}
+use Rattle.cc_base.specs.Streams.{Puts, Rose}
+use Rattle.cc_base.specs.declared.limit_of.LimitOf.TheVariants as limit
+use Rattle.cc_base.specs.declared.rate.Rate.TheVariants as rate
+use Rattle.cc_base.specs.declared.refusal.Refusal.{Refusal}
+use Rattle.cc_base.specs.declared.streams.Put.{Put}
+use Rattle.cc_base.specs.declared.streams.Put.TheVariants as put
+use Rattle.line21_codes.specs.declared.pairs.Pair.{Pair}
+use Rattle.findings.specs.declared.finding.Finding.{Finding}
+use Rattle.findings.specs.declared.finding.Kind45.{Kind45}
+use Rattle.findings.specs.declared.finding.Kind45.TheVariants as kind
+use Rattle.time_codes.specs.Frames.{frame_number}
+use Rattle.time_codes.specs.declared.time_code.TimeCode.{TimeCode}
+use Rattle.scc_files.specs.Writing.{Standing, head_text, is_past_day, piece_of, stand_behind}
+use Rattle.scc_files.specs.Written.{written_file}
+use Rattle.cdp_packets.specs.Packets.{Packet as Frame}
+use Rattle.cdp_packets.specs.PacketTriplets.{packet_triplets}
+use Rattle.services_files.specs.Services.{services_say}
+use Rattle.words_files.specs.FramesOf.{AreFramesOf}
+use Rattle.words_files.specs.Offences.{FirstOffendingWord, IsCutShort, IsFileUnder, IsUnoffending}
+use Rattle.words_files.specs.Received.{field_pairs}
+use Rattle.command_base.specs.Ends.{Ends}
+use Rattle.command_base.specs.declared.status.Place.TheVariants.{Byte}
+use Rattle.command_base.specs.declared.status.Status.{Status}
+use Rattle.command_base.specs.declared.status.Status.TheVariants as status
+use Rattle.scc_commands.specs.Import.{Placed}
+
+-- the most bytes of a words file
+abbrev pub words_limit : ℕ
+words_limit = 2147483647
+
+-- the field 1 pairs of a frame: those of its triplets that count
+abbrev pub pairs_of : Frame → List Pair
+pairs_of frame = field_pairs false (packet_triplets frame)
+
+-- pairs at one frame
+abbrev pub at_number : ℕ → List Pair → Placed
+at_number number [] = []
+at_number number (pair ∷ pairs) = (number, pair) ∷ at_number number pairs
+
+-- the field 1 pairs of frames, each at its frame, where the first has this number
+abbrev pub exported_from : ℕ → List Frame → Placed
+exported_from number [] = []
+exported_from number (frame ∷ frames) = at_number number (pairs_of frame) ++ exported_from (suc number) frames
+
+-- the field 1 pairs of a file's frames
+abbrev pub exported : List Frame → Placed
+exported frames = exported_from 0 frames
+
+-- the SCC file of frames, in its written form
+abbrev pub export_file : TimeCode → List Frame → List ℕ
+export_file time frames = written_file (frame_number time) time.drop_frame (exported frames)
+
+-- where a file begins whose frame 0 has this time code
+abbrev pub first_standing : TimeCode → Standing
+first_standing time = record { start = frame_number time; drop_frame = time.drop_frame; behind = None }
+
+-- what is written of pairs one after another, and where that leads
+abbrev pub pieces : Standing → Placed → List ℕ
+pieces w [] = []
+pieces w (placed ∷ pairs) = piece_of w placed.0 placed.1 ++ pieces (stand_behind w placed.0 placed.1) pairs
+
+abbrev pub stand_after : Standing → Placed → Standing
+stand_after w [] = w
+stand_after w (placed ∷ pairs) = stand_after (stand_behind w placed.0 placed.1) pairs
+
+-- the SCC file of frames without what ends it, the two line ends behind its last stretch
+abbrev pub export_front : TimeCode → List Frame → List ℕ
+export_front time frames = head_text ++ pieces (first_standing time) (exported frames)
+
+-- nothing is found at a frame: it has the rate 29.97 and at most one pair of field 1
+pub record HasNoFinding (frame : Frame) : Type 0 where
+  pub rate_is : frame.rate ≡ rate.F2997
+  pub one : length (pairs_of frame) ≤ 1
+
+-- this is found at a frame, first a wrong rate
+abbrev pub HasFinding : Frame → Kind45 → Type 0
+HasFinding frame (kind.WrongRate expected seen) = (expected ≡ rate.F2997) × (seen ≡ frame.rate) × (frame.rate ≢ rate.F2997)
+HasFinding frame (kind.TwoPairs seen) = (frame.rate ≡ rate.F2997) × (seen ≡ length (pairs_of frame)) × (1 < length (pairs_of frame))
+HasFinding frame _ = ⊥
+
+abbrev pub HaveNoFinding : List Frame → Type 0
+HaveNoFinding [] = ⊤
+HaveNoFinding (frame ∷ frames) = HasNoFinding frame × HaveNoFinding frames
+
+-- no pair that isn't null stands at or past the end of the day of frame 0
+abbrev pub AreWithinDay : TimeCode → Placed → Type 0
+AreWithinDay time [] = ⊤
+AreWithinDay time (placed ∷ pairs) = (is_past_day (first_standing time) placed.0 placed.1 ≡ false) × AreWithinDay time pairs
+
+-- frames that are exported
+pub record AreExported (time : TimeCode) (frames : List Frame) : Type 0 where
+  pub no_finding : HaveNoFinding frames
+  pub within_day : AreWithinDay time (exported frames)
+
+-- neither count of faults rose
+pub record IsSteady (old new : Ends) : Type 0 where
+  pub reads : new.read_faults ≡ old.read_faults
+  pub writes : new.write_faults ≡ old.write_faults
+
+-- what may hold where a run stops: of the frames that were exported, of the frame at which it stopped, if it stopped at one, of the bytes
+-- judged, and of those taken behind them and not judged
+abbrev pub Cause : Type 1
+Cause = List Frame → List Frame → List ℕ → List ℕ → Type 0
+
+-- a run judged bytes, within the limit, and took more behind them; the text of the frames that the judged bytes brought was put, but for
+-- the frame at which it stopped, or a front of it where a put failed; and it stopped for this cause
+pub record Stops (time : TimeCode) (text : List Frame → List ℕ) (Why : Cause) (answer : Put) (old new : Ends) : Type 0 where
+  pub frames : List Frame
+  pub at : List Frame
+  pub judged : List ℕ
+  pub unjudged : List ℕ
+  pub taken : Consumes old.left new.left (judged ++ unjudged)
+  pub within : length judged ≤ words_limit
+  pub frames_are : AreFramesOf services_say (frames ++ at) judged
+  pub are_exported : AreExported time frames
+  pub cause : Why frames at judged unjudged
+  pub output : Puts old.written new.written answer (text frames)
+
+-- the bytes judged are all that the input had, and it was read to its end
+abbrev pub IsWhole : Option (List ℕ) → List ℕ → List ℕ → Type 0
+IsWhole left judged unjudged = IfSome left (λ bytes. bytes ≡ judged) × (unjudged ≡ [])
+
+-- the whole input is a words file of the frames
+abbrev pub IsWholeFile : Option (List ℕ) → Cause
+IsWholeFile left frames at judged unjudged = (at ≡ []) × IsWhole left judged unjudged × IsFileUnder services_say frames judged
+
+-- no word of the bytes taken offends
+abbrev pub HasNoOffence : Cause
+HasNoOffence frames at judged unjudged = (at ≡ []) × (unjudged ≡ []) × IsUnoffending services_say judged
+
+-- there is a byte past the limit, and no word within it offends
+abbrev pub PassesLimit : Cause
+PassesLimit frames at judged unjudged = (at ≡ []) × (length judged ≡ words_limit) × (0 < length unjudged) × IsUnoffending services_say judged
+
+-- a word offends, or the whole input is cut short
+abbrev pub IsRefusedWith : Refusal → Option (List ℕ) → Cause
+IsRefusedWith refusal left frames at judged unjudged =
+    (at ≡ []) × (FirstOffendingWord services_say judged refusal ⊎ (IsWhole left judged unjudged × IsCutShort services_say judged refusal))
+
+-- this is found at the frame with which the bytes judged end, none of whose words offends
+pub record IsFoundAt (finding : Finding) (frames at : List Frame) (judged unjudged : List ℕ) : Type 0 where
+  pub last : Frame
+  pub is_last : at ≡ last ∷ []
+  pub number : finding.frame ≡ length frames
+  pub found : HasFinding last finding.kind
+  pub unoffending : IsUnoffending services_say judged
+
+-- nothing is found at the frame with which the bytes judged end, none of whose words offends, and its pair isn't null and stands at or
+-- past the end of the day
+pub record PassesDay (time : TimeCode) (frames at : List Frame) (judged unjudged : List ℕ) : Type 0 where
+  pub last : Frame
+  pub is_last : at ≡ last ∷ []
+  pub no_finding : HasNoFinding last
+  pub pair : Pair
+  pub is_pair : pairs_of last ≡ pair ∷ []
+  pub past : is_past_day (first_standing time) (length frames) pair ≡ true
+  pub unoffending : IsUnoffending services_say judged
+
+-- nothing more is said
+abbrev pub IsAnyhow : Cause
+IsAnyhow frames at judged unjudged = ⊤
+
+-- how a run ends before the end of a words file
+abbrev pub StopsEarly : TimeCode → Ends → Ends → Status → Type 0
+StopsEarly time old new status.ReadFault =
+    Rose old.read_faults new.read_faults × (new.write_faults ≡ old.write_faults) × Stops time (export_front time) HasNoOffence put.Done old new
+StopsEarly time old new status.WriteFault =
+    (new.read_faults ≡ old.read_faults) × Rose old.write_faults new.write_faults × Stops time (export_front time) IsAnyhow put.Failed old new
+StopsEarly time old new (status.Limit limit.Bytes) = IsSteady old new × Stops time (export_front time) PassesLimit put.Done old new
+StopsEarly time old new (status.Limit limit.Day) = IsSteady old new × Stops time (export_front time) (PassesDay time) put.Done old new
+StopsEarly time old new (status.Malformed (Byte place) why) =
+    IsSteady old new × Stops time (export_front time) (IsRefusedWith (record { place = place; why = why }) old.left) put.Done old new
+StopsEarly time old new (status.Differs finding) = IsSteady old new × Stops time (export_front time) (IsFoundAt finding) put.Done old new
+StopsEarly time old new _ = ⊥
+
+-- what `export` answers, where frame 0 has this time code
+abbrev pub ExportAnswer : TimeCode → Ends → Ends → Status → Type 0
+ExportAnswer time old new status.Ok = IsSteady old new × Stops time (export_file time) (IsWholeFile old.left) put.Done old new
+ExportAnswer time old new status.WriteFault =
+    StopsEarly time old new status.WriteFault
+    ⊎ ((new.read_faults ≡ old.read_faults) × Rose old.write_faults new.write_faults
+    × Stops time (export_file time) (IsWholeFile old.left) put.Failed old new)
+ExportAnswer time old new status.Memory = new ≡ old
+ExportAnswer time old new answer = StopsEarly time old new answer

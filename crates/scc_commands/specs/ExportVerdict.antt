@@ -1,0 +1,27 @@
+-- The verdict of an export where no count of faults rose: words whose frames are exported are answered Ok, and malformed ones with their one
+-- refusal, or want of memory.
+use Rattle.std.specs.Prelude.{◌≡◌, ◌≤◌, ◌⊎◌, ℕ, List, length}
+use Rattle.cc_base.specs.declared.refusal.Refusal.{Refusal}
+use Rattle.cdp_packets.specs.Packets.{Packet as Frame}
+use Rattle.command_base.specs.Counts.{IsReadOf}
+use Rattle.command_base.specs.Ends.{Ends}
+use Rattle.command_base.specs.declared.status.Place.TheVariants.{Byte}
+use Rattle.command_base.specs.declared.status.Status.{Status}
+use Rattle.command_base.specs.declared.status.Status.TheVariants as status
+use Rattle.time_codes.specs.declared.time_code.TimeCode.{TimeCode}
+use Rattle.services_files.specs.Services.{services_say}
+use Rattle.words_files.specs.FramesOf.{AreFramesOf}
+use Rattle.words_files.specs.Offences.{IsFileUnder, IsMalformed}
+use Rattle.scc_commands.specs.Export.{AreExported, ExportAnswer, words_limit}
+
+-- a words file within the limit, at none of whose frames anything is found, and none of whose pairs stands past the day
+abbrev pub FileIsExported : Type 0
+FileIsExported = (time : TimeCode) (bytes : List ℕ) (frames : List Frame) (old new : Ends) (answer : Status)
+    → IsFileUnder services_say frames bytes → AreExported time frames → length bytes ≤ words_limit → IsReadOf bytes old new → ExportAnswer time old new answer
+    → (answer ≡ status.Ok) ⊎ (answer ≡ status.Memory)
+
+-- malformed words whose frames are so
+abbrev pub MalformedIsNotExported : Type 0
+MalformedIsNotExported = (time : TimeCode) (bytes : List ℕ) (frames : List Frame) (refusal : Refusal) (old new : Ends) (answer : Status)
+    → AreFramesOf services_say frames bytes → AreExported time frames → IsMalformed services_say bytes refusal → length bytes ≤ words_limit → IsReadOf bytes old new
+    → ExportAnswer time old new answer → (answer ≡ status.Malformed (Byte refusal.place) refusal.why) ⊎ (answer ≡ status.Memory)

@@ -1,0 +1,6 @@
+pub mod Import
+pub mod Cursors
+pub mod ImportSteps
+pub mod Export
+pub mod ExportSteps
+pub mod ExportVerdict

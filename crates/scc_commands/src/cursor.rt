@@ -1,0 +1,42 @@
+ghost use Rattle.std.specs.Prelude.{◌≡◌};
+ghost use Rattle.scc_files.specs.SccFiles.{AreRising};
+ghost use Rattle.scc_commands.specs.Cursors.{Passes, left_of};
+
+use line21_codes::Pair;
+
+/// The pair that says nothing.
+pub const NULL: Pair = Pair { a: 0x80, b: 0x80 };
+
+/// The pairs of an SCC file on their way, frame by frame.
+#[derive(Clone, Copy)]
+pub struct Cursor<'a> {
+    // the pairs of the frames to come
+    left: &'a [(u32, Pair)],
+}
+
+impl<'a> Cursor<'a> {
+    /// A cursor before the frame of the first pair.
+    pub fn new(pairs: &'a [(u32, Pair)]) -> Cursor<'a>
+        ensures { left_of result ≡ pairs.now }
+    {
+        Cursor { left: pairs }
+    }
+
+    /// Passes a frame, before which all frames were passed: the pair at the frame, or the null pair where none stands there.
+    pub fn pass(&mut self, frame: u32) -> Pair
+        requires { AreRising frame (left_of self.old) }
+        ensures { Passes frame (left_of self.old) (left_of self.new) result }
+    {
+        match self.left.split_first() {
+            Some((placed, rest)) => {
+                if placed.0 == frame {
+                    self.left = rest;
+                    placed.1
+                } else {
+                    NULL
+                }
+            }
+            None => NULL,
+        }
+    }
+}

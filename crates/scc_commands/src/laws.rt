@@ -1,0 +1,24 @@
+//! Laws of what the commands of SCC files put: functions that do nothing, with the laws as their contracts.
+ghost use Rattle.std.specs.Prelude.{◌≡◌, ◌++◌, List, ℕ};
+ghost use Rattle.cdp_packets.specs.Packets.{Packet as Frame};
+ghost use Rattle.scc_files.specs.SccFiles.{AreBytes, AreRising};
+ghost use Rattle.scc_files.specs.Writing.{end_text};
+ghost use Rattle.scc_files.specs.Written.{written_file};
+ghost use Rattle.time_codes.specs.Frames.{frame_number};
+ghost use Rattle.time_codes.specs.declared.time_code.TimeCode.{TimeCode as Time};
+ghost use Rattle.scc_commands.specs.Export.{export_file, export_front, exported, first_standing, stand_after};
+ghost use Rattle.scc_commands.specs.Import.{Placed, import_packets};
+
+/// The law that the front of a file which `export` puts is the file without what ends it: the two line ends behind its last stretch,
+/// where it has one.
+pub fn front_and_end_are_the_file()
+    ensures { (time : Time) (frames : List Frame)
+        → export_front time frames ++ end_text (stand_after (first_standing time) (exported frames)).behind ≡ export_file time frames }
+{}
+
+/// The law that what is imported is exported again: the words of an SCC file's pairs are exported as the written form of these pairs. So a
+/// file in written form, imported and exported with the time code of its first line, is given back byte for byte.
+pub fn import_is_exported_again()
+    ensures { (time : Time) (pairs : Placed) → AreRising 0 pairs → AreBytes pairs
+        → export_file time (import_packets pairs) ≡ written_file (frame_number time) time.drop_frame pairs }
+{}
