@@ -3,8 +3,8 @@
 use crate::tests::words::{SILENT, bytes_of, hi_words, silent};
 use crate::tests::{Ended, Given, pairs_of, run_to_end};
 use cc_base::{LimitOf, Rate, Why};
-use ccsuite_cli::{Place, Status};
 use cc_receiver::{Finding, Kind45};
+use ccsuite_cli::{Place, Status};
 use std::alloc::Global;
 use std::test::Fail;
 
@@ -147,7 +147,10 @@ fn faults_of_an_import_are_told(rt: HostRuntime) -> Result<(), Fail> {
         },
     )?;
     assert_eq!(rt; unwritten.status, Status::WriteFault);
-    assert_eq!(rt; unwritten.out.bytes(), six_frames(alloc)?.get(..320).unwrap_or(&[]));
+    assert_eq!(rt;
+        unwritten.out.bytes(),
+        six_frames(alloc)?.get(..320).unwrap_or(&[])
+    );
     Ok(())
 }
 
@@ -158,7 +161,8 @@ const HEAD: &[u8] = b"Scenarist_SCC V1.0\n\n";
 fn words_are_exported_a_stretch_a_line(rt: HostRuntime) -> Result<(), Fail> {
     let alloc = rt.alloc();
     let words = hi_words(alloc)?;
-    let due: &[u8] = b"Scenarist_SCC V1.0\n\n01:00:00;00\t9420 9420 94ae 94ae 9470 9470 c849 942f 942f\n\n01:00:00;20\t942c 942c\n\n";
+    let due: &[u8] =
+        b"Scenarist_SCC V1.0\n\n01:00:00;00\t9420 9420 94ae 94ae 9470 9470 c849 942f 942f\n\n01:00:00;20\t942c 942c\n\n";
     for piece in [1, 159, 1000, usize::MAX] {
         let ended = exported(alloc, "01:00:00;00", &words, piece)?;
         assert_eq!(rt; ended.status, Status::Ok, "pieces of {piece}");
@@ -180,7 +184,10 @@ fn a_pair_past_the_day_ends_an_export(rt: HostRuntime) -> Result<(), Fail> {
     let words = hi_words(alloc)?;
     let past = exported(alloc, "23:59:59;29", &words, 160)?;
     assert_eq!(rt; past.status, Status::Limit(LimitOf::Day));
-    assert_eq!(rt; past.out.bytes(), b"Scenarist_SCC V1.0\n\n23:59:59;29\t9420".as_slice());
+    assert_eq!(rt;
+        past.out.bytes(),
+        b"Scenarist_SCC V1.0\n\n23:59:59;29\t9420".as_slice()
+    );
     assert_eq!(rt; past.err.bytes(), b"limit Day\n".as_slice());
     // 22 frames are left of the day, and frame 21 has the last pair
     let fits = exported(alloc, "23:59:59:08", &words, 160)?;
@@ -258,11 +265,17 @@ fn words_that_offend_end_an_export_behind_the_text_before(rt: HostRuntime) -> Re
     let text = b"Scenarist_SCC V1.0\n\n00:00:59;29\t94ae 94ae".as_slice();
     for piece in [1, 333, usize::MAX] {
         let cut = exported(alloc, "00:00:59;29", words.get(..333).unwrap_or(&[]), piece)?;
-        assert_eq!(rt; cut.status, Status::Malformed(Place::Byte(333), Why::Truncated));
+        assert_eq!(rt;
+            cut.status,
+            Status::Malformed(Place::Byte(333), Why::Truncated)
+        );
         assert_eq!(rt; cut.out.bytes(), text);
     }
     let first = exported(alloc, "00:00:59;29", b"junk", 1)?;
-    assert_eq!(rt; first.status, Status::Malformed(Place::Byte(0), Why::HighBits));
+    assert_eq!(rt;
+        first.status,
+        Status::Malformed(Place::Byte(0), Why::HighBits)
+    );
     assert_eq!(rt; first.out.bytes(), HEAD);
     Ok(())
 }
