@@ -54,7 +54,7 @@ zsh_offers() {
 fish_offers() {
     HOME=$folder fish --no-config -c '
         source $argv[1]/share/fish/vendor_completions.d/ccsuite.fish
-        complete -C $argv[2]' "$prefix" "$1" | cut -f 1
+        complete -C $argv[2]' "$prefix" "$1" | cut -f 1 | sed 's:/$::'
 }
 
 for shell in bash zsh fish; do
@@ -62,9 +62,9 @@ for shell in bash zsh fish; do
         echo "$shell isn't installed: its completions weren't tried"
         continue
     fi
-    offers "$shell" 'ccsuite ' 'pairs build cues decode show'
+    offers "$shell" 'ccsuite ' 'pairs build cues decode show import export'
     offers "$shell" 'ccsuite b' 'build'
-    offers "$shell" 'ccsuite x' ''
+    offers "$shell" 'ccsuite q' ''
     offers "$shell" 'ccsuite show ' ''
     offers "$shell" 'ccsuite build ' ''
     [ "$failed" = 0 ] && echo "completions of $shell: as they should be"

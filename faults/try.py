@@ -1,11 +1,12 @@
 #!/usr/bin/env python3
-"""Tries the program at every place at which its surroundings can fail it: try.py PROGRAM
+"""Tries the program at every place at which its surroundings can fail it: try.py PROGRAM [COMMAND..]
 
 Each command is run over short inputs, and
 
-- each allocation is refused in turn: `out of memory`, status 4, nothing written, and none comes at a forbidden place (`decode` and `show` take no
-  memory once a byte of the words was taken, the commands on cue lists none once a byte was written);
-- each read fails in turn, over input in pieces of several sizes: `read fault`, status 2, and of the output what was due of the bytes before;
+- each allocation is refused in turn: `out of memory`, status 4, nothing written, and none comes at a forbidden place (a command that reads words
+  takes no memory once a byte of them was taken, any other none once a byte was written);
+- each read fails in turn, over input in pieces of several sizes: `read fault`, status 2, and of the output what was due of the bytes before; and so
+  each read of a cue list that is named, before a byte of the input is taken;
 - each write fails in turn: `write fault`, status 3, and the writes before it stand; and a file that is full at each byte has just these bytes;
 - each read and each write is short: nothing changes;
 - the ends are closed, folders, full devices or closed pipes, and standard error fails too.
@@ -42,11 +43,12 @@ class Ended:
 
 @dataclass
 class Case:
-    """The words of a command with an input, and how the whole run ends by the manual."""
+    """The words of a command with an input and perhaps a list whose file is its last word, and how the whole run ends by the manual."""
     words: list
     given: bytes
     status: int = 0
     line: bytes = b""
+    listed: bytes = None
 
     @property
     def reads_nothing(self):
@@ -54,7 +56,7 @@ class Case:
 
     @property
     def reads_words(self):
-        return self.words[:1] in (["decode"], ["show"])
+        return bool(self.words) and self.words[0] in ("decode", "show", "verify", "insert", "export")
 
     def __str__(self):
         return f"{' '.join(self.words)} on {len(self.given)} bytes"
@@ -87,6 +89,9 @@ def run(case, size=4096, inject=(), traced=False, **options):
     with tempfile.TemporaryDirectory() as folder:
         log = pathlib.Path(folder, "log")
         words = [PROGRAM, *case.words]
+        if case.listed is not None:
+            words.append(f"{folder}/list.csv")
+            pathlib.Path(words[-1]).write_bytes(case.listed)
         if inject or traced:
             failing = [it for rule in inject for it in ("-e", f"inject={rule}")]
             heap = ["-E", "GLIBC_TUNABLES=glibc.malloc.mmap_threshold=0"]
@@ -136,14 +141,37 @@ def packet_ends(words):
 
 def due(case, whole, taken):
     """What is written of the first bytes of the input, if the next take fails."""
-    if not case.reads_words:
-        return b""
-    frames = sum(1 for end, frame in packet_ends(case.given) if frame and end <= taken)
+    ends = [(end, frame) for end, frame in packet_ends(case.given) if end <= taken]
+    frames = sum(frame for _, frame in ends)
+    if case.words[0] == "decode":
+        blocks = re.finditer(rb"frame (\d+)\n(?:(?!frame).*\n)*", whole.out)
+        return b"".join(it[0] for it in blocks if int(it[1]) < frames)
     if case.words[0] == "show":
         return whole.out if frames > int(case.words[1]) else b""
-    blocks = re.findall(rb"(?:frame (\d+)\n)(?:(?!frame).*\n)*", whole.out)
-    texts = [it[0] for it in re.finditer(rb"frame \d+\n(?:(?!frame).*\n)*", whole.out)]
-    return b"".join(text for number, text in zip(blocks, texts) if int(number) < frames)
+    if case.words[0] == "insert":
+        # The packets of the cases keep their sizes.
+        return whole.out[:ends[-1][0] if ends else 0]
+    if case.words[0] == "export":
+        return exported(whole.out, frames, time_of(case.words[1]))
+    return b""
+
+
+def time_of(text):
+    """The frame of a time code without drop frame."""
+    hours, minutes, seconds, frame = map(int, text.split(":"))
+    return 108000 * hours + 1800 * minutes + 30 * seconds + frame
+
+
+def exported(text, frames, start):
+    """The text of SCC of its first frames: a stretch of pairs ends with the next one or the end."""
+    head, *stretches = text.decode().split("\n\n")
+    written = head + "\n\n"
+    for place, stretch in enumerate(it for it in stretches if it):
+        time, pairs = stretch.split("\t")
+        left = frames - (time_of(time) - start)
+        if left > 0:
+            written += ("\n\n" if place else "") + time + "\t" + " ".join(pairs.split()[:left])
+    return written.encode()
 
 
 # ---- The trials, each of which gives the number of places that it tried ------------------------------------------------------------
@@ -185,7 +213,27 @@ def try_takes(case, whole, sizes):
             ended = run(case, size, inject=(f"read:error=EIO:when={number}",))
             need(case, f"take {take} of pieces of {size} fails", ended, 2, due(case, whole, take * size))
             tried += 1
-    return tried
+    return tried + try_takes_of_list(case, whole)
+
+
+def try_takes_of_list(case, whole):
+    """Each read of the list's file fails in turn; nothing of the input is taken then."""
+    if case.listed is None:
+        return 0
+    of_input = numbers(whole.calls, "read", "0")
+    places = [it for it in numbers(whole.calls, "read", "") if it not in of_input and it > loader_reads(whole)]
+    for take, number in enumerate(places):
+        ended = run(case, inject=(f"read:error=EIO:when={number}",))
+        need(case, f"take {take} of the list fails", ended, 2, b"")
+        if taken(ended):
+            fail(case, f"take {take} of the list fails", ended, "the input is taken all the same")
+    return len(places)
+
+
+def loader_reads(whole):
+    """How many reads the loader does, before the program itself begins."""
+    started = [called for called, _, _ in whole.calls].index("set_robust_list")
+    return sum(1 for called, _, _ in whole.calls[:started] if called == "read")
 
 
 def try_puts(case, whole):
@@ -194,7 +242,7 @@ def try_puts(case, whole):
     pieces = [int(result) for called, arguments, result in whole.calls if called == "write" and arguments.startswith("1,")]
     for put, number in enumerate(writes):
         before = sum(pieces[:put])
-        if case.words[0] == "build" and before % (100 if b",59.94," in case.given else 160):
+        if case.words[0] in ("build", "import") and before % (100 if b",59.94," in case.given else 160):
             fail(case, f"put {put}", whole, "a frame is written in parts")
         for how in ("error=EIO", "error=ENOSPC", "retval=0"):
             need(case, f"put {put}, {how}", run(case, inject=(f"write:{how}:when={number}",)), 3, whole.out[:before])
@@ -229,7 +277,10 @@ def try_ends(case, whole):
     for name, path in reads.items():
         end = os.open(path, os.O_RDONLY) if path else subprocess.DEVNULL
         closing = {} if path else {"preexec_fn": lambda: os.close(0)}
-        need(case, f"input {name}", run(case, stdin=end, **closing), 2, b"")
+        need(case, f"input {name}", run(case, stdin=end, **closing), 2, due(case, whole, 0))
+    if case.listed is not None:
+        for path in ("/", "/nowhere", ""):
+            need(case, f"the list is '{path}'", run(Case([*case.words, path], case.given)), 2, b"")
     written = bool(whole.out)
     gone, closed = os.pipe()
     os.close(gone)
@@ -250,6 +301,8 @@ def try_case(case, sizes):
     need(case, "nothing fails", whole, case.status, whole.out, case.line)
     if case.status in (5, 6, 7, 8) and not case.reads_words:
         need(case, "refused", whole, case.status, b"", case.line)
+    if case.status == 0 and case.words[0] == "insert" and case.listed == b"ccsuite,1,29.97,3\n":
+        need(case, "a list without captions into words without captions", whole, 0, case.given)
     places = {
         "allocations": try_allocations(case, whole), "takes": try_takes(case, whole, sizes), "puts": try_puts(case, whole),
         "bytes at which a file is full": try_full(case, whole), "ends": try_ends(case, whole),
@@ -301,6 +354,16 @@ def commands():
         Case(["show", "12"], words), Case(["show", "0"], mixed), Case(["show", "3"], mixed, 10, b"short: 3 frames\n"),
         Case(["show", "2"], flagged, 6, b"malformed at byte 320: Flag\n"), Case(["show", "1"], flagged, 6, b"malformed at byte 320: Flag\n"),
     ], [16, 160, 4000]
+    archive = example("archive.scc")
+    yield "import", [
+        Case(["import"], archive), Case(["import"], archive.replace(b";00", b";01").replace(b"02;01", b"00;01"), 6, b"malformed at byte 98: NoSuchTime\n"),
+        Case(["import"], archive[1:], 6, b"malformed at byte 0: Header\n"), Case(["import"], archive.replace(b"942c", b"942", 1), 6, b"malformed at byte 113: SccSyntax\n"),
+    ], [1, 7, 4096]
+    export = ["export", "00:00:00:00"]
+    yield "export", [
+        Case(export, words), Case(export, mixed), Case(export, flagged, 6, b"malformed at byte 320: Flag\n"), Case(export, b""),
+        Case(["export", "23:59:59:15"], words, 5, b"limit Day\n"),
+    ], [80, 160, 4000]
 
 
 # ---- Limits ----------------------------------------------------------------------------------------------------------------------
@@ -360,12 +423,15 @@ def main():
     if not shutil.which("strace"):
         sys.exit("strace is needed: apt-get install strace")
     for name, cases, sizes in commands():
+        if sys.argv[2:] and name not in sys.argv[2:]:
+            continue
         tried = {}
         for case in cases:
             for kind, places in try_case(case, sizes).items():
                 tried[kind] = tried.get(kind, 0) + places
         print(f"{name}: {len(cases)} inputs; " + ", ".join(f"{places} {kind}" for kind, places in tried.items()), flush=True)
-    try_limits()
+    if not sys.argv[2:]:
+        try_limits()
 
 
 if __name__ == "__main__":
