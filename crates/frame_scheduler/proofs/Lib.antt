@@ -18,3 +18,4 @@ pub mod ChannelOrderLemmas
 pub mod EventsApartLemmas
 pub mod ListDoublingLemmas
 pub mod RoomDecided
+pub mod ServiceLaneLemmas

@@ -19,3 +19,4 @@ pub mod Columns
 pub mod EventsApart
 pub mod Frames
 pub mod Planned
+pub mod ServiceLane

@@ -12,3 +12,4 @@ pub mod lane;
 mod lanes;
 pub mod laws;
 mod planning;
+pub mod service;

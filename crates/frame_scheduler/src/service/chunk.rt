@@ -1,0 +1,14 @@
+use arrayvec::ArrayVec;
+
+/// A unit of a service, one command or one character, with what its cue asks of its place. Frames are counted from 0.
+#[derive(Debug, Drop)]
+pub struct Chunk {
+    /// Its bytes, which aren't divided between frames.
+    pub unit: ArrayVec<u8, 7>,
+    /// The frame before which the unit doesn't stand.
+    pub load: u32,
+    /// The frame that the unit stands before.
+    pub until: u32,
+    /// The number of its cue, counted from 1.
+    pub cue: u32,
+}
