@@ -1,3 +1,4 @@
 pub mod ServiceLanes
 pub mod Soundness
 pub mod Filling
+pub mod PlacedLanes

@@ -1,7 +1,10 @@
 //! Laws of the definitions: functions without a body, whose contract is the law.
 
-ghost use Rattle.std.specs.Prelude.{◌≡◌, ◌<◌, ◌≤◌, ℕ, [], Some};
+ghost use Rattle.std.specs.Prelude.{◌≡◌, ℕ, List, []};
+ghost use Rattle.std.specs.List.{zip};
 ghost use Rattle.dtvcc_screen.specs.Meaning.{after};
+ghost use Rattle.frame_scheduler.specs.declared.service.chunk.Chunk.{Chunk};
+ghost use Rattle.dtvcc_shown.specs.PlacedLanes.{IsPlacedLane, loaded};
 ghost use Rattle.dtvcc_shown.specs.Filling.{AllFill};
 ghost use Rattle.dtvcc_shown.specs.ServiceLanes.{Delay, IsInDelay, IsOutside, Lane, frame_events, opening_events, served};
 ghost use Rattle.dtvcc_shown.specs.Soundness.{IsSoundLane};
@@ -21,4 +24,13 @@ pub fn law_of_screens_in_delays()
 /// Where no delay is on, nothing is held.
 pub fn law_outside_of_delays()
     ensures { (lane : Lane) (frame : ℕ) → IsSoundLane lane → IsOutside lane frame → (served lane frame).core.held ≡ [] }
+{}
+
+/// Units of plain commands that are placed, anywhere that their lane allows, in a service whose events and delays are sound by
+/// themselves make a sound lane; so its buffer never fills.
+pub fn law_of_placed_lanes()
+    ensures sound { (lane : Lane) (room : ℕ → ℕ) (chunks : List Chunk) (frames : List ℕ) → IsPlacedLane lane room chunks frames
+        → IsSoundLane (loaded lane (zip chunks frames)) }
+    ensures fills { (lane : Lane) (room : ℕ → ℕ) (chunks : List Chunk) (frames : List ℕ) → IsPlacedLane lane room chunks frames
+        → (frame : ℕ) → let all = loaded lane (zip chunks frames) in AllFill 127 (served all frame) (frame_events all frame) }
 {}

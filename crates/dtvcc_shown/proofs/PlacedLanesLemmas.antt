@@ -1,0 +1,129 @@
+-- A placed lane is sound: its loads are plain, and those of a delay have at most 125 bytes.
+use Rattle.std.proofs.Common.{◌≡◌, ℕ, zero, suc, ◌+◌, ◌-◌, ◌<◌, ◌≤◌, ◌==◌, Bool, true, false, if◌then◌else◌, List, [], ◌∷◌, ◌++◌, Option, Some, None, length, length-append, refl, sym, ap, subst, ◌∙◌, arith, add-zero}
+use Rattle.std.specs.Prelude.{All, option_map}
+use Rattle.std.specs.List.{AllByRecursion, flat_map, zip}
+use Rattle.std.proofs.lemmas.Bool.Decides.{nat_tests}
+use Rattle.std.proofs.lemmas.List.Elements.{All-head, All-tail}
+use Rattle.std.proofs.lemmas.List.Sums.{sum_by-cons}
+use Rattle.cc_base.specs.Steps.{front_from}
+use Rattle.dtvcc_codes.specs.Reading.{completions, open_after}
+use Rattle.frame_scheduler.specs.declared.service.chunk.Chunk.{Chunk}
+use Rattle.frame_scheduler.specs.Placing.{IsPlaced}
+use Rattle.frame_scheduler.specs.ServiceLane.{IsWithinRoom, bytes_between, is_between, service_lane, size_of, used}
+use Rattle.frame_scheduler.proofs.ServiceLaneLemmas.{placed_within}
+use Rattle.dtvcc_shown.specs.PlacedLanes.{IsPlacedLane, delay_ends, loaded, loads_at, unloaded}
+use Rattle.dtvcc_shown.specs.ServiceLanes.{Delay, Lane, spent}
+use Rattle.dtvcc_shown.specs.Soundness.{ArePlain, IsLasting, IsQuiet, IsSoundLane}
+use Rattle.dtvcc_shown.proofs.PlainLemmas.{AllPlain}
+
+-- plain bytes one behind another, whatever was open before them
+plain_join : (open_bytes bytes more : List ℕ) → AllPlain (completions open_bytes bytes) → front_from open_after open_bytes bytes ≡ []
+    → AllPlain (completions [] more) → AllPlain (completions open_bytes (bytes ++ more))
+plain_join open_bytes [] more all whole too = subst (λ (left : List ℕ). AllPlain (completions left more)) (sym whole) too
+plain_join open_bytes (byte ∷ bytes) more all whole too = (all.0, plain_join (open_after open_bytes byte) bytes more all.1 whole too)
+
+whole_join : (open_bytes bytes more : List ℕ) → front_from open_after open_bytes bytes ≡ []
+    → front_from open_after open_bytes (bytes ++ more) ≡ front_from open_after [] more
+whole_join open_bytes [] more whole = ap (λ (left : List ℕ). front_from open_after left more) whole
+whole_join open_bytes (byte ∷ bytes) more whole = whole_join (open_after open_bytes byte) bytes more whole
+
+plain_both : (bytes more : List ℕ) → ArePlain bytes → ArePlain more → ArePlain (bytes ++ more)
+plain_both bytes more are too = record {
+  plain = plain_join [] bytes more are.plain are.whole too.plain;
+  whole = whole_join [] bytes more are.whole ∙ too.whole;
+}
+
+-- the units of a frame are plain together
+loads_plain : (chunks : List Chunk) (frames : List ℕ) (frame : ℕ) → All (λ chunk. ArePlain chunk.unit.items) chunks
+    → ArePlain (loads_at (zip chunks frames) frame)
+loads_plain [] frames frame plain = record { plain = tt; whole = refl }
+loads_plain (u ∷ us) [] frame plain = record { plain = tt; whole = refl }
+loads_plain (u ∷ us) (f ∷ fs) frame plain =
+    plain_both (if f == frame then u.unit.items else []) (loads_at (zip us fs) frame)
+    (at (f == frame)) (loads_plain us fs frame (All-tail (λ chunk. ArePlain chunk.unit.items) u us plain))
+  where
+    at : (here : Bool) → ArePlain (if here then u.unit.items else [])
+    at true = All-head (λ chunk. ArePlain chunk.unit.items) u us plain
+    at false = record { plain = tt; whole = refl }
+
+-- one frame more has what stands in it
+between_last : (from count f : ℕ) → (f == from + count) ≡ true → is_between from (from + suc count) f ≡ true
+between_last from count f is = grind (arith, nat_tests)
+
+between_not_yet : (from count f : ℕ) → (f == from + count) ≡ true → is_between from (from + count) f ≡ false
+between_not_yet from count f is = grind (arith, nat_tests)
+
+between_still : (from count f : ℕ) → is_between from (from + count) f ≡ true → is_between from (from + suc count) f ≡ true
+between_still from count f is = grind (arith, nat_tests)
+
+between_never : (from count f : ℕ) → (f == from + count) ≡ false → is_between from (from + count) f ≡ false
+    → is_between from (from + suc count) f ≡ false
+between_never from count f other out = grind (arith, nat_tests)
+
+piece_more : (from count : ℕ) (u : Chunk) (f : ℕ)
+    → bytes_between from (from + suc count) (u, f) ≡ bytes_between from (from + count) (u, f) + length (if f == from + count then u.unit.items else [])
+piece_more from count u f = at (f == from + count) (is_between from (from + count) f) refl refl
+  where
+    at : (here before : Bool) → (f == from + count) ≡ here → is_between from (from + count) f ≡ before
+        → bytes_between from (from + suc count) (u, f) ≡ (if before then size_of u else 0) + length (if here then u.unit.items else [])
+    at true true is was = absurd (let none = between_not_yet from count f is in let both : true ≡ false = sym was ∙ none in cc)
+    at true false is was =
+        ap (λ (b : Bool). if b then size_of u else 0) (between_last from count f is)
+        ∙ (let sum : size_of u ≡ 0 + size_of u = omega arith in sum)
+    at false true is was =
+        ap (λ (b : Bool). if b then size_of u else 0) (between_still from count f was)
+        ∙ (let sum : size_of u ≡ size_of u + 0 = omega arith in sum)
+    at false false is was =
+        ap (λ (b : Bool). if b then size_of u else 0) (between_never from count f is was)
+
+used_more : (from count : ℕ) (chunks : List Chunk) (frames : List ℕ)
+    → used from (from + suc count) (zip chunks frames) ≡ used from (from + count) (zip chunks frames) + length (loads_at (zip chunks frames) (from + count))
+used_more from count [] frames = refl
+used_more from count (u ∷ us) [] = refl
+used_more from count (u ∷ us) (f ∷ fs) =
+    let rest = used_more from count us fs in
+    let here = piece_more from count u f in
+    let more = sum_by-cons (bytes_between from (from + suc count)) (u, f) (zip us fs) in
+    let less = sum_by-cons (bytes_between from (from + count)) (u, f) (zip us fs) in
+    let parts = length-append (if f == from + count then u.unit.items else []) (loads_at (zip us fs) (from + count)) in
+    rw (more, less, parts) (omega (arith, rest, here))
+
+used_none : (from to : ℕ) (chunks : List Chunk) (frames : List ℕ) → to ≤ from → used from to (zip chunks frames) ≡ 0
+used_none from to [] frames below = refl
+used_none from to (u ∷ us) [] below = refl
+used_none from to (u ∷ us) (f ∷ fs) below =
+    let rest = used_none from to us fs below in
+    let all = sum_by-cons (bytes_between from to) (u, f) (zip us fs) in
+    let out : is_between from to f ≡ false = grind (arith, nat_tests) in
+    let none : bytes_between from to (u, f) ≡ 0 = ap (λ (b : Bool). if b then size_of u else 0) out in
+    rw all (omega (arith, rest, none))
+
+-- what a placed lane spends is what its units use
+spent_is : (lane : Lane) (chunks : List Chunk) (frames : List ℕ) (from count : ℕ)
+    → spent (loaded lane (zip chunks frames)) from count ≡ used from (from + count) (zip chunks frames)
+spent_is lane chunks frames from zero = sym (used_none from (from + zero) chunks frames (omega arith))
+spent_is lane chunks frames from (suc count) =
+    ap (λ (n : ℕ). n + length (loads_at (zip chunks frames) (from + count))) (spent_is lane chunks frames from count)
+    ∙ sym (used_more from count chunks frames)
+
+-- a placed lane is sound
+pub placed_sound : (lane : Lane) (room : ℕ → ℕ) (chunks : List Chunk) (frames : List ℕ) → IsPlacedLane lane room chunks frames
+    → IsSoundLane (loaded lane (zip chunks frames))
+placed_sound lane room chunks frames is = record {
+  events = is.sound.events;
+  loads = λ frame. loads_plain chunks frames frame is.plain;
+  lasting = λ start delay starts.
+      let lasts = is.sound.lasting start delay starts in
+      record { some = lasts.some; ends_is = lasts.ends_is; after = lasts.after };
+  quiet = λ start frame delay starts from to.
+      let quiet = is.sound.quiet start frame delay starts from to in
+      record { events = quiet.events; delay = quiet.delay };
+  budget = λ start delay starts.
+      let lasts = is.sound.lasting start delay starts in
+      let after_it : start < delay.ends = lasts.after in
+      let within = placed_within room (delay_ends lane) chunks frames is.placed in
+      let most = within.delays start delay.ends (ap (option_map (λ (d : Delay). d.ends)) starts) in
+      let last : start + (delay.ends - start) ≡ delay.ends = omega arith in
+      let all = spent_is lane chunks frames start (delay.ends - start) ∙ ap (λ (to : ℕ). used start to (zip chunks frames)) last in
+      omega (arith, all, most);
+}
