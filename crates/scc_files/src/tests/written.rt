@@ -100,12 +100,9 @@ fn a_pair_past_the_day_is_refused(rt: HostRuntime) -> Result<(), Fail> {
 
 #[test]
 fn a_failing_sink_is_a_fault(rt: HostRuntime) -> Result<(), Fail> {
-    let mut out = sink(rt.alloc(), &[2])?;
+    let mut out = sink(rt.alloc(), &[1])?;
     let mut writer = begun_late(&rt, &mut out);
     assert_eq!(rt; writer.pair(0, LOAD, &mut out), Err(SccPut::Fault));
-    assert_eq!(rt;
-        out.bytes(),
-        b"Scenarist_SCC V1.0\n\n23:59:59:29".as_slice()
-    );
+    assert_eq!(rt; out.bytes(), b"Scenarist_SCC V1.0\n\n".as_slice());
     Ok(())
 }
