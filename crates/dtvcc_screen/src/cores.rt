@@ -25,7 +25,7 @@ pub struct Core {
 }
 
 impl Core {
-    ghost use Rattle.std.specs.Prelude.{◌≡◌, ◌==◌, ◌≤◌, ◌^◌, ℕ, [], true, false, Some, None, IfOk, IfSome, IsTrue, MatchOption};
+    ghost use Rattle.std.specs.Prelude.{◌≡◌, ◌==◌, ◌+◌, ◌≤◌, ◌^◌, ◌++◌, ℕ, [], ◌∷◌, true, false, Some, None, IfOk, IfSome, IsTrue, MatchOption};
     ghost use Rattle.cc_base.specs.Steps.{front_from};
     ghost use Rattle.dtvcc_codes.specs.Reading.{completed, completions, open_after};
     ghost use Rattle.dtvcc_codes.specs.Spellable.{IsSpellable};
@@ -67,7 +67,7 @@ impl Core {
         ensures noted { Notes self.old self.new }
     {
         let completed = self.reader.take(byte);
-        if is_reset(completed) {
+        if is_reset(&completed) {
             self.reset();
             return false;
         }
@@ -77,7 +77,7 @@ impl Core {
             }
             return false;
         }
-        if is_cancel(completed) {
+        if is_cancel(&completed) {
             self.end_delay(clock);
             return false;
         }
@@ -85,10 +85,7 @@ impl Core {
             self.held.push(byte);
             return false;
         }
-        let mut filled = self.held.take();
-        filled.push(byte);
-        self.act_all(clock, filled.as_slice());
-        self.changed = true;
+        self.end_full(clock, byte);
         true
     }
 
@@ -150,6 +147,21 @@ impl Core {
     {
         let held = self.held.take();
         self.act_all(clock, held.as_slice());
+        self.changed = true;
+    }
+
+    // The byte that brings the held bytes to 128 ends the delay.
+    fn end_full(&mut self, clock: Clock, byte: u8)
+        requires ticks { clock.ticks < 2 ^ 32 }
+        requires full { length self.old.held.items + 1 ≡ 128 }
+        ensures acted { Carries (all_acted (completions [] (self.old.held.items ++ byte ∷ [])) clock
+            (acting_on (front_from open_after [] (self.old.held.items ++ byte ∷ [])) (screen_of self.old.screen))) self.new.held.items self.new }
+        ensures reader { self.new.reader ≡ self.old.reader }
+        ensures noted { has_changed self.new ≡ true }
+    {
+        let mut filled = self.held.take();
+        filled.push(byte);
+        self.act_all(clock, filled.as_slice());
         self.changed = true;
     }
 

@@ -8,15 +8,15 @@ use dtvcc_codes::Command;
 pub(crate) const FULL: usize = 128;
 
 /// Whether a byte completed Reset.
-pub(crate) fn is_reset(completed: Option<Command>) -> bool
-    ensures { result ≡ is_reset completed }
+pub(crate) fn is_reset(completed: &Option<Command>) -> bool
+    ensures { result ≡ is_reset completed.now }
 {
     matches!(completed, Some(Command::Rst))
 }
 
 /// Whether a byte completed DelayCancel.
-pub(crate) fn is_cancel(completed: Option<Command>) -> bool
-    ensures { result ≡ is_cancel completed }
+pub(crate) fn is_cancel(completed: &Option<Command>) -> bool
+    ensures { result ≡ is_cancel completed.now }
 {
     matches!(completed, Some(Command::Dlc))
 }

@@ -3,7 +3,7 @@ use Rattle.dtvcc_codes.specs.declared.open_command.OpenCommand.{OpenCommand}
 use Rattle.dtvcc_codes.specs.Reading.{open_after}
 use Rattle.dtvcc_codes.specs.Readers.{Keeps}
 use Rattle.dtvcc_screen.specs.Objects.{screen_of}
-use Rattle.dtvcc_screen.proofs.StandsLemmas.{acts_stands, cancel_stands, cancelled_stands, fill_count, fills_stands, holds_stands, idles_stands, is_full, not_full, opened, stands_still, until_none, until_some}
+use Rattle.dtvcc_screen.proofs.StandsLemmas.{acts_stands, cancel_stands, cancelled_stands, fill_count, fills_stands, holds_stands, idles_stands, is_full, not_full, opened, until_none, until_some}
 use Rattle.dtvcc_screen.proofs.cores.Core.byte.Goals as goal
 
 pub returns-in-Some-clause-stands : goal.returns-in-Some-clause-stands
@@ -58,16 +58,14 @@ pub returns-clause-stands : goal.returns-clause-stands
 returns-clause-stands c = λ state stands.
     let ends = until_some c.args.self.now.until (c.is_none.ensures ∙ ap not c.if-is_none.false) in
     let count : c.len.result ≡ length c.args.self.now.held.items = c.len.ensures.value in
-    let are : c.as_slice.result.now ≡ c.args.self.now.held.items ++ c.args.byte ∷ [] =
-    c.as_slice.ensures.value ∙ rw (← c.take-filled.ensures.value) c.push-2.ensures.items in
-    stands_still _ c.act_all.new.self _ (fills_stands state c.args.byte ends.0 c.args.clock c.take-completed.result c.args.self.now c.act_all.new.self c.as_slice.result.now
+    fills_stands state c.args.byte ends.0 c.args.clock c.take-completed.result c.args.self.now c.end_full.new.self (c.args.self.now.held.items ++ c.args.byte ∷ [])
     (screen_of c.args.self.now.screen) stands (omega (arith, c.ranges.byte.fits))
     (sym stands.carries.until ∙ ends.1) (c.take-completed.ensures.says state.open_bytes stands.unfinished)
     (sym c.is_reset.ensures ∙ c.if-is_reset.false) (sym c.is_cancel.ensures ∙ c.if-is_cancel.false)
     (omega (arith, count, c.if-len-lt-FULL.false, c.args.self.now.room))
-    (subst (λ (r : OpenCommand). Keeps (open_after state.open_bytes c.args.byte) r) (sym c.act_all.ensures.reader)
+    (subst (λ (r : OpenCommand). Keeps (open_after state.open_bytes c.args.byte) r) (sym c.end_full.ensures.reader)
     (c.take-completed.ensures.leads state.open_bytes stands.unfinished))
-    refl are c.act_all.ensures.acted) refl refl refl refl
+    refl refl c.end_full.ensures.acted
 
 pub returns-clause-full : goal.returns-clause-full
 returns-clause-full c = λ state stands.
