@@ -1,2 +1,3 @@
 pub mod WritableLemmas
 pub mod SpelledLemmas
+pub mod LatestLemmas

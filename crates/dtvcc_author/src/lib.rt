@@ -4,11 +4,15 @@
 
 pub use crate::caption::{Caption, caption_of, captions};
 pub use crate::cue::units;
+pub use crate::frame_events::{Delay, FrameEvents};
+pub use crate::latest::Latest;
 pub use crate::unit::DUnits;
 
 mod caption;
 mod commands;
 mod cue;
+mod frame_events;
+mod latest;
 #[cfg(test)]
 mod tests;
 mod unit;
