@@ -1,7 +1,7 @@
 //! Laws of what a run answers and puts: functions that do nothing, with the laws as their contracts.
 ghost use Rattle.ccsuite_cli.specs.Seen.{BuiltWordsAreSeen};
 ghost use Rattle.ccsuite_cli.specs.Verdict.{AcceptedIsAnswered, FaultsAreTold, FileIsDecoded, FileIsShown, GoodListIsWritten, LongWordsAreRefused, MalformedIsRefused, RefusedImportIsAnswered, RefusedListIsAnswered, SccFileIsImported};
-ghost use Rattle.scc_commands.specs.ExportVerdict.{FileIsExported, MalformedIsNotExported};
+ghost use Rattle.scc_commands.specs.ExportVerdict.{FileIsExported, MalformedIsNotExported, StopIsAnswered};
 
 /// The law that every command that reads a cue list answers Ok to an input that is an accepted cue list, or Memory, where
 /// neither count of faults rose.
@@ -64,6 +64,12 @@ pub fn file_is_exported()
 /// end, or Memory.
 pub fn malformed_is_not_exported()
     ensures { MalformedIsNotExported }
+{}
+
+/// The law that it answers words with a frame at which something is found, or whose pair stands past the day, with just that, or Memory,
+/// where the frames before it are exported, whatever follows the frame.
+pub fn stop_is_answered()
+    ensures { StopIsAnswered }
 {}
 
 /// The law that every run answers ReadFault where the input's count of faults is greater than before, and WriteFault where the

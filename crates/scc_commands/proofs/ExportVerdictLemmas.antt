@@ -28,14 +28,14 @@ use Rattle.scc_commands.specs.ExportVerdict.{FileIsExported, MalformedIsNotExpor
 use Rattle.scc_commands.specs.Import.{Placed}
 
 -- what was judged of known bytes, and the rest of them
-known_judged : (old new : Option (List ℕ)) (bytes judged unjudged : List ℕ) → old ≡ Some bytes → Consumes old new (judged ++ unjudged)
+pub known_judged : (old new : Option (List ℕ)) (bytes judged unjudged : List ℕ) → old ≡ Some bytes → Consumes old new (judged ++ unjudged)
     → (rest : List ℕ) × (bytes ≡ judged ++ (unjudged ++ rest))
 known_judged old None bytes judged unjudged known consumed = absurd (subst (λ l. Consumes l None (judged ++ unjudged)) known consumed)
 known_judged old (Some rest) bytes judged unjudged known consumed =
     (rest, subst (λ l. Consumes l (Some rest) (judged ++ unjudged)) known consumed ∙ append_assoc judged unjudged rest)
 
 -- what was judged of known bytes that were read to their end is all of them
-known_whole : (left : Option (List ℕ)) (bytes judged : List ℕ) → left ≡ Some bytes → IfSome left (λ all. all ≡ judged) → bytes ≡ judged
+pub known_whole : (left : Option (List ℕ)) (bytes judged : List ℕ) → left ≡ Some bytes → IfSome left (λ all. all ≡ judged) → bytes ≡ judged
 known_whole left bytes judged known whole = subst (λ l. IfSome l (λ all. all ≡ judged)) known whole
 
 -- within the day, in front and behind
@@ -48,7 +48,7 @@ within_front time [] more within = tt
 within_front time (placed ∷ pairs) more (fits, within) = (fits, within_front time pairs more within)
 
 -- so is one frame of them
-within_at : (time : TimeCode) (number : ℕ) (frames : List Frame) (last : Frame) (behind : List Frame)
+pub within_at : (time : TimeCode) (number : ℕ) (frames : List Frame) (last : Frame) (behind : List Frame)
     → AreWithinDay time (exported_from number ((frames ++ last ∷ []) ++ behind)) → AreWithinDay time (at_number (number + length frames) (pairs_of last))
 within_at time number [] last behind within =
     subst (λ n. AreWithinDay time (at_number n (pairs_of last))) (none number)
@@ -63,11 +63,11 @@ within_at time number (frame ∷ frames) last behind within =
     (within_back time (at_number number (pairs_of frame)) (exported_from (suc number) ((frames ++ last ∷ []) ++ behind)) within))
 
 -- nothing is found at one frame of them
-no_finding_at : (frames : List Frame) (last : Frame) (behind : List Frame) → HaveNoFinding ((frames ++ last ∷ []) ++ behind) → HasNoFinding last
+pub no_finding_at : (frames : List Frame) (last : Frame) (behind : List Frame) → HaveNoFinding ((frames ++ last ∷ []) ++ behind) → HasNoFinding last
 no_finding_at [] last behind (none, more) = none
 no_finding_at (frame ∷ frames) last behind (none, more) = no_finding_at frames last behind more
 
-not_found : (frame : Frame) (found : Kind45) → HasNoFinding frame → HasFinding frame found → ⊥
+pub not_found : (frame : Frame) (found : Kind45) → HasNoFinding frame → HasFinding frame found → ⊥
 not_found frame (kind.WrongRate expected seen) none finding = finding.2 none.rate_is
 not_found frame (kind.TwoPairs seen) none finding = let one = none.one in let more = finding.2 in omega arith
 not_found frame _ none finding = absurd finding
@@ -93,15 +93,15 @@ never_past time bytes all answer old new are good read stops =
     let (rest, is) = known_judged old.left new.left bytes stops.judged stops.unjudged read.left stops.taken in
     let (behind, grown) = never_at time bytes (stops.unjudged ++ rest) all stops.frames stops.at stops.cause.last stops.judged are is stops.frames_are stops.cause.is_last in
     let within = within_at time 0 stops.frames stops.cause.last behind (subst (λ f. AreWithinDay time (exported f)) grown good.within_day) in
-    let one = subst (λ l. AreWithinDay time (at_number (0 + length stops.frames) l)) stops.cause.is_pair within in
-    let past = stops.cause.past in
-    let isnt : true ≡ false = sym past ∙ ap (λ n. is_past_day (first_standing time) n stops.cause.pair) (count (length stops.frames)) ∙ one.0 in cc
+    let one = subst (λ l. AreWithinDay time (at_number (0 + length stops.frames) l)) stops.cause.stands.is_pair within in
+    let past = stops.cause.stands.past in
+    let isnt : true ≡ false = sym past ∙ ap (λ n. is_past_day (first_standing time) n stops.cause.stands.pair) (count (length stops.frames)) ∙ one.0 in cc
   where
     count : (n : ℕ) → n ≡ 0 + n
     count n = omega arith
 
 -- no more bytes than the limit pass it
-never_passes : (time : TimeCode) (bytes : List ℕ) (answer : Put) (old new : Ends) → length bytes ≤ words_limit → IsReadOf bytes old new
+pub never_passes : (time : TimeCode) (bytes : List ℕ) (answer : Put) (old new : Ends) → length bytes ≤ words_limit → IsReadOf bytes old new
     → Stops time (export_front time) PassesLimit answer old new → ⊥
 never_passes time bytes answer old new within read stops =
     let (rest, is) = known_judged old.left new.left bytes stops.judged stops.unjudged read.left stops.taken in

@@ -90,10 +90,7 @@ frame_past time start now frames last export pair w v frame none is stands numbe
   λ judged unjudged unoffending. record {
     last = last;
     is_last = refl;
-    no_finding = none;
-    pair = pair;
-    is_pair = is;
-    past = day_is time frames pair w frame stands number ∙ past;
+    stands = record { no_finding = none; pair = pair; is_pair = is; past = day_is time frames pair w frame stands number ∙ past };
     unoffending = unoffending;
   },
   way,

@@ -1,9 +1,11 @@
 pub mod ExportVerdictLemmas
+pub mod ExportedFileLemmas
 pub mod ExportingLemmas
 pub mod FrameLemmas
 pub mod FramesLemmas
 pub mod ImportLemmas
 pub mod RoundTripLemmas
 pub mod SccVerdictLemmas
+pub mod StopAtLemmas
 pub mod StopLemmas
 pub mod WrittenLemmas

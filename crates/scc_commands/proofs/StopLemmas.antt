@@ -212,10 +212,7 @@ stop_answered time first after start then reads later writes still bytes rest st
       (record {
         last = had.cause.last;
         is_last = had.cause.is_last;
-        no_finding = had.cause.no_finding;
-        pair = had.cause.pair;
-        is_pair = had.cause.is_pair;
-        past = had.cause.past;
+        stands = had.cause.stands;
         unoffending = had.cause.unoffending;
       })
       (all_put start then [] (export_front time had.frames) had.way refl),

@@ -149,15 +149,18 @@ pub record IsFoundAt (finding : Finding) (frames at : List Frame) (judged unjudg
   pub found : HasFinding last finding.kind
   pub unoffending : IsUnoffending services_say judged
 
--- nothing is found at the frame with which the bytes judged end, none of whose words offends, and its pair isn't null and stands at or
--- past the end of the day
+-- nothing is found at the frame of this number, and its pair isn't null and stands at or past the end of the day
+pub record StandsPastDay (time : TimeCode) (number : ℕ) (frame : Frame) : Type 0 where
+  pub no_finding : HasNoFinding frame
+  pub pair : Pair
+  pub is_pair : pairs_of frame ≡ pair ∷ []
+  pub past : is_past_day (first_standing time) number pair ≡ true
+
+-- the frame with which the bytes judged end, none of whose words offends, stands past the day
 pub record PassesDay (time : TimeCode) (frames at : List Frame) (judged unjudged : List ℕ) : Type 0 where
   pub last : Frame
   pub is_last : at ≡ last ∷ []
-  pub no_finding : HasNoFinding last
-  pub pair : Pair
-  pub is_pair : pairs_of last ≡ pair ∷ []
-  pub past : is_past_day (first_standing time) (length frames) pair ≡ true
+  pub stands : StandsPastDay time (length frames) last
   pub unoffending : IsUnoffending services_say judged
 
 -- nothing more is said

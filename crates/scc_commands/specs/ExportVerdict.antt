@@ -1,6 +1,7 @@
--- The verdict of an export where no count of faults rose: words whose frames are exported are answered Ok, and malformed ones with their one
--- refusal, or want of memory.
-use Rattle.std.specs.Prelude.{◌≡◌, ◌≤◌, ◌⊎◌, ℕ, List, length}
+-- The verdict of an export where no count of faults rose: words whose frames are exported are answered Ok, malformed ones with their one
+-- refusal, and those with a frame at which an export stops with what stands against it; or with want of memory.
+use Rattle.std.specs.Prelude.{◌≡◌, ◌≤◌, ◌⊎◌, ℕ, List, [], ◌∷◌, ◌++◌, length}
+use Rattle.cc_base.specs.declared.limit_of.LimitOf.TheVariants as limit
 use Rattle.cc_base.specs.declared.refusal.Refusal.{Refusal}
 use Rattle.cdp_packets.specs.Packets.{Packet as Frame}
 use Rattle.command_base.specs.Counts.{IsReadOf}
@@ -12,7 +13,7 @@ use Rattle.time_codes.specs.declared.time_code.TimeCode.{TimeCode}
 use Rattle.services_files.specs.Services.{services_say}
 use Rattle.words_files.specs.FramesOf.{AreFramesOf}
 use Rattle.words_files.specs.Offences.{IsFileUnder, IsMalformed}
-use Rattle.scc_commands.specs.Export.{AreExported, ExportAnswer, words_limit}
+use Rattle.scc_commands.specs.Export.{AreExported, ExportAnswer, HasFinding, StandsPastDay, words_limit}
 
 -- a words file within the limit, at none of whose frames anything is found, and none of whose pairs stands past the day
 abbrev pub FileIsExported : Type 0
@@ -25,3 +26,16 @@ abbrev pub MalformedIsNotExported : Type 0
 MalformedIsNotExported = (time : TimeCode) (bytes : List ℕ) (frames : List Frame) (refusal : Refusal) (old new : Ends) (answer : Status)
     → AreFramesOf services_say frames bytes → AreExported time frames → IsMalformed services_say bytes refusal → length bytes ≤ words_limit → IsReadOf bytes old new
     → ExportAnswer time old new answer → (answer ≡ status.Malformed (Byte refusal.place) refusal.why) ⊎ (answer ≡ status.Memory)
+
+-- an export stops at the frame of this number with this status: something is found at it, or its pair stands past the day
+abbrev pub StopsAt : TimeCode → ℕ → Frame → Status → Type 0
+StopsAt time number frame (status.Differs finding) = (finding.frame ≡ number) × HasFinding frame finding.kind
+StopsAt time number frame (status.Limit limit.Day) = StandsPastDay time number frame
+StopsAt time number frame _ = ⊥
+
+-- words with such a frame, where those before it are exported, whatever follows it
+abbrev pub StopIsAnswered : Type 0
+StopIsAnswered = (time : TimeCode) (bytes : List ℕ) (frames behind : List Frame) (last : Frame) (stop answer : Status) (old new : Ends)
+    → AreFramesOf services_say ((frames ++ last ∷ []) ++ behind) bytes → AreExported time frames → StopsAt time (length frames) last stop
+    → length bytes ≤ words_limit → IsReadOf bytes old new → ExportAnswer time old new answer
+    → (answer ≡ stop) ⊎ (answer ≡ status.Memory)

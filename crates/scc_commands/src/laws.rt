@@ -1,12 +1,13 @@
 //! Laws of what the commands of SCC files put: functions that do nothing, with the laws as their contracts.
 ghost use Rattle.std.specs.Prelude.{◌≡◌, ◌++◌, List, ℕ};
 ghost use Rattle.cdp_packets.specs.Packets.{Packet as Frame};
-ghost use Rattle.scc_files.specs.SccFiles.{AreBytes, AreRising};
+ghost use Rattle.scc_files.specs.SccFiles.{AreBytes, AreRising, IsSccFile};
 ghost use Rattle.scc_files.specs.Writing.{end_text};
-ghost use Rattle.scc_files.specs.Written.{written_file};
+ghost use Rattle.scc_files.specs.Written.{counted, shown, written_file};
 ghost use Rattle.time_codes.specs.Frames.{frame_number};
 ghost use Rattle.time_codes.specs.declared.time_code.TimeCode.{TimeCode as Time};
-ghost use Rattle.scc_commands.specs.Export.{export_file, export_front, exported, first_standing, stand_after};
+ghost use Rattle.words_files.specs.Frames.{IsFileOf};
+ghost use Rattle.scc_commands.specs.Export.{AreExported, export_file, export_front, exported, first_standing, stand_after};
 ghost use Rattle.scc_commands.specs.Import.{Placed, import_packets};
 
 /// The law that the front of a file which `export` puts is the file without what ends it: the two line ends behind its last stretch,
@@ -21,4 +22,11 @@ pub fn front_and_end_are_the_file()
 pub fn import_is_exported_again()
     ensures { (time : Time) (pairs : Placed) → AreRising 0 pairs → AreBytes pairs
         → export_file time (import_packets pairs) ≡ written_file (frame_number time) time.drop_frame pairs }
+{}
+
+/// The law that what is exported is an SCC file of just the pairs that were exported and aren't null, each at its frame less that of the
+/// first of them.
+pub fn exported_words_are_an_scc_file()
+    ensures { (time : Time) (frames : List Frame) (bytes : List ℕ) → IsFileOf frames bytes → AreExported time frames
+        → IsSccFile (counted (shown (exported frames))) (export_file time frames) }
 {}
