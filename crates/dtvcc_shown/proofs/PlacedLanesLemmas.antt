@@ -7,11 +7,12 @@ use Rattle.std.proofs.lemmas.List.Elements.{All-head, All-tail}
 use Rattle.std.proofs.lemmas.List.Sums.{sum_by-cons}
 use Rattle.cc_base.specs.Steps.{front_from}
 use Rattle.dtvcc_codes.specs.Reading.{completions, open_after}
-use Rattle.frame_scheduler.specs.declared.service.chunk.Chunk.{Chunk}
-use Rattle.frame_scheduler.specs.Placing.{IsPlaced}
-use Rattle.frame_scheduler.specs.ServiceLane.{IsWithinRoom, bytes_between, is_between, service_lane, size_of, used}
-use Rattle.frame_scheduler.proofs.ServiceLaneLemmas.{placed_within}
-use Rattle.dtvcc_shown.specs.PlacedLanes.{IsPlacedLane, delay_ends, loaded, loads_at, unloaded}
+use Rattle.service_lanes.specs.declared.chunk.Chunk.{Chunk}
+use Rattle.placements.specs.Placing.{IsPlaced}
+use Rattle.service_lanes.specs.ServiceBytes.{loads_at}
+use Rattle.service_lanes.specs.ServiceLane.{IsWithinRoom, bytes_between, is_between, service_lane, size_of, used}
+use Rattle.service_lanes.proofs.ServiceLaneLemmas.{placed_within}
+use Rattle.dtvcc_shown.specs.PlacedLanes.{IsPlacedLane, delay_ends, loaded, unloaded}
 use Rattle.dtvcc_shown.specs.ServiceLanes.{Delay, Lane, spent}
 use Rattle.dtvcc_shown.specs.Soundness.{ArePlain, IsLasting, IsQuiet, IsSoundLane}
 use Rattle.dtvcc_shown.proofs.PlainLemmas.{AllPlain}

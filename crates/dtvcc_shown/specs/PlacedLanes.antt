@@ -1,15 +1,11 @@
 -- The lane of a service whose units are placed: each frame is loaded with the units that stand in it.
-use Rattle.std.specs.Prelude.{◌≡◌, ℕ, ◌==◌, if◌then◌else◌, List, [], All, Option, option_map}
-use Rattle.std.specs.List.{flat_map, zip}
-use Rattle.frame_scheduler.specs.declared.service.chunk.Chunk.{Chunk}
-use Rattle.frame_scheduler.specs.Placing.{IsPlaced}
-use Rattle.frame_scheduler.specs.ServiceLane.{service_lane}
+use Rattle.std.specs.Prelude.{◌≡◌, ℕ, List, [], All, Option, option_map}
+use Rattle.service_lanes.specs.declared.chunk.Chunk.{Chunk}
+use Rattle.placements.specs.Placing.{IsPlaced}
+use Rattle.service_lanes.specs.ServiceBytes.{loads_at}
+use Rattle.service_lanes.specs.ServiceLane.{service_lane}
 use Rattle.dtvcc_shown.specs.ServiceLanes.{Delay, Lane}
 use Rattle.dtvcc_shown.specs.Soundness.{ArePlain, IsSoundLane}
-
--- the bytes of the units that stand in a frame
-abbrev pub loads_at : List (Chunk × ℕ) → ℕ → List ℕ
-loads_at placed frame = flat_map (λ (each : Chunk × ℕ). if each.1 == frame then each.0.unit.items else []) placed
 
 -- the lane with these units, and with none
 abbrev pub loaded : Lane → List (Chunk × ℕ) → Lane

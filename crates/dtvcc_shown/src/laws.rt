@@ -3,7 +3,7 @@
 ghost use Rattle.std.specs.Prelude.{◌≡◌, ℕ, List, []};
 ghost use Rattle.std.specs.List.{zip};
 ghost use Rattle.dtvcc_screen.specs.Meaning.{after};
-ghost use Rattle.frame_scheduler.specs.declared.service.chunk.Chunk.{Chunk};
+ghost use Rattle.service_lanes.specs.declared.chunk.Chunk.{Chunk};
 ghost use Rattle.dtvcc_shown.specs.PlacedLanes.{IsPlacedLane, loaded};
 ghost use Rattle.dtvcc_shown.specs.Filling.{AllFill};
 ghost use Rattle.dtvcc_shown.specs.ServiceLanes.{Delay, IsInDelay, IsOutside, Lane, frame_events, opening_events, served};

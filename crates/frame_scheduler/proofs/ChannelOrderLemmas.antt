@@ -9,7 +9,7 @@ use Rattle.line21_author.specs.declared.unit.Unit.{Unit}
 use Rattle.frame_scheduler.specs.declared.lane.piece.Piece.{Piece}
 use Rattle.frame_scheduler.specs.ChannelLane.{channel_pieces, cue_pieces, pieces_from}
 use Rattle.frame_scheduler.specs.LanePlan.{piece_cue}
-use Rattle.frame_scheduler.specs.LaneRoom.{AreInCueOrder, AreOfCuesFrom}
+use Rattle.placements.specs.LaneRoom.{AreInCueOrder, AreOfCuesFrom}
 
 -- the units stand in the order of their cues, none of which is before the cue of this number
 record StartAt (number : ℕ) (pieces : List Piece) : Type 0 where

@@ -16,7 +16,7 @@ use Rattle.frame_scheduler.specs.FieldLane.{slots_of, end_of, IsAllowed, lane}
 use Rattle.frame_scheduler.specs.LaneTimeline.{stands, lane_timeline}
 use Rattle.frame_scheduler.specs.LaneDoubling.{AreDoubledControls, AreEnded}
 use Rattle.frame_scheduler.specs.DoubledPairs.{IsDoubled}
-use Rattle.frame_scheduler.specs.Placing.{IsPlaced}
+use Rattle.placements.specs.Placing.{IsPlaced}
 use Rattle.frame_scheduler.proofs.FieldLaneLemmas.{end_push}
 use Rattle.frame_scheduler.proofs.EventLemmas.{event_none, some_slot}
 use Rattle.frame_scheduler.proofs.ColumnLemmas.{IsMarked, column_doubled}

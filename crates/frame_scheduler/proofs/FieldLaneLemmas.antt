@@ -4,12 +4,12 @@ use Rattle.std.proofs.lemmas.List.Sums.{fold-append}
 use Rattle.std.specs.List.{zip}
 use Rattle.line21_author.specs.declared.event.Event.{Event}
 use Rattle.frame_scheduler.specs.declared.lane.piece.Piece.{Piece}
-use Rattle.frame_scheduler.specs.Placing.{IsEarliest, NoLater}
-use Rattle.frame_scheduler.specs.OneMore.{FitsEarlier, OneMore}
+use Rattle.placements.specs.Placing.{IsEarliest, NoLater}
+use Rattle.placements.specs.OneMore.{FitsEarlier, OneMore}
 use Rattle.frame_scheduler.specs.FieldLane.{slots_of, end_of, IsAllowed, lane}
-use Rattle.frame_scheduler.specs.FirstFit.{EarliestIsFirstFit}
-use Rattle.frame_scheduler.proofs.FirstFitLemmas.{earliest_is_first_fit}
-use Rattle.frame_scheduler.proofs.PlacingLemmas.{one_more}
+use Rattle.placements.specs.FirstFit.{EarliestIsFirstFit}
+use Rattle.placements.proofs.FirstFitLemmas.{earliest_is_first_fit}
+use Rattle.placements.proofs.PlacingLemmas.{one_more}
 
 -- the end behind one more unit
 pub end_push : (before : List (Piece × ℕ)) (u : Piece) (f : ℕ) → end_of (before ++ (u, f) ∷ []) ≡ f + slots_of u

@@ -7,13 +7,13 @@ use Rattle.line21_codes.specs.declared.pairs.Pair.{Pair}
 use Rattle.line21_author.specs.EventOrder.{AreFrom, AreApart}
 use Rattle.line21_author.specs.declared.event.Event.{Event}
 use Rattle.frame_scheduler.specs.FieldLane.{IsAllowed, end_of, lane, slots_of}
-use Rattle.frame_scheduler.specs.FirstFit.{IsFirst}
+use Rattle.placements.specs.FirstFit.{IsFirst}
 use Rattle.frame_scheduler.specs.LaneCursor.{AreRising, AreUnitsFrom, GivesSlot, IsReady}
 use Rattle.frame_scheduler.specs.LaneEvents.{event_at}
 use Rattle.frame_scheduler.specs.LanePlan.{AreInEarliest, piece_cue}
-use Rattle.frame_scheduler.specs.LaneRoom.{AreInCueOrder, IsFirstCrowded}
+use Rattle.placements.specs.LaneRoom.{AreInCueOrder, IsFirstCrowded}
 use Rattle.frame_scheduler.specs.LaneTimeline.{in_slots, lane_timeline, placed_timeline, stands, unit_at}
-use Rattle.frame_scheduler.specs.Placing.{IsEarliest, IsPlaced}
+use Rattle.placements.specs.Placing.{IsEarliest, IsPlaced}
 use Rattle.frame_scheduler.specs.Timeline.{IsSpaced, Timeline, over}
 use Rattle.frame_scheduler.specs.declared.lane.cursor.Cursor.{Cursor}
 use Rattle.frame_scheduler.specs.declared.lane.piece.Piece.{Piece}
@@ -22,8 +22,8 @@ use Rattle.frame_scheduler.proofs.CursorLemmas.{units_earlier}
 use Rattle.frame_scheduler.proofs.DoublingLemmas.{event_held, held_none, lane_spaced}
 use Rattle.frame_scheduler.proofs.EventLemmas.{some_slot}
 use Rattle.frame_scheduler.proofs.FieldLaneLemmas.{end_push, fits_earlier, lane_one_more}
-use Rattle.frame_scheduler.proofs.LaneRoomLemmas.{no_room_at}
-use Rattle.frame_scheduler.proofs.PlacingLemmas.{zip_push}
+use Rattle.placements.proofs.LaneRoomLemmas.{no_room_at}
+use Rattle.placements.proofs.PlacingLemmas.{zip_push}
 
 -- the units of a placement with one more
 in_slots_push : (events : List Event) (before : List (Piece × ℕ)) (us : List Piece) (fs : List ℕ) (u : Piece) (f : ℕ) → IsPlaced (lane events) before us fs

@@ -26,9 +26,9 @@ use Rattle.frame_scheduler.specs.ChannelLane.{IsChannelPlaced, channel_pieces, c
 use Rattle.frame_scheduler.specs.FieldLane.{lane}
 use Rattle.frame_scheduler.specs.Frames.{PlanAnswer}
 use Rattle.frame_scheduler.specs.LanePlan.{IsPlanOf, LaneFault, Planned, lane_pair, pair_at, piece_cue, earlier_fault, fault_beside}
-use Rattle.frame_scheduler.specs.LaneRoom as room
+use Rattle.placements.specs.LaneRoom as room
 use Rattle.frame_scheduler.specs.LaneTimeline.{placed_timeline}
-use Rattle.frame_scheduler.specs.Placing.{IsEarliest, IsPlaced}
+use Rattle.placements.specs.Placing.{IsEarliest, IsPlaced}
 use Rattle.frame_scheduler.specs.SlotLists.{slot_cues}
 use Rattle.frame_scheduler.specs.Planned.{channel_pair, LaneHasRoom, IsFirstWithoutRoom, IsLanePlaced, IsListPlaced, LaneLacksRoom, Placement}
 use Rattle.frame_scheduler.specs.Timeline.{slot}
@@ -36,12 +36,12 @@ use Rattle.frame_scheduler.specs.declared.frames.FrameBytes.{FrameBytes}
 use Rattle.frame_scheduler.specs.declared.frames.Plan.{Plan}
 use Rattle.frame_scheduler.specs.declared.lane.piece.Piece.{Piece}
 use Rattle.frame_scheduler.specs.declared.lane.placed_unit.PlacedUnit.{PlacedUnit}
-use Rattle.frame_scheduler.specs.declared.planning.PlanFault.{PlanFault}
-use Rattle.frame_scheduler.specs.declared.planning.PlanFault.TheVariants.{Memory, NoRoom}
+use Rattle.placements.specs.declared.planning.PlanFault.{PlanFault}
+use Rattle.placements.specs.declared.planning.PlanFault.TheVariants.{Memory, NoRoom}
 use Rattle.frame_scheduler.proofs.ChannelOrderLemmas.{channel_in_order}
 use Rattle.frame_scheduler.proofs.LanePlanLemmas.{timeline_is}
-use Rattle.frame_scheduler.proofs.LaneRoomLemmas.{room_all}
-use Rattle.frame_scheduler.proofs.PlacingLemmas.{earliest_none, earliest_same}
+use Rattle.placements.proofs.LaneRoomLemmas.{room_all}
+use Rattle.placements.proofs.PlacingLemmas.{earliest_none, earliest_same}
 
 -- no cue is on a channel that isn't authored
 other_channel : (channel own : Chan) → (IsAuthoredChannel channel → ⊥) → IsAuthoredChannel own → same_channel channel own ≡ false

@@ -1,12 +1,9 @@
-pub mod PlacingLemmas
 pub mod FieldLaneLemmas
-pub mod FirstFitLemmas
 pub mod SlotPlacingLemmas
 pub mod EventLemmas
 pub mod NextLemmas
 pub mod CursorLemmas
 pub mod LaneFrontLemmas
-pub mod LaneRoomLemmas
 pub mod LanePlanLemmas
 pub mod ColumnLemmas
 pub mod DoublingLemmas
@@ -18,4 +15,3 @@ pub mod ChannelOrderLemmas
 pub mod EventsApartLemmas
 pub mod ListDoublingLemmas
 pub mod RoomDecided
-pub mod ServiceLaneLemmas

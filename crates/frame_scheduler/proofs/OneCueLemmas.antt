@@ -10,12 +10,12 @@ use Rattle.frame_scheduler.specs.declared.lane.piece.Piece.{Piece}
 use Rattle.frame_scheduler.specs.FieldLane.{slots_of, end_of, lane}
 use Rattle.line21_author.specs.EventOrder.{AreFrom}
 use Rattle.frame_scheduler.specs.LanePlan.{piece_cue}
-use Rattle.frame_scheduler.specs.LaneRoom.{up_to, IsFirstCrowded}
+use Rattle.placements.specs.LaneRoom.{up_to, IsFirstCrowded}
 use Rattle.frame_scheduler.specs.OneCue.{AreOfOneCue, total_slots}
-use Rattle.frame_scheduler.specs.Placing.{IsPlaced, HasPlacement, HasNone}
+use Rattle.placements.specs.Placing.{IsPlaced, HasPlacement, HasNone}
 use Rattle.frame_scheduler.proofs.FieldLaneLemmas.{end_push}
 use Rattle.frame_scheduler.proofs.EventLemmas.{free_from}
-use Rattle.frame_scheduler.proofs.LaneRoomLemmas.{up_to_none}
+use Rattle.placements.proofs.LaneRoomLemmas.{up_to_none}
 
 -- the slots of one more unit in front
 total_cons : (p : Piece) (ps : List Piece) → total_slots (p ∷ ps) ≡ slots_of p + total_slots ps

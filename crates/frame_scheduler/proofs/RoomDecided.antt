@@ -13,21 +13,21 @@ use Rattle.line21_author.specs.declared.event.Event.{Event}
 use Rattle.frame_scheduler.specs.declared.lane.piece.Piece.{Piece}
 use Rattle.frame_scheduler.specs.ChannelLane.{channel_pieces}
 use Rattle.frame_scheduler.specs.FieldLane.{IsAllowed, end_of, lane, slots_of}
-use Rattle.frame_scheduler.specs.FirstFit.{IsFirst}
+use Rattle.placements.specs.FirstFit.{IsFirst}
 use Rattle.frame_scheduler.specs.LaneEvents.{IsFree}
 use Rattle.frame_scheduler.specs.LaneFront.{AreFree}
 use Rattle.frame_scheduler.specs.LanePlan.{piece_cue}
-use Rattle.frame_scheduler.specs.LaneRoom.{AreInCueOrder, IsFirstCrowded}
-use Rattle.frame_scheduler.specs.OneMore.{FitsEarlier}
-use Rattle.frame_scheduler.specs.Placing.{HasEarliest, IsEarliest}
+use Rattle.placements.specs.LaneRoom.{AreInCueOrder, IsFirstCrowded}
+use Rattle.placements.specs.OneMore.{FitsEarlier}
+use Rattle.placements.specs.Placing.{HasEarliest, IsEarliest}
 use Rattle.frame_scheduler.specs.Planned.{IsListPlaced, Placement}
 use Rattle.frame_scheduler.specs.Planned as list
 use Rattle.frame_scheduler.specs.SlotLists.{slot_cues}
 use Rattle.frame_scheduler.proofs.ChannelOrderLemmas.{channel_in_order}
 use Rattle.frame_scheduler.proofs.FieldLaneLemmas.{fits_earlier}
-use Rattle.frame_scheduler.proofs.LaneRoomLemmas.{no_room_at, room_all}
+use Rattle.placements.proofs.LaneRoomLemmas.{no_room_at, room_all}
 use Rattle.frame_scheduler.proofs.LanesLemmas.{both_without_room, one_without_room, placed_everywhere, placement, two_without_room}
-use Rattle.frame_scheduler.proofs.PlacingLemmas.{earliest_none, one_more}
+use Rattle.placements.proofs.PlacingLemmas.{earliest_none, one_more}
 
 -- a fact, or what denies it
 abbrev Decided : Type 0 → Type 0

@@ -5,7 +5,7 @@ use Rattle.std.proofs.lemmas.List.{map-append}
 use Rattle.line21_slots.specs.Cadences.{frame_of}
 use Rattle.line21_slots.specs.declared.cadence.Cadence.{Cadence}
 use Rattle.line21_slots.specs.declared.cadence.Cadence.TheVariants.{EveryFrame, EvenFrames, OddFrames}
-use Rattle.frame_scheduler.specs.Placing.{IsEarliest, IsPlaced, NoLater}
+use Rattle.placements.specs.Placing.{IsEarliest, IsPlaced, NoLater}
 use Rattle.frame_scheduler.specs.SlotPlacing.{EarliestInFrames, IsRising, all_in_frames, allowed_in_frames}
 
 frames_rise : (c : Cadence) → IsRising (frame_of c)

@@ -10,7 +10,7 @@ use Rattle.line21_author.specs.CueUnits.{units_of}
 use Rattle.frame_scheduler.specs.declared.lane.piece.Piece.{Piece}
 use Rattle.frame_scheduler.specs.FieldLane.{lane}
 use Rattle.frame_scheduler.specs.LaneTimeline.{lane_timeline}
-use Rattle.frame_scheduler.specs.Placing.{IsEarliest}
+use Rattle.placements.specs.Placing.{IsEarliest}
 use Rattle.frame_scheduler.specs.Timeline.{slot}
 
 -- the units of the cue of this number: none stands before its LOAD, and each has ended before its SHOW

@@ -4,8 +4,8 @@ use Rattle.line21_codes.specs.declared.channels.Chan.TheVariants.{Cc1, Cc3}
 use Rattle.cue_lists.specs.Listing.{Listing}
 use Rattle.line21_slots.specs.Cadences.{cadence_of, slot_from}
 use Rattle.frame_scheduler.specs.declared.frames.Plan.{Plan}
-use Rattle.frame_scheduler.specs.declared.planning.PlanFault.{PlanFault}
-use Rattle.frame_scheduler.specs.declared.planning.PlanFault.TheVariants.{Memory, NoRoom}
+use Rattle.placements.specs.declared.planning.PlanFault.{PlanFault}
+use Rattle.placements.specs.declared.planning.PlanFault.TheVariants.{Memory, NoRoom}
 use Rattle.frame_scheduler.specs.Columns.{Columns}
 use Rattle.frame_scheduler.specs.LanePlan.{Planned, lane_pair}
 use Rattle.frame_scheduler.specs.Planned.{IsFirstWithoutRoom, IsListPlaced, Placement, columns_of}

@@ -6,14 +6,14 @@ use Rattle.line21_slots.specs.Cadences.{has_slot_in, slot_in}
 use Rattle.line21_slots.specs.declared.cadence.Cadence.{Cadence}
 use Rattle.line21_author.specs.declared.event.Event.{Event}
 use Rattle.frame_scheduler.specs.FieldLane.{lane}
-use Rattle.frame_scheduler.specs.LaneRoom.{IsFirstCrowded}
+use Rattle.placements.specs.LaneRoom.{IsFirstCrowded}
 use Rattle.frame_scheduler.specs.LaneTimeline.{in_slots, placed_timeline}
-use Rattle.frame_scheduler.specs.Placing.{IsEarliest}
+use Rattle.placements.specs.Placing.{IsEarliest}
 use Rattle.frame_scheduler.specs.Timeline.{slot}
 use Rattle.frame_scheduler.specs.declared.lane.piece.Piece.{Piece}
 use Rattle.frame_scheduler.specs.declared.lane.placed_unit.PlacedUnit.{PlacedUnit}
-use Rattle.frame_scheduler.specs.declared.planning.PlanFault.{PlanFault}
-use Rattle.frame_scheduler.specs.declared.planning.PlanFault.TheVariants.{Memory, NoRoom}
+use Rattle.placements.specs.declared.planning.PlanFault.{PlanFault}
+use Rattle.placements.specs.declared.planning.PlanFault.TheVariants.{Memory, NoRoom}
 
 -- a placed lane: its units in their slots, its events, and the slot whose pair comes next
 pub record Planned : Type 0 where

@@ -1,13 +1,9 @@
-pub mod Placing
 pub mod Timeline
 pub mod LaneEvents
 pub mod FieldLane
 pub mod LaneTimeline
-pub mod LaneRoom
 pub mod OneCue
 pub mod DoubledPairs
-pub mod OneMore
-pub mod FirstFit
 pub mod SlotPlacing
 pub mod LaneCursor
 pub mod LaneFront
@@ -19,4 +15,3 @@ pub mod Columns
 pub mod EventsApart
 pub mod Frames
 pub mod Planned
-pub mod ServiceLane

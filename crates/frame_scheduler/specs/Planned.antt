@@ -13,7 +13,7 @@ use Rattle.frame_scheduler.specs.ChannelLane.{IsChannelPlaced, channel_pieces, c
 use Rattle.frame_scheduler.specs.Columns.{Columns}
 use Rattle.frame_scheduler.specs.FieldLane.{lane}
 use Rattle.frame_scheduler.specs.LanePlan.{piece_cue}
-use Rattle.frame_scheduler.specs.LaneRoom as room
+use Rattle.placements.specs.LaneRoom as room
 use Rattle.frame_scheduler.specs.SlotLists.{slot_cues}
 
 -- the slots in which the units of each lane begin

@@ -3,7 +3,7 @@
 use Rattle.std.specs.Prelude.{◌≡◌, ℕ, ◌<◌, List, map}
 use Rattle.line21_slots.specs.Cadences.{frame_of}
 use Rattle.line21_slots.specs.declared.cadence.Cadence.{Cadence}
-use Rattle.frame_scheduler.specs.Placing.{IsEarliest}
+use Rattle.placements.specs.Placing.{IsEarliest}
 
 -- the units with the frames of their slots
 abbrev pub all_in_frames : {U : Type 0} → (ℕ → ℕ) → List (U × ℕ) → List (U × ℕ)

@@ -14,7 +14,7 @@ ghost use Rattle.frame_scheduler.specs.SlotLists.{slot_cues};
 use crate::channel::pieces;
 use crate::frames::Plan;
 use crate::lane::placed::{FieldLane, PlacedLane};
-use crate::planning::PlanFault;
+use placements::PlanFault;
 use cc_base::Rate;
 use cue_lists::{Cue, CueList};
 use line21_author::events;

@@ -4,12 +4,10 @@
 
 pub use crate::frames::{FrameBytes, Plan};
 pub use crate::lanes::plan;
-pub use crate::planning::PlanFault;
+pub use placements::PlanFault;
 
 mod channel;
 mod frames;
 pub mod lane;
 mod lanes;
 pub mod laws;
-mod planning;
-pub mod service;

@@ -21,7 +21,7 @@ use Rattle.cue_lists.specs.Rules.Sentences.{AreInSequence}
 use Rattle.frame_scheduler.specs.FieldLane.{end_of, lane}
 use Rattle.frame_scheduler.specs.LaneEvents.{IsFree, event_at}
 use Rattle.frame_scheduler.specs.LaneTimeline.{stands}
-use Rattle.frame_scheduler.specs.Placing.{IsPlaced}
+use Rattle.placements.specs.Placing.{IsPlaced}
 use Rattle.frame_scheduler.specs.Timeline.{first_of}
 use Rattle.frame_scheduler.proofs.DoublingLemmas.{free_none}
 use Rattle.frame_scheduler.proofs.FieldLaneLemmas.{end_push}

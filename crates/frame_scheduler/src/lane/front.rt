@@ -1,7 +1,7 @@
 ghost use Rattle.std.specs.Prelude.{◌≡◌, ℕ, ◌+◌, ◌^◌, ◌<◌, ◌≤◌, IfSome, IfNone};
 ghost use Rattle.line21_author.specs.EventOrder.{AreApart};
 ghost use Rattle.frame_scheduler.specs.FieldLane.{IsAllowed, slots_of};
-ghost use Rattle.frame_scheduler.specs.FirstFit.{IsFirst};
+ghost use Rattle.placements.specs.FirstFit.{IsFirst};
 
 use crate::lane::piece::Piece;
 use line21_author::Event;

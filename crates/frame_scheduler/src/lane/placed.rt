@@ -1,7 +1,7 @@
 ghost use Rattle.std.specs.Prelude.{◌≡◌, ◌+◌, ◌^◌, ◌<◌, IfOk, IfErr};
 ghost use Rattle.line21_author.specs.EventOrder.{AreApart};
 ghost use Rattle.frame_scheduler.specs.LanePlan.{AreInEarliest, IsPlanOf, LaneFault, piece_cue};
-ghost use Rattle.frame_scheduler.specs.LaneRoom.{AreInCueOrder};
+ghost use Rattle.placements.specs.LaneRoom.{AreInCueOrder};
 ghost use Rattle.frame_scheduler.specs.LaneTimeline.{placed_timeline};
 ghost use Rattle.frame_scheduler.specs.Timeline.{slot};
 
@@ -9,7 +9,7 @@ use crate::lane::cursor::Cursor;
 use crate::lane::front::Front;
 use crate::lane::piece::Piece;
 use crate::lane::placed_unit::PlacedUnit;
-use crate::planning::PlanFault;
+use placements::PlanFault;
 use line21_author::Event;
 use line21_codes::Pair;
 use std::alloc::Global;

@@ -2,7 +2,7 @@ ghost use Rattle.std.specs.Prelude.{◌≡◌, ◌+◌, ◌^◌, ◌<◌, length
 
 use crate::lane::piece::Piece;
 use crate::lane::placed::{FieldLane, PlacedLane};
-use crate::planning::PlanFault;
+use placements::PlanFault;
 use line21_author::{Event, Unit};
 use line21_codes::Pair;
 use std::process::Abort;

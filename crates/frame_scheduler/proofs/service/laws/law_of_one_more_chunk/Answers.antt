@@ -1,5 +1,0 @@
-use Rattle.frame_scheduler.proofs.ServiceLaneLemmas.{chunks_one_more}
-use Rattle.frame_scheduler.proofs.service.laws.law_of_one_more_chunk.Goals as goal
-
-pub returns : goal.returns
-returns c = chunks_one_more

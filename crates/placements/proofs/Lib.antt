@@ -1,0 +1,3 @@
+pub mod PlacingLemmas
+pub mod FirstFitLemmas
+pub mod LaneRoomLemmas

@@ -1,0 +1,4 @@
+pub mod Placing
+pub mod OneMore
+pub mod FirstFit
+pub mod LaneRoom

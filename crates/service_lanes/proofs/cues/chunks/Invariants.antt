@@ -1,0 +1,7 @@
+use Rattle.std.proofs.Common.{◌≡◌, ◌+◌, ◌++◌, drop}
+use Rattle.service_lanes.specs.ServiceChunks.{chunks_from, service_chunks}
+use Rattle.service_lanes.proofs.cues.chunks.Given as goal
+
+-- the units of the cues so far, and those of the cues to come
+abbrev pub invariant-loop-index : goal.invariant-loop-index
+invariant-loop-index l = l.chunks.items ++ chunks_from l.rate l.service (l.index + 1) (drop l.index l.cues) ≡ service_chunks l.rate l.service l.cues

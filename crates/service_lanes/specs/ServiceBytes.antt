@@ -1,0 +1,35 @@
+-- The bytes that a service is sent in a frame: those of the frame's events, and behind them the units that stand in the frame.
+use Rattle.std.specs.Prelude.{◌≡◌, ℕ, ◌<◌, ◌≤◌, ◌==◌, if◌then◌else◌, List, [], ◌∷◌, ◌++◌, length, take, drop, ⊤}
+use Rattle.std.specs.List.{AllByRecursion, flat_map}
+use Rattle.cc_base.specs.declared.rate.Rate.{Rate}
+use Rattle.dtvcc_author.specs.FrameEvents.{event_bytes}
+use Rattle.dtvcc_author.specs.Kept.{AreKept}
+use Rattle.dtvcc_author.specs.Latest.{IsAt}
+use Rattle.dtvcc_author.specs.declared.caption.Caption.{Caption}
+use Rattle.service_lanes.specs.declared.chunk.Chunk.{Chunk}
+use Rattle.service_lanes.specs.declared.cursor.Cursor.{Cursor}
+
+-- the bytes of the units that stand in a frame
+abbrev pub loads_at : List (Chunk × ℕ) → ℕ → List ℕ
+loads_at placed frame = flat_map (λ (each : Chunk × ℕ). if each.1 == frame then each.0.unit.items else []) placed
+
+-- the bytes of a frame
+abbrev pub bytes_in : List Caption → List (Chunk × ℕ) → ℕ → List ℕ
+bytes_in cs placed frame = event_bytes frame cs ++ loads_at placed frame
+
+-- the frames are in order, from one on
+abbrev pub AreFramesFrom : ℕ → List ℕ → Type 0
+AreFramesFrom frame [] = ⊤
+AreFramesFrom frame (f ∷ fs) = (frame ≤ f) × AreFramesFrom f fs
+
+-- the units before the cursor stand before its frame, and the others don't
+pub record IsLoading (chunks : List Chunk) (frames : List ℕ) (frame next : ℕ) : Type 0 where
+  pub same : length chunks ≡ length frames
+  pub passed : AllByRecursion (λ (f : ℕ). f < frame) (take next frames)
+  pub ahead : AreFramesFrom frame (drop next frames)
+
+-- the cursor is ready to give the bytes of its frame
+pub record IsReady (cs : List Caption) (chunks : List Chunk) (frames : List ℕ) (cursor : Cursor) : Type 0 where
+  pub kept : (rate : Rate) × ((all : ℕ) × AreKept rate all cs)
+  pub at : IsAt cs cursor.frame cursor.latest
+  pub loading : IsLoading chunks frames cursor.frame cursor.next

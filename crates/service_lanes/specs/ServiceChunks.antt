@@ -1,0 +1,34 @@
+-- The units of a service: those of its window cues in file order, each with what its cue asks of its place (CTA-708-E, 7.1).
+use Rattle.std.specs.Prelude.{ℕ, suc, List, [], ◌∷◌, ◌++◌, Option, Some, None, map}
+use Rattle.cc_base.specs.declared.rate.Rate.{Rate}
+use Rattle.cue_lists.specs.declared.cue.Cue.{Cue}
+use Rattle.dtvcc_author.specs.Captions.{caption_of}
+use Rattle.dtvcc_author.specs.CueUnits.{units_of}
+use Rattle.dtvcc_author.specs.declared.caption.Caption.{Caption}
+use Rattle.service_lanes.specs.declared.chunk.Chunk.{Chunk}
+
+-- a unit of the caption of this number: it stands from LOAD on, and before what shows the caption
+abbrev pub chunk_of : ℕ → Caption → List ℕ → Chunk
+chunk_of number c unit = record { unit = record { items = unit }; load = c.load; until = c.starts; cue = number }
+
+-- the units of a caption, if there is one
+abbrev pub chunks_with : ℕ → Option Caption → List (List ℕ) → List Chunk
+chunks_with number None units = []
+chunks_with number (Some c) units = map (chunk_of number c) units
+
+-- the units of the cue of this number, where it is one of the service
+abbrev pub cue_chunks : Rate → ℕ → ℕ → Cue → List Chunk
+cue_chunks rate service number cue = chunks_with number (caption_of rate service cue) (units_of cue)
+
+-- the units of the cues of a service, where the first cue has this number
+abbrev pub chunks_from : Rate → ℕ → ℕ → List Cue → List Chunk
+chunks_from rate service number [] = []
+chunks_from rate service number (cue ∷ cues) = cue_chunks rate service number cue ++ chunks_from rate service (suc number) cues
+
+-- the units of the cues of a service, in the order of the cues, which are numbered from 1
+abbrev pub service_chunks : Rate → ℕ → List Cue → List Chunk
+service_chunks rate service cues = chunks_from rate service 1 cues
+
+-- the number of a unit's cue
+abbrev pub chunk_cue : Chunk → ℕ
+chunk_cue chunk = chunk.cue

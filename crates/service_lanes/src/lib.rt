@@ -1,0 +1,14 @@
+//! A service's lane: the units of its window cues in file order, each in the first frame that its cue, the frame's events and
+//! the delays allow; and the bytes of each frame (CTA-708-E, service blocks and Delay).
+#![tactic(auto)]
+
+pub use crate::chunk::Chunk;
+pub use crate::cues::chunks;
+pub use crate::placed::{PlacedService, ServiceLane};
+
+pub mod chunk;
+mod cues;
+mod cursor;
+mod front;
+pub mod laws;
+pub mod placed;

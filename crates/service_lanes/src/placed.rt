@@ -1,0 +1,131 @@
+ghost use Rattle.std.specs.Prelude.{◌≡◌, ℕ, ◌+◌, ◌^◌, ◌<◌, ◌≤◌, IfOk, IfErr, length};
+ghost use Rattle.cc_base.specs.declared.rate.Rate.{Rate};
+ghost use Rattle.dtvcc_author.specs.Kept.{AreKept};
+ghost use Rattle.placements.specs.LaneRoom.{AreInCueOrder};
+ghost use Rattle.placements.specs.Placing.{IsEarliest};
+ghost use Rattle.service_lanes.specs.ServiceChunks.{chunk_cue};
+ghost use Rattle.service_lanes.specs.ServicePlan.{IsLaneFault, IsPlanOf, lane_bytes};
+ghost use Rattle.service_lanes.specs.ServiceRoom.{caption_lane};
+
+use crate::chunk::Chunk;
+use crate::cursor::Cursor;
+use crate::front::Front;
+use arrayvec::ArrayVec;
+use dtvcc_author::Caption;
+use placements::PlanFault;
+use std::alloc::Global;
+use std::marker::Model;
+
+/// What a service carries: the units of its cues in file order, and its captions, by whose times its windows are hidden and
+/// shown.
+#[derive(Drop)]
+pub struct ServiceLane {
+    /// The service, 1 to 6.
+    pub service: u8,
+    /// The bytes of each frame that it may use, 8 to 31.
+    pub share: u8,
+    pub captions: Vec<Caption>,
+    pub chunks: Vec<Chunk>,
+}
+
+impl ServiceLane {
+    /// Places each unit in the first frame that its cue, the units before it, the frame's events and the delays allow. The answer
+    /// is the lane at frame 0, or the first cue that has no room, or want of memory.
+    pub fn place(self, alloc: Global) -> Result<PlacedService, PlanFault>
+        requires kept { (rate : Rate) × ((frames : ℕ) × AreKept rate frames self.captions.items) }
+        requires least { 8 ≤ self.share }
+        requires most { self.share ≤ 31 }
+        requires order { AreInCueOrder chunk_cue self.chunks.items }
+        ensures planned { IfOk result (IsPlanOf self.service self.share self.captions.items self.chunks.items) }
+        ensures fault { IfErr result (IsLaneFault self.share self.captions.items self.chunks.items) }
+    {
+        match placed_frames(alloc, &self.chunks, &self.captions, self.share) {
+            Ok(frames) => Ok(PlacedService {
+                service: self.service,
+                share: self.share,
+                captions: self.captions,
+                chunks: self.chunks,
+                frames,
+                cursor: Cursor::start(),
+            }),
+            Err(fault) => Err(fault),
+        }
+    }
+}
+
+// The frames of the units in their earliest placement, or the first cue that has no room.
+fn placed_frames(
+    alloc: Global,
+    chunks: &[Chunk],
+    captions: &[Caption],
+    share: u8,
+) -> Result<Vec<u32>, PlanFault>
+    requires kept { (rate : Rate) × ((frames : ℕ) × AreKept rate frames captions.now) }
+    requires least { 8 ≤ share }
+    requires order { AreInCueOrder chunk_cue chunks.now }
+    ensures frames { IfOk result (λ frames. IsEarliest (caption_lane share captions.now) chunks.now frames.items) }
+    ensures fault { IfErr result (IsLaneFault share captions.now chunks.now) }
+{
+    let mut frames = Vec::new(alloc);
+    let mut front = Front::start(captions, share);
+    for chunk in chunks {
+        let Some(frame) = front.place(chunk, captions, share) else {
+            return Err(PlanFault::NoRoom(chunk.cue));
+        };
+        if let Err(error) = frames.push(frame) {
+            return Err(PlanFault::Memory(error.into()));
+        }
+    }
+    Ok(frames)
+}
+
+/// A service's lane with its units in their earliest frames, read frame by frame.
+#[derive(Drop)]
+pub struct PlacedService {
+    service: u8,
+    share: u8,
+    captions: Vec<Caption>,
+    chunks: Vec<Chunk>,
+    frames: Vec<u32>,
+    cursor: Cursor,
+}
+
+impl Model for PlacedService {
+    ghost use Rattle.std.specs.Prelude.{◌≤◌};
+    ghost use Rattle.service_lanes.specs.ServiceBytes.{IsReady};
+    ghost use Rattle.service_lanes.specs.ServicePlan.{IsWithinShare, PlannedService};
+
+    ghost Value = { PlannedService };
+
+    ghost view = { λ plan. record {
+      service = plan.service;
+      share = plan.share;
+      captions = plan.captions.items;
+      chunks = plan.chunks.items;
+      frames = plan.frames.items;
+      frame = plan.cursor.frame;
+    } };
+
+    ghost invariant = { λ plan.
+        IsReady plan.captions.items plan.chunks.items plan.frames.items plan.cursor
+        × IsWithinShare plan.share plan.captions.items plan.chunks.items plan.frames.items × (plan.share ≤ 31) };
+}
+
+impl PlacedService {
+    /// The service, 1 to 6.
+    pub fn service(&self) -> u8
+        ensures { result ≡ self.now.service }
+    {
+        self.service
+    }
+
+    /// The bytes of the next frame, in order from frame 0; none where the service is sent nothing in the frame.
+    pub fn next(&mut self) -> ArrayVec<u8, 31>
+        requires { self.old.frame + 1 < 2 ^ 32 }
+        ensures bytes { result.items ≡ lane_bytes self.old self.old.frame }
+        ensures within { length result.items ≤ self.old.share }
+        ensures moves { self.new ≡ record self.old { frame = self.old.frame + 1 } }
+    {
+        self.cursor.step(&self.captions, &self.chunks, &self.frames)
+    }
+}
