@@ -3,7 +3,7 @@ ghost use Rattle.dtvcc_codes.specs.Reading.{command_syntax, completed, open_afte
 ghost use Rattle.dtvcc_codes.specs.Spellable.{IsSpellable};
 
 use crate::commands::Command;
-use crate::reading::{command_of, told_size};
+use crate::reading::{character_of, command_of, told_size};
 use cc_base::{Machine, Step};
 
 // The bytes of the longest command that says anything, or whose length its code tells.
@@ -38,6 +38,7 @@ impl OpenCommand {
     }
 
     /// Takes the next byte, and gives the command that it completes, if it completes one. No byte is refused.
+    #[inline(always)]
     pub fn take(&mut self, byte: u8) -> Option<Command>
         ensures says { (front : List ℕ) → Keeps front self.old → result ≡ completed front byte }
         ensures leads { (front : List ℕ) → Keeps front self.old → Keeps (open_after front byte) self.new }
@@ -46,6 +47,11 @@ impl OpenCommand {
         if self.to_skip > 0 {
             self.to_skip -= 1;
             return (self.to_skip == 0).then_some(Command::Skipped);
+        }
+        if self.kept == 0
+            && let Some(character) = character_of(byte)
+        {
+            return Some(Command::Put(Some(character)));
         }
         self.bytes[self.kept] = byte;
         let kept = self.kept + 1;

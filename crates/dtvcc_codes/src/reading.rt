@@ -1,4 +1,5 @@
-ghost use Rattle.std.specs.Prelude.{◌≡◌, ◌≤◌, ℕ, List, length};
+ghost use Rattle.std.specs.Prelude.{◌≡◌, ◌≤◌, ℕ, List, [], ◌∷◌, length, Some, IfSome};
+ghost use Rattle.dtvcc_codes.specs.declared.commands.Command.TheVariants.{Put};
 ghost use Rattle.dtvcc_codes.specs.CodeTables.{base_codes, extended_codes};
 ghost use Rattle.dtvcc_codes.specs.Reading.{command_of, count_at, extended_command, extended_size, said_at, told_size};
 ghost use Rattle.dtvcc_codes.specs.Spellable.{IsSpellable};
@@ -37,6 +38,19 @@ fn extended_count(code: u8) -> usize
         0x80..=0x87 => 4,
         0x88..=0x8F => 5,
         _ => 0,
+    }
+}
+
+// The character of G0 that a byte puts by itself, where it begins a command.
+#[tactic(auto, unfolding(crate::specs::Reading::told_size, crate::specs::Reading::command_of), using(crate::proofs::CharacterLemmas::g0_spelled))]
+pub(crate) fn character_of(byte: u8) -> Option<char>
+    ensures whole { IfSome result (λ ch. told_size (byte ∷ []) ≡ 1) }
+    ensures says { IfSome result (λ ch. command_of (byte ∷ []) ≡ Put (Some ch)) }
+    ensures fits { IfSome result (λ ch. IsSpellable (Put (Some ch))) }
+{
+    match byte {
+        0x20..=0x7F => Some(g0_char(byte)),
+        _ => None,
     }
 }
 

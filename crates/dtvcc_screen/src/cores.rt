@@ -90,6 +90,7 @@ impl Core {
     }
 
     /// Resets the service, as a Reset command does (CTA-708-E, Reset).
+    #[cold]
     pub fn reset(&mut self)
         ensures clean { Stands clean self.new }
         ensures noted { Notes self.old self.new }
@@ -139,6 +140,7 @@ impl Core {
     }
 
     // A delay ends.
+    #[cold]
     fn end_delay(&mut self, clock: Clock)
         requires { clock.ticks < 2 ^ 32 }
         ensures noted { has_changed self.new ≡ true }
@@ -151,6 +153,7 @@ impl Core {
     }
 
     // The byte that brings the held bytes to 128 ends the delay.
+    #[cold]
     fn end_full(&mut self, clock: Clock, byte: u8)
         requires ticks { clock.ticks < 2 ^ 32 }
         requires full { length self.old.held.items + 1 ≡ 128 }

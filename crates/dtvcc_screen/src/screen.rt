@@ -98,6 +98,7 @@ impl Screen {
     }
 
     // DefineWindow.
+    #[inline(never)]
     fn define(&mut self, definition: &Definition)
         requires { IsDefinition definition.now }
         ensures { screen_of self.new ≡ with_definition definition.now (screen_of self.old) }
@@ -119,6 +120,7 @@ impl Screen {
     }
 
     // Changes the windows that a byte names.
+    #[inline(never)]
     fn change(&mut self, bits: u8, change: Change)
         ensures windows { windows_of self.new.windows.items ≡ on_windows (is_named bits) (changed_by change) (windows_of self.old.windows.items) }
         ensures current { self.new.current ≡ self.old.current }
