@@ -106,7 +106,7 @@ fn words_that_are_no_command_are_usage(rt: HostRuntime) -> Result<(), Fail> {
     let usage =
         b"usage: ccsuite pairs|build|decode|show FRAME|verify CUES|insert CUES|import|export TIME|cues|load N\n";
     let none: [&str; 0] = [];
-    let lists: [&[&str]; 24] = [
+    let lists: [&[&str]; 26] = [
         &none,
         &["pairs", "x"],
         &["Pairs"],
@@ -131,6 +131,8 @@ fn words_that_are_no_command_are_usage(rt: HostRuntime) -> Result<(), Fail> {
         &["export", "00:01:00;00"],
         &["export", "24:00:00:00"],
         &["export", "00:00:00:00", "x"],
+        &["load", "0"],
+        &["load", "10001"],
     ];
     for words in lists {
         let ended = run_to_end(

@@ -16,26 +16,31 @@ fn three_silent(alloc: Global) -> Result<Vec<u8>, Fail> {
 }
 
 #[test]
+fn frames_without_captions_are_their_words(rt: HostRuntime) -> Result<(), Fail> {
+    let alloc = rt.alloc();
+    let ended = run_to_end(alloc, build_of(b"ccsuite,1,29.97,3\n"))?;
+    assert_eq!(rt; ended.status, Status::Ok);
+    assert_eq!(rt; ended.out.bytes(), three_silent(alloc)?.as_slice());
+    Ok(())
+}
+
+#[test]
 fn a_failing_put_leaves_the_frames_before_it(rt: HostRuntime) -> Result<(), Fail> {
     let alloc = rt.alloc();
-    let frames = three_silent(alloc)?;
-    let puts: [(&[u64], Status, usize, &[u8]); 4] = [
-        (&[0], Status::WriteFault, 0, b"write fault\n"),
-        (&[1], Status::WriteFault, 160, b"write fault\n"),
-        (&[2], Status::WriteFault, 320, b"write fault\n"),
-        (&[3], Status::Ok, 480, b""),
-    ];
-    for (failing_puts, status, size, line) in puts {
+    let whole = run_to_end(alloc, build_of(HI))?;
+    for put in 0..30u64 {
+        let failing = [put];
         let ended = run_to_end(
             alloc,
             Given {
-                failing_puts,
-                ..build_of(b"ccsuite,1,29.97,3\n")
+                failing_puts: &failing,
+                ..build_of(HI)
             },
         )?;
-        assert_eq!(rt; ended.status, status, "{size} bytes");
-        assert_eq!(rt; Some(ended.out.bytes()), frames.as_slice().get(..size));
-        assert_eq!(rt; ended.err.bytes(), line);
+        let due = whole.out.bytes().get(..160 * put as usize);
+        assert_eq!(rt; ended.status, Status::WriteFault, "put {put}");
+        assert_eq!(rt; Some(ended.out.bytes()), due, "put {put}");
+        assert_eq!(rt; ended.err.bytes(), b"write fault\n".as_slice());
     }
     Ok(())
 }

@@ -1,7 +1,7 @@
 //! What `decode` puts: the changed screens of each frame, and then the number of frames.
 
 use crate::tests::words::{
-    FOREIGN, SECTIONS, SILENT, bytes_of, hi_words, hi_words_ended_wrong, three_frames,
+    FOREIGN, SECTIONS, SERVICE, SILENT, bytes_of, hi_words, hi_words_ended_wrong, three_frames,
 };
 use crate::tests::{Ended, Given, decode_of, run_to_end};
 use cc_base::Why;
@@ -240,6 +240,69 @@ fn packets_and_sections_of_every_kind_are_judged(rt: HostRuntime) -> Result<(), 
         let ended = run_to_end(alloc, decode_of(file))?;
         assert_eq!(rt; ended.status, *status);
         assert_eq!(rt; ended.out.bytes(), *due);
+    }
+    Ok(())
+}
+
+/// Where the packets of `every_kind` end, in bytes, and how many frames there are up to there.
+const ENDS: [(usize, usize); 13] = [
+    (52, 1),
+    (114, 2),
+    (176, 3),
+    (246, 4),
+    (316, 5),
+    (378, 6),
+    (434, 7),
+    (528, 8),
+    (628, 9),
+    (664, 10),
+    (680, 10),
+    (840, 11),
+    (856, 11),
+];
+
+/// Frames with every kind of section, and one with a service between packets of another kind.
+fn every_kind(alloc: Global) -> Result<Vec<u8>, Fail> {
+    let mut bytes = bytes_of(alloc, &SECTIONS)?;
+    for words in [FOREIGN.as_slice(), &SERVICE, &FOREIGN] {
+        bytes.extend_from_slice(&bytes_of(alloc, words)?)?;
+    }
+    Ok(bytes)
+}
+
+/// What `decode` puts of whole packets with this many frames: HI appears in frame 7. The number of frames comes only where nothing is cut.
+fn due_of(alloc: Global, frames: usize, whole: bool) -> Result<Vec<u8>, Fail> {
+    let shown = if frames > 7 { SHOWN } else { b"" };
+    let mut due = shown.to_vec(alloc)?;
+    if whole {
+        due.extend_from_slice(format!(in alloc; "frames {frames}\n")?.as_bytes())?;
+    }
+    Ok(due)
+}
+
+#[test]
+fn each_front_of_a_file_is_whole_packets_or_truncated(rt: HostRuntime) -> Result<(), Fail> {
+    let alloc = rt.alloc();
+    let file = every_kind(alloc)?;
+    assert_eq!(rt; file.len(), 856);
+    for cut in 0..857usize {
+        let (mut frames, mut end) = (0, 0);
+        for (at, count) in ENDS {
+            if at <= cut {
+                frames = count;
+                end = at;
+            }
+        }
+        let whole = end == cut;
+        let status = if whole {
+            Status::Ok
+        } else {
+            refused_at(cut as u64, Why::Truncated)
+        };
+        let ended = run_to_end(alloc, decode_of(file.get(..cut).unwrap_or(b"")))?;
+        let due = due_of(alloc, frames, whole)?;
+        assert_eq!(rt; ended.status, status, "{cut} bytes");
+        assert_eq!(rt; ended.out.bytes(), due.as_slice(), "{cut} bytes");
     }
     Ok(())
 }
