@@ -1,5 +1,5 @@
 -- Each character that line 21 has a code for is a Unicode scalar value: its tables are checked whole.
-use Rattle.std.proofs.Common.{◌≡◌, ℕ, ◌<◌, ◌≤◌, ◌⊎◌, Bool, true, List, [], ◌∷◌, All, IsSome, Option, Some, None, refl, arith, inl, inr}
+use Rattle.std.proofs.Common.{◌≡◌, ℕ, ◌<◌, ◌≤◌, ◌==◌, ◌&&◌, ◌⊎◌, nat_lt, nat_le, eqb-true, leb-true, ltb-true, Bool, true, List, [], ◌∷◌, All, IsSome, Option, Some, None, refl, arith, inl, inr}
 use Rattle.std.specs.Str.{all_scalars}
 use Rattle.std.proofs.lemmas.Bool.{cases_lt}
 use Rattle.std.specs.List.{list_all}
@@ -13,7 +13,17 @@ use Rattle.line21_codes.specs.SpecialCharacters.{special_of}
 use Rattle.line21_codes.specs.Spellings.{Shows, spelling_of}
 use Rattle.line21_codes.proofs.CharacterLemmas.{spelling_of-shows}
 use Rattle.line21_codes.proofs.Tables.{all_below, at_each}
+use Rattle.std.proofs.Math.Utf8.{low_scalar}
+use Rattle.std.specs.Prelude.{find, option_map}
+use Rattle.dtvcc_codes.specs.Characters.{g2_characters}
+use Rattle.dtvcc_codes.specs.CharacterSpellings.{spelling_of as dtv_spelling_of}
+use Rattle.dtvcc_codes.specs.CodeTables.{ext1}
+use Rattle.cue_form.proofs.Passing.{both_of, on_test}
 use Rattle.cue_form.specs.Form.{is_coded}
+use Rattle.cue_types.specs.Lane.{is_line21}
+use Rattle.cue_types.specs.declared.cue.Kind.{Kind}
+use Rattle.cue_types.specs.declared.cue.Kind.TheVariants as kind
+use Rattle.cue_types.specs.declared.cue.WinCue.{WinCue}
 
 -- an entry of a table is a character, or none
 is_scalar_entry : Option ℕ → Bool
@@ -59,7 +69,7 @@ scalar_coded : (ch : ℕ) (o : Option Spelling) → spelling_of ch ≡ o → IsS
 scalar_coded ch (Some s) is some = scalar_shown ch s (spelling_of-shows ch s is)
 scalar_coded ch None is some = cc
 
--- a coded text is one of characters, and passes the test for codes
+-- a coded text is one of characters
 pub coded_scalars : (text : List ℕ) → All (λ ch. IsSome (spelling_of ch)) text → all_scalars text ≡ true
 coded_scalars [] each = refl
 coded_scalars (ch ∷ chs) each =
@@ -67,13 +77,65 @@ coded_scalars (ch ∷ chs) each =
     let rest = coded_scalars chs (All-tail (λ ch. IsSome (spelling_of ch)) ch chs each) in
     rw (first, rest) refl
 
-coded_test : (ch : ℕ) → IsSome (spelling_of ch) → is_coded ch ≡ true
+-- a line 21 cue's characters pass the test for codes
+line21_test : (k : Kind) (ch : ℕ) → is_line21 k ≡ true → IsSome (spelling_of ch) → is_coded k ch ≡ true
 unfolding is_coded
-coded_test ch e = e
+line21_test (kind.Pop channel) ch line21 e = e
+line21_test (kind.Paint channel) ch line21 e = e
+line21_test (kind.Roll channel rows) ch line21 e = e
+line21_test (kind.Win window) ch line21 e = cc
 
-pub coded_tests : (text : List ℕ) → All (λ ch. IsSome (spelling_of ch)) text → list_all is_coded text ≡ true
-coded_tests [] each = refl
-coded_tests (ch ∷ chs) each =
-    let first = coded_test ch (All-head (λ ch. IsSome (spelling_of ch)) ch chs each) in
-    let rest = coded_tests chs (All-tail (λ ch. IsSome (spelling_of ch)) ch chs each) in
+pub coded_tests : (k : Kind) → is_line21 k ≡ true → (text : List ℕ) → All (λ ch. IsSome (spelling_of ch)) text → list_all (is_coded k) text ≡ true
+coded_tests k line21 [] each = refl
+coded_tests k line21 (ch ∷ chs) each =
+    let first = line21_test k ch line21 (All-head (λ ch. IsSome (spelling_of ch)) ch chs each) in
+    let rest = coded_tests k line21 chs (All-tail (λ ch. IsSome (spelling_of ch)) ch chs each) in
+    rw (first, rest) refl
+
+-- and so do those of a window
+window_test : (window : WinCue) (ch : ℕ) → IsSome (dtv_spelling_of ch) → is_coded (kind.Win window) ch ≡ true
+unfolding is_coded
+window_test window ch e = e
+
+pub window_tests : (window : WinCue) (text : List ℕ) → All (λ ch. IsSome (dtv_spelling_of ch)) text → list_all (is_coded (kind.Win window)) text ≡ true
+window_tests window [] each = refl
+window_tests window (ch ∷ chs) each =
+    let first = window_test window ch (All-head (λ ch. IsSome (dtv_spelling_of ch)) ch chs each) in
+    let rest = window_tests window chs (All-tail (λ ch. IsSome (dtv_spelling_of ch)) ch chs each) in
+    rw (first, rest) refl
+
+-- each character that a service has a code for is a Unicode scalar value
+all_low : List (ℕ × ℕ) → Bool
+all_low [] = true
+all_low (entry ∷ table) = nat_lt entry.1 55296 && all_low table
+
+found_low : (table : List (ℕ × ℕ)) (ch : ℕ) → all_low table ≡ true → IsSome (option_map (λ entry. ext1 ∷ entry.0 ∷ []) (find (λ entry. entry.1 == ch) table)) → ch < 55296
+unfolding all_low
+found_low [] ch low some = cc
+found_low (entry ∷ table) ch low some =
+    let (here, rest) = both_of (nat_lt entry.1 55296) (all_low table) low in
+    on_test _ (entry.1 == ch)
+    (λ other. found_low table ch rest (rw other at some))
+    (λ same. let is = eqb-true entry.1 ch same in let below = ltb-true entry.1 55296 here in omega arith)
+
+g2_low : all_low g2_characters ≡ true
+unfolding all_low
+g2_low = refl
+
+window_scalar : (ch : ℕ) → IsSome (dtv_spelling_of ch) → scalar ch ≡ true
+unfolding dtv_spelling_of
+window_scalar ch some =
+    on_test _ (ch == 0x266A)
+    (λ not_note. on_test _ (nat_le 0x20 ch && nat_lt ch 0x7F)
+    (λ not_ascii. on_test _ (nat_le 0xA0 ch && nat_le ch 0xFF)
+    (λ not_latin. low_scalar ch (found_low g2_characters ch g2_low (rw (not_note, not_ascii, not_latin) at some)))
+    (λ latin. let (from, to) = both_of (nat_le 0xA0 ch) (nat_le ch 0xFF) latin in let most = leb-true ch 0xFF to in low_scalar ch (omega arith)))
+    (λ ascii. let (from, to) = both_of (nat_le 0x20 ch) (nat_lt ch 0x7F) ascii in let most = ltb-true ch 0x7F to in low_scalar ch (omega arith)))
+    (λ note. let is = eqb-true ch 0x266A note in low_scalar ch (omega arith))
+
+pub window_scalars : (text : List ℕ) → All (λ ch. IsSome (dtv_spelling_of ch)) text → all_scalars text ≡ true
+window_scalars [] each = refl
+window_scalars (ch ∷ chs) each =
+    let first = window_scalar ch (All-head (λ ch. IsSome (dtv_spelling_of ch)) ch chs each) in
+    let rest = window_scalars chs (All-tail (λ ch. IsSome (dtv_spelling_of ch)) ch chs each) in
     rw (first, rest) refl

@@ -7,7 +7,6 @@ use Rattle.cue_form.specs.Reading.{in_record, list_of, next, read_from}
 use Rattle.cue_form.specs.FirstFault.{FaultsFirst}
 use Rattle.cue_form.specs.Records.{Record}
 use Rattle.cue_form.specs.Spelling.{Spells}
-use Rattle.cue_form.specs.Unbuilt.{IsBuilt}
 use Rattle.cue_form.specs.declared.fault.CueFault.TheVariants as fault
 use Rattle.cue_form.proofs.Judged.{list_of_fault}
 use Rattle.cue_form.proofs.Spelled.{list_of_spelled}
@@ -23,7 +22,7 @@ refused due b number rows rest row (offence.Limit which) f is left took at = rw 
 refused due b number rows rest row (offence.At place why) f is left took at = rw (at, is, left, took) refl
 
 -- what an answer says of the records: that they spell the list, or their first fault
-pub answered_list : (rs : List Record) (l : Listing) → Answers (list_of rs) (Ok l) → Spells rs l × IsBuilt l
+pub answered_list : (rs : List Record) (l : Listing) → Answers (list_of rs) (Ok l) → Spells rs l
 answered_list rs l is = list_of_spelled rs l is
 
 pub answered_fault : (rs : List Record) (f : CueFault) → Answers (list_of rs) (Err f) → FaultsFirst rs f
@@ -33,12 +32,8 @@ answered_fault rs (fault.Malformed number place why) is = list_of_fault rs (faul
 
 -- the same for the clauses of a function that answers
 pub says_spelled : (rs : List Record) (r : Result Listing CueFault) → Answers (list_of rs) r → IfOk r (λ l. Spells rs l)
-says_spelled rs (Ok l) is = (answered_list rs l is).0
+says_spelled rs (Ok l) is = answered_list rs l is
 says_spelled rs (Err f) is = tt
-
-pub says_built : (rs : List Record) (r : Result Listing CueFault) → Answers (list_of rs) r → IfOk r IsBuilt
-says_built rs (Ok l) is = (answered_list rs l is).1
-says_built rs (Err f) is = tt
 
 pub says_fault : (rs : List Record) (r : Result Listing CueFault) → Answers (list_of rs) r → IfErr r (FaultsFirst rs)
 says_fault rs (Ok l) is = tt

@@ -1,28 +1,24 @@
 -- What is due for the records of a list: no limit but those of frames and cues, and never want of memory.
-use Rattle.std.proofs.Common.{◌≡◌, ℕ, ◌+◌, ◌==◌, ◌&&◌, nat_lt, nat_le, List, [], ◌∷◌, length, codes, bytes_eq, chars, Option, Some, None, Result, Ok, Err, subst}
-use Rattle.std.specs.List.{list_all, list_any}
-use Rattle.std.specs.Prelude.{sum_by, ⊤}
-use Rattle.std.specs.Str.{is_utf8}
+use Rattle.std.proofs.Common.{◌≡◌, ℕ, ◌+◌, ◌&&◌, Bool, true, false, List, [], ◌∷◌, Option, Some, None, Result, Ok, Err, refl, subst}
+use Rattle.std.specs.Prelude.{⊤}
 use Rattle.std.specs.declared.alloc.AllocError.{AllocError}
 use Rattle.cc_base.specs.declared.limit_of.LimitOf.{LimitOf}
 use Rattle.cc_base.specs.declared.limit_of.LimitOf.TheVariants as limit
-use Rattle.cue_form.specs.Begun.{Begun, awaits_run, cues_of, nothing}
-use Rattle.cue_form.specs.Fields.{channel_field, frame_field, number_field, number_within, pen_field, rate_field}
-use Rattle.cue_form.specs.Form.{frame_or_none_field, is_coded, may_stand, record_kind_of, suits_row}
-use Rattle.cue_types.specs.Listing.{Listing}
-use Rattle.cue_form.specs.Reading.{adds, cue_of, list_ended, head_of, next, on_ok, opens, read_from, read_list, read_on, rolled_cue_of, run_of, runs_on, share_record_of, shown_of, line21_text}
+use Rattle.cue_form.specs.Begun.{Begun, awaits_run, nothing}
+use Rattle.cue_form.specs.Form.{record_kind_of}
+use Rattle.cue_form.specs.Judgements.{Judgement, attribute_judgements, colour_judgements, first_offence, head_judgements, rolled_judgements, room_at, room_judgement, run_judgements, share_judgements, shown_judgements, standing_judgement, window_judgements}
+use Rattle.cue_form.specs.Reading.{adds, attributes_of, colours_of, cue_of, head_of, judged, list_ended, next, next_of_kind, on_ok, opens, read_from, read_list, read_on, run_of, runs_on, share_record_of}
 use Rattle.cue_form.specs.Records.{Record, field, records_of}
-use Rattle.cue_form.specs.Unbuilt.{is_built_kind}
+use Rattle.cue_types.specs.Listing.{Listing}
 use Rattle.cue_types.specs.declared.cue.Cue.{Cue}
 use Rattle.cue_form.specs.declared.fault.CueFault.{CueFault}
 use Rattle.cue_form.specs.declared.fault.CueFault.TheVariants as fault
 use Rattle.cue_types.specs.declared.head.Head.{Head}
-use Rattle.cue_types.specs.declared.list.Share.{Share}
 use Rattle.cue_form.specs.declared.offence.Offence.{Offence}
 use Rattle.cue_form.specs.declared.offence.Offence.TheVariants as offence
 use Rattle.cue_form.specs.declared.record_kind.RecordKind.{RecordKind}
 use Rattle.cue_form.specs.declared.record_kind.RecordKind.TheVariants as record_kind
-use Rattle.cue_form.proofs.Passing.{on_test, on_value}
+use Rattle.cue_form.proofs.Passing.{both_of, on_test}
 
 -- the limits that records can pass
 abbrev pub IsOfRecords : LimitOf → Type 0
@@ -30,108 +26,87 @@ IsOfRecords limit.Frames = ⊤
 IsOfRecords limit.Cues = ⊤
 IsOfRecords _ = ⊥
 
--- a limit that is passed is one of those, and want of memory is never due
+-- an offence passes no other limit, and is never want of memory
+abbrev OffenceLimits : Offence → Type 0
+OffenceLimits (offence.At place why) = ⊤
+OffenceLimits (offence.Limit which) = IsOfRecords which
+OffenceLimits (offence.Memory error) = ⊥
+
 abbrev Limits : {A : Type 0} → Result A Offence → Type 0
 Limits (Ok value) = ⊤
-Limits (Err (offence.At place why)) = ⊤
-Limits (Err (offence.Limit which)) = IsOfRecords which
-Limits (Err (offence.Memory error)) = ⊥
+Limits (Err offence) = OffenceLimits offence
 
-head_limits : (r : Record) → Limits (head_of r)
-head_limits r =
-    on_test _ (length r == 4) (λ f. rw f tt) (λ t. rw t (
-    on_test _ (bytes_eq (field r 1) (codes "1")) (λ f. rw f tt) (λ t. rw t (
-    on_value _ (rate_field (field r 2)) (λ f. rw f tt) (λ rate is. rw is (
-    on_value _ (number_field (field r 3)) (λ f. rw f tt) (λ frames is. rw is (
-    on_test _ (nat_le 1 frames) (λ f. rw f tt) (λ t. rw t (
-    on_test _ (nat_le frames 1000000) (λ f. rw f tt) (λ t. rw t tt)
-    ))))))))))
+-- the same as a test
+abbrev within_limits : Offence → Bool
+within_limits (offence.At place why) = true
+within_limits (offence.Limit limit.Frames) = true
+within_limits (offence.Limit limit.Cues) = true
+within_limits (offence.Limit which) = false
+within_limits (offence.Memory error) = false
 
-share_limits : (shares : List Share) (r : Record) → Limits (share_record_of shares r)
-share_limits shares r =
-    on_test _ (length r == 3) (λ f. rw f tt) (λ t. rw t (
-    on_value _ (number_within 1 6 (field r 1)) (λ f. rw f tt) (λ service is. rw is (
-    on_test _ (list_any (λ share. share.service == service) shares) (λ f. rw f (
-    on_value _ (number_within 8 31 (field r 2)) (λ f. rw f tt) (λ bytes is. rw is (
-    on_test _ (nat_le (sum_by (λ share. share.bytes + 1) shares + (bytes + 1)) 35) (λ f. rw f tt) (λ t. rw t tt)
-    )))) (λ t. rw t tt)
-    ))))
+within_limits_is : (o : Offence) → within_limits o ≡ true → OffenceLimits o
+within_limits_is (offence.At place why) e = tt
+within_limits_is (offence.Limit limit.Frames) e = tt
+within_limits_is (offence.Limit limit.Cues) e = tt
+within_limits_is (offence.Limit limit.Bytes) e = cc
+within_limits_is (offence.Limit limit.Packet) e = cc
+within_limits_is (offence.Limit limit.Day) e = cc
+within_limits_is (offence.Memory error) e = cc
 
-shown_limits : (r : Record) → Limits (shown_of r)
-shown_limits r =
-    on_test _ (length r == 5) (λ f. rw f tt) (λ t. rw t (
-    on_value _ (channel_field (field r 1)) (λ f. rw f tt) (λ channel is. rw is (
-    on_value _ (frame_field (field r 2)) (λ f. rw f tt) (λ load is. rw is (
-    on_value _ (frame_field (field r 3)) (λ f. rw f tt) (λ show is. rw is (
-    on_value _ (frame_field (field r 4)) (λ f. rw f tt) (λ hide is. rw is tt)
-    ))))))))
+-- judgements whose offences do
+abbrev all_within : List Judgement → Bool
+all_within [] = true
+all_within (j ∷ js) = within_limits j.offence && all_within js
 
-rolled_limits : (r : Record) → Limits (rolled_cue_of r)
-rolled_limits r =
-    on_test _ (length r == 6) (λ f. rw f tt) (λ t. rw t (
-    on_value _ (channel_field (field r 1)) (λ f. rw f tt) (λ channel is. rw is (
-    on_value _ (number_within 2 4 (field r 2)) (λ f. rw f tt) (λ rows is. rw is (
-    on_value _ (frame_field (field r 3)) (λ f. rw f tt) (λ load is. rw is (
-    on_value _ (frame_field (field r 4)) (λ f. rw f tt) (λ show is. rw is (
-    on_value _ (frame_or_none_field (field r 5)) (λ f. rw f tt) (λ hide is. rw is tt)
-    ))))))))))
-
-text_limits : (col : ℕ) (text : List ℕ) → Limits (line21_text col text)
-text_limits col text =
-    on_test _ (is_utf8 text && nat_lt 0 (length text)) (λ f. rw f tt) (λ t. rw t (
-    on_test _ (list_all is_coded (chars text)) (λ f. rw f tt) (λ t. rw t (
-    on_test _ (nat_le (col + length (chars text)) 32) (λ f. rw f tt) (λ t. rw t tt)
-    ))))
+judged_limits : {A : Type 0} (js : List Judgement) (value : A) → all_within js ≡ true → Limits (judged js value)
+judged_limits [] value each = tt
+judged_limits (j ∷ js) value each =
+    let (here, rest) = both_of (within_limits j.offence) (all_within js) each in
+    on_test _ j.good (λ f. rw f (within_limits_is j.offence here)) (λ t. rw t (judged_limits js value rest))
 
 -- what goes on passes no other limit where the part before doesn't
 on_limits : {A B : Type 0} (r : Result A Offence) (rest : A → Result B Offence) → Limits r → ((value : A) → Limits (rest value)) → Limits (on_ok r rest)
 on_limits (Ok value) rest part behind = behind value
-on_limits (Err (offence.At place why)) rest part behind = tt
-on_limits (Err (offence.Limit which)) rest part behind = part
-on_limits (Err (offence.Memory error)) rest part behind = part
-
-run_limits : (cue : Cue) (r : Record) → Limits (run_of cue r)
-run_limits cue r =
-    on_test _ (length r == 5) (λ f. rw f tt) (λ t. rw t (
-    on_value _ (number_within 1 15 (field r 1)) (λ f. rw f tt) (λ row is. rw is (
-    on_test _ (suits_row cue.kind cue.runs row) (λ f. rw f tt) (λ t. rw t (
-    on_value _ (number_within 0 31 (field r 2)) (λ f. rw f tt) (λ col is. rw is (
-    on_value _ (pen_field (field r 3)) (λ f. rw f tt) (λ style is. rw is (
-    on_limits (line21_text col (field r 4)) _ (text_limits col (field r 4)) (λ text. tt)
-    ))))))))))
+on_limits (Err offence) rest part behind = part
 
 cue_limits : (kind : RecordKind) (r : Record) → Limits (cue_of kind r)
-cue_limits record_kind.Ccsuite r = tt
-cue_limits record_kind.Share r = tt
-cue_limits record_kind.Pop r = on_limits (shown_of r) _ (shown_limits r) (λ shown. tt)
-cue_limits record_kind.Paint r = on_limits (shown_of r) _ (shown_limits r) (λ shown. tt)
-cue_limits record_kind.Roll r = rolled_limits r
-cue_limits record_kind.Win r = tt
-cue_limits record_kind.Run r = tt
+cue_limits record_kind.Pop r = judged_limits (shown_judgements r) _ refl
+cue_limits record_kind.Paint r = judged_limits (shown_judgements r) _ refl
+cue_limits record_kind.Roll r = judged_limits (rolled_judgements r) _ refl
+cue_limits record_kind.Ccsuite r = judged_limits (window_judgements r) _ refl
+cue_limits record_kind.Share r = judged_limits (window_judgements r) _ refl
+cue_limits record_kind.Win r = judged_limits (window_judgements r) _ refl
+cue_limits record_kind.Attr r = judged_limits (window_judgements r) _ refl
+cue_limits record_kind.Run r = judged_limits (window_judgements r) _ refl
+cue_limits record_kind.Colour r = judged_limits (window_judgements r) _ refl
 
 opens_limits : (b : Begun) (kind : RecordKind) (r : Record) → Limits (opens b kind r)
 opens_limits b kind r =
-    on_test _ (nat_lt (length (cues_of b)) 20000) (λ f. rw f tt) (λ t. rw t (on_limits (cue_of kind r) _ (cue_limits kind r) (λ cue. tt)))
+    on_limits (judged (room_judgement b ∷ []) b) _ (judged_limits (room_judgement b ∷ []) b refl) (λ b. on_limits (cue_of kind r) _ (cue_limits kind r) (λ cue. tt))
 
 runs_limits : (b : Begun) (last : Option Cue) (r : Record) → Limits (runs_on b last r)
 runs_limits b None r = tt
-runs_limits b (Some cue) r = on_limits (run_of cue r) _ (run_limits cue r) (λ run. tt)
+runs_limits b (Some cue) r = on_limits (run_of cue.kind cue.runs r) _ (judged_limits (run_judgements cue.kind cue.runs r) _ refl) (λ run. tt)
 
 adds_limits : (b : Begun) (kind : RecordKind) (r : Record) → Limits (adds b kind r)
-adds_limits b record_kind.Ccsuite r = on_limits (head_of r) _ (head_limits r) (λ head. tt)
-adds_limits b record_kind.Share r = on_limits (share_record_of b.shares r) _ (share_limits b.shares r) (λ share. tt)
+adds_limits b record_kind.Ccsuite r = on_limits (head_of r) _ (judged_limits (head_judgements r) _ refl) (λ head. tt)
+adds_limits b record_kind.Share r =
+    on_limits (share_record_of (room_at b.head) b.shares r) _ (judged_limits (share_judgements (room_at b.head) b.shares r) _ refl) (λ share. tt)
 adds_limits b record_kind.Pop r = opens_limits b record_kind.Pop r
 adds_limits b record_kind.Paint r = opens_limits b record_kind.Paint r
 adds_limits b record_kind.Roll r = opens_limits b record_kind.Roll r
 adds_limits b record_kind.Win r = opens_limits b record_kind.Win r
+adds_limits b record_kind.Attr r = on_limits (attributes_of r) _ (judged_limits (attribute_judgements r) _ refl) (λ attributes. tt)
 adds_limits b record_kind.Run r = runs_limits b b.last r
+adds_limits b record_kind.Colour r = on_limits (colours_of r) _ (judged_limits (colour_judgements r) _ refl) (λ colours. tt)
+
+kind_limits : (b : Begun) (k : Option RecordKind) (r : Record) → Limits (next_of_kind b k r)
+kind_limits b None r = tt
+kind_limits b (Some kind) r =
+    on_limits (judged (standing_judgement b kind ∷ []) b) _ (judged_limits (standing_judgement b kind ∷ []) b refl) (λ b. adds_limits b kind r)
 
 next_limits : (b : Begun) (r : Record) → Limits (next b r)
-next_limits b r =
-    on_value _ (record_kind_of (field r 0)) (λ f. rw f tt) (λ kind is. rw is (
-    on_test _ (may_stand b kind) (λ f. rw f tt) (λ t. rw t (
-    on_test _ (is_built_kind kind) (λ f. rw f tt) (λ t. rw t (adds_limits b kind r))
-    ))))
+next_limits b r = kind_limits b (record_kind_of (field r 0)) r
 
 -- the same for a list
 abbrev ListLimits : Result Listing CueFault → Type 0

@@ -1,5 +1,5 @@
 -- The bytes of a printed list are read back as the records that spell it.
-use Rattle.std.proofs.Common.{◌≡◌, ℕ, zero, suc, ◌+◌, ◌≤◌, List, [], ◌∷◌, ◌++◌, map, length, codes, Ok, refl, ap, ◌∙◌, arith, length-append}
+use Rattle.std.proofs.Common.{◌≡◌, ℕ, zero, suc, ◌+◌, ◌≤◌, List, [], ◌∷◌, ◌++◌, map, length, codes, Option, Some, None, Ok, refl, ap, ◌∙◌, arith, length-append}
 use Rattle.std.specs.List.{flat_map}
 use Rattle.std.proofs.lemmas.List.{map-append}
 use Rattle.csv.specs.Machine.{next_record}
@@ -7,18 +7,21 @@ use Rattle.csv.specs.Reading.{default_config, records_from, strip_bom}
 use Rattle.csv.specs.Writing.{default_writer, end_text, escaped, fields_text, is_blank, read_back, row_body, row_text}
 use Rattle.csv.specs.declared.parser.State.TheVariants as st
 use Rattle.csv.proofs.RoundTrip.{read-write, rows_text}
-use Rattle.cc_base.specs.declared.rate.Rate.{Rate}
+use Rattle.dtvcc_codes.specs.declared.pens.PenColors.{PenColors}
+use Rattle.dtvcc_codes.specs.declared.windows.WinAttr.{WinAttr}
 use Rattle.cue_types.specs.Listing.{IsFormed, Listing}
 use Rattle.cue_form.specs.Printing.{bytes_of, flexible_writer, in_order, list_bytes}
 use Rattle.cue_form.specs.Reading.{list_of, read_list}
 use Rattle.cue_form.specs.Records.{Field, Record, records_of}
-use Rattle.cue_form.specs.Spelling.{cue_record, cue_records, list_records, run_record, share_record}
-use Rattle.cue_form.specs.Unbuilt.{IsBuilt}
+use Rattle.cue_form.specs.Spelling.{attribute_records, colour_records, cue_record, cue_records, list_records, run_record, run_records, share_record, window_attribute_records}
 use Rattle.cue_types.specs.declared.cue.Cue.{Cue}
 use Rattle.cue_types.specs.declared.cue.Kind.{Kind}
 use Rattle.cue_types.specs.declared.cue.Kind.TheVariants as kind
 use Rattle.cue_types.specs.declared.cue.Run.{Run}
+use Rattle.cue_types.specs.declared.head.Version.{Version}
+use Rattle.cue_types.specs.declared.head.Version.TheVariants as version
 use Rattle.cue_types.specs.declared.list.Share.{Share}
+use Rattle.cue_form.proofs.InOrder.{in_order_formed}
 use Rattle.cue_form.proofs.Complete.{list_of-spelled}
 
 -- whether records may differ in length doesn't change their bytes
@@ -73,9 +76,16 @@ shares_kept : (shares : List Share) → map read_back (map share_record shares) 
 shares_kept [] = refl
 shares_kept (share ∷ shares) = ap (λ rs. share_record share ∷ rs) (shares_kept shares)
 
-runs_kept : (runs : List Run) → map read_back (map run_record runs) ≡ map run_record runs
+run_kept : (run : Run) (colours : Option PenColors) → map read_back (run_record run ∷ colour_records colours) ≡ run_record run ∷ colour_records colours
+run_kept run None = refl
+run_kept run (Some colours) = refl
+
+runs_kept : (runs : List Run) → map read_back (flat_map run_records runs) ≡ flat_map run_records runs
 runs_kept [] = refl
-runs_kept (run ∷ runs) = ap (λ rs. run_record run ∷ rs) (runs_kept runs)
+runs_kept (run ∷ runs) =
+    map-append read_back (run_records run) (flat_map run_records runs)
+    ∙ ap (λ (rs : List Record). rs ++ map read_back (flat_map run_records runs)) (run_kept run run.colors)
+    ∙ ap (λ (rs : List Record). run_records run ++ rs) (runs_kept runs)
 
 cue_kept : (k : Kind) (cue : Cue) → read_back (cue_record k cue) ≡ cue_record k cue
 cue_kept (kind.Pop channel) cue = refl
@@ -83,29 +93,45 @@ cue_kept (kind.Paint channel) cue = refl
 cue_kept (kind.Roll channel rows) cue = refl
 cue_kept (kind.Win window) cue = refl
 
+own_kept : (attr : Option WinAttr) → map read_back (window_attribute_records attr) ≡ window_attribute_records attr
+own_kept None = refl
+own_kept (Some attributes) = refl
+
+attributes_kept : (k : Kind) → map read_back (attribute_records k) ≡ attribute_records k
+attributes_kept (kind.Pop channel) = refl
+attributes_kept (kind.Paint channel) = refl
+attributes_kept (kind.Roll channel rows) = refl
+attributes_kept (kind.Win window) = own_kept window.attr
+
+whole_cue_kept : (cue : Cue) → map read_back (cue_records cue) ≡ cue_records cue
+whole_cue_kept cue =
+    let rest : map read_back (attribute_records cue.kind ++ flat_map run_records cue.runs) ≡ attribute_records cue.kind ++ flat_map run_records cue.runs =
+    map-append read_back (attribute_records cue.kind) (flat_map run_records cue.runs)
+    ∙ ap (λ (rs : List Record). rs ++ map read_back (flat_map run_records cue.runs)) (attributes_kept cue.kind)
+    ∙ ap (λ (rs : List Record). attribute_records cue.kind ++ rs) (runs_kept cue.runs) in
+    ap (λ (r : Record). r ∷ map read_back (attribute_records cue.kind ++ flat_map run_records cue.runs)) (cue_kept cue.kind cue)
+    ∙ ap (λ (rs : List Record). cue_record cue.kind cue ∷ rs) rest
+
 cues_kept : (cues : List Cue) → map read_back (flat_map cue_records cues) ≡ flat_map cue_records cues
 cues_kept [] = refl
-cues_kept (cue ∷ cues) = rw (map-append read_back (cue_records cue) (flat_map cue_records cues), cue_kept cue.kind cue, runs_kept cue.runs, cues_kept cues) refl
+cues_kept (cue ∷ cues) =
+    map-append read_back (cue_records cue) (flat_map cue_records cues)
+    ∙ ap (λ (rs : List Record). rs ++ map read_back (flat_map cue_records cues)) (whole_cue_kept cue)
+    ∙ ap (λ (rs : List Record). cue_records cue ++ rs) (cues_kept cues)
 
-list_kept : (l : Listing) → map read_back (list_records l) ≡ list_records l
-list_kept l = rw (map-append read_back (map share_record l.shares) (flat_map cue_records l.cues), shares_kept l.shares, cues_kept l.cues) refl
+list_kept : (v : Version) (l : Listing) → map read_back (list_records v l) ≡ list_records v l
+list_kept v l = rw (map-append read_back (map share_record l.shares) (flat_map cue_records l.cues), shares_kept l.shares, cues_kept l.cues) refl
 
 -- the bytes of a list are read back as its records
-pub records_of-bytes : (l : Listing) → records_of (bytes_of (list_records l)) ≡ list_records l
-records_of-bytes l =
-    let rows = list_records l in
+pub records_of-bytes : (v : Version) (l : Listing) → records_of (bytes_of (list_records v l)) ≡ list_records v l
+records_of-bytes v l =
+    let rows = list_records v l in
     let plain : strip_bom (bytes_of rows) ≡ rows_text rows = no_mark _ _ ∙ rows_same rows in
     let long = rows_long rows in
-    rw plain (all_read rows (length (rows_text rows) + 1) (omega arith) ∙ list_kept l)
+    rw plain (all_read rows (length (rows_text rows) + 1) (omega arith) ∙ list_kept v l)
 
--- a list without shares has them in order
-same_order : (rate : Rate) (frames : ℕ) (shares : List Share) (cues : List Cue) → shares ≡ []
-    → in_order (record { rate = rate; frames = frames; shares = shares; cues = cues }) ≡ record { rate = rate; frames = frames; shares = shares; cues = cues }
-same_order rate frames shares cues none = rw none refl
-
--- a printed list is read as that list
-pub read_list-list_bytes : (l : Listing) → IsFormed l → IsBuilt l → read_list (list_bytes l) ≡ Ok l
-read_list-list_bytes l formed built =
-    let same : in_order l ≡ l = same_order l.rate l.frames l.shares l.cues built.shares in
-    let back : records_of (list_bytes l) ≡ list_records l = records_of-bytes (in_order l) ∙ ap list_records same in
-    ap list_of back ∙ list_of-spelled (list_records l) l (refl, formed) built
+-- a list with its shares in order is in form
+pub read_list-list_bytes : (l : Listing) → IsFormed l → read_list (list_bytes l) ≡ Ok (in_order l)
+read_list-list_bytes l formed =
+    ap list_of (records_of-bytes version.Two (in_order l))
+    ∙ list_of-spelled (list_records version.Two (in_order l)) (in_order l) (record { version = version.Two; are = refl; formed = in_order_formed l formed; allowed = tt })

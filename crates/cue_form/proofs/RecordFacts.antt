@@ -1,121 +1,235 @@
 -- Records that were read: what they have, and that they are the records that spell it.
-use Rattle.std.proofs.Common.{◌≡◌, ◌<◌, ◌≤◌, ◌==◌, ◌^◌, true, nat_le, [], ◌∷◌, length, ℕ, codes, bytes_eq, encode_utf8_all, Option, Some, None, Ok, refl, ◌∙◌, arith, eqb-true, leb-true}
+use Rattle.std.proofs.Common.{◌≡◌, ◌+◌, ◌-◌, ◌<◌, ◌≤◌, ◌==◌, ◌^◌, ◌&&◌, Bool, true, false, not, nat_lt, nat_le, List, [], ◌∷◌, ◌++◌, drop, length, chars, ℕ, zero, suc, codes, bytes_eq, encode_utf8_all, All, IsSome, Option, Some, None, Ok, refl, sym, ap, subst, ◌∙◌, arith, eqb-true, leb-true}
+use Rattle.std.specs.Prelude.{decimal, is_some, option_map, unwrap_or}
+use Rattle.line21_codes.specs.Spellings.{spelling_of}
+use Rattle.dtvcc_codes.specs.CharacterSpellings.{spelling_of as dtv_spelling_of}
+use Rattle.std.specs.List.{list_all, list_any}
+use Rattle.std.specs.Str.{is_utf8}
+use Rattle.std.proofs.lemmas.Fmt.{decimal_digit}
 use Rattle.std.proofs.lemmas.List.Elements.{All-nil}
-use Rattle.cue_form.specs.Begun.{IsCueBegun}
-use Rattle.cue_types.specs.Listing.{IsListRate}
-use Rattle.cue_types.specs.Cues.{IsFrameOrNone}
-use Rattle.cue_types.specs.Line21Cues.{IsAuthoredChannel, IsLine21Run, IsRolled}
-use Rattle.cue_form.specs.Fields.{channel_field, frame_field, number_field, number_within, pen_field, rate_field}
-use Rattle.cue_form.specs.Form.{frame_or_none_field, suits_row}
-use Rattle.cue_form.specs.Reading.{cue_of, head_of, rolled_cue_of, run_of, shown_cue, shown_of, line21_text}
+use Rattle.dtvcc_codes.specs.Spellable.{IsFill, IsPenColors, IsRgb}
+use Rattle.dtvcc_codes.specs.declared.pens.Fill.{Fill}
+use Rattle.dtvcc_codes.specs.declared.pens.PenColors.{PenColors}
+use Rattle.dtvcc_codes.specs.declared.pens.Rgb.{Rgb}
+use Rattle.dtvcc_codes.specs.declared.windows.WinAttr.{WinAttr}
+use Rattle.line21_codes.specs.declared.channels.Chan.{Chan}
+use Rattle.line21_codes.specs.declared.channels.Chan.TheVariants as chan
+use Rattle.cue_form.specs.Begun.{IsCueBegun, IsPlain}
+use Rattle.cue_types.specs.Listing.{IsListRate, most_frames}
+use Rattle.cue_types.specs.Cues.{IsFrameOrNone, IsOfKind}
+use Rattle.cue_types.specs.Line21Cues.{IsAuthoredChannel, IsLine21Pen, IsLine21Run, IsRolled}
+use Rattle.cue_types.specs.Shares.{IsShare, shares_taken}
+use Rattle.cue_types.specs.Windows.{AreWindowAttributes, IsWindow, IsWindowPen, IsWindowRun}
+use Rattle.cue_form.specs.Fields.{channel_field, fill_field, frame_field, is_two_bits, named, number_field, number_within, pen_field, plain_words, rate_field, rgb_field}
+use Rattle.cue_form.specs.Form.{columns_of, first_row, frame_or_none_field, is_coded, last_row, run_pen_field, suits_row, version_words}
+use Rattle.cue_form.specs.Judgements.{attribute_judgements, colour_judgements, head_judgements, passes, rolled_judgements, run_judgements, share_judgements, shown_judgements, window_judgements}
+use Rattle.cue_form.specs.Reading.{attributes_of, channel, colours_of, cue_of, fill, frame, head_of, number, rgb, rolled_cue_of, run_of, share_record_of, shown_cue_of, window_cue_of}
 use Rattle.cue_form.specs.Records.{Field, Record, field}
-use Rattle.cue_types.specs.Lane.{is_line21}
-use Rattle.cue_form.specs.Spelling.{channel_word, cue_record, hide_word, pen_word, rate_word}
+use Rattle.cue_form.specs.Spelling.{attribute_record, channel_word, colour_record, cue_record, fill_word, head_record, hide_word, pen_word, rate_word, rgb_word, run_record, share_record, version_word, wrap_number}
 use Rattle.cue_types.specs.declared.cue.Cue.{Cue}
+use Rattle.cue_types.specs.declared.cue.Kind.{Kind}
 use Rattle.cue_types.specs.declared.cue.Kind.TheVariants as kind
+use Rattle.cue_types.specs.declared.cue.Pen.{Pen}
 use Rattle.cue_types.specs.declared.cue.Pen.TheVariants as pen
 use Rattle.cue_types.specs.declared.cue.Run.{Run}
+use Rattle.cue_types.specs.declared.cue.WinCue.{WinCue}
 use Rattle.cue_types.specs.declared.head.Head.{Head}
+use Rattle.cue_types.specs.declared.list.Share.{Share}
 use Rattle.cue_form.specs.declared.record_kind.RecordKind.{RecordKind}
 use Rattle.cue_form.specs.declared.record_kind.RecordKind.TheVariants as record_kind
-use Rattle.cue_form.specs.declared.records.Shown.{Shown}
+use Rattle.cue_form.proofs.Goodness.{good_of}
 use Rattle.cue_form.proofs.NumberFacts.{frame_passed, number_passed, within_passed}
-use Rattle.cue_form.proofs.Passing.{on_test, passed, with_part, with_value}
-use Rattle.cue_form.proofs.TextFacts.{text_passed}
-use Rattle.cue_form.proofs.WordFacts.{channel_passed, is_word, kind_word, pen_passed, rate_passed}
-use Rattle.std.specs.Prelude.{decimal}
+use Rattle.cue_form.proofs.Passing.{both_of, not_of, on_test, with_value}
+use Rattle.cue_form.proofs.TextFacts.{TextPassed, text_passed}
+use Rattle.cue_form.proofs.WordFacts.{channel_passed, kind_word, pen_passed, rate_passed, version_passed, window_pen_passed}
+
+-- the fields from a place on, so many
+abbrev pub listed : ℕ → ℕ → Record → Record
+listed zero from r = []
+listed (suc n) from r = field r from ∷ listed n (suc from) r
+
+drop_field : (r : Record) (from : ℕ) → from < length r → drop from r ≡ field r from ∷ drop (suc from) r
+drop_field [] from within = absurd (omega arith)
+drop_field (f ∷ fs) zero within = refl
+drop_field (f ∷ fs) (suc from) within = drop_field fs from (omega arith)
+
+drop_none : (r : Record) (from : ℕ) → length r ≡ from → drop from r ≡ []
+drop_none [] zero e = refl
+drop_none [] (suc from) e = absurd (omega arith)
+drop_none (f ∷ fs) zero e = absurd (omega arith)
+drop_none (f ∷ fs) (suc from) e = drop_none fs from (omega arith)
+
+fields_from : (n from : ℕ) (r : Record) → length r ≡ from + n → drop from r ≡ listed n from r
+fields_from zero from r e = drop_none r from (omega arith)
+fields_from (suc n) from r e = drop_field r from (omega arith) ∙ ap (λ fs. field r from ∷ fs) (fields_from n (suc from) r (omega arith))
 
 -- a record by its fields
-pub four_fields : (r : Record) → (length r == 4) ≡ true → r ≡ field r 0 ∷ field r 1 ∷ field r 2 ∷ field r 3 ∷ []
-four_fields (a ∷ b ∷ c ∷ d ∷ []) e = refl
-four_fields [] e = cc
-four_fields (a ∷ []) e = cc
-four_fields (a ∷ b ∷ []) e = cc
-four_fields (a ∷ b ∷ c ∷ []) e = cc
-four_fields (a ∷ b ∷ c ∷ d ∷ f ∷ fs) e = let q = eqb-true (length (a ∷ b ∷ c ∷ d ∷ f ∷ fs)) 4 e in absurd (omega arith)
+pub fields_listed : (n : ℕ) (r : Record) → (length r == n) ≡ true → r ≡ listed n 0 r
+fields_listed n r e = let all : length r ≡ n = eqb-true (length r) n e in fields_from n 0 r (omega arith)
 
-pub five_fields : (r : Record) → (length r == 5) ≡ true → r ≡ field r 0 ∷ field r 1 ∷ field r 2 ∷ field r 3 ∷ field r 4 ∷ []
-five_fields (a ∷ b ∷ c ∷ d ∷ f ∷ []) e = refl
-five_fields [] e = cc
-five_fields (a ∷ []) e = cc
-five_fields (a ∷ b ∷ []) e = cc
-five_fields (a ∷ b ∷ c ∷ []) e = cc
-five_fields (a ∷ b ∷ c ∷ d ∷ []) e = cc
-five_fields (a ∷ b ∷ c ∷ d ∷ f ∷ g ∷ fs) e = let q = eqb-true (length (a ∷ b ∷ c ∷ d ∷ f ∷ g ∷ fs)) 5 e in absurd (omega arith)
+-- records are equal by their fields
+pub field_is : {a b : Field} {xs ys : Record} → a ≡ b → xs ≡ ys → a ∷ xs ≡ b ∷ ys
+field_is {a} {b} {xs} {ys} e f = ap (λ (x : Field). x ∷ xs) e ∙ ap (λ (rest : Record). b ∷ rest) f
 
-pub six_fields : (r : Record) → (length r == 6) ≡ true → r ≡ field r 0 ∷ field r 1 ∷ field r 2 ∷ field r 3 ∷ field r 4 ∷ field r 5 ∷ []
-six_fields (a ∷ b ∷ c ∷ d ∷ f ∷ g ∷ []) e = refl
-six_fields [] e = cc
-six_fields (a ∷ []) e = cc
-six_fields (a ∷ b ∷ []) e = cc
-six_fields (a ∷ b ∷ c ∷ []) e = cc
-six_fields (a ∷ b ∷ c ∷ d ∷ []) e = cc
-six_fields (a ∷ b ∷ c ∷ d ∷ f ∷ []) e = cc
-six_fields (a ∷ b ∷ c ∷ d ∷ f ∷ g ∷ h ∷ fs) e = let q = eqb-true (length (a ∷ b ∷ c ∷ d ∷ f ∷ g ∷ h ∷ fs)) 6 e in absurd (omega arith)
+-- a number in its range
+pub number_good : (low high : ℕ) (text : Field) → is_some (number_within low high text) ≡ true
+    → (text ≡ decimal (unwrap_or (number_within low high text) 0)) × (low ≤ unwrap_or (number_within low high text) 0) × (unwrap_or (number_within low high text) 0 ≤ high)
+number_good low high text good =
+    with_value _ (number_within low high text) (λ none. let q = rw none at good in cc) (λ n is. rw is (within_passed low high text n is))
+
+-- the number of a frame
+pub frame_good : (text : Field) → is_some (frame_field text) ≡ true → (text ≡ decimal (unwrap_or (frame_field text) 0)) × (unwrap_or (frame_field text) 0 < 2 ^ 32)
+frame_good text good = with_value _ (frame_field text) (λ none. let q = rw none at good in cc) (λ n is. rw is (frame_passed text n is))
+
+-- a channel
+pub channel_good : (text : Field) → is_some (channel_field text) ≡ true
+    → IsAuthoredChannel (unwrap_or (channel_field text) chan.Cc1) × (text ≡ channel_word (unwrap_or (channel_field text) chan.Cc1))
+channel_good text good = with_value _ (channel_field text) (λ none. let q = rw none at good in cc) (λ c is. rw is (channel_passed text c is))
+
+-- a digit from 0 to 3
+digit_good : (c : ℕ) → is_two_bits c ≡ true → (c ∷ [] ≡ decimal (c - 48)) × (c - 48 < 4)
+digit_good c good =
+    let (low, high) = both_of (nat_le 48 c) (nat_le c 51) good in
+    let above = leb-true 48 c low in
+    let below = leb-true c 51 high in
+    let small : c - 48 < 4 = omega arith in
+    let back : 48 + (c - 48) ≡ c = omega arith in
+    (sym (decimal_digit (c - 48) (omega arith) ∙ ap (λ x. x ∷ []) back), small)
+
+-- a colour of its digits
+pub rgb_passed : (text : Field) (value : Rgb) → rgb_field text ≡ Some value → (text ≡ rgb_word value) × IsRgb value
+rgb_passed [] value e = cc
+rgb_passed (r ∷ []) value e = cc
+rgb_passed (r ∷ (g ∷ [])) value e = cc
+rgb_passed (r ∷ (g ∷ (b ∷ (x ∷ more)))) value e = cc
+rgb_passed (r ∷ (g ∷ (b ∷ []))) value e =
+    on_test _ (is_two_bits r && is_two_bits g && is_two_bits b) (λ f. let q = rw f at e in cc) (λ t.
+    let e1 = rw t at e in
+    let same : record { r = r - 48; g = g - 48; b = b - 48 } ≡ value = cc in
+    let (rg, b_good) = both_of (is_two_bits r && is_two_bits g) (is_two_bits b) t in
+    let (r_good, g_good) = both_of (is_two_bits r) (is_two_bits g) rg in
+    let (r_is, r_small) = digit_good r r_good in
+    let (g_is, g_small) = digit_good g g_good in
+    let (b_is, b_small) = digit_good b b_good in
+    rw (← same) (rw (← r_is, ← g_is, ← b_is) refl, record { r = r_small; g = g_small; b = b_small }))
+
+pub fill_passed : (text : Field) (value : Fill) → fill_field text ≡ Some value → (text ≡ fill_word value) × IsFill value
+fill_passed [] value e = cc
+fill_passed (o ∷ []) value e = cc
+fill_passed (o ∷ (r ∷ [])) value e = cc
+fill_passed (o ∷ (r ∷ (g ∷ []))) value e = cc
+fill_passed (o ∷ (r ∷ (g ∷ (b ∷ (x ∷ more))))) value e = cc
+fill_passed (o ∷ (r ∷ (g ∷ (b ∷ [])))) value e =
+    on_test _ (is_two_bits o && is_two_bits r && is_two_bits g && is_two_bits b) (λ f. let q = rw f at e in cc) (λ t.
+    let e1 = rw t at e in
+    let same : record { opacity = o - 48; r = r - 48; g = g - 48; b = b - 48 } ≡ value = cc in
+    let (org, b_good) = both_of (is_two_bits o && is_two_bits r && is_two_bits g) (is_two_bits b) t in
+    let (pair, g_good) = both_of (is_two_bits o && is_two_bits r) (is_two_bits g) org in
+    let (o_good, r_good) = both_of (is_two_bits o) (is_two_bits r) pair in
+    let (o_is, o_small) = digit_good o o_good in
+    let (r_is, r_small) = digit_good r r_good in
+    let (g_is, g_small) = digit_good g g_good in
+    let (b_is, b_small) = digit_good b b_good in
+    rw (← same) (rw (← o_is, ← r_is, ← g_is, ← b_is) refl, record { opacity = o_small; r = r_small; g = g_small; b = b_small }))
+
+pub rgb_good : (r : Record) (place : ℕ) → is_some (rgb_field (field r place)) ≡ true → (field r place ≡ rgb_word (rgb r place)) × IsRgb (rgb r place)
+rgb_good r place good = with_value _ (rgb_field (field r place)) (λ none. let q = rw none at good in cc) (λ value is. rw is (rgb_passed (field r place) value is))
+
+pub fill_good : (r : Record) (place : ℕ) → is_some (fill_field (field r place)) ≡ true → (field r place ≡ fill_word (fill r place)) × IsFill (fill r place)
+fill_good r place good = with_value _ (fill_field (field r place)) (λ none. let q = rw none at good in cc) (λ value is. rw is (fill_passed (field r place) value is))
 
 -- what a head has
 pub record HeadPassed (r : Record) (head : Head) : Type 0 where
   pub rate : IsListRate head.rate
   pub some : 1 ≤ head.frames
-  pub frames : head.frames ≤ 1000000
-  pub fields : (word : Field) → field r 0 ≡ word → r ≡ word ∷ codes "1" ∷ rate_word head.rate ∷ decimal head.frames ∷ []
+  pub frames : head.frames ≤ most_frames
+  pub spelled : field r 0 ≡ codes "ccsuite" → r ≡ head_record head
+
+-- the parts of a head
+frames_good : (text : Field) → passes (nat_le 1) (number_field text) ≡ true → passes (λ n. nat_le n most_frames) (number_field text) ≡ true
+    → (text ≡ decimal (unwrap_or (number_field text) 0)) × (1 ≤ unwrap_or (number_field text) 0) × (unwrap_or (number_field text) 0 ≤ most_frames)
+frames_good text low high =
+    with_value _ (number_field text) (λ none. let q = rw none at low in cc) (λ n is.
+    rw is ((number_passed text n is).0, leb-true 1 n (rw is at low), leb-true n most_frames (rw is at high)))
 
 pub head_passed : (r : Record) (head : Head) → head_of r ≡ Ok head → HeadPassed r head
 head_passed r head e =
-    let count = passed (length r == 4) (λ failed. let q = rw failed at e in cc) in
-    let e1 = rw count at e in
-    let one = passed (bytes_eq (field r 1) (codes "1")) (λ failed. let q = rw failed at e1 in cc) in
-    let e2 = rw one at e1 in
-    with_value _ (rate_field (field r 2)) (λ failed. let q = rw failed at e2 in cc) (λ rate is_rate.
-    let e3 = rw is_rate at e2 in
-    with_value _ (number_field (field r 3)) (λ failed. let q = rw failed at e3 in cc) (λ frames is_frames.
-    let e4 = rw is_frames at e3 in
-    let low = passed (nat_le 1 frames) (λ failed. let q = rw failed at e4 in cc) in
-    let e5 = rw low at e4 in
-    let high = passed (nat_le frames 1000000) (λ failed. let q = rw failed at e5 in cc) in
-    let e6 = rw high at e5 in
-    let same : record { rate = rate; frames = frames } ≡ head = cc in
+    let (good, same) = good_of (head_judgements r) _ head e in
+    with_value _ (named version_words (field r 1)) (λ none. let q = rw none at good.1.0 in cc) (λ v is_version.
+    with_value _ (rate_field (field r 2)) (λ none. let q = rw none at good.1.1.0 in cc) (λ rate is_rate.
     let rated = rate_passed (field r 2) rate is_rate in
-    let numbered = number_passed (field r 3) frames is_frames in
-    rw (← same) (record {
+    let numbered = frames_good (field r 3) good.1.1.1.0 good.1.1.1.1.0 in
+    let all : r ≡ field r 0 ∷ field r 1 ∷ field r 2 ∷ field r 3 ∷ [] = fields_listed 4 r good.0 in
+    subst (HeadPassed r) same (rw (is_version, is_rate) (record {
       rate = rated.0;
-      some = leb-true 1 frames low;
-      frames = leb-true frames 1000000 high;
-      fields = λ word is. four_fields r count ∙ rw (is, is_word (field r 1) _ one, rated.1, numbered.0) refl;
-    })))
+      some = numbered.1;
+      frames = numbered.2;
+      spelled = λ is. all ∙ field_is is (field_is (version_passed (field r 1) v is_version) (field_is rated.1 (field_is numbered.0 refl)));
+    }))))
 
--- what a cue that is shown at once has
-pub record ShownPassed (r : Record) (shown : Shown) : Type 0 where
-  pub channel : IsAuthoredChannel shown.channel
-  pub load : shown.load < 2 ^ 32
-  pub show : shown.show < 2 ^ 32
-  pub hide : shown.hide < 2 ^ 32
-  pub fields : (word : Field) → field r 0 ≡ word → r ≡ word ∷ channel_word shown.channel ∷ decimal shown.load ∷ decimal shown.show ∷ decimal shown.hide ∷ []
+-- what a share has
+pub record SharePassed (room : ℕ) (shares : List Share) (r : Record) (share : Share) : Type 0 where
+  pub formed : IsShare share
+  pub other : list_any (λ former. former.service == share.service) shares ≡ false
+  pub fits : shares_taken shares + (share.bytes + 1) ≤ room
+  pub spelled : field r 0 ≡ codes "share" → r ≡ share_record share
 
-pub shown_passed : (r : Record) (shown : Shown) → shown_of r ≡ Ok shown → ShownPassed r shown
-shown_passed r shown e =
-    let count = passed (length r == 5) (λ failed. let q = rw failed at e in cc) in
-    let e1 = rw count at e in
-    with_value _ (channel_field (field r 1)) (λ failed. let q = rw failed at e1 in cc) (λ channel is_channel.
-    let e2 = rw is_channel at e1 in
-    with_value _ (frame_field (field r 2)) (λ failed. let q = rw failed at e2 in cc) (λ load is_load.
-    let e3 = rw is_load at e2 in
-    with_value _ (frame_field (field r 3)) (λ failed. let q = rw failed at e3 in cc) (λ show is_show.
-    let e4 = rw is_show at e3 in
-    with_value _ (frame_field (field r 4)) (λ failed. let q = rw failed at e4 in cc) (λ hide is_hide.
-    let e5 = rw is_hide at e4 in
-    let same : record { channel = channel; load = load; show = show; hide = hide } ≡ shown = cc in
-    let at_channel = channel_passed (field r 1) channel is_channel in
-    let at_load = frame_passed (field r 2) load is_load in
-    let at_show = frame_passed (field r 3) show is_show in
-    let at_hide = frame_passed (field r 4) hide is_hide in
-    rw (← same) (record {
-      channel = at_channel.0;
-      load = at_load.1;
-      show = at_show.1;
-      hide = at_hide.1;
-      fields = λ word is. five_fields r count ∙ rw (is, at_channel.1, at_load.0, at_show.0, at_hide.0) refl;
-    })))))
+pub share_passed : (room : ℕ) (shares : List Share) (r : Record) (share : Share) → share_record_of room shares r ≡ Ok share → SharePassed room shares r share
+share_passed room shares r share e =
+    let (good, same) = good_of (share_judgements room shares r) _ share e in
+    with_value _ (number_within 1 6 (field r 1)) (λ none. let q = rw none at good.1.0 in cc) (λ service is_service.
+    with_value _ (number_within 8 31 (field r 2)) (λ none. let q = rw none at good.1.1.1.0 in cc) (λ bytes is_bytes.
+    let at_service = within_passed 1 6 (field r 1) service is_service in
+    let at_bytes = within_passed 8 31 (field r 2) bytes is_bytes in
+    let other : not (list_any (λ (former : Share). former.service == service) shares) ≡ true = rw is_service at good.1.1.0 in
+    let fits : nat_le (shares_taken shares + (bytes + 1)) room ≡ true = rw is_bytes at good.1.1.1.1.0 in
+    let all : r ≡ field r 0 ∷ field r 1 ∷ field r 2 ∷ [] = fields_listed 3 r good.0 in
+    subst (SharePassed room shares r) same (rw (is_service, is_bytes) (record {
+      formed = record { service = (at_service.1, at_service.2); bytes = (at_bytes.1, at_bytes.2) };
+      other = not_of (list_any (λ (former : Share). former.service == service) shares) other;
+      fits = leb-true (shares_taken shares + (bytes + 1)) room fits;
+      spelled = λ is. all ∙ field_is is (field_is at_service.0 (field_is at_bytes.0 refl));
+    }))))
+
+-- what a cue's record has: a cue, still without a run, that the record spells
+pub record CuePassed (k : RecordKind) (r : Record) (cue : Cue) : Type 0 where
+  pub begun : IsCueBegun cue
+  pub plain : IsPlain cue
+  pub runs : cue.runs ≡ []
+  pub spelled : field r 0 ≡ kind_word k → r ≡ cue_record cue.kind cue
+
+no_own : All (λ (run : Run). run.colors ≡ None) []
+no_own = All-nil (λ (run : Run). run.colors ≡ None)
+
+pop_passed : (r : Record) (cue : Cue) → shown_cue_of kind.Pop r ≡ Ok cue → CuePassed record_kind.Pop r cue
+pop_passed r cue e =
+    let (good, same) = good_of (shown_judgements r) _ cue e in
+    let at_channel = channel_good (field r 1) good.1.0 in
+    let at_load = frame_good (field r 2) good.1.1.0 in
+    let at_show = frame_good (field r 3) good.1.1.1.0 in
+    let at_hide = frame_good (field r 4) good.1.1.1.1.0 in
+    let all : r ≡ field r 0 ∷ field r 1 ∷ field r 2 ∷ field r 3 ∷ field r 4 ∷ [] = fields_listed 5 r good.0 in
+    subst (CuePassed record_kind.Pop r) same (record {
+      begun = record { load = at_load.1; show = at_show.1; hide = at_hide.1; kind = (at_channel.0, refl, All-nil IsLine21Run) };
+      plain = record { kind = tt; runs = no_own };
+      runs = refl;
+      spelled = λ is. all ∙ field_is is (field_is at_channel.1 (field_is at_load.0 (field_is at_show.0 (field_is at_hide.0 refl))));
+    })
+
+paint_passed : (r : Record) (cue : Cue) → shown_cue_of kind.Paint r ≡ Ok cue → CuePassed record_kind.Paint r cue
+paint_passed r cue e =
+    let (good, same) = good_of (shown_judgements r) _ cue e in
+    let at_channel = channel_good (field r 1) good.1.0 in
+    let at_load = frame_good (field r 2) good.1.1.0 in
+    let at_show = frame_good (field r 3) good.1.1.1.0 in
+    let at_hide = frame_good (field r 4) good.1.1.1.1.0 in
+    let all : r ≡ field r 0 ∷ field r 1 ∷ field r 2 ∷ field r 3 ∷ field r 4 ∷ [] = fields_listed 5 r good.0 in
+    subst (CuePassed record_kind.Paint r) same (record {
+      begun = record { load = at_load.1; show = at_show.1; hide = at_hide.1; kind = (at_channel.0, refl, All-nil IsLine21Run) };
+      plain = record { kind = tt; runs = no_own };
+      runs = refl;
+      spelled = λ is. all ∙ field_is is (field_is at_channel.1 (field_is at_load.0 (field_is at_show.0 (field_is at_hide.0 refl))));
+    })
 
 -- a HIDE that may be empty
 frame_or_none_passed : (text : Field) (hide : Option ℕ) → frame_or_none_field text ≡ Some hide → (text ≡ hide_word hide) × IsFrameOrNone hide
@@ -133,103 +247,312 @@ frame_or_none_passed text hide e = on_test _ (length text == 0)
     length_zero [] e = refl
     length_zero (c ∷ cs) e = absurd (omega arith)
 
--- what a cue's record has: a line 21 cue, still without a run, that the record spells
-pub record CuePassed (k : RecordKind) (r : Record) (cue : Cue) : Type 0 where
-  pub begun : IsCueBegun cue
-  pub line21 : is_line21 cue.kind ≡ true
-  pub runs : cue.runs ≡ []
-  pub spelled : field r 0 ≡ kind_word k → r ≡ cue_record cue.kind cue
-
-pop_passed : (r : Record) (shown : Shown) → ShownPassed r shown → CuePassed record_kind.Pop r (shown_cue kind.Pop shown)
-pop_passed r shown at =
-    record {
-      begun = record { load = at.load; show = at.show; hide = at.hide; kind = (at.channel, refl, All-nil IsLine21Run) };
-      line21 = refl;
-      runs = refl;
-      spelled = at.fields (codes "pop");
-    }
-
-paint_passed : (r : Record) (shown : Shown) → ShownPassed r shown → CuePassed record_kind.Paint r (shown_cue kind.Paint shown)
-paint_passed r shown at =
-    record {
-      begun = record { load = at.load; show = at.show; hide = at.hide; kind = (at.channel, refl, All-nil IsLine21Run) };
-      line21 = refl;
-      runs = refl;
-      spelled = at.fields (codes "paint");
-    }
+hide_good : (text : Field) → is_some (frame_or_none_field text) ≡ true
+    → (text ≡ hide_word (unwrap_or (frame_or_none_field text) None)) × IsFrameOrNone (unwrap_or (frame_or_none_field text) None)
+hide_good text good = with_value _ (frame_or_none_field text) (λ none. let q = rw none at good in cc) (λ hide is. rw is (frame_or_none_passed text hide is))
 
 rolled_passed : (r : Record) (cue : Cue) → rolled_cue_of r ≡ Ok cue → CuePassed record_kind.Roll r cue
 rolled_passed r cue e =
-    let count = passed (length r == 6) (λ failed. let q = rw failed at e in cc) in
-    let e1 = rw count at e in
-    with_value _ (channel_field (field r 1)) (λ failed. let q = rw failed at e1 in cc) (λ channel is_channel.
-    let e2 = rw is_channel at e1 in
-    with_value _ (number_within 2 4 (field r 2)) (λ failed. let q = rw failed at e2 in cc) (λ rows is_rows.
-    let e3 = rw is_rows at e2 in
-    with_value _ (frame_field (field r 3)) (λ failed. let q = rw failed at e3 in cc) (λ load is_load.
-    let e4 = rw is_load at e3 in
-    with_value _ (frame_field (field r 4)) (λ failed. let q = rw failed at e4 in cc) (λ show is_show.
-    let e5 = rw is_show at e4 in
-    with_value _ (frame_or_none_field (field r 5)) (λ failed. let q = rw failed at e5 in cc) (λ hide is_hide.
-    let e6 = rw is_hide at e5 in
-    let same : record { load = load; show = show; hide = hide; kind = kind.Roll channel rows; runs = [] } ≡ cue = cc in
-    let at_channel = channel_passed (field r 1) channel is_channel in
-    let at_rows = within_passed 2 4 (field r 2) rows is_rows in
-    let at_load = frame_passed (field r 3) load is_load in
-    let at_show = frame_passed (field r 4) show is_show in
-    let at_hide = frame_or_none_passed (field r 5) hide is_hide in
-    let rolled : IsRolled rows [] = record { number = (at_rows.1, at_rows.2); one_row = All-nil _; room = All-nil _ } in
-    rw (← same) (record {
+    let (good, same) = good_of (rolled_judgements r) _ cue e in
+    let at_channel = channel_good (field r 1) good.1.0 in
+    let at_rows = number_good 2 4 (field r 2) good.1.1.0 in
+    let at_load = frame_good (field r 3) good.1.1.1.0 in
+    let at_show = frame_good (field r 4) good.1.1.1.1.0 in
+    let at_hide = hide_good (field r 5) good.1.1.1.1.1.0 in
+    let rolled : IsRolled (number r 2 2 4) [] = record { number = (at_rows.1, at_rows.2); one_row = All-nil _; room = All-nil _ } in
+    let all : r ≡ field r 0 ∷ field r 1 ∷ field r 2 ∷ field r 3 ∷ field r 4 ∷ field r 5 ∷ [] = fields_listed 6 r good.0 in
+    subst (CuePassed record_kind.Roll r) same (record {
       begun = record { load = at_load.1; show = at_show.1; hide = at_hide.1; kind = (at_channel.0, rolled, All-nil IsLine21Run) };
-      line21 = refl;
+      plain = record { kind = tt; runs = no_own };
       runs = refl;
-      spelled = λ is. six_fields r count ∙ rw (is, at_channel.1, at_rows.0, at_load.0, at_show.0, at_hide.0) refl;
-    }))))))
+      spelled = λ is. all ∙ field_is is (field_is at_channel.1 (field_is at_rows.0 (field_is at_load.0 (field_is at_show.0 (field_is at_hide.0 refl)))));
+    })
 
-pub cue_passed : (k : RecordKind) (r : Record) (cue : Cue) → cue_of k r ≡ Ok cue → CuePassed k r cue
-cue_passed record_kind.Pop r cue e =
-    with_part _ (shown_of r) (λ error failed. let q = rw failed at e in cc) (λ shown is.
-    let e1 = rw is at e in
-    let same : shown_cue kind.Pop shown ≡ cue = cc in
-    rw (← same) (pop_passed r shown (shown_passed r shown is)))
-cue_passed record_kind.Paint r cue e =
-    with_part _ (shown_of r) (λ error failed. let q = rw failed at e in cc) (λ shown is.
-    let e1 = rw is at e in
-    let same : shown_cue kind.Paint shown ≡ cue = cc in
-    rw (← same) (paint_passed r shown (shown_passed r shown is)))
-cue_passed record_kind.Roll r cue e = rolled_passed r cue e
-cue_passed record_kind.Ccsuite r cue e = cc
-cue_passed record_kind.Share r cue e = cc
-cue_passed record_kind.Win r cue e = cc
-cue_passed record_kind.Run r cue e = cc
+window_passed : (r : Record) (cue : Cue) → window_cue_of r ≡ Ok cue → CuePassed record_kind.Win r cue
+window_passed r cue e =
+    let (good, same) = good_of (window_judgements r) _ cue e in
+    let g1 = good.1 in
+    let service = number_good 1 6 (field r 1) g1.0 in
+    let id = number_good 0 7 (field r 2) g1.1.0 in
+    let g3 = g1.1.1 in
+    let load = frame_good (field r 3) g3.0 in
+    let show = frame_good (field r 4) g3.1.0 in
+    let g5 = g3.1.1 in
+    let hide = frame_good (field r 5) g5.0 in
+    let delay = number_good 0 255 (field r 6) g5.1.0 in
+    let g7 = g5.1.1 in
+    let anchor = number_good 0 8 (field r 7) g7.0 in
+    let av = number_good 0 74 (field r 8) g7.1.0 in
+    let g9 = g7.1.1 in
+    let ah = number_good 0 209 (field r 9) g9.0 in
+    let rows = number_good 1 12 (field r 10) g9.1.0 in
+    let g11 = g9.1.1 in
+    let cols = number_good 1 42 (field r 11) g11.0 in
+    let priority = number_good 0 7 (field r 12) g11.1.0 in
+    let g13 = g11.1.1 in
+    let ws = number_good 1 7 (field r 13) g13.0 in
+    let ps = number_good 1 7 (field r 14) g13.1.0 in
+    let all : r ≡ field r 0 ∷ field r 1 ∷ field r 2 ∷ field r 3 ∷ field r 4 ∷ field r 5 ∷ field r 6 ∷ field r 7 ∷ field r 8 ∷ field r 9 ∷ field r 10 ∷ field r 11 ∷ field r 12 ∷ field r 13 ∷ field r 14 ∷ [] =
+    fields_listed 15 r good.0 in
+    subst (CuePassed record_kind.Win r) same (record {
+      begun = record {
+        load = load.1;
+        show = show.1;
+        hide = hide.1;
+        kind = (
+          record {
+            service = (service.1, service.2);
+            id = id.2;
+            delay = delay.2;
+            anchor = anchor.2;
+            av = av.2;
+            ah = ah.2;
+            rows = (rows.1, rows.2);
+            cols = (cols.1, cols.2);
+            priority = priority.2;
+            ws = (ws.1, ws.2);
+            ps = (ps.1, ps.2);
+            attr = tt;
+          },
+          refl,
+          All-nil _,
+        );
+      };
+      plain = record { kind = refl; runs = no_own };
+      runs = refl;
+      spelled = λ is. all ∙ field_is is (field_is service.0 (field_is id.0 (field_is load.0 (field_is show.0 (field_is hide.0 (field_is delay.0 (field_is anchor.0
+          (field_is av.0 (field_is ah.0 (field_is rows.0 (field_is cols.0 (field_is priority.0 (field_is ws.0 (field_is ps.0 refl))))))))))))));
+    })
+
+-- a record that opens a cue
+abbrev pub opens_cue : RecordKind → Bool
+opens_cue record_kind.Pop = true
+opens_cue record_kind.Paint = true
+opens_cue record_kind.Roll = true
+opens_cue record_kind.Win = true
+opens_cue _ = false
+
+pub cue_passed : (k : RecordKind) (r : Record) (cue : Cue) → opens_cue k ≡ true → cue_of k r ≡ Ok cue → CuePassed k r cue
+cue_passed record_kind.Pop r cue opens e = pop_passed r cue e
+cue_passed record_kind.Paint r cue opens e = paint_passed r cue e
+cue_passed record_kind.Roll r cue opens e = rolled_passed r cue e
+cue_passed record_kind.Win r cue opens e = window_passed r cue e
+cue_passed record_kind.Ccsuite r cue opens e = cc
+cue_passed record_kind.Share r cue opens e = cc
+cue_passed record_kind.Attr r cue opens e = cc
+cue_passed record_kind.Run r cue opens e = cc
+cue_passed record_kind.Colour r cue opens e = cc
+
+-- what attributes have
+pub record AttributesPassed (r : Record) (attributes : WinAttr) : Type 0 where
+  pub formed : AreWindowAttributes attributes
+  pub spelled : field r 0 ≡ codes "attr" → r ≡ attribute_record attributes
+
+-- the word of a wrap
+wrap_is : (n : ℕ) → n ≤ 1 → n ≡ wrap_number (n == 1)
+wrap_is zero small = refl
+wrap_is (suc zero) small = refl
+wrap_is (suc (suc n)) small = absurd (omega arith)
+
+pub attributes_passed : (r : Record) (attributes : WinAttr) → attributes_of r ≡ Ok attributes → AttributesPassed r attributes
+attributes_passed r attributes e =
+    let (good, same) = good_of (attribute_judgements r) _ attributes e in
+    let g1 = good.1 in
+    let justify = number_good 0 3 (field r 1) g1.0 in
+    let print = number_good 0 3 (field r 2) g1.1.0 in
+    let g3 = g1.1.1 in
+    let scroll = number_good 0 3 (field r 3) g3.0 in
+    let wrap = number_good 0 1 (field r 4) g3.1.0 in
+    let g5 = g3.1.1 in
+    let effect = number_good 0 2 (field r 5) g5.0 in
+    let dir = number_good 0 3 (field r 6) g5.1.0 in
+    let g7 = g5.1.1 in
+    let speed = number_good 0 15 (field r 7) g7.0 in
+    let at_fill = fill_good r 8 g7.1.0 in
+    let g9 = g7.1.1 in
+    let border_kind = number_good 0 5 (field r 9) g9.0 in
+    let border = rgb_good r 10 g9.1.0 in
+    let wraps : field r 4 ≡ decimal (wrap_number (number r 4 0 1 == 1)) = wrap.0 ∙ ap decimal (wrap_is (number r 4 0 1) wrap.2) in
+    let all : r ≡ field r 0 ∷ field r 1 ∷ field r 2 ∷ field r 3 ∷ field r 4 ∷ field r 5 ∷ field r 6 ∷ field r 7 ∷ field r 8 ∷ field r 9 ∷ field r 10 ∷ [] = fields_listed 11 r good.0 in
+    subst (AttributesPassed r) same (record {
+      formed = record {
+        spellable = record {
+          justify = up justify.2;
+          print = up print.2;
+          scroll = up scroll.2;
+          effect = up (lower effect.2);
+          effect_dir = up dir.2;
+          effect_speed = upto speed.2;
+          fill = at_fill.1;
+          border_kind = within_eight border_kind.2;
+          border = border.1;
+        };
+        effect = effect.2;
+        border_kind = border_kind.2;
+      };
+      spelled = λ is. all ∙ field_is is (field_is justify.0 (field_is print.0 (field_is scroll.0 (field_is wraps (field_is effect.0 (field_is dir.0 (field_is speed.0
+          (field_is at_fill.0 (field_is border_kind.0 (field_is border.0 refl))))))))));
+    })
+  where
+    up : {n : ℕ} → n ≤ 3 → n < 4
+    up below = omega arith
+
+    lower : {n : ℕ} → n ≤ 2 → n ≤ 3
+    lower below = omega arith
+
+    upto : {n : ℕ} → n ≤ 15 → n < 16
+    upto below = omega arith
+
+    within_eight : {n : ℕ} → n ≤ 5 → n < 8
+    within_eight below = omega arith
+
+-- what colours have
+pub record ColoursPassed (r : Record) (colours : PenColors) : Type 0 where
+  pub formed : IsPenColors colours
+  pub spelled : field r 0 ≡ codes "colour" → r ≡ colour_record colours
+
+pub colours_passed : (r : Record) (colours : PenColors) → colours_of r ≡ Ok colours → ColoursPassed r colours
+colours_passed r colours e =
+    let (good, same) = good_of (colour_judgements r) _ colours e in
+    let fg = fill_good r 1 good.1.0 in
+    let bg = fill_good r 2 good.1.1.0 in
+    let edge = rgb_good r 3 good.1.1.1.0 in
+    let all : r ≡ field r 0 ∷ field r 1 ∷ field r 2 ∷ field r 3 ∷ [] = fields_listed 4 r good.0 in
+    subst (ColoursPassed r) same (record {
+      formed = record { fg = fg.1; bg = bg.1; edge = edge.1 };
+      spelled = λ is. all ∙ field_is is (field_is fg.0 (field_is bg.0 (field_is edge.0 refl)));
+    })
+
+-- a run that suits cues of its kind
+abbrev pub IsRunOf : Kind → Run → Type 0
+IsRunOf (kind.Pop channel) run = IsLine21Run run
+IsRunOf (kind.Paint channel) run = IsLine21Run run
+IsRunOf (kind.Roll channel rows) run = IsLine21Run run
+IsRunOf (kind.Win window) run = IsWindowRun window run
 
 -- what a run has
-pub record RunPassed (cue : Cue) (r : Record) (run : Run) : Type 0 where
-  pub formed : IsLine21Run run
-  pub suits : suits_row cue.kind cue.runs run.row ≡ true
-  pub fields : (word : Field) → field r 0 ≡ word → r ≡ word ∷ decimal run.row ∷ decimal run.col ∷ pen_word run.pen ∷ encode_utf8_all run.text ∷ []
+pub record RunPassed (k : Kind) (runs : List Run) (r : Record) (run : Run) : Type 0 where
+  pub formed : IsRunOf k run
+  pub suits : suits_row k runs run.row ≡ true
+  pub plain : run.colors ≡ None
+  pub spelled : field r 0 ≡ codes "run" → r ≡ run_record run
 
-pub run_passed : (cue : Cue) (r : Record) (run : Run) → run_of cue r ≡ Ok run → RunPassed cue r run
-run_passed cue r run e =
-    let count = passed (length r == 5) (λ failed. let q = rw failed at e in cc) in
-    let e1 = rw count at e in
-    with_value _ (number_within 1 15 (field r 1)) (λ failed. let q = rw failed at e1 in cc) (λ row is_row.
-    let e2 = rw is_row at e1 in
-    let suits = passed (suits_row cue.kind cue.runs row) (λ failed. let q = rw failed at e2 in cc) in
-    let e3 = rw suits at e2 in
-    with_value _ (number_within 0 31 (field r 2)) (λ failed. let q = rw failed at e3 in cc) (λ col is_col.
-    let e4 = rw is_col at e3 in
-    with_value _ (pen_field (field r 3)) (λ failed. let q = rw failed at e4 in cc) (λ style is_pen.
-    let e5 = rw is_pen at e4 in
-    with_part _ (line21_text col (field r 4)) (λ error failed. let q = rw failed at e5 in cc) (λ text is_text.
-    let e6 = rw is_text at e5 in
-    let same : record { row = row; col = col; pen = pen.Line21 style; text = text; colors = None } ≡ run = cc in
-    let at_row = within_passed 1 15 (field r 1) row is_row in
-    let at_col = within_passed 0 31 (field r 2) col is_col in
-    let at_pen = pen_passed (field r 3) style is_pen in
-    let at_text = text_passed col (field r 4) text is_text in
-    rw (← same) (record {
-      formed = record { row = (at_row.1, at_row.2); col = at_col.2; pen = at_pen.0; some = at_text.some; fits = at_text.fits; coded = at_text.coded; colors = refl };
-      suits = suits;
-      fields = λ word is. five_fields r count ∙ rw (is, at_row.0, at_col.0, at_pen.1, at_text.spelled) refl;
-    })))))
+-- the parts of a run, by its kind
+record PartsPassed (k : Kind) (runs : List Run) (r : Record) (row col : ℕ) (p : Pen) (text : List ℕ) : Type 0 where
+  in_row : (field r 1 ≡ decimal row) × (first_row k ≤ row) × (row ≤ last_row k)
+  suits : suits_row k runs row ≡ true
+  in_col : (field r 2 ≡ decimal col) × (0 ≤ col) × (col ≤ columns_of k - 1)
+  pen : run_pen_field k (field r 3) ≡ Some p
+  written : TextPassed k col (field r 4) text
+  all : r ≡ field r 0 ∷ field r 1 ∷ field r 2 ∷ field r 3 ∷ field r 4 ∷ []
+
+-- a run without colours of its own
+abbrev plain_run : ℕ → ℕ → Pen → List ℕ → Run
+plain_run row col p text = record { row = row; col = col; pen = p; text = text; colors = None }
+
+run_parts : (P : Type 0) (k : Kind) (runs : List Run) (r : Record) (run : Run) → run_of k runs r ≡ Ok run
+    → ((row col : ℕ) (p : Pen) (text : List ℕ) → PartsPassed k runs r row col p text → plain_run row col p text ≡ run → P) → P
+run_parts P k runs r run e rest =
+    let (good, same) = good_of (run_judgements k runs r) _ run e in
+    let g2 = good.1.1 in
+    let g4 = g2.1.1 in
+    let g5 = g4.1 in
+    with_value P (number_within (first_row k) (last_row k) (field r 1)) (λ none. let q = rw none at good.1.0 in cc) (λ row is_row.
+    with_value P (number_within 0 (columns_of k - 1) (field r 2)) (λ none. let q = rw none at g2.1.0 in cc) (λ col is_col.
+    with_value P (run_pen_field k (field r 3)) (λ none. let q = rw none at g4.0 in cc) (λ p is_pen.
+    rest row col p (chars (field r 4)) (record {
+      in_row = within_passed (first_row k) (last_row k) (field r 1) row is_row;
+      suits = let suits : suits_row k runs row ≡ true = rw is_row at g2.0 in suits;
+      in_col = within_passed 0 (columns_of k - 1) (field r 2) col is_col;
+      pen = is_pen;
+      written = text_passed k col (field r 4) g5.0 g5.1.0 (let fits : nat_le (col + length (chars (field r 4))) (columns_of k) ≡ true = rw is_col at g5.1.1.0 in fits);
+      all = fields_listed 5 r good.0;
+    }) (rw (is_row, is_col, is_pen) at same))))
+
+-- a run of line 21
+line21_pen : (text : Field) (p : Pen) → option_map (λ style. pen.Line21 style) (pen_field text) ≡ Some p → IsLine21Pen p × (text ≡ pen_word p)
+line21_pen text p e =
+    with_value _ (pen_field text) (λ none. let q = rw none at e in cc) (λ style is.
+    let e1 = rw is at e in
+    let same : pen.Line21 style ≡ p = cc in
+    rw (← same) (pen_passed text style is))
+
+-- the characters that have a code
+coded_pop : (channel : Chan) (ch : ℕ) → is_coded (kind.Pop channel) ch ≡ true → IsSome (spelling_of ch)
+unfolding is_coded
+coded_pop channel ch e = e
+
+coded_paint : (channel : Chan) (ch : ℕ) → is_coded (kind.Paint channel) ch ≡ true → IsSome (spelling_of ch)
+unfolding is_coded
+coded_paint channel ch e = e
+
+coded_roll : (channel : Chan) (rows ch : ℕ) → is_coded (kind.Roll channel rows) ch ≡ true → IsSome (spelling_of ch)
+unfolding is_coded
+coded_roll channel rows ch e = e
+
+coded_window : (window : WinCue) (ch : ℕ) → is_coded (kind.Win window) ch ≡ true → IsSome (dtv_spelling_of ch)
+unfolding is_coded
+coded_window window ch e = e
+
+formed_of : (k : Kind) (hide : Option ℕ) (runs before : List Run) (r : Record) (row col : ℕ) (p : Pen) (text : List ℕ) → IsOfKind k hide before
+    → PartsPassed k runs r row col p text → IsRunOf k (plain_run row col p text)
+formed_of (kind.Pop on) hide runs before r row col p text of_kind at =
+    record {
+      row = (at.in_row.1, at.in_row.2);
+      col = at.in_col.2;
+      pen = (line21_pen (field r 3) p at.pen).0;
+      some = at.written.some;
+      fits = at.written.fits;
+      coded = λ i d within. coded_pop on _ (at.written.coded i d within);
+      colors = refl;
+    }
+formed_of (kind.Paint on) hide runs before r row col p text of_kind at =
+    record {
+      row = (at.in_row.1, at.in_row.2);
+      col = at.in_col.2;
+      pen = (line21_pen (field r 3) p at.pen).0;
+      some = at.written.some;
+      fits = at.written.fits;
+      coded = λ i d within. coded_paint on _ (at.written.coded i d within);
+      colors = refl;
+    }
+formed_of (kind.Roll on rows) hide runs before r row col p text of_kind at =
+    record {
+      row = (at.in_row.1, at.in_row.2);
+      col = at.in_col.2;
+      pen = (line21_pen (field r 3) p at.pen).0;
+      some = at.written.some;
+      fits = at.written.fits;
+      coded = λ i d within. coded_roll on rows _ (at.written.coded i d within);
+      colors = refl;
+    }
+formed_of (kind.Win window) hide runs before r row col p text of_kind at =
+    let formed : IsWindow window = of_kind.0 in
+    let row_low : row ≤ window.rows - 1 = at.in_row.2 in
+    let col_low : col ≤ window.cols - 1 = at.in_col.2 in
+    record {
+      row = omega (arith, formed.rows.0, row_low);
+      col = omega (arith, formed.cols.0, col_low);
+      pen = (window_pen_passed (field r 3) p at.pen).0;
+      some = at.written.some;
+      fits = at.written.fits;
+      coded = λ i d within. coded_window window _ (at.written.coded i d within);
+      colors = tt;
+    }
+
+-- the word of a run's pen
+pen_word_of : (k : Kind) (text : Field) (p : Pen) → run_pen_field k text ≡ Some p → text ≡ pen_word p
+pen_word_of (kind.Pop on) text p e = (line21_pen text p e).1
+pen_word_of (kind.Paint on) text p e = (line21_pen text p e).1
+pen_word_of (kind.Roll on rows) text p e = (line21_pen text p e).1
+pen_word_of (kind.Win window) text p e = (window_pen_passed text p e).1
+
+pub run_passed : (k : Kind) (hide : Option ℕ) (runs : List Run) (r : Record) (run : Run) → IsOfKind k hide runs → run_of k runs r ≡ Ok run → RunPassed k runs r run
+run_passed k hide runs r run of_kind e =
+    run_parts (RunPassed k runs r run) k runs r run e (λ row col p text at same.
+    subst (RunPassed k runs r) same (record {
+      formed = formed_of k hide runs runs r row col p text of_kind at;
+      suits = at.suits;
+      plain = refl;
+      spelled = λ is. at.all ∙ field_is is (field_is at.in_row.0 (field_is at.in_col.0 (field_is (pen_word_of k (field r 3) p at.pen) (field_is at.written.spelled refl))));
+    }))

@@ -4,19 +4,20 @@ use Rattle.std.proofs.lemmas.Bool.{cases_Bool}
 use Rattle.std.proofs.lemmas.List.{append-nil, take-append-drop}
 use Rattle.std.proofs.lemmas.Slice.Eq.{bytes_eq-Decides}
 use Rattle.cc_base.specs.declared.rate.Rate.{Rate}
-use Rattle.cc_base.specs.declared.rate.Rate.TheVariants as rate
 use Rattle.line21_codes.specs.declared.channels.Chan.{Chan}
-use Rattle.line21_codes.specs.declared.channels.Chan.TheVariants as chan
 use Rattle.line21_codes.specs.declared.styles.Colour.{Colour}
 use Rattle.line21_codes.specs.declared.styles.Colour.TheVariants as colour
 use Rattle.line21_codes.specs.declared.styles.Style.{Style}
-use Rattle.cue_form.specs.Fields.{channel_field, named, pen_field, plain_pen_field, rate_field, rate_words}
+use Rattle.cue_form.specs.Fields.{channel_field, channel_words, named, pen_field, plain_pen_field, plain_words, rate_field, rate_words}
 use Rattle.cue_types.specs.Line21Cues.{IsAuthoredChannel, IsLine21Pen}
 use Rattle.cue_types.specs.Listing.{IsListRate}
 use Rattle.cue_form.specs.Records.{Field}
-use Rattle.cue_form.specs.Spelling.{channel_word, colour_word, italic_mark, pen_word, rate_word}
-use Rattle.cue_form.specs.Form.{record_kind_of}
+use Rattle.cue_form.specs.Spelling.{channel_word, colour_word, italic_mark, pen_word, rate_word, version_word}
+use Rattle.cue_form.specs.Form.{kind_words, record_kind_of, version_words}
+use Rattle.cue_types.specs.Windows.{IsWindowPen}
+use Rattle.cue_types.specs.declared.cue.Pen.{Pen}
 use Rattle.cue_types.specs.declared.cue.Pen.TheVariants as pen
+use Rattle.cue_types.specs.declared.head.Version.{Version}
 use Rattle.cue_form.specs.declared.record_kind.RecordKind.{RecordKind}
 use Rattle.cue_form.specs.declared.record_kind.RecordKind.TheVariants as record_kind
 
@@ -47,15 +48,20 @@ rate_passed text r e =
     of_named (λ text r. IsListRate r × (text ≡ rate_word r)) rate_words
     ((tt, refl), ((tt, refl), ((tt, refl), ((tt, refl), tt)))) text r e
 
+-- a version
+pub version_passed : (text : Field) (v : Version) → named version_words text ≡ Some v → text ≡ version_word v
+version_passed text v e = of_named (λ text v. text ≡ version_word v) version_words (refl, (refl, tt)) text v e
+
 -- a channel
 pub channel_passed : (text : Field) (c : Chan) → channel_field text ≡ Some c → IsAuthoredChannel c × (text ≡ channel_word c)
-channel_passed text c e = elim (cases_Bool (bytes_eq text (codes "CC1"))) [
-  | inl is ↦ let q = rw is at e in let same : chan.Cc1 ≡ c = cc in rw (← same) (tt, is_word text _ is)
-  | inr other ↦ let e1 = rw other at e in elim (cases_Bool (bytes_eq text (codes "CC3"))) [
-    | inl is ↦ let q = rw is at e1 in let same : chan.Cc3 ≡ c = cc in rw (← same) (tt, is_word text _ is)
-    | inr other ↦ let q = rw other at e1 in cc
-  ]
-]
+channel_passed text c e =
+    of_named (λ text c. IsAuthoredChannel c × (text ≡ channel_word c)) channel_words ((tt, refl), ((tt, refl), tt)) text c e
+
+-- the pen of a window's run
+pub window_pen_passed : (text : Field) (p : Pen) → named plain_words text ≡ Some p → IsWindowPen p × (text ≡ pen_word p)
+window_pen_passed text p e =
+    of_named (λ text p. IsWindowPen p × (text ≡ pen_word p)) plain_words
+    ((tt, refl), ((tt, refl), ((tt, refl), ((tt, refl), tt)))) text p e
 
 -- the word of a plain pen
 abbrev plain_word : Colour → Bool → Field
@@ -115,29 +121,12 @@ kind_word record_kind.Pop = codes "pop"
 kind_word record_kind.Paint = codes "paint"
 kind_word record_kind.Roll = codes "roll"
 kind_word record_kind.Win = codes "win"
+kind_word record_kind.Attr = codes "attr"
 kind_word record_kind.Run = codes "run"
+kind_word record_kind.Colour = codes "colour"
 
 -- a kind of record
 pub kind_passed : (text : Field) (k : RecordKind) → record_kind_of text ≡ Some k → text ≡ kind_word k
-kind_passed text k e0 = elim (cases_Bool (bytes_eq text (codes "ccsuite"))) [
-  | inl is ↦ let q = rw is at e0 in let same : record_kind.Ccsuite ≡ k = cc in rw (← same) (is_word text _ is)
-  | inr other ↦ let e1 = rw other at e0 in elim (cases_Bool (bytes_eq text (codes "share"))) [
-    | inl is ↦ let q = rw is at e1 in let same : record_kind.Share ≡ k = cc in rw (← same) (is_word text _ is)
-    | inr other ↦ let e2 = rw other at e1 in elim (cases_Bool (bytes_eq text (codes "pop"))) [
-      | inl is ↦ let q = rw is at e2 in let same : record_kind.Pop ≡ k = cc in rw (← same) (is_word text _ is)
-      | inr other ↦ let e3 = rw other at e2 in elim (cases_Bool (bytes_eq text (codes "paint"))) [
-        | inl is ↦ let q = rw is at e3 in let same : record_kind.Paint ≡ k = cc in rw (← same) (is_word text _ is)
-        | inr other ↦ let e4 = rw other at e3 in elim (cases_Bool (bytes_eq text (codes "roll"))) [
-          | inl is ↦ let q = rw is at e4 in let same : record_kind.Roll ≡ k = cc in rw (← same) (is_word text _ is)
-          | inr other ↦ let e5 = rw other at e4 in elim (cases_Bool (bytes_eq text (codes "win"))) [
-            | inl is ↦ let q = rw is at e5 in let same : record_kind.Win ≡ k = cc in rw (← same) (is_word text _ is)
-            | inr other ↦ let e6 = rw other at e5 in elim (cases_Bool (bytes_eq text (codes "run"))) [
-              | inl is ↦ let q = rw is at e6 in let same : record_kind.Run ≡ k = cc in rw (← same) (is_word text _ is)
-              | inr other ↦ let q = rw other at e6 in cc
-            ]
-          ]
-        ]
-      ]
-    ]
-  ]
-]
+kind_passed text k e =
+    of_named (λ text k. text ≡ kind_word k) kind_words
+    (refl, (refl, (refl, (refl, (refl, (refl, (refl, (refl, (refl, tt))))))))) text k e

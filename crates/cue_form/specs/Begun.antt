@@ -1,11 +1,18 @@
 -- A cue list that is begun: what its first records spell. Further runs belong to its last cue.
-use Rattle.std.specs.Prelude.{◌≡◌, ◌<◌, ◌≤◌, ◌^◌, Bool, true, false, List, [], ◌∷◌, ◌++◌, length, All, Option, Some, None, option_to_list}
+use Rattle.std.specs.Prelude.{◌≡◌, ⊤, ◌<◌, ◌≤◌, ◌^◌, Bool, true, false, List, [], ◌∷◌, ◌++◌, length, All, Option, Some, None, option_to_list}
+use Rattle.cue_types.specs.Coloured.{coloured}
 use Rattle.cue_types.specs.Cues.{IsOfKind, IsFrameOrNone, IsCueFormed}
 use Rattle.cue_types.specs.Listing.{IsListRate, most_cues, most_frames}
 use Rattle.cue_types.specs.Shares.{AreShares}
+use Rattle.dtvcc_codes.specs.declared.pens.PenColors.{PenColors}
+use Rattle.dtvcc_codes.specs.declared.windows.WinAttr.{WinAttr}
 use Rattle.cue_types.specs.declared.cue.Cue.{Cue}
+use Rattle.cue_types.specs.declared.cue.Kind.{Kind}
+use Rattle.cue_types.specs.declared.cue.Kind.TheVariants as kind
 use Rattle.cue_types.specs.declared.cue.Run.{Run}
 use Rattle.cue_types.specs.declared.head.Head.{Head}
+use Rattle.cue_types.specs.declared.head.Version.{Version}
+use Rattle.cue_types.specs.declared.head.Version.TheVariants as version
 use Rattle.cue_types.specs.declared.list.Share.{Share}
 
 -- the head, the shares and the cues so far; further runs belong to the last cue
@@ -31,6 +38,20 @@ with_cue b cue = record b { earlier = cues_of b; last = Some cue }
 abbrev pub cue_with_run : Cue → Run → Cue
 cue_with_run cue run = record cue { runs = cue.runs ++ run ∷ [] }
 
+-- the cue with attributes of its window's own
+abbrev pub kind_with_attributes : WinAttr → Kind → Kind
+kind_with_attributes attributes (kind.Pop channel) = kind.Pop channel
+kind_with_attributes attributes (kind.Paint channel) = kind.Paint channel
+kind_with_attributes attributes (kind.Roll channel rows) = kind.Roll channel rows
+kind_with_attributes attributes (kind.Win window) = kind.Win (record window { attr = Some attributes })
+
+abbrev pub cue_with_attributes : WinAttr → Cue → Cue
+cue_with_attributes attributes cue = record cue { kind = kind_with_attributes attributes cue.kind }
+
+-- the cue with colours of its last run's own
+abbrev pub cue_with_colours : PenColors → Cue → Cue
+cue_with_colours colours cue = record cue { runs = coloured colours cue.runs }
+
 -- there are none
 abbrev pub no_runs : List Run → Bool
 no_runs [] = true
@@ -48,10 +69,33 @@ pub record IsCueBegun (cue : Cue) : Type 0 where
   pub hide : IsFrameOrNone cue.hide
   pub kind : IsOfKind cue.kind cue.hide cue.runs
 
--- a head in its ranges; a list without one has nothing else
+-- what a list of version 1 can't have: attributes of a window's own, and colours of a run's own
+abbrev pub IsPlainKind : Kind → Type 0
+IsPlainKind (kind.Pop channel) = ⊤
+IsPlainKind (kind.Paint channel) = ⊤
+IsPlainKind (kind.Roll channel rows) = ⊤
+IsPlainKind (kind.Win window) = window.attr ≡ None
+
+pub record IsPlain (cue : Cue) : Type 0 where
+  pub kind : IsPlainKind cue.kind
+  pub runs : All (λ run. run.colors ≡ None) cue.runs
+
+-- what cues of a version are
+abbrev pub AreOfVersion : Version → List Cue → Type 0
+AreOfVersion version.One cues = All IsPlain cues
+AreOfVersion version.Two cues = ⊤
+
+-- a head in its ranges, and shares within its room; a list without a head has nothing else
+pub record IsHeaded (b : Begun) (head : Head) : Type 0 where
+  pub rate : IsListRate head.rate
+  pub some : 1 ≤ head.frames
+  pub frames : head.frames ≤ most_frames
+  pub shares : AreShares head.rate b.shares
+  pub version : AreOfVersion head.version (cues_of b)
+
 abbrev pub IsHeadOrNothing : Begun → Option Head → Type 0
 IsHeadOrNothing b None = b ≡ nothing
-IsHeadOrNothing b (Some head) = IsListRate head.rate × (1 ≤ head.frames) × (head.frames ≤ most_frames) × AreShares head.rate b.shares
+IsHeadOrNothing b (Some head) = IsHeaded b head
 
 -- a last cue in its ranges; a list without one has no other
 abbrev pub IsLastOrNone : List Cue → Option Cue → Type 0

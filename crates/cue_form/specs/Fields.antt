@@ -8,6 +8,10 @@ use Rattle.line21_codes.specs.declared.channels.Chan.{Chan}
 use Rattle.line21_codes.specs.declared.channels.Chan.TheVariants as chan
 use Rattle.line21_codes.specs.declared.styles.Colour.TheVariants as colour
 use Rattle.line21_codes.specs.declared.styles.Style.{Style}
+use Rattle.dtvcc_codes.specs.declared.pens.Fill.{Fill}
+use Rattle.dtvcc_codes.specs.declared.pens.Rgb.{Rgb}
+use Rattle.cue_types.specs.declared.cue.Pen.{Pen}
+use Rattle.cue_types.specs.declared.cue.Pen.TheVariants as pen
 use Rattle.cue_form.specs.Records.{Field}
 
 -- the number that decimal digits write after those of n
@@ -44,12 +48,12 @@ rate_words = (codes "29.97", rate.F2997) ∷ (codes "30", rate.F30) ∷ (codes "
 abbrev pub rate_field : Field → Option Rate
 rate_field text = named rate_words text
 
--- a channel that cues are authored on
+-- the channels that cues are authored on, each by its word
+abbrev pub channel_words : List (Field × Chan)
+channel_words = (codes "CC1", chan.Cc1) ∷ (codes "CC3", chan.Cc3) ∷ []
+
 abbrev pub channel_field : Field → Option Chan
-channel_field text =
-    if bytes_eq text (codes "CC1") then Some chan.Cc1
-    else if bytes_eq text (codes "CC3") then Some chan.Cc3
-    else None
+channel_field text = named channel_words text
 
 -- the style of a pen's colour or italics, underlined or not
 abbrev pub plain_pen_field : Bool → Field → Option Style
@@ -70,3 +74,30 @@ pen_field text =
     if bytes_eq (drop (length text - 2) text) (codes "-u")
     then plain_pen_field true (take (length text - 2) text)
     else plain_pen_field false text
+
+-- the pens of windows, each by its word
+abbrev pub plain_words : List (Field × Pen)
+plain_words =
+    (codes "plain", pen.Dtv false false)
+    ∷ (codes "plain-i", pen.Dtv true false)
+    ∷ (codes "plain-u", pen.Dtv false true)
+    ∷ (codes "plain-i-u", pen.Dtv true true)
+    ∷ []
+
+-- a digit from 0 to 3
+abbrev pub is_two_bits : ℕ → Bool
+is_two_bits digit = nat_le 48 digit && nat_le digit 51
+
+-- three digits: red, green and blue
+abbrev pub rgb_field : Field → Option Rgb
+rgb_field (r ∷ (g ∷ (b ∷ []))) =
+    if is_two_bits r && is_two_bits g && is_two_bits b then Some (record { r = r - 48; g = g - 48; b = b - 48 }) else None
+rgb_field _ = None
+
+-- four digits: opacity, red, green and blue
+abbrev pub fill_field : Field → Option Fill
+fill_field (o ∷ (r ∷ (g ∷ (b ∷ [])))) =
+    if is_two_bits o && is_two_bits r && is_two_bits g && is_two_bits b
+    then Some (record { opacity = o - 48; r = r - 48; g = g - 48; b = b - 48 })
+    else None
+fill_field _ = None

@@ -10,8 +10,9 @@ pub mod Begun
 pub mod Fields
 pub mod FirstFault
 pub mod Form
+pub mod Judgements
 pub mod Printing
 pub mod Reading
 pub mod Records
 pub mod Spelling
-pub mod Unbuilt
+pub mod Texts

@@ -7,6 +7,7 @@ use Rattle.csv.specs.declared.writer.WriterBuilder.{WriterBuilder}
 use Rattle.cue_types.specs.Listing.{Listing, share_of}
 use Rattle.cue_form.specs.Records.{Record}
 use Rattle.cue_form.specs.Spelling.{list_records}
+use Rattle.cue_types.specs.declared.head.Version.TheVariants as version
 use Rattle.cue_types.specs.declared.list.Share.{Share}
 
 -- csv's defaults, for records of differing lengths
@@ -25,9 +26,9 @@ share_list l service = option_to_list (option_map (λ bytes. record { service = 
 abbrev pub in_order : Listing → Listing
 in_order l = record l { shares = flat_map (share_list l) (1 ∷ 2 ∷ 3 ∷ 4 ∷ 5 ∷ 6 ∷ []) }
 
--- the bytes of a cue list
+-- the bytes of a cue list, which is always written in version 2
 abbrev pub list_bytes : Listing → List ℕ
-list_bytes l = bytes_of (list_records (in_order l))
+list_bytes l = bytes_of (list_records version.Two (in_order l))
 
 -- a writer between two records
 pub record IsBetweenRecords {W : Type 0} (writer : Writer W) : Type 0 where

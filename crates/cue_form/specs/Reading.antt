@@ -1,29 +1,32 @@
--- Reading a cue list record by record: the list that they spell, or the first fault.
-use Rattle.std.specs.Prelude.{ℕ, ◌+◌, ◌==◌, Bool, not, ◌&&◌, nat_lt, nat_le, if◌then◌else◌, List, [], ◌∷◌, ◌++◌, length, sum_by, codes, bytes_eq, chars, Option, Some, None, Result, Ok, Err}
-use Rattle.std.specs.List.{list_any, list_all}
-use Rattle.std.specs.Str.{is_utf8}
-use Rattle.cc_base.specs.declared.limit_of.LimitOf.TheVariants as limit
-use Rattle.cc_base.specs.declared.why.Why.{Why}
+-- Reading a cue list record by record: the list that they spell, or the first fault. A record is refused with the first of
+-- its judgements that isn't good; else its fields have these values.
+use Rattle.std.specs.Prelude.{ℕ, ◌+◌, ◌-◌, ◌==◌, Bool, true, false, if◌then◌else◌, List, [], ◌∷◌, ◌++◌, length, chars, Option, Some, None, unwrap_or, option_map, Result, Ok, Err}
+use Rattle.cc_base.specs.declared.rate.Rate.TheVariants as rate
 use Rattle.cc_base.specs.declared.why.Why.TheVariants as why
 use Rattle.line21_codes.specs.declared.channels.Chan.{Chan}
-use Rattle.cue_form.specs.Begun.{Begun, nothing, cues_of, with_cue, cue_with_run, awaits_run}
-use Rattle.cue_form.specs.Fields.{number_field, number_within, frame_field, rate_field, channel_field, pen_field}
-use Rattle.cue_form.specs.Form.{count_place, frame_or_none_field, is_coded, may_stand, record_kind_of, suits_row}
-use Rattle.cue_types.specs.Listing.{Listing, most_cues, most_frames}
+use Rattle.line21_codes.specs.declared.channels.Chan.TheVariants as chan
+use Rattle.dtvcc_codes.specs.declared.pens.Fill.{Fill}
+use Rattle.dtvcc_codes.specs.declared.pens.PenColors.{PenColors}
+use Rattle.dtvcc_codes.specs.declared.pens.Rgb.{Rgb}
+use Rattle.dtvcc_codes.specs.declared.windows.WinAttr.{WinAttr}
+use Rattle.cue_form.specs.Begun.{Begun, nothing, cues_of, with_cue, cue_with_run, cue_with_attributes, cue_with_colours, awaits_run}
+use Rattle.cue_form.specs.Fields.{channel_field, fill_field, frame_field, named, number_field, number_within, rate_field, rgb_field}
+use Rattle.cue_form.specs.Form.{columns_of, first_row, frame_or_none_field, last_row, record_kind_of, run_pen_field, version_words}
+use Rattle.cue_form.specs.Judgements.{Judgement, attribute_judgements, colour_judgements, first_offence, head_judgements, rolled_judgements, room_at, room_judgement, run_judgements, share_judgements, shown_judgements, standing_judgement, window_judgements}
 use Rattle.cue_form.specs.Records.{Field, Record, field, records_of}
-use Rattle.cue_form.specs.Unbuilt.{is_built_kind}
+use Rattle.cue_types.specs.Listing.{Listing}
 use Rattle.cue_types.specs.declared.cue.Cue.{Cue}
 use Rattle.cue_types.specs.declared.cue.Kind.{Kind}
 use Rattle.cue_types.specs.declared.cue.Kind.TheVariants as kind
 use Rattle.cue_types.specs.declared.cue.Pen.TheVariants as pen
 use Rattle.cue_types.specs.declared.cue.Run.{Run}
+use Rattle.cue_types.specs.declared.head.Head.{Head}
+use Rattle.cue_types.specs.declared.head.Version.TheVariants as version
+use Rattle.cue_types.specs.declared.list.Share.{Share}
 use Rattle.cue_form.specs.declared.fault.CueFault.{CueFault}
 use Rattle.cue_form.specs.declared.fault.CueFault.TheVariants as fault
-use Rattle.cue_types.specs.declared.head.Head.{Head}
-use Rattle.cue_types.specs.declared.list.Share.{Share}
 use Rattle.cue_form.specs.declared.offence.Offence.{Offence}
 use Rattle.cue_form.specs.declared.offence.Offence.TheVariants as offence
-use Rattle.cue_form.specs.declared.records.Shown.{Shown}
 use Rattle.cue_form.specs.declared.record_kind.RecordKind.{RecordKind}
 use Rattle.cue_form.specs.declared.record_kind.RecordKind.TheVariants as record_kind
 
@@ -32,111 +35,152 @@ abbrev pub on_ok : {A B E : Type 0} → Result A E → (A → Result B E) → Re
 on_ok (Ok value) rest = rest value
 on_ok (Err error) rest = Err error
 
--- a test of a field, counted from 1, and what goes on where it is passed
-abbrev pub must : {A : Type 0} → Bool → ℕ → Why → Result A Offence → Result A Offence
-must good place why rest = if good then rest else Err (offence.At place why)
+-- the value of what has no offence
+abbrev pub unless : {A : Type 0} → Option Offence → A → Result A Offence
+unless None value = Ok value
+unless (Some offence) value = Err offence
 
--- a field's value, and what goes on with it
-abbrev pub reads : {A B : Type 0} → Option A → ℕ → (A → Result B Offence) → Result B Offence
-reads (Some value) place rest = rest value
-reads None place rest = Err (offence.At place why.Field)
+-- the value of a record, unless one of its judgements isn't good
+abbrev pub judged : {A : Type 0} → List Judgement → A → Result A Offence
+judged js value = unless (first_offence js) value
 
--- the number of fields
-abbrev pub counted : {A : Type 0} → Record → ℕ → Result A Offence → Result A Offence
-counted r count rest = must (length r == count) (count_place count (length r)) why.Field rest
+-- a number in its range
+abbrev pub number : Record → ℕ → ℕ → ℕ → ℕ
+number r place low high = unwrap_or (number_within low high (field r place)) 0
 
--- ccsuite,1,RATE,FRAMES
+-- the number of a frame
+abbrev pub frame : Record → ℕ → ℕ
+frame r place = unwrap_or (frame_field (field r place)) 0
+
+-- colours of their digits
+abbrev pub fill : Record → ℕ → Fill
+fill r place = unwrap_or (fill_field (field r place)) (record { opacity = 0; r = 0; g = 0; b = 0 })
+
+abbrev pub rgb : Record → ℕ → Rgb
+rgb r place = unwrap_or (rgb_field (field r place)) (record { r = 0; g = 0; b = 0 })
+
+-- ccsuite,VERSION,RATE,FRAMES
 abbrev pub head_of : Record → Result Head Offence
-head_of r =
-    counted r 4 (must (bytes_eq (field r 1) (codes "1")) 2 why.Field
-    (reads (rate_field (field r 2)) 3 (λ rate.
-    reads (number_field (field r 3)) 4 (λ frames.
-    must (nat_le 1 frames) 4 why.Field
-    (if nat_le frames most_frames then Ok (record { rate = rate; frames = frames }) else Err (offence.Limit limit.Frames))))))
+head_of r = judged (head_judgements r) (record {
+  version = unwrap_or (named version_words (field r 1)) version.One;
+  rate = unwrap_or (rate_field (field r 2)) rate.F2997;
+  frames = unwrap_or (number_field (field r 3)) 0;
+})
 
 -- share,SERVICE,BYTES
-abbrev pub share_record_of : List Share → Record → Result Share Offence
-share_record_of shares r =
-    counted r 3 (reads (number_within 1 6 (field r 1)) 2 (λ service.
-    must (not (list_any (λ share. share.service == service) shares)) 2 why.Field
-    (reads (number_within 8 31 (field r 2)) 3 (λ bytes.
-    must (nat_le (sum_by (λ share. share.bytes + 1) shares + (bytes + 1)) 35) 3 why.Field
-    (Ok (record { service = service; bytes = bytes }))))))
+abbrev pub share_record_of : ℕ → List Share → Record → Result Share Offence
+share_record_of room shares r =
+    judged (share_judgements room shares r) (record { service = number r 1 1 6; bytes = number r 2 8 31 })
 
--- pop,CH,LOAD,SHOW,HIDE and paint,CH,LOAD,SHOW,HIDE
-abbrev pub shown_of : Record → Result Shown Offence
-shown_of r =
-    counted r 5 (reads (channel_field (field r 1)) 2 (λ channel.
-    reads (frame_field (field r 2)) 3 (λ load.
-    reads (frame_field (field r 3)) 4 (λ show.
-    reads (frame_field (field r 4)) 5 (λ hide.
-    Ok (record { channel = channel; load = load; show = show; hide = hide }))))))
+-- the channel of a cue
+abbrev pub channel : Record → Chan
+channel r = unwrap_or (channel_field (field r 1)) chan.Cc1
 
--- its cue, which has no run yet
-abbrev pub shown_cue : (Chan → Kind) → Shown → Cue
-shown_cue kind shown = record { load = shown.load; show = shown.show; hide = Some shown.hide; kind = kind shown.channel; runs = [] }
+-- pop,CH,LOAD,SHOW,HIDE and paint,CH,LOAD,SHOW,HIDE, as a cue which has no run yet
+abbrev pub shown_cue_of : (Chan → Kind) → Record → Result Cue Offence
+shown_cue_of kind r = judged (shown_judgements r) (record {
+  load = frame r 2;
+  show = frame r 3;
+  hide = Some (frame r 4);
+  kind = kind (channel r);
+  runs = [];
+})
 
 -- roll,CH,N,LOAD,SHOW,HIDE
 abbrev pub rolled_cue_of : Record → Result Cue Offence
-rolled_cue_of r =
-    counted r 6 (reads (channel_field (field r 1)) 2 (λ channel.
-    reads (number_within 2 4 (field r 2)) 3 (λ rows.
-    reads (frame_field (field r 3)) 4 (λ load.
-    reads (frame_field (field r 4)) 5 (λ show.
-    reads (frame_or_none_field (field r 5)) 6 (λ hide.
-    Ok (record { load = load; show = show; hide = hide; kind = kind.Roll channel rows; runs = [] })))))))
+rolled_cue_of r = judged (rolled_judgements r) (record {
+  load = frame r 3;
+  show = frame r 4;
+  hide = unwrap_or (frame_or_none_field (field r 5)) None;
+  kind = kind.Roll (channel r) (number r 2 2 4);
+  runs = [];
+})
 
--- a text that begins at a column of line 21
-abbrev pub line21_text : ℕ → Field → Result (List ℕ) Offence
-line21_text col text =
-    must (is_utf8 text && nat_lt 0 (length text)) 5 why.Field
-    (must (list_all is_coded (chars text)) 5 why.NoCode
-    (must (nat_le (col + length (chars text)) 32) 5 why.Field
-    (Ok (chars text))))
+-- win,SERVICE,ID,LOAD,SHOW,HIDE,DELAY,ANCHOR,AV,AH,ROWS,COLS,PRIORITY,WS,PS
+abbrev pub window_cue_of : Record → Result Cue Offence
+window_cue_of r = judged (window_judgements r) (record {
+  load = frame r 3;
+  show = frame r 4;
+  hide = Some (frame r 5);
+  kind = kind.Win (record {
+    service = number r 1 1 6;
+    id = number r 2 0 7;
+    delay = number r 6 0 255;
+    anchor = number r 7 0 8;
+    av = number r 8 0 74;
+    ah = number r 9 0 209;
+    rows = number r 10 1 12;
+    cols = number r 11 1 42;
+    priority = number r 12 0 7;
+    ws = number r 13 1 7;
+    ps = number r 14 1 7;
+    attr = None;
+  });
+  runs = [];
+})
 
--- run,ROW,COL,PEN,TEXT of a line 21 cue
-abbrev pub run_of : Cue → Record → Result Run Offence
-run_of cue r =
-    counted r 5 (reads (number_within 1 15 (field r 1)) 2 (λ row.
-    must (suits_row cue.kind cue.runs row) 2 why.Field
-    (reads (number_within 0 31 (field r 2)) 3 (λ col.
-    reads (pen_field (field r 3)) 4 (λ style.
-    on_ok (line21_text col (field r 4)) (λ text.
-    Ok (record { row = row; col = col; pen = pen.Line21 style; text = text; colors = None })))))))
+-- attr,JUSTIFY,PRINT,SCROLL,WRAP,EFFECT,DIR,SPEED,FILL,KIND,BORDER
+abbrev pub attributes_of : Record → Result WinAttr Offence
+attributes_of r = judged (attribute_judgements r) (record {
+  justify = number r 1 0 3;
+  print = number r 2 0 3;
+  scroll = number r 3 0 3;
+  wrap = number r 4 0 1 == 1;
+  effect = number r 5 0 2;
+  effect_dir = number r 6 0 3;
+  effect_speed = number r 7 0 15;
+  fill = fill r 8;
+  border_kind = number r 9 0 5;
+  border = rgb r 10;
+})
+
+-- run,ROW,COL,PEN,TEXT of a cue of a kind, after these runs
+abbrev pub run_of : Kind → List Run → Record → Result Run Offence
+run_of kind runs r = judged (run_judgements kind runs r) (record {
+  row = number r 1 (first_row kind) (last_row kind);
+  col = number r 2 0 (columns_of kind - 1);
+  pen = unwrap_or (run_pen_field kind (field r 3)) (pen.Dtv false false);
+  text = chars (field r 4);
+  colors = None;
+})
+
+-- colour,FG,BG,EDGE
+abbrev pub colours_of : Record → Result PenColors Offence
+colours_of r = judged (colour_judgements r) (record { fg = fill r 1; bg = fill r 2; edge = rgb r 3 })
 
 -- the cue of a record of its kind
 abbrev pub cue_of : RecordKind → Record → Result Cue Offence
-cue_of record_kind.Pop r = on_ok (shown_of r) (λ shown. Ok (shown_cue kind.Pop shown))
-cue_of record_kind.Paint r = on_ok (shown_of r) (λ shown. Ok (shown_cue kind.Paint shown))
+cue_of record_kind.Pop r = shown_cue_of kind.Pop r
+cue_of record_kind.Paint r = shown_cue_of kind.Paint r
 cue_of record_kind.Roll r = rolled_cue_of r
-cue_of _ r = Err (offence.At 1 why.NotBuilt)
+cue_of _ r = window_cue_of r
 
 -- the list with one cue more, of which there are 20,000 at most
 abbrev pub opens : Begun → RecordKind → Record → Result Begun Offence
-opens b kind r =
-    if nat_lt (length (cues_of b)) most_cues
-    then on_ok (cue_of kind r) (λ cue. Ok (with_cue b cue))
-    else Err (offence.Limit limit.Cues)
+opens b kind r = on_ok (judged (room_judgement b ∷ []) b) (λ b. on_ok (cue_of kind r) (λ cue. Ok (with_cue b cue)))
 
 -- the list with one run more
 abbrev pub runs_on : Begun → Option Cue → Record → Result Begun Offence
 runs_on b None r = Err (offence.At 1 why.Field)
-runs_on b (Some cue) r = on_ok (run_of cue r) (λ run. Ok (record b { last = Some (cue_with_run cue run) }))
+runs_on b (Some cue) r = on_ok (run_of cue.kind cue.runs r) (λ run. Ok (record b { last = Some (cue_with_run cue run) }))
 
 -- the list with a record of a kind more
 abbrev pub adds : Begun → RecordKind → Record → Result Begun Offence
 adds b record_kind.Ccsuite r = on_ok (head_of r) (λ head. Ok (record b { head = Some head }))
-adds b record_kind.Share r = on_ok (share_record_of b.shares r) (λ share. Ok (record b { shares = b.shares ++ share ∷ [] }))
+adds b record_kind.Share r = on_ok (share_record_of (room_at b.head) b.shares r) (λ share. Ok (record b { shares = b.shares ++ share ∷ [] }))
+adds b record_kind.Attr r = on_ok (attributes_of r) (λ attributes. Ok (record b { last = option_map (cue_with_attributes attributes) b.last }))
 adds b record_kind.Run r = runs_on b b.last r
+adds b record_kind.Colour r = on_ok (colours_of r) (λ colours. Ok (record b { last = option_map (cue_with_colours colours) b.last }))
 adds b kind r = opens b kind r
+
+-- the list with a record more of a kind that is known, where it may stand
+abbrev pub next_of_kind : Begun → Option RecordKind → Record → Result Begun Offence
+next_of_kind b None r = Err (offence.At 1 why.Field)
+next_of_kind b (Some kind) r = on_ok (judged (standing_judgement b kind ∷ []) b) (λ b. adds b kind r)
 
 -- the list with a record more: its kind word is judged first, then the number of its fields, then its fields from the left
 abbrev pub next : Begun → Record → Result Begun Offence
-next b r =
-    reads (record_kind_of (field r 0)) 1 (λ kind.
-    must (may_stand b kind) 1 why.Field
-    (must (is_built_kind kind) 1 why.NotBuilt
-    (adds b kind r)))
+next b r = next_of_kind b (record_kind_of (field r 0)) r
 
 -- the fault of the record of this number
 abbrev pub in_record : ℕ → Offence → CueFault

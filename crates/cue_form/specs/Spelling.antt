@@ -1,4 +1,4 @@
--- The records that spell a cue list: its head, then its shares, then each cue with its runs. A number is spelled in
+-- The records that spell a cue list: its head, then its shares, then each cue with its attributes and its runs. A number is spelled in
 -- decimal digits, a text in UTF-8.
 use Rattle.std.specs.Prelude.{◌≡◌, ℕ, Bool, if◌then◌else◌, List, [], ◌∷◌, ◌++◌, map, flat_map, codes, decimal, encode_utf8_all, Option, Some, None}
 use Rattle.cc_base.specs.declared.rate.Rate.{Rate}
@@ -7,7 +7,11 @@ use Rattle.line21_codes.specs.declared.channels.Chan.{Chan}
 use Rattle.line21_codes.specs.declared.channels.Chan.TheVariants as chan
 use Rattle.line21_codes.specs.declared.styles.Colour.{Colour}
 use Rattle.line21_codes.specs.declared.styles.Colour.TheVariants as colour
-use Rattle.cue_form.specs.Begun.{Begun, IsBegun, cues_of}
+use Rattle.dtvcc_codes.specs.declared.pens.Fill.{Fill}
+use Rattle.dtvcc_codes.specs.declared.pens.PenColors.{PenColors}
+use Rattle.dtvcc_codes.specs.declared.pens.Rgb.{Rgb}
+use Rattle.dtvcc_codes.specs.declared.windows.WinAttr.{WinAttr}
+use Rattle.cue_form.specs.Begun.{AreOfVersion, Begun, IsBegun, cues_of}
 use Rattle.cue_types.specs.Listing.{Listing, IsFormed}
 use Rattle.cue_form.specs.Records.{Field, Record}
 use Rattle.cue_types.specs.declared.cue.Cue.{Cue}
@@ -17,6 +21,8 @@ use Rattle.cue_types.specs.declared.cue.Pen.{Pen}
 use Rattle.cue_types.specs.declared.cue.Pen.TheVariants as pen
 use Rattle.cue_types.specs.declared.cue.Run.{Run}
 use Rattle.cue_types.specs.declared.head.Head.{Head}
+use Rattle.cue_types.specs.declared.head.Version.{Version}
+use Rattle.cue_types.specs.declared.head.Version.TheVariants as version
 use Rattle.cue_types.specs.declared.list.Share.{Share}
 
 -- the word of a rate
@@ -60,9 +66,14 @@ abbrev pub hide_word : Option ℕ → Field
 hide_word None = []
 hide_word (Some hide) = decimal hide
 
--- ccsuite,1,RATE,FRAMES
+-- the word of a version
+abbrev pub version_word : Version → Field
+version_word version.One = codes "1"
+version_word version.Two = codes "2"
+
+-- ccsuite,VERSION,RATE,FRAMES
 abbrev pub head_record : Head → Record
-head_record head = codes "ccsuite" ∷ codes "1" ∷ rate_word head.rate ∷ decimal head.frames ∷ []
+head_record head = codes "ccsuite" ∷ version_word head.version ∷ rate_word head.rate ∷ decimal head.frames ∷ []
 
 -- share,SERVICE,BYTES
 abbrev pub share_record : Share → Record
@@ -88,19 +99,63 @@ cue_record (kind.Win w) cue =
 abbrev pub run_record : Run → Record
 run_record run = codes "run" ∷ decimal run.row ∷ decimal run.col ∷ pen_word run.pen ∷ encode_utf8_all run.text ∷ []
 
--- a cue and its runs
-abbrev pub cue_records : Cue → List Record
-cue_records cue = cue_record cue.kind cue ∷ map run_record cue.runs
+-- 1 where words are wrapped
+abbrev pub wrap_number : Bool → ℕ
+wrap_number wrap = if wrap then 1 else 0
 
--- a cue list: the head, the shares, the cues
-abbrev pub list_records : Listing → List Record
-list_records l =
-    head_record (record { rate = l.rate; frames = l.frames })
+-- the digits of a colour
+abbrev pub rgb_word : Rgb → Field
+rgb_word rgb = decimal rgb.r ++ decimal rgb.g ++ decimal rgb.b
+
+abbrev pub fill_word : Fill → Field
+fill_word fill = decimal fill.opacity ++ decimal fill.r ++ decimal fill.g ++ decimal fill.b
+
+-- attr,JUSTIFY,PRINT,SCROLL,WRAP,EFFECT,DIR,SPEED,FILL,KIND,BORDER
+abbrev pub attribute_record : WinAttr → Record
+attribute_record a =
+    codes "attr" ∷ decimal a.justify ∷ decimal a.print ∷ decimal a.scroll ∷ decimal (wrap_number a.wrap) ∷ decimal a.effect
+    ∷ decimal a.effect_dir ∷ decimal a.effect_speed ∷ fill_word a.fill ∷ decimal a.border_kind ∷ rgb_word a.border ∷ []
+
+-- colour,FG,BG,EDGE
+abbrev pub colour_record : PenColors → Record
+colour_record colors = codes "colour" ∷ fill_word colors.fg ∷ fill_word colors.bg ∷ rgb_word colors.edge ∷ []
+
+-- the record of a window's own attributes, where it has them
+abbrev pub window_attribute_records : Option WinAttr → List Record
+window_attribute_records None = []
+window_attribute_records (Some attributes) = attribute_record attributes ∷ []
+
+abbrev pub attribute_records : Kind → List Record
+attribute_records (kind.Pop channel) = []
+attribute_records (kind.Paint channel) = []
+attribute_records (kind.Roll channel rows) = []
+attribute_records (kind.Win window) = window_attribute_records window.attr
+
+-- the record of a run's own colours, where it has them
+abbrev pub colour_records : Option PenColors → List Record
+colour_records None = []
+colour_records (Some colors) = colour_record colors ∷ []
+
+-- a run, and its colours directly behind it
+abbrev pub run_records : Run → List Record
+run_records run = run_record run ∷ colour_records run.colors
+
+-- a cue, its window's attributes directly behind it, and its runs
+abbrev pub cue_records : Cue → List Record
+cue_records cue = cue_record cue.kind cue ∷ (attribute_records cue.kind ++ flat_map run_records cue.runs)
+
+-- a cue list of a version: the head, the shares, the cues
+abbrev pub list_records : Version → Listing → List Record
+list_records version l =
+    head_record (record { version = version; rate = l.rate; frames = l.frames })
     ∷ (map share_record l.shares ++ flat_map cue_records l.cues)
 
--- these records spell this cue list
-abbrev pub Spells : List Record → Listing → Type 0
-Spells records l = (records ≡ list_records l) × IsFormed l
+-- these records spell this cue list, in a version that has what it has
+pub record Spells (records : List Record) (l : Listing) : Type 0 where
+  pub version : Version
+  pub are : records ≡ list_records version l
+  pub formed : IsFormed l
+  pub allowed : AreOfVersion version l.cues
 
 -- a head, or none
 abbrev pub head_records : Option Head → List Record

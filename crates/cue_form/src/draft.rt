@@ -1,20 +1,23 @@
 ghost use Rattle.cue_types.specs.Listing.{most_cues};
-ghost use Rattle.std.specs.Prelude.{◌≡◌, ◌++◌, IfOk, option_to_list, true, not, nat_lt, length};
+ghost use Rattle.std.specs.Prelude.{◌≡◌, ◌+◌, ◌≤◌, ◌++◌, IfOk, option_to_list, not, nat_le, nat_lt, length};
 ghost use Rattle.csv.specs.Records.{fields_of};
 ghost use Rattle.cue_form.specs.Answers.{Answers, GivesBegun};
 ghost use Rattle.cue_form.specs.Begun.{IsBegun, nothing, cues_of, with_cue, cue_with_run, awaits_run};
-ghost use Rattle.cue_form.specs.Form.{may_stand};
-ghost use Rattle.cue_form.specs.Reading.{next, list_ended, adds, opens, cue_of, shown_cue, runs_on};
-ghost use Rattle.cue_form.specs.Unbuilt.{is_built_kind};
+ghost use Rattle.cue_form.specs.Form.{awaits_attributes, awaits_colours, is_bare_window, is_second, last_is_plain, may_stand};
+ghost use Rattle.cue_form.specs.Judgements.{room_at};
+ghost use Rattle.cue_types.specs.Shares.{shares_taken};
+ghost use Rattle.cue_form.specs.Reading.{next, list_ended, adds, opens, runs_on, share_record_of};
 
 use crate::fault::CueFault;
-use crate::fields::field;
-use crate::offence::{Offence, not_built, out_of_form};
+use crate::fields::{field, read_within};
+use crate::offence::{Offence, out_of_form};
 use crate::record_kind::RecordKind;
-use crate::records::{Shown, read_head, read_rolled, read_run, read_shown};
+use crate::records::{count_place, read_attributes, read_colours, read_cue, read_head, read_run};
 use cc_base::LimitOf;
 use csv::ByteRecord;
-use cue_types::{Cue, CueList, Head, Kind, MOST_CUES, Runs, Share};
+use cue_types::lane::is_win;
+use cue_types::list::share_room;
+use cue_types::{Cue, CueList, Head, Kind, MOST_CUES, Run, Share, Version};
 use std::alloc::{AllocError, Global};
 use std::marker::Model;
 
@@ -59,9 +62,6 @@ impl Draft {
         if !self.may_stand(kind) {
             return Err(out_of_form(1));
         }
-        if !kind.is_built() {
-            return Err(not_built(1));
-        }
         self.add(alloc, kind, row)
     }
 
@@ -95,7 +95,9 @@ impl Draft {
         match kind {
             RecordKind::Ccsuite => self.head.is_none(),
             RecordKind::Share => self.head.is_some() && self.last.is_none(),
+            RecordKind::Attr => self.is_second() && self.awaits_attributes(),
             RecordKind::Run => self.last.is_some(),
+            RecordKind::Colour => self.is_second() && self.awaits_colours(),
             _ => self.head.is_some() && !self.awaits_run(),
         }
     }
@@ -110,18 +112,52 @@ impl Draft {
         }
     }
 
-    /// Adds what a record of a kind that this version reads, and that may stand here, spells.
+    /// Whether the list is of version 2.
+    fn is_second(&self) -> bool
+        ensures { result ≡ is_second self.now.head }
+    {
+        matches!(
+            self.head,
+            Some(Head {
+                version: Version::Two,
+                ..
+            })
+        )
+    }
+
+    /// Whether the last record was that of a window, whose attributes may follow.
+    fn awaits_attributes(&self) -> bool
+        ensures { result ≡ awaits_attributes self.now.last }
+    {
+        match &self.last {
+            None => false,
+            Some(cue) => cue.runs.as_slice().is_empty() && is_bare_window(cue.kind),
+        }
+    }
+
+    /// Whether the last record was that of a run in a window, whose colours may follow.
+    fn awaits_colours(&self) -> bool
+        ensures { result ≡ awaits_colours self.now.last }
+    {
+        match &self.last {
+            None => false,
+            Some(cue) => is_win(cue.kind) && last_is_plain(cue.runs.as_slice()),
+        }
+    }
+
+    /// Adds what a record of a kind that may stand here spells.
     fn add(&mut self, alloc: Global, kind: RecordKind, row: &ByteRecord) -> Result<(), Offence>
-        requires { is_built_kind kind ≡ true }
         ensures { GivesBegun (adds self.old kind (fields_of row.now)) result self.new }
     {
         match kind {
             RecordKind::Ccsuite => self.add_head(row),
+            RecordKind::Share => self.add_share(row),
+            RecordKind::Attr => self.add_attributes(row),
             RecordKind::Run => self.add_run(alloc, row),
-            RecordKind::Pop | RecordKind::Paint | RecordKind::Roll => self.add_cue(
-                alloc, kind, row,
-            ),
-            RecordKind::Share | RecordKind::Win => unreachable!(),
+            RecordKind::Colour => self.add_colours(row),
+            RecordKind::Pop | RecordKind::Paint | RecordKind::Roll | RecordKind::Win => {
+                self.add_cue(alloc, kind, row)
+            }
         }
     }
 
@@ -132,6 +168,64 @@ impl Draft {
         match read_head(row) {
             Ok(head) => {
                 self.head = Some(head);
+                Ok(())
+            }
+            Err(offence) => Err(offence),
+        }
+    }
+
+    /// Adds a share: `share,SERVICE,BYTES`.
+    fn add_share(&mut self, row: &ByteRecord) -> Result<(), Offence>
+        ensures { GivesBegun (adds self.old RecordKind.Share (fields_of row.now)) result self.new }
+    {
+        match read_share(&self.shares, self.room(), row) {
+            Ok(share) => {
+                if self.shares.push(share).is_err() {
+                    return Err(Offence::Memory(AllocError));
+                }
+                Ok(())
+            }
+            Err(offence) => Err(offence),
+        }
+    }
+
+    /// The bytes of a frame that shares may take, at the rate of the head.
+    fn room(&self) -> u32
+        ensures room { result ≡ room_at self.now.head }
+        ensures small { result ≤ 35 }
+    {
+        match self.head {
+            None => 0,
+            Some(head) => share_room(head.rate),
+        }
+    }
+
+    /// Gives the last cue's window attributes of its own.
+    fn add_attributes(&mut self, row: &ByteRecord) -> Result<(), Offence>
+        ensures { GivesBegun (adds self.old RecordKind.Attr (fields_of row.now)) result self.new }
+    {
+        match read_attributes(row) {
+            Ok(attributes) => {
+                if let Some(cue) = &mut self.last {
+                    if let Kind::Win(window) = &mut cue.kind {
+                        window.attr = Some(attributes);
+                    }
+                }
+                Ok(())
+            }
+            Err(offence) => Err(offence),
+        }
+    }
+
+    /// Gives the last run colours of its own.
+    fn add_colours(&mut self, row: &ByteRecord) -> Result<(), Offence>
+        ensures { GivesBegun (adds self.old RecordKind.Colour (fields_of row.now)) result self.new }
+    {
+        match read_colours(row) {
+            Ok(colours) => {
+                if let Some(cue) = &mut self.last {
+                    cue.runs.colour_last(colours);
+                }
                 Ok(())
             }
             Err(offence) => Err(offence),
@@ -203,33 +297,70 @@ fn with_last(mut earlier: Vec<Cue>, last: Option<Cue>) -> Result<Vec<Cue>, Alloc
     Ok(earlier)
 }
 
-/// The cue of a record of its kind, which has no run yet.
-fn read_cue(alloc: Global, kind: RecordKind, row: &ByteRecord) -> Result<Cue, Offence>
-    ensures { result ≡ cue_of kind (fields_of row.now) }
+/// A share, after these, which may take so many bytes of a frame together with it.
+fn read_share(shares: &[Share], room: u32, row: &ByteRecord) -> Result<Share, Offence>
+    requires { room ≤ 35 }
+    ensures { result ≡ share_record_of room shares.now (fields_of row.now) }
+{
+    if row.len() != 3 {
+        return Err(out_of_form(count_place(3, row.len())));
+    }
+    let Some(service) = read_within(1, 6, field(row, 1)) else {
+        return Err(out_of_form(2));
+    };
+    if shares
+        .iter()
+        .any(|share| u64::from(share.service) == service)
+    {
+        return Err(out_of_form(2));
+    }
+    let Some(bytes) = read_within(8, 31, field(row, 2)) else {
+        return Err(out_of_form(3));
+    };
+    if !fits(shares, bytes as u8, room) {
+        return Err(out_of_form(3));
+    }
+    Ok(Share {
+        service: service as u8,
+        bytes: bytes as u8,
+    })
+}
+
+/// Whether a share of so many bytes fits in the room together with these shares, each with the header of its block.
+fn fits(shares: &[Share], bytes: u8, room: u32) -> bool
+    requires { bytes ≤ 31 }
+    ensures { result ≡ nat_le (shares_taken shares.now + (bytes + 1)) room }
+{
+    let own = u32::from(bytes) + 1;
+    if room < own {
+        return false;
+    }
+    let mut left = room - own;
+    for share in shares {
+        let taken = u32::from(share.bytes) + 1;
+        if left < taken {
+            return false;
+        }
+        left -= taken;
+    }
+    true
+}
+
+/// A window that has no attributes of its own.
+fn is_bare_window(kind: Kind) -> bool
+    ensures { result ≡ is_bare_window kind }
 {
     match kind {
-        RecordKind::Pop => match read_shown(row) {
-            Ok(shown) => Ok(show(alloc, Kind::Pop(shown.channel), shown)),
-            Err(offence) => Err(offence),
-        },
-        RecordKind::Paint => match read_shown(row) {
-            Ok(shown) => Ok(show(alloc, Kind::Paint(shown.channel), shown)),
-            Err(offence) => Err(offence),
-        },
-        RecordKind::Roll => read_rolled(alloc, row),
-        _ => Err(not_built(1)),
+        Kind::Win(window) => window.attr.is_none(),
+        Kind::Pop(_) | Kind::Paint(_) | Kind::Roll(_, _) => false,
     }
 }
 
-/// The cue that is shown so, without a run.
-fn show(alloc: Global, kind: Kind, shown: Shown) -> Cue
-    ensures { result ≡ shown_cue (λ _. kind) shown }
+/// The last of the runs has no colours of its own.
+#[tactic(auto, using(crate::proofs::LastRun::last_plain, crate::proofs::LastRun::none_plain))]
+fn last_is_plain(runs: &[Run]) -> bool
+    ensures { result ≡ last_is_plain runs.now }
 {
-    Cue {
-        load: shown.load,
-        show: shown.show,
-        hide: Some(shown.hide),
-        kind,
-        runs: Runs::from_vec(Vec::new(alloc)),
-    }
+    let count = runs.len();
+    count > 0 && runs[count - 1].colors.is_none()
 }

@@ -1,10 +1,13 @@
 ghost use Rattle.std.specs.Prelude.{◌≡◌, ◌≤◌, IfSome, bytes_eq};
 ghost use Rattle.csv.specs.Records.{fields_of};
-ghost use Rattle.cue_form.specs.Fields.{has_number_length, number_field, number_within, frame_field, rate_field, channel_field, plain_pen_field, pen_field};
+ghost use Rattle.cue_form.specs.Fields.{has_number_length, number_field, number_within, frame_field, rate_field, channel_field, plain_pen_field, pen_field, fill_field, is_two_bits, named, plain_words, rgb_field};
+ghost use Rattle.cue_form.specs.Form.{version_words};
 ghost use Rattle.cue_form.specs.Records.{field};
 
 use cc_base::Rate;
 use csv::ByteRecord;
+use cue_types::{Pen, Version};
+use dtvcc_codes::{Fill, Rgb};
 use line21_codes::{Chan, Colour, Style};
 
 /// Whether a field is this word.
@@ -62,6 +65,19 @@ pub fn read_frame(text: &[u8]) -> Option<u32>
     match read_within(0, 4_294_967_295, text) {
         Some(frame) => Some(frame as u32),
         None => None,
+    }
+}
+
+/// A version of the records: 1 or 2.
+pub fn read_version(text: &[u8]) -> Option<Version>
+    ensures { result ≡ named version_words text.now }
+{
+    if is_word(text, "1") {
+        Some(Version::One)
+    } else if is_word(text, "2") {
+        Some(Version::Two)
+    } else {
+        None
     }
 }
 
@@ -134,4 +150,61 @@ fn read_plain_pen(underline: bool, text: &[u8]) -> Option<Style>
         italic,
         underline,
     })
+}
+
+/// The pen of a window's run: plain, in italics, underlined, or both.
+pub fn read_window_pen(text: &[u8]) -> Option<Pen>
+    ensures { result ≡ named plain_words text.now }
+{
+    let (italic, underline) = if is_word(text, "plain") {
+        (false, false)
+    } else if is_word(text, "plain-i") {
+        (true, false)
+    } else if is_word(text, "plain-u") {
+        (false, true)
+    } else if is_word(text, "plain-i-u") {
+        (true, true)
+    } else {
+        return None;
+    };
+    Some(Pen::Dtv { italic, underline })
+}
+
+/// A colour: three digits from 0 to 3, for red, green and blue.
+pub fn read_rgb(text: &[u8]) -> Option<Rgb>
+    ensures { result ≡ rgb_field text.now }
+{
+    match text {
+        [r, g, b] if is_two_bits(*r) && is_two_bits(*g) && is_two_bits(*b) => Some(Rgb {
+            r: *r - b'0',
+            g: *g - b'0',
+            b: *b - b'0',
+        }),
+        _ => None,
+    }
+}
+
+/// A colour with its opacity: four digits from 0 to 3, for opacity, red, green and blue.
+pub fn read_fill(text: &[u8]) -> Option<Fill>
+    ensures { result ≡ fill_field text.now }
+{
+    match text {
+        [o, r, g, b] if is_two_bits(*o) && is_two_bits(*r) && is_two_bits(*g) && is_two_bits(*b) =>
+            {
+                Some(Fill {
+                    opacity: *o - b'0',
+                    r: *r - b'0',
+                    g: *g - b'0',
+                    b: *b - b'0',
+                })
+            }
+        _ => None,
+    }
+}
+
+/// A digit from 0 to 3.
+fn is_two_bits(digit: u8) -> bool
+    ensures { result ≡ is_two_bits digit }
+{
+    matches!(digit, b'0'..=b'3')
 }

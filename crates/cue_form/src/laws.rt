@@ -3,16 +3,15 @@
 ghost use Rattle.std.specs.Prelude.{◌≡◌, Err, List, Ok};
 ghost use Rattle.cue_form.specs.FirstFault.{IsFirstFault};
 ghost use Rattle.cue_types.specs.Listing.{IsFormed, Listing};
-ghost use Rattle.cue_form.specs.Printing.{list_bytes};
+ghost use Rattle.cue_form.specs.Printing.{in_order, list_bytes};
 ghost use Rattle.cue_form.specs.Reading.{list_of, read_list};
 ghost use Rattle.cue_form.specs.Records.{Record};
 ghost use Rattle.cue_form.specs.Spelling.{Spells};
-ghost use Rattle.cue_form.specs.Unbuilt.{IsBuilt};
 ghost use Rattle.cue_form.specs.declared.fault.CueFault.{CueFault};
 
-/// Records that spell a list which this version authors are read as that list, and so have no fault.
+/// Records that spell a list are read as that list, and so have no fault.
 pub fn spelled_is_read()
-    ensures { (records : List Record) (list : Listing) → Spells records list → IsBuilt list → list_of records ≡ Ok list }
+    ensures { (records : List Record) (list : Listing) → Spells records list → list_of records ≡ Ok list }
 {}
 
 /// Records that have a first fault are answered with it: there is one at most.
@@ -20,7 +19,7 @@ pub fn first_fault_is_answered()
     ensures { (records : List Record) (fault : CueFault) → IsFirstFault records fault → list_of records ≡ Err fault }
 {}
 
-/// The bytes of a list which this version authors are read as that list.
+/// The bytes of a list are read as that list, its shares in ascending order of their services.
 pub fn printed_is_read()
-    ensures { (list : Listing) → IsFormed list → IsBuilt list → read_list (list_bytes list) ≡ Ok list }
+    ensures { (list : Listing) → IsFormed list → read_list (list_bytes list) ≡ Ok (in_order list) }
 {}

@@ -38,13 +38,3 @@ pub fn out_of_form(field: u32) -> Offence
         why: Why::Field,
     }
 }
-
-/// The offence of a field that this version doesn't read yet.
-pub fn not_built(field: u32) -> Offence
-    ensures { result ≡ Offence.At field Why.NotBuilt }
-{
-    Offence::At {
-        field,
-        why: Why::NotBuilt,
-    }
-}

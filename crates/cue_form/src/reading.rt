@@ -4,7 +4,6 @@ ghost use Rattle.cue_form.specs.FirstFault.{FaultsFirst};
 ghost use Rattle.cue_form.specs.Reading.{read_list};
 ghost use Rattle.cue_form.specs.Records.{list_limit, records_of};
 ghost use Rattle.cue_form.specs.Spelling.{Spells};
-ghost use Rattle.cue_form.specs.Unbuilt.{IsBuilt};
 
 use crate::draft::Draft;
 use crate::fault::CueFault;
@@ -17,16 +16,14 @@ use std::alloc::{AllocError, Global};
 ///
 /// Records are taken one by one, none is kept, and the first fault ends the reading. `Malformed` has the record's number
 /// among the records that CSV finds (blank lines are none), the field's number, both from 1, and the reason; `Limit` comes
-/// where the list has more than 1,000,000 frames or 20,000 cues. Records of services, `share` and `win`, aren't built yet:
-/// where one may stand it is `NotBuilt` at field 1. Want of memory may come at any record, in place of what is due; so is
+/// where the list has more than 1,000,000 frames or 20,000 cues. Want of memory may come at any record, in place of what is due; so is
 /// any error of the CSV reader answered, which over bytes in memory has no other.
 pub fn parse(alloc: Global, bytes: &[u8]) -> Result<CueList, CueFault>
     requires { length bytes.now ≤ list_limit }
     ensures answer { Answers (read_list bytes.now) result }
 
-    // The records spell the list that they gave, and this version authors it.
+    // The records spell the list that they gave.
     ensures spelled { IfOk result (λ list. Spells (records_of bytes.now) list) }
-    ensures built { IfOk result (λ list. IsBuilt list) }
 
     // Where memory lasts, the fault is the first one.
     ensures fault { IfErr result (λ fault. FaultsFirst (records_of bytes.now) fault) }

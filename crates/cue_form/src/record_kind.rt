@@ -1,6 +1,5 @@
 ghost use Rattle.std.specs.Prelude.{◌≡◌};
 ghost use Rattle.cue_form.specs.Form.{record_kind_of};
-ghost use Rattle.cue_form.specs.Unbuilt.{is_built_kind};
 
 use crate::fields::is_word;
 
@@ -13,7 +12,9 @@ pub enum RecordKind {
     Paint,
     Roll,
     Win,
+    Attr,
     Run,
+    Colour,
 }
 
 impl RecordKind {
@@ -33,17 +34,14 @@ impl RecordKind {
             Some(RecordKind::Roll)
         } else if is_word(word, "win") {
             Some(RecordKind::Win)
+        } else if is_word(word, "attr") {
+            Some(RecordKind::Attr)
         } else if is_word(word, "run") {
             Some(RecordKind::Run)
+        } else if is_word(word, "colour") {
+            Some(RecordKind::Colour)
         } else {
             None
         }
-    }
-
-    /// Whether this version reads records of the kind.
-    pub fn is_built(self) -> bool
-        ensures { result ≡ is_built_kind self }
-    {
-        !matches!(self, RecordKind::Share | RecordKind::Win)
     }
 }

@@ -3,23 +3,24 @@
 ghost use Rattle.std.specs.Prelude.{◌≡◌, [], ◌∷◌, ◌++◌, decimal, encode_utf8_all, IfOk, OnOk, Some};
 ghost use Rattle.std.specs.String.{string_bytes};
 ghost use Rattle.csv.specs.Records.{fields_of};
-ghost use Rattle.cue_form.specs.Spelling.{channel_word, colour_word, cue_record, head_record, hide_word, italic_mark, pen_word, rate_word, run_record, share_record, underline_mark};
+ghost use Rattle.cue_form.specs.Spelling.{attribute_record, channel_word, colour_record, colour_word, cue_record, fill_word, head_record, hide_word, italic_mark, pen_word, rate_word, rgb_word, run_record, share_record, underline_mark, version_word, wrap_number};
 ghost use Rattle.cue_types.specs.declared.cue.Kind.TheVariants as kind;
 ghost use Rattle.cue_types.specs.declared.head.Head.{Head};
 
 use cc_base::Rate;
 use csv::StringRecord;
-use cue_types::{Cue, Head, Kind, Pen, Run, Share, Text, WinCue};
+use cue_types::{Cue, Head, Kind, Pen, Run, Share, Text, Version, WinCue};
+use dtvcc_codes::{Fill, PenColors, Rgb, WinAttr};
 use line21_codes::{Chan, Colour};
 use std::alloc::{AllocError, Global};
 
-/// The head: `ccsuite,1,RATE,FRAMES`.
+/// The head: `ccsuite,VERSION,RATE,FRAMES`.
 pub fn head_record(alloc: Global, head: Head) -> Result<StringRecord, AllocError>
     ensures { IfOk result (λ row. fields_of row ≡ head_record head) }
 {
     let mut row = StringRecord::new(alloc);
     row.push_field("ccsuite")?;
-    row.push_field("1")?;
+    row.push_field(version_word(head.version))?;
     row.push_field(rate_word(head.rate))?;
     push_number(alloc, &mut row, head.frames)?;
     Ok(row)
@@ -61,6 +62,79 @@ pub fn run_record(alloc: Global, run: &Run) -> Result<StringRecord, AllocError>
     let text = text_word(alloc, &run.text)?;
     row.push_field(text.as_str())?;
     Ok(row)
+}
+
+/// A window's own attributes: `attr,JUSTIFY,PRINT,SCROLL,WRAP,EFFECT,DIR,SPEED,FILL,KIND,BORDER`.
+pub fn attribute_record(alloc: Global, attributes: WinAttr) -> Result<StringRecord, AllocError>
+    ensures { IfOk result (λ row. fields_of row ≡ attribute_record attributes) }
+{
+    let mut row = StringRecord::new(alloc);
+    row.push_field("attr")?;
+    push_number(alloc, &mut row, u32::from(attributes.justify))?;
+    push_number(alloc, &mut row, u32::from(attributes.print))?;
+    push_number(alloc, &mut row, u32::from(attributes.scroll))?;
+    push_number(alloc, &mut row, wrap_number(attributes.wrap))?;
+    push_number(alloc, &mut row, u32::from(attributes.effect))?;
+    push_number(alloc, &mut row, u32::from(attributes.effect_dir))?;
+    push_number(alloc, &mut row, u32::from(attributes.effect_speed))?;
+    push_fill(alloc, &mut row, attributes.fill)?;
+    push_number(alloc, &mut row, u32::from(attributes.border_kind))?;
+    push_rgb(alloc, &mut row, attributes.border)?;
+    Ok(row)
+}
+
+/// A run's own colours: `colour,FG,BG,EDGE`.
+pub fn colour_record(alloc: Global, colors: PenColors) -> Result<StringRecord, AllocError>
+    ensures { IfOk result (λ row. fields_of row ≡ colour_record colors) }
+{
+    let mut row = StringRecord::new(alloc);
+    row.push_field("colour")?;
+    push_fill(alloc, &mut row, colors.fg)?;
+    push_fill(alloc, &mut row, colors.bg)?;
+    push_rgb(alloc, &mut row, colors.edge)?;
+    Ok(row)
+}
+
+/// 1 where words are wrapped.
+fn wrap_number(wrap: bool) -> u32
+    ensures { result ≡ wrap_number wrap }
+{
+    if wrap { 1 } else { 0 }
+}
+
+/// Adds a field of a colour and its opacity, by their digits.
+fn push_fill(alloc: Global, row: &mut StringRecord, fill: Fill) -> Result<(), AllocError>
+    ensures { OnOk result (fields_of row.new ≡ fields_of row.old ++ fill_word fill ∷ []) }
+{
+    let mut word = fill.opacity.to_string(alloc)?;
+    push_digits(alloc, &mut word, fill.r, fill.g, fill.b)?;
+    row.push_field(word.as_str())
+}
+
+/// Adds a field of a colour, by its digits.
+fn push_rgb(alloc: Global, row: &mut StringRecord, rgb: Rgb) -> Result<(), AllocError>
+    ensures { OnOk result (fields_of row.new ≡ fields_of row.old ++ rgb_word rgb ∷ []) }
+{
+    let mut word = String::new(alloc);
+    push_digits(alloc, &mut word, rgb.r, rgb.g, rgb.b)?;
+    row.push_field(word.as_str())
+}
+
+/// Adds the digits of red, green and blue.
+fn push_digits(alloc: Global, word: &mut String, r: u8, g: u8, b: u8) -> Result<(), AllocError>
+    ensures { OnOk result (string_bytes word.new ≡ string_bytes word.old ++ (decimal r ++ decimal g ++ decimal b)) }
+{
+    push_decimal(alloc, word, r)?;
+    push_decimal(alloc, word, g)?;
+    push_decimal(alloc, word, b)
+}
+
+/// Adds the digits of a number.
+fn push_decimal(alloc: Global, word: &mut String, number: u8) -> Result<(), AllocError>
+    ensures { OnOk result (string_bytes word.new ≡ string_bytes word.old ++ decimal number) }
+{
+    let digits = number.to_string(alloc)?;
+    word.push_str(digits.as_str())
 }
 
 /// A pop-on or paint-on cue: `pop,CH,LOAD,SHOW,HIDE` or `paint,CH,LOAD,SHOW,HIDE`.
@@ -168,6 +242,15 @@ fn text_word(alloc: Global, text: &Text) -> Result<String, AllocError>
     ensures { IfOk result (λ word. string_bytes word ≡ encode_utf8_all text.now) }
 {
     text.as_slice().iter().copied().collect(alloc)
+}
+
+fn version_word(version: Version) -> &'static str
+    ensures { result.now ≡ version_word version }
+{
+    match version {
+        Version::One => "1",
+        Version::Two => "2",
+    }
 }
 
 fn rate_word(rate: Rate) -> &'static str

@@ -1,20 +1,21 @@
 ghost use Rattle.std.specs.Prelude.{◌≡◌, ◌≤◌, length, chars};
 ghost use Rattle.std.specs.List.{list_all};
 ghost use Rattle.cue_form.specs.Answers.{Gives};
-ghost use Rattle.cue_form.specs.Form.{is_coded};
-ghost use Rattle.cue_form.specs.Reading.{line21_text};
+ghost use Rattle.cue_form.specs.Form.{columns_of, is_coded};
+ghost use Rattle.cue_form.specs.Texts.{text_of};
 
 use crate::offence::{Offence, out_of_form};
 use cc_base::Why;
-use cue_types::Text;
+use cue_types::{Kind, Text};
+use dtvcc_codes::spell_dtv;
 use line21_codes::spell;
 use std::alloc::Global;
 use std::str;
 
-/// A text that begins at a column of line 21. It is judged for its bytes, then for its characters, then for its length.
-pub fn read_text(alloc: Global, col: u8, text: &[u8]) -> Result<Text, Offence>
-    requires { col ≤ 31 }
-    ensures { Gives (line21_text col text.now) result }
+/// The text of a run that begins at a column, in a cue of the kind. It is judged for its bytes, then for its characters, then
+/// for its length.
+pub fn read_text(alloc: Global, kind: Kind, col: u8, text: &[u8]) -> Result<Text, Offence>
+    ensures { Gives (text_of kind col text.now) result }
 {
     let Ok(text) = str::from_utf8(text) else {
         return Err(out_of_form(5));
@@ -22,13 +23,13 @@ pub fn read_text(alloc: Global, col: u8, text: &[u8]) -> Result<Text, Offence>
     if text.is_empty() {
         return Err(out_of_form(5));
     }
-    if !are_coded(text) {
+    if !are_coded(kind, text) {
         return Err(Offence::At {
             field: 5,
             why: Why::NoCode,
         });
     }
-    if usize::from(col) + count_of(text) > 32 {
+    if usize::from(col) + count_of(text) > usize::from(columns_of(kind)) {
         return Err(out_of_form(5));
     }
     match text.chars().collect(alloc) {
@@ -37,11 +38,21 @@ pub fn read_text(alloc: Global, col: u8, text: &[u8]) -> Result<Text, Offence>
     }
 }
 
-/// Whether line 21 has a code for each character.
-fn are_coded(text: &str) -> bool
-    ensures { result ≡ list_all is_coded (chars text.now) }
+/// The columns of the rows of a cue of the kind: 32, or those of its window.
+pub fn columns_of(kind: Kind) -> u8
+    ensures { result ≡ columns_of kind }
 {
-    text.chars().all(|ch| is_coded(ch))
+    match kind {
+        Kind::Win(window) => window.cols,
+        Kind::Pop(_) | Kind::Paint(_) | Kind::Roll(_, _) => 32,
+    }
+}
+
+/// Whether there is a code for each character, in a cue of the kind.
+fn are_coded(kind: Kind, text: &str) -> bool
+    ensures { result ≡ list_all (is_coded kind) (chars text.now) }
+{
+    text.chars().all(|ch| is_coded(kind, ch))
 }
 
 /// The number of characters.
@@ -52,10 +63,13 @@ fn count_of(text: &str) -> usize
     text.chars().count()
 }
 
-/// Whether line 21 has a code for the character.
+/// Whether there is a code for the character, in a cue of the kind.
 #[tactic(auto, unfolding(crate::specs::Form::is_coded))]
-fn is_coded(ch: char) -> bool
-    ensures { result ≡ is_coded ch }
+fn is_coded(kind: Kind, ch: char) -> bool
+    ensures { result ≡ is_coded kind ch }
 {
-    spell(ch).is_some()
+    match kind {
+        Kind::Win(_) => spell_dtv(ch).is_some(),
+        Kind::Pop(_) | Kind::Paint(_) | Kind::Roll(_, _) => spell(ch).is_some(),
+    }
 }

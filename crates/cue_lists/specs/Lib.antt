@@ -1,14 +1,15 @@
 pub use Rattle.authored_grids.specs.AuthoredGrid
+pub use Rattle.authored_grids.specs.AuthoredServiceGrid
 pub use Rattle.cue_form.specs.Answers
 pub use Rattle.cue_form.specs.Begun
 pub use Rattle.cue_form.specs.Fields
 pub use Rattle.cue_form.specs.FirstFault
 pub use Rattle.cue_form.specs.Form
+pub use Rattle.cue_form.specs.Judgements
 pub use Rattle.cue_form.specs.Printing
 pub use Rattle.cue_form.specs.Reading
 pub use Rattle.cue_form.specs.Records
 pub use Rattle.cue_form.specs.Spelling
-pub use Rattle.cue_form.specs.Unbuilt
 pub use Rattle.cue_rules.specs.Rules
 pub use Rattle.cue_types.specs.Cells
 pub use Rattle.cue_types.specs.Channels

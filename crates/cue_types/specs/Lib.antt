@@ -1,5 +1,6 @@
 pub mod Cells
 pub mod Channels
+pub mod Coloured
 pub mod Cues
 pub mod Lane
 pub mod Line21Cues

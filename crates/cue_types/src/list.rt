@@ -1,4 +1,5 @@
 ghost use Rattle.std.specs.Prelude.{◌≡◌};
+ghost use Rattle.cue_types.specs.Shares.{share_room};
 
 use crate::cue::Cue;
 use crate::head::Head;
@@ -18,6 +19,16 @@ pub struct Share {
     pub service: u8,
     /// Bytes of each frame, 8 to 31.
     pub bytes: u8,
+}
+
+/// The bytes of a frame that service blocks may take at a rate, with their headers: 17 at 59.94 and 60 frames a second, else 35.
+pub fn share_room(rate: Rate) -> u32
+    ensures { result ≡ share_room rate }
+{
+    match rate {
+        Rate::F5994 | Rate::F60 => 17,
+        _ => 35,
+    }
 }
 
 /// A cue list whose every field is in its range; at most 20,000 cues.
@@ -42,7 +53,7 @@ impl Model for CueList {
 impl CueList {
     ghost use Rattle.cue_types.specs.Listing.{IsFormed, share_of};
 
-    /// The list of these parts, which are in their ranges; it takes no memory.
+    /// The list of these parts, which are in their ranges. It keeps no version, and takes no memory.
     pub fn new(head: Head, shares: Vec<Share>, cues: Vec<Cue>) -> CueList
         requires { IsFormed (record { rate = head.rate; frames = head.frames; shares = shares.items; cues = cues.items }) }
         ensures { result ≡ record { rate = head.rate; frames = head.frames; shares = shares.items; cues = cues.items } }

@@ -1,6 +1,8 @@
 ghost use Rattle.std.specs.Prelude.{◌≡◌, [], ◌∷◌, ◌++◌, OnOk, OnErr};
+ghost use Rattle.cue_types.specs.Coloured.{coloured};
 
 use crate::cue::Run;
+use dtvcc_codes::PenColors;
 use std::alloc::AllocError;
 use std::marker::Model;
 
@@ -48,5 +50,15 @@ impl Runs {
     {
         self.items.push(run)?;
         Ok(())
+    }
+
+    /// Gives the last run these colours; where there is none, nothing changes.
+    pub fn colour_last(&mut self, colours: PenColors)
+        ensures { self.new ≡ coloured colours self.old }
+    {
+        let count = self.items.len();
+        if count > 0 {
+            self.items[count - 1].colors = Some(colours);
+        }
     }
 }

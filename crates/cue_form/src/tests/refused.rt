@@ -66,13 +66,19 @@ fn a_list_begins_with_a_head_in_its_form(rt: HostRuntime) -> Result<(), Fail> {
         ("ccsuite\n", 1, 2),
         ("ccsuite,1\n", 1, 3),
         ("ccsuite,1,29.97\n", 1, 4),
-        ("ccsuite,2,25\n", 1, 4),
+        ("ccsuite,3,25\n", 1, 4),
         ("ccsuite,1,29.97,300,\n", 1, 5),
-        ("ccsuite,2,25,0,x,y\n", 1, 5),
-        ("ccsuite,2,29.97,300\n", 1, 2),
+        ("ccsuite,3,25,0,x,y\n", 1, 5),
+        ("ccsuite,3,29.97,300\n", 1, 2),
+        ("ccsuite,0,29.97,300\n", 1, 2),
+        ("ccsuite,2.0,29.97,300\n", 1, 2),
         ("ccsuite,01,29.97,300\n", 1, 2),
         ("ccsuite,,29.97,300\n", 1, 2),
-        ("ccsuite,2,25,0\n", 1, 2),
+        ("ccsuite,3,25,0\n", 1, 2),
+        ("ccsuite,2,25,0\n", 1, 3),
+        ("ccsuite,2,60.00,300\n", 1, 3),
+        ("ccsuite,1,59.940,300\n", 1, 3),
+        ("ccsuite,1,50,300\n", 1, 3),
         ("ccsuite,1,25,300\n", 1, 3),
         ("ccsuite,1,29.970,300\n", 1, 3),
         ("ccsuite,1,,300\n", 1, 3),
@@ -251,16 +257,226 @@ fn a_character_without_a_code_is_refused(rt: HostRuntime) -> Result<(), Fail> {
 }
 
 #[test]
-fn records_of_services_are_not_built(rt: HostRuntime) -> Result<(), Fail> {
+fn each_field_of_a_share_has_its_form(rt: HostRuntime) -> Result<(), Fail> {
     let cases = [
-        ("share,1,8\n", 2, 1),
-        ("share\n", 2, 1),
-        ("share,9,x,y\n", 2, 1),
-        ("win\n", 2, 1),
-        ("win,1,0,0,60,200,10,0,60,50,1,10,0,1,1\n", 2, 1),
-        ("pop,CC1,10,60,120\nrun,15,4,white,HELLO\nwin\n", 4, 1),
+        ("share\n", 2, 2),
+        ("share,9\n", 2, 3),
+        ("share,1,8,\n", 2, 4),
+        ("share,9,x,y,z\n", 2, 4),
+        ("share,0,8\n", 2, 2),
+        ("share,7,8\n", 2, 2),
+        ("share,01,8\n", 2, 2),
+        ("share,,x\n", 2, 2),
+        ("share,1,7\n", 2, 3),
+        ("share,1,32\n", 2, 3),
+        ("share,1,08\n", 2, 3),
+        ("share,1,\n", 2, 3),
+        ("share,1,8\nshare,1,8\n", 3, 2),
+        ("share,1,8\nshare,2,8\nshare,1,x\n", 4, 2),
+        ("share,1,31\nshare,2,8\n", 3, 3),
+        ("share,1,16\nshare,2,17\n", 3, 3),
+        ("share,6,8\nshare,5,8\nshare,4,8\nshare,3,8\n", 5, 3),
+        ("share,1,8\nrun,0,0,plain,A\n", 3, 1),
+        ("share,1,8\nccsuite,1,30,300\n", 3, 1),
+        ("share,1,8\nattr,0,0,0,0,0,0,0,0000,0,000\n", 3, 1),
     ];
-    refused_behind(&rt, rt.alloc(), HEAD, Why::NotBuilt, cases.as_slice())
+    refused_behind(&rt, rt.alloc(), HEAD, Why::Field, cases.as_slice())
+}
+
+#[test]
+fn shares_fit_in_the_packets_of_their_rate(rt: HostRuntime) -> Result<(), Fail> {
+    let cases = [
+        ("ccsuite,1,59.94,60\nshare,1,17\n", 2, 3),
+        ("ccsuite,2,60,60\nshare,1,17\n", 2, 3),
+        ("ccsuite,1,60,60\nshare,2,8\nshare,1,8\n", 3, 3),
+    ];
+    refused_behind(&rt, rt.alloc(), "", Why::Field, cases.as_slice())?;
+    for text in [
+        "ccsuite,1,59.94,60\nshare,1,16\n",
+        "ccsuite,2,29.97,60\nshare,3,16\nshare,1,17\n",
+        "ccsuite,1,30,60\nshare,1,8\nshare,2,8\nshare,6,14\n",
+    ] {
+        assert!(rt; text.len() <= 1000);
+        assert!(rt; parse(rt.alloc(), text.as_bytes()).is_ok(), "{text}");
+    }
+    Ok(())
+}
+
+#[test]
+fn each_field_of_a_window_has_its_form(rt: HostRuntime) -> Result<(), Fail> {
+    let cases = [
+        ("win\n", 2, 2),
+        ("win,9\n", 2, 3),
+        ("win,1,0,0,60,200,10,0,60,50,1,10,0,1\n", 2, 15),
+        ("win,1,0,0,60,200,10,0,60,50,1,10,0,1,1,\n", 2, 16),
+        ("win,9,9,x,y,z,999,9,99,999,99,99,9,9,9,9,9\n", 2, 16),
+        ("win,0,0,0,60,200,10,0,60,50,1,10,0,1,1\n", 2, 2),
+        ("win,7,9,x,60,200,10,0,60,50,1,10,0,1,1\n", 2, 2),
+        ("win,1,8,0,60,200,10,0,60,50,1,10,0,1,1\n", 2, 3),
+        ("win,1,,x,60,200,10,0,60,50,1,10,0,1,1\n", 2, 3),
+        ("win,1,0,4294967296,60,200,10,0,60,50,1,10,0,1,1\n", 2, 4),
+        ("win,1,0,0,,200,10,0,60,50,1,10,0,1,1\n", 2, 5),
+        ("win,1,0,0,60,,10,0,60,50,1,10,0,1,1\n", 2, 6),
+        ("win,1,0,0,60,200,256,0,60,50,1,10,0,1,1\n", 2, 7),
+        ("win,1,0,0,60,200,010,0,60,50,1,10,0,1,1\n", 2, 7),
+        ("win,1,0,0,60,200,10,9,60,50,1,10,0,1,1\n", 2, 8),
+        ("win,1,0,0,60,200,10,0,75,50,1,10,0,1,1\n", 2, 9),
+        ("win,1,0,0,60,200,10,0,60,210,1,10,0,1,1\n", 2, 10),
+        ("win,1,0,0,60,200,10,0,60,50,0,10,0,1,1\n", 2, 11),
+        ("win,1,0,0,60,200,10,0,60,50,13,10,0,1,1\n", 2, 11),
+        ("win,1,0,0,60,200,10,0,60,50,1,0,0,1,1\n", 2, 12),
+        ("win,1,0,0,60,200,10,0,60,50,1,43,0,1,1\n", 2, 12),
+        ("win,1,0,0,60,200,10,0,60,50,1,10,8,1,1\n", 2, 13),
+        ("win,1,0,0,60,200,10,0,60,50,1,10,0,0,1\n", 2, 14),
+        ("win,1,0,0,60,200,10,0,60,50,1,10,0,8,1\n", 2, 14),
+        ("win,1,0,0,60,200,10,0,60,50,1,10,0,1,0\n", 2, 15),
+        ("win,1,0,0,60,200,10,0,60,50,1,10,0,1,8\n", 2, 15),
+        ("win,1,0,0,60,200,10,0,60,50,1,10,0,1,1\n", 3, 1),
+        ("win,1,0,0,60,200,10,0,60,50,1,10,0,1,1\nshare,1,8\n", 3, 1),
+        ("win,1,0,0,60,200,10,0,60,50,1,10,0,1,1\npop,CC9\n", 3, 1),
+        (
+            "win,1,0,0,60,200,10,0,60,50,1,10,0,1,1\nattr,0,0,0,0,0,0,0,0000,0,000\n",
+            3,
+            1,
+        ),
+        (
+            "win,1,0,0,60,200,10,0,60,50,1,10,0,1,1\nrun,0,0,plain,A\ncolour,0000,0000,000\n",
+            4,
+            1,
+        ),
+    ];
+    refused_behind(&rt, rt.alloc(), HEAD, Why::Field, cases.as_slice())
+}
+
+#[test]
+fn a_run_in_a_window_keeps_to_its_window(rt: HostRuntime) -> Result<(), Fail> {
+    let front = "ccsuite,1,29.97,300\nshare,1,8\nwin,1,0,0,60,200,10,0,60,50,2,10,0,1,1\n";
+    let cases = [
+        ("run\n", 4, 2),
+        ("run,2,10,white,A,\n", 4, 6),
+        ("run,2,0,plain,A\n", 4, 2),
+        ("run,00,0,plain,A\n", 4, 2),
+        ("run,0,10,plain,A\n", 4, 3),
+        ("run,1,,white,A\n", 4, 3),
+        ("run,0,0,white,A\n", 4, 4),
+        ("run,0,0,plain-u-i,A\n", 4, 4),
+        ("run,0,0,Plain,A\n", 4, 4),
+        ("run,0,0,plain,\n", 4, 5),
+        ("run,0,9,plain,AB\n", 4, 5),
+        ("run,1,0,plain-i-u,ABCDEFGHIJK\n", 4, 5),
+        ("run,0,0,plain,A\nrun,2,0,plain,A\n", 5, 2),
+        ("run,0,0,plain,A\nattr,0,0,0,0,0,0,0,0000,0,000\n", 5, 1),
+    ];
+    refused_behind(&rt, rt.alloc(), front, Why::Field, cases.as_slice())?;
+    let without_code = [
+        ("run,0,0,plain,\u{4e2d}\n", 4, 5),
+        ("run,0,0,plain,\u{7f}\n", 4, 5),
+        ("run,0,0,plain,\u{e01}\n", 4, 5),
+        ("run,0,9,plain,\u{4e2d}\u{4e2d}\n", 4, 5),
+    ];
+    refused_behind(&rt, rt.alloc(), front, Why::NoCode, without_code.as_slice())
+}
+
+#[test]
+fn attributes_stand_directly_below_a_window_of_version_2(rt: HostRuntime) -> Result<(), Fail> {
+    let front = "ccsuite,2,29.97,300\nshare,1,8\nwin,1,0,0,60,200,10,0,60,50,2,10,0,1,1\n";
+    let cases = [
+        ("attr\n", 4, 2),
+        ("attr,9,9\n", 4, 4),
+        ("attr,0,0,0,0,0,0,0,0000,0,000,\n", 4, 12),
+        ("attr,4,0,0,0,0,0,0,0000,0,000\n", 4, 2),
+        ("attr,00,9,0,0,0,0,0,0000,0,000\n", 4, 2),
+        ("attr,0,4,0,0,0,0,0,0000,0,000\n", 4, 3),
+        ("attr,0,0,4,0,0,0,0,0000,0,000\n", 4, 4),
+        ("attr,0,0,0,2,0,0,0,0000,0,000\n", 4, 5),
+        ("attr,0,0,0,,9,0,0,0000,0,000\n", 4, 5),
+        ("attr,0,0,0,0,3,0,0,0000,0,000\n", 4, 6),
+        ("attr,0,0,0,0,0,4,0,0000,0,000\n", 4, 7),
+        ("attr,0,0,0,0,0,0,16,0000,0,000\n", 4, 8),
+        ("attr,0,0,0,0,0,0,0,000,0,000\n", 4, 9),
+        ("attr,0,0,0,0,0,0,0,00000,0,000\n", 4, 9),
+        ("attr,0,0,0,0,0,0,0,4000,0,000\n", 4, 9),
+        ("attr,0,0,0,0,0,0,0,0004,0,000\n", 4, 9),
+        ("attr,0,0,0,0,0,0,0,,9,000\n", 4, 9),
+        ("attr,0,0,0,0,0,0,0,0000,6,000\n", 4, 10),
+        ("attr,0,0,0,0,0,0,0,0000,0,00\n", 4, 11),
+        ("attr,0,0,0,0,0,0,0,0000,0,0000\n", 4, 11),
+        ("attr,0,0,0,0,0,0,0,0000,0,040\n", 4, 11),
+        ("attr,0,0,0,0,0,0,0,0000,0,0 0\n", 4, 11),
+        ("attr,0,0,0,0,0,0,0,0000,0,000\n", 5, 1),
+        (
+            "attr,0,0,0,0,0,0,0,0000,0,000\nattr,0,0,0,0,0,0,0,0000,0,000\n",
+            5,
+            1,
+        ),
+        ("attr,0,0,0,0,0,0,0,0000,0,000\nwin,9\n", 5, 1),
+        (
+            "attr,0,0,0,0,0,0,0,0000,0,000\ncolour,0000,0000,000\n",
+            5,
+            1,
+        ),
+        ("run,0,0,plain,A\nattr,0,0,0,0,0,0,0,0000,0,000\n", 5, 1),
+    ];
+    refused_behind(&rt, rt.alloc(), front, Why::Field, cases.as_slice())?;
+    let elsewhere = [
+        ("attr,0,0,0,0,0,0,0,0000,0,000\n", 2, 1),
+        ("pop,CC1,10,60,120\nattr,0,0,0,0,0,0,0,0000,0,000\n", 3, 1),
+        ("roll,CC1,2,10,60,\nattr,9\n", 3, 1),
+    ];
+    refused_behind(
+        &rt,
+        rt.alloc(),
+        "ccsuite,2,30,300\n",
+        Why::Field,
+        elsewhere.as_slice(),
+    )
+}
+
+#[test]
+fn colours_stand_directly_below_a_run_in_a_window_of_version_2(
+    rt: HostRuntime,
+) -> Result<(), Fail> {
+    let front =
+        "ccsuite,2,30,300\nshare,1,8\nwin,1,0,0,60,200,10,0,60,50,2,10,0,1,1\nrun,0,0,plain,A\n";
+    let cases = [
+        ("colour\n", 5, 2),
+        ("colour,0000,4000\n", 5, 4),
+        ("colour,0000,0000,000,0\n", 5, 5),
+        ("colour,000,0000,000\n", 5, 2),
+        ("colour,0400,x,000\n", 5, 2),
+        ("colour,0000,00000,000\n", 5, 3),
+        ("colour,0000,0a00,x\n", 5, 3),
+        ("colour,0000,0000,0000\n", 5, 4),
+        ("colour,0000,0000,\n", 5, 4),
+        ("colour,0000,0000,444\n", 5, 4),
+        ("colour,0000,0000,000\ncolour,0000,0000,000\n", 6, 1),
+        (
+            "colour,0000,0000,000\nattr,0,0,0,0,0,0,0,0000,0,000\n",
+            6,
+            1,
+        ),
+        (
+            "pop,CC1,0,60,120\nrun,1,0,white,A\ncolour,0000,0000,000\n",
+            7,
+            1,
+        ),
+        (
+            "win,1,1,0,60,120,0,0,0,0,1,1,0,1,1\ncolour,0000,0000,000\n",
+            6,
+            1,
+        ),
+    ];
+    refused_behind(&rt, rt.alloc(), front, Why::Field, cases.as_slice())?;
+    let elsewhere = [
+        ("ccsuite,2,30,300\ncolour,0000,0000,000\n", 2, 1),
+        ("ccsuite,2,30,300\nshare,1,8\ncolour,0000,0000,000\n", 3, 1),
+        (
+            "ccsuite,1,29.97,200\nshare,1,31\nwin,1,0,0,60,100,0,0,60,50,1,10,0,1,1\nattr,2,0,3,1,0,0,0,3000,3,300\nrun,0,0,plain,HI\ncolour,0330,3000,000\n",
+            4,
+            1,
+        ),
+    ];
+    refused_behind(&rt, rt.alloc(), "", Why::Field, elsewhere.as_slice())
 }
 
 #[test]

@@ -1,6 +1,7 @@
 use Rattle.std.proofs.Common.{◌≡◌, rules, arith}
 use Rattle.std.proofs.lemmas.Grind.{common_steps}
 use Rattle.cue_form.specs.Printing.{in_order, list_bytes}
+use Rattle.cue_types.specs.declared.head.Version.TheVariants as version
 use Rattle.cue_form.proofs.PrintedFacts.{records_of-bytes}
 use Rattle.cue_form.proofs.printing.print.Goals as goal
 
@@ -8,4 +9,4 @@ use Rattle.cue_form.proofs.printing.print.Goals as goal
 pub returns-in-Ok-clause-records : goal.returns-in-Ok-clause-records
 returns-in-Ok-clause-records c =
     let is : c.in-Ok.bytes.items ≡ list_bytes c.args.list.now = first_of (search rules, grind (arith, common_steps)) in
-    rw is (records_of-bytes (in_order c.args.list.now))
+    rw is (records_of-bytes version.Two (in_order c.args.list.now))

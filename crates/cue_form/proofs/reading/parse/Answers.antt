@@ -4,7 +4,7 @@ use Rattle.csv.specs.Records.{fields_of}
 use Rattle.cue_form.specs.Answers.{Answers}
 use Rattle.cue_form.specs.Reading.{read_list}
 use Rattle.cue_form.specs.Records.{records_of}
-use Rattle.cue_form.proofs.Faults.{answered_fault, refused, says_built, says_fault, says_spelled}
+use Rattle.cue_form.proofs.Faults.{answered_fault, refused, says_fault, says_spelled}
 use Rattle.cue_form.proofs.Rows.{bom_shorter, read_end, read_row}
 use Rattle.cue_form.proofs.Steps.{IsBegun-next, IsBegun-nothing}
 use Rattle.cue_form.proofs.reading.parse.Goals as goal
@@ -63,7 +63,7 @@ returns-in-Err-take c =
     let s = rw (c.in-Some.is, c.in-Ok.is) at ((c.next.ensures.steps inv.2 inv.0).0 inv.1) in
     let row = read_row (λ (s : Bor (List ℕ)). Some s.now) c.loop-row.row-iterator.rdr c.next.new.self.rdr (fields_of c.in-Ok.row) default_config inv.5 inv.4 inv.3 inv.6 inv.7 s.0 in
     let answer = refused (read_list c.args.bytes.now) c.loop-row.draft c.loop-row.record_number _ _ (fields_of c.in-Ok.row) c.in-Err-take.offence c.in_record.result inv.9 row.5 c.in-Err-take.ensures c.in_record.ensures in
-    record { answer = answer; spelled = tt; built = tt; fault = answered_fault (records_of c.args.bytes.now) c.in_record.result answer }
+    record { answer = answer; spelled = tt; fault = answered_fault (records_of c.args.bytes.now) c.in_record.result answer }
 
 pub returns : goal.returns
 returns c =
@@ -74,6 +74,5 @@ returns c =
     record {
       answer = answer;
       spelled = says_spelled (records_of c.args.bytes.now) c.finish.result answer;
-      built = says_built (records_of c.args.bytes.now) c.finish.result answer;
       fault = says_fault (records_of c.args.bytes.now) c.finish.result answer;
     }

@@ -1,0 +1,50 @@
+-- Judgements that are all good, and the first offence where one isn't.
+use Rattle.std.proofs.Common.{◌≡◌, Bool, true, false, List, [], ◌∷◌, Option, Some, None, Result, Ok, Err, refl}
+use Rattle.cue_form.specs.Judgements.{Judgement, first_offence}
+use Rattle.cue_form.specs.Reading.{judged, on_ok, unless}
+use Rattle.cue_form.specs.declared.offence.Offence.{Offence}
+use Rattle.cue_form.proofs.Passing.{on_test}
+
+-- each of them is good
+abbrev pub AllGood : List Judgement → Type 0
+AllGood [] = Unit {0}
+AllGood (j ∷ js) = (j.good ≡ true) × AllGood js
+
+-- what was read has good judgements alone, and its value
+pub good_of : {A : Type 0} (js : List Judgement) (value read : A) → judged js value ≡ Ok read → AllGood js × (value ≡ read)
+good_of [] value read e = (tt, let same : value ≡ read = cc in same)
+good_of (j ∷ js) value read e =
+    on_test _ j.good (λ f. let q = rw f at e in cc) (λ t. let more = good_of js value read (rw t at e) in ((t, more.0), more.1))
+
+-- and where all are good it is read
+pub good_read : {A : Type 0} (js : List Judgement) (value : A) → AllGood js → judged js value ≡ Ok value
+good_read [] value good = refl
+good_read (j ∷ js) value good = rw (good.0) (good_read js value good.1)
+
+-- the offence of a record that was refused
+abbrev pub offence_of : {A : Type 0} → Result A Offence → Option Offence
+offence_of (Ok value) = None
+offence_of (Err offence) = Some offence
+
+-- it is the first of its judgements'
+offence_unless : {A : Type 0} (o : Option Offence) (value : A) → offence_of (unless o value) ≡ o
+offence_unless None value = refl
+offence_unless (Some offence) value = refl
+
+pub judged_offence : {A : Type 0} (js : List Judgement) (value : A) → offence_of (judged js value) ≡ first_offence js
+judged_offence js value = offence_unless (first_offence js) value
+
+-- a part whose value is only carried on
+pub carried : {A B : Type 0} (part : Result A Offence) (rest : A → B) → offence_of (on_ok part (λ x. Ok (rest x))) ≡ offence_of part
+carried (Ok x) rest = refl
+carried (Err offence) rest = refl
+
+-- one judgement before others
+pub behind : {A B : Type 0} (j : Judgement) (value : A) (rest : A → Result B Offence) (js : List Judgement)
+    → offence_of (rest value) ≡ first_offence js → offence_of (on_ok (judged (j ∷ []) value) rest) ≡ first_offence (j ∷ js)
+behind j value rest js same = on_test _ j.good (λ f. rw f refl) (λ t. rw t same)
+
+-- what one good judgement lets go on
+pub passed_on : {A B : Type 0} (j : Judgement) (value : A) (rest : A → Result B Offence) (read : B)
+    → on_ok (judged (j ∷ []) value) rest ≡ Ok read → (j.good ≡ true) × (rest value ≡ Ok read)
+passed_on j value rest read e = on_test _ j.good (λ f. let q = rw f at e in cc) (λ t. (t, rw t at e))
