@@ -1,8 +1,10 @@
 -- Judgements that are all good, and the first offence where one isn't.
 use Rattle.std.proofs.Common.{◌≡◌, Bool, true, false, List, [], ◌∷◌, Option, Some, None, Result, Ok, Err, refl}
+use Rattle.cue_form.specs.Answers.{Refuses}
 use Rattle.cue_form.specs.Judgements.{Judgement, first_offence}
 use Rattle.cue_form.specs.Reading.{judged, on_ok, unless}
 use Rattle.cue_form.specs.declared.offence.Offence.{Offence}
+use Rattle.cue_form.specs.declared.offence.Offence.TheVariants as offence
 use Rattle.cue_form.proofs.Passing.{on_test}
 
 -- each of them is good
@@ -48,3 +50,9 @@ behind j value rest js same = on_test _ j.good (λ f. rw f refl) (λ t. rw t sam
 pub passed_on : {A B : Type 0} (j : Judgement) (value : A) (rest : A → Result B Offence) (read : B)
     → on_ok (judged (j ∷ []) value) rest ≡ Ok read → (j.good ≡ true) × (rest value ≡ Ok read)
 passed_on j value rest read e = on_test _ j.good (λ f. let q = rw f at e in cc) (λ t. (t, rw t at e))
+
+-- a part that is refused, and nothing goes on from it
+pub refused_part : {A B : Type 0} (part : Result A Offence) (rest : A → Result B Offence) (o : Offence) → Err o ≡ part → Refuses (on_ok part rest) o
+refused_part part rest (offence.Memory error) is = tt
+refused_part part rest (offence.Limit which) is = rw (← is) refl
+refused_part part rest (offence.At place why) is = rw (← is) refl

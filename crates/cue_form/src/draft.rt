@@ -1,5 +1,6 @@
 ghost use Rattle.cue_types.specs.Listing.{most_cues};
-ghost use Rattle.std.specs.Prelude.{◌≡◌, ◌+◌, ◌≤◌, ◌++◌, IfOk, option_to_list, not, nat_le, nat_lt, length};
+ghost use Rattle.std.specs.Prelude.{◌≡◌, ◌==◌, ◌+◌, ◌≤◌, ◌++◌, IfOk, option_to_list, not, nat_le, nat_lt, length};
+ghost use Rattle.std.specs.List.{list_any};
 ghost use Rattle.csv.specs.Records.{fields_of};
 ghost use Rattle.cue_form.specs.Answers.{Answers, GivesBegun};
 ghost use Rattle.cue_form.specs.Begun.{IsBegun, nothing, cues_of, with_cue, cue_with_run, awaits_run};
@@ -308,10 +309,7 @@ fn read_share(shares: &[Share], room: u32, row: &ByteRecord) -> Result<Share, Of
     let Some(service) = read_within(1, 6, field(row, 1)) else {
         return Err(out_of_form(2));
     };
-    if shares
-        .iter()
-        .any(|share| u64::from(share.service) == service)
-    {
+    if has_share(shares, service as u8) {
         return Err(out_of_form(2));
     }
     let Some(bytes) = read_within(8, 31, field(row, 2)) else {
@@ -324,6 +322,13 @@ fn read_share(shares: &[Share], room: u32, row: &ByteRecord) -> Result<Share, Of
         service: service as u8,
         bytes: bytes as u8,
     })
+}
+
+/// Whether one of the shares is the service's.
+fn has_share(shares: &[Share], service: u8) -> bool
+    ensures { result ≡ list_any (λ share. share.service == service) shares.now }
+{
+    shares.iter().any(|share| share.service == service)
 }
 
 /// Whether a share of so many bytes fits in the room together with these shares, each with the header of its block.
