@@ -203,7 +203,7 @@ fn refusals() -> [Refusal; 12] {
             b"malformed at record 3 field 2: Field\n",
         ),
         (
-            "ccsuite,1,29.97,30\nshare,1,31\n",
+            "ccsuite,1,29.97,300\nshare,1,31\nwin,1,0,0,60,200,0,0,60,50,1,10,0,1,1\nrun,0,0,plain,HI\n",
             malformed(2, 1, Why::NotBuilt),
             b"malformed at record 2 field 1: NotBuilt\n",
         ),

@@ -1,13 +1,13 @@
 -- Every list is accepted or refused, never both, and refused with one status.
-use Rattle.std.proofs.Common.{◌≡◌, ◌∙◌, ◌<◌, ◌≤◌, ◌⊎◌, ℕ, List, length, Result, Ok, Err, refl, sym, subst, ap, arith, inl, inr}
-use Rattle.std.proofs.lemmas.Bool.{cases_lt}
+use Rattle.std.proofs.Common.{◌≡◌, ◌∙◌, ◌<◌, ◌≤◌, ◌⊎◌, ℕ, List, length, Result, Ok, Err, true, false, refl, sym, subst, ap, arith, inl, inr}
+use Rattle.std.proofs.lemmas.Bool.{cases_Bool, cases_lt}
+use Rattle.cc_base.specs.declared.why.Why.TheVariants as why
 use Rattle.cc_base.specs.declared.limit_of.LimitOf.TheVariants as limit
 use Rattle.cue_lists.specs.Listing.{Listing}
 use Rattle.cue_lists.specs.Reading.{read_list}
 use Rattle.cue_lists.specs.Records.{records_of}
 use Rattle.cue_lists.specs.Rules.{HasFault, IsRuled}
 use Rattle.cue_lists.specs.Spelling.{Spells}
-use Rattle.cue_lists.specs.Unbuilt.{IsBuilt}
 use Rattle.cue_lists.specs.declared.fault.CueFault.{CueFault}
 use Rattle.cue_lists.specs.declared.fault.CueFault.TheVariants as fault
 use Rattle.cue_lists.specs.declared.rules.RuleFault.{RuleFault}
@@ -21,81 +21,112 @@ use Rattle.frame_scheduler.proofs.LanesLemmas.{first_without_room, one_placement
 use Rattle.frame_scheduler.proofs.RoomDecided.{list_decided}
 use Rattle.cue_list_commands.specs.Accepted.{BreaksRule, IsAccepted, IsFaulty, IsGoodList, IsRefused, IsRefusedList, LacksRoom, list_limit}
 use Rattle.cue_list_commands.specs.Reads.{form_status}
+use Rattle.cue_list_commands.specs.Unbuilt.{has_window}
 use Rattle.cue_list_commands.specs.ListVerdict.{AcceptanceIsOne, AcceptedIsNotRefused, EveryListIsJudged, RefusalIsOne}
-use Rattle.command_base.specs.declared.status.Place.TheVariants.{Field}
+use Rattle.command_base.specs.declared.status.Place.TheVariants.{Byte, Field}
 use Rattle.command_base.specs.declared.status.Status.{Status}
 use Rattle.command_base.specs.declared.status.Status.TheVariants as status
 use Rattle.cue_lists.proofs.ListLimits.{no_want_of_memory}
-use Rattle.cue_list_commands.proofs.Refusals.{form_refused, ok_is_no_fault}
+use Rattle.cue_list_commands.proofs.Refusals.{form_refused, ok_is_no_fault, refused_list}
 
 -- bytes that spell a list are read as it
-spelled_read : (bytes : List ℕ) (list : Listing) → Spells (records_of bytes) list → IsBuilt list → read_list bytes ≡ Ok list
-spelled_read bytes list spelled built = list_of-spelled (records_of bytes) list spelled built
+spelled_read : (bytes : List ℕ) (list : Listing) → Spells (records_of bytes) list → read_list bytes ≡ Ok list
+spelled_read bytes list spelled = list_of-spelled (records_of bytes) list spelled
 
 -- so they have no fault
-spelled_faultless : (bytes : List ℕ) (list : Listing) (f : CueFault) → Spells (records_of bytes) list → IsBuilt list → IsFaulty bytes f → ⊥
-spelled_faultless bytes list f spelled built faulty =
-    ok_is_no_fault list f (sym (spelled_read bytes list spelled built) ∙ first_fault_read (records_of bytes) f faulty.first)
+spelled_faultless : (bytes : List ℕ) (list : Listing) (f : CueFault) → Spells (records_of bytes) list → IsFaulty bytes f → ⊥
+spelled_faultless bytes list f spelled faulty =
+    ok_is_no_fault list f (sym (spelled_read bytes list spelled) ∙ first_fault_read (records_of bytes) f faulty.first)
 
 -- and they spell one list
-spelled_one : (bytes : List ℕ) (a b : Listing) → Spells (records_of bytes) a → IsBuilt a → Spells (records_of bytes) b → IsBuilt b → a ≡ b
-spelled_one bytes a b spelled_a built_a spelled_b built_b =
-    let one : read_list bytes ≡ Ok a = spelled_read bytes a spelled_a built_a in
-    let two : read_list bytes ≡ Ok b = spelled_read bytes b spelled_b built_b in
+spelled_one : (bytes : List ℕ) (a b : Listing) → Spells (records_of bytes) a → Spells (records_of bytes) b → a ≡ b
+spelled_one bytes a b spelled_a spelled_b =
+    let one : read_list bytes ≡ Ok a = spelled_read bytes a spelled_a in
+    let two : read_list bytes ≡ Ok b = spelled_read bytes b spelled_b in
     cc
 
 -- a list that keeps the rules breaks none
-spelled_unbroken : (bytes : List ℕ) (list : Listing) (fault : RuleFault) → Spells (records_of bytes) list → IsBuilt list → IsRuled list → BreaksRule bytes fault → ⊥
-spelled_unbroken bytes list fault spelled built ruled breaks =
-    let same = spelled_one bytes breaks.list list breaks.spelled breaks.built spelled built in
-    ruled_has_none list fault spelled.1 ruled (subst (λ l. HasFault l fault) same breaks.broken)
+spelled_unbroken : (bytes : List ℕ) (list : Listing) (fault : RuleFault) → Spells (records_of bytes) list → IsRuled list → BreaksRule bytes fault → ⊥
+spelled_unbroken bytes list fault spelled ruled breaks =
+    let same = spelled_one bytes breaks.list list breaks.spelled spelled in
+    ruled_has_none list fault spelled.formed ruled (subst (λ l. HasFault l fault) same breaks.broken)
 
 -- a list that keeps the rules is refused with no status where room isn't asked
 pub good_not_refused : (bytes : List ℕ) (list : Listing) (answer : Status) → IsGoodList bytes list → IsRefusedList bytes answer → ⊥
 good_not_refused bytes list (status.Limit limit.Bytes) good long = let within = good.within in omega arith
 good_not_refused bytes list (status.Limit limit.Frames) good faulty =
-    spelled_faultless bytes list (fault.Limit limit.Frames) good.spelled good.built faulty
+    spelled_faultless bytes list (fault.Limit limit.Frames) good.spelled faulty
 good_not_refused bytes list (status.Limit limit.Cues) good faulty =
-    spelled_faultless bytes list (fault.Limit limit.Cues) good.spelled good.built faulty
+    spelled_faultless bytes list (fault.Limit limit.Cues) good.spelled faulty
 good_not_refused bytes list (status.Malformed (Field rec field) why) good faulty =
-    spelled_faultless bytes list (fault.Malformed rec field why) good.spelled good.built faulty
+    spelled_faultless bytes list (fault.Malformed rec field why) good.spelled faulty
 good_not_refused bytes list (status.Rule fault) good breaks =
-    spelled_unbroken bytes list fault good.spelled good.built good.ruled breaks
+    spelled_unbroken bytes list fault good.spelled good.ruled breaks
 good_not_refused bytes list _ good refused = refused
 
 -- an accepted list keeps the rules
 pub accepted_good : (bytes : List ℕ) (list : Listing) (placed : Placement) → IsAccepted bytes list placed → IsGoodList bytes list
 accepted_good bytes list placed accepted =
-    record { within = accepted.within; spelled = accepted.spelled; built = accepted.built; ruled = accepted.ruled }
+    record { within = accepted.within; spelled = accepted.spelled; ruled = accepted.ruled }
 
 -- an accepted list is refused with no status
 pub accepted_not_refused : AcceptedIsNotRefused
 accepted_not_refused bytes list placed (status.NoRoom cue) accepted lacks =
-    let same = spelled_one bytes lacks.list list lacks.spelled lacks.built accepted.spelled accepted.built in
+    let same = spelled_one bytes lacks.list list lacks.spelled accepted.spelled in
     placed_has_room list placed cue accepted.placement (subst (λ l. IsFirstWithoutRoom l cue) same lacks.first)
+accepted_not_refused bytes list placed (status.Malformed (Field rec field) why) accepted (inl faulty) =
+    spelled_faultless bytes list (fault.Malformed rec field why) accepted.spelled faulty
+accepted_not_refused bytes list placed (status.Malformed (Field rec field) why) accepted (inr unbuilt) =
+    let same = spelled_one bytes unbuilt.list list unbuilt.spelled accepted.spelled in
+    let windows : has_window list ≡ true = subst (λ (l : Listing). has_window l ≡ true) same unbuilt.windows in
+    let none = accepted.built in
+    cc
+accepted_not_refused bytes list placed (status.Malformed (Byte byte) why) accepted refused = refused
 accepted_not_refused bytes list placed answer accepted refused =
     good_not_refused bytes list answer (accepted_good bytes list placed accepted) refused
 
 -- bytes are accepted as one list, with one placement
 pub accepted_once : AcceptanceIsOne
 accepted_once bytes one other placed moved first second =
-    let same = spelled_one bytes other one second.spelled second.built first.spelled first.built in
+    let same = spelled_one bytes other one second.spelled first.spelled in
     (sym same, one_placement one placed moved first.placement (subst (λ l. IsListPlaced l moved) same second.placement))
+
+-- a list that keeps the rules can't be placed: it has a window, or a cue of it has no room
+record IsUnplaced (bytes : List ℕ) (answer : Status) : Type 0 where
+  list : Listing
+  within : length bytes ≤ list_limit
+  spelled : Spells (records_of bytes) list
+  ruled : IsRuled list
+  cause : ((has_window list ≡ true) × (answer ≡ status.Malformed (Field 2 1) why.NotBuilt))
+      ⊎ ((cue : ℕ) × (has_window list ≡ false) × IsFirstWithoutRoom list cue × (answer ≡ status.NoRoom cue))
 
 -- why a list is refused
 abbrev Cause : List ℕ → Status → Type 0
 Cause bytes answer = ((list_limit < length bytes) × (answer ≡ status.Limit limit.Bytes))
     ⊎ ((f : CueFault) × IsFaulty bytes f × (answer ≡ form_status f))
     ⊎ ((fault : RuleFault) × BreaksRule bytes fault × (answer ≡ status.Rule fault))
-    ⊎ ((cue : ℕ) × LacksRoom bytes cue × (answer ≡ status.NoRoom cue))
+    ⊎ IsUnplaced bytes answer
 
 cause_of : (bytes : List ℕ) (answer : Status) → IsRefused bytes answer → Cause bytes answer
 cause_of bytes (status.Limit limit.Bytes) long = inl (long, refl)
 cause_of bytes (status.Limit limit.Frames) faulty = inr (inl (fault.Limit limit.Frames, faulty, refl))
 cause_of bytes (status.Limit limit.Cues) faulty = inr (inl (fault.Limit limit.Cues, faulty, refl))
-cause_of bytes (status.Malformed (Field rec field) why) faulty = inr (inl (fault.Malformed rec field why, faulty, refl))
+cause_of bytes (status.Malformed (Field rec field) why) (inl faulty) = inr (inl (fault.Malformed rec field why, faulty, refl))
+cause_of bytes (status.Malformed (Field rec field) why) (inr unbuilt) = inr (inr (inr (record {
+  list = unbuilt.list;
+  within = unbuilt.within;
+  spelled = unbuilt.spelled;
+  ruled = unbuilt.ruled;
+  cause = inl (unbuilt.windows, rw (unbuilt.record_is, unbuilt.field_is, unbuilt.why_is) refl);
+})))
 cause_of bytes (status.Rule fault) breaks = inr (inr (inl (fault, breaks, refl)))
-cause_of bytes (status.NoRoom cue) lacks = inr (inr (inr (cue, lacks, refl)))
+cause_of bytes (status.NoRoom cue) lacks = inr (inr (inr (record {
+  list = lacks.list;
+  within = lacks.within;
+  spelled = lacks.spelled;
+  ruled = lacks.ruled;
+  cause = inr (cue, lacks.built, lacks.first, refl);
+})))
 cause_of bytes _ refused = absurd refused
 
 -- a list has one fault, one broken rule, one first cue without a placement
@@ -107,41 +138,46 @@ one_form_fault bytes a b first second =
 
 one_rule_fault : (bytes : List ℕ) (a b : RuleFault) → BreaksRule bytes a → BreaksRule bytes b → a ≡ b
 one_rule_fault bytes a b first second =
-    let same = spelled_one bytes second.list first.list second.spelled second.built first.spelled first.built in
+    let same = spelled_one bytes second.list first.list second.spelled first.spelled in
     one_fault first.list a b first.broken (subst (λ l. HasFault l b) same second.broken)
 
-one_crowded_cue : (bytes : List ℕ) (a b : ℕ) → LacksRoom bytes a → LacksRoom bytes b → a ≡ b
-one_crowded_cue bytes a b first second =
-    let same = spelled_one bytes second.list first.list second.spelled second.built first.spelled first.built in
-    first_without_room first.list a b first.first (subst (λ l. IsFirstWithoutRoom l b) same second.first)
+one_unplaced : (list : Listing) (one other : Status)
+    → ((has_window list ≡ true) × (one ≡ status.Malformed (Field 2 1) why.NotBuilt)) ⊎ ((cue : ℕ) × (has_window list ≡ false) × IsFirstWithoutRoom list cue × (one ≡ status.NoRoom cue))
+    → ((has_window list ≡ true) × (other ≡ status.Malformed (Field 2 1) why.NotBuilt)) ⊎ ((cue : ℕ) × (has_window list ≡ false) × IsFirstWithoutRoom list cue × (other ≡ status.NoRoom cue)) → one ≡ other
+one_unplaced list one other (inl (windows, is)) (inl (again, at)) = is ∙ sym at
+one_unplaced list one other (inl (windows, is)) (inr (cue, none, first, at)) = absurd (let q = sym windows ∙ none in cc)
+one_unplaced list one other (inr (cue, none, first, is)) (inl (windows, at)) = absurd (let q = sym windows ∙ none in cc)
+one_unplaced list one other (inr (cue, none, first, is)) (inr (more, again, second, at)) = is ∙ ap status.NoRoom (first_without_room list cue more first second) ∙ sym at
 
 -- two causes are one
 same_status : (bytes : List ℕ) (one other : Status) → Cause bytes one → Cause bytes other → one ≡ other
 same_status bytes one other (inl (long, is)) (inl (too_long, at)) = is ∙ sym at
 same_status bytes one other (inl (long, is)) (inr (inl (f, faulty, at))) = absurd (let within = faulty.within in omega arith)
 same_status bytes one other (inl (long, is)) (inr (inr (inl (fault, breaks, at)))) = absurd (let within = breaks.within in omega arith)
-same_status bytes one other (inl (long, is)) (inr (inr (inr (cue, lacks, at)))) = absurd (let within = lacks.within in omega arith)
+same_status bytes one other (inl (long, is)) (inr (inr (inr lacks))) = absurd (let within = lacks.within in omega arith)
 same_status bytes one other (inr (inl (f, faulty, is))) (inl (long, at)) = absurd (let within = faulty.within in omega arith)
 same_status bytes one other (inr (inl (f, faulty, is))) (inr (inl (g, other_faulty, at))) =
     is ∙ ap form_status (one_form_fault bytes f g faulty other_faulty) ∙ sym at
 same_status bytes one other (inr (inl (f, faulty, is))) (inr (inr (inl (fault, breaks, at)))) =
-    absurd (spelled_faultless bytes breaks.list f breaks.spelled breaks.built faulty)
-same_status bytes one other (inr (inl (f, faulty, is))) (inr (inr (inr (cue, lacks, at)))) =
-    absurd (spelled_faultless bytes lacks.list f lacks.spelled lacks.built faulty)
+    absurd (spelled_faultless bytes breaks.list f breaks.spelled faulty)
+same_status bytes one other (inr (inl (f, faulty, is))) (inr (inr (inr lacks))) =
+    absurd (spelled_faultless bytes lacks.list f lacks.spelled faulty)
 same_status bytes one other (inr (inr (inl (fault, breaks, is)))) (inl (long, at)) = absurd (let within = breaks.within in omega arith)
 same_status bytes one other (inr (inr (inl (fault, breaks, is)))) (inr (inl (f, faulty, at))) =
-    absurd (spelled_faultless bytes breaks.list f breaks.spelled breaks.built faulty)
+    absurd (spelled_faultless bytes breaks.list f breaks.spelled faulty)
 same_status bytes one other (inr (inr (inl (fault, breaks, is)))) (inr (inr (inl (other_fault, other_breaks, at)))) =
     is ∙ ap status.Rule (one_rule_fault bytes fault other_fault breaks other_breaks) ∙ sym at
-same_status bytes one other (inr (inr (inl (fault, breaks, is)))) (inr (inr (inr (cue, lacks, at)))) =
-    absurd (spelled_unbroken bytes lacks.list fault lacks.spelled lacks.built lacks.ruled breaks)
-same_status bytes one other (inr (inr (inr (cue, lacks, is)))) (inl (long, at)) = absurd (let within = lacks.within in omega arith)
-same_status bytes one other (inr (inr (inr (cue, lacks, is)))) (inr (inl (f, faulty, at))) =
-    absurd (spelled_faultless bytes lacks.list f lacks.spelled lacks.built faulty)
-same_status bytes one other (inr (inr (inr (cue, lacks, is)))) (inr (inr (inl (fault, breaks, at)))) =
-    absurd (spelled_unbroken bytes lacks.list fault lacks.spelled lacks.built lacks.ruled breaks)
-same_status bytes one other (inr (inr (inr (cue, lacks, is)))) (inr (inr (inr (other_cue, other_lacks, at)))) =
-    is ∙ ap status.NoRoom (one_crowded_cue bytes cue other_cue lacks other_lacks) ∙ sym at
+same_status bytes one other (inr (inr (inl (fault, breaks, is)))) (inr (inr (inr lacks))) =
+    absurd (spelled_unbroken bytes lacks.list fault lacks.spelled lacks.ruled breaks)
+same_status bytes one other (inr (inr (inr lacks))) (inl (long, at)) = absurd (let within = lacks.within in omega arith)
+same_status bytes one other (inr (inr (inr lacks))) (inr (inl (f, faulty, at))) =
+    absurd (spelled_faultless bytes lacks.list f lacks.spelled faulty)
+same_status bytes one other (inr (inr (inr lacks))) (inr (inr (inl (fault, breaks, at)))) =
+    absurd (spelled_unbroken bytes lacks.list fault lacks.spelled lacks.ruled breaks)
+same_status bytes one other (inr (inr (inr lacks))) (inr (inr (inr other_lacks))) =
+    let same = spelled_one bytes other_lacks.list lacks.list other_lacks.spelled lacks.spelled in
+    one_unplaced lacks.list one other lacks.cause
+    (subst (λ (l : Listing). ((has_window l ≡ true) × (other ≡ status.Malformed (Field 2 1) why.NotBuilt)) ⊎ ((cue : ℕ) × (has_window l ≡ false) × IsFirstWithoutRoom l cue × (other ≡ status.NoRoom cue))) same other_lacks.cause)
 
 -- a list that is refused is refused with one status
 pub refused_once : RefusalIsOne
@@ -151,28 +187,30 @@ refused_once bytes one other refused again = same_status bytes one other (cause_
 fault_refused : (bytes : List ℕ) (f : CueFault) → length bytes ≤ list_limit → read_list bytes ≡ Err f → IsRefused bytes (form_status f)
 fault_refused bytes (fault.Memory error) within is = absurd (no_want_of_memory bytes error is)
 fault_refused bytes (fault.Limit which) within is =
-    form_refused bytes (fault.Limit which) within is (answered_fault (records_of bytes) (fault.Limit which) is)
+    refused_list bytes (status.Limit which) (form_refused bytes (fault.Limit which) within is (answered_fault (records_of bytes) (fault.Limit which) is))
 fault_refused bytes (fault.Malformed rec field why) within is =
-    form_refused bytes (fault.Malformed rec field why) within is (answered_fault (records_of bytes) (fault.Malformed rec field why) is)
+    refused_list bytes (status.Malformed (Field rec field) why) (form_refused bytes (fault.Malformed rec field why) within is (answered_fault (records_of bytes) (fault.Malformed rec field why) is))
 
 -- a list is accepted, or it is refused
 abbrev Judged : List ℕ → Type 0
 Judged bytes = ((list : Listing) × (placed : Placement) × IsAccepted bytes list placed) ⊎ ((answer : Status) × IsRefused bytes answer)
 
-list_judged : (bytes : List ℕ) (list : Listing) → length bytes ≤ list_limit → Spells (records_of bytes) list → IsBuilt list → Judged bytes
-list_judged bytes list within spelled built =
+list_judged : (bytes : List ℕ) (list : Listing) → length bytes ≤ list_limit → Spells (records_of bytes) list → Judged bytes
+list_judged bytes list within spelled =
     elim (ruled_or_broken list) [
-      | inl ruled ↦ elim (list_decided list spelled.1) [
-        | inl there ↦ inl (list, there.0, record { within = within; spelled = spelled; built = built; ruled = ruled; placement = there.1 })
-        | inr without ↦ inr (status.NoRoom without.0, record { list = list; within = within; spelled = spelled; built = built; ruled = ruled; first = without.1 })
+      | inl ruled ↦ elim (cases_Bool (has_window list)) [
+        | inl windows ↦ inr (status.Malformed (Field 2 1) why.NotBuilt, inr (record { list = list; within = within; spelled = spelled; ruled = ruled; windows = windows; record_is = refl; field_is = refl; why_is = refl }))
+        | inr none ↦ elim (list_decided list spelled.formed) [
+          | inl there ↦ inl (list, there.0, record { within = within; spelled = spelled; built = none; ruled = ruled; placement = there.1 })
+          | inr without ↦ inr (status.NoRoom without.0, record { list = list; within = within; spelled = spelled; built = none; ruled = ruled; first = without.1 })
+        ]
       ]
-      | inr broken ↦ inr (status.Rule broken.0, record { list = list; within = within; spelled = spelled; built = built; broken = broken.1 })
+      | inr broken ↦ inr (status.Rule broken.0, record { list = list; within = within; spelled = spelled; broken = broken.1 })
     ]
 
 read_judged : (bytes : List ℕ) (r : Result Listing CueFault) → length bytes ≤ list_limit → read_list bytes ≡ r → Judged bytes
 read_judged bytes (Ok list) within is =
-    let spelled = answered_list (records_of bytes) list is in
-    list_judged bytes list within spelled.0 spelled.1
+    list_judged bytes list within (answered_list (records_of bytes) list is)
 read_judged bytes (Err f) within is = inr (form_status f, fault_refused bytes f within is)
 
 -- every list is accepted or refused

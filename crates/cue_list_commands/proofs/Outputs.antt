@@ -12,6 +12,7 @@ use Rattle.cue_lists.specs.Listing.{IsFormed, Listing}
 use Rattle.cue_lists.specs.Printing.{in_order, list_bytes}
 use Rattle.cue_lists.specs.Records.{records_of}
 use Rattle.cue_lists.specs.Spelling.{list_records}
+use Rattle.cue_lists.specs.declared.head.Version.TheVariants as version
 use Rattle.cue_lists.specs.declared.lane.Lane.TheVariants.{Channel}
 use Rattle.frame_scheduler.specs.Columns.{Columns}
 use Rattle.frame_scheduler.specs.Frames.{GivesFrom, frames_left}
@@ -32,13 +33,13 @@ use Rattle.cue_list_commands.specs.declared.programme.Programme.{Programme}
 
 -- control pairs of an accepted list are doubled
 doubled_columns : (bytes : List ℕ) (list : Listing) (placed : Placement) → IsAccepted bytes list placed → AreDoubled list (columns_of list placed)
-doubled_columns bytes list placed accepted = columns_doubled list placed accepted.spelled.1 accepted.ruled accepted.placement
+doubled_columns bytes list placed accepted = columns_doubled list placed accepted.spelled.formed accepted.ruled accepted.placement
 
 -- what `pairs` puts of an accepted list is sound
 sound_pairs : (bytes : List ℕ) (list : Listing) (placed : Placement) → IsAccepted bytes list placed → IsSoundPairs list placed
 sound_pairs bytes list placed accepted = record {
   doubled = doubled_columns bytes list placed accepted;
-  shown = λ frame below. authored_seen list placed accepted.spelled.1 accepted.ruled accepted.placement frame;
+  shown = λ frame below. authored_seen list placed accepted.spelled.formed accepted.ruled accepted.placement frame;
 }
 
 -- a pair that is of bytes, where there is one
@@ -56,7 +57,7 @@ byte_pairs list placed formed true frame =
 -- what `build` puts of an accepted list is sound
 pub sound_words : (bytes : List ℕ) (list : Listing) (placed : Placement) → IsAccepted bytes list placed → IsSoundWords list placed
 sound_words bytes list placed accepted =
-    let formed : IsFormed list = accepted.spelled.1 in
+    let formed : IsFormed list = accepted.spelled.formed in
     let carried : AreCarried list.rate (columns_of list placed) list.frames =
     frames_carried list.rate (columns_of list placed) list.frames (byte_pairs list placed formed) in
     record {
@@ -132,12 +133,12 @@ words_front left old new programme is puts =
 
 -- a list was put as it is written
 pub list_put : (left old new : Option (List ℕ)) (list : Listing) (text piece : List ℕ) → IfSome left (λ bytes. IsGoodList bytes list)
-    → text ≡ list_bytes list → records_of text ≡ list_records (in_order list) → piece ≡ text → Appends old new piece
+    → text ≡ list_bytes list → records_of text ≡ list_records version.Two (in_order list) → piece ≡ text → Appends old new piece
     → IfSome left (λ bytes. PutsList bytes old new)
 list_put None old new list text piece good is again same puts = tt
 list_put (Some bytes) old new list text piece good is again same puts = record {
   list = list;
   good = good;
   output_is = subst (Appends old new) (same ∙ is) puts;
-  again = subst (λ (t : List ℕ). records_of t ≡ list_records (in_order list)) is again;
+  again = subst (λ (t : List ℕ). records_of t ≡ list_records version.Two (in_order list)) is again;
 }

@@ -1,13 +1,14 @@
 -- Which cue lists are accepted, and why another one is refused.
-use Rattle.std.specs.Prelude.{◌<◌, ◌≤◌, ℕ, List, length}
+use Rattle.std.specs.Prelude.{◌≡◌, ◌⊎◌, true, ◌<◌, ◌≤◌, ℕ, List, length}
 use Rattle.cc_base.specs.declared.limit_of.LimitOf.TheVariants as limit
+use Rattle.cc_base.specs.declared.why.Why.{Why}
+use Rattle.cc_base.specs.declared.why.Why.TheVariants as why
 use Rattle.cue_lists.specs.FirstFault.{IsFirstFault}
 use Rattle.cue_lists.specs.Listing.{Listing}
 pub use Rattle.cue_lists.specs.Records.{list_limit}
 use Rattle.cue_lists.specs.Records.{records_of}
 use Rattle.cue_lists.specs.Rules.{HasFault, IsRuled}
 use Rattle.cue_lists.specs.Spelling.{Spells}
-use Rattle.cue_lists.specs.Unbuilt.{IsBuilt}
 use Rattle.cue_lists.specs.declared.fault.CueFault.{CueFault}
 use Rattle.cue_lists.specs.declared.fault.CueFault.TheVariants as fault
 use Rattle.cue_lists.specs.declared.rules.RuleFault.{RuleFault}
@@ -15,9 +16,10 @@ use Rattle.frame_scheduler.specs.Planned.{IsFirstWithoutRoom, IsListPlaced, Plac
 use Rattle.command_base.specs.declared.status.Place.TheVariants.{Byte, Field}
 use Rattle.command_base.specs.declared.status.Status.{Status}
 use Rattle.command_base.specs.declared.status.Status.TheVariants as status
+use Rattle.cue_list_commands.specs.Unbuilt.{IsBuilt, has_window}
 
--- the records of the bytes spell a cue list that this version authors and that keeps the rules, and whose units have their
--- earliest placement in these frames
+-- the records of the bytes spell a cue list that keeps the rules and has no window, and whose units have their earliest
+-- placement in these frames
 pub record IsAccepted (bytes : List ℕ) (list : Listing) (placed : Placement) : Type 0 where
   pub within : length bytes ≤ list_limit
   pub spelled : Spells (records_of bytes) list
@@ -25,7 +27,7 @@ pub record IsAccepted (bytes : List ℕ) (list : Listing) (placed : Placement) :
   pub ruled : IsRuled list
   pub placement : IsListPlaced list placed
 
--- the records of the bytes spell no list that this version authors, and this is their first fault
+-- the records of the bytes spell no list, and this is their first fault
 pub record IsFaulty (bytes : List ℕ) (fault : CueFault) : Type 0 where
   pub within : length bytes ≤ list_limit
   pub first : IsFirstFault (records_of bytes) fault
@@ -35,8 +37,19 @@ pub record BreaksRule (bytes : List ℕ) (fault : RuleFault) : Type 0 where
   pub list : Listing
   pub within : length bytes ≤ list_limit
   pub spelled : Spells (records_of bytes) list
-  pub built : IsBuilt list
   pub broken : HasFault list fault
+
+-- the records of the bytes spell a list that keeps the rules and has a window, which can't be placed yet: windows begin with
+-- the shares of their services, the first of which is record 2
+pub record IsUnbuilt (bytes : List ℕ) (rec field : ℕ) (why : Why) : Type 0 where
+  pub list : Listing
+  pub within : length bytes ≤ list_limit
+  pub spelled : Spells (records_of bytes) list
+  pub ruled : IsRuled list
+  pub windows : has_window list ≡ true
+  pub record_is : rec ≡ 2
+  pub field_is : field ≡ 1
+  pub why_is : why ≡ why.NotBuilt
 
 -- the records of the bytes spell a list that keeps the rules, and this cue is the first without a placement
 pub record LacksRoom (bytes : List ℕ) (cue : ℕ) : Type 0 where
@@ -47,11 +60,10 @@ pub record LacksRoom (bytes : List ℕ) (cue : ℕ) : Type 0 where
   pub ruled : IsRuled list
   pub first : IsFirstWithoutRoom list cue
 
--- the records of the bytes spell a cue list that this version authors and that keeps the rules; whether it has room isn't asked
+-- the records of the bytes spell a cue list that keeps the rules; whether it can be placed isn't asked
 pub record IsGoodList (bytes : List ℕ) (list : Listing) : Type 0 where
   pub within : length bytes ≤ list_limit
   pub spelled : Spells (records_of bytes) list
-  pub built : IsBuilt list
   pub ruled : IsRuled list
 
 -- the bytes are refused with this status, and with no other
@@ -60,12 +72,13 @@ IsRefused bytes (status.Limit limit.Bytes) = list_limit < length bytes
 IsRefused bytes (status.Limit limit.Frames) = IsFaulty bytes (fault.Limit limit.Frames)
 IsRefused bytes (status.Limit limit.Cues) = IsFaulty bytes (fault.Limit limit.Cues)
 IsRefused bytes (status.Malformed (Byte byte) why) = ⊥
-IsRefused bytes (status.Malformed (Field rec field) why) = IsFaulty bytes (fault.Malformed rec field why)
+IsRefused bytes (status.Malformed (Field rec field) why) = IsFaulty bytes (fault.Malformed rec field why) ⊎ IsUnbuilt bytes rec field why
 IsRefused bytes (status.Rule fault) = BreaksRule bytes fault
 IsRefused bytes (status.NoRoom cue) = LacksRoom bytes cue
 IsRefused bytes _ = ⊥
 
--- the same where room isn't asked: no list is refused for want of it
+-- the same where it isn't asked whether a list can be placed: none is refused for its windows, or for want of room
 abbrev pub IsRefusedList : List ℕ → Status → Type 0
 IsRefusedList bytes (status.NoRoom cue) = ⊥
+IsRefusedList bytes (status.Malformed (Field rec field) why) = IsFaulty bytes (fault.Malformed rec field why)
 IsRefusedList bytes answer = IsRefused bytes answer

@@ -4,3 +4,4 @@ pub mod ListAnswer
 pub mod ListVerdict
 pub mod Output
 pub mod Reads
+pub mod Unbuilt

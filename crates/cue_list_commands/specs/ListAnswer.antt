@@ -7,6 +7,7 @@ use Rattle.cue_lists.specs.Listing.{Listing}
 use Rattle.cue_lists.specs.Printing.{in_order, list_bytes}
 use Rattle.cue_lists.specs.Records.{records_of}
 use Rattle.cue_lists.specs.Spelling.{list_records}
+use Rattle.cue_lists.specs.declared.head.Version.TheVariants as version
 use Rattle.frame_scheduler.specs.Planned.{Placement}
 use Rattle.cue_list_commands.specs.Accepted.{IsAccepted, IsGoodList, IsRefused, IsRefusedList}
 use Rattle.command_base.specs.Ends.{Ends}
@@ -29,12 +30,12 @@ pub record PutsFront (output : Listing → Placement → List ℕ) (bytes : List
   pub accepted : IsAccepted bytes list placed
   pub front : Puts old new put.Failed (output list placed)
 
--- a cue list that keeps the rules was put as it is written, and is read so again
+-- a cue list that keeps the rules was put as it is written, in version 2, and is read so again
 pub record PutsList (bytes : List ℕ) (old new : Option (List ℕ)) : Type 0 where
   pub list : Listing
   pub good : IsGoodList bytes list
   pub output_is : Appends old new (list_bytes list)
-  pub again : records_of (list_bytes list) ≡ list_records (in_order list)
+  pub again : records_of (list_bytes list) ≡ list_records version.Two (in_order list)
 
 -- a front of it was put
 pub record PutsListFront (bytes : List ℕ) (old new : Option (List ℕ)) : Type 0 where

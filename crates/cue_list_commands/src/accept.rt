@@ -1,17 +1,19 @@
 ghost use Rattle.std.specs.Prelude.{◌≡◌, ◌≤◌, length};
 ghost use Rattle.cue_list_commands.specs.Accepted.{IsGoodList, IsRefused, IsRefusedList, list_limit};
 ghost use Rattle.command_base.specs.WholeInput.{Judges};
+ghost use Rattle.cue_list_commands.specs.Unbuilt.{has_window};
 ghost use Rattle.cue_list_commands.specs.Reads.{IsProgrammeOf, ReadsList, ReadsProgramme, form_status};
 
 use crate::programme::Programme;
-use cc_base::Source;
+use cc_base::{Source, Why};
 use command_base::{Place, Status, read_input};
+use cue_lists::lane::is_win;
 use cue_lists::{CueFault, CueList, check, parse};
 use frame_scheduler::{PlanFault, plan};
 use std::alloc::Global;
 
-/// Reads a cue list to its end and judges it: its bytes' number, its form and limits, its rules, its room. Gives its
-/// programme, or the status with which it is refused.
+/// Reads a cue list to its end and judges it: its bytes' number, its form and limits, its rules, that it has no window, its
+/// room. Gives its programme, or the status with which it is refused.
 pub fn read_programme<M: Source>(alloc: Global, input: &mut M) -> Result<Programme, Status>
     ensures { ReadsProgramme (M.left input.old) (M.left input.new) (M.faults input.old) (M.faults input.new) result }
 {
@@ -21,7 +23,7 @@ pub fn read_programme<M: Source>(alloc: Global, input: &mut M) -> Result<Program
     }
 }
 
-/// Reads a cue list to its end and judges all but its room. Gives the list, or the status with which it is refused.
+/// Reads a cue list to its end and judges all but its placement. Gives the list, or the status with which it is refused.
 pub fn read_list<M: Source>(alloc: Global, input: &mut M) -> Result<CueList, Status>
     ensures { ReadsList (M.left input.old) (M.left input.new) (M.faults input.old) (M.faults input.new) result }
 {
@@ -40,6 +42,9 @@ fn judge(alloc: Global, bytes: &[u8]) -> Result<Programme, Status>
         Ok(list) => list,
         Err(status) => return Err(status),
     };
+    if has_window(&list) {
+        return Err(Status::Malformed(Place::Field { rec: 2, field: 1 }, Why::NotBuilt));
+    }
     match plan(alloc, &list) {
         Ok(plan) => Ok(Programme {
             rate: list.rate(),
@@ -50,7 +55,14 @@ fn judge(alloc: Global, bytes: &[u8]) -> Result<Programme, Status>
     }
 }
 
-/// Judges all but the room of a cue list.
+/// Whether a list has captions in windows, which can't be placed yet.
+fn has_window(list: &CueList) -> bool
+    ensures { result ≡ has_window list.now }
+{
+    list.cues().iter().any(|cue| is_win(cue.kind))
+}
+
+/// Judges all but the placement of a cue list.
 fn judge_list(alloc: Global, bytes: &[u8]) -> Result<CueList, Status>
     requires { length bytes.now ≤ list_limit }
     ensures { Judges IsGoodList IsRefusedList bytes.now result }
