@@ -1,10 +1,10 @@
 -- Records that spell a cue list are read as that list.
-use Rattle.std.proofs.Common.{◌≡◌, ◌≢◌, ℕ, zero, suc, ◌+◌, ◌-◌, ◌<◌, ◌≤◌, ◌^◌, ◌==◌, ◌&&◌, ◌||◌, not, Bool, true, false, nat_lt, nat_le, List, [], ◌∷◌, ◌++◌, map, length, get_or, All, AllPairs, IsSome, chars, encode_utf8_all, IsUtf8, Option, Some, None, option_to_list, Ok, arith, refl, sym, ap, subst, ◌∙◌, append_assoc, length-append, eq-eqb, le-leb, lt-ltb, ne_eqb}
+use Rattle.std.proofs.Common.{◌≡◌, ◌≢◌, ℕ, zero, suc, ◌+◌, ◌-◌, ◌<◌, ◌≤◌, ◌==◌, Bool, true, false, nat_lt, List, [], ◌∷◌, ◌++◌, map, length, get_or, All, encode_utf8_all, IsUtf8, Option, Some, None, option_to_list, Ok, arith, refl, sym, ap, subst, ◌∙◌, append_assoc, length-append, eq-eqb, le-leb, lt-ltb, ne_eqb}
 use Rattle.std.specs.List.{flat_map, list_all, list_any}
-use Rattle.std.specs.Prelude.{decimal, is_none, IfSome, option_map}
-use Rattle.std.specs.Str.{all_scalars, is_utf8}
+use Rattle.std.specs.Prelude.{decimal, IfSome, option_map}
+use Rattle.std.specs.Str.{all_scalars}
 use Rattle.std.proofs.lemmas.Fmt.{decimal_digit}
-use Rattle.std.proofs.lemmas.List.{append-nil, length-map}
+use Rattle.std.proofs.lemmas.List.{append-nil}
 use Rattle.std.proofs.lemmas.List.Elements.{All-cons, All-head, All-nil, All-tail}
 use Rattle.std.proofs.lemmas.List.Sums.{sum_by-append, sum_by-cons}
 use Rattle.std.proofs.lemmas.Str.{chars-encodes, is_utf8-from_IsUtf8, length-le-encodes}
@@ -14,11 +14,11 @@ use Rattle.dtvcc_codes.specs.declared.pens.PenColors.{PenColors}
 use Rattle.dtvcc_codes.specs.declared.pens.Rgb.{Rgb}
 use Rattle.dtvcc_codes.specs.declared.windows.WinAttr.{WinAttr}
 use Rattle.line21_codes.specs.declared.channels.Chan.{Chan}
-use Rattle.cue_form.specs.Begun.{AreOfVersion, Begun, IsCueBegun, IsPlain, IsPlainKind, awaits_run, cue_with_attributes, cue_with_colours, cue_with_run, kind_with_attributes, no_runs, nothing}
+use Rattle.cue_form.specs.Begun.{AreOfVersion, Begun, IsCueBegun, IsPlain, IsPlainKind, awaits_run, cue_with_run, no_runs, nothing}
 use Rattle.cue_form.specs.Fields.{fill_field, is_two_bits, named, number_within, pen_field, plain_words, rgb_field}
 use Rattle.cue_form.specs.Form.{columns_of, first_row, is_coded, is_second, is_window, last_is_plain, last_row, run_pen_field, suits_row, version_words}
 use Rattle.cue_form.specs.Reading.{attributes_of, colours_of, list_of, next, read_from, run_of}
-use Rattle.cue_form.specs.Records.{Field, Record}
+use Rattle.cue_form.specs.Records.{Record}
 use Rattle.cue_form.specs.Spelling.{Spells, attribute_record, attribute_records, colour_record, colour_records, cue_record, cue_records, fill_word, head_record, pen_word, rgb_word, run_record, run_records, share_record, version_word, window_attribute_records, wrap_number}
 use Rattle.cue_types.specs.Coloured.{coloured}
 use Rattle.cue_types.specs.Cues.{IsCueFormed, IsOfKind}

@@ -1,5 +1,5 @@
 -- Judgements that are all good, and the first offence where one isn't.
-use Rattle.std.proofs.Common.{◌≡◌, Bool, true, false, List, [], ◌∷◌, Option, Some, None, Result, Ok, Err, refl}
+use Rattle.std.proofs.Common.{◌≡◌, true, List, [], ◌∷◌, Option, Some, None, Result, Ok, Err, refl}
 use Rattle.cue_form.specs.Answers.{Refuses}
 use Rattle.cue_form.specs.Judgements.{Judgement, first_offence}
 use Rattle.cue_form.specs.Reading.{judged, on_ok, unless}

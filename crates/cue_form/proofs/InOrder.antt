@@ -1,12 +1,12 @@
 -- A list with its shares in ascending order of their services is in form where the list is.
-use Rattle.std.proofs.Common.{◌≡◌, ◌≢◌, ℕ, suc, ◌+◌, ◌<◌, ◌≤◌, ◌==◌, Bool, true, false, List, [], ◌∷◌, ◌++◌, length, All, AllPairs, Option, Some, None, refl, sym, ap, ◌∙◌, arith, eqb-true}
-use Rattle.std.specs.Prelude.{find, flat_map, option_map, option_to_list, sum_by, if◌then◌else◌}
+use Rattle.std.proofs.Common.{◌≡◌, ◌≢◌, ℕ, suc, ◌+◌, ◌≤◌, ◌==◌, Bool, true, false, List, [], ◌∷◌, ◌++◌, length, All, AllPairs, Option, Some, None, refl, ◌∙◌, arith, eqb-true}
+use Rattle.std.specs.Prelude.{find, flat_map, option_map, option_to_list, if◌then◌else◌}
 use Rattle.std.proofs.lemmas.List.Elements.{All-cons, All-head, All-nil, All-tail}
 use Rattle.std.proofs.lemmas.List.Kept.{AllPairs-cons}
 use Rattle.std.proofs.lemmas.List.Sums.{sum_by-append, sum_by-cons}
-use Rattle.cue_form.specs.Printing.{in_order, share_list}
-use Rattle.cue_types.specs.Listing.{IsFormed, Listing, share_of}
-use Rattle.cue_types.specs.Shares.{AreShares, IsShare, shares_taken}
+use Rattle.cue_form.specs.Printing.{in_order}
+use Rattle.cue_types.specs.Listing.{IsFormed, Listing}
+use Rattle.cue_types.specs.Shares.{IsShare, shares_taken}
 use Rattle.cue_types.specs.declared.list.Share.{Share}
 use Rattle.cue_form.proofs.Passing.{on_test}
 

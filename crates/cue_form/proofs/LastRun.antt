@@ -1,5 +1,5 @@
 -- The last of the runs.
-use Rattle.std.proofs.Common.{◌≡◌, ℕ, ◌-◌, ◌<◌, Bool, true, false, suc, List, [], ◌∷◌, length, refl, ◌∙◌, arith}
+use Rattle.std.proofs.Common.{◌≡◌, ◌-◌, ◌<◌, false, suc, List, [], ◌∷◌, length, refl, arith}
 use Rattle.std.specs.Prelude.{is_none, slice_index_or}
 use Rattle.cue_form.specs.Form.{last_is_plain}
 use Rattle.cue_types.specs.declared.cue.Run.{Run}

@@ -6,7 +6,7 @@ use Rattle.cc_base.specs.declared.limit_of.LimitOf.{LimitOf}
 use Rattle.cc_base.specs.declared.limit_of.LimitOf.TheVariants as limit
 use Rattle.cue_form.specs.Begun.{Begun, awaits_run, nothing}
 use Rattle.cue_form.specs.Form.{record_kind_of}
-use Rattle.cue_form.specs.Judgements.{Judgement, attribute_judgements, colour_judgements, first_offence, head_judgements, rolled_judgements, room_at, room_judgement, run_judgements, share_judgements, shown_judgements, standing_judgement, window_judgements}
+use Rattle.cue_form.specs.Judgements.{Judgement, attribute_judgements, colour_judgements, head_judgements, rolled_judgements, room_at, room_judgement, run_judgements, share_judgements, shown_judgements, standing_judgement, window_judgements}
 use Rattle.cue_form.specs.Reading.{adds, attributes_of, colours_of, cue_of, head_of, judged, list_ended, next, next_of_kind, on_ok, opens, read_from, read_list, read_on, run_of, runs_on, share_record_of}
 use Rattle.cue_form.specs.Records.{Record, field, records_of}
 use Rattle.cue_types.specs.Listing.{Listing}

@@ -1,10 +1,9 @@
 -- Records that were read: what they have, and that they are the records that spell it.
-use Rattle.std.proofs.Common.{◌≡◌, ◌+◌, ◌-◌, ◌<◌, ◌≤◌, ◌==◌, ◌^◌, ◌&&◌, Bool, true, false, not, nat_lt, nat_le, List, [], ◌∷◌, ◌++◌, drop, length, chars, ℕ, zero, suc, codes, bytes_eq, encode_utf8_all, All, IsSome, Option, Some, None, Ok, refl, sym, ap, subst, ◌∙◌, arith, eqb-true, leb-true}
+use Rattle.std.proofs.Common.{◌≡◌, ◌+◌, ◌-◌, ◌<◌, ◌≤◌, ◌==◌, ◌^◌, ◌&&◌, Bool, true, false, not, nat_le, List, [], ◌∷◌, drop, length, chars, ℕ, zero, suc, codes, All, IsSome, Option, Some, None, Ok, refl, sym, ap, subst, ◌∙◌, arith, eqb-true, leb-true}
 use Rattle.std.specs.Prelude.{decimal, is_some, option_map, unwrap_or}
 use Rattle.line21_codes.specs.Spellings.{spelling_of}
 use Rattle.dtvcc_codes.specs.CharacterSpellings.{spelling_of as dtv_spelling_of}
-use Rattle.std.specs.List.{list_all, list_any}
-use Rattle.std.specs.Str.{is_utf8}
+use Rattle.std.specs.List.{list_any}
 use Rattle.std.proofs.lemmas.Fmt.{decimal_digit}
 use Rattle.std.proofs.lemmas.List.Elements.{All-nil}
 use Rattle.dtvcc_codes.specs.Spellable.{IsFill, IsPenColors, IsRgb}
@@ -19,13 +18,13 @@ use Rattle.cue_types.specs.Listing.{IsListRate, most_frames}
 use Rattle.cue_types.specs.Cues.{IsFrameOrNone, IsOfKind}
 use Rattle.cue_types.specs.Line21Cues.{IsAuthoredChannel, IsLine21Pen, IsLine21Run, IsRolled}
 use Rattle.cue_types.specs.Shares.{IsShare, shares_taken}
-use Rattle.cue_types.specs.Windows.{AreWindowAttributes, IsWindow, IsWindowPen, IsWindowRun}
-use Rattle.cue_form.specs.Fields.{channel_field, fill_field, frame_field, is_two_bits, named, number_field, number_within, pen_field, plain_words, rate_field, rgb_field}
+use Rattle.cue_types.specs.Windows.{AreWindowAttributes, IsWindow, IsWindowRun}
+use Rattle.cue_form.specs.Fields.{channel_field, fill_field, frame_field, is_two_bits, named, number_field, number_within, pen_field, rate_field, rgb_field}
 use Rattle.cue_form.specs.Form.{columns_of, first_row, frame_or_none_field, is_coded, last_row, run_pen_field, suits_row, version_words}
 use Rattle.cue_form.specs.Judgements.{attribute_judgements, colour_judgements, head_judgements, passes, rolled_judgements, run_judgements, share_judgements, shown_judgements, window_judgements}
-use Rattle.cue_form.specs.Reading.{attributes_of, channel, colours_of, cue_of, fill, frame, head_of, number, rgb, rolled_cue_of, run_of, share_record_of, shown_cue_of, window_cue_of}
+use Rattle.cue_form.specs.Reading.{attributes_of, channel, colours_of, cue_of, fill, head_of, number, rgb, rolled_cue_of, run_of, share_record_of, shown_cue_of, window_cue_of}
 use Rattle.cue_form.specs.Records.{Field, Record, field}
-use Rattle.cue_form.specs.Spelling.{attribute_record, channel_word, colour_record, cue_record, fill_word, head_record, hide_word, pen_word, rate_word, rgb_word, run_record, share_record, version_word, wrap_number}
+use Rattle.cue_form.specs.Spelling.{attribute_record, channel_word, colour_record, cue_record, fill_word, head_record, hide_word, pen_word, rgb_word, run_record, share_record, wrap_number}
 use Rattle.cue_types.specs.declared.cue.Cue.{Cue}
 use Rattle.cue_types.specs.declared.cue.Kind.{Kind}
 use Rattle.cue_types.specs.declared.cue.Kind.TheVariants as kind

@@ -1,6 +1,5 @@
 -- From record to record: what a begun list keeps.
-use Rattle.std.proofs.Common.{◌≡◌, ◌≢◌, ℕ, ◌+◌, ◌<◌, ◌≤◌, ◌==◌, ◌&&◌, ◌||◌, not, nat_lt, nat_le, if◌then◌else◌, is_some, is_none, Bool, List, [], ◌∷◌, ◌++◌, true, false, length, get_or, All, Option, Some, None, option_to_list, Ok, arith, refl, sym, ap, ◌∙◌, subst, length-append, ltb-true, leb-true, eqb-true, eq-eqb}
-use Rattle.std.specs.Prelude.{⊤, IfSome, option_map, sum_by}
+use Rattle.std.proofs.Common.{◌≡◌, ◌≢◌, ℕ, ◌+◌, ◌≤◌, ◌==◌, ◌&&◌, ◌||◌, not, nat_lt, nat_le, if◌then◌else◌, is_some, is_none, Bool, List, [], ◌∷◌, ◌++◌, true, false, length, All, Option, Some, None, option_to_list, Ok, arith, refl, sym, ap, ◌∙◌, subst, length-append, ltb-true, leb-true, eqb-true, eq-eqb}
 use Rattle.std.specs.List.{list_any}
 use Rattle.std.proofs.lemmas.List.Sums.{sum_by_push}
 use Rattle.std.proofs.lemmas.List.{append-nil}
@@ -16,8 +15,8 @@ use Rattle.cue_types.specs.Cues.{IsCueFormed, IsOfKind}
 use Rattle.cue_types.specs.Line21Cues.{IsLine21Run, IsRolled, base_row}
 use Rattle.cue_types.specs.Listing.{IsFormed, IsListRate, most_frames}
 use Rattle.cue_types.specs.Shares.{AreShares, IsShare, share_room, shares_taken}
-use Rattle.cue_types.specs.Windows.{AreWindowAttributes, IsWindow, IsWindowRun}
-use Rattle.cue_form.specs.Form.{awaits_attributes, awaits_colours, is_bare_window, is_second, is_window, last_is_plain, may_stand, record_kind_of, suits_row}
+use Rattle.cue_types.specs.Windows.{AreWindowAttributes, IsWindowRun}
+use Rattle.cue_form.specs.Form.{awaits_attributes, awaits_colours, is_second, is_window, last_is_plain, may_stand, record_kind_of, suits_row}
 use Rattle.cue_form.specs.Judgements.{room_at, room_judgement, standing_judgement}
 use Rattle.cue_form.specs.Reading.{adds, attributes_of, colours_of, cue_of, head_of, next, opens, run_of, share_record_of}
 use Rattle.cue_form.specs.Records.{Record, field}
@@ -25,7 +24,6 @@ use Rattle.cue_types.specs.declared.cue.Cue.{Cue}
 use Rattle.cue_types.specs.declared.cue.Kind.{Kind}
 use Rattle.cue_types.specs.declared.cue.Kind.TheVariants as kind
 use Rattle.cue_types.specs.declared.cue.Run.{Run}
-use Rattle.cue_types.specs.declared.cue.WinCue.{WinCue}
 use Rattle.cue_types.specs.declared.head.Head.{Head}
 use Rattle.cue_types.specs.declared.head.Version.{Version}
 use Rattle.cue_types.specs.declared.head.Version.TheVariants as version

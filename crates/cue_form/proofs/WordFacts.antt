@@ -1,5 +1,5 @@
 -- Words in fields: a field is read as a rate, a channel or a pen exactly where it is its word.
-use Rattle.std.proofs.Common.{◌≡◌, ◌-◌, Bool, true, false, ◌++◌, length, take, drop, List, [], ◌∷◌, Option, Some, subst, codes, bytes_eq, refl, sym, ◌∙◌, inl, inr}
+use Rattle.std.proofs.Common.{◌≡◌, ◌-◌, Bool, true, false, ◌++◌, length, take, drop, List, [], ◌∷◌, Some, subst, codes, bytes_eq, refl, sym, ◌∙◌, inl, inr}
 use Rattle.std.proofs.lemmas.Bool.{cases_Bool}
 use Rattle.std.proofs.lemmas.List.{append-nil, take-append-drop}
 use Rattle.std.proofs.lemmas.Slice.Eq.{bytes_eq-Decides}

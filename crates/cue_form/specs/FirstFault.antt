@@ -1,6 +1,6 @@
 -- The first fault of records that spell no cue list. Each record is judged in the light of the list that the records
 -- before it begin.
-use Rattle.std.specs.Prelude.{◌≡◌, ⊤, ℕ, ◌+◌, ◌⊎◌, true, List, ◌∷◌, ◌++◌, length, Some, None}
+use Rattle.std.specs.Prelude.{◌≡◌, ⊤, ◌+◌, ◌⊎◌, true, List, ◌∷◌, ◌++◌, length, Some, None}
 use Rattle.cc_base.specs.declared.why.Why.TheVariants as why
 use Rattle.cue_form.specs.Begun.{Begun, awaits_run}
 use Rattle.cue_form.specs.Judgements.{first_offence, judgements}

@@ -1,6 +1,6 @@
 -- Reading a cue list record by record: the list that they spell, or the first fault. A record is refused with the first of
 -- its judgements that isn't good; else its fields have these values.
-use Rattle.std.specs.Prelude.{ℕ, ◌+◌, ◌-◌, ◌==◌, Bool, true, false, if◌then◌else◌, List, [], ◌∷◌, ◌++◌, length, chars, Option, Some, None, unwrap_or, option_map, Result, Ok, Err}
+use Rattle.std.specs.Prelude.{ℕ, ◌+◌, ◌-◌, ◌==◌, false, if◌then◌else◌, List, [], ◌∷◌, ◌++◌, chars, Option, Some, None, unwrap_or, option_map, Result, Ok, Err}
 use Rattle.cc_base.specs.declared.rate.Rate.TheVariants as rate
 use Rattle.cc_base.specs.declared.why.Why.TheVariants as why
 use Rattle.line21_codes.specs.declared.channels.Chan.{Chan}
@@ -13,7 +13,7 @@ use Rattle.cue_form.specs.Begun.{Begun, nothing, cues_of, with_cue, cue_with_run
 use Rattle.cue_form.specs.Fields.{channel_field, fill_field, frame_field, named, number_field, number_within, rate_field, rgb_field}
 use Rattle.cue_form.specs.Form.{columns_of, first_row, frame_or_none_field, last_row, record_kind_of, run_pen_field, version_words}
 use Rattle.cue_form.specs.Judgements.{Judgement, attribute_judgements, colour_judgements, first_offence, head_judgements, rolled_judgements, room_at, room_judgement, run_judgements, share_judgements, shown_judgements, standing_judgement, window_judgements}
-use Rattle.cue_form.specs.Records.{Field, Record, field, records_of}
+use Rattle.cue_form.specs.Records.{Record, field, records_of}
 use Rattle.cue_types.specs.Listing.{Listing}
 use Rattle.cue_types.specs.declared.cue.Cue.{Cue}
 use Rattle.cue_types.specs.declared.cue.Kind.{Kind}

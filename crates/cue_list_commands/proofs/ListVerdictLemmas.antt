@@ -19,7 +19,7 @@ use Rattle.cue_lists.proofs.Unique.{first_fault_read}
 use Rattle.frame_scheduler.specs.Planned.{IsFirstWithoutRoom, IsListPlaced, Placement}
 use Rattle.frame_scheduler.proofs.LanesLemmas.{first_without_room, one_placement, placed_has_room}
 use Rattle.frame_scheduler.proofs.RoomDecided.{list_decided}
-use Rattle.cue_list_commands.specs.Accepted.{BreaksRule, IsAccepted, IsFaulty, IsGoodList, IsRefused, IsRefusedList, LacksRoom, list_limit}
+use Rattle.cue_list_commands.specs.Accepted.{BreaksRule, IsAccepted, IsFaulty, IsGoodList, IsRefused, IsRefusedList, list_limit}
 use Rattle.cue_list_commands.specs.Reads.{form_status}
 use Rattle.cue_list_commands.specs.Unbuilt.{has_window}
 use Rattle.cue_list_commands.specs.ListVerdict.{AcceptanceIsOne, AcceptedIsNotRefused, EveryListIsJudged, RefusalIsOne}
@@ -117,7 +117,7 @@ cause_of bytes (status.Malformed (Field rec field) why) (inr unbuilt) = inr (inr
   within = unbuilt.within;
   spelled = unbuilt.spelled;
   ruled = unbuilt.ruled;
-  cause = inl (unbuilt.windows, rw (unbuilt.record_is, unbuilt.field_is, unbuilt.why_is) refl);
+  cause = inl (unbuilt.windows, rw (unbuilt.record_is, unbuilt.field_is, unbuilt.reason_is) refl);
 })))
 cause_of bytes (status.Rule fault) breaks = inr (inr (inl (fault, breaks, refl)))
 cause_of bytes (status.NoRoom cue) lacks = inr (inr (inr (record {
@@ -199,7 +199,7 @@ list_judged : (bytes : List ℕ) (list : Listing) → length bytes ≤ list_limi
 list_judged bytes list within spelled =
     elim (ruled_or_broken list) [
       | inl ruled ↦ elim (cases_Bool (has_window list)) [
-        | inl windows ↦ inr (status.Malformed (Field 2 1) why.NotBuilt, inr (record { list = list; within = within; spelled = spelled; ruled = ruled; windows = windows; record_is = refl; field_is = refl; why_is = refl }))
+        | inl windows ↦ inr (status.Malformed (Field 2 1) why.NotBuilt, inr (record { list = list; within = within; spelled = spelled; ruled = ruled; windows = windows; record_is = refl; field_is = refl; reason_is = refl }))
         | inr none ↦ elim (list_decided list spelled.formed) [
           | inl there ↦ inl (list, there.0, record { within = within; spelled = spelled; built = none; ruled = ruled; placement = there.1 })
           | inr without ↦ inr (status.NoRoom without.0, record { list = list; within = within; spelled = spelled; built = none; ruled = ruled; first = without.1 })

@@ -1,5 +1,5 @@
 -- A list whose form is at fault is refused with that fault's status.
-use Rattle.std.proofs.Common.{◌≢◌, ◌≤◌, ℕ, List, length, Ok, Err, inl, inr}
+use Rattle.std.proofs.Common.{◌≢◌, ◌≤◌, ℕ, List, length, Ok, Err, inl}
 use Rattle.cc_base.specs.declared.limit_of.LimitOf.TheVariants as limit
 use Rattle.cue_lists.specs.Answers.{Answers}
 use Rattle.cue_lists.specs.FirstFault.{FaultsFirst}

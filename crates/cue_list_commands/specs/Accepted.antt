@@ -41,7 +41,7 @@ pub record BreaksRule (bytes : List ℕ) (fault : RuleFault) : Type 0 where
 
 -- the records of the bytes spell a list that keeps the rules and has a window, which can't be placed yet: windows begin with
 -- the shares of their services, the first of which is record 2
-pub record IsUnbuilt (bytes : List ℕ) (rec field : ℕ) (why : Why) : Type 0 where
+pub record IsUnbuilt (bytes : List ℕ) (rec field : ℕ) (reason : Why) : Type 0 where
   pub list : Listing
   pub within : length bytes ≤ list_limit
   pub spelled : Spells (records_of bytes) list
@@ -49,7 +49,7 @@ pub record IsUnbuilt (bytes : List ℕ) (rec field : ℕ) (why : Why) : Type 0 w
   pub windows : has_window list ≡ true
   pub record_is : rec ≡ 2
   pub field_is : field ≡ 1
-  pub why_is : why ≡ why.NotBuilt
+  pub reason_is : reason ≡ why.NotBuilt
 
 -- the records of the bytes spell a list that keeps the rules, and this cue is the first without a placement
 pub record LacksRoom (bytes : List ℕ) (cue : ℕ) : Type 0 where

@@ -3,7 +3,9 @@
 
 pub use cue_form::{CueFault, fault, parse, print, read_within};
 pub use cue_rules::{RuleFault, check, rules};
-pub use cue_types::{Cue, CueList, Kind, Pen, Run, Runs, Share, Text, Version, WinCue, cue, head, lane, list};
+pub use cue_types::{
+    Cue, CueList, Kind, Pen, Run, Runs, Share, Text, Version, WinCue, cue, head, lane, list,
+};
 
 #[cfg(test)]
 mod tests;

@@ -1,9 +1,8 @@
-use Rattle.std.proofs.Common.{◌≡◌, Err, List, ap, ◌∙◌}
+use Rattle.std.proofs.Common.{◌≡◌, Err, ap, ◌∙◌}
 use Rattle.csv.specs.Records.{fields_of}
 use Rattle.cue_form.specs.Begun.{Begun}
 use Rattle.cue_form.specs.Judgements.{room_at}
 use Rattle.cue_form.specs.Reading.{share_record_of}
-use Rattle.cue_types.specs.declared.list.Share.{Share}
 use Rattle.cue_form.proofs.Goodness.{refused_part}
 use Rattle.cue_form.proofs.draft.Draft.add_share.Goals as goal
 
