@@ -2,6 +2,8 @@ pub mod ChannelCues
 pub mod ChannelKept
 pub mod ChannelRules
 pub mod DelayTests
+pub mod FormersLemmas
+pub mod LastOfWindows
 pub mod RuleCells
 pub mod RuleJudging
 pub mod RuleKept

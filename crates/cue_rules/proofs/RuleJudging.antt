@@ -1,11 +1,12 @@
 -- A cue's judgement: the verdicts of the rules, and the fault of the first one that is broken.
-use Rattle.std.proofs.Common.{◌≡◌, ℕ, ◌+◌, ◌-◌, ◌<◌, ◌≤◌, Bool, true, false, if◌then◌else◌, List, [], ◌∷◌, ◌++◌, length, reverse, Option, Some, None, Result, zero, suc, refl, sym, ◌∙◌, arith}
+use Rattle.std.proofs.Common.{◌≡◌, ℕ, ◌+◌, ◌-◌, ◌<◌, ◌≤◌, Bool, true, false, if◌then◌else◌, List, [], ◌∷◌, ◌++◌, length, reverse, Option, Some, None, Result, zero, suc, refl, sym, subst, ◌∙◌, arith}
 use Rattle.std.specs.Prelude.{slice_get}
 use Rattle.std.specs.Option.{option_and_then}
 use Rattle.std.proofs.lemmas.List.{reverse-append, length-reverse, reverse-reverse}
 use Rattle.cc_base.specs.declared.why.Why.TheVariants as why
 use Rattle.cue_types.specs.Listing.{Listing}
-use Rattle.cue_rules.specs.Rules.{verdicts, first_fault, fault_of, AnswersFault}
+use Rattle.cc_base.specs.declared.rate.Rate.{Rate}
+use Rattle.cue_rules.specs.Rules.{verdicts, first_fault, fault_of, other_of, AnswersFault}
 use Rattle.cue_rules.specs.Rules.Alternatives.{first_broken}
 use Rattle.cue_rules.specs.Rules.Clash.{clash}
 use Rattle.cue_rules.specs.Rules.DelayCovers.{delay_covers}
@@ -101,26 +102,51 @@ nearest_at test (cue ∷ earlier) = by_test (test cue) (nearest_at test earlier)
     by_test true older numbers = newest
     by_test false older numbers = older ∙ kept (nearest_number test earlier) numbers
 
--- the answer of the verdicts is that of the cue
-pub judged : (list : Listing) (earlier : List Cue) (cue : Cue) (number : Option ℕ) (former : Option Cue)
-    (o v c u b d s p t : Option Against) (r : Result (Unit {0}) RuleFault)
+-- the former cue is that of the former number
+former_is : (earlier : List Cue) (cue : Cue) (number : Option ℕ) (former : Option Cue)
+    → number ≡ former_number cue (reverse earlier) → former ≡ option_and_then (λ n. slice_get earlier (n - 1)) number
+    → former ≡ former_cue cue (reverse earlier)
+former_is earlier cue number former en ef =
+    ef ∙ rw en (sym (nearest_at (on_lane (lane_of cue.kind)) (reverse earlier)
+    ∙ rw reverse-reverse refl))
+
+-- a cue that breaks the rule Order has its fault
+pub order_judged : (list : Listing) (earlier : List Cue) (cue : Cue) (number : Option ℕ) (former : Option Cue) (broken : Against) (fault : RuleFault)
     → number ≡ former_number cue (reverse earlier)
     → former ≡ option_and_then (λ n. slice_get earlier (n - 1)) number
-    → o ≡ first_broken (order list.rate cue former) → v ≡ first_broken (overlap cue former)
+    → Some broken ≡ first_broken (order list.rate cue former)
+    → fault ≡ record { why = why.Order; cue = length earlier + 1; other = other_of broken number }
+    → fault_of list (reverse earlier) cue ≡ Some fault
+unfolding verdicts
+order_judged list earlier cue number former broken fault en ef eo is =
+    rw (length-reverse, ← en, ← former_is earlier cue number former en ef, ← eo, is) refl
+
+-- a cue that keeps it and breaks no rule, or a rule behind it: the answer of the verdicts is that of the cue
+pub judged : (list : Listing) (earlier : List Cue) (cue : Cue) (number : Option ℕ) (former : Option Cue)
+    (v c u b d s p t : Option Against) (r : Result (Unit {0}) RuleFault)
+    → number ≡ former_number cue (reverse earlier)
+    → former ≡ option_and_then (λ n. slice_get earlier (n - 1)) number
+    → None ≡ first_broken (order list.rate cue former) → v ≡ first_broken (overlap cue former)
     → c ≡ first_broken (clash (slot_step list.rate) cue former) → u ≡ first_broken (unhidden cue former)
     → b ≡ first_broken (window_busy cue (reverse earlier)) → d ≡ first_broken (delay_covers list.rate cue (reverse earlier))
     → s ≡ first_broken (share list cue) → p ≡ first_broken (past_end (slot_step list.rate) list.frames cue)
     → t ≡ first_broken (off_slot list.rate cue)
     → AnswersFault r (first_fault (length earlier + 1) number
-    ((why.Order, o) ∷ (why.Overlap, v) ∷ (why.Clash, c) ∷ (why.Unhidden, u) ∷ (why.WindowBusy, b)
+    ((why.Overlap, v) ∷ (why.Clash, c) ∷ (why.Unhidden, u) ∷ (why.WindowBusy, b)
     ∷ (why.DelayCovers, d) ∷ (why.Share, s) ∷ (why.PastEnd, p) ∷ (why.OffSlot, t) ∷ []))
     → AnswersFault r (fault_of list (reverse earlier) cue)
-judged list earlier cue number former o v c u b d s p t r en ef eo ev ec eu eb ed es ep et judges =
-    let is_former : former ≡ former_cue cue (reverse earlier) =
-    ef ∙ rw en (sym (nearest_at (on_lane (lane_of cue.kind)) (reverse earlier)
-    ∙ rw reverse-reverse refl)) in
+judged list earlier cue number former v c u b d s p t r en ef eo ev ec eu eb ed es ep et judges =
     rw (
       length-reverse,
-      ← verdicts_are list (reverse earlier) cue former o v c u b d s p t is_former eo ev ec eu eb ed es ep et,
+      ← verdicts_are list (reverse earlier) cue former None v c u b d s p t (former_is earlier cue number former en ef) eo ev ec eu eb ed es ep et,
       ← en,
     ) judges
+
+-- the order of a cue without a broken alternative, by its former cue
+pub order_none : (rate : Rate) (earlier : List Cue) (cue : Cue) (number : Option ℕ) (former : Option Cue)
+    → number ≡ former_number cue (reverse earlier)
+    → former ≡ option_and_then (λ n. slice_get earlier (n - 1)) number
+    → None ≡ first_broken (order rate cue former)
+    → first_broken (order rate cue (former_cue cue (reverse earlier))) ≡ None
+order_none rate earlier cue number former en ef eo =
+    subst (λ (f : Option Cue). first_broken (order rate cue f) ≡ None) (former_is earlier cue number former en ef) (sym eo)

@@ -42,7 +42,7 @@ pub record KeepsRules (list : Listing) (earlier : List Cue) (cue : Cue) : Type 0
   pub off_slot : AllKept (off_slot list.rate cue)
 
 -- where no alternative is the first broken one, none is broken
-all_kept : (alternatives : List Alternative) → first_broken alternatives ≡ None → AllKept alternatives
+pub all_kept : (alternatives : List Alternative) → first_broken alternatives ≡ None → AllKept alternatives
 all_kept [] none = tt
 all_kept (alternative ∷ rest) none = by_test alternative.broken (all_kept rest) none
   where

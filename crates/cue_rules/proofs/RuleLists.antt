@@ -2,6 +2,7 @@
 use Rattle.std.proofs.Common.{◌≡◌, ℕ, ◌+◌, ◌<◌, List, [], ◌∷◌, ◌++◌, length, take, drop, drop-cons, reverse, get_or, Option, Some, None, Result, Ok, Err, suc, append_assoc, refl, sym, ap, subst, ◌∙◌, arith}
 use Rattle.std.specs.Prelude.{All, IsOk, IsErrOf, MatchResult}
 use Rattle.std.proofs.lemmas.List.{reverse-append, reverse-reverse, take-append-drop}
+use Rattle.std.proofs.lemmas.List.Elements.{All-take}
 use Rattle.cue_types.specs.Cues.{IsCueFormed, IsOfKind}
 use Rattle.cue_types.specs.Line21Cues.{IsLine21Run}
 use Rattle.cue_types.specs.Listing.{Listing, IsFormed}
@@ -33,13 +34,16 @@ on_grid cue formed = by_kind cue.kind formed.kind
         let window : IsWindow w = is.0 in
         record { row = omega (arith, run.row, window.rows); columns = omega (arith, run.fits, window.cols) }
 
--- the cue at hand lies on the grid
-pub cue_on_grid : (list : Listing) (cues : List Cue) (i : ℕ) (x : Cue) → IsFormed list → cues ≡ list.cues
-    → i < length cues → x ≡ get_or cues i x → All IsOnGrid x.runs
-cue_on_grid list cues i x formed are within is =
+-- the cue at hand is in its ranges, and so are those before it
+pub cue_formed : (list : Listing) (cues : List Cue) (i : ℕ) (x : Cue) → IsFormed list → cues ≡ list.cues
+    → i < length cues → x ≡ get_or cues i x → IsCueFormed x
+cue_formed list cues i x formed are within is =
     let within' : i < length list.cues = rw (← are) within in
     let here : IsCueFormed (get_or list.cues i x) = formed.cues i x within' in
-    subst (λ (y : Cue). All IsOnGrid y.runs) (sym (is ∙ ap (λ (c : List Cue). get_or c i x) are)) (on_grid _ here)
+    subst IsCueFormed (sym (is ∙ ap (λ (c : List Cue). get_or c i x) are)) here
+
+pub cues_formed : (list : Listing) (cues : List Cue) (i : ℕ) → IsFormed list → cues ≡ list.cues → All IsCueFormed (take i cues)
+cues_formed list cues i formed are = All-take IsCueFormed i cues (rw are formed.cues)
 
 -- one more cue keeps the rules
 pub faultless_more : (list : Listing) (cues : List Cue) (i : ℕ) (x : Cue) → i < length cues → x ≡ get_or cues i x

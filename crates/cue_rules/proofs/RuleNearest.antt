@@ -1,5 +1,5 @@
 -- The nearest cue before that passes a test, as cues pass by.
-use Rattle.std.proofs.Common.{◌≡◌, ℕ, ◌+◌, ◌<◌, ◌≤◌, ◌&&◌, ◌||◌, Bool, true, false, if◌then◌else◌, List, [], ◌∷◌, length, take, reverse, get_or, Some, None, refl, sym, ap, ◌∙◌, arith}
+use Rattle.std.proofs.Common.{◌≡◌, ℕ, ◌+◌, ◌<◌, ◌≤◌, ◌&&◌, ◌||◌, Bool, false, List, [], ◌∷◌, length, take, reverse, get_or, None, refl, arith}
 use Rattle.std.proofs.lemmas.List.{take_more, reverse-append, length-reverse, length-take}
 use Rattle.std.specs.Prelude.{nat_lt}
 use Rattle.cc_base.specs.declared.rate.Rate.{Rate}
@@ -22,35 +22,11 @@ pub before_more : (cues : List Cue) (i : ℕ) (d : Cue) → i < length cues
     → reverse (take (i + 1) cues) ≡ get_or cues i d ∷ reverse (take i cues)
 before_more cues i d within = rw (take_more cues i d within, reverse-append) refl
 
--- the nearest cue is the newest one, where it passes the test
-pub nearest_more : (test : Cue → Bool) (cues : List Cue) (i : ℕ) (d : Cue) → i < length cues
-    → nearest_number test (reverse (take (i + 1) cues))
-    ≡ (if test (get_or cues i d) then Some (i + 1) else nearest_number test (reverse (take i cues)))
-nearest_more test cues i d within =
-    let count : length (reverse (take i cues)) ≡ i = length_before cues i (omega arith) in
-    rw (before_more cues i d within, count) refl
-
 -- a test that no cue passes finds none
 pub nearest_none : (test : Cue → Bool) (cues : List Cue) → ((cue : Cue) → test cue ≡ false)
     → nearest_number test cues ≡ None
 nearest_none test [] fails = refl
 nearest_none test (cue ∷ cues) fails = rw fails (nearest_none test cues fails)
-
--- the newest cue passes the test
-pub nearest_passes : (test : Cue → Bool) (cues : List Cue) (i : ℕ) (x : Cue) (passed : Bool) → i < length cues
-    → x ≡ get_or cues i x → passed ≡ test x → passed ≡ true
-    → nearest_number test (reverse (take (i + 1) cues)) ≡ Some (i + 1)
-nearest_passes test cues i x passed within is tested yes' =
-    let passes : test (get_or cues i x) ≡ true = ap test (sym is) ∙ sym tested ∙ yes' in
-    rw (nearest_more test cues i x within, passes) refl
-
--- the newest cue doesn't pass the test
-pub nearest_stays : (test : Cue → Bool) (cues : List Cue) (i : ℕ) (x : Cue) (passed : Bool) → i < length cues
-    → x ≡ get_or cues i x → passed ≡ test x → passed ≡ false
-    → nearest_number test (reverse (take (i + 1) cues)) ≡ nearest_number test (reverse (take i cues))
-nearest_stays test cues i x passed within is tested no' =
-    let fails : test (get_or cues i x) ≡ false = ap test (sym is) ∙ sym tested ∙ no' in
-    rw (nearest_more test cues i x within, fails) refl
 
 -- only a window cue keeps a window
 pub keeps_window_of_line21 : (cue other : Cue) → is_win cue.kind ≡ false → keeps_window cue other ≡ false

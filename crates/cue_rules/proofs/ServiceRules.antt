@@ -113,14 +113,14 @@ has_share list service (kind.Win window) on shared =
     not_lacked (Some bytes) there = refl
 
 -- a window cue has a HIDE
-window_hides : (k : Kind) (cue : Cue) → is_win k ≡ true → IsOfKind k cue.hide cue.runs → IsSome cue.hide
+pub window_hides : (k : Kind) (cue : Cue) → is_win k ≡ true → IsOfKind k cue.hide cue.runs → IsSome cue.hide
 window_hides (kind.Pop channel) cue win formed = cc
 window_hides (kind.Paint channel) cue win formed = cc
 window_hides (kind.Roll channel rows) cue win formed = cc
 window_hides (kind.Win window) cue win formed = formed.1
 
 -- where no earlier cue passes a test, none has a number
-all_fail : (test : Cue → Bool) (cues : List Cue) → nearest_number test cues ≡ None → AllByRecursion (λ cue. test cue ≡ false) cues
+pub all_fail : (test : Cue → Bool) (cues : List Cue) → nearest_number test cues ≡ None → AllByRecursion (λ cue. test cue ≡ false) cues
 all_fail test [] none = tt
 all_fail test (cue ∷ cues) none = by_test (test cue) (all_fail test cues) none
   where
@@ -130,11 +130,11 @@ all_fail test (cue ∷ cues) none = by_test (test cue) (all_fail test cues) none
     by_test true rest e = cc
     by_test false rest e = (refl, rest e)
 
-none_passes : (test : Cue → Bool) (cues : List Cue) → AllByRecursion (λ cue. test cue ≡ false) cues → nearest_number test cues ≡ None
+pub none_passes : (test : Cue → Bool) (cues : List Cue) → AllByRecursion (λ cue. test cue ≡ false) cues → nearest_number test cues ≡ None
 none_passes test [] fail = refl
 none_passes test (cue ∷ cues) fail = rw fail.0 (none_passes test cues fail.1)
 
-no_number : (o : Option ℕ) → (with_earlier o).broken ≡ false → o ≡ None
+pub no_number : (o : Option ℕ) → (with_earlier o).broken ≡ false → o ≡ None
 no_number None fails = refl
 no_number (Some number) fails = cc
 
@@ -149,7 +149,7 @@ module _ (P : Cue → Type 0) (service : ℕ) where
       by_test true rest = (all.0, rest)
       by_test false rest = rest
 
-  of_all : (cues : List Cue) → ((cue : Cue) → is_of_service service cue.kind ≡ false → P cue)
+  pub of_all : (cues : List Cue) → ((cue : Cue) → is_of_service service cue.kind ≡ false → P cue)
       → AllByRecursion P (cues_of_service service cues) → AllByRecursion P cues
   of_all [] others all = tt
   of_all (cue ∷ cues) others all = by_test (is_of_service service cue.kind) refl (of_all cues others) all
@@ -191,10 +191,10 @@ sound_window list service earlier cue on keeps =
     if_there (Some hide) P each = each hide refl
 
 -- the LOAD of the newest of the cues isn't above that of a cue, and so none is
-abbrev LoadsUpTo : ℕ → List Cue → Type 0
+abbrev pub LoadsUpTo : ℕ → List Cue → Type 0
 LoadsUpTo load cues = AllByRecursion (λ (former : Cue). former.load ≤ load) cues
 
-loads_up_to : (list : Listing) (service : ℕ) (load : ℕ) (cues : List Cue) → AreInServiceBack list service cues
+pub loads_up_to : (list : Listing) (service : ℕ) (load : ℕ) (cues : List Cue) → AreInServiceBack list service cues
     → ((former : Cue) → newest cues ≡ Some former → former.load ≤ load) → LoadsUpTo load cues
 loads_up_to list service load [] back first = tt
 loads_up_to list service load (former ∷ cues) back first =

@@ -1,8 +1,7 @@
 ghost use Rattle.cue_types.specs.Listing.{most_cues};
 ghost use Rattle.std.specs.Prelude.{◌≡◌, ◌+◌, ◌≤◌, All, length, reverse, MatchResult, IsOk, IsErrOf};
-ghost use Rattle.cue_rules.specs.Rules.{IsRuled, HasFault, AnswersFault, fault_of, first_fault};
-ghost use Rattle.cue_types.specs.Cells.{IsOnGrid};
-ghost use Rattle.cue_rules.specs.Rules.Former.{former_number};
+ghost use Rattle.cue_rules.specs.Rules.{AreFaultless, IsRuled, HasFault, AnswersFault, fault_of, first_fault, other_of};
+ghost use Rattle.cue_types.specs.Cues.{IsCueFormed};
 ghost use Rattle.cue_rules.specs.Rules.Formers.{Remembers};
 ghost use Rattle.cue_rules.specs.declared.rules.RuleFault.{RuleFault};
 
@@ -42,10 +41,11 @@ pub struct RuleFault {
     pub other: Option<u32>,
 }
 
-/// AnswersFault the cues of a list in order, each against itself and the cues before it.
+/// Judges the cues of a list in order, each against itself and the cues before it.
 ///
 /// Ok where each cue keeps the rules; else the fault of the first cue that breaks one.
-/// It takes no memory.
+/// It takes no memory, and time in proportion to the cues and their runs: of the cues before one, it looks at the former cue
+/// and at the last one in each window of its service.
 pub fn check(list: &CueList) -> Result<(), RuleFault>
     ensures judged { MatchResult result (λ _. IsRuled list.now) (λ fault. HasFault list.now fault) }
     ensures ruled { IsRuled list.now → IsOk result }
@@ -54,35 +54,43 @@ pub fn check(list: &CueList) -> Result<(), RuleFault>
     let cues = list.cues();
     let mut formers = Formers::new();
     for (index, cue) in cues.iter().enumerate() {
-        judge(list, &cues[..index], formers, cue)?;
+        judge(list, &cues[..index], &formers, cue)?;
         formers.pass(cue, index as u32 + 1);
     }
     Ok(())
 }
 
-/// AnswersFault a cue by the rules in their order, with the cues before it.
-fn judge(list: &CueList, earlier: &[Cue], formers: Formers, cue: &Cue) -> Result<(), RuleFault>
+/// Judges a cue by the rules in their order, with the cues before it, which keep them.
+fn judge(list: &CueList, earlier: &[Cue], formers: &Formers, cue: &Cue) -> Result<(), RuleFault>
     requires few { length earlier.now ≤ most_cues }
-    requires formers { Remembers formers (reverse earlier.now) }
-    requires on_grid { All IsOnGrid cue.now.runs }
+    requires formed { IsCueFormed cue.now }
+    requires earlier { All IsCueFormed earlier.now }
+    requires formers { Remembers formers.now (reverse earlier.now) }
+    requires kept { AreFaultless list.now (reverse earlier.now) }
     ensures { AnswersFault result (fault_of list.now (reverse earlier.now) cue.now) }
 {
-    let number = formers.number(earlier, cue);
+    let number = formers.number(cue);
     let former = cue_of(earlier, number);
     let rate = list.rate();
     let step = slot_step(rate);
+    let place = earlier.len() as u32 + 1;
+    if let Some(against) = breaks_order(rate, cue, former) {
+        return Err(fault(Why::Order, place, against, number));
+    }
     let verdicts = [
-        (Why::Order, breaks_order(rate, cue, former)),
         (Why::Overlap, breaks_overlap(cue, former)),
         (Why::Clash, breaks_clash(step, cue, former)),
         (Why::Unhidden, breaks_unhidden(cue, former)),
-        (Why::WindowBusy, breaks_window_busy(cue, earlier)),
-        (Why::DelayCovers, breaks_delay_covers(rate, cue, earlier)),
+        (Why::WindowBusy, breaks_window_busy(cue, earlier, formers)),
+        (
+            Why::DelayCovers,
+            breaks_delay_covers(rate, cue, earlier, formers),
+        ),
         (Why::Share, breaks_share(list, cue)),
         (Why::PastEnd, breaks_past_end(step, list.frames(), cue)),
         (Why::OffSlot, breaks_off_slot(rate, cue)),
     ];
-    first_fault(&verdicts, earlier.len() as u32 + 1, number)
+    first_fault(&verdicts, place, number)
 }
 
 /// The fault of the first broken rule, of a cue with this number and its former cue's. A verdict is a rule, and whom the
@@ -96,17 +104,20 @@ fn first_fault(
 {
     for (why, against) in verdicts {
         if let Some(against) = *against {
-            let other = match against {
-                Against::Itself => None,
-                Against::Former => former,
-                Against::Earlier(number) => Some(number),
-            };
-            return Err(RuleFault {
-                why: *why,
-                cue,
-                other,
-            });
+            return Err(fault(*why, cue, against, former));
         }
     }
     Ok(())
+}
+
+/// The fault of a rule that a cue breaks, with this number and its former cue's.
+fn fault(why: Why, cue: u32, against: Against, former: Option<u32>) -> RuleFault
+    ensures { result ≡ record { why = why; cue = cue; other = other_of against former } }
+{
+    let other = match against {
+        Against::Itself => None,
+        Against::Former => former,
+        Against::Earlier(number) => Some(number),
+    };
+    RuleFault { why, cue, other }
 }

@@ -1,23 +1,23 @@
-ghost use Rattle.cue_types.specs.Listing.{most_cues};
-ghost use Rattle.std.specs.Prelude.{◌≡◌, ◌+◌, ◌-◌, ◌≤◌, ◌^◌, ◌<◌, List, [], ◌∷◌, length, reverse, slice_get, Option, option_map};
-ghost use Rattle.std.specs.Option.{option_copied, option_and_then, ForSome};
+ghost use Rattle.std.specs.Prelude.{◌≡◌, ◌+◌, ◌≤◌, ◌<◌, List, [], ◌∷◌, length};
+ghost use Rattle.std.specs.Option.{option_copied, ForSome};
+ghost use Rattle.cue_types.specs.Cues.{IsCueFormed};
+ghost use Rattle.cue_types.specs.Windows.{IsWindow};
 ghost use Rattle.cue_types.specs.declared.cue.Cue.{Cue};
-ghost use Rattle.cue_types.specs.declared.lane.Lane.TheVariants as lane;
-ghost use Rattle.cue_rules.specs.Rules.Former.{nearest_number, former_number};
-ghost use Rattle.cue_rules.specs.Rules.Formers.{Remembers, last_on};
-ghost use Rattle.cue_types.specs.Lane.{lane_of, on_lane, same_lane};
+ghost use Rattle.cue_rules.specs.Rules.Former.{former_number};
+ghost use Rattle.cue_rules.specs.Rules.Formers.{Remembers, cue_at, last_in, last_of, last_on, with_channel, with_window};
 
-use cue_types::lane::{Lane, lane_of};
-use cue_types::{Cue, Kind};
+use cue_types::{Cue, Kind, WinCue};
 use line21_codes::Chan;
 
-/// The numbers of the last cues so far on the channels of line 21.
+/// The numbers of the last cues so far: on each channel of line 21, of each service, and in each window of a service.
 #[derive(Clone, Copy)]
 pub struct Formers {
     cc1: Option<u32>,
     cc2: Option<u32>,
     cc3: Option<u32>,
     cc4: Option<u32>,
+    services: [Option<u32>; 8],
+    windows: [Option<u32>; 64],
 }
 
 impl Formers {
@@ -30,18 +30,21 @@ impl Formers {
             cc2: None,
             cc3: None,
             cc4: None,
+            services: [None; 8],
+            windows: [None; 64],
         }
     }
 
-    /// The number of the former cue of a cue, with the cues before it.
-    pub fn number(&self, earlier: &[Cue], cue: &Cue) -> Option<u32>
-        requires few { length earlier.now ≤ most_cues }
-        requires formers { Remembers self.now (reverse earlier.now) }
-        ensures { result ≡ former_number cue.now (reverse earlier.now) }
+    /// The number of the former cue of a cue.
+    pub fn number(&self, cue: &Cue) -> Option<u32>
+        requires { IsCueFormed cue.now }
+        ensures { (earlier : List Cue) → Remembers self.now earlier → result ≡ former_number cue.now earlier }
     {
-        match lane_of(cue.kind) {
-            Lane::Channel(channel) => self.last_on(channel),
-            Lane::Service(service) => last_of_service(earlier, service),
+        match cue.kind {
+            Kind::Pop(channel) | Kind::Paint(channel) | Kind::Roll(channel, _) => {
+                self.last_on(channel)
+            }
+            Kind::Win(window) => self.last_of(window.service),
         }
     }
 
@@ -57,46 +60,63 @@ impl Formers {
         }
     }
 
+    /// The number of the last cue of a service.
+    fn last_of(&self, service: u8) -> Option<u32>
+        requires { service < 8 }
+        ensures { result ≡ last_of self.now service }
+    {
+        self.services[service as usize]
+    }
+
+    /// The number of the last cue in the window of an ID of a service.
+    pub fn last_in(&self, service: u8, id: u8) -> Option<u32>
+        requires service { service < 8 }
+        requires id { id < 8 }
+        ensures { result ≡ last_in self.now service id }
+    {
+        self.windows[service as usize * 8 + id as usize]
+    }
+
     /// Remembers the cue of this number.
     pub fn pass(&mut self, cue: &Cue, number: u32)
+        requires { IsCueFormed cue.now }
         ensures { (earlier : List Cue) → number ≡ length earlier + 1 → Remembers self.old earlier → Remembers self.new (cue.now ∷ earlier) }
     {
-        if let Lane::Channel(channel) = lane_of(cue.kind) {
-            match channel {
-                Chan::Cc1 => self.cc1 = Some(number),
-                Chan::Cc2 => self.cc2 = Some(number),
-                Chan::Cc3 => self.cc3 = Some(number),
-                Chan::Cc4 => self.cc4 = Some(number),
+        match cue.kind {
+            Kind::Pop(channel) | Kind::Paint(channel) | Kind::Roll(channel, _) => {
+                self.pass_on(channel, number);
             }
+            Kind::Win(window) => self.pass_in(window, number),
         }
     }
-}
 
-/// The number of the last cue of a service.
-fn last_of_service(earlier: &[Cue], service: u8) -> Option<u32>
-    requires { length earlier.now ≤ most_cues }
-    ensures { result ≡ nearest_number (on_lane (lane.Service service)) (reverse earlier.now) }
-{
-    let mut last = None;
-    for (index, cue) in earlier.iter().enumerate() {
-        if is_of_service(cue.kind, service) {
-            last = Some(index as u32 + 1);
+    /// Remembers the number of a cue on a channel.
+    fn pass_on(&mut self, channel: Chan, number: u32)
+        ensures { self.new ≡ with_channel self.old channel number }
+    {
+        match channel {
+            Chan::Cc1 => self.cc1 = Some(number),
+            Chan::Cc2 => self.cc2 = Some(number),
+            Chan::Cc3 => self.cc3 = Some(number),
+            Chan::Cc4 => self.cc4 = Some(number),
         }
     }
-    last
-}
 
-/// The cue is a window cue of the service.
-fn is_of_service(kind: Kind, service: u8) -> bool
-    ensures { result ≡ same_lane (lane.Service service) (lane_of kind) }
-{
-    matches!(kind, Kind::Win(window) if window.service == service)
+    /// Remembers the number of a cue in a window.
+    fn pass_in(&mut self, window: WinCue, number: u32)
+        requires { IsWindow window }
+        ensures { self.new ≡ with_window self.old window number }
+    {
+        let service = window.service as usize;
+        self.services[service] = Some(number);
+        self.windows[service * 8 + window.id as usize] = Some(number);
+    }
 }
 
 /// The cue of a number.
 pub fn cue_of(earlier: &[Cue], number: Option<u32>) -> Option<&Cue>
     requires { ForSome number (λ n. 1 ≤ n) }
-    ensures { option_copied result ≡ option_and_then (λ n. slice_get earlier.now (n - 1)) number }
+    ensures { option_copied result ≡ cue_at earlier.now number }
 {
     earlier.get(number? as usize - 1)
 }

@@ -1,33 +1,59 @@
-ghost use Rattle.cue_types.specs.Listing.{most_cues};
-ghost use Rattle.std.specs.Prelude.{◌≡◌, ◌+◌, ◌≤◌, length, reverse};
-ghost use Rattle.cue_rules.specs.Rules.Alternatives.{first_broken};
+ghost use Rattle.cue_types.specs.Cues.{IsCueFormed};
+ghost use Rattle.cue_types.specs.Listing.{Listing};
+ghost use Rattle.std.specs.Prelude.{◌≡◌, ◌≤◌, [], ◌∷◌, All, None, reverse};
+ghost use Rattle.std.specs.Option.{ForSome};
+ghost use Rattle.cue_rules.specs.Rules.{AreFaultless};
+ghost use Rattle.cue_rules.specs.Rules.Alternatives.{first_broken, with_earlier};
 ghost use Rattle.cue_rules.specs.Rules.Delay.{delay_of, delay_start, event_frames};
 ghost use Rattle.cue_rules.specs.Rules.DelayCovers.{delay_covers, delays_cross, same_service, delay_has, same_start};
-ghost use Rattle.cue_rules.specs.Rules.Former.{nearest_number};
+ghost use Rattle.cue_rules.specs.Rules.Former.{former_cue};
+ghost use Rattle.cue_rules.specs.Rules.Formers.{Remembers, cue_at, later, number_if};
+ghost use Rattle.cue_rules.specs.Rules.Order.{order};
 ghost use Rattle.cue_rules.specs.Rules.Share.{share};
 ghost use Rattle.cue_rules.specs.Rules.WindowBusy.{window_busy, keeps_window, same_window};
 
 use crate::rules::against::Against;
+use crate::rules::formers::{Formers, cue_of};
 use crate::rules::order::delay;
 use cc_base::Rate;
-use cue_types::lane::is_win;
 use cue_types::{Cue, CueList, Kind};
 
-/// Whom a cue breaks the rule WindowBusy against: the nearest earlier cue that still uses its window.
-pub fn breaks_window_busy(cue: &Cue, earlier: &[Cue]) -> Option<Against>
-    requires { length earlier.now ≤ most_cues }
-    ensures { result ≡ first_broken (window_busy cue.now (reverse earlier.now)) }
+/// Whom a cue breaks the rule WindowBusy against: the last cue in its window, where that still uses it. No cue before that
+/// one does, in a list that keeps the rules so far: it was hidden before that one loaded.
+pub fn breaks_window_busy(cue: &Cue, earlier: &[Cue], formers: &Formers) -> Option<Against>
+    requires formed { IsCueFormed cue.now }
+    requires earlier { All IsCueFormed earlier.now }
+    requires formers { Remembers formers.now (reverse earlier.now) }
+    ensures { (list : Listing) → AreFaultless list (reverse earlier.now) → result ≡ first_broken (window_busy cue.now (reverse earlier.now)) }
 {
-    if !is_win(cue.kind) {
+    let Kind::Win(window) = cue.kind else {
         return None;
+    };
+    let number = formers.last_in(window.service, window.id);
+    against(busy(cue, earlier, number))
+}
+
+/// The number of an earlier cue, where the cue has it and still uses the window.
+fn busy(cue: &Cue, earlier: &[Cue], number: Option<u32>) -> Option<u32>
+    requires { ForSome number (λ n. 1 ≤ n) }
+    ensures { result ≡ number_if (keeps_window cue.now) number (cue_at earlier.now number) }
+{
+    let other = cue_of(earlier, number)?;
+    if keeps_window(cue, other) {
+        number
+    } else {
+        None
     }
-    let mut nearest = None;
-    for (index, other) in earlier.iter().enumerate() {
-        if keeps_window(cue, other) {
-            nearest = Some(Against::Earlier(index as u32 + 1));
-        }
+}
+
+/// The earlier cue of a number, if there is one.
+fn against(number: Option<u32>) -> Option<Against>
+    ensures { result ≡ first_broken (with_earlier number ∷ []) }
+{
+    match number {
+        Some(number) => Some(Against::Earlier(number)),
+        None => None,
     }
-    nearest
 }
 
 /// An earlier cue of the same service and ID has a HIDE above the cue's LOAD.
@@ -47,22 +73,55 @@ fn same_window(a: Kind, b: Kind) -> bool
     }
 }
 
-/// Whom a cue breaks the rule DelayCovers against: the nearest earlier cue of which an event lies in its delay, or whose
-/// delay has an event of the cue, or whose delay starts with its own.
-pub fn breaks_delay_covers(rate: Rate, cue: &Cue, earlier: &[Cue]) -> Option<Against>
-    requires { length earlier.now ≤ most_cues }
-    ensures { result ≡ first_broken (delay_covers rate cue.now (reverse earlier.now)) }
+/// Whom a cue breaks the rule DelayCovers against: of the last cues in each window of its service, the nearest of which an
+/// event lies in its delay, or whose delay has an event of the cue, or whose delay starts with its own. No other cue's does,
+/// in a list that keeps the rules so far and for a cue that keeps the rule Order: it was hidden before the cue loaded.
+pub fn breaks_delay_covers(
+    rate: Rate,
+    cue: &Cue,
+    earlier: &[Cue],
+    formers: &Formers,
+) -> Option<Against>
+    requires formed { IsCueFormed cue.now }
+    requires earlier { All IsCueFormed earlier.now }
+    requires formers { Remembers formers.now (reverse earlier.now) }
+    ensures { (list : Listing) → list.rate ≡ rate → AreFaultless list (reverse earlier.now)
+        → first_broken (order rate cue.now (former_cue cue.now (reverse earlier.now))) ≡ None
+        → result ≡ first_broken (delay_covers rate cue.now (reverse earlier.now)) }
 {
-    if !is_win(cue.kind) {
+    let Kind::Win(window) = cue.kind else {
         return None;
-    }
+    };
     let mut nearest = None;
-    for (index, other) in earlier.iter().enumerate() {
-        if delays_cross(rate, cue, other) {
-            nearest = Some(Against::Earlier(index as u32 + 1));
-        }
+    for id in 0..8u8 {
+        let number = formers.last_in(window.service, id);
+        nearest = later(nearest, crossing(rate, cue, earlier, number));
     }
-    nearest
+    against(nearest)
+}
+
+/// The number of an earlier cue, where the delays of the cue that has it and of this one cross.
+fn crossing(rate: Rate, cue: &Cue, earlier: &[Cue], number: Option<u32>) -> Option<u32>
+    requires { ForSome number (λ n. 1 ≤ n) }
+    ensures { result ≡ number_if (delays_cross rate cue.now) number (cue_at earlier.now number) }
+{
+    let other = cue_of(earlier, number)?;
+    if delays_cross(rate, cue, other) {
+        number
+    } else {
+        None
+    }
+}
+
+/// The later of two cues, by their numbers.
+fn later(a: Option<u32>, b: Option<u32>) -> Option<u32>
+    ensures { result ≡ later a b }
+{
+    match (a, b) {
+        (None, _) => b,
+        (Some(_), None) => a,
+        (Some(a), Some(b)) => Some(a.max(b)),
+    }
 }
 
 /// Two cues of one service have the same delay start, or an event frame of one lies in the delay of the other.

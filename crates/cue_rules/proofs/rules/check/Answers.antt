@@ -3,14 +3,23 @@ use Rattle.std.proofs.lemmas.List.{length-take, take_all}
 use Rattle.std.proofs.lemmas.Result.{err_from_is_err_and}
 use Rattle.cue_rules.specs.Rules.{AreFaultless, IsRuled, HasFault}
 use Rattle.cue_types.specs.declared.cue.Cue.{Cue}
-use Rattle.cue_rules.proofs.RuleLists.{cue_on_grid, faultless_more, fault_here, ruled_ok, fault_err}
+use Rattle.cue_rules.proofs.RuleLists.{cue_formed, cues_formed, faultless_more, fault_here, ruled_ok, fault_err}
 use Rattle.cue_rules.proofs.RuleNearest.{before_more, length_before}
 use Rattle.cue_rules.proofs.RulesSaid.{faultless_ruled}
 use Rattle.cue_rules.proofs.rules.check.Goals as goal
 
-pub judge-requires-clause-on_grid : goal.judge-requires-clause-on_grid
-judge-requires-clause-on_grid c =
-    cue_on_grid c.args.list.now c.cues-cues.result.now c.loop-index.index c.index-cues-index.result
+pub judge-requires-clause-formed : goal.judge-requires-clause-formed
+judge-requires-clause-formed c =
+    cue_formed c.args.list.now c.cues-cues.result.now c.loop-index.index c.index-cues-index.result
+    c.cues-cues.ensures.formed c.cues-cues.ensures.cues c.loop-index-test.true c.index-cues-index.is
+
+pub judge-requires-clause-earlier : goal.judge-requires-clause-earlier
+judge-requires-clause-earlier c =
+    cues_formed c.args.list.now c.cues-cues.result.now c.loop-index.index c.cues-cues.ensures.formed c.cues-cues.ensures.cues
+
+pub pass-requires : goal.pass-requires
+pass-requires c =
+    cue_formed c.args.list.now c.cues-cues.result.now c.loop-index.index c.index-cues-index.result
     c.cues-cues.ensures.formed c.cues-cues.ensures.cues c.loop-index-test.true c.index-cues-index.is
 
 pub judge-requires-clause-few : goal.judge-requires-clause-few

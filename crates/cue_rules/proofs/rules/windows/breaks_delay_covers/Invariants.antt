@@ -1,9 +1,7 @@
-use Rattle.std.proofs.Common.{◌≡◌, [], ◌∷◌, reverse, take}
-use Rattle.cue_rules.specs.Rules.Alternatives.{first_broken, with_earlier}
-use Rattle.cue_rules.specs.Rules.Former.{nearest_number}
+use Rattle.std.proofs.Common.{◌≡◌}
 use Rattle.cue_rules.specs.Rules.DelayCovers.{delays_cross}
+use Rattle.cue_rules.specs.Rules.Formers.{last_below, last_in}
 use Rattle.cue_rules.proofs.rules.windows.breaks_delay_covers.Given as goal
 
-abbrev pub invariant-loop-index : goal.invariant-loop-index
-invariant-loop-index l =
-    l.nearest ≡ first_broken (with_earlier (nearest_number (delays_cross l.rate l.cue) (reverse (take l.index l.earlier))) ∷ [])
+abbrev pub invariant-loop-id : goal.invariant-loop-id
+invariant-loop-id l = l.nearest ≡ last_below (delays_cross l.rate l.cue) l.earlier (last_in l.formers l.window.service) l.id
