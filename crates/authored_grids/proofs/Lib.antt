@@ -1,1 +1,1 @@
-mod WindowsFound
+pub mod WindowsFound

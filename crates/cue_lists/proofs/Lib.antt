@@ -1,3 +1,4 @@
+pub mod OneAtATime
 pub use Rattle.cue_form.proofs.Complete
 pub use Rattle.cue_form.proofs.Faults
 pub use Rattle.cue_form.proofs.ListLimits

@@ -7,5 +7,6 @@ pub use cue_types::{
     Cue, CueList, Kind, Pen, Run, Runs, Share, Text, Version, WinCue, cue, head, lane, list,
 };
 
+pub mod laws;
 #[cfg(test)]
 mod tests;
