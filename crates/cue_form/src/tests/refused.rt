@@ -274,7 +274,7 @@ fn each_field_of_a_share_has_its_form(rt: HostRuntime) -> Result<(), Fail> {
         ("share,1,8\nshare,1,8\n", 3, 2),
         ("share,1,8\nshare,2,8\nshare,1,x\n", 4, 2),
         ("share,1,31\nshare,2,8\n", 3, 3),
-        ("share,1,16\nshare,2,17\n", 3, 3),
+        ("share,1,16\nshare,2,18\n", 3, 3),
         ("share,6,8\nshare,5,8\nshare,4,8\nshare,3,8\n", 5, 3),
         ("share,1,8\nrun,0,0,plain,A\n", 3, 1),
         ("share,1,8\nccsuite,1,30,300\n", 3, 1),
