@@ -1,14 +1,15 @@
 -- A list with its shares in ascending order of their services is in form where the list is.
-use Rattle.std.proofs.Common.{◌≡◌, ◌≢◌, ℕ, suc, ◌+◌, ◌≤◌, ◌==◌, Bool, true, false, List, [], ◌∷◌, ◌++◌, length, All, AllPairs, Option, Some, None, refl, ◌∙◌, arith, eqb-true}
+use Rattle.std.proofs.Common.{◌≡◌, ◌≢◌, ℕ, suc, ◌+◌, ◌≤◌, ◌==◌, Bool, true, false, List, [], ◌∷◌, ◌++◌, length, All, AllPairs, Option, Some, None, refl, ◌∙◌, arith, eqb-true, ◌||◌, eq-eqb, ◌<◌, sym, ap}
 use Rattle.std.specs.Prelude.{find, flat_map, option_map, option_to_list, if◌then◌else◌}
 use Rattle.std.proofs.lemmas.List.Elements.{All-cons, All-head, All-nil, All-tail}
 use Rattle.std.proofs.lemmas.List.Kept.{AllPairs-cons}
 use Rattle.std.proofs.lemmas.List.Sums.{sum_by-append, sum_by-cons}
-use Rattle.cue_form.specs.Printing.{in_order}
-use Rattle.cue_types.specs.Listing.{IsFormed, Listing}
+use Rattle.std.specs.List.{list_any}
+use Rattle.cue_form.specs.Printing.{in_order, share_list}
+use Rattle.cue_types.specs.Listing.{IsFormed, Listing, share_of}
 use Rattle.cue_types.specs.Shares.{IsShare, shares_taken}
 use Rattle.cue_types.specs.declared.list.Share.{Share}
-use Rattle.cue_form.proofs.Passing.{on_test}
+use Rattle.cue_form.proofs.Passing.{on_test, passed}
 
 -- the share of a service, from a list of shares
 abbrev of_service : List Share → ℕ → List Share
@@ -134,3 +135,74 @@ in_order_formed l formed =
       few = formed.few;
       cues = formed.cues;
     }
+
+-- a service of which there can be a share
+in_six : (service : ℕ) → 1 ≤ service → service ≤ 6 → list_any (λ k. k == service) (1 ∷ 2 ∷ 3 ∷ 4 ∷ 5 ∷ 6 ∷ []) ≡ true
+in_six service from upto =
+    passed (list_any (λ k. k == service) (1 ∷ 2 ∷ 3 ∷ 4 ∷ 5 ∷ 6 ∷ []))
+    (λ none.
+        let a = neither_of (1 == service) _ none in
+        let b = neither_of (2 == service) _ a.1 in
+        let c = neither_of (3 == service) _ b.1 in
+        let d = neither_of (4 == service) _ c.1 in
+        let e = neither_of (5 == service) _ d.1 in
+        let f = neither_of (6 == service) _ e.1 in
+        let one = differs 1 service a.0 in
+        let two = differs 2 service b.0 in
+        let three = differs 3 service c.0 in
+        let four = differs 4 service d.0 in
+        let five = differs 5 service e.0 in
+        let six = differs 6 service f.0 in
+        omega (arith, one, two, three, four, five, six))
+  where
+    neither_of : (a b : Bool) → (a || b) ≡ false → (a ≡ false) × (b ≡ false)
+    neither_of true b none = cc
+    neither_of false b none = (refl, none)
+
+    differs : (a b : ℕ) → (a == b) ≡ false → a ≢ b
+    differs a b other same = let q = eq-eqb a b same in cc
+
+-- the share of a service, from those of some services
+share_among : (l : Listing) (service : ℕ) (services : List ℕ)
+    → option_map (λ (share : Share). share.bytes) (find (λ (share : Share). share.service == service) (flat_map (share_list l) services))
+    ≡ (if list_any (λ k. k == service) services then share_of l service else None)
+share_among l service [] = refl
+share_among l service (k ∷ services) = by_share (share_of l k) refl (share_among l service services)
+  where
+    among : List Share → Option ℕ
+    among shares = option_map (λ (share : Share). share.bytes) (find (λ (share : Share). share.service == service) shares)
+
+    of_none : (b d : Bool) → (k == service) ≡ b → share_of l k ≡ None → (o : Option ℕ) → share_of l service ≡ o
+        → (if d then o else None) ≡ (if b || d then o else None)
+    of_none false d other none o is = refl
+    of_none true true same none o is = refl
+    of_none true false same none o is = sym (sym is ∙ ap (share_of l) (sym (eqb-true k service same)) ∙ none)
+
+    by_share : (o : Option ℕ) → share_of l k ≡ o
+        → among (flat_map (share_list l) services) ≡ (if list_any (λ i. i == service) services then share_of l service else None)
+        → among (option_to_list (option_map (λ bytes. record { service = k; bytes = bytes }) o) ++ flat_map (share_list l) services)
+        ≡ (if (k == service) || list_any (λ i. i == service) services then share_of l service else None)
+    by_share None is rest = rest ∙ of_none (k == service) (list_any (λ i. i == service) services) refl is (share_of l service) refl
+    by_share (Some bytes) is rest =
+        on_test _ (k == service)
+        (λ other. rw other rest)
+        (λ same. rw same (sym is ∙ ap (share_of l) (eqb-true k service same)))
+
+either_way : (b : Bool) (o : Option ℕ) → (if b then o else o) ≡ o
+either_way true o = refl
+either_way false o = refl
+
+-- a service has the share that it had
+pub same_share : (l : Listing) → IsFormed l → (service : ℕ) → share_of (in_order l) service ≡ share_of l service
+same_share l formed service =
+    share_among l service (1 ∷ 2 ∷ 3 ∷ 4 ∷ 5 ∷ 6 ∷ [])
+    ∙ by_share (find (λ (share : Share). share.service == service) l.shares) refl
+  where
+    by_share : (o : Option Share) → find (λ (share : Share). share.service == service) l.shares ≡ o
+        → (if list_any (λ k. k == service) (1 ∷ 2 ∷ 3 ∷ 4 ∷ 5 ∷ 6 ∷ []) then option_map (λ (share : Share). share.bytes) o else None) ≡ option_map (λ (share : Share). share.bytes) o
+    by_share None is = either_way (list_any (λ k. k == service) (1 ∷ 2 ∷ 3 ∷ 4 ∷ 5 ∷ 6 ∷ [])) None
+    by_share (Some share) is =
+        let found = found_is l.shares service (Some share) is formed.shares.each share refl in
+        let its : (1 ≤ share.service) × (share.service ≤ 6) = found.0.service in
+        let own : share.service ≡ service = found.1 in
+        rw (in_six service (omega (arith, its, own)) (omega (arith, its, own))) refl

@@ -1,6 +1,7 @@
 mod GatheredLines
 pub mod ListAnswerLemmas
 pub mod ListVerdictLemmas
+mod Migrated
 pub mod Outputs
 mod Refusals
 mod WordsLemmas

@@ -1,0 +1,34 @@
+-- A list with its shares in ascending order of their services keeps the rules where the list does.
+use Rattle.std.proofs.Common.{◌≡◌, ℕ, List, [], ◌∷◌, Option, sym, subst}
+use Rattle.std.specs.Prelude.{IsSome}
+use Rattle.cue_form.specs.Printing.{in_order}
+use Rattle.cue_form.proofs.InOrder.{same_share}
+use Rattle.cue_types.specs.Channels.{cues_of_service}
+use Rattle.cue_types.specs.Listing.{IsFormed, Listing, share_of}
+use Rattle.cue_types.specs.declared.cue.Cue.{Cue}
+use Rattle.cue_rules.specs.Rules.{IsRuled}
+use Rattle.cue_rules.specs.Rules.Sentences.{AreInService}
+
+-- a service with the same share keeps the rules
+service_kept : (list : Listing) (service : ℕ) (cues : List Cue) → share_of (in_order list) service ≡ share_of list service
+    → AreInService list service cues → AreInService (in_order list) service cues
+service_kept list service [] same are = tt
+service_kept list service (cue ∷ cues) same are = (
+  record {
+    loaded = are.0.loaded;
+    hidden = are.0.hidden;
+    delayed = are.0.delayed;
+    apart = are.0.apart;
+    shared = subst (λ (o : Option ℕ). IsSome o) (sym same) are.0.shared;
+    ended = are.0.ended;
+  },
+  are.1,
+  service_kept list service cues same are.2,
+)
+
+pub in_order_ruled : (list : Listing) → IsFormed list → IsRuled list → IsRuled (in_order list)
+in_order_ruled list formed ruled = record {
+  channels = ruled.channels;
+  on_slots = ruled.on_slots;
+  services = λ service. service_kept list service (cues_of_service service list.cues) (same_share list formed service) (ruled.services service);
+}
