@@ -1,0 +1,15 @@
+use Rattle.std.proofs.Common.{◌≡◌, ℕ, ◌+◌, List, length}
+use Rattle.std.specs.List.{concat}
+use Rattle.cdp_packets.specs.Sections.{AreSections}
+use Rattle.packet_inserter.specs.Insertion.{is_kept}
+use Rattle.packet_inserter.proofs.WalkLemmas.{HavePassed}
+use Rattle.packet_inserter.proofs.places.captions_place.Given as goal
+
+abbrev pub invariant-loop-section : goal.invariant-loop-section
+invariant-loop-section l = record {
+  fits : l.place + length l.rest ≡ length l.sections;
+  passed : (cut : List (List ℕ)) → AreSections cut → concat cut ≡ l.sections → HavePassed is_kept cut l.rest l.place;
+}
+
+abbrev pub decreases-loop-section : goal.decreases-loop-section
+decreases-loop-section l = length l.rest
