@@ -52,7 +52,7 @@ impl Draft {
         }
     }
 
-    /// GivesBegun the next record: its kind word is judged first, then the number of its fields, then its fields from the
+    /// Takes the next record: its kind word is judged first, then the number of its fields, then its fields from the
     /// left. After an error the list is of no further use.
     pub fn take(&mut self, alloc: Global, row: &ByteRecord) -> Result<(), Offence>
         ensures { GivesBegun (next self.old (fields_of row.now)) result self.new }
