@@ -1,0 +1,4 @@
+pub mod FindingLemmas
+pub mod KeptLemmas
+pub mod ScreenLemmas
+pub mod VerifierLemmas

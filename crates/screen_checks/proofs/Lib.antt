@@ -1,0 +1,4 @@
+pub mod AreaLemmas
+pub mod CheckLemmas
+pub mod ChannelsLemmas
+pub mod ServiceLemmas

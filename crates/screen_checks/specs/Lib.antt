@@ -1,0 +1,4 @@
+pub mod Differing
+pub mod Checks
+pub mod Channels
+pub mod Services

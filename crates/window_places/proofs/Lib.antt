@@ -1,0 +1,4 @@
+pub mod PlaceLemmas
+pub mod CursorLemmas
+pub mod SeenLemmas
+pub mod TurnLemmas
