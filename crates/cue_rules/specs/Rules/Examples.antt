@@ -1,4 +1,4 @@
--- Worked examples of the rules: short lists of 100 frames, and their faults.
+-- Worked examples of the rules: short lists of 100 frames, those of windows of 300, and their faults.
 use Rattle.std.specs.Prelude.{ℕ, false, List, [], ◌∷◌, Option, Some, None}
 use Rattle.cc_base.specs.declared.rate.Rate.TheVariants as rate
 use Rattle.cc_base.specs.declared.why.Why.{Why}
@@ -52,6 +52,28 @@ roll channel rows load show hide = example_cue (kind.Roll channel rows) load sho
 abbrev pub white_then_red : Cue
 white_then_red = example_cue (kind.Pop chan.Cc1) 0 7 (Some 20)
     (example_run colour.White 15 0 (65 ∷ 66 ∷ []) ∷ example_run colour.Red 15 2 (67 ∷ []) ∷ [])
+
+-- a list of 300 frames at 29.97 frames a second, where service 1 has a share
+abbrev pub window_list : List Cue → Listing
+window_list cues = record { rate = rate.F2997; frames = 300; shares = record { service = 1; bytes = 31 } ∷ []; cues = cues }
+
+-- a cue in a window of service 1, with a DELAY in tenths of a second: ten of them are 30 frames
+abbrev pub window : ℕ → ℕ → ℕ → ℕ → ℕ → Cue
+window id load show hide tenths =
+    example_cue (kind.Win (record {
+      service = 1;
+      id = id;
+      delay = tenths;
+      anchor = 0;
+      av = 60;
+      ah = 50;
+      rows = 1;
+      cols = 10;
+      priority = 0;
+      ws = 1;
+      ps = 1;
+      attr = None;
+    })) load show (Some hide) (record { row = 0; col = 0; pen = pen.Dtv false false; text = 65 ∷ []; colors = None } ∷ [])
 
 -- a fault
 abbrev pub fault : Why → ℕ → Option ℕ → RuleFault
