@@ -13,6 +13,7 @@ mod double_rates;
 mod pairs;
 mod scc;
 mod seen;
+mod services;
 mod show;
 mod words;
 

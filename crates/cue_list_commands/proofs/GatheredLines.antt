@@ -10,7 +10,7 @@ use Rattle.frame_scheduler.specs.Columns.{Columns}
 use Rattle.frame_scheduler.specs.Frames.{GivesFrom, frames_left}
 use Rattle.frame_scheduler.specs.declared.frames.FrameBytes.{FrameBytes}
 use Rattle.frame_scheduler.specs.declared.frames.Plan.{Plan}
-use Rattle.command_base.specs.Gathered.{Flushes, Gathers}
+use Rattle.text_output.specs.Gathered.{Flushes, Gathers}
 use Rattle.cue_list_commands.specs.Lines.{pair_line, pair_lines}
 
 -- a part of a text was put, and what is held and the rest complete it

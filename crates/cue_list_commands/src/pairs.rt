@@ -8,9 +8,10 @@ ghost use Rattle.cue_list_commands.specs.Lines.{pair_lines};
 use crate::accept::read_programme;
 use crate::lines::line_of;
 use cc_base::{Put, Sink, Source};
-use command_base::{Gathered, Status};
+use command_base::Status;
 use frame_scheduler::Plan;
 use std::alloc::Global;
+use text_output::Gathered;
 
 /// Reads a cue list, and puts one line a frame with the pairs of both fields.
 pub fn run_pairs<M: Source, O: Sink>(alloc: Global, input: &mut M, out: &mut O) -> Status

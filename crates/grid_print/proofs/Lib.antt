@@ -1,6 +1,9 @@
 pub mod RunLemmas
 pub mod TextLemmas
 pub mod RowLemmas
-pub mod LengthLemmas
 pub mod FrontLemmas
 pub mod RunsOfLemmas
+pub mod NumberLemmas
+pub mod ServiceLemmas
+pub mod KeptLemmas
+pub mod ScreenLemmas

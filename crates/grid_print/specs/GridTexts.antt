@@ -1,6 +1,6 @@
--- The texts of the grids of CC1 to CC4.
-use Rattle.std.specs.Prelude.{ℕ, ◌==◌, ◌++◌, Bool, if◌then◌else◌, List, [], ◌∷◌, codes, decimal, encode_utf8_all, length}
-use Rattle.std.specs.List.{flat_map, list_any}
+-- The texts of the grids of CC1 to CC4, and of the windows of services.
+use Rattle.std.specs.Prelude.{ℕ, ◌==◌, ◌++◌, ◌||◌, Bool, Option, if◌then◌else◌, List, [], ◌∷◌, codes, decimal, encode_utf8_all, length}
+use Rattle.std.specs.List.{flat_map, list_any, range_with_len}
 use Rattle.cc_base.specs.Texts.{text}
 use Rattle.line21_codes.specs.declared.channels.Chan.{Chan}
 use Rattle.line21_codes.specs.declared.channels.Chan.TheVariants.{Cc1, Cc2, Cc3, Cc4}
@@ -9,7 +9,11 @@ use Rattle.line21_codes.specs.declared.styles.Colour.TheVariants.{White, Green, 
 use Rattle.line21_codes.specs.declared.styles.Style.{Style}
 use Rattle.line21_screen.specs.Differences.{differs}
 use Rattle.line21_screen.specs.Grid.{Grid}
+use Rattle.dtvcc_windows.specs.Showing.{ShownWindow}
+use Rattle.window_texts.specs.Differences.{differs as window_differs}
+use Rattle.window_texts.specs.WindowTexts.{service_text, shown_ids}
 use Rattle.grid_print.specs.Runs.{Run, runs}
+use Rattle.grid_print.specs.Screens.{Screens}
 
 -- the name of a channel
 abbrev pub chan_name : Chan → List ℕ
@@ -56,15 +60,54 @@ frame_line frame = text (codes "frame " ∷ decimal frame ∷ codes "\n" ∷ [])
 abbrev pub channels : List Chan
 channels = Cc1 ∷ Cc2 ∷ Cc3 ∷ Cc4 ∷ []
 
--- a frame's screens: its line, and the grid of each channel that has a run
-unfoldable pub all_text : ℕ → (Chan → Grid) → List ℕ
-all_text frame screens = frame_line frame
-    ++ flat_map (λ chan. if length (runs (screens chan)) == 0 then [] else grid_text chan (screens chan)) channels
+-- the services in their order, and the windows of a service in theirs
+abbrev pub services : List ℕ
+services = range_with_len 1 63
 
--- what changes from some screens to those of a frame: nothing where no channel's grid differs; else the frame's line, and the
--- grid of each channel whose grid differs
-unfoldable pub changes_text : ℕ → (Chan → Grid) → (Chan → Grid) → List ℕ
+abbrev pub ids : List ℕ
+ids = range_with_len 0 8
+
+-- some window of a service is shown otherwise
+unfoldable pub service_differs : (ℕ → Option ShownWindow) → (ℕ → Option ShownWindow) → Bool
+service_differs old new = list_any (λ id. window_differs (old id) (new id)) ids
+
+-- a channel's text where it has a run, and a service's where a window of it is shown
+abbrev pub shown_channel : (Chan → Grid) → Chan → List ℕ
+shown_channel grids chan = if length (runs (grids chan)) == 0 then [] else grid_text chan (grids chan)
+
+abbrev pub shown_service : (ℕ → ℕ → Option ShownWindow) → ℕ → List ℕ
+shown_service windows service = if length (shown_ids (windows service)) == 0 then [] else service_text service (windows service)
+
+-- a channel's text where its grid differs, and a service's where its windows do
+abbrev pub changed_channel : (Chan → Grid) → (Chan → Grid) → Chan → List ℕ
+changed_channel old new chan = if differs (old chan) (new chan) then grid_text chan (new chan) else []
+
+abbrev pub changed_service : (ℕ → ℕ → Option ShownWindow) → (ℕ → ℕ → Option ShownWindow) → ℕ → List ℕ
+changed_service old new service = if service_differs (old service) (new service) then service_text service (new service) else []
+
+-- the texts of all services that are shown, and of those that changed
+unfoldable pub shown_services : (ℕ → ℕ → Option ShownWindow) → List ℕ
+shown_services windows = flat_map (shown_service windows) services
+
+unfoldable pub changed_services : (ℕ → ℕ → Option ShownWindow) → (ℕ → ℕ → Option ShownWindow) → List ℕ
+changed_services old new = flat_map (changed_service old new) services
+
+-- the windows of some service differ
+unfoldable pub services_differ : (ℕ → ℕ → Option ShownWindow) → (ℕ → ℕ → Option ShownWindow) → Bool
+services_differ old new = list_any (λ service. service_differs (old service) (new service)) services
+
+-- the grid of some channel differs
+unfoldable pub channels_differ : (Chan → Grid) → (Chan → Grid) → Bool
+channels_differ old new = list_any (λ chan. differs (old chan) (new chan)) channels
+
+-- a frame's screens: its line, the grid of each channel that has a run, and the windows of each service of which one is shown
+unfoldable pub all_text : ℕ → Screens → List ℕ
+all_text frame screens = frame_line frame ++ flat_map (shown_channel screens.grids) channels ++ shown_services screens.windows
+
+-- what changes from some screens to those of a frame: nothing where nothing differs; else the frame's line, the grid of each channel
+-- whose grid differs, and the windows of each service whose windows differ
+unfoldable pub changes_text : ℕ → Screens → Screens → List ℕ
 changes_text frame old new =
-    if list_any (λ chan. differs (old chan) (new chan)) channels
-    then frame_line frame ++ flat_map (λ chan. if differs (old chan) (new chan) then grid_text chan (new chan) else []) channels
+    if channels_differ old.grids new.grids || services_differ old.windows new.windows
+    then frame_line frame ++ flat_map (changed_channel old.grids new.grids) channels ++ changed_services old.windows new.windows
     else []

@@ -1,5 +1,7 @@
 pub mod Runs
+pub mod Screens
 pub mod GridTexts
-pub mod Texts
+pub mod Keeping
+pub mod Kept
 pub mod Shown
 pub mod RunsOf

@@ -1,9 +1,7 @@
 //! Laws of the definitions: functions without a body, whose contract is the law.
 
-ghost use Rattle.std.specs.Prelude.{◌≡◌, ◌↔◌, ◌^◌, ◌<◌, ◌≤◌, ℕ, None, length, true};
-ghost use Rattle.line21_codes.specs.declared.channels.Chan.{Chan};
+ghost use Rattle.std.specs.Prelude.{◌≡◌, ◌↔◌, ℕ, None, length, true};
 ghost use Rattle.line21_screen.specs.Grid.{Grid, in_grid};
-ghost use Rattle.grid_print.specs.GridTexts.{all_text, changes_text};
 ghost use Rattle.grid_print.specs.Runs.{runs};
 ghost use Rattle.grid_print.specs.RunsOf.{AreRunsOf};
 
@@ -16,11 +14,4 @@ pub fn runs_are_the_longest_stretches()
 /// A grid has no run just where no place of it has a cell.
 pub fn grids_without_a_run_are_empty()
     ensures { (grid : Grid) → (length (runs grid) ≡ 0) ↔ ((row col : ℕ) → in_grid row col ≡ true → grid row col ≡ None) }
-{}
-
-/// The texts of a frame have at most 44,209 bytes: 17 of the frame's line, and for each of four channels 8 of its own line and
-/// 23 for each of 480 places.
-pub fn texts_of_a_frame_are_bounded()
-    ensures all { (frame : ℕ) (screens : Chan → Grid) → frame < 2 ^ 32 → length (all_text frame screens) ≤ 44209 }
-    ensures changes { (frame : ℕ) (old new : Chan → Grid) → frame < 2 ^ 32 → length (changes_text frame old new) ≤ 44209 }
 {}

@@ -1,10 +1,12 @@
 //! The texts of the grids of line 21's caption channels CC1 to CC4: all that a frame shows, and what changes from frame to frame.
 #![tactic(auto)]
 
+mod kept;
 pub mod laws;
 mod names;
 mod print;
 mod runs;
+mod service;
 mod shown;
 mod text;
 

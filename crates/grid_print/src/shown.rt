@@ -1,18 +1,28 @@
-ghost use Rattle.std.specs.Prelude.{◌≡◌, ◌++◌, ℕ, List, if◌then◌else◌, []};
+ghost use Rattle.std.specs.Prelude.{◌≡◌, ℕ, List, if◌then◌else◌, [], None, false, IfOk, vec_len, length};
+ghost use Rattle.std.specs.List.{flat_map};
+ghost use Rattle.cc_receiver.specs.ReceivedServices.{received_windows};
 ghost use Rattle.cc_receiver.specs.Receivers.{shown};
+ghost use Rattle.cdp_packets.specs.Packets.{Packet as Frame};
 ghost use Rattle.line21_screen.specs.Differences.{differs};
 ghost use Rattle.line21_screen.specs.Objects.{grid_in};
-ghost use Rattle.grid_print.specs.GridTexts.{grid_text};
-ghost use Rattle.grid_print.specs.Texts.{Holds};
+ghost use Rattle.text_output.specs.Pages.{Writes, WritesSome, page};
+ghost use Rattle.window_texts.specs.WindowTexts.{service_text};
+ghost use Rattle.grid_print.specs.GridTexts.{changed_channel, channels, grid_text};
+ghost use Rattle.dtvcc_services.specs.Numbers.{IsService};
+ghost use Rattle.grid_print.specs.Kept.{KeepsServices, changed_places, seen_at};
+ghost use Rattle.grid_print.specs.Screens.{IsBehind};
 
-use crate::text::Text;
+use crate::kept::Kept;
+use crate::service::{SERVICES, service_at, write_service};
+use crate::text::{write_frame, write_grid};
 use cc_base::{Put, Sink};
 use cc_receiver::Receiver;
 use line21_codes::Chan;
 use line21_screen::Memory;
 use std::alloc::{AllocError, Global};
+use text_output::Gathered;
 
-/// The grids of CC1 to CC4 that were shown last, and the text of what changed then.
+/// The grids of CC1 to CC4 and the windows of the services 1 to 63 that were shown last.
 ///
 /// All memory that it ever takes is taken by `new`.
 #[derive(Drop)]
@@ -21,81 +31,210 @@ pub struct Shown {
     cc2: Memory,
     cc3: Memory,
     cc4: Memory,
-    text: Text,
+    services: Vec<Kept>,
+    ghost count: { vec_len services ≡ 63 },
 }
 
 impl Shown {
-    ghost use Rattle.std.specs.Prelude.{◌≤◌, IfOk, length};
+    ghost use Rattle.std.specs.Prelude.{◌<◌, ◌+◌, ◌++◌, true};
     ghost use Rattle.cc_base.specs.Streams.{PutCause, Puts};
     ghost use Rattle.line21_screen.specs.Grid.{empty_grid};
-    ghost use Rattle.grid_print.specs.GridTexts.{changes_text};
-    ghost use Rattle.grid_print.specs.Shown.{last_shown, text_of};
+    ghost use Rattle.grid_print.specs.GridTexts.{changes_text, channels_differ, frame_line, service_differs, services_differ};
+    ghost use Rattle.grid_print.specs.Kept.{changed_at};
+    ghost use Rattle.grid_print.specs.Shown.{last_grid, last_shown};
+    ghost use Rattle.grid_print.specs.Screens.{HaveSameWindows, LookAlike, received_screens};
 
-    /// Nothing was shown: all grids are empty, and so is the text. The error comes where memory for the grids isn't found.
+    /// Nothing was shown: all grids are empty, and no window is shown. The error comes where memory for them isn't found.
     pub fn new(alloc: Global) -> Result<Shown, AllocError>
-        ensures grids { IfOk result (λ made. last_shown made ≡ (λ chan. empty_grid)) }
-        ensures text { IfOk result (λ made. text_of made ≡ []) }
+        ensures grids { IfOk result (λ made. (last_shown made).grids ≡ (λ chan. empty_grid)) }
+        ensures windows { IfOk result (λ made. (service id : ℕ) → (last_shown made).windows service id ≡ None) }
     {
         Ok(Shown {
             cc1: Memory::new(alloc)?,
             cc2: Memory::new(alloc)?,
             cc3: Memory::new(alloc)?,
             cc4: Memory::new(alloc)?,
-            text: Text::new(),
+            services: no_services(alloc)?,
         })
     }
 
-    /// Makes the text of what changed from the grids that were shown last to those of a frame, and keeps it and these grids.
-    /// Where nothing changed, the text is empty.
-    pub fn compare(&mut self, r: &Receiver, frame: u32)
-        ensures text { text_of self.new ≡ changes_text frame (last_shown self.old) (shown r.now) }
-        ensures now { last_shown self.new ≡ shown r.now }
-        ensures short { length (text_of self.new) ≤ 45056 }
+    /// Writes the text of what changed from the screens that were shown last to those of a frame, which is empty where nothing
+    /// changed; these screens are then the ones that were shown last. Where `touched` says no, what is seen of the services is what
+    /// was shown last, and isn't compared.
+    pub fn write_changes<O: Sink>(
+        &mut self,
+        r: &Receiver,
+        frame: u32,
+        touched: bool,
+        text: &mut Gathered,
+        out: &mut O,
+    )
+        ensures some { WritesSome (page text.old (O.written out.old) (O.faults out.old)) (page text.new (O.written out.new) (O.faults out.new)) }
+        ensures text { (frames : List Frame) → IsBehind frames r.now
+            → (touched ≡ false → HaveSameWindows (last_shown self.old).windows (received_windows frames))
+            → Writes (page text.old (O.written out.old) (O.faults out.old)) (page text.new (O.written out.new) (O.faults out.new)) (changes_text frame (last_shown self.old) (received_screens frames)) }
+        ensures now { (frames : List Frame) → IsBehind frames r.now
+            → (touched ≡ false → HaveSameWindows (last_shown self.old).windows (received_windows frames))
+            → LookAlike (last_shown self.new) (received_screens frames) }
     {
-        self.text.clear();
-        self.text.frame(frame);
-        let one = note(&mut self.cc1, Chan::Cc1, r, &mut self.text);
-        let two = note(&mut self.cc2, Chan::Cc2, r, &mut self.text);
-        let three = note(&mut self.cc3, Chan::Cc3, r, &mut self.text);
-        let four = note(&mut self.cc4, Chan::Cc4, r, &mut self.text);
-        let changed = one | two | three | four;
-        if !changed {
-            self.text.clear();
+        let channels = self.channels_differ(r);
+        let services = self.keep_services(r, touched);
+        let changed = channels | services;
+        if changed {
+            self.write_differing(r, frame, services, text, out);
         }
     }
 
-    /// The text of what changed last.
-    pub fn text(&self) -> &[u8]
-        ensures { result.now ≡ text_of self.now }
+    // Keeps what is seen of all services, and says whether that of one differs from what was kept; not so where nothing touched them.
+    fn keep_services(&mut self, r: &Receiver, touched: bool) -> bool
+        ensures some { (frames : List Frame) → IsBehind frames r.now
+            → (touched ≡ false → HaveSameWindows (last_shown self.old).windows (received_windows frames))
+            → result ≡ services_differ (last_shown self.old).windows (received_windows frames) }
+        ensures now { (frames : List Frame) → IsBehind frames r.now
+            → (touched ≡ false → HaveSameWindows (last_shown self.old).windows (received_windows frames))
+            → HaveSameWindows (last_shown self.new).windows (received_windows frames) }
+        ensures each { (frames : List Frame) → IsBehind frames r.now → result ≡ true → (place : ℕ) → place < 63
+            → changed_at self.new.services.items place ≡ service_differs (seen_at self.old.services.items place) (received_windows frames (place + 1)) }
+        ensures grids { last_grid self.new ≡ last_grid self.old }
     {
-        self.text.as_slice()
+        touched && keep_services(&mut self.services, r)
     }
 
-    /// Puts the text of what changed from the grids that were shown last to those of a frame, in one piece, which is empty where
-    /// nothing changed. These grids are then the ones that were shown last. Failed comes only where the sink's count of faults
+    // Writes the line of a frame, the grid of each channel whose grid differs from the one that was shown last, which is kept, and the
+    // text of each service whose windows changed, if one did.
+    fn write_differing<O: Sink>(
+        &mut self,
+        r: &Receiver,
+        frame: u32,
+        services: bool,
+        text: &mut Gathered,
+        out: &mut O,
+    )
+        ensures some { WritesSome (page text.old (O.written out.old) (O.faults out.old)) (page text.new (O.written out.new) (O.faults out.new)) }
+        ensures text { (frames : List Frame) → IsBehind frames r.now
+            → Writes (page text.old (O.written out.old) (O.faults out.old)) (page text.new (O.written out.new) (O.faults out.new))
+            (frame_line frame ++ flat_map (changed_channel (last_grid self.old) (shown r.now)) channels
+            ++ (if services then changed_places self.old.services.items (received_windows frames) else [])) }
+        ensures now { last_grid self.new ≡ shown r.now }
+        ensures services { self.new.services ≡ self.old.services }
+    {
+        write_frame(frame, text, out);
+        self.write_channels(r, text, out);
+        if services {
+            write_changed(&self.services, r, text, out);
+        }
+    }
+
+    // Whether the grid of some channel differs from the one that was shown last.
+    fn channels_differ(&self, r: &Receiver) -> bool
+        ensures some { result ≡ channels_differ (last_grid self.now) (shown r.now) }
+        ensures same { result ≡ false → last_grid self.now ≡ shown r.now }
+    {
+        let one = self.cc1.differs(r.displayed(Chan::Cc1));
+        let two = self.cc2.differs(r.displayed(Chan::Cc2));
+        let three = self.cc3.differs(r.displayed(Chan::Cc3));
+        let four = self.cc4.differs(r.displayed(Chan::Cc4));
+        one | two | three | four
+    }
+
+    // Writes the grid of each channel whose grid differs from the one that was shown last, and keeps it.
+    fn write_channels<O: Sink>(&mut self, r: &Receiver, text: &mut Gathered, out: &mut O)
+        ensures text { Writes (page text.old (O.written out.old) (O.faults out.old)) (page text.new (O.written out.new) (O.faults out.new)) (flat_map (changed_channel (last_grid self.old) (shown r.now)) channels) }
+        ensures now { last_grid self.new ≡ shown r.now }
+        ensures services { self.new.services ≡ self.old.services }
+    {
+        write_channel(&mut self.cc1, Chan::Cc1, r, text, out);
+        write_channel(&mut self.cc2, Chan::Cc2, r, text, out);
+        write_channel(&mut self.cc3, Chan::Cc3, r, text, out);
+        write_channel(&mut self.cc4, Chan::Cc4, r, text, out);
+    }
+
+    /// Puts the text of what changed from the screens that were shown last to those of a frame, which is empty where nothing
+    /// changed. These screens are then the ones that were shown last. Failed comes only where the sink's count of faults
     /// rose, and then a front of the text was put.
     pub fn put_changes<O: Sink>(&mut self, r: &Receiver, frame: u32, out: &mut O) -> Put
-        ensures bytes { Puts (O.written out.old) (O.written out.new) result (changes_text frame (last_shown self.old) (shown r.now)) }
+        ensures bytes { (frames : List Frame) → IsBehind frames r.now
+            → Puts (O.written out.old) (O.written out.new) result (changes_text frame (last_shown self.old) (received_screens frames)) }
         ensures cause { PutCause (O.faults out.old) (O.faults out.new) result }
-        ensures now { last_shown self.new ≡ shown r.now }
+        ensures now { (frames : List Frame) → IsBehind frames r.now → LookAlike (last_shown self.new) (received_screens frames) }
     {
-        self.compare(r, frame);
-        out.put(self.text())
+        let mut text = Gathered::new();
+        text.begin();
+        self.write_changes(r, frame, true, &mut text, out);
+        text.finish(out)
     }
 }
 
-/// Adds a channel's grid to the text, and keeps it, if it differs from the one that is kept. Says whether it does.
-fn note(kept: &mut Memory, chan: Chan, r: &Receiver, text: &mut Text) -> bool
-    ensures told { result ≡ differs (grid_in kept.old) (shown r.now chan) }
-    ensures text { (before : List ℕ) → Holds before text.old
-        → Holds (before ++ (if differs (grid_in kept.old) (shown r.now chan) then grid_text chan (shown r.now chan) else [])) text.new }
+// Of each service no window is shown.
+fn no_services(alloc: Global) -> Result<Vec<Kept>, AllocError>
+    ensures { IfOk result (λ services. (vec_len services ≡ 63) × ((place id : ℕ) → seen_at services.items place id ≡ None)) }
+{
+    let mut services = Vec::new(alloc);
+    for _place in 0..SERVICES {
+        services.push(Kept::new(alloc)?)?;
+    }
+    Ok(services)
+}
+
+// Writes a channel's grid and keeps it, if it differs from the one that is kept.
+fn write_channel<O: Sink>(
+    kept: &mut Memory,
+    chan: Chan,
+    r: &Receiver,
+    text: &mut Gathered,
+    out: &mut O,
+)
+    ensures text { Writes (page text.old (O.written out.old) (O.faults out.old)) (page text.new (O.written out.new) (O.faults out.new))
+        (if differs (grid_in kept.old) (shown r.now chan) then grid_text chan (shown r.now chan) else []) }
     ensures kept { grid_in kept.new ≡ shown r.now chan }
 {
     let now = r.displayed(chan);
-    if !kept.differs(now) {
-        return false;
+    if kept.differs(now) {
+        write_grid(chan, now, text, out);
+        kept.copy_from(now);
     }
-    text.grid(chan, now);
-    kept.copy_from(now);
-    true
+}
+
+// Keeps what is seen of all services, and says whether that of one differs from what was kept.
+fn keep_services(services: &mut [Kept], r: &Receiver) -> bool
+    requires { length services.old ≡ 63 }
+    ensures { (frames : List Frame) → IsBehind frames r.now → KeepsServices (received_windows frames) 63 services.old services.new result }
+{
+    let mut changed = false;
+    for place in 0..services.len() {
+        let differs = services[place].keep(r, service_at(place));
+        changed = changed | differs;
+    }
+    changed
+}
+
+// Writes the text of each service whose windows changed when they were kept last.
+fn write_changed<O: Sink>(services: &[Kept], r: &Receiver, text: &mut Gathered, out: &mut O)
+    requires { length services.now ≡ 63 }
+    ensures some { WritesSome (page text.old (O.written out.old) (O.faults out.old)) (page text.new (O.written out.new) (O.faults out.new)) }
+    ensures text { (frames : List Frame) → IsBehind frames r.now
+        → Writes (page text.old (O.written out.old) (O.faults out.old)) (page text.new (O.written out.new) (O.faults out.new))
+        (changed_places services.now (received_windows frames)) }
+{
+    for place in 0..services.len() {
+        write_if_changed(&services[place], r, service_at(place), text, out);
+    }
+}
+
+// Writes the text of a service, if its windows changed when they were kept last.
+fn write_if_changed<O: Sink>(
+    kept: &Kept,
+    r: &Receiver,
+    service: u8,
+    text: &mut Gathered,
+    out: &mut O,
+)
+    requires { IsService service }
+    ensures some { WritesSome (page text.old (O.written out.old) (O.faults out.old)) (page text.new (O.written out.new) (O.faults out.new)) }
+    ensures text { (frames : List Frame) → IsBehind frames r.now
+        → Writes (page text.old (O.written out.old) (O.faults out.old)) (page text.new (O.written out.new) (O.faults out.new)) (if kept.now.changed then service_text service (received_windows frames service) else []) }
+{
+    if kept.has_changed() {
+        write_service(r, service, text, out);
+    }
 }

@@ -30,18 +30,29 @@ fn sum_byte(bytes: &[u8]) -> u8 {
     sum
 }
 
-// The distribution packet of a frame with these pairs of field 1 and of field 2.
-fn packet_of(alloc: Global, counter: u16, one: &[u16], two: &[u16]) -> Result<Vec<u8>, AllocError> {
+// What a frame brings: pairs of field 1 and of field 2, and the triplets of a caption channel.
+#[derive(Clone, Copy)]
+struct Brings<'a> {
+    one: &'a [u16],
+    two: &'a [u16],
+    channel: &'a [[u8; 3]],
+}
+
+// The distribution packet of a frame.
+fn packet_of(alloc: Global, counter: u16, brings: Brings<'_>) -> Result<Vec<u8>, AllocError> {
     let mut bytes = [0x96, 0x69, 0x49, 0x4F, 0x43].to_vec(alloc)?;
     bytes.extend_from_slice(&counter.to_be_bytes())?;
     bytes.extend_from_slice(&[0x72, 0xF4])?;
-    for pair in one {
+    for pair in brings.one {
         bytes.push(0xFC)?;
         bytes.extend_from_slice(&pair.to_be_bytes())?;
     }
-    for pair in two {
+    for pair in brings.two {
         bytes.push(0xFD)?;
         bytes.extend_from_slice(&pair.to_be_bytes())?;
+    }
+    for triplet in brings.channel {
+        bytes.extend_from_slice(triplet)?;
     }
     for _ in bytes.len()..69 {
         bytes.push(if bytes.len() % 3 == 0 { 0xFA } else { 0x00 })?;
@@ -53,9 +64,9 @@ fn packet_of(alloc: Global, counter: u16, one: &[u16], two: &[u16]) -> Result<Ve
 }
 
 // The bytes of a frame in a words file.
-fn frame_of(alloc: Global, counter: u16, one: &[u16], two: &[u16]) -> Result<Vec<u8>, AllocError> {
+fn frame_of(alloc: Global, counter: u16, brings: Brings<'_>) -> Result<Vec<u8>, AllocError> {
     let mut words = [0x161, 0x101, 0x149].to_vec(alloc)?;
-    for byte in &packet_of(alloc, counter, one, two)? {
+    for byte in &packet_of(alloc, counter, brings)? {
         words.push(word_of(*byte))?;
     }
     words.push(checksum_of(words.as_slice()))?;
@@ -66,7 +77,7 @@ fn frame_of(alloc: Global, counter: u16, one: &[u16], two: &[u16]) -> Result<Vec
     Ok(bytes)
 }
 
-// Feeds a frame.
+// Feeds a frame with these pairs of field 1 and of field 2.
 fn feed_frame(
     alloc: Global,
     receiver: &mut Receiver,
@@ -74,7 +85,23 @@ fn feed_frame(
     one: &[u16],
     two: &[u16],
 ) -> Result<bool, AllocError> {
-    let bytes = frame_of(alloc, counter, one, two)?;
+    let channel: [[u8; 3]; 0] = [];
+    let brings = Brings {
+        one,
+        two,
+        channel: &channel,
+    };
+    feed(alloc, receiver, counter, brings)
+}
+
+// Feeds a frame.
+fn feed(
+    alloc: Global,
+    receiver: &mut Receiver,
+    counter: u16,
+    brings: Brings<'_>,
+) -> Result<bool, AllocError> {
+    let bytes = frame_of(alloc, counter, brings)?;
     if receiver.frames() >= 1000 {
         return Ok(false);
     }
@@ -220,12 +247,9 @@ fn changes_are_told_frame_by_frame(rt: HostRuntime) -> Result<(), AllocError> {
         ),
     ];
     let mut receiver = Receiver::new(alloc)?;
-    let mut shown = Shown::new(alloc)?;
     let mut put = Shown::new(alloc)?;
     for (frame, (one, two, text)) in frames.iter().enumerate() {
         assert!(rt; feed_frame(alloc, &mut receiver, frame as u16, one, two)?);
-        shown.compare(&receiver, frame as u32);
-        assert_eq!(rt; shown.text(), *text, "frame {frame}");
         let mut sink = MemorySink::new(alloc, 1000, Vec::new(alloc))?;
         assert_eq!(rt;
             put.put_changes(&receiver, frame as u32, &mut sink),
@@ -267,15 +291,118 @@ fn a_run_in_each_cell_has_room(rt: HostRuntime) -> Result<(), AllocError> {
         }
     }
     let mut shown = Shown::new(alloc)?;
-    shown.compare(&receiver, 9);
+    let mut sink = MemorySink::new(alloc, 50_000, Vec::new(alloc))?;
+    assert_eq!(rt; shown.put_changes(&receiver, 9, &mut sink), Put::Done);
     let head = b"frame 9\nCC1 480\n1 0 magenta  \n1 1 magenta-u  \n1 2 magenta  \n";
-    assert!(rt; shown.text().starts_with(head));
+    assert!(rt; sink.bytes().starts_with(head));
     assert!(rt;
-        shown
-            .text()
+        sink.bytes()
             .ends_with(b"\n15 30 magenta  \n15 31 magenta-u  \n")
     );
     // A row has 470 characters besides its number, which stands there 32 times.
-    assert_eq!(rt; shown.text().len(), 8 + 8 + 15 * 470 + 9 * 32 + 6 * 64);
+    assert_eq!(rt; sink.bytes().len(), 8 + 8 + 15 * 470 + 9 * 32 + 6 * 64);
+    Ok(())
+}
+
+// A channel packet of 21 bytes for services 2 and 1, in this order: window 0 of each, of one row and six columns, with HI in that of
+// service 2 and HO in that of service 1.
+const TWO_SERVICES: [[u8; 3]; 11] = [
+    [0xFF, 0x0B, 0x49],
+    [0xFE, 0x98, 0x20],
+    [0xFE, 0x00, 0x00],
+    [0xFE, 0x00, 0x05],
+    [0xFE, 0x09, 0x48],
+    [0xFE, 0x49, 0x29],
+    [0xFE, 0x98, 0x20],
+    [0xFE, 0x00, 0x00],
+    [0xFE, 0x00, 0x05],
+    [0xFE, 0x09, 0x48],
+    [0xFE, 0x4F, 0x00],
+];
+
+// The packet behind it: service 1 makes window 3 of one row and two columns, which isn't shown.
+const HIDDEN: [[u8; 3]; 5] = [
+    [0xFF, 0x45, 0x27],
+    [0xFE, 0x9B, 0x00],
+    [0xFE, 0x00, 0x00],
+    [0xFE, 0x00, 0x01],
+    [0xFE, 0x09, 0x00],
+];
+
+// The packet behind that one: service 2 writes A and B in red.
+const RED: [[u8; 3]; 4] = [
+    [0xFF, 0x84, 0x46],
+    [0xFE, 0x91, 0x30],
+    [0xFE, 0x00, 0x00],
+    [0xFE, 0x41, 0x42],
+];
+
+// The packet behind that one: both services delete their windows 0.
+const GONE: [[u8; 3]; 4] = [
+    [0xFF, 0xC4, 0x22],
+    [0xFE, 0x8C, 0x01],
+    [0xFE, 0x42, 0x8C],
+    [0xFE, 0x01, 0x00],
+];
+
+const WINDOW: &str =
+    "W0 at 0 0 0 0 size 1 6 lock 0 0 pri 0 attr 0 0 3 0 0 0 0 fill 0000 border 0000 runs";
+
+#[test]
+fn services_stand_behind_channels_in_their_order(rt: HostRuntime) -> Result<(), AllocError> {
+    let alloc = rt.alloc();
+    let mut receiver = Receiver::new(alloc)?;
+    let brings = Brings {
+        one: &[0x9429, 0x9470, 0xC180],
+        two: &[],
+        channel: &TWO_SERVICES,
+    };
+    assert!(rt; feed(alloc, &mut receiver, 0, brings)?);
+    let mut all = MemorySink::new(alloc, 1000, Vec::new(alloc))?;
+    assert_eq!(rt; put_all(&receiver, 5, &mut all), Put::Done);
+    let mut shown = Shown::new(alloc)?;
+    let mut changes = MemorySink::new(alloc, 1000, Vec::new(alloc))?;
+    assert_eq!(rt; shown.put_changes(&receiver, 5, &mut changes), Put::Done);
+    let text = format!(in alloc;
+        "frame 5\nCC1 1\n15 0 white A\nS1 1\n{WINDOW} 1\n0 0 1 0 0 1 0 0 0 0222 0000 000 HO\nS2 1\n{WINDOW} 1\n0 0 1 0 0 1 0 0 0 0222 0000 000 HI\n"
+    )?;
+    assert_eq!(rt; all.bytes(), text.as_bytes());
+    assert_eq!(rt; changes.bytes(), text.as_bytes());
+    Ok(())
+}
+
+#[test]
+fn windows_that_change_are_told_frame_by_frame(rt: HostRuntime) -> Result<(), AllocError> {
+    let alloc = rt.alloc();
+    let red = format!(in alloc;
+        "frame 2\nS2 1\n{WINDOW} 2\n0 0 1 0 0 1 0 0 0 0222 0000 000 HI\n0 2 1 0 0 1 0 0 0 0300 0000 000 AB\n"
+    )?;
+    let two = format!(in alloc;
+        "frame 0\nS1 1\n{WINDOW} 1\n0 0 1 0 0 1 0 0 0 0222 0000 000 HO\nS2 1\n{WINDOW} 1\n0 0 1 0 0 1 0 0 0 0222 0000 000 HI\n"
+    )?;
+    // What isn't shown, and a frame that brings nothing, change nothing.
+    let frames: [(&[[u8; 3]], &str); 5] = [
+        (&TWO_SERVICES, two.as_str()),
+        (&HIDDEN, ""),
+        (&RED, red.as_str()),
+        (&[], ""),
+        (&GONE, "frame 4\nS1 0\nS2 0\n"),
+    ];
+    let mut receiver = Receiver::new(alloc)?;
+    let mut shown = Shown::new(alloc)?;
+    for (frame, (channel, text)) in frames.iter().enumerate() {
+        let brings = Brings {
+            one: &[],
+            two: &[],
+            channel,
+        };
+        assert!(rt; feed(alloc, &mut receiver, frame as u16, brings)?);
+        let mut sink = MemorySink::new(alloc, 1000, Vec::new(alloc))?;
+        assert_eq!(rt;
+            shown.put_changes(&receiver, frame as u32, &mut sink),
+            Put::Done
+        );
+        assert_eq!(rt; sink.bytes(), text.as_bytes(), "frame {frame}");
+    }
     Ok(())
 }

@@ -25,8 +25,8 @@ use Rattle.words_files.specs.Offences.{IsCutShort, IsMalformed, IsUnoffending}
 use Rattle.words_files.proofs.OffenceLemmas.{offence_refused, some_or_none, unoffending_is_unrefused}
 use Rattle.services_files.proofs.FillingLemmas.{takes_filling}
 use Rattle.words_files.proofs.FramesOfLemmas.{file_frames}
-use Rattle.command_base.specs.Gathered.{Flushes, IsGathered, held_of}
-use Rattle.command_base.specs.declared.gathered.Gathered.{Gathered}
+use Rattle.text_output.specs.Gathered.{Flushes, IsGathered, held_of}
+use Rattle.text_output.specs.declared.gathered.Gathered.{Gathered}
 use Rattle.scc_commands.specs.Export.{AreExported, export_front, exported, first_standing, stand_after, words_limit}
 use Rattle.scc_commands.specs.ExportSteps.{Begins, EndsAt, GathersBefore, HasJudged, HasPut, HasRead, HasStopped, Judges, JudgesAndPuts, MayBeFed, Receives, StopsBy, StopsFor, WritesFrame}
 use Rattle.scc_commands.specs.declared.exporting.Exporting.{Exporting}

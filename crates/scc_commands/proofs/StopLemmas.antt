@@ -19,7 +19,7 @@ use Rattle.services_files.specs.Services.{services_say}
 use Rattle.words_files.specs.FramesOf.{AreFramesOf}
 use Rattle.words_files.specs.Offences.{IsFileUnder, IsUnoffending}
 use Rattle.command_base.specs.Ends.{Ends, ends}
-use Rattle.command_base.specs.Gathered.{IsGathered, held_of}
+use Rattle.text_output.specs.Gathered.{IsGathered, held_of}
 use Rattle.command_base.specs.declared.status.Status.{Status}
 use Rattle.command_base.specs.declared.status.Status.TheVariants as status
 use Rattle.scc_commands.specs.Export.{Cause, ExportAnswer, IsAnyhow, IsWholeFile, Stops, StopsEarly, export_file, export_front, exported, first_standing, stand_after, words_limit}

@@ -12,7 +12,7 @@ use Rattle.cc_base.proofs.Puts.{puts_stop, puts_then}
 use Rattle.cc_base.specs.Streams.{Puts}
 use Rattle.cc_base.specs.declared.streams.Put.TheVariants as put
 use Rattle.cdp_packets.specs.Packets.{Packet as Frame}
-use Rattle.command_base.specs.Gathered.{Gathers, IsGathered}
+use Rattle.text_output.specs.Gathered.{Gathers, IsGathered}
 use Rattle.line21_codes.specs.declared.pairs.Pair.{Pair}
 use Rattle.scc_files.specs.Words.{is_null}
 use Rattle.scc_files.proofs.Complete.{number_is}

@@ -17,7 +17,7 @@ use Rattle.findings.specs.declared.finding.Kind45.{Kind45}
 use Rattle.time_codes.specs.declared.time_code.TimeCode.{TimeCode}
 use Rattle.scc_files.specs.Writing.{end_text, standing_of}
 use Rattle.command_base.specs.Ends.{Ends}
-use Rattle.command_base.specs.Gathered.{IsGathered, held_of}
+use Rattle.text_output.specs.Gathered.{IsGathered, held_of}
 use Rattle.command_base.specs.declared.status.Place.TheVariants.{Byte}
 use Rattle.command_base.specs.declared.status.Status.{Status}
 use Rattle.command_base.specs.declared.status.Status.TheVariants as status

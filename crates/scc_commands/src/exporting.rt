@@ -1,7 +1,7 @@
 ghost use Rattle.std.specs.Prelude.{◌≡◌, ◌<◌, ◌≤◌, ◌+◌, ◌-◌, ◌++◌, ◌∷◌, [], ℕ, List, Option, IfOk, length, true};
 ghost use Rattle.cc_receiver.specs.Receivers.{HasReceived, frame_count};
 ghost use Rattle.cdp_packets.specs.Packets.{Packet as Frame};
-ghost use Rattle.command_base.specs.Gathered.{IsGathered, held_of};
+ghost use Rattle.text_output.specs.Gathered.{IsGathered, held_of};
 ghost use Rattle.scc_files.specs.Writing.{StandsFirst, end_text, standing_of};
 ghost use Rattle.time_codes.specs.TimeCodes.{is_time_code};
 ghost use Rattle.time_codes.specs.declared.time_code.TimeCode.{TimeCode as Time};
@@ -14,10 +14,11 @@ ghost use Rattle.scc_commands.specs.ExportSteps.{Begins, EndsAt, HasJudged, HasS
 use crate::finding::find;
 use cc_base::{LimitOf, Put, Refusal, Sink};
 use cc_receiver::{Ended, Fed, Receiver};
-use command_base::{Gathered, Place, Status};
+use command_base::{Place, Status};
 use findings::Finding;
 use scc_files::SccWriter;
 use std::alloc::{AllocError, Global};
+use text_output::Gathered;
 use time_codes::TimeCode;
 
 /// Why an export stopped before its bytes' end.

@@ -4,3 +4,4 @@ pub mod TextLemmas
 pub mod AlikeLemmas
 pub mod FrontLemmas
 pub mod RunsOfLemmas
+pub mod DifferenceLemmas

@@ -1,25 +1,15 @@
--- What a text that is being made holds, step by step.
-use Rattle.std.proofs.Common.{◌≡◌, ◌<◌, ◌+◌, ◌++◌, ℕ, true, false, List, [], ◌∷◌, Option, Some, None, drop, encode_utf8_all, get_or, length, take, refl, sym, ap, ◌∙◌, subst, append_assoc, add_comm, add-one}
+-- What is written of a text, step by step.
+use Rattle.std.proofs.Common.{◌≡◌, ◌<◌, ◌+◌, ◌++◌, ℕ, true, false, List, [], ◌∷◌, Option, Some, None, drop, encode_utf8_all, get_or, length, take, refl, sym, ap, ◌∙◌, append_assoc, add_comm, add-one}
 use Rattle.std.proofs.lemmas.List.{append-nil, at_drop_more, flat_map_more, take_more}
 use Rattle.std.specs.List.{flat_map, prefix_len}
 use Rattle.dtvcc_windows.specs.declared.cells.DCell.{DCell}
 use Rattle.window_texts.specs.Alike.{is_alike, written_alike}
-use Rattle.window_texts.specs.declared.text.WindowText.{WindowText}
 use Rattle.cc_base.specs.Texts.{text}
+use Rattle.text_output.specs.Pages.{HasWritten, Page}
+use Rattle.text_output.proofs.PageLemmas.{written_same}
 use Rattle.dtvcc_windows.specs.Showing.{ShownWindow}
 use Rattle.window_texts.specs.Runs.{front_text, runs}
 use Rattle.window_texts.specs.WindowTexts.{run_line, window_line, window_text}
-use Rattle.window_texts.specs.Objects.{Holds}
-
--- it holds the same text, however that is put together
-pub holds_same : (t u : List ℕ) (held : WindowText) → t ≡ u → Holds t held → Holds u held
-holds_same t u held same holds = subst (λ (v : List ℕ). Holds v held) same holds
-
--- one more piece of some
-pub holds_more : {A : Type 0} (f : A → List ℕ) (before : List ℕ) (xs : List A) (i : ℕ) (d : A) (held : WindowText) → i < length xs
-    → Holds (before ++ flat_map f (take i xs) ++ f (get_or xs i d)) held → Holds (before ++ flat_map f (take (i + 1) xs)) held
-holds_more f before xs i d held within =
-    holds_same _ _ held (flat_map_more f before (take i xs) (get_or xs i d) ∙ ap (λ ys. before ++ flat_map f ys) (sym (take_more xs i d within)))
 
 -- the front ends at a place without a cell that is written alike
 pub front_stop : (first : DCell) (cells : List (Option DCell)) (i : ℕ) → i < length cells → is_alike first (get_or cells i None) ≡ false
@@ -37,11 +27,12 @@ front_more first cells i cell within is same =
     at_drop_more (front_text first) cells i None within ∙ ap (λ x. front_text first (x ∷ drop (i + 1) cells)) is ∙ rw (same, take_one_more (prefix_len (is_alike first) (drop (i + 1) cells)) (Some cell) (drop (i + 1) cells)) refl
 
 -- what is added is all that there is, where nothing is to come
-pub front_done : (first : DCell) (cells : List (Option DCell)) (i : ℕ) (before done : List ℕ) (held : WindowText) → front_text first (drop i cells) ≡ []
-    → Holds (before ++ done) held → done ++ encode_utf8_all (front_text first (drop i cells)) ≡ encode_utf8_all (front_text first cells)
-    → Holds (before ++ encode_utf8_all (front_text first cells)) held
-front_done first cells i before done held none holds is =
-    holds_same _ _ held (ap (λ t. before ++ t) (sym (append-nil done) ∙ ap (λ t. done ++ encode_utf8_all t) (sym none) ∙ is)) holds
+pub front_done : (start : Option (List ℕ)) (faults : ℕ) (first : DCell) (cells : List (Option DCell)) (i : ℕ) (before done : List ℕ) (now : Page)
+    → front_text first (drop i cells) ≡ []
+    → HasWritten start faults (before ++ done) now → done ++ encode_utf8_all (front_text first (drop i cells)) ≡ encode_utf8_all (front_text first cells)
+    → HasWritten start faults (before ++ encode_utf8_all (front_text first cells)) now
+front_done start faults first cells i before done now none holds is =
+    written_same start faults _ _ now (ap (λ t. before ++ t) (sym (append-nil done) ∙ ap (λ t. done ++ encode_utf8_all t) (sym none) ∙ is)) holds
 
 -- the text of a window of its parts
 pub window_joined : (before lines : List ℕ) (id : ℕ) (window : ShownWindow) → lines ≡ flat_map run_line (runs window)

@@ -1,6 +1,6 @@
 pub mod Alike
 pub mod Runs
 pub mod WindowTexts
-pub mod Objects
+pub mod Differences
 pub mod Examples
 pub mod RunsOf

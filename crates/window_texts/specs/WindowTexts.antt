@@ -71,12 +71,14 @@ run_line run = text (decimal run.row ∷ all_spaced (run.col ∷ []) ∷ pen_tex
 unfoldable pub window_text : ℕ → ShownWindow → List ℕ
 window_text id w = window_line id w ++ flat_map run_line (runs w)
 
+-- a window that is shown, with its id
+abbrev pub with_id : ℕ → Option ShownWindow → Option (ℕ × ShownWindow)
+with_id id None = None
+with_id id (Some window) = Some (id, window)
+
 -- the windows of a service that are shown, by id
 abbrev pub shown_ids : (ℕ → Option ShownWindow) → List (ℕ × ShownWindow)
-shown_ids windows = filter_map (λ id. with_id id (windows id)) (range_with_len 0 8) where
-  with_id : ℕ → Option ShownWindow → Option (ℕ × ShownWindow)
-  with_id id None = None
-  with_id id (Some window) = Some (id, window)
+shown_ids windows = filter_map (λ id. with_id id (windows id)) (range_with_len 0 8)
 
 -- the text of a service: its name and the number of windows that are shown, and then these by id
 unfoldable pub service_text : ℕ → (ℕ → Option ShownWindow) → List ℕ

@@ -1,9 +1,11 @@
 ghost use Rattle.dtvcc_codes.specs.Spellable.{IsDefinition};
 
-use crate::WindowText;
+use crate::write_window;
+use cc_base::{MemorySink, Put};
 use dtvcc_codes::Definition;
 use dtvcc_windows::Window;
 use std::alloc::AllocError;
+use text_output::Gathered;
 
 // A visible window of one row of ten columns at 60 and 50 of the screen, in the window style 1 and the pen style 1.
 fn one_row() -> Definition
@@ -33,26 +35,28 @@ fn write(window: &mut Window, ch: char) {
     }
 }
 
-// Adds the text of a window, where there is one.
-fn add(text: &mut WindowText, id: u8, window: &Window) {
+// Writes the text of a window, where there is one.
+fn put_text(id: u8, window: &Window, sink: &mut MemorySink) -> Put {
+    let mut text = Gathered::new();
+    text.begin();
     if window.live() {
-        text.window(id, window);
+        write_window(id, window, &mut text, sink);
     }
+    text.flush(sink)
 }
 
 #[test]
 fn windows_are_printed(rt: HostRuntime) -> Result<(), AllocError> {
-    let mut window = Window::new(rt.alloc())?;
+    let alloc = rt.alloc();
+    let mut window = Window::new(alloc)?;
     window.define(&one_row());
     for ch in ['H', 'E', 'L', 'L', 'O'] {
         write(&mut window, ch);
     }
-    let mut text = WindowText::new();
-    add(&mut text, 0, &window);
+    let mut sink = MemorySink::new(alloc, 1000, Vec::new(alloc))?;
+    assert_eq!(rt; put_text(0, &window, &mut sink), Put::Done);
     let wanted: &[u8] =
         b"W0 at 0 60 50 0 size 1 10 lock 1 1 pri 0 attr 0 0 3 0 0 0 0 fill 0000 border 0000 runs 1\n0 0 1 0 0 1 0 0 0 0222 0000 000 HELLO\n";
-    assert_eq!(rt; text.as_slice(), wanted);
-    text.clear();
-    assert!(rt; text.as_slice().is_empty());
+    assert_eq!(rt; sink.bytes(), wanted);
     Ok(())
 }

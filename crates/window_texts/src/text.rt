@@ -1,241 +1,197 @@
-ghost use Rattle.std.specs.Prelude.{◌≡◌, ◌≤◌, ◌<◌, ◌++◌, ℕ, List, [], IsTrue, decimal, encode_utf8, encode_utf8_all, length};
+ghost use Rattle.std.specs.Prelude.{◌≡◌, ◌≤◌, ◌<◌, ℕ, List, IsTrue, decimal, encode_utf8_all, length};
 ghost use Rattle.std.specs.List.{flat_map};
-ghost use Rattle.window_texts.specs.WindowTexts.{flag};
+ghost use Rattle.dtvcc_windows.specs.Objects.{is_live, state_of};
+ghost use Rattle.dtvcc_windows.specs.Showing.{as_shown};
+ghost use Rattle.dtvcc_windows.specs.Windows.{WindowState};
+ghost use Rattle.text_output.specs.Pages.{Writes, page};
+ghost use Rattle.window_texts.specs.Runs.{front_text, row_runs};
+ghost use Rattle.window_texts.specs.WindowTexts.{all_joined, all_spaced, attributes_text, colors_text, flag, pen_text, place_text, run_line, spaced, window_line, window_text};
 
 use crate::runs::{begun, run_count, written_alike};
-use arrayvec::ArrayVec;
+use cc_base::Sink;
 use dtvcc_codes::{Definition, PenAttr, PenColors, WinAttr};
 use dtvcc_windows::{DCell, Window};
-use itoa::Buffer;
+use text_output::Gathered;
 
-// The room of a text: 1,024 lines of runs of at most 78 bytes, and the window's own line of at most 200, have less.
-const ROOM: usize = 98304;
-
-/// The texts of windows on their way. What passes the room of 98,304 bytes is left out.
-#[derive(Drop)]
-pub struct WindowText {
-    pub(crate) held: ArrayVec<u8, ROOM>,
+/// Writes the text of a window that is shown: what is shown of it, and its runs.
+pub fn write_window<O: Sink>(id: u8, window: &Window, text: &mut Gathered, out: &mut O)
+    requires { IsTrue (is_live window.now) }
+    ensures { Writes (page text.old (O.written out.old) (O.faults out.old)) (page text.new (O.written out.new) (O.faults out.new)) (window_text id (as_shown (state_of window.now))) }
+{
+    write_line(id, window, text, out);
+    let rows = window.rows();
+    for row in rows.start..rows.end {
+        write_row(row, window.row(row), text, out);
+    }
 }
 
-impl WindowText {
-    ghost use Rattle.dtvcc_windows.specs.Objects.{is_live, state_of};
-    ghost use Rattle.dtvcc_windows.specs.Showing.{as_shown};
-    ghost use Rattle.dtvcc_windows.specs.Windows.{WindowState};
-    ghost use Rattle.window_texts.specs.Objects.{Holds};
-    ghost use Rattle.window_texts.specs.Runs.{front_text, row_runs, run_from};
-    ghost use Rattle.window_texts.specs.WindowTexts.{all_joined, all_spaced, attributes_text, colors_text, pen_text, place_text, run_line, spaced, window_line, window_text};
+// Writes the line of a window.
+fn write_line<O: Sink>(id: u8, window: &Window, text: &mut Gathered, out: &mut O)
+    requires { IsTrue (is_live window.now) }
+    ensures { Writes (page text.old (O.written out.old) (O.faults out.old)) (page text.new (O.written out.new) (O.faults out.new)) (window_line id (as_shown (state_of window.now))) }
+{
+    text.write(b"W", out);
+    write_small(id, text, out);
+    write_place(&window.definition(), text, out);
+    write_attributes(&window.attributes(), text, out);
+    text.write(b" runs ", out);
+    write_count(run_count(window), text, out);
+    text.write(b"\n", out);
+}
 
-    /// A text of nothing.
-    pub fn new() -> WindowText
-        ensures { Holds [] result }
-    {
-        WindowText {
-            held: ArrayVec::new(),
+// Writes where a window stands and how large it is.
+fn write_place<O: Sink>(d: &Definition, text: &mut Gathered, out: &mut O)
+    ensures { (w : WindowState) → w.definition ≡ d.now
+        → Writes (page text.old (O.written out.old) (O.faults out.old)) (page text.new (O.written out.new) (O.faults out.new)) (place_text (as_shown w)) }
+{
+    text.write(b" at", out);
+    write_spaced(&[flag(d.relative), d.av, d.ah, d.anchor], text, out);
+    text.write(b" size", out);
+    write_spaced(&[d.rows, d.cols], text, out);
+    text.write(b" lock", out);
+    write_spaced(&[flag(d.row_lock), flag(d.col_lock)], text, out);
+    text.write(b" pri", out);
+    write_spaced(&[d.priority], text, out);
+}
+
+// Writes the attributes of a window.
+fn write_attributes<O: Sink>(a: &WinAttr, text: &mut Gathered, out: &mut O)
+    ensures { Writes (page text.old (O.written out.old) (O.faults out.old)) (page text.new (O.written out.new) (O.faults out.new)) (attributes_text a.now) }
+{
+    text.write(b" attr", out);
+    let numbers = [
+        a.justify,
+        a.print,
+        a.scroll,
+        flag(a.wrap),
+        a.effect,
+        a.effect_dir,
+        a.effect_speed,
+    ];
+    write_spaced(&numbers, text, out);
+    text.write(b" fill ", out);
+    write_joined(&[a.fill.opacity, a.fill.r, a.fill.g, a.fill.b], text, out);
+    text.write(b" border ", out);
+    write_joined(
+        &[a.border_kind, a.border.r, a.border.g, a.border.b],
+        text,
+        out,
+    );
+}
+
+// Writes the lines of a row's runs.
+fn write_row<O: Sink>(row: u8, cells: &[Option<DCell>], text: &mut Gathered, out: &mut O)
+    requires { length cells.now ≤ 64 }
+    ensures { Writes (page text.old (O.written out.old) (O.faults out.old)) (page text.new (O.written out.new) (O.faults out.new)) (flat_map run_line (row_runs row cells.now)) }
+{
+    let mut left = None;
+    for (col, cell) in cells.iter().enumerate() {
+        if let Some(first) = begun(left, *cell) {
+            write_run(row, col as u8, first, &cells[col..], text, out);
+        }
+        left = *cell;
+    }
+}
+
+// Writes the line of the run at the front of what stands from a column on.
+fn write_run<O: Sink>(
+    row: u8,
+    col: u8,
+    first: DCell,
+    cells: &[Option<DCell>],
+    text: &mut Gathered,
+    out: &mut O,
+)
+    ensures { Writes (page text.old (O.written out.old) (O.faults out.old)) (page text.new (O.written out.new) (O.faults out.new))
+        (run_line (record { row = row; col = col; pen = first.pen; colors = first.colors; text = front_text first cells.now })) }
+{
+    write_small(row, text, out);
+    write_spaced(&[col], text, out);
+    write_pen(first.pen, text, out);
+    write_colors(first.colors, text, out);
+    write_front(first, cells, text, out);
+    text.write(b"\n", out);
+}
+
+// Writes the attributes of a pen.
+fn write_pen<O: Sink>(p: PenAttr, text: &mut Gathered, out: &mut O)
+    ensures { Writes (page text.old (O.written out.old) (O.faults out.old)) (page text.new (O.written out.new) (O.faults out.new)) (pen_text p) }
+{
+    let numbers = [
+        p.size,
+        p.font,
+        p.tag,
+        p.offset,
+        flag(p.italic),
+        flag(p.underline),
+        p.edge,
+    ];
+    write_spaced(&numbers, text, out);
+}
+
+// Writes its colours.
+fn write_colors<O: Sink>(c: PenColors, text: &mut Gathered, out: &mut O)
+    ensures { Writes (page text.old (O.written out.old) (O.faults out.old)) (page text.new (O.written out.new) (O.faults out.new)) (colors_text c) }
+{
+    text.write(b" ", out);
+    write_joined(&[c.fg.opacity, c.fg.r, c.fg.g, c.fg.b], text, out);
+    text.write(b" ", out);
+    write_joined(&[c.bg.opacity, c.bg.r, c.bg.g, c.bg.b], text, out);
+    text.write(b" ", out);
+    write_joined(&[c.edge.r, c.edge.g, c.edge.b], text, out);
+    text.write(b" ", out);
+}
+
+// Writes the characters of the cells at the front that are written as the first one.
+fn write_front<O: Sink>(first: DCell, cells: &[Option<DCell>], text: &mut Gathered, out: &mut O)
+    ensures { Writes (page text.old (O.written out.old) (O.faults out.old)) (page text.new (O.written out.new) (O.faults out.new)) (encode_utf8_all (front_text first cells.now)) }
+{
+    for cell in cells {
+        match cell {
+            Some(cell) if written_alike(first, *cell) => text.write_character(cell.ch, out),
+            _ => return,
         }
     }
+}
 
-    /// Takes all away.
-    pub fn clear(&mut self)
-        ensures { Holds [] self.new }
-    {
-        self.held.clear();
+// Writes numbers, each behind a space.
+fn write_spaced<O: Sink>(numbers: &[u8], text: &mut Gathered, out: &mut O)
+    ensures { Writes (page text.old (O.written out.old) (O.faults out.old)) (page text.new (O.written out.new) (O.faults out.new)) (all_spaced numbers.now) }
+{
+    for number in numbers {
+        write_one_spaced(*number, text, out);
     }
+}
 
-    /// The text.
-    pub fn as_slice(&self) -> &[u8]
-        ensures { result.now ≡ self.now.held.items }
-    {
-        self.held.as_slice()
-    }
+// Writes a space and a number.
+fn write_one_spaced<O: Sink>(number: u8, text: &mut Gathered, out: &mut O)
+    ensures { Writes (page text.old (O.written out.old) (O.faults out.old)) (page text.new (O.written out.new) (O.faults out.new)) (spaced number) }
+{
+    text.write(b" ", out);
+    write_small(number, text, out);
+}
 
-    /// Adds the text of a window that is shown: what is shown of it, and its runs.
-    pub fn window(&mut self, id: u8, window: &Window)
-        requires { IsTrue (is_live window.now) }
-        ensures { (before : List ℕ) → Holds before self.old → Holds (before ++ window_text id (as_shown (state_of window.now))) self.new }
-    {
-        self.line(id, window);
-        let rows = window.rows();
-        for row in rows.start..rows.end {
-            self.row(row, window.row(row));
-        }
+// Writes numbers without spaces.
+fn write_joined<O: Sink>(numbers: &[u8], text: &mut Gathered, out: &mut O)
+    ensures { Writes (page text.old (O.written out.old) (O.faults out.old)) (page text.new (O.written out.new) (O.faults out.new)) (all_joined numbers.now) }
+{
+    for number in numbers {
+        write_small(*number, text, out);
     }
+}
 
-    // Adds the line of a window.
-    fn line(&mut self, id: u8, window: &Window)
-        requires { IsTrue (is_live window.now) }
-        ensures { (before : List ℕ) → Holds before self.old
-            → Holds (before ++ window_line id (as_shown (state_of window.now))) self.new }
-    {
-        self.add(b"W");
-        self.number(id);
-        self.place(&window.definition());
-        self.attributes(&window.attributes());
-        self.add(b" runs ");
-        self.count(run_count(window));
-        self.add(b"\n");
-    }
+// Writes a small number.
+fn write_small<O: Sink>(number: u8, text: &mut Gathered, out: &mut O)
+    ensures { Writes (page text.old (O.written out.old) (O.faults out.old)) (page text.new (O.written out.new) (O.faults out.new)) (decimal number) }
+{
+    text.write_number(u32::from(number), out);
+}
 
-    // Adds where a window stands and how large it is.
-    fn place(&mut self, d: &Definition)
-        ensures { (before : List ℕ) (w : WindowState) → w.definition ≡ d.now → Holds before self.old → Holds (before ++ place_text (as_shown w)) self.new }
-    {
-        self.add(b" at");
-        self.all_spaced(&[flag(d.relative), d.av, d.ah, d.anchor]);
-        self.add(b" size");
-        self.all_spaced(&[d.rows, d.cols]);
-        self.add(b" lock");
-        self.all_spaced(&[flag(d.row_lock), flag(d.col_lock)]);
-        self.add(b" pri");
-        self.all_spaced(&[d.priority]);
-    }
-
-    // Adds the attributes of a window.
-    fn attributes(&mut self, a: &WinAttr)
-        ensures { (before : List ℕ) → Holds before self.old → Holds (before ++ attributes_text a.now) self.new }
-    {
-        self.add(b" attr");
-        self.all_spaced(&[
-            a.justify,
-            a.print,
-            a.scroll,
-            flag(a.wrap),
-            a.effect,
-            a.effect_dir,
-            a.effect_speed,
-        ]);
-        self.add(b" fill ");
-        self.all_joined(&[a.fill.opacity, a.fill.r, a.fill.g, a.fill.b]);
-        self.add(b" border ");
-        self.all_joined(&[a.border_kind, a.border.r, a.border.g, a.border.b]);
-    }
-
-    // Adds the lines of a row's runs.
-    fn row(&mut self, row: u8, cells: &[Option<DCell>])
-        requires { length cells.now ≤ 64 }
-        ensures { (before : List ℕ) → Holds before self.old
-            → Holds (before ++ flat_map run_line (row_runs row cells.now)) self.new }
-    {
-        let mut left = None;
-        for (col, cell) in cells.iter().enumerate() {
-            if let Some(first) = begun(left, *cell) {
-                self.run(row, col as u8, first, &cells[col..]);
-            }
-            left = *cell;
-        }
-    }
-
-    // Adds the line of the run at the front of what stands from a column on.
-    fn run(&mut self, row: u8, col: u8, first: DCell, cells: &[Option<DCell>])
-        ensures { (before : List ℕ) → Holds before self.old
-            → Holds (before ++ run_line (record { row = row; col = col; pen = first.pen; colors = first.colors; text = front_text first cells.now })) self.new }
-    {
-        self.number(row);
-        self.all_spaced(&[col]);
-        self.pen(first.pen);
-        self.colors(first.colors);
-        self.front(first, cells);
-        self.add(b"\n");
-    }
-
-    // Adds the attributes of a pen.
-    fn pen(&mut self, p: PenAttr)
-        ensures { (before : List ℕ) → Holds before self.old → Holds (before ++ pen_text p) self.new }
-    {
-        self.all_spaced(&[
-            p.size,
-            p.font,
-            p.tag,
-            p.offset,
-            flag(p.italic),
-            flag(p.underline),
-            p.edge,
-        ]);
-    }
-
-    // Adds its colours.
-    fn colors(&mut self, c: PenColors)
-        ensures { (before : List ℕ) → Holds before self.old → Holds (before ++ colors_text c) self.new }
-    {
-        self.add(b" ");
-        self.all_joined(&[c.fg.opacity, c.fg.r, c.fg.g, c.fg.b]);
-        self.add(b" ");
-        self.all_joined(&[c.bg.opacity, c.bg.r, c.bg.g, c.bg.b]);
-        self.add(b" ");
-        self.all_joined(&[c.edge.r, c.edge.g, c.edge.b]);
-        self.add(b" ");
-    }
-
-    // Adds the characters of the cells at the front that are written as the first one.
-    fn front(&mut self, first: DCell, cells: &[Option<DCell>])
-        ensures { (before : List ℕ) → Holds before self.old
-            → Holds (before ++ encode_utf8_all (front_text first cells.now)) self.new }
-    {
-        for cell in cells {
-            match cell {
-                Some(cell) if written_alike(first, *cell) => self.character(cell.ch),
-                _ => return,
-            }
-        }
-    }
-
-    // Adds a character in UTF-8.
-    fn character(&mut self, ch: char)
-        ensures { (before : List ℕ) → Holds before self.old → Holds (before ++ encode_utf8 ch) self.new }
-    {
-        if ch.is_ascii() {
-            let _ = self.held.try_push(ch as u8);
-        } else {
-            let mut bytes = [0; 4];
-            self.add(ch.encode_utf8(&mut bytes).as_bytes());
-        }
-    }
-
-    // Adds numbers, each behind a space.
-    fn all_spaced(&mut self, numbers: &[u8])
-        ensures { (before : List ℕ) → Holds before self.old → Holds (before ++ all_spaced numbers.now) self.new }
-    {
-        for number in numbers {
-            self.spaced(*number);
-        }
-    }
-
-    // Adds numbers without spaces.
-    fn all_joined(&mut self, numbers: &[u8])
-        ensures { (before : List ℕ) → Holds before self.old → Holds (before ++ all_joined numbers.now) self.new }
-    {
-        for number in numbers {
-            self.number(*number);
-        }
-    }
-
-    // Adds a space and a number.
-    fn spaced(&mut self, number: u8)
-        ensures { (before : List ℕ) → Holds before self.old → Holds (before ++ spaced number) self.new }
-    {
-        self.add(b" ");
-        self.number(number);
-    }
-
-    // Adds a number.
-    fn number(&mut self, number: u8)
-        ensures { (before : List ℕ) → Holds before self.old → Holds (before ++ decimal number) self.new }
-    {
-        self.add(Buffer::new().format(number).as_bytes());
-    }
-
-    // Adds a count.
-    fn count(&mut self, count: u16)
-        ensures { (before : List ℕ) → Holds before self.old → Holds (before ++ decimal count) self.new }
-    {
-        self.add(Buffer::new().format(count).as_bytes());
-    }
-
-    // Adds a piece.
-    fn add(&mut self, piece: &[u8])
-        ensures { (before : List ℕ) → Holds before self.old → Holds (before ++ piece.now) self.new }
-    {
-        let _ = self.held.try_extend_from_slice(piece);
-    }
+// Writes a count.
+fn write_count<O: Sink>(count: u16, text: &mut Gathered, out: &mut O)
+    ensures { Writes (page text.old (O.written out.old) (O.faults out.old)) (page text.new (O.written out.new) (O.faults out.new)) (decimal count) }
+{
+    text.write_number(u32::from(count), out);
 }
 
 // A flag is printed as 0 or 1.

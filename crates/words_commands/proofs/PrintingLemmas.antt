@@ -1,5 +1,5 @@
 -- The text of frames, one frame after another.
-use Rattle.std.proofs.Common.{◌≡◌, ◌≢◌, ◌∙◌, ◌++◌, ◌≤◌, ap, append_assoc, append-nil, arith, false, length, length-append, nat_lt, inl, inr, refl, suc, subst, sym, true, ℕ, List, [], ◌∷◌, Option}
+use Rattle.std.proofs.Common.{◌≡◌, ◌≢◌, ◌∙◌, ◌++◌, ◌≤◌, None, ap, append_assoc, append-nil, arith, false, length, length-append, nat_lt, inl, inr, refl, suc, subst, sym, true, ℕ, List, [], ◌∷◌, Option}
 use Rattle.std.proofs.lemmas.Bool.{cases_lt}
 use Rattle.std.proofs.lemmas.Bool.Decides.{nat_tests}
 use Rattle.std.proofs.lemmas.List.{take-append-le, take_all}
@@ -7,29 +7,27 @@ use Rattle.std.proofs.KnownBytes.{Appends-trans}
 use Rattle.cc_base.specs.Streams.{Puts}
 use Rattle.cc_base.specs.declared.streams.Put.{Put}
 use Rattle.cc_base.specs.declared.streams.Put.TheVariants as put
-use Rattle.cc_base.proofs.Puts.{puts_front, puts_then}
+use Rattle.cc_base.proofs.Puts.{puts_then}
 use Rattle.cdp_packets.specs.Packets.{Packet as Frame}
 use Rattle.std.proofs.Math.Path.{fun_ext}
 use Rattle.line21_codes.specs.declared.channels.Chan.{Chan}
 use Rattle.line21_codes.specs.declared.channels.Chan.TheVariants.{Cc1, Cc2, Cc3, Cc4}
 use Rattle.line21_screen.specs.Meaning.{after}
-use Rattle.line21_screen.specs.Grid.{Grid, empty_grid}
-use Rattle.command_base.specs.Gathered.{Gathers, GathersText, IsGathered}
-use Rattle.grid_print.specs.GridTexts.{all_text, changes_text, channels}
-use Rattle.grid_print.proofs.TextLemmas.{no_changes}
-use Rattle.line21_screen.specs.Differences.{differs}
-use Rattle.line21_screen.proofs.DifferenceLemmas.{differs-itself}
-use Rattle.std.specs.List.{list_any}
+use Rattle.line21_screen.specs.Grid.{empty_grid}
+use Rattle.text_output.specs.Gathered.{GathersText, IsGathered, answer_of, held_of}
+use Rattle.text_output.specs.Pages.{Page, Writes}
+use Rattle.text_output.proofs.PageLemmas.{begun_written}
+use Rattle.cc_receiver.specs.ReceivedServices.{received_windows}
+use Rattle.dtvcc_services.specs.Numbers.{IsService}
+use Rattle.grid_print.specs.GridTexts.{all_text, changes_text}
+use Rattle.grid_print.specs.Screens.{HaveSameWindows, LookAlike, Screens, received_screens}
+use Rattle.grid_print.proofs.ScreenLemmas.{changes_alike, no_changes}
 use Rattle.words_commands.specs.Screens.{changes_behind, changes_of, show_output}
 use Rattle.words_files.specs.Received.{received_grids}
 
--- no screen differs from itself
-none_differs : (screens : Chan → Grid) → list_any (λ chan. differs (screens chan) (screens chan)) channels ≡ false
-none_differs screens = rw (differs-itself (screens Cc1), differs-itself (screens Cc2), differs-itself (screens Cc3), differs-itself (screens Cc4)) refl
-
 -- the changes of a frame behind others
 abbrev next_changes : List Frame → Frame → List ℕ
-next_changes frames next = changes_text (length frames) (received_grids frames) (received_grids (frames ++ next ∷ []))
+next_changes frames next = changes_text (length frames) (received_screens frames) (received_screens (frames ++ next ∷ []))
 
 -- the changes of frames behind others, with one frame more
 changes-snoc : (before frames : List Frame) (next : Frame)
@@ -44,7 +42,7 @@ changes-snoc before (frame ∷ frames) next =
 
 -- the changes of frames, with one frame more
 pub changes_more : (frames : List Frame) (next : Frame)
-    → changes_of (frames ++ next ∷ []) ≡ changes_of frames ++ changes_text (length frames) (received_grids frames) (received_grids (frames ++ next ∷ []))
+    → changes_of (frames ++ next ∷ []) ≡ changes_of frames ++ changes_text (length frames) (received_screens frames) (received_screens (frames ++ next ∷ []))
 changes_more frames next = changes-snoc [] frames next
 
 -- of frames before the wanted one nothing is shown
@@ -55,7 +53,7 @@ show_before frame frames few =
 
 -- the wanted frame is shown when it comes
 pub show_at : (frame : ℕ) (frames : List Frame) (next : Frame) → frame ≡ length frames
-    → show_output frame (frames ++ next ∷ []) ≡ all_text frame (received_grids (frames ++ next ∷ []))
+    → show_output frame (frames ++ next ∷ []) ≡ all_text frame (received_screens (frames ++ next ∷ []))
 show_at frame frames next is =
     let size = length-append frames (next ∷ []) in
     let yes : nat_lt frame (length (frames ++ next ∷ [])) ≡ true = grind (arith, nat_tests) in
@@ -73,21 +71,6 @@ show_other frame frames next other =
           rw (yes, was, take-append-le (suc frame) frames (next ∷ []) (omega arith)) refl
       | inr unmet ↦ show_before frame (frames ++ next ∷ []) (omega arith) ∙ sym (show_before frame frames unmet)
     ]
-
--- a piece was added to a text that is gathered
-pub gathered_more : (a b c : Option (List ℕ)) (r : Put) (before after piece all : List ℕ)
-    → IsGathered a b before all → Gathers b c before after r piece → GathersText a c after (all ++ piece) r
-gathered_more a b c put.Done before after piece all way (more, next, is) = record {
-  sent = way.sent ++ more;
-  appended = Appends-trans a b c way.sent more way.appended next;
-  whole = append_assoc way.sent more after
-      ∙ ap (λ rest. way.sent ++ rest) (sym is)
-      ∙ sym (append_assoc way.sent before piece)
-      ∙ ap (λ front. front ++ piece) way.whole;
-}
-gathered_more a b c put.Failed before after piece all way failed =
-    puts_front a b c put.Failed way.sent before piece (all ++ piece) way.appended failed refl
-    (sym (append_assoc way.sent before piece) ∙ ap (λ front. front ++ piece) way.whole)
 
 -- two lists that come to none are none
 both_nil : (front behind : List ℕ) → front ++ behind ≡ [] → (front ≡ []) × (behind ≡ [])
@@ -111,29 +94,43 @@ put_at_once a b c put.Failed held text all way none next =
 pub gathered_still : (a b : Option (List ℕ)) (held all more : List ℕ) → IsGathered a b held all → more ≡ all → GathersText a b held more put.Done
 gathered_still a b held all more way same = record { sent = way.sent; appended = way.appended; whole = way.whole ∙ sym same }
 
--- the changes of a frame more were gathered
-pub changes_gathered : (texts : List Frame → List ℕ) (a b c : Option (List ℕ)) (r : Put) (before after piece : List ℕ) (frames : List Frame) (next : Frame)
-    (frame : ℕ) (last now : Chan → Grid)
-    → texts ≡ changes_of → IsGathered a b before (texts frames) → Gathers b c before after r piece → piece ≡ changes_text frame last now
-    → last ≡ received_grids frames → now ≡ received_grids (frames ++ next ∷ []) → frame ≡ length frames
-    → GathersText a c after (texts (frames ++ next ∷ [])) r
-changes_gathered texts a b c r before after piece frames next frame last now are way gathered piece_is last_is now_is number =
-    let changed : piece ≡ changes_text (length frames) (received_grids frames) (received_grids (frames ++ next ∷ [])) =
-    piece_is ∙ ap (λ n. changes_text n last now) number ∙ ap (λ s. changes_text (length frames) s now) last_is
-    ∙ ap (λ s. changes_text (length frames) (received_grids frames) s) now_is in
-    let more : texts (frames ++ next ∷ []) ≡ texts frames ++ piece =
-    ap (λ (t : List Frame → List ℕ). t (frames ++ next ∷ [])) are ∙ changes_more frames next
-    ∙ ap (λ l. changes_of frames ++ l) (sym changed) ∙ sym (ap (λ (t : List Frame → List ℕ). t frames ++ piece) are) in
-    subst (λ l. GathersText a c after l r) (sym more) (gathered_more a b c r before after piece (texts frames) way gathered)
+-- the changes of a frame more were written
+pub changes_gathered : (texts : List Frame → List ℕ) (start : Option (List ℕ)) (old new : Page) (r : Put) (frames : List Frame) (next : Frame)
+    (frame : ℕ) (last : Screens)
+    → texts ≡ changes_of → IsGathered start old.written (held_of old.text) (texts frames) → answer_of old.text ≡ put.Done
+    → Writes old new (changes_text frame last (received_screens (frames ++ next ∷ []))) → r ≡ answer_of new.text
+    → LookAlike last (received_screens frames) → frame ≡ length frames
+    → GathersText start new.written (held_of new.text) (texts (frames ++ next ∷ [])) r
+changes_gathered texts start old new r frames next frame last are way done writes answered alike number =
+    let changed : changes_text frame last (received_screens (frames ++ next ∷ [])) ≡ next_changes frames next =
+    changes_alike frame last (received_screens frames) (received_screens (frames ++ next ∷ [])) alike
+    ∙ ap (λ n. changes_text n (received_screens frames) (received_screens (frames ++ next ∷ []))) number in
+    let more : texts frames ++ changes_text frame last (received_screens (frames ++ next ∷ [])) ≡ texts (frames ++ next ∷ []) =
+    ap (λ l. texts frames ++ l) changed ∙ ap (λ (t : List Frame → List ℕ). t frames ++ next_changes frames next) are
+    ∙ sym (changes_more frames next) ∙ sym (ap (λ (t : List Frame → List ℕ). t (frames ++ next ∷ [])) are) in
+    subst (λ a. GathersText start new.written (held_of new.text) (texts (frames ++ next ∷ [])) a) (sym answered)
+    (subst (λ l. GathersText start new.written (held_of new.text) l (answer_of new.text)) more
+    (writes start old.faults (texts frames) (begun_written start (texts frames) old done way)).bytes)
+
+-- what looks like screens that look like others looks like these
+pub alike_after : (a b c : Screens) → LookAlike a b → LookAlike b c → LookAlike a c
+alike_after a b c first next = record {
+  grids = first.grids ∙ next.grids;
+  windows = λ service id is small. first.windows service id is small ∙ next.windows service id is small;
+}
+
+-- where a frame changed nothing of the services, what was shown of them before it still is
+pub same_behind : (last : Screens) (frames : List Frame) (next : Frame) → LookAlike last (received_screens frames)
+    → ((service id : ℕ) → IsService service → received_windows (frames ++ next ∷ []) service id ≡ received_windows frames service id)
+    → HaveSameWindows last.windows (received_windows (frames ++ next ∷ []))
+same_behind last frames next alike same service id is small = alike.windows service id is small ∙ sym (same service id is)
 
 -- a frame that leaves the screens as they were has no changes
 pub idle_gathered : (texts : List Frame → List ℕ) (a b : Option (List ℕ)) (held : List ℕ) (frames : List Frame) (next : Frame)
-    → texts ≡ changes_of → received_grids (frames ++ next ∷ []) ≡ received_grids frames → IsGathered a b held (texts frames)
+    → texts ≡ changes_of → LookAlike (received_screens frames) (received_screens (frames ++ next ∷ [])) → IsGathered a b held (texts frames)
     → GathersText a b held (texts (frames ++ next ∷ [])) put.Done
 idle_gathered texts a b held frames next are same way =
-    let none : changes_text (length frames) (received_grids frames) (received_grids (frames ++ next ∷ [])) ≡ [] =
-    ap (λ s. changes_text (length frames) (received_grids frames) s) same
-    ∙ no_changes (length frames) (received_grids frames) (received_grids frames) (none_differs (received_grids frames)) in
+    let none : next_changes frames next ≡ [] = no_changes (length frames) (received_screens frames) (received_screens (frames ++ next ∷ [])) same in
     let more : texts (frames ++ next ∷ []) ≡ texts frames =
     ap (λ (t : List Frame → List ℕ). t (frames ++ next ∷ [])) are ∙ changes_more frames next ∙ ap (λ l. changes_of frames ++ l) none
     ∙ append-nil (changes_of frames) ∙ sym (ap (λ (t : List Frame → List ℕ). t frames) are) in
@@ -141,17 +138,17 @@ idle_gathered texts a b held frames next are same way =
 
 -- the screens of the wanted frame were put
 pub screens_put : (texts : List Frame → List ℕ) (a b c : Option (List ℕ)) (r : Put) (held : List ℕ) (frames : List Frame) (next : Frame)
-    (frame wanted : ℕ) (now : Chan → Grid)
-    → texts ≡ show_output wanted → frame ≡ wanted → IsGathered a b held (texts frames) → Puts b c r (all_text frame now)
-    → now ≡ received_grids (frames ++ next ∷ []) → frame ≡ length frames
+    (frame wanted : ℕ)
+    → texts ≡ show_output wanted → frame ≡ wanted → IsGathered a b held (texts frames) → Puts b c r (all_text frame (received_screens (frames ++ next ∷ [])))
+    → frame ≡ length frames
     → GathersText a c held (texts (frames ++ next ∷ [])) r
-screens_put texts a b c r held frames next frame wanted now are same way puts now_is number =
+screens_put texts a b c r held frames next frame wanted are same way puts number =
     let none : texts frames ≡ [] =
     ap (λ (t : List Frame → List ℕ). t frames) are ∙ show_before wanted frames (omega arith) in
-    let more : texts (frames ++ next ∷ []) ≡ all_text frame now =
+    let more : texts (frames ++ next ∷ []) ≡ all_text frame (received_screens (frames ++ next ∷ [])) =
     ap (λ (t : List Frame → List ℕ). t (frames ++ next ∷ [])) are ∙ show_at wanted frames next (sym same ∙ number)
-    ∙ ap (λ n. all_text n (received_grids (frames ++ next ∷ []))) (sym same) ∙ ap (λ s. all_text frame s) (sym now_is) in
-    subst (λ l. GathersText a c held l r) (sym more) (put_at_once a b c r held (all_text frame now) (texts frames) way none puts)
+    ∙ ap (λ n. all_text n (received_screens (frames ++ next ∷ []))) (sym same) in
+    subst (λ l. GathersText a c held l r) (sym more) (put_at_once a b c r held (all_text frame (received_screens (frames ++ next ∷ []))) (texts frames) way none puts)
 
 -- another frame came
 pub screens_still : (texts : List Frame → List ℕ) (a b : Option (List ℕ)) (held : List ℕ) (frames : List Frame) (next : Frame) (frame wanted : ℕ)
@@ -171,5 +168,13 @@ empty_before Cc2 = refl
 empty_before Cc3 = refl
 empty_before Cc4 = refl
 
-pub nothing_shown : (grids : Chan → Grid) → grids ≡ (λ chan. empty_grid) → grids ≡ received_grids []
-nothing_shown grids are = are ∙ fun_ext (λ chan. sym (empty_before chan))
+-- and no window is shown
+no_window_before : (service id : ℕ) → received_windows [] service id ≡ None
+no_window_before service id = refl
+
+pub nothing_shown : (screens : Screens) → screens.grids ≡ (λ chan. empty_grid) → ((service id : ℕ) → screens.windows service id ≡ None)
+    → LookAlike screens (received_screens [])
+nothing_shown screens grids none = record {
+  grids = grids ∙ fun_ext (λ chan. sym (empty_before chan));
+  windows = λ service id is small. none service id ∙ sym (no_window_before service id);
+}

@@ -21,11 +21,11 @@ use Rattle.words_files.specs.FramesOf.{AreFramesOf}
 use Rattle.words_files.specs.Offences.{IsCutShort, IsMalformed, IsUnoffending}
 use Rattle.words_files.proofs.OffenceLemmas.{offence_refused, some_or_none, unoffending_is_unrefused}
 use Rattle.services_files.proofs.FillingLemmas.{takes_filling}
-use Rattle.command_base.specs.Gathered.{Flushes, IsGathered, held_of}
+use Rattle.text_output.specs.Gathered.{Flushes, IsGathered, held_of}
 use Rattle.words_commands.specs.Printing.{Prints}
 use Rattle.words_commands.specs.WordsAnswer.{words_limit}
 use Rattle.words_commands.specs.WordsReading.{HasFailed, HasJudged, HasOffended, HasPut, HasRead, MayBeFed, Receives}
-use Rattle.command_base.specs.declared.gathered.Gathered.{Gathered}
+use Rattle.text_output.specs.declared.gathered.Gathered.{Gathered}
 use Rattle.words_commands.specs.declared.printer.Printer.{Printer}
 use Rattle.words_commands.specs.declared.reading.Reading.{Reading}
 use Rattle.cc_receiver.proofs.TakenLemmas.{frames_count}

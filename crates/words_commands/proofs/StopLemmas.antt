@@ -13,7 +13,7 @@ use Rattle.words_files.proofs.FramesOfLemmas.{file_frames, frames_of_once}
 use Rattle.services_files.specs.Services.{services_say}
 use Rattle.words_files.specs.Offences.{IsFileUnder, IsUnoffending}
 use Rattle.command_base.specs.Ends.{Ends, ends}
-use Rattle.command_base.specs.Gathered.{IsGathered, held_of}
+use Rattle.text_output.specs.Gathered.{IsGathered, held_of}
 use Rattle.words_commands.specs.Printing.{Prints}
 use Rattle.words_commands.specs.WordsAnswer.{StopsEarly, words_limit}
 use Rattle.words_commands.specs.WordsReading.{EndsAt, HasJudged, HasPut, HasStopped, ReadsWords, StopCause, stop_status}

@@ -1,17 +1,17 @@
--- What `decode` and `show` put of the frames of a words file: the screens of line 21 that a receiver shows which was reset
--- before the first of them (CTA-608-E; 47 CFR 79.101).
+-- What `decode` and `show` put of the frames of a words file: the screens of line 21 and the windows of the services of DTVCC that a
+-- receiver shows which was reset before the first of them (CTA-608-E; CTA-708-E; 47 CFR 79.101).
 use Rattle.std.specs.Prelude.{ℕ, suc, nat_lt, if◌then◌else◌, List, [], ◌∷◌, ◌++◌, length, take, codes, decimal}
 use Rattle.cdp_packets.specs.Packets.{Packet as Frame}
-use Rattle.words_files.specs.Received.{received_grids}
 use Rattle.grid_print.specs.GridTexts.{all_text, changes_text}
+use Rattle.grid_print.specs.Screens.{received_screens}
 use Rattle.cc_base.specs.Texts.{text}
 
 -- the changed screens of each frame against the one before it, of frames that come behind others; before the first frame of
--- all, every screen is empty
+-- all, every screen is empty and no window is shown
 abbrev pub changes_behind : List Frame → List Frame → List ℕ
 changes_behind before [] = []
 changes_behind before (frame ∷ frames) =
-    changes_text (length before) (received_grids before) (received_grids (before ++ frame ∷ []))
+    changes_text (length before) (received_screens before) (received_screens (before ++ frame ∷ []))
     ++ changes_behind (before ++ frame ∷ []) frames
 
 -- the changed screens of each frame
@@ -29,4 +29,4 @@ decode_output frames = changes_of frames ++ frames_line (length frames)
 -- `show` puts all screens of the frame of this number, once it is whole
 abbrev pub show_output : ℕ → List Frame → List ℕ
 show_output frame frames =
-    if nat_lt frame (length frames) then all_text frame (received_grids (take (suc frame) frames)) else []
+    if nat_lt frame (length frames) then all_text frame (received_screens (take (suc frame) frames)) else []

@@ -12,7 +12,7 @@ use Rattle.services_files.specs.Services.{services_say}
 use Rattle.words_files.specs.FramesOf.{AreFramesOf}
 use Rattle.words_files.specs.Offences.{FirstOffendingWord, IsCutShort, IsFileUnder, IsUnoffending}
 use Rattle.command_base.specs.Ends.{Ends}
-use Rattle.command_base.specs.Gathered.{IsGathered, held_of}
+use Rattle.text_output.specs.Gathered.{IsGathered, held_of}
 use Rattle.words_commands.specs.Printing.{Prints}
 use Rattle.words_commands.specs.WordsAnswer.{Cause, IsSteady, IsWholeFile, Stops, StopsEarly, words_limit}
 use Rattle.words_commands.specs.declared.reading.Reading.{Reading}

@@ -2,15 +2,15 @@ ghost use Rattle.std.specs.Prelude.{◌≡◌, ◌<◌, ◌+◌, ◌∷◌, [], 
 ghost use Rattle.cc_base.specs.Streams.{PutCause};
 ghost use Rattle.cdp_packets.specs.Packets.{Packet as Frame};
 ghost use Rattle.cc_receiver.specs.Receivers.{HasReceived, frame_count};
-ghost use Rattle.command_base.specs.Gathered.{GathersText, IsGathered, held_of};
+ghost use Rattle.text_output.specs.Gathered.{GathersText, IsGathered, held_of};
 ghost use Rattle.words_commands.specs.Printing.{Prints};
 ghost use Rattle.services_files.specs.Services.{services_say};
 ghost use Rattle.words_files.specs.FramesOf.{AreFramesOf};
 
 use cc_base::{Put, Sink};
 use cc_receiver::Receiver;
-use command_base::Gathered;
 use grid_print::{Shown, put_all};
+use text_output::Gathered;
 
 /// What is printed of the frames of a words file.
 #[derive(Drop)]
@@ -41,12 +41,13 @@ impl Printer {
     {
         match self {
             Printer::Changes(shown) => {
-                if receiver.is_idle() {
-                    Put::Done
-                } else {
-                    shown.compare(receiver, frame);
-                    text.add(shown.text(), out)
+                let touched = receiver.is_touched();
+                if !touched && receiver.is_idle() {
+                    return Put::Done;
                 }
+                text.begin();
+                shown.write_changes(receiver, frame, touched, text, out);
+                text.answer()
             }
             Printer::Screens(wanted) => {
                 if frame == *wanted {

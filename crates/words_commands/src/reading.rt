@@ -10,8 +10,9 @@ ghost use Rattle.words_commands.specs.WordsReading.{EndsAt, HasJudged, HasPut, J
 use crate::printer::Printer;
 use cc_base::{Put, Refusal, Sink};
 use cc_receiver::{Ended, Fed, Receiver};
-use command_base::{Gathered, Place, Status};
+use command_base::{Place, Status};
 use std::alloc::{AllocError, Global};
+use text_output::Gathered;
 
 /// Why a reading stopped before its bytes' end.
 #[derive(Clone, Copy, Debug, PartialEq, Eq)]

@@ -1,7 +1,7 @@
 use Rattle.std.proofs.Common.{◌≡◌}
 use Rattle.frame_scheduler.specs.Columns.{Columns}
 use Rattle.frame_scheduler.specs.Frames.{GivesFrom, frames_left}
-use Rattle.command_base.specs.Gathered.{held_of}
+use Rattle.text_output.specs.Gathered.{held_of}
 use Rattle.cue_list_commands.specs.Lines.{pair_lines}
 use Rattle.cue_list_commands.proofs.GatheredLines.{LinesOnTheWay}
 use Rattle.cue_list_commands.proofs.pairs.put_lines.Given as goal

@@ -1,5 +1,5 @@
 use Rattle.std.proofs.Common.{◌∙◌, ◌+◌, ◌++◌, ap, arith, length, subst, sym, take}
-use Rattle.command_base.specs.Gathered.{held_of}
+use Rattle.text_output.specs.Gathered.{held_of}
 use Rattle.scc_commands.specs.ExportSteps.{HasJudged, HasStopped}
 use Rattle.scc_commands.proofs.ExportingLemmas.{front_all, front_more, may_end, rest_size}
 use Rattle.scc_commands.proofs.exporting.Exporting.feed.Goals as goal

@@ -1,5 +1,5 @@
 use Rattle.std.proofs.Common.{◌∙◌, ◌++◌, ◌+◌, ◌-◌, ap, length, subst, sym, take}
-use Rattle.command_base.specs.Gathered.{IsGathered, held_of}
+use Rattle.text_output.specs.Gathered.{IsGathered, held_of}
 use Rattle.scc_files.specs.Writing.{standing_of}
 use Rattle.scc_commands.specs.Export.{export_front}
 use Rattle.scc_commands.specs.ExportSteps.{MayBeFed}

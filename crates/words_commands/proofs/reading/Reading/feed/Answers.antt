@@ -1,5 +1,5 @@
 use Rattle.std.proofs.Common.{◌∙◌, ◌+◌, ◌++◌, ap, arith, length, subst, sym, take}
-use Rattle.command_base.specs.Gathered.{held_of}
+use Rattle.text_output.specs.Gathered.{held_of}
 use Rattle.words_commands.specs.WordsReading.{HasJudged, HasStopped}
 use Rattle.words_commands.proofs.ReadingLemmas.{front_all, front_more, may_end, rest_size}
 use Rattle.words_commands.proofs.reading.Reading.feed.Goals as goal

@@ -1,0 +1,18 @@
+use Rattle.std.proofs.Common.{◌≡◌, ◌∙◌, MatchOption, None, ap, is_some, sym}
+use Rattle.dtvcc_windows.specs.Objects.{window_of}
+use Rattle.dtvcc_windows.specs.Showing.{shown}
+use Rattle.grid_print.proofs.KeptLemmas.{none_where_unseen}
+use Rattle.grid_print.proofs.service.seen.Goals as goal
+
+pub returns-then-is_shown-clause-seen : goal.returns-then-is_shown-clause-seen
+returns-then-is_shown-clause-seen c frames behind =
+    ap shown (sym (c.in-Some.ensures.received behind.bytes frames behind.received behind.frames_are))
+
+pub returns-else-is_shown-clause-seen : goal.returns-else-is_shown-clause-seen
+returns-else-is_shown-clause-seen c frames behind =
+    ap shown (sym (c.in-Some.ensures.received behind.bytes frames behind.received behind.frames_are))
+    ∙ none_where_unseen c.in-Some.window.now (sym c.is_shown.ensures ∙ c.if-is_shown.false)
+
+pub returns-in-None-clause-seen : goal.returns-in-None-clause-seen
+returns-in-None-clause-seen c frames behind =
+    ap shown (c.in-None.ensures.received behind.bytes frames behind.received behind.frames_are)

@@ -1,0 +1,16 @@
+use Rattle.std.proofs.Common.{◌≡◌, ◌++◌, ◌∙◌, ap, decimal, append_assoc, append-nil}
+use Rattle.text_output.proofs.PageLemmas.{some_then, written_same}
+use Rattle.window_texts.specs.WindowTexts.{service_text}
+use Rattle.grid_print.proofs.service.write_service.Goals as goal
+
+pub returns-clause-some : goal.returns-clause-some
+returns-clause-some g c =
+    some_then _ _ _ (_, c.write.ensures) (some_then _ _ _ (_, c.write_number.ensures) (some_then _ _ _ (_, c.write-2.ensures)
+    (some_then _ _ _ (_, c.write_number-2.ensures) (some_then _ _ _ (_, c.write-3.ensures) c.write_windows.ensures.some))))
+
+pub returns-clause-text : goal.returns-clause-text
+unfolding service_text
+returns-clause-text g c frames behind start faults before has =
+    written_same start faults _ _ _ (rw (c.from.ensures, c.seen_count.ensures frames behind) (simp (append_assoc, append-nil)))
+    (c.write_windows.ensures.text frames behind start faults _ (c.write-3.ensures start faults _ (c.write_number-2.ensures start faults _
+    (c.write-2.ensures start faults _ (c.write_number.ensures start faults _ (c.write.ensures start faults _ has))))))

@@ -1,0 +1,34 @@
+use Rattle.std.proofs.Common.{◌≡◌, ◌∙◌, List, drop, length, arith, subst, sym}
+use Rattle.std.proofs.lemmas.Grind.{common_steps}
+use Rattle.cc_receiver.specs.ReceivedServices.{received_windows}
+use Rattle.grid_print.specs.declared.kept.Kept.{Kept}
+use Rattle.grid_print.specs.Kept.{KeepsServices}
+use Rattle.grid_print.proofs.ScreenLemmas.{kept_now, kept_some, same_services, taken_back}
+use Rattle.grid_print.proofs.shown.Shown.keep_services.Goals as goal
+
+pub returns-then-touched-clause-some : goal.returns-then-touched-clause-some
+returns-then-touched-clause-some c frames behind same =
+    kept_some (received_windows frames) c.args.self.now.services.items _ c.keep_services.result
+    (taken_back (received_windows frames) c.deref_mut.result.now c.args.self.now.services.items c.keep_services.new.services
+    (drop (length c.keep_services.new.services) c.args.self.now.services.items) c.args.self.now.services.len c.keep_services.result c.deref_mut.ensures.value
+    (grind (arith, common_steps)) (c.keep_services.ensures frames behind))
+
+pub returns-then-touched-clause-now : goal.returns-then-touched-clause-now
+returns-then-touched-clause-now c frames behind same =
+    kept_now (received_windows frames) c.args.self.now.services.items _ c.keep_services.result
+    (taken_back (received_windows frames) c.deref_mut.result.now c.args.self.now.services.items c.keep_services.new.services
+    (drop (length c.keep_services.new.services) c.args.self.now.services.items) c.args.self.now.services.len c.keep_services.result c.deref_mut.ensures.value
+    (grind (arith, common_steps)) (c.keep_services.ensures frames behind))
+
+pub returns-then-touched-clause-each : goal.returns-then-touched-clause-each
+returns-then-touched-clause-each c frames behind some place within =
+    (taken_back (received_windows frames) c.deref_mut.result.now c.args.self.now.services.items c.keep_services.new.services
+    (drop (length c.keep_services.new.services) c.args.self.now.services.items) c.args.self.now.services.len c.keep_services.result c.deref_mut.ensures.value
+    (grind (arith, common_steps)) (c.keep_services.ensures frames behind)).each place within
+
+pub returns-else-touched-clause-some : goal.returns-else-touched-clause-some
+returns-else-touched-clause-some c frames behind same =
+    c.if-touched.false ∙ same_services _ (received_windows frames) (same c.if-touched.false)
+
+pub returns-else-touched-clause-now : goal.returns-else-touched-clause-now
+returns-else-touched-clause-now c frames behind same = same c.if-touched.false

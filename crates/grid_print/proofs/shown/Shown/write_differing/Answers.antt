@@ -1,0 +1,35 @@
+use Rattle.std.proofs.Common.{◌≡◌, ◌++◌, ◌∙◌, List, [], if◌then◌else◌, ap, sym, refl, append_assoc, append-nil}
+use Rattle.std.specs.List.{flat_map}
+use Rattle.cc_receiver.specs.ReceivedServices.{received_windows}
+use Rattle.cc_receiver.specs.Receivers.{shown}
+use Rattle.text_output.proofs.PageLemmas.{some_then, writes_same, writes_then}
+use Rattle.grid_print.specs.GridTexts.{changed_channel, channels, frame_line}
+use Rattle.grid_print.specs.Kept.{changed_places}
+use Rattle.grid_print.specs.Shown.{last_grid}
+use Rattle.grid_print.proofs.ScreenLemmas.{none_if, text_if}
+use Rattle.grid_print.proofs.shown.Shown.write_differing.Goals as goal
+
+pub returns-then-services-clause-some : goal.returns-then-services-clause-some
+returns-then-services-clause-some g c =
+    some_then _ _ _ (_, c.write_frame.ensures) (some_then _ _ _ (_, c.write_channels.ensures.text) c.write_changed.ensures.some)
+
+pub returns-then-services-clause-text : goal.returns-then-services-clause-text
+returns-then-services-clause-text g c frames behind =
+    let front = frame_line c.args.frame ++ flat_map (changed_channel (last_grid c.args.self.now) (shown c.args.r.now)) channels in
+    writes_same _ _ _ _
+    (ap (λ t. front ++ t)
+    (text_if c.args.services (changed_places c.args.self.now.services.items (received_windows frames)) c.if-services.true))
+    (writes_then _ _ _ _ _ (writes_then _ _ _ _ _ c.write_frame.ensures c.write_channels.ensures.text)
+    (writes_same _ _ _ _ (ap (λ k. changed_places k (received_windows frames)) (c.deref.ensures.value ∙ ap (λ k. k.items) c.write_channels.ensures.services))
+    (c.write_changed.ensures.text frames behind)))
+
+pub returns-else-services-clause-some : goal.returns-else-services-clause-some
+returns-else-services-clause-some g c = some_then _ _ _ (_, c.write_frame.ensures) (_, c.write_channels.ensures.text)
+
+pub returns-else-services-clause-text : goal.returns-else-services-clause-text
+returns-else-services-clause-text g c frames behind =
+    let front = frame_line c.args.frame ++ flat_map (changed_channel (last_grid c.args.self.now) (shown c.args.r.now)) channels in
+    writes_same _ _ _ _
+    (sym (append-nil front) ∙ ap (λ t. front ++ t)
+    (none_if c.args.services (changed_places c.args.self.now.services.items (received_windows frames)) c.if-services.false))
+    (writes_then _ _ _ _ _ c.write_frame.ensures c.write_channels.ensures.text)

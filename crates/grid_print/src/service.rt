@@ -1,0 +1,128 @@
+ghost use Rattle.std.specs.Prelude.{◌≡◌, ◌==◌, ◌<◌, ◌+◌, if◌then◌else◌, List, [], None, Some, MatchOption, IfSome, IsTrue, is_some, length};
+ghost use Rattle.std.specs.List.{flat_map};
+ghost use Rattle.cc_receiver.specs.ReceivedServices.{received_windows};
+ghost use Rattle.cdp_packets.specs.Packets.{Packet as Frame};
+ghost use Rattle.dtvcc_services.specs.Numbers.{IsService};
+ghost use Rattle.dtvcc_windows.specs.Objects.{is_live, state_of, window_of};
+ghost use Rattle.dtvcc_windows.specs.Showing.{as_shown, shown};
+ghost use Rattle.text_output.specs.Pages.{Writes, WritesSome, page};
+ghost use Rattle.window_texts.specs.WindowTexts.{service_text, shown_ids, window_text};
+ghost use Rattle.grid_print.specs.GridTexts.{shown_service, shown_services};
+ghost use Rattle.grid_print.specs.Screens.{IsBehind};
+
+use cc_base::Sink;
+use cc_receiver::Receiver;
+use dtvcc_windows::Window;
+use text_output::Gathered;
+use window_texts::write_window;
+
+/// The services 1 to 63, and the windows 0 to 7 of each (CTA-708-E).
+pub(crate) const SERVICES: usize = 63;
+
+pub(crate) const WINDOWS: u8 = 8;
+
+/// The service at a place among all.
+pub(crate) fn service_at(place: usize) -> u8
+    requires { place < 63 }
+    ensures number { result ≡ place + 1 }
+    ensures service { IsService result }
+{
+    place as u8 + 1
+}
+
+/// The window of an id of a service, where it is shown.
+pub(crate) fn seen(r: &Receiver, service: u8, id: u8) -> Option<&Window>
+    requires { IsService service }
+    ensures seen { (frames : List Frame) → IsBehind frames r.now
+        → MatchOption result (received_windows frames service id ≡ None) (λ window. received_windows frames service id ≡ shown (window_of window.now)) }
+    ensures shown { IfSome result (λ window. shown (window_of window.now) ≡ Some (as_shown (state_of window.now))) }
+    ensures live { IfSome result (λ window. IsTrue (is_live window.now)) }
+{
+    match r.window(service, id) {
+        Some(window) => {
+            if window.is_shown() {
+                Some(window)
+            } else {
+                None
+            }
+        }
+        None => None,
+    }
+}
+
+// Whether the window of an id of a service is shown.
+fn is_seen(r: &Receiver, service: u8, id: u8) -> bool
+    requires { IsService service }
+    ensures { (frames : List Frame) → IsBehind frames r.now → result ≡ is_some (received_windows frames service id) }
+{
+    match r.window(service, id) {
+        Some(window) => window.is_shown(),
+        None => false,
+    }
+}
+
+// The number of windows of a service that are shown.
+fn seen_count(r: &Receiver, service: u8) -> u32
+    requires { IsService service }
+    ensures { (frames : List Frame) → IsBehind frames r.now → result ≡ length (shown_ids (received_windows frames service)) }
+{
+    let mut count = 0;
+    for id in 0..WINDOWS {
+        if is_seen(r, service, id) {
+            count += 1;
+        }
+    }
+    count
+}
+
+/// Writes the text of a service: its name, the number of its windows that are shown, and their texts by id.
+pub(crate) fn write_service<O: Sink>(r: &Receiver, service: u8, text: &mut Gathered, out: &mut O)
+    requires { IsService service }
+    ensures some { WritesSome (page text.old (O.written out.old) (O.faults out.old)) (page text.new (O.written out.new) (O.faults out.new)) }
+    ensures text { (frames : List Frame) → IsBehind frames r.now
+        → Writes (page text.old (O.written out.old) (O.faults out.old)) (page text.new (O.written out.new) (O.faults out.new)) (service_text service (received_windows frames service)) }
+{
+    text.write(b"S", out);
+    text.write_number(u32::from(service), out);
+    text.write(b" ", out);
+    text.write_number(seen_count(r, service), out);
+    text.write(b"\n", out);
+    write_windows(r, service, text, out);
+}
+
+// Writes the texts of a service's windows that are shown.
+fn write_windows<O: Sink>(r: &Receiver, service: u8, text: &mut Gathered, out: &mut O)
+    requires { IsService service }
+    ensures some { WritesSome (page text.old (O.written out.old) (O.faults out.old)) (page text.new (O.written out.new) (O.faults out.new)) }
+    ensures text { (frames : List Frame) → IsBehind frames r.now
+        → Writes (page text.old (O.written out.old) (O.faults out.old)) (page text.new (O.written out.new) (O.faults out.new)) (flat_map (λ one. window_text one.0 one.1) (shown_ids (received_windows frames service))) }
+{
+    for id in 0..WINDOWS {
+        if let Some(window) = seen(r, service, id) {
+            write_window(id, window, text, out);
+        }
+    }
+}
+
+// Writes the text of a service, if a window of it is shown.
+fn write_if_shown<O: Sink>(r: &Receiver, service: u8, text: &mut Gathered, out: &mut O)
+    requires { IsService service }
+    ensures some { WritesSome (page text.old (O.written out.old) (O.faults out.old)) (page text.new (O.written out.new) (O.faults out.new)) }
+    ensures text { (frames : List Frame) → IsBehind frames r.now
+        → Writes (page text.old (O.written out.old) (O.faults out.old)) (page text.new (O.written out.new) (O.faults out.new)) (shown_service (received_windows frames) service) }
+{
+    if seen_count(r, service) != 0 {
+        write_service(r, service, text, out);
+    }
+}
+
+/// Writes the text of each service of which a window is shown.
+pub(crate) fn write_shown_services<O: Sink>(r: &Receiver, text: &mut Gathered, out: &mut O)
+    ensures some { WritesSome (page text.old (O.written out.old) (O.faults out.old)) (page text.new (O.written out.new) (O.faults out.new)) }
+    ensures text { (frames : List Frame) → IsBehind frames r.now
+        → Writes (page text.old (O.written out.old) (O.faults out.old)) (page text.new (O.written out.new) (O.faults out.new)) (shown_services (received_windows frames)) }
+{
+    for place in 0..SERVICES {
+        write_if_shown(r, service_at(place), text, out);
+    }
+}
