@@ -1,5 +1,5 @@
 -- A list with its shares in ascending order of their services is in form where the list is.
-use Rattle.std.proofs.Common.{◌≡◌, ◌≢◌, ℕ, suc, ◌+◌, ◌≤◌, ◌==◌, Bool, true, false, List, [], ◌∷◌, ◌++◌, length, All, AllPairs, Option, Some, None, refl, ◌∙◌, arith, eqb-true, ◌||◌, eq-eqb, ◌<◌, sym, ap}
+use Rattle.std.proofs.Common.{◌≡◌, ◌≢◌, ℕ, suc, ◌+◌, ◌≤◌, ◌==◌, Bool, true, false, List, [], ◌∷◌, ◌++◌, length, All, AllPairs, Option, Some, None, refl, ◌∙◌, arith, eqb-true, ◌||◌, eq-eqb, sym, ap}
 use Rattle.std.specs.Prelude.{find, flat_map, option_map, option_to_list, if◌then◌else◌}
 use Rattle.std.proofs.lemmas.List.Elements.{All-cons, All-head, All-nil, All-tail}
 use Rattle.std.proofs.lemmas.List.Kept.{AllPairs-cons}

@@ -1,4 +1,4 @@
-use Rattle.std.proofs.Common.{[], ◌∷◌, refl}
+use Rattle.std.proofs.Common.{[], refl}
 use Rattle.cue_rules.specs.Rules.{verdicts}
 use Rattle.cue_rules.proofs.RulesSaid.{faultless_ruled}
 use Rattle.cue_rules.proofs.rules.examples.window_in_its_list.Goals as goal
