@@ -3,8 +3,10 @@
 # sums them, and beside `cat` of them, by turns in one run: the least processor time of ten runs each, for a frame. First of
 # captions as most programmes have them (pop-on captions of two rows on CC1, paint-on ones on CC3), then of a live programme
 # (pop-on and paint-on captions on CC1, roll-up captions on CC3 without a rest), where two of five frames change a screen. Then
-# the peak memory of `decode` and `show` on 1,000 and on 1,000,000 frames. Needs build/ccsuite (make) and gcc.
+# the peak memory of `decode` and `show` on 1,000 and on 1,000,000 frames. The same of captions of services: of one, which is sent bytes in
+# five of 60 frames, and of six, which are in 30 of 60; and of frames in which nothing comes. Needs build/ccsuite (make) and gcc.
 source "$(dirname "$0")/lists.sh"
+source bench/services_words.sh
 
 # a list of 100,000 frames: every so many frames the captions that an awk function puts, which is given the first of them
 list() {
@@ -60,10 +62,13 @@ timed() {
     if [ -z "${least[$1]-}" ] || [ "$took" -lt "${least[$1]}" ]; then least[$1]=$took; fi
 }
 
-for programme in usual live; do
-    "$program" build < "$work/$programme.csv" > "$work/words"
+for programme in usual live one all none; do
+    case $programme in
+        usual | live) "$program" build < "$work/$programme.csv" > "$work/words" ;;
+        *) "$work/services_words" 100000 "$programme" > "$work/words" ;;
+    esac
     for name in "${!least[@]}"; do unset "least[$name]"; done
-    blocks=$("$program" decode < "$work/words" | grep -c '^frame ')
+    blocks=$("$program" decode < "$work/words" | grep -c '^frame ' || true)
     printf '%-32s %s\n' "$programme: bytes read" "$(wc -c < "$work/words")" "$programme: frames that change" "$blocks"
     for _ in 1 2 3 4 5 6 7 8 9 10; do
         timed cat cat
@@ -77,11 +82,14 @@ for programme in usual live; do
 done
 
 # at fixed addresses, since the pages that are touched differ a little with the places of the stack and the heap
-for list in short long; do
-    "$program" build < "$work/$list.csv" > "$work/words"
+for list in short long 1000 1000000; do
+    case $list in
+        short | long) "$program" build < "$work/$list.csv" > "$work/words" ;;
+        *) "$work/services_words" "$list" all > "$work/words" ;;
+    esac
     for command in 'decode' 'show 999'; do
         # shellcheck disable=SC2086
         setarch -R /usr/bin/time -f %M -o "$work/peak" "$program" $command < "$work/words" > /dev/null
-        printf '%-32s %s KB\n' "peak, $command, $list list" "$(cat "$work/peak")"
+        printf '%-32s %s KB\n' "peak, $command, $list" "$(cat "$work/peak")"
     done
 done

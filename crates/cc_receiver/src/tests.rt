@@ -1,5 +1,7 @@
 ghost use Rattle.std.specs.Prelude.{◌<◌};
 
+mod services;
+
 use crate::{Ended, Fed, Receiver};
 use arrayvec::ArrayVec;
 use cc_base::{Rate, Refusal, Why};

@@ -1,6 +1,6 @@
 //! What `decode` and `show` put of services, from words that were made by hand.
 
-use crate::tests::words::{SILENT, bytes_of};
+use crate::tests::words::{FOREIGN, SILENT, bytes_of, frame_of};
 use crate::tests::{Ended, Given, decode_of, run_to_end};
 use cc_base::Why;
 use ccsuite_cli::{Place, Status};
@@ -168,11 +168,9 @@ const NOTHING: Carrying = Carrying {
 /// The 80 words of a frame.
 fn words_of(frame: Carrying) -> [u16; 80] {
     let mut words = SILENT;
-    for (place, triplet) in frame.triplets.iter().enumerate() {
-        for (part, word) in triplet.iter().enumerate() {
-            if let Some(at) = words.get_mut(21 + 3 * place + part) {
-                *at = *word;
-            }
+    for (place, word) in frame.triplets.as_flattened().iter().enumerate() {
+        if let Some(at) = words.get_mut(place.saturating_add(21)) {
+            *at = *word;
         }
     }
     words[78] = frame.sums[0];
@@ -248,8 +246,9 @@ fn a_failing_take_leaves_the_windows_of_the_frames_before_it(rt: HostRuntime) ->
     let alloc = rt.alloc();
     let words = hello(alloc)?;
     let shown = format!(in alloc; "frame 60\n{SHOWN}")?;
-    for (frame, due) in [(60u64, ""), (61, shown.as_str())] {
-        let failing = [160 * frame];
+    // The takes at which frames 60 and 61 begin.
+    for (take, due) in [(9600, ""), (9760, shown.as_str())] {
+        let failing = [take];
         let ended = run_to_end(
             alloc,
             Given {
@@ -258,8 +257,8 @@ fn a_failing_take_leaves_the_windows_of_the_frames_before_it(rt: HostRuntime) ->
                 ..decode_of(&words)
             },
         )?;
-        assert_eq!(rt; ended.status, Status::ReadFault, "frame {frame}");
-        assert_eq!(rt; ended.out.bytes(), due.as_bytes(), "frame {frame}");
+        assert_eq!(rt; ended.status, Status::ReadFault, "take {take}");
+        assert_eq!(rt; ended.out.bytes(), due.as_bytes(), "take {take}");
     }
     Ok(())
 }
@@ -336,26 +335,60 @@ fn delays_of_two_services_end_in_one_frame(rt: HostRuntime) -> Result<(), Fail> 
 fn a_header_that_passes_its_packet_is_refused_at_its_word(rt: HostRuntime) -> Result<(), Fail> {
     let alloc = rt.alloc();
     // A header of 31 bytes for service 1 in a packet of 3 bytes; and one of 2 bytes, where one is left.
-    let refusals: [(&[u16], u64); 2] = [
-        (&[0x2FF, 0x102, 0x23F], 46),
-        (&[0x2FF, 0x102, 0x120, 0x1FE, 0x222], 50),
+    let refusals: [(&[u16], u64, usize); 2] = [
+        (&[0x2FF, 0x102, 0x23F], 46, 48),
+        (&[0x2FF, 0x102, 0x120, 0x1FE, 0x222], 50, 52),
     ];
-    for (put, byte) in refusals {
+    for (put, byte, end) in refusals {
         let mut words = SILENT;
         for (place, word) in put.iter().enumerate() {
-            if let Some(at) = words.get_mut(21 + place) {
+            if let Some(at) = words.get_mut(place.saturating_add(21)) {
                 *at = *word;
             }
         }
         let bytes = bytes_of(alloc, &words)?;
         let line = format!(in alloc; "malformed at byte {byte}: Overrun\n")?;
-        for size in [byte as usize + 2, 160] {
+        for size in [end, 160] {
             let ended = run_to_end(alloc, decode_of(bytes.get(..size).unwrap_or(&[])))?;
             let wanted = Status::Malformed(Place::Byte(byte), Why::Overrun);
             assert_eq!(rt; ended.status, wanted, "{size} bytes");
             assert_eq!(rt; ended.out.bytes(), b"".as_slice());
             assert_eq!(rt; ended.err.bytes(), line.as_bytes());
         }
+    }
+    Ok(())
+}
+
+/// A frame at 23.976 frames a second: service information, captions, a time code, and captions again. The triplets of the first captions
+/// have markers of zeros, and so has their count; the second header byte of service 7 has its top two bits set.
+const FIRST_OF_ANOTHER_MAKE: [u8; 40] = [
+    0x96, 0x69, 0x29, 0x1F, 0x43, 0x00, 0x00, 0x73, 0xF1, 0xE1, 0x65, 0x6E, 0x67, 0x7E, 0x00, 0xFF,
+    0x72, 0x03, 0x07, 0x06, 0xE9, 0x06, 0xC7, 0x98, 0x06, 0x20, 0x00, 0x71, 0xC0, 0x80, 0x80, 0x80,
+    0x72, 0xE1, 0xFE, 0x00, 0x00, 0x74, 0x00, 0x00,
+];
+
+/// A frame at 60 with two bytes more of that channel packet, which is cut short behind them.
+const SECOND_OF_ANOTHER_MAKE: [u8; 15] = [
+    0x96, 0x69, 0x10, 0x8F, 0x43, 0x00, 0x00, 0x72, 0xE1, 0xFE, 0x05, 0x09, 0x74, 0x00, 0x00,
+];
+
+#[test]
+fn words_of_another_make_are_received(rt: HostRuntime) -> Result<(), Fail> {
+    let alloc = rt.alloc();
+    let mut words = frame_of(alloc, 0x29, &FIRST_OF_ANOTHER_MAKE)?;
+    words.extend_from_slice(&bytes_of(alloc, &FOREIGN)?)?;
+    words.extend_from_slice(&frame_of(alloc, 0x10, &SECOND_OF_ANOTHER_MAKE)?)?;
+    let due = format!(in alloc; "frame 1\n{}frames 2\n", row(alloc, 7, "")?)?;
+    for piece in [1, 7, usize::MAX] {
+        let ended = run_to_end(
+            alloc,
+            Given {
+                piece,
+                ..decode_of(&words)
+            },
+        )?;
+        assert_eq!(rt; ended.status, Status::Ok, "pieces of {piece}");
+        assert_eq!(rt; ended.out.bytes(), due.as_bytes(), "pieces of {piece}");
     }
     Ok(())
 }

@@ -118,3 +118,33 @@ pub(super) fn three_frames(alloc: Global, foreign: [u16; 8]) -> Result<Vec<u8>, 
     bytes.extend_from_slice(&bytes_of(alloc, &silent(2))?)?;
     Ok(bytes)
 }
+
+/// The word of a byte: bit 8 is even parity of bits 7 to 0, and bit 9 its inverse (SMPTE ST 291-1).
+fn word_of(byte: u8) -> u16 {
+    if byte.count_ones() % 2 == 1 {
+        0x100 + u16::from(byte)
+    } else {
+        0x200 + u16::from(byte)
+    }
+}
+
+/// The bytes of the packet of captions that carries a distribution packet, which is given without its sum and has so many bytes.
+pub(super) fn frame_of(alloc: Global, size: u8, packet: &[u8]) -> Result<Vec<u8>, Fail> {
+    let mut bytes = [0x00, 0x00, 0x03, 0xFF, 0x03, 0xFF].to_vec(alloc)?;
+    let mut sum = 0u8;
+    let mut check = 0u16;
+    let mut user = [0x61, 0x01, size].to_vec(alloc)?;
+    user.extend_from_slice(packet)?;
+    for byte in packet {
+        sum = sum.wrapping_sub(*byte);
+    }
+    user.push(sum)?;
+    for byte in &user {
+        let word = word_of(*byte);
+        check = check.wrapping_add(word % 0x200) % 0x200;
+        bytes.extend_from_slice(&word.to_be_bytes())?;
+    }
+    let last = if check < 0x100 { 0x200 + check } else { check };
+    bytes.extend_from_slice(&last.to_be_bytes())?;
+    Ok(bytes)
+}
