@@ -1,10 +1,13 @@
-# Completions of ccsuite for bash: the commands; numbers and times are left to the user.
+# Completions of ccsuite for bash: the commands, and files for their cue lists; numbers and times are left to the user.
 
 _ccsuite() {
     local word=${COMP_WORDS[COMP_CWORD]}
     COMPREPLY=()
     if ((COMP_CWORD == 1)); then
-        COMPREPLY=($(compgen -W 'pairs build cues decode show import export' -- "$word"))
+        COMPREPLY=($(compgen -W 'pairs build cues decode show verify import export' -- "$word"))
+    elif ((COMP_CWORD == 2)) && [[ ${COMP_WORDS[1]} == verify ]]; then
+        compopt -o filenames 2> /dev/null
+        mapfile -t COMPREPLY < <(compgen -f -- "$word")
     fi
 }
 

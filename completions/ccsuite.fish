@@ -1,4 +1,4 @@
-# Completions of ccsuite for fish: the commands; numbers and times are left to the user.
+# Completions of ccsuite for fish: the commands, and files for their cue lists; numbers and times are left to the user.
 
 complete -c ccsuite -f
 complete -c ccsuite -n __fish_use_subcommand -a pairs -d 'The byte pairs of each frame of a cue list'
@@ -6,5 +6,7 @@ complete -c ccsuite -n __fish_use_subcommand -a build -d 'The ancillary words of
 complete -c ccsuite -n __fish_use_subcommand -a cues -d 'A cue list as it is written'
 complete -c ccsuite -n __fish_use_subcommand -a decode -d 'The changed screens of each frame of a words file'
 complete -c ccsuite -n __fish_use_subcommand -a show -d 'All screens at a frame of a words file'
+complete -c ccsuite -n __fish_use_subcommand -a verify -d 'Whether words show what a cue list says'
 complete -c ccsuite -n __fish_use_subcommand -a import -d 'The words of an SCC file'
 complete -c ccsuite -n __fish_use_subcommand -a export -d 'The SCC file of words'
+complete -c ccsuite -n '__fish_seen_subcommand_from verify; and test (count (commandline -opc)) -eq 2' -F

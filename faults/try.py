@@ -52,7 +52,7 @@ class Case:
 
     @property
     def reads_nothing(self):
-        return self.words[:1] == ["load"] or self.status == 1
+        return self.words[:1] == ["load"] or self.status == 1 or self.listed is not None and self.status == 7
 
     @property
     def reads_words(self):
@@ -354,6 +354,12 @@ def commands():
         Case(["show", "12"], words), Case(["show", "0"], mixed), Case(["show", "3"], mixed, 10, b"short: 3 frames\n"),
         Case(["show", "2"], flagged, 6, b"malformed at byte 320: Flag\n"), Case(["show", "1"], flagged, 6, b"malformed at byte 320: Flag\n"),
     ], [16, 160, 4000]
+    late = hello.replace(b",0,7,20", b",0,8,20")
+    differs = b"differs at frame 7: GridDiffers CC1\n"
+    yield "verify", [
+        Case(["verify"], words, listed=hello), Case(["verify"], words, 9, differs, late), Case(["verify"], words[:3200], 10, b"short: 20 frames\n", hello),
+        Case(["verify"], words, 7, b"rule Clash: cue 1\n", clash), Case(["verify"], flagged, 6, b"malformed at byte 320: Flag\n", hello),
+    ], [80, 160, 4000]
     archive = example("archive.scc")
     yield "import", [
         Case(["import"], archive), Case(["import"], archive.replace(b";00", b";01").replace(b"02;01", b"00;01"), 6, b"malformed at byte 98: NoSuchTime\n"),

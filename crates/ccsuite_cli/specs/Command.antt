@@ -1,5 +1,5 @@
 -- The command lines of the program.
-use Rattle.std.specs.Prelude.{◌≡◌, ℕ, List, [], ◌∷◌, Option, option_map, Some, None, codes, if◌then◌else◌, true, ⊤}
+use Rattle.std.specs.Prelude.{◌≡◌, ℕ, List, [], ◌∷◌, Option, option_map, Some, None, codes, if◌then◌else◌, Bool, true, false, ⊤}
 use Rattle.std.specs.Option.{option_and_then}
 use Rattle.std.specs.Str.{bytes_eq}
 use Rattle.cue_lists.specs.Fields.{number_within}
@@ -7,7 +7,7 @@ use Rattle.time_codes.specs.Texts.{time_of_text}
 use Rattle.time_codes.specs.TimeCodes.{is_time_code}
 use Rattle.time_codes.specs.declared.time_code.TimeCode.{TimeCode}
 use Rattle.ccsuite_cli.specs.declared.command.Command.{Command}
-use Rattle.ccsuite_cli.specs.declared.command.Command.TheVariants.{Build, Cues, Decode, Export, Import, Pairs, Show}
+use Rattle.ccsuite_cli.specs.declared.command.Command.TheVariants.{Build, Cues, Decode, Export, Import, Pairs, Show, Verify}
 
 -- the last frame that `show` can name
 abbrev pub last_frame : ℕ
@@ -22,6 +22,11 @@ abbrev pub IsRunnable : Option Command → Type 0
 IsRunnable (Some (Export time)) = is_time_code time ≡ true
 IsRunnable _ = ⊤
 
+-- the command names a side file
+abbrev pub has_side_file : Option Command → Bool
+has_side_file (Some Verify) = true
+has_side_file _ = false
+
 -- the command that these words are, if they are one
 abbrev pub command_of : List (List ℕ) → Option Command
 command_of (word ∷ []) =
@@ -33,6 +38,7 @@ command_of (word ∷ []) =
     else None
 command_of (word ∷ argument ∷ []) =
     if bytes_eq word (codes "show") then option_map Show (number_within 0 last_frame argument)
+    else if bytes_eq word (codes "verify") then Some Verify
     else if bytes_eq word (codes "export") then option_map Export (start_of argument)
     else None
 command_of _ = None

@@ -16,7 +16,8 @@ use Rattle.cue_list_commands.specs.Accepted.{IsAccepted, IsGoodList, IsRefused, 
 use Rattle.words_commands.specs.WordsAnswer.{words_limit}
 use Rattle.words_commands.specs.WordsVerdict.{IsPastLimit, IsShown}
 use Rattle.scc_commands.specs.Import.{IsImport, IsRefusedImport, Placed}
-use Rattle.ccsuite_cli.specs.Answer.{Answer}
+use Rattle.cue_list_commands.specs.SideEnds.{SideEnds}
+use Rattle.ccsuite_cli.specs.Answer.{Answer, RunAnswer}
 use Rattle.ccsuite_cli.specs.declared.command.Command.{Command}
 use Rattle.ccsuite_cli.specs.declared.command.Command.TheVariants.{Build, Cues, Decode, Import, Pairs, Show}
 
@@ -92,6 +93,11 @@ abbrev pub RefusedImportIsAnswered : Type 0
 RefusedImportIsAnswered = (bytes : List ℕ) (refusal : Status) (old new : Ends) (answer : Status)
     → IsRefusedImport bytes refusal → IsReadOf bytes old new → Answer (Some Import) old new answer → (answer ≡ refusal) ⊎ (answer ≡ status.Memory)
 
+-- where the side file's count of faults is greater than before, that is the answer
+abbrev pub TellsSideFaults : SideEnds → SideEnds → Status → Type 0
+TellsSideFaults side later answer = side.faults < later.faults → answer ≡ status.ReadFault
+
 -- every run tells faults
 abbrev pub FaultsAreTold : Type 0
-FaultsAreTold = (command : Option Command) (old new : Ends) (answer : Status) → Answer command old new answer → TellsFaults old new answer
+FaultsAreTold = (command : Option Command) (side later : SideEnds) (old new : Ends) (answer : Status) → RunAnswer command side later old new answer
+    → TellsSideFaults side later answer × TellsFaults old new answer

@@ -19,6 +19,8 @@ pub enum Command {
     Decode,
     /// `show FRAME`: all screens at a frame of a words file.
     Show(u32),
+    /// `verify CUES`: whether a words file shows what the cue list of the side file authors.
+    Verify,
     /// `import`: the words that carry the pairs of an SCC file.
     Import,
     /// `export TIME`: the SCC file of the field 1 pairs of a words file, whose frame 0 has this time code.
@@ -60,13 +62,16 @@ fn read_word(word: &str) -> Option<Command>
     }
 }
 
-/// The command of a word and its argument: `show` with the number of a frame, `export` with a time code.
+/// The command of a word and its argument: `show` with the number of a frame, `verify` with the path of a side file, whatever it is,
+/// `export` with a time code.
 fn read_two(word: &str, argument: &str) -> Option<Command>
     ensures command { result ≡ command_of (word.now ∷ argument.now ∷ []) }
     ensures runnable { IsRunnable result }
 {
     if word == "show" {
         read_frame(argument).map(Command::Show)
+    } else if word == "verify" {
+        Some(Command::Verify)
     } else if word == "export" {
         match read_start(argument) {
             Some(time) => Some(Command::Export(time)),

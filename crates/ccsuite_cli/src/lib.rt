@@ -5,6 +5,7 @@ pub use crate::program::run;
 pub use crate::standard_streams::start;
 pub use crate::unread_words::run_without_words;
 pub use command_base::{Place, Status};
+pub use side_files::{SideFile, side_of};
 
 mod command;
 pub mod laws;

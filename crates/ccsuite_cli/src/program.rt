@@ -1,8 +1,9 @@
-ghost use Rattle.std.specs.Prelude.{◌≡◌, Some, map, string_bytes};
-ghost use Rattle.ccsuite_cli.specs.Answer.{Answer};
-ghost use Rattle.ccsuite_cli.specs.Command.{IsRunnable, command_of};
+ghost use Rattle.std.specs.Prelude.{◌≡◌, Some, false, map, string_bytes};
+ghost use Rattle.ccsuite_cli.specs.Answer.{RunAnswer};
+ghost use Rattle.ccsuite_cli.specs.Command.{IsRunnable, command_of, has_side_file};
 ghost use Rattle.command_base.specs.Ends.{ends};
 ghost use Rattle.command_base.specs.StatusLine.{PutsLine};
+ghost use Rattle.cue_list_commands.specs.SideEnds.{side_ends};
 
 use crate::command::{Command, read_command};
 use cc_base::{Sink, Source};
@@ -10,10 +11,11 @@ use command_base::{Status, put_status};
 use cue_list_commands::{run_build, run_cues, run_pairs};
 use scc_commands::{run_export, run_import};
 use std::alloc::Global;
+use verify_commands::run_verify;
 use words_commands::{run_decode, run_show};
 
 /// Runs the command of the words behind the program's name: reads `input`, puts to `out`, and ends with a status, whose
-/// one line is put to `err`. `side` is the file that a command names, and none does yet.
+/// one line is put to `err`. `side` is the file that a command names; a command that names none leaves it.
 pub fn run<M: Source, S: Source, O: Sink, E: Sink>(
     alloc: Global,
     words: &[String],
@@ -22,47 +24,53 @@ pub fn run<M: Source, S: Source, O: Sink, E: Sink>(
     out: &mut O,
     err: &mut E,
 ) -> Status
-    ensures answer { Answer (command_of (map string_bytes words.now))
+    ensures answer { RunAnswer (command_of (map string_bytes words.now))
+        (side_ends (S.left side.old) (S.faults side.old)) (side_ends (S.left side.new) (S.faults side.new))
         (ends (M.left input.old) (M.faults input.old) (O.written out.old) (O.faults out.old))
         (ends (M.left input.new) (M.faults input.new) (O.written out.new) (O.faults out.new)) result }
-    ensures side { side.new ≡ side.old }
+    ensures side { has_side_file (command_of (map string_bytes words.now)) ≡ false → side.new ≡ side.old }
     ensures line { PutsLine (E.written err.old) (E.written err.new) (E.faults err.old) (E.faults err.new) result }
 {
-    let _ = side;
-    let status = obey(alloc, read_command(words), input, out);
+    let status = obey(alloc, read_command(words), input, side, out);
     let _ = put_status(status, err);
     status
 }
 
 /// Runs a command; words that are none are Usage.
-fn obey<M: Source, O: Sink>(
+fn obey<M: Source, S: Source, O: Sink>(
     alloc: Global,
     command: Option<Command>,
     input: &mut M,
+    side: &mut S,
     out: &mut O,
 ) -> Status
     requires { IsRunnable command }
-    ensures { Answer command
+    ensures answer { RunAnswer command
+        (side_ends (S.left side.old) (S.faults side.old)) (side_ends (S.left side.new) (S.faults side.new))
         (ends (M.left input.old) (M.faults input.old) (O.written out.old) (O.faults out.old))
         (ends (M.left input.new) (M.faults input.new) (O.written out.new) (O.faults out.new)) result }
+    ensures side { has_side_file command ≡ false → side.new ≡ side.old }
 {
     match command {
         None => Status::Usage,
-        Some(command) => perform(alloc, command, input, out),
+        Some(command) => perform(alloc, command, input, side, out),
     }
 }
 
 /// Runs a command.
-fn perform<M: Source, O: Sink>(
+fn perform<M: Source, S: Source, O: Sink>(
     alloc: Global,
     command: Command,
     input: &mut M,
+    side: &mut S,
     out: &mut O,
 ) -> Status
     requires { IsRunnable (Some command) }
-    ensures { Answer (Some command)
+    ensures answer { RunAnswer (Some command)
+        (side_ends (S.left side.old) (S.faults side.old)) (side_ends (S.left side.new) (S.faults side.new))
         (ends (M.left input.old) (M.faults input.old) (O.written out.old) (O.faults out.old))
         (ends (M.left input.new) (M.faults input.new) (O.written out.new) (O.faults out.new)) result }
+    ensures side { has_side_file (Some command) ≡ false → side.new ≡ side.old }
 {
     match command {
         Command::Pairs => run_pairs(alloc, input, out),
@@ -70,6 +78,7 @@ fn perform<M: Source, O: Sink>(
         Command::Cues => run_cues(alloc, input, out),
         Command::Decode => run_decode(alloc, input, out),
         Command::Show(frame) => run_show(alloc, frame, input, out),
+        Command::Verify => run_verify(alloc, input, side, out),
         Command::Import => run_import(alloc, input, out),
         Command::Export(time) => run_export(alloc, time, input, out),
     }

@@ -1,6 +1,8 @@
 use crate::program::run;
 use crate::unread_words::run_without_words;
-use cc_base::{ReaderSource, SteadySource, WriterSink};
+use cc_base::{ReaderSource, WriterSink};
+use side_files::{SideFile, side_of};
+use std::fs::File;
 use std::process::ExitCode;
 use std::{env, io};
 
@@ -12,13 +14,24 @@ pub fn start(rt: HostRuntime) -> ExitCode {
     let status = match read_words(&rt) {
         Ok(words) => {
             let mut input = ReaderSource::new(rt.stdin());
-            let mut side = SteadySource::new(Vec::new(alloc));
+            let mut side = open_side(&rt, &words);
             let mut out = WriterSink::new(rt.stdout());
             run(alloc, &words, &mut input, &mut side, &mut out, &mut err)
         }
         Err(error) => run_without_words(error.kind(), &mut err),
     };
     ExitCode::from(status.code())
+}
+
+/// The side file that the words name, if they name one. A path that doesn't open, for whatever cause, is a missing file.
+fn open_side(rt: &HostRuntime, words: &[String]) -> SideFile<File> {
+    match side_of(words) {
+        Some(path) => match File::open(rt, path) {
+            Ok(file) => SideFile::Opened(ReaderSource::new(file)),
+            Err(_) => SideFile::Missing(0),
+        },
+        None => SideFile::Empty,
+    }
 }
 
 /// The words behind the program's name.

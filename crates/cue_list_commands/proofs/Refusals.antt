@@ -1,10 +1,13 @@
 -- A list whose form is at fault is refused with that fault's status.
 use Rattle.std.proofs.Common.{◌≢◌, ◌≤◌, ℕ, List, length, Ok, Err, inl}
+use Rattle.std.specs.Prelude.{IfOk, Result}
 use Rattle.cc_base.specs.declared.limit_of.LimitOf.TheVariants as limit
 use Rattle.cue_lists.specs.Answers.{Answers}
 use Rattle.cue_lists.specs.FirstFault.{FaultsFirst}
+use Rattle.cue_lists.specs.Listing.{Listing}
 use Rattle.cue_lists.specs.Reading.{read_list}
 use Rattle.cue_lists.specs.Records.{records_of}
+use Rattle.cue_lists.specs.Rules.{IsRuled}
 use Rattle.cue_lists.specs.declared.fault.CueFault.{CueFault}
 use Rattle.cue_lists.specs.declared.fault.CueFault.TheVariants as fault
 use Rattle.cue_lists.proofs.ListLimits.{limit_of_records}
@@ -56,3 +59,8 @@ list_refusals bytes answer refused = are_refusals bytes answer (refused_list byt
 -- what was read is no fault
 pub ok_is_no_fault : {A E : Type 0} (value : A) (error : E) → Ok value ≢ Err error
 ok_is_no_fault value error same = cc
+
+-- a list that is judged to be good keeps the rules
+pub ruled_of : (bytes : List ℕ) (answer : Result Listing Status) → Judges IsGoodList IsRefusedList bytes answer → IfOk answer (λ list. IsRuled list)
+ruled_of bytes (Ok list) good = good.ruled
+ruled_of bytes (Err refusal) good = tt

@@ -5,4 +5,5 @@ pub mod ListVerdict
 pub mod Migration
 pub mod Output
 pub mod Reads
+pub mod SideEnds
 pub mod Unbuilt

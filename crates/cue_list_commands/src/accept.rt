@@ -1,7 +1,8 @@
-ghost use Rattle.std.specs.Prelude.{◌≡◌, ◌≤◌, length};
+ghost use Rattle.std.specs.Prelude.{◌≡◌, ◌≤◌, IfOk, length};
 ghost use Rattle.cue_list_commands.specs.Accepted.{IsGoodList, IsRefused, IsRefusedList, list_limit};
 ghost use Rattle.command_base.specs.WholeInput.{Judges};
 ghost use Rattle.cue_list_commands.specs.Unbuilt.{has_window};
+ghost use Rattle.cue_lists.specs.Rules.{IsRuled};
 ghost use Rattle.cue_list_commands.specs.Reads.{IsProgrammeOf, ReadsList, ReadsProgramme, form_status};
 
 use crate::programme::Programme;
@@ -25,7 +26,8 @@ pub fn read_programme<M: Source>(alloc: Global, input: &mut M) -> Result<Program
 
 /// Reads a cue list to its end and judges all but its placement. Gives the list, or the status with which it is refused.
 pub fn read_list<M: Source>(alloc: Global, input: &mut M) -> Result<CueList, Status>
-    ensures { ReadsList (M.left input.old) (M.left input.new) (M.faults input.old) (M.faults input.new) result }
+    ensures reads { ReadsList (M.left input.old) (M.left input.new) (M.faults input.old) (M.faults input.new) result }
+    ensures ruled { IfOk result (λ list. IsRuled list) }
 {
     match read_input(alloc, input) {
         Ok(bytes) => judge_list(alloc, &bytes),

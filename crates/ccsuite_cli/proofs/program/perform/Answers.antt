@@ -1,25 +1,32 @@
+use Rattle.std.proofs.Common.{refl}
 use Rattle.ccsuite_cli.proofs.program.perform.Goals as goal
 
 pub run_export-requires : goal.run_export-requires
 run_export-requires g c = rw c.in-Export.is at c.requires
 
-pub returns-in-Pairs : goal.returns-in-Pairs
-returns-in-Pairs g c = rw c.in-Pairs.is c.run_pairs.ensures
+pub returns-in-Pairs-clause-answer : goal.returns-in-Pairs-clause-answer
+returns-in-Pairs-clause-answer g c = rw c.in-Pairs.is (refl, c.run_pairs.ensures)
 
-pub returns-in-Build : goal.returns-in-Build
-returns-in-Build g c = rw c.in-Build.is c.run_build.ensures
+pub returns-in-Build-clause-answer : goal.returns-in-Build-clause-answer
+returns-in-Build-clause-answer g c = rw c.in-Build.is (refl, c.run_build.ensures)
 
-pub returns-in-Cues : goal.returns-in-Cues
-returns-in-Cues g c = rw c.in-Cues.is c.run_cues.ensures
+pub returns-in-Cues-clause-answer : goal.returns-in-Cues-clause-answer
+returns-in-Cues-clause-answer g c = rw c.in-Cues.is (refl, c.run_cues.ensures)
 
-pub returns-in-Decode : goal.returns-in-Decode
-returns-in-Decode g c = rw c.in-Decode.is c.run_decode.ensures
+pub returns-in-Decode-clause-answer : goal.returns-in-Decode-clause-answer
+returns-in-Decode-clause-answer g c = rw c.in-Decode.is (refl, c.run_decode.ensures)
 
-pub returns-in-Show : goal.returns-in-Show
-returns-in-Show g c = rw c.in-Show.is c.run_show.ensures
+pub returns-in-Show-clause-answer : goal.returns-in-Show-clause-answer
+returns-in-Show-clause-answer g c = rw c.in-Show.is (refl, c.run_show.ensures)
 
-pub returns-in-Import : goal.returns-in-Import
-returns-in-Import g c = rw c.in-Import.is c.run_import.ensures
+pub returns-in-Import-clause-answer : goal.returns-in-Import-clause-answer
+returns-in-Import-clause-answer g c = rw c.in-Import.is (refl, c.run_import.ensures)
 
-pub returns-in-Export : goal.returns-in-Export
-returns-in-Export g c = rw c.in-Export.is c.run_export.ensures
+pub returns-in-Export-clause-answer : goal.returns-in-Export-clause-answer
+returns-in-Export-clause-answer g c = rw c.in-Export.is (refl, c.run_export.ensures)
+
+pub returns-in-Verify-clause-answer : goal.returns-in-Verify-clause-answer
+returns-in-Verify-clause-answer g c = rw c.in-Verify.is c.run_verify.ensures
+
+pub returns-in-Verify-clause-side : goal.returns-in-Verify-clause-side
+returns-in-Verify-clause-side g c = rw c.in-Verify.is (λ none. cc)

@@ -3,8 +3,8 @@ use Rattle.cue_list_commands.proofs.cues.run_cues.Goals as goal
 
 pub returns-in-Done : goal.returns-in-Done
 returns-in-Done g c = (
-  c.in-Ok.ensures.0,
+  c.in-Ok.ensures.reads.0,
   c.in-Done.ensures.cause,
-  list_put _ _ _ c.in-Ok.list c.in-Ok-print.text.items _ c.in-Ok.ensures.1 c.in-Ok-print.ensures.bytes c.in-Ok-print.ensures.records c.deref.ensures.value
+  list_put _ _ _ c.in-Ok.list c.in-Ok-print.text.items _ c.in-Ok.ensures.reads.1 c.in-Ok-print.ensures.bytes c.in-Ok-print.ensures.records c.deref.ensures.value
       c.in-Done.ensures.bytes,
 )

@@ -1,0 +1,5 @@
+pub mod PieceLemmas
+pub mod StepLemmas
+pub mod StopLemmas
+pub mod AnswerLemmas
+pub mod VerdictLemmas

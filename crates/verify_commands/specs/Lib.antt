@@ -1,0 +1,2 @@
+pub mod VerifyAnswer
+pub mod Verifying
