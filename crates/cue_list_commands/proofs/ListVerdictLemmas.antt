@@ -45,6 +45,9 @@ spelled_one bytes a b spelled_a spelled_b =
     let two : read_list bytes ≡ Ok b = spelled_read bytes b spelled_b in
     cc
 
+pub good_once : (bytes : List ℕ) (a b : Listing) → IsGoodList bytes a → IsGoodList bytes b → a ≡ b
+good_once bytes a b good_a good_b = spelled_one bytes a b good_a.spelled good_b.spelled
+
 -- a list that keeps the rules breaks none
 spelled_unbroken : (bytes : List ℕ) (list : Listing) (fault : RuleFault) → Spells (records_of bytes) list → IsRuled list → BreaksRule bytes fault → ⊥
 spelled_unbroken bytes list fault spelled ruled breaks =
@@ -182,6 +185,11 @@ same_status bytes one other (inr (inr (inr lacks))) (inr (inr (inr other_lacks))
 -- a list that is refused is refused with one status
 pub refused_once : RefusalIsOne
 refused_once bytes one other refused again = same_status bytes one other (cause_of bytes one refused) (cause_of bytes other again)
+
+-- so it is where room isn't asked
+pub list_refused_once : (bytes : List ℕ) (one other : Status) → IsRefusedList bytes one → IsRefusedList bytes other → one ≡ other
+list_refused_once bytes one other refused again =
+    refused_once bytes one other (refused_list bytes one refused) (refused_list bytes other again)
 
 -- what isn't read as a list is refused with its fault
 fault_refused : (bytes : List ℕ) (f : CueFault) → length bytes ≤ list_limit → read_list bytes ≡ Err f → IsRefused bytes (form_status f)

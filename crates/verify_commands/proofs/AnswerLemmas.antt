@@ -11,9 +11,9 @@ use Rattle.command_base.specs.declared.status.Status.TheVariants as status
 use Rattle.cue_list_commands.specs.Accepted.{IsGoodList}
 use Rattle.cue_list_commands.specs.Reads.{ReadsList}
 use Rattle.cue_types.specs.Listing.{Listing}
-use Rattle.cue_list_commands.specs.SideEnds.{SideEnds, side_ends}
+use Rattle.cue_list_commands.specs.SideEnds.{side_ends}
 use Rattle.verify_commands.specs.VerifyAnswer.{OfList, VerifyAnswer, ok_line}
-use Rattle.verify_commands.specs.Verifying.{StopsEarly, VerifiesWords}
+use Rattle.verify_commands.specs.Verifying.{VerifiesWords}
 
 keeps_same : (w : Option (List ℕ)) → Keeps w w
 keeps_same None = tt

@@ -2,4 +2,5 @@ pub mod PieceLemmas
 pub mod StepLemmas
 pub mod StopLemmas
 pub mod AnswerLemmas
+pub mod ExactLemmas
 pub mod VerdictLemmas

@@ -1,5 +1,5 @@
 -- Pieces of bytes, and bytes of which no word offends.
-use Rattle.std.proofs.Common.{◌≡◌, ◌∙◌, ◌+◌, ◌-◌, ◌++◌, ◌<◌, ◌≤◌, ap, append_assoc, arith, drop, inl, inr, length, min, refl, sym, take, ℕ, List, []}
+use Rattle.std.proofs.Common.{◌≡◌, ◌∙◌, ◌+◌, ◌-◌, ◌++◌, ◌≤◌, ap, append_assoc, arith, drop, inl, inr, length, min, refl, sym, take, ℕ, List, []}
 use Rattle.std.proofs.Math.Seq.{take-add}
 use Rattle.std.proofs.lemmas.List.{length-drop, length-take-le, take-append-drop, take-take, take_all}
 use Rattle.cc_base.specs.declared.refusal.Refusal.{Refusal}

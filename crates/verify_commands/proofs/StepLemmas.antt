@@ -1,16 +1,16 @@
 -- A piece of words is judged by a verifier.
-use Rattle.std.proofs.Common.{◌≡◌, ◌∙◌, ◌+◌, ◌-◌, ◌++◌, ◌<◌, ◌≤◌, ap, append_assoc, append-nil, arith, drop, inl, inr, length, length-append, refl, subst, sym, take, ℕ, List, [], Ok, Err, Some, None, Option}
+use Rattle.std.proofs.Common.{◌≡◌, ◌∙◌, ◌+◌, ◌-◌, ◌++◌, ◌<◌, ◌≤◌, ap, append_assoc, arith, drop, length, length-append, subst, sym, take, ℕ, List, [], Ok, Err, Some, None}
 use Rattle.std.proofs.lemmas.List.{length-take-le, take-append-drop}
 use Rattle.cc_base.specs.declared.refusal.Refusal.{Refusal}
 use Rattle.cc_receiver.proofs.TakenLemmas.{frames_count}
-use Rattle.cc_receiver.specs.Feeds.{Counts, Feeds}
-use Rattle.cc_receiver.specs.Receivers.{HasReceived, frame_count}
+use Rattle.cc_receiver.specs.Feeds.{Counts}
+use Rattle.cc_receiver.specs.Receivers.{frame_count}
 use Rattle.cc_receiver.specs.declared.receiver.Ended.{Ended}
 use Rattle.cc_receiver.specs.declared.receiver.Ended.TheVariants as ended
 use Rattle.cc_receiver.specs.declared.receiver.Fed.{Fed}
 use Rattle.cc_verifier.proofs.VerifierLemmas.{found_is, found_none, frames_still, nothing_is_file}
 use Rattle.cc_verifier.specs.Findings.{AreClean, FirstFinding}
-use Rattle.cc_verifier.specs.Verifiers.{FeedsOn, FindsOn, HasVerified, Verifies, finding_of, frames_of, list_of}
+use Rattle.cc_verifier.specs.Verifiers.{FeedsOn, FindsOn, HasVerified, finding_of, frames_of, list_of}
 use Rattle.cc_verifier.specs.declared.verifier.Verifier.{Verifier}
 use Rattle.cue_types.specs.Listing.{Listing}
 use Rattle.findings.specs.declared.finding.Finding.{Finding}
@@ -18,7 +18,6 @@ use Rattle.services_files.specs.Services.{services_say}
 use Rattle.verify_commands.proofs.PieceLemmas.{nothing_offends}
 use Rattle.words_commands.specs.WordsAnswer.{words_limit}
 use Rattle.words_files.proofs.FramesOfLemmas.{file_frames}
-use Rattle.words_files.specs.Offences.{IsUnoffending}
 use Rattle.verify_commands.specs.Verifying.{HasFound, HasJudged, HasOffended, MayBeFed}
 
 -- a verifier that was fed nothing

@@ -1,5 +1,5 @@
 -- Where the verifying of a words file ends, and why.
-use Rattle.std.proofs.Common.{◌≡◌, ◌∙◌, ◌+◌, ◌-◌, ◌++◌, ◌<◌, ◌≤◌, ap, append_assoc, append-nil, arith, inl, inr, length, length-append, min, refl, subst, sym, take, ℕ, List, [], ◌∷◌, IfSome, Option, Some, None, Ok, Err, Result}
+use Rattle.std.proofs.Common.{◌≡◌, ◌∙◌, ◌+◌, ◌-◌, ◌++◌, ◌<◌, ◌≤◌, ap, append_assoc, append-nil, arith, inl, inr, length, length-append, refl, subst, sym, take, ℕ, List, [], ◌∷◌, IfSome, Option, Some, None, Ok, Err}
 use Rattle.std.proofs.KnownBytes.{Consumes-trans}
 use Rattle.std.specs.Io.KnownBytes.{Consumes, IsAtEnd, Keeps}
 use Rattle.cc_base.proofs.Takes.{consumes_kept}
@@ -9,7 +9,6 @@ use Rattle.cc_base.specs.declared.refusal.Refusal.{Refusal}
 use Rattle.cc_verifier.proofs.VerifierLemmas.{found_none}
 use Rattle.cc_verifier.specs.Findings.{AreClean}
 use Rattle.cc_verifier.specs.Verifiers.{Judges, list_of}
-use Rattle.cc_verifier.specs.declared.verifier.Verdict.{Verdict}
 use Rattle.cc_verifier.specs.declared.verifier.Verdict.TheVariants as verdict
 use Rattle.cc_verifier.specs.declared.verifier.Verifier.{Verifier}
 use Rattle.command_base.specs.declared.status.Status.{Status}
@@ -20,10 +19,7 @@ use Rattle.services_files.specs.Services.{services_say}
 use Rattle.verify_commands.proofs.PieceLemmas.{IsPiece, cut_short}
 use Rattle.words_commands.specs.WordsAnswer.{words_limit}
 use Rattle.words_files.proofs.FramesOfLemmas.{file_frames, frames_of_once}
-use Rattle.words_files.specs.FramesOf.{AreFramesOf}
-use Rattle.words_files.specs.Offences.{IsCutShort, IsMalformed}
-use Rattle.verify_commands.specs.VerifyAnswer.{Stops}
-use Rattle.verify_commands.specs.Verifying.{EndsAt, HasJudged, HasStopped, MayBeFed, StopsEarly, VerifiesWords, stop_status}
+use Rattle.verify_commands.specs.Verifying.{EndsAt, HasJudged, HasStopped, StopsEarly, VerifiesWords, stop_status}
 use Rattle.verify_commands.specs.declared.words.Stop.{Stop}
 use Rattle.verify_commands.specs.declared.words.Stop.TheVariants as stop
 

@@ -1,5 +1,5 @@
 -- Counts that are greater than before have their own answer.
-use Rattle.std.proofs.Common.{◌≡◌, ◌<◌, ap, arith, inl, inr, refl}
+use Rattle.std.proofs.Common.{◌≡◌, ◌<◌, arith, inl, inr, refl}
 use Rattle.cc_base.specs.declared.limit_of.LimitOf.TheVariants as limit
 use Rattle.command_base.proofs.CountLemmas.{read_told, same_told, steady_told, write_told}
 use Rattle.command_base.specs.Counts.{TellsFaults}

@@ -1,2 +1,3 @@
 pub mod VerifyAnswer
+pub mod VerifyVerdict
 pub mod Verifying

@@ -4,5 +4,6 @@
 
 pub use crate::verify::run_verify;
 
+pub mod laws;
 mod verify;
 mod words;

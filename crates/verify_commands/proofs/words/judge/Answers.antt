@@ -1,4 +1,4 @@
-use Rattle.std.proofs.Common.{◌≡◌, ◌≤◌, ◌+◌, ◌++◌, ap, arith, length, subst, sym, take}
+use Rattle.std.proofs.Common.{◌≤◌, ◌+◌, ◌++◌, ap, arith, length, subst, sym, take}
 use Rattle.std.proofs.lemmas.List.{take_all}
 use Rattle.verify_commands.proofs.PieceLemmas.{front_all, front_more, rest_size}
 use Rattle.verify_commands.specs.Verifying.{HasJudged, HasStopped}

@@ -1,4 +1,4 @@
-use Rattle.std.proofs.Common.{◌+◌, length, sym}
+use Rattle.std.proofs.Common.{length, sym}
 use Rattle.verify_commands.proofs.StepLemmas.{few_frames, finds_on, step_found, step_more, step_on, step_refused}
 use Rattle.verify_commands.proofs.words.step.Goals as goal
 

@@ -1,4 +1,4 @@
-use Rattle.std.proofs.Common.{◌∙◌, ◌-◌, Err, arith, refl, subst}
+use Rattle.std.proofs.Common.{◌∙◌, ◌-◌, arith, refl, subst}
 use Rattle.cc_base.specs.Streams.{Rose}
 use Rattle.cc_verifier.specs.Verifiers.{list_of}
 use Rattle.verify_commands.proofs.PieceLemmas.{piece_of}
