@@ -1,10 +1,10 @@
 -- What is kept, window by window and service by service.
-use Rattle.std.proofs.Common.{◌≡◌, ◌<◌, ◌≤◌, ◌+◌, ◌++◌, ◌||◌, ◌∙◌, ℕ, zero, suc, Bool, true, false, List, [], ◌∷◌, Option, Some, None, is_some, get_or, length, refl, sym, take, ap, subst, arith, inl, inr}
+use Rattle.std.proofs.Common.{◌≡◌, ◌<◌, ◌+◌, ◌++◌, ◌||◌, ◌∙◌, ℕ, zero, suc, Bool, false, List, [], ◌∷◌, Option, Some, None, is_some, get_or, length, refl, sym, take, ap, subst, arith, inl, inr}
 use Rattle.std.proofs.Math.ListN.{set}
 use Rattle.std.proofs.lemmas.Bool.{cases_lt, true≢false}
 use Rattle.std.proofs.lemmas.List.{take-append-le, take_all}
 use Rattle.std.proofs.lemmas.Option.{slice_get-get_or}
-use Rattle.std.specs.List.{list_any, range_with_len, slice_get}
+use Rattle.std.specs.List.{list_any, range_with_len}
 use Rattle.dtvcc_services.proofs.PlaceLemmas.{set_count, set_other, set_same}
 use Rattle.dtvcc_windows.specs.declared.window.Window.{Window}
 use Rattle.dtvcc_windows.specs.Objects.{window_of}

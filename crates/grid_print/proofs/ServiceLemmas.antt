@@ -1,11 +1,11 @@
 -- The windows of a service that are shown, one by one.
-use Rattle.std.proofs.Common.{◌≡◌, ◌≤◌, ◌+◌, ◌++◌, ◌==◌, ◌∙◌, if◌then◌else◌, ℕ, Bool, true, false, List, [], ◌∷◌, Option, Some, None, is_some, MatchOption, length, refl, sym, ap, zero-add, append-nil, codes, decimal}
+use Rattle.std.proofs.Common.{◌≡◌, ◌+◌, ◌++◌, ◌∙◌, if◌then◌else◌, ℕ, List, [], ◌∷◌, Option, Some, None, is_some, length, refl, sym, ap, zero-add, append-nil}
 use Rattle.std.proofs.lemmas.List.{length-append}
 use Rattle.std.proofs.lemmas.List.Concat.{flat_map-append}
 use Rattle.std.proofs.lemmas.List.Elements.{filter_map-append}
 use Rattle.std.specs.List.{cons_option, filter_map, flat_map, range_with_len}
 use Rattle.dtvcc_windows.specs.Showing.{ShownWindow}
-use Rattle.window_texts.specs.WindowTexts.{service_text, shown_ids, window_text, with_id}
+use Rattle.window_texts.specs.WindowTexts.{window_text, with_id}
 use Rattle.grid_print.proofs.RunLemmas.{range_push}
 
 -- those below an id

@@ -1,7 +1,7 @@
 -- What is written of a channel, step by step.
-use Rattle.std.proofs.Common.{◌≡◌, ◌==◌, ◌||◌, Bool, if◌then◌else◌, ◌<◌, ◌+◌, ◌++◌, ℕ, true, false, List, [], ◌∷◌, Option, Some, None, drop, encode_utf8_all, decimal, get_or, length, take, refl, sym, ap, ◌∙◌, subst, append_assoc, add_comm, add-one}
-use Rattle.std.proofs.lemmas.List.{append-nil, at_drop_more, flat_map_more, take_more}
-use Rattle.std.specs.List.{flat_map, list_any, prefix_len}
+use Rattle.std.proofs.Common.{◌≡◌, ◌<◌, ◌+◌, ◌++◌, ℕ, true, false, List, [], ◌∷◌, Option, Some, None, drop, encode_utf8_all, decimal, get_or, length, take, refl, sym, ap, ◌∙◌, append_assoc, add_comm, add-one}
+use Rattle.std.proofs.lemmas.List.{append-nil, at_drop_more}
+use Rattle.std.specs.List.{flat_map, prefix_len}
 use Rattle.line21_codes.specs.declared.styles.Cell.{Cell}
 use Rattle.line21_codes.specs.declared.styles.Style.{Style}
 use Rattle.line21_codes.specs.SameStyles.{same_style}

@@ -6,7 +6,7 @@ use Rattle.std.specs.List.{flat_map}
 use Rattle.cc_base.specs.Streams.{PutCause, Puts}
 use Rattle.cc_base.specs.declared.streams.Put.{Put}
 use Rattle.cc_base.specs.declared.streams.Put.TheVariants as put
-use Rattle.cc_base.proofs.Puts.{puts_front, puts_stop, puts_then}
+use Rattle.cc_base.proofs.Puts.{puts_stop, puts_then}
 use Rattle.text_output.specs.Gathered.{Flushes, Gathers, GathersText, IsGathered, answer_of, held_of}
 use Rattle.text_output.specs.Pages.{Finishes, HasWritten, Page, PutsPiece, Writes, WritesSome}
 

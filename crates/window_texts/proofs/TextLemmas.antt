@@ -1,6 +1,6 @@
 -- What is written of a text, step by step.
 use Rattle.std.proofs.Common.{◌≡◌, ◌<◌, ◌+◌, ◌++◌, ℕ, true, false, List, [], ◌∷◌, Option, Some, None, drop, encode_utf8_all, get_or, length, take, refl, sym, ap, ◌∙◌, append_assoc, add_comm, add-one}
-use Rattle.std.proofs.lemmas.List.{append-nil, at_drop_more, flat_map_more, take_more}
+use Rattle.std.proofs.lemmas.List.{append-nil, at_drop_more}
 use Rattle.std.specs.List.{flat_map, prefix_len}
 use Rattle.dtvcc_windows.specs.declared.cells.DCell.{DCell}
 use Rattle.window_texts.specs.Alike.{is_alike, written_alike}

@@ -1,5 +1,4 @@
-use Rattle.std.proofs.Common.{◌≡◌, ◌∙◌, MatchOption, None, ap, is_some, sym}
-use Rattle.dtvcc_windows.specs.Objects.{window_of}
+use Rattle.std.proofs.Common.{◌∙◌, ap, sym}
 use Rattle.dtvcc_windows.specs.Showing.{shown}
 use Rattle.grid_print.proofs.KeptLemmas.{none_where_unseen}
 use Rattle.grid_print.proofs.service.seen.Goals as goal

@@ -1,6 +1,5 @@
 use Rattle.std.proofs.Common.{◌≡◌, ◌∙◌, ap, arith}
 use Rattle.cc_receiver.specs.ReceivedServices.{received_windows}
-use Rattle.text_output.specs.Pages.{Writes, WritesSome, page}
 use Rattle.text_output.proofs.PageLemmas.{some_none, some_then, writes_none, writes_same, writes_then}
 use Rattle.grid_print.proofs.ServiceLemmas.{text_more, text_still, texts_below}
 use Rattle.grid_print.proofs.service.write_windows.Goals as goal

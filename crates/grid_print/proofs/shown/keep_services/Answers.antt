@@ -1,4 +1,4 @@
-use Rattle.std.proofs.Common.{◌≡◌, get_or, arith, refl, subst, sym}
+use Rattle.std.proofs.Common.{◌≡◌, get_or, arith, refl, subst}
 use Rattle.std.proofs.lemmas.Grind.{common_steps}
 use Rattle.cc_receiver.specs.ReceivedServices.{received_windows}
 use Rattle.grid_print.specs.Kept.{HasKept, KeepsServices}

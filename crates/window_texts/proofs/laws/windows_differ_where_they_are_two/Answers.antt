@@ -1,4 +1,4 @@
-use Rattle.std.proofs.Common.{ap, subst, Some, ◌≡◌, false}
+use Rattle.std.proofs.Common.{subst, Some, ◌≡◌, false}
 use Rattle.window_texts.specs.Differences.{differs}
 use Rattle.window_texts.proofs.DifferenceLemmas.{differs-itself, one_where_same}
 use Rattle.window_texts.proofs.laws.windows_differ_where_they_are_two.Goals as goal

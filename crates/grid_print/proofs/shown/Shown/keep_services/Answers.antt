@@ -1,8 +1,6 @@
-use Rattle.std.proofs.Common.{◌≡◌, ◌∙◌, List, drop, length, arith, subst, sym}
+use Rattle.std.proofs.Common.{◌∙◌, drop, length, arith}
 use Rattle.std.proofs.lemmas.Grind.{common_steps}
 use Rattle.cc_receiver.specs.ReceivedServices.{received_windows}
-use Rattle.grid_print.specs.declared.kept.Kept.{Kept}
-use Rattle.grid_print.specs.Kept.{KeepsServices}
 use Rattle.grid_print.proofs.ScreenLemmas.{kept_now, kept_some, same_services, taken_back}
 use Rattle.grid_print.proofs.shown.Shown.keep_services.Goals as goal
 

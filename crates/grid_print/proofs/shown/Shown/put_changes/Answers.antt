@@ -1,4 +1,4 @@
-use Rattle.std.proofs.Common.{◌∙◌, true, false}
+use Rattle.std.proofs.Common.{◌∙◌}
 use Rattle.std.proofs.lemmas.Bool.{true≢false}
 use Rattle.text_output.proofs.PageLemmas.{put_whole}
 use Rattle.grid_print.proofs.shown.Shown.put_changes.Goals as goal

@@ -1,4 +1,4 @@
-use Rattle.std.proofs.Common.{◌≡◌, ◌++◌, ◌∙◌, ◌-◌, List, [], if◌then◌else◌, ap, subst, sym}
+use Rattle.std.proofs.Common.{◌++◌, ◌∙◌, ◌-◌, [], if◌then◌else◌, ap, subst, sym}
 use Rattle.std.specs.List.{flat_map}
 use Rattle.cc_receiver.specs.ReceivedServices.{received_windows}
 use Rattle.cc_receiver.specs.Receivers.{shown}
@@ -6,7 +6,7 @@ use Rattle.text_output.proofs.PageLemmas.{some_none, writes_none, writes_same}
 use Rattle.grid_print.specs.GridTexts.{changed_channel, channels, channels_differ, frame_line}
 use Rattle.grid_print.specs.Kept.{changed_places, seen_at}
 use Rattle.grid_print.specs.Screens.{HaveSameWindows, received_screens}
-use Rattle.grid_print.specs.Shown.{last_grid, last_shown}
+use Rattle.grid_print.specs.Shown.{last_shown}
 use Rattle.grid_print.proofs.ScreenLemmas.{changed_texts, changes_joined, grids_behind, neither, nothing_changed}
 use Rattle.grid_print.proofs.shown.Shown.write_changes.Goals as goal
 

@@ -1,5 +1,5 @@
 use Rattle.std.proofs.Common.{refl}
-use Rattle.text_output.proofs.PageLemmas.{piece_left_out, piece_written}
+use Rattle.text_output.proofs.PageLemmas.{piece_written}
 use Rattle.text_output.proofs.gathered.Gathered.write.Goals as goal
 
 pub returns-in-Done : goal.returns-in-Done
