@@ -1,7 +1,6 @@
-use Rattle.std.proofs.Common.{◌≡◌, ◌∙◌, ◌∷◌, ◌++◌, [], List, ap, subst, sym}
+use Rattle.std.proofs.Common.{◌∙◌, ◌∷◌, ◌++◌, [], subst, sym}
 use Rattle.std.proofs.Math.Path.{fun_ext}
 use Rattle.cc_base.specs.Streams.{PutCause}
-use Rattle.cdp_packets.specs.Packets.{Packet as Frame}
 use Rattle.text_output.proofs.PageLemmas.{some_cause}
 use Rattle.grid_print.specs.Screens.{IsBehind, LookAlike, received_screens}
 use Rattle.words_commands.proofs.FramesLemmas.{frames_shown}
