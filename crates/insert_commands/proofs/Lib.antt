@@ -1,0 +1,7 @@
+pub mod RoomLemmas
+pub mod EndLemmas
+pub mod FramesLemmas
+pub mod StepLemmas
+pub mod JudgeLemmas
+pub mod StopLemmas
+pub mod FeedLemmas

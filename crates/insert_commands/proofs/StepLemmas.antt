@@ -1,0 +1,298 @@
+-- A packet of words in which captions are inserted, as it ends.
+use Rattle.std.proofs.Common.{◌≡◌, ◌≢◌, ℕ, ◌+◌, ◌-◌, ◌%◌, ◌≤◌, List, [], ◌∷◌, ◌++◌, length, take, drop, Option, Ok, Err, refl, ap, sym, subst, ◌∙◌, append_assoc, append-nil, length-append, arith}
+use Rattle.std.proofs.lemmas.List.{length-map, length-take-le, take-append-drop}
+use Rattle.std.proofs.lemmas.List.Elements.{All-append, All-cons, All-nil}
+use Rattle.std.specs.List.{concat}
+use Rattle.std.specs.Io.KnownBytes.{Appends}
+use Rattle.arrayvec.specs.ArrayVec.{ArrayVec}
+use Rattle.cc_base.proofs.Puts.{puts_then}
+use Rattle.cc_base.specs.Rate.{code_of, rate_of}
+use Rattle.cc_base.specs.Streams.{Puts}
+use Rattle.cc_base.specs.declared.rate.Rate.{Rate}
+use Rattle.cc_base.specs.declared.refusal.Refusal.{Refusal}
+use Rattle.cc_base.specs.declared.streams.Put.{Put}
+use Rattle.cc_base.specs.declared.streams.Put.TheVariants as put
+use Rattle.anc_words.specs.Packets.{user_bytes}
+use Rattle.cc_receiver.specs.Receivers.{HasReceived, frame_count}
+use Rattle.cc_receiver.specs.declared.receiver.Ended.{Ended}
+use Rattle.cc_receiver.specs.declared.receiver.Ended.TheVariants as ended
+use Rattle.cc_receiver.specs.declared.receiver.Fed.{Fed}
+use Rattle.cc_receiver.specs.declared.receiver.Receiver.{Receiver}
+use Rattle.cc_receiver.proofs.TakenLemmas.{frames_count}
+use Rattle.cdp_packets.specs.Packets.{Packet as Frame}
+use Rattle.cdp_packets.proofs.PacketLemmas.{rate_of-code}
+use Rattle.packet_inserter.specs.Insertion.{IsInserted}
+use Rattle.services_files.specs.Services.{services_say}
+use Rattle.words_files.specs.Offences.{IsFileUnder, IsUnoffending}
+use Rattle.words_files.proofs.FramesOfLemmas.{file_frames}
+use Rattle.insert_commands.specs.InsertAnswer.{Captioning, PutsInserted, words_limit}
+use Rattle.insert_commands.specs.InsertSteps.{Gives, HasFrame, HasJudged, HasStopped, PutsWords, Replaces, StopsBy}
+use Rattle.insert_commands.specs.InsertedFile.{BringsFrame, IsForeign, carried_words}
+use Rattle.insert_commands.specs.InsertedFile.AreInserted.{caption, foreign}
+use Rattle.insert_commands.specs.ListCaptions.{captions_of}
+use Rattle.insert_commands.specs.OpenPackets.{Ends, EndsCaption, EndsForeign, HasRead, MayFollow, NoPacketEnds, Reads, Refuses, open_bytes}
+use Rattle.insert_commands.specs.declared.inserting.Inserting.{Inserting}
+use Rattle.insert_commands.specs.declared.inserting.Stop.{Stop}
+use Rattle.insert_commands.specs.declared.inserting.Stop.TheVariants as stop
+use Rattle.insert_commands.specs.declared.packets.Packets.{Packets}
+
+-- a rate is told by its code
+pub same_rate : (r s : Rate) → code_of r ≡ code_of s → r ≡ s
+same_rate r s same = cc (rate_of-code r, rate_of-code s, ap rate_of same)
+
+-- nothing is open behind a packet
+nothing_ends : (file kept : List ℕ) → kept ≡ [] → NoPacketEnds file kept
+nothing_ends file kept none others n some few is = absurd (omega (arith, some, few, ap length none))
+
+pub begun : (frames : List Frame) (file bytes : List ℕ) (receiver : Receiver) (new : Packets) → HasReceived (file ++ bytes) receiver
+    → frame_count receiver ≤ length (file ++ bytes) → IsUnoffending services_say (file ++ bytes) → IsFileUnder services_say frames (file ++ bytes)
+    → new.receiver ≡ receiver → open_bytes new ≡ [] → HasRead frames (file ++ bytes) new
+begun frames file bytes receiver new received few unoffending under same none =
+    let all : (file ++ bytes) ++ open_bytes new ≡ file ++ bytes = ap (λ b. (file ++ bytes) ++ b) none ∙ append-nil (file ++ bytes) in
+    record {
+      received = subst (λ r. HasReceived ((file ++ bytes) ++ open_bytes new) r) (sym same) (subst (λ b. HasReceived b receiver) (sym all) received);
+      few = subst (λ r. frame_count r ≤ length ((file ++ bytes) ++ open_bytes new)) (sym same) (subst (λ b. frame_count receiver ≤ length b) (sym all) few);
+      unoffending = subst (IsUnoffending services_say) (sym all) unoffending;
+      under = under;
+      none = nothing_ends (file ++ bytes) (open_bytes new) none;
+    }
+
+-- the bytes judged, and a front of those behind them
+parted : (before file kept bytes front new : List ℕ) → before ≡ file ++ kept → new ≡ kept ++ front → before ++ front ≡ file ++ new
+parted before file kept bytes front new is more =
+    ap (λ b. b ++ front) is ∙ append_assoc file kept front ∙ ap (λ b. file ++ b) (sym more)
+
+rest_parted : (before bytes : List ℕ) (used : ℕ) → before ++ bytes ≡ (before ++ take used bytes) ++ drop used bytes
+rest_parted before bytes used =
+    ap (λ l. before ++ l) (sym (take-append-drop used bytes)) ∙ sym (append_assoc before (take used bytes) (drop used bytes))
+
+module _ (list : Captioning) (start now : Option (List ℕ)) (before bytes : List ℕ) (old : Inserting) (had : HasJudged list start now before old) where
+  -- a word was refused
+  pub step_refused : (refusal : Refusal) → Refuses had.frames had.file bytes old.packets refusal → HasStopped list start now (before ++ bytes) (stop.Refused refusal)
+  step_refused refusal refuses = record {
+    frames = had.frames;
+    file = had.file;
+    behind = open_bytes old.packets ++ bytes;
+    unjudged = [];
+    spelled = ap (λ b. b ++ bytes) had.spelled ∙ append_assoc had.file (open_bytes old.packets) bytes ∙ sym (append-nil (had.file ++ (open_bytes old.packets ++ bytes)));
+    puts = had.puts;
+    cause = (refl, refuses.frames_are, refuses.offends);
+  }
+
+  -- no packet ended
+  pub step_still : (new : Inserting) (fed : Fed) → Reads had.frames had.file bytes old.packets new.packets fed → fed.ended ≡ ended.No
+      → new.captions ≡ old.captions → HasJudged list start now (before ++ take fed.used bytes) new
+  step_still new fed read still same = record {
+    frames = had.frames;
+    file = had.file;
+    spelled = parted before had.file (open_bytes old.packets) bytes (take fed.used bytes) (open_bytes new.packets) had.spelled read.kept;
+    read = subst (λ e. Rattle.insert_commands.specs.OpenPackets.Ends e had.frames had.file new.packets) still read.ends;
+    gives = subst (Gives list (length had.frames)) (sym same) had.gives;
+    puts = had.puts;
+  }
+
+  module _ (mid : Packets) (fed : Fed) (read : Reads had.frames had.file bytes old.packets mid fed) where
+    abbrev whole : List ℕ
+    whole = had.file ++ open_bytes mid
+
+    spelled_whole : before ++ take fed.used bytes ≡ whole
+    spelled_whole = parted before had.file (open_bytes old.packets) bytes (take fed.used bytes) (open_bytes mid) had.spelled read.kept
+
+    spelled_rest : before ++ bytes ≡ (had.file ++ open_bytes mid) ++ drop fed.used bytes
+    spelled_rest = rest_parted before bytes fed.used ∙ ap (λ b. b ++ drop fed.used bytes) spelled_whole
+
+    foreign_puts : (then : Option (List ℕ)) (answer : Put) → IsForeign (open_bytes mid) → Puts now then answer (open_bytes mid)
+        → PutsInserted list had.frames whole answer start then
+    foreign_puts then answer is puts = record {
+      text = had.puts.text ++ open_bytes mid;
+      inserted = foreign (captions_of list.rate list.columns list.count) had.frames had.file had.puts.text (open_bytes mid) whole (had.puts.text ++ open_bytes mid)
+          had.puts.inserted is refl refl;
+      rates = had.puts.rates;
+      output = puts_then start now then answer had.puts.text (open_bytes mid) had.puts.output puts;
+    }
+
+    -- a packet that isn't one of captions was copied
+    pub step_copied : (then : Option (List ℕ)) (new : Inserting) → EndsForeign had.frames had.file (open_bytes mid) mid
+        → Appends now then (open_bytes mid) → new.packets.receiver ≡ mid.receiver → open_bytes new.packets ≡ [] → new.captions ≡ old.captions
+        → HasJudged list start then (before ++ take fed.used bytes) new
+    step_copied then new is puts receiver none same = record {
+      frames = had.frames;
+      file = whole;
+      spelled = spelled_whole ∙ sym (ap (λ b. whole ++ b) none ∙ append-nil whole);
+      read = begun had.frames had.file (open_bytes mid) mid.receiver new.packets is.received is.few is.unoffending is.under receiver none;
+      gives = subst (Gives list (length had.frames)) (sym same) had.gives;
+      puts = foreign_puts then put.Done (record { packet = is.packet; is = is.is; is_foreign = is.is_foreign }) puts;
+    }
+
+    -- or that failed
+    pub step_uncopied : (then : Option (List ℕ)) (why : Stop) → EndsForeign had.frames had.file (open_bytes mid) mid
+        → PutsWords now then (open_bytes mid) (Err why) → HasStopped list start then (before ++ bytes) why
+    step_uncopied then why is (unwritten, failed) = subst (HasStopped list start then (before ++ bytes)) (sym unwritten) (record {
+      frames = had.frames;
+      file = whole;
+      behind = [];
+      unjudged = drop fed.used bytes;
+      spelled = spelled_rest ∙ ap (λ b. b ++ drop fed.used bytes) (sym (append-nil whole));
+      puts = foreign_puts then put.Failed (record { packet = is.packet; is = is.is; is_foreign = is.is_foreign }) failed;
+      cause = tt;
+    })
+
+    brings : EndsCaption had.frames had.file (open_bytes mid) mid → (frame : Frame) × BringsFrame frame (open_bytes mid)
+    brings is = (is.frame, record { packet = is.packet; is = is.is; is_caption = is.is_caption; carries = is.carries })
+
+    caption_puts : (then : Option (List ℕ)) (answer : Put) (new_frame : Frame) (is : EndsCaption had.frames had.file (open_bytes mid) mid)
+        → is.frame.rate ≡ list.rate → IsInserted (captions_of list.rate list.columns list.count (length had.frames)) is.frame new_frame
+        → Puts now then answer (carried_words new_frame) → PutsInserted list (had.frames ++ is.frame ∷ []) whole answer start then
+    unfolding brings
+    caption_puts then answer new_frame is rate inserted puts = record {
+      text = had.puts.text ++ carried_words new_frame;
+      inserted = caption (captions_of list.rate list.columns list.count) had.frames (had.frames ++ is.frame ∷ []) is.frame new_frame had.file had.puts.text
+          (open_bytes mid) whole (had.puts.text ++ carried_words new_frame) had.puts.inserted (brings is).1 inserted refl refl refl;
+      rates = All-append (λ f. f.rate ≡ list.rate) had.frames (is.frame ∷ []) had.puts.rates
+          (All-cons (λ f. f.rate ≡ list.rate) is.frame [] rate (All-nil (λ f. f.rate ≡ list.rate)));
+      output = puts_then start now then answer had.puts.text (carried_words new_frame) had.puts.output puts;
+    }
+
+    one_more : (frame : Frame) → length (had.frames ++ frame ∷ []) ≡ length had.frames + 1
+    one_more frame = length-append had.frames (frame ∷ [])
+
+    -- the captions of a frame were put
+    pub step_replaced : (then : Option (List ℕ)) (new : Inserting) (words : ArrayVec ℕ) (is : EndsCaption had.frames had.file (open_bytes mid) mid)
+        → Replaces list (length had.frames) is.frame new.captions (Ok words) → Appends now then words.items
+        → new.packets.receiver ≡ mid.receiver → open_bytes new.packets ≡ [] → HasJudged list start then (before ++ take fed.used bytes) new
+    step_replaced then new words is (rate, gives, (new_frame, inserted, words_are)) puts receiver none = record {
+      frames = had.frames ++ is.frame ∷ [];
+      file = whole;
+      spelled = spelled_whole ∙ sym (ap (λ b. whole ++ b) none ∙ append-nil whole);
+      read = begun (had.frames ++ is.frame ∷ []) had.file (open_bytes mid) mid.receiver new.packets is.received is.few is.unoffending is.under receiver none;
+      gives = subst (λ n. Gives list n new.captions) (sym (one_more is.frame)) gives;
+      puts = caption_puts then put.Done new_frame is rate inserted (subst (Appends now then) words_are puts);
+    }
+
+    pub step_unreplaced : (then : Option (List ℕ)) (new : Inserting) (words : ArrayVec ℕ) (why : Stop) (is : EndsCaption had.frames had.file (open_bytes mid) mid)
+        → Replaces list (length had.frames) is.frame new.captions (Ok words) → PutsWords now then words.items (Err why)
+        → HasStopped list start then (before ++ bytes) why
+    step_unreplaced then new words why is (rate, gives, (new_frame, inserted, words_are)) (unwritten, failed) =
+        subst (HasStopped list start then (before ++ bytes)) (sym unwritten) (record {
+          frames = had.frames ++ is.frame ∷ [];
+          file = whole;
+          behind = [];
+          unjudged = drop fed.used bytes;
+          spelled = spelled_rest ∙ ap (λ b. b ++ drop fed.used bytes) (sym (append-nil whole));
+          puts = caption_puts then put.Failed new_frame is rate inserted (subst (Puts now then put.Failed) words_are failed);
+          cause = tt;
+        })
+
+    -- the run stopped at the frame
+    pub step_stopped : (new : Inserting) (why : Stop) (is : EndsCaption had.frames had.file (open_bytes mid) mid)
+        → Replaces list (length had.frames) is.frame new.captions (Err why) → HasStopped list start now (before ++ bytes) why
+    unfolding brings
+    step_stopped new (stop.Refused refusal) is replaces = absurd replaces
+    step_stopped new stop.Unwritten is replaces = absurd replaces
+    step_stopped new (stop.Found finding) is (other, found) = record {
+      frames = had.frames;
+      file = had.file;
+      behind = open_bytes mid;
+      unjudged = drop fed.used bytes;
+      spelled = spelled_rest;
+      puts = had.puts;
+      cause = record { last = is.frame; brings = (brings is).1; unoffending = is.unoffending; other = other; is = found };
+    }
+    step_stopped new stop.Packet is (rate, (new_frame, inserted, long)) = record {
+      frames = had.frames;
+      file = had.file;
+      behind = open_bytes mid;
+      unjudged = drop fed.used bytes;
+      spelled = spelled_rest;
+      puts = had.puts;
+      cause = record { last = is.frame; brings = (brings is).1; unoffending = is.unoffending; rate_is = rate; new = new_frame; inserted = inserted; long = long };
+    }
+
+-- a packet of captions that ended brought a frame, whose sections fit
+pub has_frame : (frames : List Frame) (file bytes : List ℕ) (packets : Packets) → EndsCaption frames file bytes packets → HasFrame packets.receiver
+has_frame frames file bytes packets is =
+    let are = file_frames services_say (frames ++ is.frame ∷ []) (file ++ bytes) is.under in
+    let count : frame_count packets.receiver ≡ length (frames ++ is.frame ∷ []) = frames_count (frames ++ is.frame ∷ []) (file ++ bytes) packets.receiver is.received are in
+    let carries = is.carries in
+    let low = is.is.is_packet.has_count.low_bits in
+    let many : length (user_bytes is.packet) ≡ length is.packet.user = length-map is.packet.user (λ word. word % 256) in
+    let spelled = ap length carries.spelled in
+    let long = length-append (concat is.frame.sections) (0x74 ∷ carries.high ∷ carries.low ∷ carries.last ∷ []) in
+    record {
+      bytes = file ++ bytes;
+      earlier = frames;
+      last = is.frame;
+      received = is.received;
+      frames_are = are;
+      counted = omega (arith, count, length-append frames (is.frame ∷ []));
+      sections = carries.sections;
+      short = omega (arith, low, many, spelled, long);
+    }
+
+-- what may follow
+pub follow_more : (bytes : List ℕ) (more used : ℕ) (old new : Packets) (may : MayFollow words_limit old (length bytes + more)) (frames : List Frame) (file : List ℕ)
+    → used ≤ length bytes → HasRead frames file new → length (file ++ open_bytes new) ≡ length (may.file ++ open_bytes old) + used
+    → MayFollow words_limit new (length bytes - used + more)
+follow_more bytes more used old new may frames file within read long =
+    let fits = may.within in
+    record { frames = frames; file = file; read = read; within = omega (arith, fits, long, within) }
+
+-- a stop that isn't for want of the output
+pub stops_by : (before now : ℕ) (why : Stop) → why ≢ stop.Unwritten → now ≡ before → StopsBy before now why
+stops_by before now stop.Unwritten other same = absurd (other refl)
+stops_by before now (stop.Refused refusal) other same = same
+stops_by before now (stop.Found finding) other same = same
+stops_by before now stop.Packet other same = same
+
+-- how a packet ended
+pub ends_foreign : (answer : Ended) (frames : List Frame) (file : List ℕ) (mid : Packets) → answer ≡ ended.Foreign → Ends answer frames file mid
+    → EndsForeign frames file (open_bytes mid) mid
+ends_foreign answer frames file mid is ends = subst (λ e. Ends e frames file mid) is ends
+
+pub ends_caption : (answer : Ended) (frames : List Frame) (file : List ℕ) (mid : Packets) → answer ≡ ended.Caption → Ends answer frames file mid
+    → EndsCaption frames file (open_bytes mid) mid
+ends_caption answer frames file mid is ends = subst (λ e. Ends e frames file mid) is ends
+
+pub ends_no : (answer : Ended) (frames : List Frame) (file : List ℕ) (mid : Packets) → answer ≡ ended.No → Ends answer frames file mid → HasRead frames file mid
+ends_no answer frames file mid is ends = subst (λ e. Ends e frames file mid) is ends
+
+-- how many bytes were read
+kept_long : (frames : List Frame) (file bytes : List ℕ) (old mid : Packets) (fed : Fed) → Reads frames file bytes old mid fed
+    → length (file ++ open_bytes mid) ≡ length (file ++ open_bytes old) + fed.used
+kept_long frames file bytes old mid fed read =
+    let size = ap length read.kept in
+    omega (
+      arith,
+      size,
+      length-append file (open_bytes mid),
+      length-append file (open_bytes old),
+      length-append (open_bytes old) (take fed.used bytes),
+      length-take-le fed.used bytes read.within,
+    )
+
+pub more_no : (bytes : List ℕ) (more : ℕ) (old mid : Packets) (fed : Fed) (may : MayFollow words_limit old (length bytes + more))
+    → Reads may.frames may.file bytes old mid fed → fed.ended ≡ ended.No → MayFollow words_limit mid (length bytes - fed.used + more)
+more_no bytes more old mid fed may read is =
+    follow_more bytes more fed.used old mid may may.frames may.file read.within (ends_no fed.ended may.frames may.file mid is read.ends)
+    (kept_long may.frames may.file bytes old mid fed read)
+
+begun_long : (file bytes kept : List ℕ) → kept ≡ [] → length ((file ++ bytes) ++ kept) ≡ length (file ++ bytes)
+begun_long file bytes kept none = ap length (ap (λ b. (file ++ bytes) ++ b) none ∙ append-nil (file ++ bytes))
+
+pub more_foreign : (bytes : List ℕ) (more : ℕ) (old mid new : Packets) (fed : Fed) (may : MayFollow words_limit old (length bytes + more))
+    → Reads may.frames may.file bytes old mid fed → fed.ended ≡ ended.Foreign → new.receiver ≡ mid.receiver → open_bytes new ≡ []
+    → MayFollow words_limit new (length bytes - fed.used + more)
+more_foreign bytes more old mid new fed may read is same none =
+    let ends = ends_foreign fed.ended may.frames may.file mid is read.ends in
+    follow_more bytes more fed.used old new may may.frames (may.file ++ open_bytes mid) read.within
+    (begun may.frames may.file (open_bytes mid) mid.receiver new ends.received ends.few ends.unoffending ends.under same none)
+    (begun_long may.file (open_bytes mid) (open_bytes new) none ∙ kept_long may.frames may.file bytes old mid fed read)
+
+pub more_caption : (bytes : List ℕ) (more : ℕ) (old mid new : Packets) (fed : Fed) (may : MayFollow words_limit old (length bytes + more))
+    → Reads may.frames may.file bytes old mid fed → fed.ended ≡ ended.Caption → new.receiver ≡ mid.receiver → open_bytes new ≡ []
+    → MayFollow words_limit new (length bytes - fed.used + more)
+more_caption bytes more old mid new fed may read is same none =
+    let ends = ends_caption fed.ended may.frames may.file mid is read.ends in
+    follow_more bytes more fed.used old new may (may.frames ++ ends.frame ∷ []) (may.file ++ open_bytes mid) read.within
+    (begun (may.frames ++ ends.frame ∷ []) may.file (open_bytes mid) mid.receiver new ends.received ends.few ends.unoffending ends.under same none)
+    (begun_long may.file (open_bytes mid) (open_bytes new) none ∙ kept_long may.frames may.file bytes old mid fed read)

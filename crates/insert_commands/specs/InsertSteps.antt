@@ -1,0 +1,125 @@
+-- Steps on the way through words in which captions are inserted.
+use Rattle.std.specs.Prelude.{◌≡◌, ◌≢◌, ◌<◌, ◌≤◌, ◌+◌, ℕ, List, [], ◌∷◌, ◌++◌, length, take, Option, Result, Ok, Err}
+use Rattle.std.specs.Io.KnownBytes.{Appends}
+use Rattle.cc_base.specs.Streams.{Puts, Rose}
+use Rattle.cc_base.specs.declared.limit_of.LimitOf.TheVariants as limit
+use Rattle.cc_base.specs.declared.streams.Put.{Put}
+use Rattle.cc_base.specs.declared.streams.Put.TheVariants as put
+use Rattle.arrayvec.specs.ArrayVec.{ArrayVec}
+use Rattle.cc_receiver.specs.Receivers.{HasReceived, frame_count}
+use Rattle.cc_receiver.specs.declared.receiver.Receiver.{Receiver}
+use Rattle.cdp_packets.specs.Packets.{Packet as Frame}
+use Rattle.cdp_packets.specs.Sections.{AreSections}
+use Rattle.std.specs.List.{concat}
+use Rattle.command_base.specs.declared.status.Place.TheVariants.{Byte}
+use Rattle.command_base.specs.declared.status.Status.{Status}
+use Rattle.command_base.specs.declared.status.Status.TheVariants as status
+use Rattle.findings.specs.declared.finding.Kind45.TheVariants as kind
+use Rattle.packet_inserter.specs.Insertion.{IsInserted, packet_length}
+use Rattle.services_files.specs.Services.{services_say}
+use Rattle.words_files.specs.FramesOf.{AreFramesOf}
+use Rattle.words_files.specs.Offences.{FirstOffendingWord, IsCutShort}
+use Rattle.insert_commands.specs.InsertAnswer.{Captioning, Cause, IsAnyhow, IsFoundAt, PassesPacket, PutsInserted}
+use Rattle.insert_commands.specs.InsertedFile.{carried_words}
+use Rattle.insert_commands.specs.ListCaptions.{GivesCaptions, captions_of}
+use Rattle.insert_commands.specs.OpenPackets.{HasRead, open_bytes}
+use Rattle.insert_commands.specs.declared.captions.Captions.{Captions}
+use Rattle.insert_commands.specs.declared.inserting.Inserting.{Inserting}
+use Rattle.insert_commands.specs.declared.inserting.Stop.{Stop}
+use Rattle.insert_commands.specs.declared.inserting.Stop.TheVariants as stop
+
+-- a frame ended last in a receiver
+pub record HasFrame (receiver : Receiver) : Type 0 where
+  pub bytes : List ℕ
+  pub earlier : List Frame
+  pub last : Frame
+  pub received : HasReceived bytes receiver
+  pub frames_are : AreFramesOf services_say (earlier ++ last ∷ []) bytes
+  pub counted : 0 < frame_count receiver
+  pub sections : AreSections last.sections
+  pub short : length (concat last.sections) ≤ 244
+
+-- the captions of a list are given from this frame on
+abbrev pub Gives : Captioning → ℕ → Captions → Type 0
+Gives list frame captions = GivesCaptions list.rate list.columns list.count frame captions
+
+-- what stands for the packet of a frame
+abbrev pub Replaces : Captioning → ℕ → Frame → Captions → Result (ArrayVec ℕ) Stop → Type 0
+Replaces list number last captions (Ok words) =
+    (last.rate ≡ list.rate) × Gives list (number + 1) captions
+    × ((new : Frame) × IsInserted (captions_of list.rate list.columns list.count number) last new × (words.items ≡ carried_words new))
+Replaces list number last captions (Err (stop.Found finding)) =
+    (last.rate ≢ list.rate) × (finding ≡ record { frame = number; kind = kind.WrongRate list.rate last.rate })
+Replaces list number last captions (Err stop.Packet) =
+    (last.rate ≡ list.rate) × ((new : Frame) × IsInserted (captions_of list.rate list.columns list.count number) last new × (255 < packet_length new))
+Replaces list number last captions (Err _) = ⊥
+
+-- words were put, or a front of them
+abbrev pub PutsWords : Option (List ℕ) → Option (List ℕ) → List ℕ → Result (Unit {0}) Stop → Type 0
+PutsWords old new words (Ok done) = Appends old new words
+PutsWords old new words (Err why) = (why ≡ stop.Unwritten) × Puts old new put.Failed words
+
+-- these bytes were judged, none of whose words offends, and the packets of their file were put with the list's captions
+pub record HasJudged (list : Captioning) (start now : Option (List ℕ)) (bytes : List ℕ) (inserting : Inserting) : Type 0 where
+  pub frames : List Frame
+  pub file : List ℕ
+  pub spelled : bytes ≡ file ++ open_bytes inserting.packets
+  pub read : HasRead frames file inserting.packets
+  pub gives : Gives list (length frames) inserting.captions
+  pub puts : PutsInserted list frames file put.Done start now
+
+-- why it stopped
+abbrev pub StopsFor : Captioning → Stop → Cause
+StopsFor list (stop.Refused refusal) frames file behind unjudged =
+    (unjudged ≡ []) × AreFramesOf services_say frames (file ++ behind) × FirstOffendingWord services_say (file ++ behind) refusal
+StopsFor list stop.Unwritten frames file behind unjudged = IsAnyhow frames file behind unjudged
+StopsFor list (stop.Found finding) frames file behind unjudged = IsFoundAt list finding frames file behind unjudged
+StopsFor list stop.Packet frames file behind unjudged = PassesPacket list frames file behind unjudged
+
+-- what the last put of a run that stopped so answered
+abbrev pub put_of : Stop → Put
+put_of stop.Unwritten = put.Failed
+put_of _ = put.Done
+
+-- it stopped in these bytes
+pub record HasStopped (list : Captioning) (start now : Option (List ℕ)) (bytes : List ℕ) (why : Stop) : Type 0 where
+  pub frames : List Frame
+  pub file : List ℕ
+  pub behind : List ℕ
+  pub unjudged : List ℕ
+  pub spelled : bytes ≡ (file ++ behind) ++ unjudged
+  pub puts : PutsInserted list frames file (put_of why) start now
+  pub cause : StopsFor list why frames file behind unjudged
+
+-- what is made of the next of these bytes, behind those before
+abbrev pub StepJudges : Captioning → Option (List ℕ) → Option (List ℕ) → List ℕ → List ℕ → Inserting → Result ℕ Stop → Type 0
+StepJudges list start now before bytes inserting (Ok used) = HasJudged list start now (before ++ take used bytes) inserting
+StepJudges list start now before bytes inserting (Err why) = HasStopped list start now (before ++ bytes) why
+
+-- and of all of them
+abbrev pub Judges : Captioning → Option (List ℕ) → Option (List ℕ) → List ℕ → Inserting → Result (Unit {0}) Stop → Type 0
+Judges list start now bytes inserting (Ok done) = HasJudged list start now bytes inserting
+Judges list start now bytes inserting (Err why) = HasStopped list start now bytes why
+
+-- a run stops for want of its output only where the count of faults rose, and else leaves it
+abbrev pub StopsBy : ℕ → ℕ → Stop → Type 0
+StopsBy before now stop.Unwritten = (before ≤ now) × Rose before now
+StopsBy before now _ = now ≡ before
+
+abbrev pub StopCause : {A : Type 0} → ℕ → ℕ → Result A Stop → Type 0
+StopCause before now (Ok done) = now ≡ before
+StopCause before now (Err why) = StopsBy before now why
+
+-- the status of a run that stopped so
+abbrev pub stop_status : Stop → Status
+stop_status (stop.Refused refusal) = status.Malformed (Byte refusal.place) refusal.why
+stop_status stop.Unwritten = status.WriteFault
+stop_status (stop.Found finding) = status.Differs finding
+stop_status stop.Packet = status.Limit limit.Packet
+
+-- how a run ends where the bytes end behind a file
+abbrev pub EndsAs : Captioning → List Frame → List ℕ → List ℕ → Status → Type 0
+EndsAs list frames file behind status.Ok = (behind ≡ []) × (list.count ≤ length frames)
+EndsAs list frames file behind (status.Short count) = (behind ≡ []) × (count ≡ length frames) × (length frames < list.count)
+EndsAs list frames file behind (status.Malformed (Byte place) why) = IsCutShort services_say (file ++ behind) (record { place = place; why = why })
+EndsAs list frames file behind _ = ⊥

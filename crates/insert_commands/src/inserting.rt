@@ -1,0 +1,202 @@
+ghost use Rattle.std.specs.Prelude.{◌≡◌, ◌≢◌, ◌<◌, ◌≤◌, ◌+◌, ◌-◌, ◌++◌, ◌∷◌, [], ℕ, List, Option, IfErr, IfOk, length};
+ghost use Rattle.insert_commands.specs.declared.inserting.Stop.TheVariants as stop;
+ghost use Rattle.cc_receiver.specs.Receivers.{HasReceived, frame_count};
+ghost use Rattle.cdp_packets.specs.Packets.{Packet as Frame};
+ghost use Rattle.cdp_packets.specs.Sections.{AreSections};
+ghost use Rattle.frame_scheduler.specs.Frames.{GivesFrom, frames_left};
+ghost use Rattle.services_files.specs.Services.{services_say};
+ghost use Rattle.words_files.specs.FramesOf.{AreFramesOf};
+ghost use Rattle.insert_commands.specs.InsertAnswer.{Captioning, words_limit};
+ghost use Rattle.insert_commands.specs.InsertSteps.{EndsAs, Gives, HasFrame, HasJudged, Judges, PutsWords, Replaces, StepJudges, StopCause, stop_status};
+ghost use Rattle.insert_commands.specs.OpenPackets.{HasRead, MayFollow, open_bytes};
+
+use crate::captions::Captions;
+use crate::packets::Packets;
+use anc_words::write_packet;
+use arrayvec::ArrayVec;
+use cc_base::{LimitOf, Put, Refusal, Sink};
+use cc_receiver::Ended;
+use cdp_packets::WholePacket;
+use command_base::{Place, Status};
+use cue_list_commands::Programme;
+use findings::{Finding, Kind45};
+use packet_inserter::insert;
+use std::alloc::{AllocError, Global};
+
+/// The identifiers of ancillary packets of captions (SMPTE ST 334-1).
+const CAPTION_DID: u8 = 0x61;
+
+const CAPTION_SDID: u8 = 0x01;
+
+/// Why an insertion stopped before its bytes' end.
+#[derive(Clone, Copy, Debug, PartialEq, Eq)]
+pub(crate) enum Stop {
+    /// A word is refused.
+    Refused(Refusal),
+    /// The output failed.
+    Unwritten,
+    /// A frame has another rate than the list.
+    Found(Finding),
+    /// A distribution packet would have more than 255 bytes.
+    Packet,
+}
+
+impl Stop {
+    /// The status with which a run ends that stopped so.
+    pub(crate) fn status(self) -> Status
+        ensures { result ≡ stop_status self }
+    {
+        match self {
+            Stop::Refused(refusal) => Status::Malformed(Place::Byte(refusal.place), refusal.why),
+            Stop::Unwritten => Status::WriteFault,
+            Stop::Found(finding) => Status::Differs(finding),
+            Stop::Packet => Status::Limit(LimitOf::Packet),
+        }
+    }
+}
+
+/// An insertion on its way: the words, packet by packet, and the captions of the frames to come. All memory that it takes is taken
+/// by `new` and by the programme.
+#[derive(Drop)]
+pub(crate) struct Inserting {
+    packets: Packets,
+    captions: Captions,
+}
+
+impl Inserting {
+    /// An insertion of a programme's captions that judged nothing.
+    pub(crate) fn new(alloc: Global, programme: Programme) -> Result<Inserting, AllocError>
+        ensures read { IfOk result (λ inserting. HasRead [] [] inserting.packets) }
+        ensures none { IfOk result (λ inserting. open_bytes inserting.packets ≡ []) }
+        ensures may { IfOk result (λ inserting. MayFollow words_limit inserting.packets words_limit) }
+        ensures gives { (list : Captioning) → GivesFrom list.columns 0 programme.plan → programme.rate ≡ list.rate
+            → frames_left programme.plan ≡ list.count → IfOk result (λ inserting. Gives list 0 inserting.captions) }
+    {
+        let packets = match Packets::new(alloc) {
+            Ok(packets) => packets,
+            Err(error) => return Err(error),
+        };
+        Ok(Inserting {
+            packets,
+            captions: Captions::new(programme),
+        })
+    }
+
+    /// What stands for the packet of the frame of this number, which ended last.
+    fn replacement(&mut self, frame: u32) -> Result<ArrayVec<u8, 524>, Stop>
+        requires { HasFrame self.now.packets.receiver }
+        ensures replaces { (list : Captioning) (bytes : List ℕ) (earlier : List Frame) (last : Frame) → HasReceived bytes self.old.packets.receiver
+            → AreFramesOf services_say (earlier ++ last ∷ []) bytes → AreSections last.sections → Gives list frame self.old.captions
+            → Replaces list frame last self.new.captions result }
+        ensures packets { self.new.packets ≡ self.old.packets }
+        ensures written { IfErr result (λ why. why ≢ stop.Unwritten) }
+    {
+        let receiver = &self.packets.receiver;
+        let (expected, seen) = (self.captions.rate(), receiver.rate());
+        if seen.code() != expected.code() {
+            let kind = Kind45::WrongRate { expected, seen };
+            return Err(Stop::Found(Finding { frame, kind }));
+        }
+        let packet = WholePacket {
+            rate: seen,
+            flags: receiver.flags(),
+            counter: receiver.counter(),
+            sections: receiver.sections(),
+        };
+        let triplets = self.captions.next(frame);
+        let mut new = ArrayVec::new();
+        match insert(&packet, &triplets, &mut new) {
+            Ok(()) => {}
+            Err(_) => return Err(Stop::Packet),
+        }
+        let mut words = ArrayVec::new();
+        write_packet(CAPTION_DID, CAPTION_SDID, &new, &mut words);
+        Ok(words)
+    }
+
+    /// Judges bytes up to the end of a packet, and puts what stands for the packet that ended there, if one did. Gives the number of
+    /// bytes judged.
+    fn step<O: Sink>(&mut self, bytes: &[u8], out: &mut O) -> Result<usize, Stop>
+        requires some { 0 < length bytes.now }
+        requires may { MayFollow words_limit self.now.packets (length bytes.now) }
+        ensures judges { (list : Captioning) (start : Option (List ℕ)) (before : List ℕ) → HasJudged list start (O.written out.old) before self.old
+            → StepJudges list start (O.written out.new) before bytes.now self.new result }
+        ensures cause { StopCause (O.faults out.old) (O.faults out.new) result }
+        ensures used { IfOk result (λ used. (0 < used) × (used ≤ length bytes.now)) }
+        ensures more { (more : ℕ) → MayFollow words_limit self.old.packets (length bytes.now + more)
+            → IfOk result (λ used. MayFollow words_limit self.new.packets (length bytes.now - used + more)) }
+    {
+        let frame = self.packets.frames();
+        let fed = match self.packets.feed(bytes) {
+            Ok(fed) => fed,
+            Err(refusal) => return Err(Stop::Refused(refusal)),
+        };
+        match fed.ended {
+            Ended::No => Ok(fed.used),
+            Ended::Foreign => match put_words(self.packets.bytes(), out) {
+                Ok(()) => {
+                    self.packets.begin();
+                    Ok(fed.used)
+                }
+                Err(stop) => Err(stop),
+            },
+            Ended::Caption => match self.replacement(frame) {
+                Ok(words) => match put_words(&words, out) {
+                    Ok(()) => {
+                        self.packets.begin();
+                        Ok(fed.used)
+                    }
+                    Err(stop) => Err(stop),
+                },
+                Err(stop) => Err(stop),
+            },
+        }
+    }
+
+    /// Judges bytes, and puts what stands for their packets.
+    pub(crate) fn judge<O: Sink>(&mut self, bytes: &[u8], out: &mut O) -> Result<(), Stop>
+        requires { MayFollow words_limit self.now.packets (length bytes.now) }
+        ensures judges { (list : Captioning) (start : Option (List ℕ)) (before : List ℕ) → HasJudged list start (O.written out.old) before self.old
+            → Judges list start (O.written out.new) (before ++ bytes.now) self.new result }
+        ensures cause { StopCause (O.faults out.old) (O.faults out.new) result }
+        ensures more { (more : ℕ) → MayFollow words_limit self.old.packets (length bytes.now + more)
+            → IfOk result (λ done. MayFollow words_limit self.new.packets more) }
+    {
+        let mut at = 0;
+        while at < bytes.len() {
+            match self.step(&bytes[at..], out) {
+                Ok(used) => at += used,
+                Err(stop) => return Err(stop),
+            }
+        }
+        Ok(())
+    }
+
+    /// How the run ends where the bytes end here: Ok where they are a words file with as many frames as the list has, at least.
+    pub(crate) fn ending(&mut self) -> Status
+        ensures { (list : Captioning) (start now : Option (List ℕ)) (bytes : List ℕ) (had : HasJudged list start now bytes self.old)
+            → EndsAs list had.frames had.file (open_bytes self.old.packets) result }
+    {
+        match self.packets.receiver.finish() {
+            Ok(()) => {
+                if self.captions.is_over() {
+                    Status::Ok
+                } else {
+                    Status::Short(self.packets.frames())
+                }
+            }
+            Err(refusal) => Status::Malformed(Place::Byte(refusal.place), refusal.why),
+        }
+    }
+}
+
+/// Puts words.
+fn put_words<O: Sink>(words: &[u8], out: &mut O) -> Result<(), Stop>
+    ensures puts { PutsWords (O.written out.old) (O.written out.new) words.now result }
+    ensures cause { StopCause (O.faults out.old) (O.faults out.new) result }
+{
+    match out.put(words) {
+        Put::Done => Ok(()),
+        Put::Failed => Err(Stop::Unwritten),
+    }
+}
