@@ -1,15 +1,16 @@
 -- A receiver that is fed the words that were built shows what was authored.
 use Rattle.std.proofs.Common.{[], ◌≡◌, ◌∙◌, ◌++◌, ◌∷◌, ◌+◌, ◌<◌, ◌==◌, ◌&&◌, ◌||◌, if◌then◌else◌, Bool, add-one, ap, arith, length, length-append, refl, subst, suc, sym, take, zero, ℕ, List, false, true}
 use Rattle.std.proofs.lemmas.List.{take-append-le, take_all}
-use Rattle.std.proofs.lemmas.List.Elements.{All-head, All-tail}
 use Rattle.cc_base.specs.declared.rate.Rate.{Rate}
-use Rattle.std.specs.List.{All}
+use Rattle.std.specs.Prelude.{nat_le}
+use Rattle.std.specs.List.{filter}
+use Rattle.std.proofs.lemmas.Bool.Decides.{nat_tests}
 use Rattle.cc_data.specs.declared.triplet.Triplet.{Triplet}
 use Rattle.cdp_packets.specs.Packets.{Packet as Frame}
 use Rattle.cdp_packets.specs.PacketTriplets.{packet_triplets}
 use Rattle.channel_packets.specs.ChannelPackets.{channel_triplets}
-use Rattle.frame_carrier.specs.Carried.{AreCarried, IsWithinRoom}
-use Rattle.frame_carrier.specs.Carrying.{column_bytes, column_packets, frame_packet}
+use Rattle.frame_carrier.specs.Carried.{AreCarried, IsWithinRoom, is_of_channel}
+use Rattle.frame_carrier.specs.Carrying.{channel_of, channel_packet, column_bytes, column_packets, frame_packet, packets_before}
 use Rattle.frame_scheduler.specs.Columns.{Columns}
 use Rattle.frame_scheduler.specs.Planned.{columns_of}
 use Rattle.line21_codes.specs.declared.channels.Chan.TheVariants.{Cc1, Cc2, Cc3, Cc4}
@@ -23,7 +24,7 @@ use Rattle.words_files.proofs.FramesOfLemmas.{file_frames, frames_grow}
 use Rattle.words_files.proofs.GotLemmas.{got}
 use Rattle.cc_receiver.proofs.ReceivedLemmas.{shown_received}
 use Rattle.cc_receiver.proofs.TakenLemmas.{frames_count}
-use Rattle.cue_list_commands.proofs.Outputs.{sound_words}
+use Rattle.cue_list_commands.proofs.Outputs.{no_blocks, sound_words}
 use Rattle.cue_list_commands.specs.Output.{build_output, built_packets}
 use Rattle.ccsuite_cli.specs.Seen.{BuiltWordsAreSeen}
 
@@ -33,30 +34,35 @@ packets_count rate columns frame zero = refl
 packets_count rate columns frame (suc n) = ap suc (packets_count rate columns (suc frame) n)
 
 -- triplets of line 21 and fillers are none of channel packets
-not_of_channel : (valid : Bool) (kind : ℕ) → (valid ≡ true → kind < 2) → ((valid && (kind == 3)) || (valid && (kind == 2))) ≡ false
+not_of_channel : (valid : Bool) (kind : ℕ) → (valid && nat_le 2 kind) ≡ false → ((valid && (kind == 3)) || (valid && (kind == 2))) ≡ false
 not_of_channel false kind few = refl
 not_of_channel true zero few = refl
 not_of_channel true (suc zero) few = refl
-not_of_channel true (suc (suc more)) few = let less = few refl in absurd (omega (arith, less))
+not_of_channel true (suc (suc more)) few = absurd (grind (arith, nat_tests))
 
-quiet_triplets : (triplets more : List Triplet) → All (λ t. t.valid ≡ true → t.kind < 2) triplets → channel_triplets more ≡ [] → channel_triplets (triplets ++ more) ≡ []
-quiet_triplets [] more all none = none
-quiet_triplets (t ∷ triplets) more all none =
-    let rest = channel_triplets (triplets ++ more) in
-    ap (λ (b : Bool). if b then t ∷ rest else rest) (not_of_channel t.valid t.kind (All-head (λ (t : Triplet). t.valid ≡ true → t.kind < 2) t triplets all))
-    ∙ quiet_triplets triplets more (All-tail (λ (t : Triplet). t.valid ≡ true → t.kind < 2) t triplets all) none
+quiet_triplets : (triplets more : List Triplet) → filter is_of_channel triplets ≡ [] → channel_triplets more ≡ [] → channel_triplets (triplets ++ more) ≡ []
+quiet_triplets [] more quiet none = none
+quiet_triplets (t ∷ triplets) more quiet none = at (is_of_channel t) refl (λ rest. quiet_triplets triplets more rest none)
+  where
+    at : (b : Bool) → is_of_channel t ≡ b → (filter is_of_channel triplets ≡ [] → channel_triplets (triplets ++ more) ≡ [])
+        → channel_triplets (t ∷ (triplets ++ more)) ≡ []
+    at true of_it rest = absurd (let e : t ∷ filter is_of_channel triplets ≡ [] = rw of_it at quiet in cc)
+    at false other rest =
+        let left = channel_triplets (triplets ++ more) in
+        ap (λ (b : Bool). if b then t ∷ left else left) (not_of_channel t.valid t.kind other) ∙ rest (rw other at quiet)
 
 -- so the frames that are built carry no channel packet
-quiet_packets : (rate : Rate) (columns : Columns) → ((frame : ℕ) → IsWithinRoom rate (columns frame) (frame_packet rate frame (columns frame) [])) → (frame n : ℕ)
-    → channel_triplets (file_triplets (column_packets rate columns frame n)) ≡ []
-quiet_packets rate columns room frame zero = refl
-quiet_packets rate columns room frame (suc n) =
-    quiet_triplets (packet_triplets (frame_packet rate frame (columns frame) [])) (file_triplets (column_packets rate columns (suc frame) n)) (room frame).no_service
-    (quiet_packets rate columns room (suc frame) n)
+quiet_packets : (rate : Rate) (columns : Columns) → ((frame : ℕ) → IsWithinRoom rate (columns frame) (channel_of columns frame) (frame_packet rate frame (columns frame) (channel_of columns frame)))
+    → ((frame : ℕ) → (columns frame).blocks.items ≡ []) → (frame n : ℕ) → channel_triplets (file_triplets (column_packets rate columns frame n)) ≡ []
+quiet_packets rate columns room none frame zero = refl
+quiet_packets rate columns room none frame (suc n) =
+    quiet_triplets (packet_triplets (frame_packet rate frame (columns frame) (channel_of columns frame))) (file_triplets (column_packets rate columns (suc frame) n))
+    ((room frame).service ∙ ap (channel_packet (packets_before columns frame)) (none frame))
+    (quiet_packets rate columns room none (suc frame) n)
 
-built_file : (rate : Rate) (columns : Columns) (n : ℕ) → AreCarried rate columns n
+built_file : (rate : Rate) (columns : Columns) (n : ℕ) → AreCarried rate columns n → ((frame : ℕ) → (columns frame).blocks.items ≡ [])
     → IsFileUnder services_say (column_packets rate columns 0 n) (column_bytes rate columns 0 n)
-built_file rate columns n carried =
+built_file rate columns n carried none =
     let packets = column_packets rate columns 0 n in
     whole-under packets (column_bytes rate columns 0 n) (record {
       file = carried.file;
@@ -67,7 +73,7 @@ built_file rate columns n carried =
           packets_are = record {
             strays = [];
             stretches = [];
-            spelled = quiet_packets rate columns carried.room 0 n;
+            spelled = quiet_packets rate columns carried.room none 0 n;
             strays_are = refl;
             stretches_are = refl;
             packets_are = refl;
@@ -89,7 +95,7 @@ built_seen bytes list placed words rest receiver frame accepted output had count
     let gotten = got services_say words had.bytes_are in
     let frames = gotten.frames in
     let whole : AreFramesOf services_say packets (words ++ rest) =
-    subst (AreFramesOf services_say packets) output (file_frames services_say packets (build_output list placed) (built_file list.rate (columns_of list placed) list.frames sound.carried)) in
+    subst (AreFramesOf services_say packets) output (file_frames services_say packets (build_output list placed) (built_file list.rate (columns_of list placed) list.frames sound.carried (no_blocks bytes list placed accepted))) in
     let (behind, grown) = frames_grow services_say frames packets words rest gotten.are whole in
     let count : frame + 1 ≡ length frames = sym counted ∙ frames_count frames words receiver had gotten.are in
     let front : take (suc frame) packets ≡ frames = front_is packets frames behind (suc frame) grown (sym (add-one frame) ∙ count) in

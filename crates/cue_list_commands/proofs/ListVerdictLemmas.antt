@@ -208,7 +208,7 @@ list_judged bytes list within spelled =
     elim (ruled_or_broken list) [
       | inl ruled ↦ elim (cases_Bool (has_window list)) [
         | inl windows ↦ inr (status.Malformed (Field 2 1) why.NotBuilt, inr (record { list = list; within = within; spelled = spelled; ruled = ruled; windows = windows; record_is = refl; field_is = refl; reason_is = refl }))
-        | inr none ↦ elim (list_decided list spelled.formed) [
+        | inr none ↦ elim (list_decided list spelled.formed ruled) [
           | inl there ↦ inl (list, there.0, record { within = within; spelled = spelled; built = none; ruled = ruled; placement = there.1 })
           | inr without ↦ inr (status.NoRoom without.0, record { list = list; within = within; spelled = spelled; built = none; ruled = ruled; first = without.1 })
         ]

@@ -1,8 +1,11 @@
 -- The frames of a programme are carried: each packet is one by the definitions of its layers, and a receiver gets its pairs.
 use Rattle.std.proofs.Common.{◌≡◌, ℕ, zero, suc, ◌+◌, ◌-◌, ◌*◌, ◌/◌, ◌%◌, ◌<◌, ◌≤◌, Bool, true, false, Option, Some, None, List, [], ◌∷◌, ◌++◌, All, length, replicate, take, refl, sym, ap, ◌∙◌, subst, arith, append-nil, append_assoc}
-use Rattle.std.specs.Prelude.{if◌then◌else◌, IfSome, option_to_list}
+use Rattle.std.specs.Prelude.{if◌then◌else◌, IfSome, nat_le, option_to_list, ◌&&◌, ◌==◌}
 use Rattle.std.proofs.lemmas.List.{length-append}
-use Rattle.std.proofs.lemmas.List.Elements.{All-append, All-cons, All-from_recursion, All-head, All-nil, All-tail}
+use Rattle.std.specs.List.{filter}
+use Rattle.std.proofs.lemmas.Bool.Decides.{nat_tests}
+use Rattle.std.proofs.lemmas.List.Concat.{flat_map-append}
+use Rattle.std.proofs.lemmas.List.Elements.{All-append, All-cons, All-from_recursion, All-head, All-nil, All-tail, All-weaker, filter-append}
 use Rattle.cc_base.specs.Rate.{code_of, triplets_of}
 use Rattle.cc_base.specs.declared.rate.Rate.{Rate}
 use Rattle.cc_base.specs.declared.rate.Rate.TheVariants as rates
@@ -19,14 +22,16 @@ use Rattle.anc_words.specs.Writing.{packet_bytes, packet_of}
 use Rattle.anc_words.proofs.PacketLemmas.{packet_bytes-is, user_bytes-packet_of}
 use Rattle.anc_words.proofs.WordsFileLemmas.{IsWordsFile-nil, IsWordsFile-one}
 use Rattle.words_files.specs.Frames.{IsFileOf, none, caption}
-use Rattle.words_files.specs.Received.{field_pairs, received_pairs}
+use Rattle.words_files.specs.Received.{field_kind, field_pair, field_pairs, received_pairs}
 use Rattle.words_files.proofs.FrameLemmas.{joined}
 use Rattle.frame_scheduler.specs.Columns.{Columns, first_pairs, pair_in}
 use Rattle.frame_scheduler.specs.declared.frames.FrameBytes.{FrameBytes}
-use Rattle.frame_carrier.specs.Carried.{AreBytePairs, FramesAreCarried, IsBytePair, IsWithinRoom}
-use Rattle.frame_carrier.specs.Carrying.{caption_flags, column_bytes, column_packets, counter_of, frame_bytes, frame_packet}
+use Rattle.channel_packets.specs.Written.{bytes_written, continuing, header_for, packet_written, starting}
+use Rattle.frame_carrier.specs.Carried.{AreByteBlocks, AreBytePairs, AreRoomy, FramesAreCarried, IsBytePair, IsWithinRoom, is_of_channel}
+use Rattle.frame_carrier.specs.CarriedBytes.{caption_flags}
+use Rattle.frame_carrier.specs.Carrying.{channel_of, channel_packet, packets_before, column_bytes, column_packets, counter_of, frame_bytes, frame_packet}
 use Rattle.frame_carrier.specs.FrameTriplets.{field_triplets, filler, frame_triplets, front_triplets, pair_triplet}
-use Rattle.frame_carrier.proofs.CarryingLemmas.{IsKind, frame_kinds, frame_number, triplets_many}
+use Rattle.frame_carrier.proofs.CarryingLemmas.{IsKind, frame_kinds, frame_number, packet_kinds, packet_many, triplets_many}
 
 -- a byte
 abbrev IsByte : ℕ → Type 0
@@ -73,16 +78,36 @@ field_bytes : (kind : ℕ) (pair : Option Pair) → kind < 4 → IfSome pair IsB
 field_bytes kind None low bytes = All-nil IsByteTriplet
 field_bytes kind (Some pair) low bytes = All-cons IsByteTriplet (pair_triplet kind pair) [] (record { kind = low; a = bytes.a; b = bytes.b }) (All-nil IsByteTriplet)
 
-frame_triplets_bytes : (rate : Rate) (frame : FrameBytes) → IfSome frame.one IsBytePair → IfSome frame.two IsBytePair → All IsByteTriplet (frame_triplets rate frame [])
-frame_triplets_bytes rate frame one two =
-    All-append IsByteTriplet (front_triplets frame []) (replicate (triplets_of rate - length (front_triplets frame [])) filler)
-    (All-append IsByteTriplet (field_triplets 0 frame.one) (field_triplets 1 frame.two ++ []) (field_bytes 0 frame.one (omega arith) one)
-    (All-append IsByteTriplet (field_triplets 1 frame.two) [] (field_bytes 1 frame.two (omega arith) two) (All-nil IsByteTriplet)))
-    (fillers_bytes (triplets_of rate - length (front_triplets frame [])))
+frame_triplets_bytes : (rate : Rate) (frame : FrameBytes) (packet : List Triplet) → IfSome frame.one IsBytePair → IfSome frame.two IsBytePair
+    → All IsByteTriplet packet → All IsByteTriplet (frame_triplets rate frame packet)
+frame_triplets_bytes rate frame packet one two bytes =
+    All-append IsByteTriplet (front_triplets frame packet) (replicate (triplets_of rate - length (front_triplets frame packet)) filler)
+    (All-append IsByteTriplet (field_triplets 0 frame.one) (field_triplets 1 frame.two ++ packet) (field_bytes 0 frame.one (omega arith) one)
+    (All-append IsByteTriplet (field_triplets 1 frame.two) packet (field_bytes 1 frame.two (omega arith) two) bytes))
+    (fillers_bytes (triplets_of rate - length (front_triplets frame packet)))
 
-module _ (rate : Rate) (frame : ℕ) (carried : FrameBytes) (one : IfSome carried.one IsBytePair) (two : IfSome carried.two IsBytePair) where
+-- so are those of a channel packet
+further_bytes : (bytes : List ℕ) → All IsByte bytes → All IsByteTriplet (bytes_written bytes)
+further_bytes [] all = All-nil IsByteTriplet
+further_bytes (a ∷ []) all =
+    All-cons IsByteTriplet (continuing a 0x00) [] (record { kind = omega arith; a = All-head IsByte a [] all; b = omega arith }) (All-nil IsByteTriplet)
+further_bytes (a ∷ (b ∷ bytes)) all =
+    let rest = All-tail IsByte a (b ∷ bytes) all in
+    All-cons IsByteTriplet (continuing a b) (bytes_written bytes)
+    (record { kind = omega arith; a = All-head IsByte a (b ∷ bytes) all; b = All-head IsByte b bytes rest })
+    (further_bytes bytes (All-tail IsByte b bytes rest))
+
+packet_bytes_are : (count : ℕ) (blocks : List ℕ) → length blocks ≤ 125 → All IsByte blocks → All IsByteTriplet (channel_packet count blocks)
+packet_bytes_are count [] few all = All-nil IsByteTriplet
+packet_bytes_are count (byte ∷ blocks) few all =
+    All-cons IsByteTriplet (starting (header_for (count % 4) (length (byte ∷ blocks))) byte) (bytes_written blocks)
+    (record { kind = omega arith; a = omega (arith, few); b = All-head IsByte byte blocks all })
+    (further_bytes blocks (All-tail IsByte byte blocks all))
+
+module _ (rate : Rate) (frame : ℕ) (carried : FrameBytes) (packet : List Triplet) (one : IfSome carried.one IsBytePair) (two : IfSome carried.two IsBytePair)
+    (channel : All IsByteTriplet packet) (roomy : length (front_triplets carried packet) ≤ triplets_of rate) where
   abbrev triplets : List Triplet
-  triplets = frame_triplets rate carried []
+  triplets = frame_triplets rate carried packet
 
   abbrev section : List ℕ
   section = cc_data_section triplets
@@ -93,12 +118,12 @@ module _ (rate : Rate) (frame : ℕ) (carried : FrameBytes) (one : IfSome carrie
   -- from ten to twenty-five
   many : (10 ≤ length triplets) × (length triplets ≤ 25)
   many =
-      let is : length triplets ≡ triplets_of rate = frame_number rate carried in
+      let is : length triplets ≡ triplets_of rate = frame_number rate carried packet roomy in
       let few = triplets_many rate in
       (omega (arith, is, few.0), omega (arith, is, few.1))
 
   kinds : All IsKind triplets
-  kinds = frame_kinds rate carried [] (All-nil IsKind)
+  kinds = frame_kinds rate carried packet (All-weaker IsByteTriplet IsKind (λ t is. is.kind) packet channel)
 
   -- the section has two bytes and three a triplet
   section_length : length section ≡ 2 + 3 * length triplets
@@ -107,7 +132,7 @@ module _ (rate : Rate) (frame : ℕ) (carried : FrameBytes) (one : IfSome carrie
   section_bytes : All IsByte section
   section_bytes =
       All-cons IsByte 0x72 ((0xE0 + length triplets) ∷ all_written triplets) (omega arith)
-      (All-cons IsByte (0xE0 + length triplets) (all_written triplets) (omega (arith, many.1)) (all_written_bytes triplets (frame_triplets_bytes rate carried one two)))
+      (All-cons IsByte (0xE0 + length triplets) (all_written triplets) (omega (arith, many.1)) (all_written_bytes triplets (frame_triplets_bytes rate carried packet one two channel)))
 
   counter_bytes : (counter_of frame / 256 < 256) × (counter_of frame % 256 < 256)
   counter_bytes = (omega arith, omega arith)
@@ -143,85 +168,168 @@ module _ (rate : Rate) (frame : ℕ) (carried : FrameBytes) (one : IfSome carrie
       omega (arith, all, body, section_length, many.1)
 
   -- it is the frame's packet
-  is_packet : IsCdp (frame_packet rate frame carried []) bytes
+  is_packet : IsCdp (frame_packet rate frame carried packet) bytes
   is_packet =
-      subst (λ s. IsCdp (frame_packet rate frame carried []) (written_packet rate caption_flags (counter_of frame) s)) (append-nil section)
+      subst (λ s. IsCdp (frame_packet rate frame carried packet) (written_packet rate caption_flags (counter_of frame) s)) (append-nil section)
       (written-is_packet rate caption_flags (counter_of frame) (section ∷ []) (cc_data_section-is triplets (omega (arith, many.1)), tt))
 
   -- the bytes of its ancillary packet are a file of it alone
-  pub frame_file : IsFileOf (frame_packet rate frame carried [] ∷ []) (frame_bytes rate frame carried [])
+  frame_file : IsFileOf (frame_packet rate frame carried packet ∷ []) (frame_bytes rate frame carried packet)
   frame_file = record {
     packets = packet_of 0x61 0x01 bytes ∷ [];
     file = IsWordsFile-one (packet_of 0x61 0x01 bytes) (packet_bytes 0x61 0x01 bytes)
         (packet_bytes-is 0x61 0x01 bytes (omega arith) (omega arith) (omega (arith, packet_length)) packet_is_bytes);
-    carried = caption (packet_of 0x61 0x01 bytes) [] (frame_packet rate frame carried []) [] (refl, refl)
-        (subst (IsCdp (frame_packet rate frame carried [])) (sym (user_bytes-packet_of 0x61 0x01 bytes packet_is_bytes)) is_packet) none;
+    carried = caption (packet_of 0x61 0x01 bytes) [] (frame_packet rate frame carried packet) [] (refl, refl)
+        (subst (IsCdp (frame_packet rate frame carried packet)) (sym (user_bytes-packet_of 0x61 0x01 bytes packet_is_bytes)) is_packet) none;
   }
 
 -- the triplets of a frame's packet are those of the frame
-packet_triplets_are : (rate : Rate) (frame : ℕ) (carried : FrameBytes) → packet_triplets (frame_packet rate frame carried []) ≡ frame_triplets rate carried []
-packet_triplets_are rate frame carried =
-    append-nil _ ∙ cc_data_section-triplets (frame_triplets rate carried []) (frame_kinds rate carried [] (All-nil IsKind))
+packet_triplets_are : (rate : Rate) (frame : ℕ) (carried : FrameBytes) (packet : List Triplet) → All IsKind packet
+    → packet_triplets (frame_packet rate frame carried packet) ≡ frame_triplets rate carried packet
+packet_triplets_are rate frame carried packet kinds =
+    append-nil _ ∙ cc_data_section-triplets (frame_triplets rate carried packet) (frame_kinds rate carried packet kinds)
+
+-- a triplet of a channel packet counts, and has its kind
+record IsChannelTriplet (t : Triplet) : Type 0 where
+  valid : t.valid ≡ true
+  kind : 2 ≤ t.kind
+
+further_channel : (bytes : List ℕ) → All IsChannelTriplet (bytes_written bytes)
+further_channel [] = All-nil IsChannelTriplet
+further_channel (a ∷ []) = All-cons IsChannelTriplet (continuing a 0x00) [] (record { valid = refl; kind = omega arith }) (All-nil IsChannelTriplet)
+further_channel (a ∷ (b ∷ bytes)) =
+    All-cons IsChannelTriplet (continuing a b) (bytes_written bytes) (record { valid = refl; kind = omega arith }) (further_channel bytes)
+
+packet_channel : (count : ℕ) (blocks : List ℕ) → All IsChannelTriplet (channel_packet count blocks)
+packet_channel count [] = All-nil IsChannelTriplet
+packet_channel count (byte ∷ blocks) =
+    All-cons IsChannelTriplet (starting (header_for (count % 4) (length (byte ∷ blocks))) byte) (bytes_written blocks)
+    (record { valid = refl; kind = omega arith }) (further_channel blocks)
 
 -- no filler has a pair
 fillers_empty : (second_field : Bool) (n : ℕ) → field_pairs second_field (replicate n filler) ≡ []
 fillers_empty second_field zero = refl
 fillers_empty second_field (suc n) = fillers_empty second_field n
 
+-- nor has a triplet of a channel packet
+of_no_field : (t : Triplet) (second_field : Bool) → 2 ≤ t.kind → (t.valid && (t.kind == field_kind second_field)) ≡ false
+of_no_field t second_field high = at t.valid
+  where
+    other : (field : Bool) → (t.kind == field_kind field) ≡ false
+    other false = grind (arith, nat_tests)
+    other true = grind (arith, nat_tests)
+
+    at : (valid : Bool) → (valid && (t.kind == field_kind second_field)) ≡ false
+    at true = other second_field
+    at false = refl
+
+channel_empty : (second_field : Bool) (ts : List Triplet) → All IsChannelTriplet ts → field_pairs second_field ts ≡ []
+channel_empty second_field [] all = refl
+channel_empty second_field (t ∷ ts) all =
+    let here = All-head IsChannelTriplet t ts all in
+    let none = of_no_field t second_field here.kind in
+    rw none (channel_empty second_field ts (All-tail IsChannelTriplet t ts all))
+
 -- each field has its pair
-field_pair_is : (second_field : Bool) (one two : Option Pair) (n : ℕ)
-    → field_pairs second_field ((field_triplets 0 one ++ (field_triplets 1 two ++ [])) ++ replicate n filler) ≡ option_to_list (if second_field then two else one)
-field_pair_is false None None n = fillers_empty false n
-field_pair_is false None (Some two) n = fillers_empty false n
-field_pair_is false (Some one) None n = ap (λ rest. one ∷ rest) (fillers_empty false n)
-field_pair_is false (Some one) (Some two) n = ap (λ rest. one ∷ rest) (fillers_empty false n)
-field_pair_is true None None n = fillers_empty true n
-field_pair_is true None (Some two) n = ap (λ rest. two ∷ rest) (fillers_empty true n)
-field_pair_is true (Some one) None n = fillers_empty true n
-field_pair_is true (Some one) (Some two) n = ap (λ rest. two ∷ rest) (fillers_empty true n)
+one_is : (second_field : Bool) (one : Option Pair) → field_pairs second_field (field_triplets 0 one) ≡ (if second_field then [] else option_to_list one)
+one_is false None = refl
+one_is false (Some one) = refl
+one_is true None = refl
+one_is true (Some one) = refl
 
-field_is : (rate : Rate) (carried : FrameBytes) (second_field : Bool) → field_pairs second_field (frame_triplets rate carried []) ≡ option_to_list (pair_in second_field carried)
-field_is rate carried false = field_pair_is false carried.one carried.two (triplets_of rate - length (front_triplets carried []))
-field_is rate carried true = field_pair_is true carried.one carried.two (triplets_of rate - length (front_triplets carried []))
+two_is : (second_field : Bool) (two : Option Pair) → field_pairs second_field (field_triplets 1 two) ≡ (if second_field then option_to_list two else [])
+two_is false None = refl
+two_is false (Some two) = refl
+two_is true None = refl
+two_is true (Some two) = refl
 
--- no triplet that counts has service bytes
-abbrev IsOfField : Triplet → Type 0
-IsOfField t = t.valid ≡ true → t.kind < 2
+both_is : (second_field : Bool) (carried : FrameBytes)
+    → (if second_field then [] else option_to_list carried.one) ++ (if second_field then option_to_list carried.two else []) ≡ option_to_list (pair_in second_field carried)
+both_is false carried = append-nil (option_to_list carried.one)
+both_is true carried = refl
 
-fillers_of_field : (n : ℕ) → All IsOfField (replicate n filler)
-fillers_of_field zero = All-nil IsOfField
-fillers_of_field (suc n) = All-cons IsOfField filler (replicate n filler) (λ counts. cc) (fillers_of_field n)
+field_is : (rate : Rate) (carried : FrameBytes) (packet : List Triplet) (second_field : Bool) → All IsChannelTriplet packet
+    → field_pairs second_field (frame_triplets rate carried packet) ≡ option_to_list (pair_in second_field carried)
+field_is rate carried packet second_field channel =
+    let fill = replicate (triplets_of rate - length (front_triplets carried packet)) filler in
+    let all = flat_map-append (field_pair second_field) (front_triplets carried packet) fill in
+    let front = flat_map-append (field_pair second_field) (field_triplets 0 carried.one) (field_triplets 1 carried.two ++ packet) in
+    let back = flat_map-append (field_pair second_field) (field_triplets 1 carried.two) packet in
+    let none = fillers_empty second_field (triplets_of rate - length (front_triplets carried packet)) in
+    let service = channel_empty second_field packet channel in
+    let one = one_is second_field carried.one in
+    let two = two_is second_field carried.two in
+    all ∙ ap (λ l. field_pairs second_field (front_triplets carried packet) ++ l) none ∙ append-nil (field_pairs second_field (front_triplets carried packet))
+    ∙ front ∙ ap (λ l. field_pairs second_field (field_triplets 0 carried.one) ++ l)
+    (back ∙ ap (λ l. field_pairs second_field (field_triplets 1 carried.two) ++ l) service ∙ append-nil (field_pairs second_field (field_triplets 1 carried.two)))
+    ∙ ap (λ l. l ++ field_pairs second_field (field_triplets 1 carried.two)) one
+    ∙ ap (λ l. (if second_field then [] else option_to_list carried.one) ++ l) two
+    ∙ both_is second_field carried
 
-of_field : (kind : ℕ) (pair : Option Pair) → kind < 2 → All IsOfField (field_triplets kind pair)
-of_field kind None low = All-nil IsOfField
-of_field kind (Some pair) low = All-cons IsOfField (pair_triplet kind pair) [] (λ counts. low) (All-nil IsOfField)
+-- of the triplets that count the others are those of the channel packet
+field_none : (kind : ℕ) (pair : Option Pair) → kind < 2 → filter is_of_channel (field_triplets kind pair) ≡ []
+field_none kind None low = refl
+field_none kind (Some pair) low = let none : nat_le 2 kind ≡ false = grind (arith, nat_tests) in rw none refl
 
-frame_of_fields : (rate : Rate) (carried : FrameBytes) → All IsOfField (frame_triplets rate carried [])
-frame_of_fields rate carried =
-    All-append IsOfField (front_triplets carried []) (replicate (triplets_of rate - length (front_triplets carried [])) filler)
-    (All-append IsOfField (field_triplets 0 carried.one) (field_triplets 1 carried.two ++ []) (of_field 0 carried.one (omega arith))
-    (All-append IsOfField (field_triplets 1 carried.two) [] (of_field 1 carried.two (omega arith)) (All-nil IsOfField)))
-    (fillers_of_field (triplets_of rate - length (front_triplets carried [])))
+fillers_none : (n : ℕ) → filter is_of_channel (replicate n filler) ≡ []
+fillers_none zero = refl
+fillers_none (suc n) = fillers_none n
+
+channel_all : (ts : List Triplet) → All IsChannelTriplet ts → filter is_of_channel ts ≡ ts
+channel_all [] all = refl
+channel_all (t ∷ ts) all =
+    let here = All-head IsChannelTriplet t ts all in
+    let valid = here.valid in
+    let high : nat_le 2 t.kind ≡ true = let kind = here.kind in grind (arith, nat_tests) in
+    let test : is_of_channel t ≡ true = ap (λ b. b && nat_le 2 t.kind) valid ∙ high in
+    rw test (ap (λ l. t ∷ l) (channel_all ts (All-tail IsChannelTriplet t ts all)))
+
+service_is : (rate : Rate) (carried : FrameBytes) (packet : List Triplet) → All IsChannelTriplet packet
+    → filter is_of_channel (frame_triplets rate carried packet) ≡ packet
+service_is rate carried packet channel =
+    filter-append is_of_channel (front_triplets carried packet) (replicate (triplets_of rate - length (front_triplets carried packet)) filler)
+    ∙ ap (λ l. filter is_of_channel (front_triplets carried packet) ++ l) (fillers_none (triplets_of rate - length (front_triplets carried packet)))
+    ∙ append-nil (filter is_of_channel (front_triplets carried packet))
+    ∙ filter-append is_of_channel (field_triplets 0 carried.one) (field_triplets 1 carried.two ++ packet)
+    ∙ ap (λ l. l ++ filter is_of_channel (field_triplets 1 carried.two ++ packet)) (field_none 0 carried.one (omega arith))
+    ∙ filter-append is_of_channel (field_triplets 1 carried.two) packet
+    ∙ ap (λ l. l ++ filter is_of_channel packet) (field_none 1 carried.two (omega arith))
+    ∙ channel_all packet channel
 
 -- a frame keeps to its room
-within_room : (rate : Rate) (frame : ℕ) (carried : FrameBytes) → IsWithinRoom rate carried (frame_packet rate frame carried [])
-within_room rate frame carried =
-    let same = packet_triplets_are rate frame carried in
+within_room : (rate : Rate) (frame : ℕ) (carried : FrameBytes) (count : ℕ) → length (front_triplets carried (channel_packet count carried.blocks.items)) ≤ triplets_of rate
+    → IsWithinRoom rate carried (channel_packet count carried.blocks.items) (frame_packet rate frame carried (channel_packet count carried.blocks.items))
+within_room rate frame carried count roomy =
+    let packet = channel_packet count carried.blocks.items in
+    let same = packet_triplets_are rate frame carried packet (packet_kinds count carried.blocks.items) in
+    let channel = packet_channel count carried.blocks.items in
     record {
-      number = ap length same ∙ frame_number rate carried;
-      pairs = λ second_field. ap (field_pairs second_field) same ∙ field_is rate carried second_field;
-      no_service = subst (All IsOfField) (sym same) (frame_of_fields rate carried);
+      number = ap length same ∙ frame_number rate carried packet roomy;
+      pairs = λ second_field. ap (field_pairs second_field) same ∙ field_is rate carried packet second_field channel;
+      service = ap (filter is_of_channel) same ∙ service_is rate carried packet channel;
     }
 
--- the bytes of frames are a file of their packets
-columns_file : (rate : Rate) (columns : Columns) → AreBytePairs columns → (frame n : ℕ)
-    → IsFileOf (column_packets rate columns frame n) (column_bytes rate columns frame n)
-columns_file rate columns are frame zero = record { packets = []; file = IsWordsFile-nil; carried = none }
-columns_file rate columns are frame (suc n) =
-    joined (frame_packet rate frame (columns frame) [] ∷ []) (column_packets rate columns (suc frame) n)
-    (frame_bytes rate frame (columns frame) []) (column_bytes rate columns (suc frame) n)
-    (frame_file rate frame (columns frame) (are false frame) (are true frame))
-    (columns_file rate columns are (suc frame) n)
+-- the blocks of a frame are few
+blocks_few : (rate : Rate) (carried : FrameBytes) (count : ℕ) → length (front_triplets carried (channel_packet count carried.blocks.items)) ≤ triplets_of rate
+    → length carried.blocks.items ≤ 125
+blocks_few rate carried count roomy =
+    let many = (triplets_many rate).1 in
+    let rest = length-append (field_triplets 1 carried.two) (channel_packet count carried.blocks.items) in
+    let all = length-append (field_triplets 0 carried.one) (field_triplets 1 carried.two ++ channel_packet count carried.blocks.items) in
+    let most = packet_many count carried.blocks.items in
+    omega (arith, roomy, many, rest, all, most)
+
+module _ (rate : Rate) (columns : Columns) (are : AreBytePairs columns) (bytes : AreByteBlocks columns) (roomy : AreRoomy rate columns) where
+  -- the bytes of frames are a file of their packets
+  columns_file : (frame n : ℕ) → IsFileOf (column_packets rate columns frame n) (column_bytes rate columns frame n)
+  columns_file frame zero = record { packets = []; file = IsWordsFile-nil; carried = none }
+  columns_file frame (suc n) =
+      joined (frame_packet rate frame (columns frame) (channel_of columns frame) ∷ []) (column_packets rate columns (suc frame) n)
+      (frame_bytes rate frame (columns frame) (channel_of columns frame)) (column_bytes rate columns (suc frame) n)
+      (frame_file rate frame (columns frame) (channel_of columns frame) (are false frame) (are true frame)
+      (packet_bytes_are (packets_before columns frame) (columns frame).blocks.items (blocks_few rate (columns frame) (packets_before columns frame) (roomy frame)) (bytes frame))
+      (roomy frame))
+      (columns_file (suc frame) n)
 
 -- a field's pairs from a frame on
 pairs_from : Bool → Columns → ℕ → ℕ → List Pair
@@ -260,13 +368,15 @@ received_are second_field rate columns frame n zero below = refl
 received_are second_field rate columns frame zero (suc k) below = absurd (omega arith)
 received_are second_field rate columns frame (suc n) (suc k) below =
     ap (λ pairs. pairs ++ received_pairs second_field (take k (column_packets rate columns (suc frame) n)))
-    (ap (field_pairs second_field) (packet_triplets_are rate frame (columns frame)) ∙ field_is rate (columns frame) second_field)
+    (ap (field_pairs second_field)
+    (packet_triplets_are rate frame (columns frame) (channel_of columns frame) (packet_kinds (packets_before columns frame) (columns frame).blocks.items))
+    ∙ field_is rate (columns frame) (channel_of columns frame) second_field (packet_channel (packets_before columns frame) (columns frame).blocks.items))
     ∙ ap (λ rest. option_to_list (pair_in second_field (columns frame)) ++ rest) (received_are second_field rate columns (suc frame) n k (omega arith))
 
 -- the frames of a programme are carried
 pub frames_carried : FramesAreCarried
-frames_carried rate columns n are = record {
-  file = columns_file rate columns are 0 n;
-  room = λ frame. within_room rate frame (columns frame);
+frames_carried rate columns n are bytes roomy = record {
+  file = columns_file rate columns are bytes roomy 0 n;
+  room = λ frame. within_room rate frame (columns frame) (packets_before columns frame) (roomy frame);
   received = λ second_field k below. received_are second_field rate columns 0 n k below ∙ pairs_from-first second_field columns k;
 }

@@ -1,11 +1,18 @@
 -- The triplets of a frame have kinds and a number.
-use Rattle.std.proofs.Common.{◌≡◌, ℕ, zero, suc, ◌+◌, ◌-◌, ◌<◌, ◌≤◌, Option, Some, None, List, [], ◌∷◌, ◌++◌, All, length, replicate, arith, append_assoc, ap, refl, sym, subst, ◌∙◌}
+use Rattle.std.proofs.Common.{true, ◌==◌, ◌≡◌, ℕ, zero, suc, ◌+◌, ◌-◌, ◌*◌, ◌%◌, ◌<◌, ◌≤◌, Option, Some, None, List, [], ◌∷◌, ◌++◌, All, length, replicate, arith, append_assoc, ap, refl, sym, subst, ◌∙◌}
+use Rattle.std.proofs.lemmas.Bool.{eqb-true}
 use Rattle.std.proofs.lemmas.List.{length-append, length-replicate}
 use Rattle.std.proofs.lemmas.List.Elements.{All-append, All-cons, All-nil}
 use Rattle.cc_base.specs.Rate.{triplets_of}
 use Rattle.cc_base.specs.declared.rate.Rate.{Rate}
 use Rattle.cc_base.specs.declared.rate.Rate.TheVariants as rates
 use Rattle.cc_data.specs.declared.triplet.Triplet.{Triplet}
+use Rattle.channel_packets.specs.Written.{bytes_written, continuing, header_for, packet_written, starting}
+use Rattle.frame_carrier.specs.Carrying.{IsAt, channel_of, channel_packet, packets_before, counter_of, frame_bytes, packet_count}
+use Rattle.frame_scheduler.specs.Columns.{Columns}
+use Rattle.frame_carrier.specs.Carried.{AreByteBlocks, AreRoomy}
+use Rattle.frame_carrier.specs.CarriedBytes.{carried_bytes}
+use Rattle.frame_carrier.specs.declared.carrier.Carrier.{Carrier}
 use Rattle.cdp_packets.specs.Sections.{IsSectionList}
 use Rattle.line21_codes.specs.declared.pairs.Pair.{Pair}
 use Rattle.frame_scheduler.specs.declared.frames.FrameBytes.{FrameBytes}
@@ -28,11 +35,13 @@ field_few kind None = omega arith
 field_few kind (Some pair) = omega arith
 
 -- so the fields have at most two
-pub front_few : (frame : FrameBytes) → length (front_triplets frame []) ≤ 2
-front_few frame =
+pub front_few : (frame : FrameBytes) (packet : List Triplet) → length (front_triplets frame packet) ≤ length packet + 2
+front_few frame packet =
     let one = field_few 0 frame.one in
     let two = field_few 1 frame.two in
-    omega (arith, length-append (field_triplets 0 frame.one) (field_triplets 1 frame.two ++ []), length-append (field_triplets 1 frame.two) [])
+    let all = length-append (field_triplets 0 frame.one) (field_triplets 1 frame.two ++ packet) in
+    let rest = length-append (field_triplets 1 frame.two) packet in
+    omega (arith, one, two, all, rest)
 
 -- a kind has two bits
 abbrev pub IsKind : Triplet → Type 0
@@ -57,15 +66,15 @@ frame_kinds rate frame packet kinds =
     (fillers_kind (triplets_of rate - length (front_triplets frame packet)))
 
 -- there are as many as the rate has
-pub frame_number : (rate : Rate) (frame : FrameBytes) → length (frame_triplets rate frame []) ≡ triplets_of rate
-frame_number rate frame =
-    let few = front_few frame in
+pub frame_number : (rate : Rate) (frame : FrameBytes) (packet : List Triplet) → length (front_triplets frame packet) ≤ triplets_of rate
+    → length (frame_triplets rate frame packet) ≡ triplets_of rate
+frame_number rate frame packet few =
     let many = (triplets_many rate).0 in
-    let joined : length (frame_triplets rate frame []) ≡ length (front_triplets frame []) + length (replicate (triplets_of rate - length (front_triplets frame [])) filler) =
-    length-append (front_triplets frame []) (replicate (triplets_of rate - length (front_triplets frame [])) filler) in
-    let fillers : length (replicate (triplets_of rate - length (front_triplets frame [])) filler) ≡ triplets_of rate - length (front_triplets frame []) =
-    length-replicate (triplets_of rate - length (front_triplets frame [])) filler in
-    omega arith
+    let joined : length (frame_triplets rate frame packet) ≡ length (front_triplets frame packet) + length (replicate (triplets_of rate - length (front_triplets frame packet)) filler) =
+    length-append (front_triplets frame packet) (replicate (triplets_of rate - length (front_triplets frame packet)) filler) in
+    let fillers : length (replicate (triplets_of rate - length (front_triplets frame packet)) filler) ≡ triplets_of rate - length (front_triplets frame packet) =
+    length-replicate (triplets_of rate - length (front_triplets frame packet)) filler in
+    omega (arith, joined, fillers, few, many)
 
 -- those of a frame with a pair in each field, where the rate has twenty
 pub twenty_are : (rate : Rate) (frame : FrameBytes) (one two : Pair) → triplets_of rate ≡ 20 → frame.one ≡ Some one → frame.two ≡ Some two
@@ -86,3 +95,73 @@ fill_more old number all low filled =
 -- no bytes are no sections
 pub no_sections : (bytes : List ℕ) → bytes ≡ [] → IsSectionList bytes
 no_sections bytes none = subst IsSectionList (sym none) (record { cut = []; are = tt; joined = refl })
+
+-- the triplets of a channel packet
+bytes_kinds : (bytes : List ℕ) → All IsKind (bytes_written bytes)
+bytes_kinds [] = All-nil IsKind
+bytes_kinds (a ∷ []) = All-cons IsKind (continuing a 0x00) [] (omega arith) (All-nil IsKind)
+bytes_kinds (a ∷ (b ∷ bytes)) = All-cons IsKind (continuing a b) (bytes_written bytes) (omega arith) (bytes_kinds bytes)
+
+pub packet_kinds : (count : ℕ) (blocks : List ℕ) → All IsKind (channel_packet count blocks)
+packet_kinds count [] = All-nil IsKind
+packet_kinds count (byte ∷ blocks) =
+    All-cons IsKind (starting (header_for (count % 4) (length (byte ∷ blocks))) byte) (bytes_written blocks) (omega arith) (bytes_kinds blocks)
+
+bytes_length : (bytes : List ℕ) → 2 * length (bytes_written bytes) ≤ length bytes + 1
+bytes_length [] = omega arith
+bytes_length (a ∷ []) = omega arith
+bytes_length (a ∷ (b ∷ bytes)) = let rest = bytes_length bytes in omega (arith, rest)
+
+pub packet_few : (count : ℕ) (blocks : List ℕ) → 2 * length (channel_packet count blocks) ≤ length blocks + 2
+packet_few count [] = omega arith
+packet_few count (byte ∷ blocks) = let rest = bytes_length blocks in omega (arith, rest)
+
+-- what is written of blocks, where there are some
+pub written_is : (count : ℕ) (blocks : List ℕ) → 1 ≤ length blocks → packet_written (count % 4) blocks ≡ channel_packet count blocks
+written_is count [] some = absurd (omega arith)
+written_is count (byte ∷ blocks) some = refl
+
+pub one_packet : (blocks : List ℕ) → 1 ≤ length blocks → packet_count blocks ≡ 1
+one_packet [] some = absurd (omega arith)
+one_packet (byte ∷ blocks) some = refl
+
+-- what has no triplets is a packet of no blocks
+pub none_packet : (count : ℕ) (blocks : List ℕ) → channel_packet count blocks ≡ [] → (packet_count blocks ≡ 0)
+none_packet count [] none = refl
+none_packet count (byte ∷ blocks) none = cc
+
+-- what is carried of a frame, by the carrier's rate and counter
+pub words_are : (rate : Rate) (number count : ℕ) (carrier : Carrier) (frame : FrameBytes) (own : Rate) (counter : ℕ) (packet : List Triplet) (words : List ℕ)
+    → IsAt rate number count carrier → own ≡ carrier.rate → counter ≡ carrier.counter → packet ≡ channel_packet count frame.blocks.items
+    → words ≡ carried_bytes own counter (frame_triplets own frame packet)
+    → words ≡ frame_bytes rate number frame (channel_packet count frame.blocks.items)
+words_are rate number count carrier frame own counter packet words at rate_is counter_is packet_is is =
+    is
+    ∙ ap (λ r. carried_bytes r counter (frame_triplets r frame packet)) (rate_is ∙ at.rate_is)
+    ∙ ap (λ n. carried_bytes rate n (frame_triplets rate frame packet)) (counter_is ∙ at.counter_is)
+    ∙ ap (λ p. carried_bytes rate (counter_of number) (frame_triplets rate frame p)) packet_is
+
+-- a vector of which it is said that it is empty
+pub none_of : (ts : List Triplet) → true ≡ (length ts == 0) → ts ≡ []
+none_of [] is = refl
+none_of (t ∷ ts) is = let none = eqb-true (length (t ∷ ts)) 0 (sym is) in absurd (omega (arith, none))
+
+bytes_many : (bytes : List ℕ) → length bytes ≤ 2 * length (bytes_written bytes)
+bytes_many [] = omega arith
+bytes_many (a ∷ []) = omega arith
+bytes_many (a ∷ (b ∷ bytes)) = let rest = bytes_many bytes in omega (arith, rest)
+
+pub packet_many : (count : ℕ) (blocks : List ℕ) → length blocks ≤ 2 * length (channel_packet count blocks)
+packet_many count [] = omega arith
+packet_many count (byte ∷ blocks) = let rest = bytes_many blocks in omega (arith, rest)
+
+-- columns without service blocks have room, and nothing that isn't a byte
+pub quiet_roomy : (rate : Rate) (columns : Columns) → ((frame : ℕ) → (columns frame).blocks.items ≡ []) → AreRoomy rate columns
+quiet_roomy rate columns none frame =
+    let few = front_few (columns frame) (channel_of columns frame) in
+    let quiet : length (channel_of columns frame) ≡ 0 = ap (λ blocks. length (channel_packet (packets_before columns frame) blocks)) (none frame) in
+    let many = (triplets_many rate).0 in
+    omega (arith, few, quiet, many)
+
+pub quiet_bytes : (columns : Columns) → ((frame : ℕ) → (columns frame).blocks.items ≡ []) → AreByteBlocks columns
+quiet_bytes columns none frame = subst (All (λ byte. byte < 256)) (sym (none frame)) (All-nil (λ byte. byte < 256))

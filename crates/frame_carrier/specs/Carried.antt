@@ -1,6 +1,8 @@
 -- What is carried of a programme's frames: their bytes are a words file of their packets, each frame has the triplets that
 -- its rate asks, with the pair of each field in which it has a slot, and a receiver gets just these pairs.
-use Rattle.std.specs.Prelude.{◌≡◌, ℕ, ◌<◌, ◌≤◌, Bool, true, [], length, take, All, IfSome, option_to_list}
+use Rattle.std.specs.Prelude.{◌≡◌, ℕ, ◌<◌, ◌≤◌, ◌&&◌, nat_le, Bool, List, length, take, All, IfSome, option_to_list}
+use Rattle.std.specs.List.{filter}
+use Rattle.cc_data.specs.declared.triplet.Triplet.{Triplet}
 use Rattle.cc_base.specs.Rate.{triplets_of}
 use Rattle.cc_base.specs.declared.rate.Rate.{Rate}
 use Rattle.line21_codes.specs.declared.pairs.Pair.{Pair}
@@ -10,7 +12,8 @@ use Rattle.words_files.specs.Frames.{IsFileOf}
 use Rattle.words_files.specs.Received.{field_pairs, received_pairs}
 use Rattle.frame_scheduler.specs.Columns.{Columns, first_pairs, pair_in}
 use Rattle.frame_scheduler.specs.declared.frames.FrameBytes.{FrameBytes}
-use Rattle.frame_carrier.specs.Carrying.{column_bytes, column_packets, frame_packet}
+use Rattle.frame_carrier.specs.Carrying.{channel_of, column_bytes, column_packets, frame_packet}
+use Rattle.frame_carrier.specs.FrameTriplets.{front_triplets}
 
 -- both of the pair are bytes
 pub record IsBytePair (pair : Pair) : Type 0 where
@@ -21,20 +24,33 @@ pub record IsBytePair (pair : Pair) : Type 0 where
 abbrev pub AreBytePairs : Columns → Type 0
 AreBytePairs columns = (second_field : Bool) (frame : ℕ) → IfSome (pair_in second_field (columns frame)) IsBytePair
 
+-- the pairs of a frame and its channel packet have as many triplets as the rate asks, at most
+abbrev pub AreRoomy : Rate → Columns → Type 0
+AreRoomy rate columns = (frame : ℕ) → length (front_triplets (columns frame) (channel_of columns frame)) ≤ triplets_of rate
+
+-- the service blocks of columns are bytes
+abbrev pub AreByteBlocks : Columns → Type 0
+AreByteBlocks columns = (frame : ℕ) → All (λ byte. byte < 256) (columns frame).blocks.items
+
+-- a triplet of a caption channel packet, which counts
+abbrev pub is_of_channel : Triplet → Bool
+is_of_channel t = t.valid && nat_le 2 t.kind
+
 -- a frame's packet has as many triplets as the rate asks; of those that count each field's have the pair that the frame has in
--- the field, and none has service bytes
-pub record IsWithinRoom (rate : Rate) (bytes : FrameBytes) (frame : Frame) : Type 0 where
+-- the field, and the others are those of the frame's channel packet
+pub record IsWithinRoom (rate : Rate) (bytes : FrameBytes) (packet : List Triplet) (frame : Frame) : Type 0 where
   pub number : length (packet_triplets frame) ≡ triplets_of rate
   pub pairs : (second_field : Bool) → field_pairs second_field (packet_triplets frame) ≡ option_to_list (pair_in second_field bytes)
-  pub no_service : All (λ t. t.valid ≡ true → t.kind < 2) (packet_triplets frame)
+  pub service : filter is_of_channel (packet_triplets frame) ≡ packet
 
 -- so many frames of columns are carried
 pub record AreCarried (rate : Rate) (columns : Columns) (n : ℕ) : Type 0 where
   pub file : IsFileOf (column_packets rate columns 0 n) (column_bytes rate columns 0 n)
-  pub room : (frame : ℕ) → IsWithinRoom rate (columns frame) (frame_packet rate frame (columns frame) [])
+  pub room : (frame : ℕ) → IsWithinRoom rate (columns frame) (channel_of columns frame) (frame_packet rate frame (columns frame) (channel_of columns frame))
   pub received : (second_field : Bool) (k : ℕ) → k ≤ n
       → received_pairs second_field (take k (column_packets rate columns 0 n)) ≡ first_pairs second_field columns k
 
 -- the frames of a programme are carried, at any rate
 abbrev pub FramesAreCarried : Type 0
-FramesAreCarried = (rate : Rate) (columns : Columns) (n : ℕ) → AreBytePairs columns → AreCarried rate columns n
+FramesAreCarried = (rate : Rate) (columns : Columns) (n : ℕ) → AreBytePairs columns → AreByteBlocks columns → AreRoomy rate columns
+    → AreCarried rate columns n

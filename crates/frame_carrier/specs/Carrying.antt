@@ -1,20 +1,18 @@
 -- How the frames of a programme are carried: the triplets of a frame in one cc_data section of a caption distribution packet
 -- (SMPTE ST 334-2) that says that captions are carried and active, with the frame's number as its counter; and that in an
 -- ancillary packet of captions (SMPTE ST 334-1).
-use Rattle.std.specs.Prelude.{◌≡◌, ℕ, zero, suc, ◌%◌, List, [], ◌∷◌, ◌++◌}
+use Rattle.std.specs.Prelude.{◌≡◌, ℕ, zero, suc, ◌+◌, ◌%◌, List, [], ◌∷◌, ◌++◌}
 use Rattle.cc_base.specs.declared.rate.Rate.{Rate}
 use Rattle.cc_data.specs.declared.triplet.Triplet.{Triplet}
 use Rattle.cdp_packets.specs.Packets.{Packet as Frame}
-use Rattle.cdp_packets.specs.Written.{cc_data_section, written_packet}
-use Rattle.anc_words.specs.Writing.{packet_bytes}
+use Rattle.cdp_packets.specs.Written.{cc_data_section}
+use Rattle.channel_packets.specs.Writers.{HasWritten}
+use Rattle.channel_packets.specs.Written.{packet_written}
 use Rattle.frame_scheduler.specs.Columns.{Columns}
 use Rattle.frame_scheduler.specs.declared.frames.FrameBytes.{FrameBytes}
+use Rattle.frame_carrier.specs.CarriedBytes.{caption_flags, carried_bytes}
 use Rattle.frame_carrier.specs.FrameTriplets.{frame_triplets}
 use Rattle.frame_carrier.specs.declared.carrier.Carrier.{Carrier}
-
--- the flags of a packet with cc_data and nothing else, of an active service: 0100 0011
-abbrev pub caption_flags : ℕ
-caption_flags = 0x43
 
 -- the counter of a frame's packet has 16 bits
 abbrev pub counter_of : ℕ → ℕ
@@ -29,28 +27,43 @@ frame_packet rate frame bytes packet = record {
   sections = cc_data_section (frame_triplets rate bytes packet) ∷ [];
 }
 
--- the bytes of the ancillary packet of a distribution packet with this counter and these triplets
-abbrev pub carried_bytes : Rate → ℕ → List Triplet → List ℕ
-carried_bytes rate counter triplets =
-    packet_bytes 0x61 0x01 (written_packet rate caption_flags counter (cc_data_section triplets))
-
 -- the bytes of the ancillary packet of a frame
 abbrev pub frame_bytes : Rate → ℕ → FrameBytes → List Triplet → List ℕ
 frame_bytes rate frame bytes packet = carried_bytes rate (counter_of frame) (frame_triplets rate bytes packet)
+
+-- the triplets of a frame's caption channel packet, behind so many packets; none where the frame has no service blocks
+abbrev pub channel_packet : ℕ → List ℕ → List Triplet
+channel_packet count [] = []
+channel_packet count (byte ∷ blocks) = packet_written (count % 4) (byte ∷ blocks)
+
+-- the number of packets of a frame
+abbrev pub packet_count : List ℕ → ℕ
+packet_count [] = 0
+packet_count (byte ∷ blocks) = 1
+
+-- and of the frames below one
+abbrev pub packets_before : Columns → ℕ → ℕ
+packets_before columns zero = 0
+packets_before columns (suc n) = packets_before columns n + packet_count (columns n).blocks.items
+
+-- the triplets of the channel packet of a frame of columns: packets are numbered in the order of their frames
+abbrev pub channel_of : Columns → ℕ → List Triplet
+channel_of columns frame = channel_packet (packets_before columns frame) (columns frame).blocks.items
 
 -- the distribution packets of so many frames of columns, from a frame on
 abbrev pub column_packets : Rate → Columns → ℕ → ℕ → List Frame
 column_packets rate columns frame zero = []
 column_packets rate columns frame (suc n) =
-    frame_packet rate frame (columns frame) [] ∷ column_packets rate columns (suc frame) n
+    frame_packet rate frame (columns frame) (channel_of columns frame) ∷ column_packets rate columns (suc frame) n
 
 -- the bytes of their ancillary packets
 abbrev pub column_bytes : Rate → Columns → ℕ → ℕ → List ℕ
 column_bytes rate columns frame zero = []
 column_bytes rate columns frame (suc n) =
-    frame_bytes rate frame (columns frame) [] ++ column_bytes rate columns (suc frame) n
+    frame_bytes rate frame (columns frame) (channel_of columns frame) ++ column_bytes rate columns (suc frame) n
 
--- the carrier is for this rate, and this frame is its next
-pub record IsAt (rate : Rate) (frame : ℕ) (carrier : Carrier) : Type 0 where
+-- the carrier is for this rate, this frame is its next, and it has carried so many channel packets
+pub record IsAt (rate : Rate) (frame count : ℕ) (carrier : Carrier) : Type 0 where
   pub rate_is : carrier.rate ≡ rate
   pub counter_is : carrier.counter ≡ counter_of frame
+  pub writer_is : HasWritten count carrier.writer

@@ -1,3 +1,4 @@
+pub mod CarriedBytes
 pub mod FrameTriplets
 pub mod Carrying
 pub mod Carried

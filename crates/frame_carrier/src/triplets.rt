@@ -1,4 +1,4 @@
-ghost use Rattle.std.specs.Prelude.{◌≡◌, ◌+◌, ◌-◌, ◌<◌, ◌≤◌, ◌++◌, [], ◌∷◌, Some, length, replicate};
+ghost use Rattle.std.specs.Prelude.{◌≡◌, All, ◌+◌, ◌-◌, ◌<◌, ◌≤◌, ◌++◌, [], ◌∷◌, Some, length, replicate};
 ghost use Rattle.cc_base.specs.Rate.{triplets_of};
 ghost use Rattle.frame_carrier.specs.FrameTriplets.{field_triplets, filler, frame_triplets, pair_triplet};
 
@@ -15,14 +15,24 @@ pub(crate) const FIELD_2: u8 = 1;
 
 const PACKET_DATA: u8 = 2;
 
-/// The triplets of a frame without service bytes: those of the fields in which it has a pair, and triplets that don't count up
-/// to the rate's number.
-pub(crate) fn frame_triplets(rate: Rate, frame: &FrameBytes) -> ArrayVec<Triplet, 31>
-    ensures { result.items ≡ frame_triplets rate frame.now [] }
+/// The triplets of a frame: those of the fields in which it has a pair, those of its channel packet, and triplets that don't
+/// count up to the rate's number.
+pub(crate) fn frame_triplets(
+    rate: Rate,
+    frame: &FrameBytes,
+    packet: &[Triplet],
+) -> ArrayVec<Triplet, 31>
+    requires few { length packet.now ≤ 29 }
+    requires kinds { All (λ t. t.kind < 4) packet.now }
+    ensures triplets { result.items ≡ frame_triplets rate frame.now packet.now }
+    ensures kinds { All (λ t. t.kind < 4) result.items }
 {
     let mut triplets = ArrayVec::new();
     push_pair(FIELD_1, frame.one, &mut triplets);
     push_pair(FIELD_2, frame.two, &mut triplets);
+    if triplets.try_extend_from_slice(packet).is_err() {
+        unreachable!();
+    }
     fill(rate.triplets(), &mut triplets);
     triplets
 }
@@ -39,8 +49,7 @@ fn push_pair(kind: u8, pair: Option<Pair>, triplets: &mut ArrayVec<Triplet, 31>)
 
 /// Appends triplets that don't count up to a number.
 fn fill(number: u8, triplets: &mut ArrayVec<Triplet, 31>)
-    requires number { number ≤ 31 }
-    requires room { length triplets.old.items ≤ number }
+    requires { number ≤ 31 }
     ensures { triplets.new.items ≡ triplets.old.items ++ replicate (number - length triplets.old.items) filler }
 {
     while triplets.len() < usize::from(number) {

@@ -1,5 +1,7 @@
 -- What the lanes of a list answer together.
-use Rattle.std.proofs.Common.{◌≡◌, ◌∙◌, ◌<◌, ℕ, suc, false, List, [], ◌∷◌, ap, sym, subst, refl, arith, inl, inr, min, Some, None, Option, Result, Ok, Err, IfOk, IfErr, All}
+use Rattle.std.proofs.Common.{◌≡◌, ◌∙◌, ◌<◌, ℕ, suc, false, List, [], ◌∷◌, ap, sym, subst, refl, arith, inl, inr, ◌⊎◌, Some, None, Option, Result, Ok, Err, IfOk, IfErr, All}
+use Rattle.std.specs.Prelude.{⊤}
+use Rattle.std.specs.Result.{result_err}
 use Rattle.std.specs.Option.{option_map}
 use Rattle.std.proofs.Math.Path.{fun_ext}
 use Rattle.std.proofs.lemmas.Bool.{cases_lt}
@@ -30,7 +32,12 @@ use Rattle.placements.specs.LaneRoom as room
 use Rattle.frame_scheduler.specs.LaneTimeline.{placed_timeline}
 use Rattle.placements.specs.Placing.{IsEarliest, IsPlaced}
 use Rattle.frame_scheduler.specs.SlotLists.{slot_cues}
-use Rattle.frame_scheduler.specs.Planned.{channel_pair, LaneHasRoom, IsFirstWithoutRoom, IsLanePlaced, IsListPlaced, LaneLacksRoom, Placement}
+use Rattle.frame_scheduler.specs.LaneSets.{IsFaultIn, IsField, IsFirstIn}
+use Rattle.frame_scheduler.specs.Planned.{captions_in, channel_pair, chunks_in, LaneHasRoom, IsFirstWithoutRoom, IsLanePlaced, IsListPlaced, LaneLacksRoom, Placement, service_lane_of, share_in}
+use Rattle.service_lanes.specs.ServiceChunks.{chunk_cue}
+use Rattle.service_lanes.specs.ServicePlan.{IsLaneFault}
+use Rattle.service_lanes.proofs.ChunkOrderLemmas.{chunks_in_order}
+use Rattle.frame_scheduler.proofs.LaneSetLemmas.{IsRoomy, fault_of_both, fault_of_p, fault_of_q}
 use Rattle.frame_scheduler.specs.Timeline.{slot}
 use Rattle.frame_scheduler.specs.declared.frames.FrameBytes.{FrameBytes}
 use Rattle.frame_scheduler.specs.declared.frames.Plan.{Plan}
@@ -70,21 +77,27 @@ no_pieces channel other number (cue ∷ cues) formed =
     rw here (no_pieces channel other (suc number) cues (All-tail IsCueFormed cue cues formed))
 
 -- units that have a placement up to each cue
-earliest_room : (channel : Chan) (l : Listing) (slots : List ℕ)
+pub earliest_room : (channel : Chan) (l : Listing) (slots : List ℕ)
     → IsPlaced (lane (channel_events channel (slot_cues l channel))) [] (channel_pieces channel (slot_cues l channel)) slots
     → (cue : ℕ) → LaneHasRoom l (Channel channel) cue
 earliest_room channel l slots placed cue =
     room_all piece_cue (lane (channel_events channel (slot_cues l channel))) (channel_pieces channel (slot_cues l channel))
     (channel_in_order channel (slot_cues l channel)) slots placed cue
 
+-- so do those of a service
+pub service_room : (service : ℕ) (l : Listing) (frames : List ℕ) → IsPlaced (service_lane_of l service) [] (chunks_in l service) frames
+    → (cue : ℕ) → LaneHasRoom l (Service service) cue
+service_room service l frames placed cue =
+    room_all chunk_cue (service_lane_of l service) (chunks_in l service) (chunks_in_order l.rate service l.cues) frames placed cue
+
 placed_room : (l : Listing) (placed : Placement) → IsListPlaced l placed → (on : Lane) (cue : ℕ) → LaneHasRoom l on cue
 placed_room l placed is (Channel channel) cue = earliest_room channel l (placed (Channel channel)) (is (Channel channel)).placed cue
-placed_room l placed is (Service service) cue = tt
+placed_room l placed is (Service service) cue = service_room service l (placed (Service service)) (is (Service service)).placed cue
 
 -- a lane doesn't lack the room that it has
 lacks_none : (l : Listing) (on : Lane) (cue : ℕ) → LaneLacksRoom l on cue → LaneHasRoom l on cue → ⊥
 lacks_none l (Channel channel) cue none room = none room.0 room.1
-lacks_none l (Service service) cue none room = none
+lacks_none l (Service service) cue none room = none room.0 room.1
 
 -- where all units of a list have a placement, no cue is without one
 pub placed_has_room : (l : Listing) (placed : Placement) (cue : ℕ) → IsListPlaced l placed → IsFirstWithoutRoom l cue → ⊥
@@ -107,68 +120,74 @@ one_placement l a b first second = fun_ext (λ on. same on (a on) (b on) (first 
   where
     same : (on : Lane) (fs gs : List ℕ) → IsLanePlaced l on fs → IsLanePlaced l on gs → fs ≡ gs
     same (Channel channel) fs gs one other = earliest_same (lane (channel_events channel (slot_cues l channel))) (channel_pieces channel (slot_cues l channel)) fs gs one other
-    same (Service service) fs gs one other = one ∙ sym other
+    same (Service service) fs gs one other = earliest_same (service_lane_of l service) (chunks_in l service) fs gs one other
 
--- the placement of the two that are authored
-abbrev pub placement : List ℕ → List ℕ → Placement
-placement one two (Channel Cc1) = one
-placement one two (Channel Cc2) = []
-placement one two (Channel Cc3) = two
-placement one two (Channel Cc4) = []
-placement one two (Service service) = []
+-- the placement of the two channels that are authored, and of services
+abbrev pub placement : List ℕ → List ℕ → (ℕ → List ℕ) → Placement
+placement one two frames (Channel Cc1) = one
+placement one two frames (Channel Cc2) = []
+placement one two frames (Channel Cc3) = two
+placement one two frames (Channel Cc4) = []
+placement one two frames (Service service) = frames service
+
+-- one lane alone
+abbrev pub IsOnly : Lane → Lane → Type 0
+IsOnly one on = on ≡ one
+
+-- any lane
+abbrev pub IsAny : Lane → Type 0
+IsAny on = ⊤
+
+-- the first cue without room on any lane is the first of all
+pub first_of_any : (l : Listing) (cue : ℕ) → IsFirstIn IsAny l cue → IsFirstWithoutRoom l cue
+first_of_any l cue first = record { none = (first.none.0, first.none.2); first = λ earlier below on. first.first earlier below on tt }
+
+-- the fault of one lane
+pub channel_fault : (l : Listing) (channel : Chan) (fault : PlanFault)
+    → LaneFault (channel_events channel (slot_cues l channel)) (channel_pieces channel (slot_cues l channel)) fault → IsFaultIn (IsOnly (Channel channel)) l fault
+channel_fault l channel (Memory error) is = tt
+channel_fault l channel (NoRoom cue) is = record {
+  none = (Channel channel, refl, is.none);
+  first = λ earlier below on same. subst (λ o. LaneHasRoom l o earlier) (sym same) (is.first earlier below);
+}
+
+pub service_fault : (l : Listing) (service : ℕ) (fault : PlanFault) → IsLaneFault (share_in l service) (captions_in l service) (chunks_in l service) fault
+    → IsFaultIn (IsOnly (Service service)) l fault
+service_fault l service (Memory error) is = tt
+service_fault l service (NoRoom cue) is = record {
+  none = (Service service, refl, is.none);
+  first = λ earlier below on same. subst (λ o. LaneHasRoom l o earlier) (sym same) (is.first earlier below);
+}
 
 module _ (l : Listing) (formed : IsFormed l) where
   -- a channel that isn't authored is placed, and has room
-  off_placed : (channel : Chan) → (IsAuthoredChannel channel → ⊥) → IsChannelPlaced channel (slot_cues l channel) []
+  pub off_placed : (channel : Chan) → (IsAuthoredChannel channel → ⊥) → IsChannelPlaced channel (slot_cues l channel) []
   off_placed channel other =
       subst (λ us. IsEarliest (lane (channel_events channel (slot_cues l channel))) us [])
       (sym (no_pieces channel other 1 (slot_cues l channel) (cues_formed_in_slots (cadence_of l.rate channel) l.cues formed.cues)))
       (earliest_none (lane (channel_events channel (slot_cues l channel))))
 
-  off_room : (channel : Chan) → (IsAuthoredChannel channel → ⊥) → (cue : ℕ) → LaneHasRoom l (Channel channel) cue
+  pub off_room : (channel : Chan) → (IsAuthoredChannel channel → ⊥) → IsRoomy l (Channel channel)
   off_room channel other cue = earliest_room channel l [] (off_placed channel other).placed cue
 
-  -- where the channels that are authored have room, every lane has
-  room_everywhere : (cue : ℕ) → LaneHasRoom l (Channel Cc1) cue → LaneHasRoom l (Channel Cc3) cue → (on : Lane) → LaneHasRoom l on cue
-  room_everywhere cue one two (Channel Cc1) = one
-  room_everywhere cue one two (Channel Cc2) = off_room Cc2 (λ a. a) cue
-  room_everywhere cue one two (Channel Cc3) = two
-  room_everywhere cue one two (Channel Cc4) = off_room Cc4 (λ a. a) cue
-  room_everywhere cue one two (Service service) = tt
+  -- a field's lane is that of CC1 or CC3, or has room
+  pub cover_fields : (on : Lane) → IsField on → IsOnly (Channel Cc1) on ⊎ (IsOnly (Channel Cc3) on ⊎ IsRoomy l on)
+  cover_fields (Channel Cc1) field = inl refl
+  cover_fields (Channel Cc2) field = inr (inr (off_room Cc2 (λ a. a)))
+  cover_fields (Channel Cc3) field = inr (inl refl)
+  cover_fields (Channel Cc4) field = inr (inr (off_room Cc4 (λ a. a)))
+  cover_fields (Service service) field = absurd field
 
-  pub placed_everywhere : (one two : List ℕ) → IsChannelPlaced Cc1 (slot_cues l Cc1) one → IsChannelPlaced Cc3 (slot_cues l Cc3) two → IsListPlaced l (placement one two)
-  placed_everywhere one two first second (Channel Cc1) = first
-  placed_everywhere one two first second (Channel Cc2) = off_placed Cc2 (λ a. a)
-  placed_everywhere one two first second (Channel Cc3) = second
-  placed_everywhere one two first second (Channel Cc4) = off_placed Cc4 (λ a. a)
-  placed_everywhere one two first second (Service service) = refl
+  pub in_fields : (channel : Chan) (on : Lane) → IsOnly (Channel channel) on → IsField on
+  in_fields channel on same = subst IsField (sym same) tt
 
-  abbrev Crowded : Chan → ℕ → Type 0
-  Crowded channel cue = room.IsFirstCrowded (lane (channel_events channel (slot_cues l channel))) piece_cue (channel_pieces channel (slot_cues l channel)) cue
-
-  -- CC1 lacks room first, or alone
-  pub one_without_room : (cue : ℕ) → Crowded Cc1 cue → ((earlier : ℕ) → earlier < cue → LaneHasRoom l (Channel Cc3) earlier) → IsFirstWithoutRoom l cue
-  one_without_room cue one two = record {
-    none = (Channel Cc1, one.none);
-    first = λ earlier below. room_everywhere earlier (one.first earlier below) (two earlier below);
-  }
-
-  -- CC3 does
-  pub two_without_room : (cue : ℕ) → ((earlier : ℕ) → earlier < cue → LaneHasRoom l (Channel Cc1) earlier) → Crowded Cc3 cue → IsFirstWithoutRoom l cue
-  two_without_room cue one two = record {
-    none = (Channel Cc3, two.none);
-    first = λ earlier below. room_everywhere earlier (one earlier below) (two.first earlier below);
-  }
-
-  -- both do
-  pub both_without_room : (a b : ℕ) → Crowded Cc1 a → Crowded Cc3 b → IsFirstWithoutRoom l (min a b)
-  both_without_room a b one two =
-      elim (cases_lt a b) [
-        | inl less ↦ let is : min a b ≡ a = omega arith in
-            subst (λ cue. IsFirstWithoutRoom l cue) (sym is) (one_without_room a one (λ earlier below. two.first earlier (omega arith)))
-        | inr most ↦ let is : min a b ≡ b = omega arith in
-            subst (λ cue. IsFirstWithoutRoom l cue) (sym is) (two_without_room b (λ earlier below. one.first earlier (omega arith)) two)
-      ]
+  pub placed_everywhere : (one two : List ℕ) (frames : ℕ → List ℕ) → IsChannelPlaced Cc1 (slot_cues l Cc1) one → IsChannelPlaced Cc3 (slot_cues l Cc3) two
+      → ((service : ℕ) → IsLanePlaced l (Service service) (frames service)) → IsListPlaced l (placement one two frames)
+  placed_everywhere one two frames first second all (Channel Cc1) = first
+  placed_everywhere one two frames first second all (Channel Cc2) = off_placed Cc2 (λ a. a)
+  placed_everywhere one two frames first second all (Channel Cc3) = second
+  placed_everywhere one two frames first second all (Channel Cc4) = off_placed Cc4 (λ a. a)
+  placed_everywhere one two frames first second all (Service service) = all service
 
   abbrev events : Chan → List Event
   events channel = channel_events channel (slot_cues l channel)
@@ -176,25 +195,29 @@ module _ (l : Listing) (formed : IsFormed l) where
   abbrev pieces : Chan → List Piece
   pieces channel = channel_pieces channel (slot_cues l channel)
 
-  -- the lane of CC1 isn't planned, that of CC3 isn't, or neither is
-  pub one_refused : (fault : PlanFault) (planned : Planned) → LaneFault (events Cc1) (pieces Cc1) fault → IsPlanOf (events Cc3) (pieces Cc3) planned → PlanAnswer l (Err fault)
-  one_refused (Memory error) planned one two = tt
-  one_refused (NoRoom cue) planned one two = one_without_room cue one (λ earlier below. earliest_room Cc3 l two.0.0 two.0.1.placed earlier)
+  -- a channel that is planned has room
+  pub planned_room : (channel : Chan) (planned : Planned) → IsPlanOf (events channel) (pieces channel) planned → (on : Lane) → IsOnly (Channel channel) on → IsRoomy l on
+  planned_room channel planned is on same = subst (IsRoomy l) (sym same) (λ cue. earliest_room channel l is.0.0 is.0.1.placed cue)
 
-  pub two_refused : (fault : PlanFault) (planned : Planned) → IsPlanOf (events Cc1) (pieces Cc1) planned → LaneFault (events Cc3) (pieces Cc3) fault → PlanAnswer l (Err fault)
-  two_refused (Memory error) planned one two = tt
-  two_refused (NoRoom cue) planned one two = two_without_room cue (λ earlier below. earliest_room Cc1 l one.0.0 one.0.1.placed earlier) two
+  pub one_refused : (fault : PlanFault) (planned : Planned) → LaneFault (events Cc1) (pieces Cc1) fault → IsPlanOf (events Cc3) (pieces Cc3) planned → IsFaultIn IsField l fault
+  one_refused fault planned one two =
+      fault_of_p l (IsOnly (Channel Cc1)) (IsOnly (Channel Cc3)) IsField cover_fields (in_fields Cc1) (in_fields Cc3) fault (channel_fault l Cc1 fault one)
+      (planned_room Cc3 planned two)
 
-  pub both_refused : (one two : PlanFault) → LaneFault (events Cc1) (pieces Cc1) one → LaneFault (events Cc3) (pieces Cc3) two → PlanAnswer l (Err (earlier_fault one two))
-  both_refused (NoRoom a) (NoRoom b) one two = both_without_room a b one two
-  both_refused (NoRoom a) (Memory error) one two = tt
-  both_refused (Memory error) fault one two = tt
+  pub two_refused : (fault : PlanFault) (planned : Planned) → IsPlanOf (events Cc1) (pieces Cc1) planned → LaneFault (events Cc3) (pieces Cc3) fault → IsFaultIn IsField l fault
+  two_refused fault planned one two =
+      fault_of_q l (IsOnly (Channel Cc1)) (IsOnly (Channel Cc3)) IsField cover_fields (in_fields Cc1) (in_fields Cc3) fault (channel_fault l Cc3 fault two)
+      (planned_room Cc1 planned one)
 
   -- what the lane of CC3 answers beside that of CC1, which isn't planned
-  pub refused_beside : (one : PlanFault) (two : Result Planned PlanFault) → LaneFault (events Cc1) (pieces Cc1) one
-      → IfOk two (IsPlanOf (events Cc3) (pieces Cc3)) → IfErr two (LaneFault (events Cc3) (pieces Cc3)) → PlanAnswer l (Err (fault_beside one two))
-  refused_beside one (Ok planned) first placed refused = one_refused one planned first placed
-  refused_beside one (Err two) first placed refused = both_refused one two first refused
+  pub refused_beside : (one : PlanFault) (two : Result Planned PlanFault) (other : Option PlanFault) → LaneFault (events Cc1) (pieces Cc1) one
+      → IfOk two (IsPlanOf (events Cc3) (pieces Cc3)) → IfErr two (LaneFault (events Cc3) (pieces Cc3)) → other ≡ result_err two
+      → IsFaultIn IsField l (fault_beside one other)
+  refused_beside one (Ok planned) other first placed refused is = subst (λ o. IsFaultIn IsField l (fault_beside one o)) (sym is) (one_refused one planned first placed)
+  refused_beside one (Err two) other first placed refused is =
+      subst (λ o. IsFaultIn IsField l (fault_beside one o)) (sym is)
+      (fault_of_both l (IsOnly (Channel Cc1)) (IsOnly (Channel Cc3)) IsField cover_fields (in_fields Cc1) (in_fields Cc3) one two (channel_fault l Cc1 one first)
+      (channel_fault l Cc3 two refused))
 
   -- a planned lane has its channel's pairs
   lane_gives : (channel : Chan) (planned : Planned) (is : IsPlanOf (events channel) (pieces channel) planned) (n : ℕ)
@@ -205,7 +228,7 @@ module _ (l : Listing) (formed : IsFormed l) where
       ∙ ap (λ (es : List Event). slot (placed_timeline es planned.units) n) (sym is.1)
 
   -- in each frame that has a slot
-  frame_gives : (channel : Chan) (planned : Planned) (is : IsPlanOf (events channel) (pieces channel) planned) (n : ℕ)
+  pub frame_gives : (channel : Chan) (planned : Planned) (is : IsPlanOf (events channel) (pieces channel) planned) (n : ℕ)
       → channel_pair l channel is.0.0 n ≡ lane_pair (cadence_of l.rate channel) planned n
   frame_gives channel planned is n = of_slot (slot_in (cadence_of l.rate channel) n)
     where
@@ -214,32 +237,7 @@ module _ (l : Listing) (formed : IsFormed l) where
       of_slot (Some k) = ap (λ (pair : Pair). Some pair) (lane_gives channel planned is k)
 
   -- a planned lane is at the first of all slots
-  at_first : (channel : Chan) (planned : Planned) → IsPlanOf (events channel) (pieces channel) planned
+  pub at_first : (channel : Chan) (planned : Planned) → IsPlanOf (events channel) (pieces channel) planned
       → planned.slot ≡ slot_from (cadence_of l.rate channel) 0
   at_first channel planned is = is.2 ∙ sym (slot_from_first (cadence_of l.rate channel))
 
-  -- what a frame carries, by its pairs
-  frame_same : (a b c d : Option Pair) → a ≡ b → c ≡ d
-      → ◌≡◌ {A = FrameBytes} (record { one = a; two = c; blocks = record { items = [] } }) (record { one = b; two = d; blocks = record { items = [] } })
-  frame_same a b c d one two = rw (one, two) refl
-
-  -- both lanes are planned
-  pub both_planned : (one two : Planned) (plan : Plan) → IsPlanOf (events Cc1) (pieces Cc1) one → IsPlanOf (events Cc3) (pieces Cc3) two
-      → plan.lanes ≡ one ∷ two ∷ [] → plan.rate ≡ l.rate → plan.frame ≡ 0 → plan.left ≡ l.frames → PlanAnswer l (Ok plan)
-  both_planned one two plan first second lanes rate frame left = (
-    placement first.0.0 second.0.0,
-    placed_everywhere first.0.0 second.0.0 first.0.1 second.0.1,
-    record {
-      one = one;
-      two = two;
-      lanes = lanes;
-      frame_is = frame;
-      one_at = at_first Cc1 one first ∙ ap (λ r. slot_from (cadence_of r Cc1) 0) (sym rate);
-      two_at = at_first Cc3 two second ∙ ap (λ r. slot_from (cadence_of r Cc3) 0) (sym rate);
-      column_is = λ n.
-          frame_same _ (lane_pair (cadence_of plan.rate Cc1) one n) _ (lane_pair (cadence_of plan.rate Cc3) two n)
-          (frame_gives Cc1 one first n ∙ ap (λ r. lane_pair (cadence_of r Cc1) one n) (sym rate))
-          (frame_gives Cc3 two second n ∙ ap (λ r. lane_pair (cadence_of r Cc3) two n) (sym rate));
-    },
-    left,
-  )

@@ -15,3 +15,7 @@ pub mod ChannelOrderLemmas
 pub mod EventsApartLemmas
 pub mod ListDoublingLemmas
 pub mod RoomDecided
+pub mod BlockLemmas
+pub mod LaneSetLemmas
+pub mod ServicesLemmas
+pub mod PlanLemmas

@@ -1,5 +1,5 @@
 -- The next frame of a plan.
-use Rattle.std.proofs.Common.{◌≡◌, ◌∙◌, ◌+◌, ◌-◌, ◌^◌, ◌<◌, ◌≤◌, ℕ, zero, suc, Bool, true, false, List, [], ◌∷◌, Option, Some, None, All, length, ap, refl, sym, subst, arith}
+use Rattle.std.proofs.Common.{◌≡◌, ◌∙◌, ◌+◌, ◌-◌, ◌^◌, ◌<◌, ◌≤◌, ℕ, zero, suc, Bool, true, false, List, [], ◌∷◌, Option, Some, None, All, length, map, ◌++◌, ap, refl, sym, subst, arith}
 use Rattle.std.specs.Prelude.{if◌then◌else◌, slice_get, slice_set}
 use Rattle.std.specs.Option.{option_map}
 use Rattle.std.proofs.lemmas.List.Elements.{All-cons, All-head, All-nil, All-tail}
@@ -9,6 +9,10 @@ use Rattle.line21_codes.specs.declared.pairs.Pair.{Pair}
 use Rattle.line21_slots.specs.Cadences.{cadence_of, has_slot_in, slot_from}
 use Rattle.line21_slots.specs.declared.cadence.Cadence.{Cadence}
 use Rattle.line21_slots.proofs.CadenceLemmas.{slot_more, slot_no_more}
+use Rattle.std.proofs.lemmas.List.Sums.{sum_by-cons}
+use Rattle.service_lanes.specs.ServicePlan.{PlannedService}
+use Rattle.frame_scheduler.specs.Blocks.{blocks_of, blocks_room, lane_block, moved_on, next_blocks}
+use Rattle.frame_scheduler.specs.ServicesLeft.{HasLeft, IsNumbered}
 use Rattle.frame_scheduler.specs.Columns.{Columns}
 use Rattle.frame_scheduler.specs.Frames.{GivesFrom}
 use Rattle.frame_scheduler.specs.LanePlan.{Planned, behind_frame, given_in, lane_pair, pair_at}
@@ -55,18 +59,68 @@ pub none_given : (c : Cadence) (f : ℕ) (lanes : List Planned) (index : ℕ) �
 none_given c f lanes index none lane is = rw none (refl, sym (set_own lanes index lane is))
 
 -- what a frame carries, by its parts
-frame_same : (a b c d : Option Pair) (blocks : ArrayVec ℕ) → a ≡ b → c ≡ d → blocks.items ≡ []
-    → ◌≡◌ {A = FrameBytes} (record { one = a; two = c; blocks = blocks }) (record { one = b; two = d; blocks = record { items = [] } })
-frame_same a b c d blocks one two none =
-    let empty : blocks ≡ record { items = [] } = ap (λ (items : List ℕ). record { items = items }) none in
-    rw (one, two, empty) refl
+frame_same : (a b c d : Option Pair) (blocks : ArrayVec ℕ) (items : List ℕ) → a ≡ b → c ≡ d → blocks.items ≡ items
+    → ◌≡◌ {A = FrameBytes} (record { one = a; two = c; blocks = blocks }) (record { one = b; two = d; blocks = record { items = items } })
+frame_same a b c d blocks items one two is =
+    let same : blocks ≡ record { items = items } = ap (λ (items : List ℕ). record { items = items }) is in
+    rw (one, two, same) refl
+
+-- the blocks that come next are those of the frame that all lanes are at
+next_at : (planned : List PlannedService) (frame : ℕ) → All (λ one. one.frame ≡ frame) planned → next_blocks planned ≡ blocks_of planned frame
+next_at [] frame at = refl
+next_at (one ∷ rest) frame at =
+    let here : one.frame ≡ frame = All-head (λ (p : PlannedService). p.frame ≡ frame) one rest at in
+    let more = next_at rest frame (All-tail (λ (p : PlannedService). p.frame ≡ frame) one rest at) in
+    ap (λ n. lane_block n one ++ next_blocks rest) here ∙ ap (λ l. lane_block frame one ++ l) more
+
+-- lanes that have moved on have the same blocks, and are at the next frame
+moved_blocks : (planned : List PlannedService) (frame : ℕ) → blocks_of (map moved_on planned) frame ≡ blocks_of planned frame
+moved_blocks [] frame = refl
+moved_blocks (one ∷ rest) frame = ap (λ l. lane_block frame one ++ l) (moved_blocks rest frame)
+
+moved_at : (planned : List PlannedService) (frame : ℕ) → All (λ one. one.frame ≡ frame) planned → All (λ one. one.frame ≡ frame + 1) (map moved_on planned)
+moved_at [] frame at = All-nil (λ (p : PlannedService). p.frame ≡ frame + 1)
+moved_at (one ∷ rest) frame at =
+    All-cons (λ (p : PlannedService). p.frame ≡ frame + 1) (moved_on one) (map moved_on rest)
+    (ap (λ n. n + 1) (All-head (λ (p : PlannedService). p.frame ≡ frame) one rest at))
+    (moved_at rest frame (All-tail (λ (p : PlannedService). p.frame ≡ frame) one rest at))
+
+-- what is kept of the lanes of services in a step
+pub moved_left : (planned : List PlannedService) (left : ℕ) → 1 ≤ left → All (HasLeft left) planned → All (HasLeft (left - 1)) (map moved_on planned)
+moved_left [] left some has = All-nil (HasLeft (left - 1))
+moved_left (one ∷ rest) left some has =
+    let here : left + one.frame < 2 ^ 32 = All-head (HasLeft left) one rest has in
+    let next : left - 1 + (one.frame + 1) < 2 ^ 32 = omega arith in
+    All-cons (HasLeft (left - 1)) (moved_on one) (map moved_on rest) next (moved_left rest left some (All-tail (HasLeft left) one rest has))
+
+pub moved_small : (planned : List PlannedService) (left : ℕ) → 1 ≤ left → All (HasLeft left) planned → All (λ one. one.frame + 1 < 2 ^ 32) planned
+moved_small [] left some has = All-nil (λ (p : PlannedService). p.frame + 1 < 2 ^ 32)
+moved_small (one ∷ rest) left some has =
+    let here : left + one.frame < 2 ^ 32 = All-head (HasLeft left) one rest has in
+    All-cons (λ (p : PlannedService). p.frame + 1 < 2 ^ 32) one rest (omega arith) (moved_small rest left some (All-tail (HasLeft left) one rest has))
+
+pub moved_numbered : (planned : List PlannedService) → All IsNumbered planned → All IsNumbered (map moved_on planned)
+moved_numbered [] all = All-nil IsNumbered
+moved_numbered (one ∷ rest) all =
+    let here = All-head IsNumbered one rest all in
+    All-cons IsNumbered (moved_on one) (map moved_on rest) (record { least = here.least; most = here.most })
+    (moved_numbered rest (All-tail IsNumbered one rest all))
+
+pub moved_room : (planned : List PlannedService) → blocks_room (map moved_on planned) ≡ blocks_room planned
+moved_room [] = refl
+moved_room (one ∷ rest) =
+    let more = moved_room rest in
+    let left = sum_by-cons (λ (p : PlannedService). p.share + 1) (moved_on one) (map moved_on rest) in
+    let right = sum_by-cons (λ (p : PlannedService). p.share + 1) one rest in
+    omega (arith, more, left, right)
 
 pub next_frame : (columns : Columns) (frame : ℕ) (old new : Plan) (a b : Option Pair) (mid : List Planned) (blocks : ArrayVec ℕ) (c d : Cadence)
     → c ≡ cadence_of old.rate Cc1 → d ≡ cadence_of old.rate Cc3 → GivesFrom columns frame old
     → Steps c old.frame old.lanes 0 a mid → Steps d old.frame mid 1 b new.lanes
-    → new.rate ≡ old.rate → new.frame ≡ old.frame + 1 → blocks.items ≡ []
+    → new.rate ≡ old.rate → new.frame ≡ old.frame + 1 → blocks.items ≡ next_blocks old.services.items
+    → new.services.items ≡ map moved_on old.services.items
     → (◌≡◌ {A = FrameBytes} (record { one = a; two = b; blocks = blocks }) (columns frame)) × GivesFrom columns (frame + 1) new
-next_frame columns frame old new a b mid blocks c d c_is d_is gives on_first on_second rate on none =
+next_frame columns frame old new a b mid blocks c d c_is d_is gives on_first on_second rate on blocks_are services_are =
     let first : Steps (cadence_of old.rate Cc1) old.frame old.lanes 0 a mid = subst (λ k. Steps k old.frame old.lanes 0 a mid) c_is on_first in
     let second : Steps (cadence_of old.rate Cc3) old.frame mid 1 b new.lanes = subst (λ k. Steps k old.frame mid 1 b new.lanes) d_is on_second in
     let one = first gives.one (ap (λ lanes. slice_get lanes 0) gives.lanes) in
@@ -77,9 +131,10 @@ next_frame columns frame old new a b mid blocks c d c_is d_is gives on_first on_
     two.1 ∙ ap (λ lanes. slice_set lanes 1 (behind_frame (cadence_of old.rate Cc3) old.frame gives.two)) mid_is in
     let one_at : gives.one.slot ≡ slot_from (cadence_of old.rate Cc1) old.frame = gives.one_at ∙ ap (slot_from (cadence_of old.rate Cc1)) (sym gives.frame_is) in
     let two_at : gives.two.slot ≡ slot_from (cadence_of old.rate Cc3) old.frame = gives.two_at ∙ ap (slot_from (cadence_of old.rate Cc3)) (sym gives.frame_is) in (
-      frame_same a (lane_pair (cadence_of old.rate Cc1) gives.one old.frame) b (lane_pair (cadence_of old.rate Cc3) gives.two old.frame) blocks
+      frame_same a (lane_pair (cadence_of old.rate Cc1) gives.one old.frame) b (lane_pair (cadence_of old.rate Cc3) gives.two old.frame) blocks (blocks_of old.services.items old.frame)
           (one.0 ∙ given_is (cadence_of old.rate Cc1) gives.one old.frame one_at)
-          (two.0 ∙ given_is (cadence_of old.rate Cc3) gives.two old.frame two_at) none
+          (two.0 ∙ given_is (cadence_of old.rate Cc3) gives.two old.frame two_at)
+          (blocks_are ∙ next_at old.services.items old.frame (subst (λ n. All (λ (p : PlannedService). p.frame ≡ n) old.services.items) (sym gives.frame_is) gives.services_at))
           ∙ sym (gives.column_is old.frame) ∙ ap columns gives.frame_is,
       record {
         one = behind_frame (cadence_of old.rate Cc1) old.frame gives.one;
@@ -90,11 +145,20 @@ next_frame columns frame old new a b mid blocks c d c_is d_is gives on_first on_
             ∙ ap (λ r. slot_from (cadence_of r Cc1) (frame + 1)) (sym rate);
         two_at = behind_at (cadence_of old.rate Cc3) gives.two old.frame two_at ∙ ap (λ n. slot_from (cadence_of old.rate Cc3) (n + 1)) gives.frame_is
             ∙ ap (λ r. slot_from (cadence_of r Cc3) (frame + 1)) (sym rate);
-        column_is = λ n. subst (λ r. columns n ≡ record {
-          one = lane_pair (cadence_of r Cc1) gives.one n;
-          two = lane_pair (cadence_of r Cc3) gives.two n;
-          blocks = record { items = [] };
-        }) (sym rate) (gives.column_is n);
+        services_at = subst (All (λ (p : PlannedService). p.frame ≡ frame + 1)) (sym services_are) (moved_at old.services.items frame gives.services_at);
+        column_is = λ n.
+            let same : blocks_of old.services.items n ≡ blocks_of new.services.items n =
+            sym (moved_blocks old.services.items n) ∙ ap (λ l. blocks_of l n) (sym services_are) in
+            subst (λ items. columns n ≡ record {
+              one = lane_pair (cadence_of new.rate Cc1) gives.one n;
+              two = lane_pair (cadence_of new.rate Cc3) gives.two n;
+              blocks = record { items = items };
+            }) same
+            (subst (λ r. columns n ≡ record {
+              one = lane_pair (cadence_of r Cc1) gives.one n;
+              two = lane_pair (cadence_of r Cc3) gives.two n;
+              blocks = record { items = blocks_of old.services.items n };
+            }) (sym rate) (gives.column_is n));
       },
     )
 

@@ -61,7 +61,7 @@ earlier_fault (NoRoom one) (NoRoom two) = NoRoom (min one two)
 earlier_fault (NoRoom one) (Memory error) = Memory error
 earlier_fault (Memory error) two = Memory error
 
--- the fault of one lane, beside what another answers
-abbrev pub fault_beside : PlanFault → Result Planned PlanFault → PlanFault
-fault_beside one (Ok planned) = one
-fault_beside one (Err two) = earlier_fault one two
+-- the fault of one lane, beside that of another, if it has one
+abbrev pub fault_beside : PlanFault → Option PlanFault → PlanFault
+fault_beside one None = one
+fault_beside one (Some two) = earlier_fault one two

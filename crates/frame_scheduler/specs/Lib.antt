@@ -15,3 +15,7 @@ pub mod Columns
 pub mod EventsApart
 pub mod Frames
 pub mod Planned
+pub mod Blocks
+pub mod ServicesLeft
+pub mod LaneSets
+pub mod ServicePlans

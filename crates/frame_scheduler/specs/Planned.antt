@@ -1,29 +1,53 @@
 -- A cue list that is placed: the units of each lane in their earliest placement, and the frames that this gives.
-use Rattle.std.specs.Prelude.{◌≡◌, ℕ, ◌<◌, Bool, true, false, List, [], Option, ⊤}
+use Rattle.std.specs.Prelude.{ℕ, ◌<◌, Bool, true, false, List, [], ◌∷◌, Option, unwrap_or}
+use Rattle.std.specs.List.{flat_map, zip}
 use Rattle.std.specs.Option.{option_map}
 use Rattle.line21_codes.specs.declared.channels.Chan.{Chan}
 use Rattle.line21_codes.specs.declared.channels.Chan.TheVariants.{Cc1, Cc3}
 use Rattle.line21_codes.specs.declared.pairs.Pair.{Pair}
-use Rattle.cue_lists.specs.Listing.{Listing}
+use Rattle.cue_lists.specs.Listing.{Listing, share_of}
 use Rattle.cue_lists.specs.declared.lane.Lane.{Lane}
 use Rattle.cue_lists.specs.declared.lane.Lane.TheVariants.{Channel, Service}
 use Rattle.line21_slots.specs.Cadences.{cadence_of, slot_in}
 use Rattle.line21_author.specs.CueEvents.{channel_events}
+use Rattle.dtvcc_author.specs.Captions.{captions_of}
+use Rattle.dtvcc_author.specs.declared.caption.Caption.{Caption}
 use Rattle.frame_scheduler.specs.ChannelLane.{IsChannelPlaced, channel_pieces, channel_slot}
 use Rattle.frame_scheduler.specs.Columns.{Columns}
 use Rattle.frame_scheduler.specs.FieldLane.{lane}
 use Rattle.frame_scheduler.specs.LanePlan.{piece_cue}
 use Rattle.placements.specs.LaneRoom as room
+use Rattle.placements.specs.Placing.{IsEarliest}
+use Rattle.service_lanes.specs.ServiceBytes.{bytes_in}
+use Rattle.service_lanes.specs.ServiceChunks.{chunk_cue, service_chunks}
+use Rattle.service_lanes.specs.ServiceRoom.{caption_lane}
+use Rattle.service_lanes.specs.declared.chunk.Chunk.{Chunk}
+use Rattle.frame_scheduler.specs.Blocks.{service_block}
 use Rattle.frame_scheduler.specs.SlotLists.{slot_cues}
 
--- the slots in which the units of each lane begin
+-- the slots in which the units of each channel begin, and the frames in which those of each service stand
 abbrev pub Placement : Type 0
 Placement = Lane → List ℕ
 
--- the units of a lane begin in these slots, in their earliest placement; those of caption windows aren't authored
+-- the bytes of each frame that a service may use; none where the list has no share of it
+abbrev pub share_in : Listing → ℕ → ℕ
+share_in list service = unwrap_or (share_of list service) 0
+
+-- the captions of a service, and its units
+abbrev pub captions_in : Listing → ℕ → List Caption
+captions_in list service = captions_of list.rate service list.cues
+
+abbrev pub chunks_in : Listing → ℕ → List Chunk
+chunks_in list service = service_chunks list.rate service list.cues
+
+-- what the lane of a service allows
+abbrev pub service_lane_of : Listing → ℕ → List (Chunk × ℕ) → Chunk → ℕ → Type 0
+service_lane_of list service = caption_lane (share_in list service) (captions_in list service)
+
+-- the units of a lane begin in these slots or stand in these frames, in their earliest placement
 abbrev pub IsLanePlaced : Listing → Lane → List ℕ → Type 0
 IsLanePlaced list (Channel channel) slots = IsChannelPlaced channel (slot_cues list channel) slots
-IsLanePlaced list (Service service) slots = slots ≡ []
+IsLanePlaced list (Service service) frames = IsEarliest (service_lane_of list service) (chunks_in list service) frames
 
 -- so do those of each lane of a list
 abbrev pub IsListPlaced : Listing → Placement → Type 0
@@ -33,13 +57,13 @@ IsListPlaced list placed = (on : Lane) → IsLanePlaced list on (placed on)
 abbrev pub LaneLacksRoom : Listing → Lane → ℕ → Type 0
 LaneLacksRoom list (Channel channel) cue =
     room.HasNoRoom (lane (channel_events channel (slot_cues list channel))) piece_cue (channel_pieces channel (slot_cues list channel)) cue
-LaneLacksRoom list (Service service) cue = ⊥
+LaneLacksRoom list (Service service) cue = room.HasNoRoom (service_lane_of list service) chunk_cue (chunks_in list service) cue
 
 -- the units of a lane up to the cue of this number have a placement
 abbrev pub LaneHasRoom : Listing → Lane → ℕ → Type 0
 LaneHasRoom list (Channel channel) cue =
     room.HasRoom (lane (channel_events channel (slot_cues list channel))) piece_cue (channel_pieces channel (slot_cues list channel)) cue
-LaneHasRoom list (Service service) cue = ⊤
+LaneHasRoom list (Service service) cue = room.HasRoom (service_lane_of list service) chunk_cue (chunks_in list service) cue
 
 -- the cue of this number is the first without a placement: its lane's units up to it have none, and up to each earlier cue
 -- those of every lane have one
@@ -57,10 +81,23 @@ abbrev pub channel_pair : Listing → Chan → List ℕ → ℕ → Option Pair
 channel_pair list channel slots frame =
     option_map (channel_slot channel (slot_cues list channel) slots) (slot_in (cadence_of list.rate channel) frame)
 
--- what each frame of a placed list carries: the pair of each field in which it has a slot, and no service blocks
+-- the bytes that a service is sent in a frame, where its units stand in these frames
+abbrev pub service_bytes : Listing → ℕ → List ℕ → ℕ → List ℕ
+service_bytes list service frames frame = bytes_in (captions_in list service) (zip (chunks_in list service) frames) frame
+
+-- the services that a list may have shares of
+abbrev pub services : List ℕ
+services = 1 ∷ 2 ∷ 3 ∷ 4 ∷ 5 ∷ 6 ∷ []
+
+-- the service blocks of a frame, in ascending order of service: one for each service that is sent something
+abbrev pub frame_blocks : Listing → Placement → ℕ → List ℕ
+frame_blocks list placed frame =
+    flat_map (λ service. service_block service (service_bytes list service (placed (Service service)) frame)) services
+
+-- what each frame of a placed list carries: the pair of each field in which it has a slot, and its service blocks
 abbrev pub columns_of : Listing → Placement → Columns
 columns_of list placed frame = record {
   one = channel_pair list Cc1 (placed (Channel Cc1)) frame;
   two = channel_pair list Cc3 (placed (Channel Cc3)) frame;
-  blocks = record { items = [] };
+  blocks = record { items = frame_blocks list placed frame };
 }

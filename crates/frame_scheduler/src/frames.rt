@@ -1,11 +1,15 @@
-ghost use Rattle.std.specs.Prelude.{◌≡◌, ◌+◌, ◌^◌, ◌<◌, ℕ, All, IfSome, MatchOption, Some, [], ◌∷◌, slice_get, slice_set};
+ghost use Rattle.std.specs.Prelude.{◌≡◌, ◌+◌, ◌^◌, ◌<◌, ◌≤◌, ℕ, All, IfSome, MatchOption, Some, [], ◌∷◌, slice_get, slice_set};
+ghost use Rattle.frame_scheduler.specs.Blocks.{blocks_room};
+ghost use Rattle.frame_scheduler.specs.ServicesLeft.{HasLeft, IsNumbered};
 ghost use Rattle.frame_scheduler.specs.LanePlan.{Planned, behind_frame, given_in};
 
+use crate::blocks::next_blocks;
 use crate::lane::placed::PlacedLane;
 use arrayvec::ArrayVec;
 use cc_base::Rate;
 use line21_codes::{Chan, Pair};
 use line21_slots::Cadence;
+use service_lanes::PlacedService;
 
 #[cfg(test)]
 mod tests;
@@ -17,7 +21,7 @@ pub struct FrameBytes {
     pub one: Option<Pair>,
     /// The pair of CC3 in field 2; None where the frame has no slot of field 2.
     pub two: Option<Pair>,
-    /// The service blocks of the frame's caption channel packet (CTA-708-E); no services are authored.
+    /// The service blocks of the frame's caption channel packet, in ascending order of service (CTA-708-E).
     pub blocks: ArrayVec<u8, 35>,
 }
 
@@ -25,28 +29,43 @@ pub struct FrameBytes {
 #[derive(Drop)]
 pub struct Plan {
     lanes: [PlacedLane; 2],
+    services: Vec<PlacedService>,
     rate: Rate,
     frame: u32,
     left: u32,
     ghost counted: { frame + left < 2 ^ 32 },
     ghost within: { All (λ lane. left + lane.slot < 2 ^ 32) lanes },
+    ghost services_within: { All (HasLeft left) services.items },
+    ghost numbered: { All IsNumbered services.items },
+    ghost room: { blocks_room services.items ≤ 35 },
 }
 
 impl Plan {
     ghost use Rattle.frame_scheduler.specs.Columns.{Columns};
     ghost use Rattle.frame_scheduler.specs.Frames.{GivesFrom, frames_left};
 
-    /// A plan of the lanes of field 1 and field 2, of so many frames at a rate.
-    pub(crate) fn new(one: PlacedLane, two: PlacedLane, rate: Rate, frames: u32) -> Plan
+    /// A plan of the lanes of field 1 and field 2 and of those of services, of so many frames at a rate.
+    pub(crate) fn new(
+        one: PlacedLane,
+        two: PlacedLane,
+        services: Vec<PlacedService>,
+        rate: Rate,
+        frames: u32,
+    ) -> Plan
         requires at_one { one.slot ≡ 0 }
         requires at_two { two.slot ≡ 0 }
+        requires at_first { All (λ planned. planned.frame ≡ 0) services.items }
+        requires numbered { All IsNumbered services.items }
+        requires room { blocks_room services.items ≤ 35 }
         ensures lanes { result.lanes ≡ one ∷ two ∷ [] }
+        ensures services { result.services.items ≡ services.items }
         ensures rate { result.rate ≡ rate }
         ensures frame { result.frame ≡ 0 }
         ensures left { result.left ≡ frames }
     {
         Plan {
             lanes: [one, two],
+            services,
             rate,
             frame: 0,
             left: frames,
@@ -58,7 +77,6 @@ impl Plan {
         ensures left { MatchOption result (frames_left self.old ≡ 0) (λ _. frames_left self.new + 1 ≡ frames_left self.old) }
         ensures gives { (columns : Columns) (frame : ℕ) → GivesFrom columns frame self.old
             → IfSome result (λ bytes. (bytes ≡ columns frame) × GivesFrom columns (frame + 1) self.new) }
-        ensures no_blocks { IfSome result (λ bytes. bytes.blocks.items ≡ []) }
     {
         if self.left == 0 {
             return None;
@@ -71,7 +89,7 @@ impl Plan {
         Some(FrameBytes {
             one: next_pair(&mut self.lanes, 0, one, frame),
             two: next_pair(&mut self.lanes, 1, two, frame),
-            blocks: ArrayVec::new(),
+            blocks: next_blocks(&mut self.services),
         })
     }
 }

@@ -1,62 +1,146 @@
-ghost use Rattle.std.specs.Prelude.{◌≡◌, ◌≤◌, All, Err, IfErr, IfOk, length};
-ghost use Rattle.line21_codes.specs.declared.channels.Chan.TheVariants.{Cc1};
+ghost use Rattle.std.specs.Prelude.{◌≡◌, ℕ, ◌≤◌, All, IfErr, IfOk, length};
 ghost use Rattle.cue_lists.specs.Cues.{IsCueFormed};
+ghost use Rattle.cue_lists.specs.Listing.{IsFormed};
 ghost use Rattle.cue_lists.specs.Rules.{IsRuled};
+ghost use Rattle.dtvcc_author.specs.Captions.{captions_of};
+ghost use Rattle.dtvcc_author.specs.Kept.{AreKept};
+ghost use Rattle.service_lanes.specs.ServiceChunks.{service_chunks};
+ghost use Rattle.service_lanes.specs.ServicePlan.{IsLaneFault, IsPlanOf as IsServicePlan};
 ghost use Rattle.line21_slots.specs.Cadences.{cadence_of};
 ghost use Rattle.line21_author.specs.CueSlots.{cues_in_slots};
 ghost use Rattle.line21_author.specs.CueEvents.{channel_events};
 ghost use Rattle.line21_author.specs.EventOrder.{AreApart};
 ghost use Rattle.frame_scheduler.specs.ChannelLane.{channel_pieces};
-ghost use Rattle.frame_scheduler.specs.Frames.{PlanAnswer};
+ghost use Rattle.frame_scheduler.specs.Frames.{AreFieldsPlanned, PlanAnswer};
 ghost use Rattle.frame_scheduler.specs.LanePlan.{IsPlanOf, LaneFault, earlier_fault, fault_beside};
-ghost use Rattle.frame_scheduler.specs.SlotLists.{slot_cues};
+ghost use Rattle.frame_scheduler.specs.LaneSets.{IsFaultIn, IsField};
+ghost use Rattle.frame_scheduler.specs.ServicePlans.{AreServices, IsBeside};
 
 use crate::channel::pieces;
 use crate::frames::Plan;
 use crate::lane::placed::{FieldLane, PlacedLane};
-use placements::PlanFault;
 use cc_base::Rate;
 use cue_lists::{Cue, CueList};
+use dtvcc_author::captions;
 use line21_author::events;
 use line21_codes::Chan;
 use line21_slots::Cadence;
+use placements::PlanFault;
+use service_lanes::{PlacedService, ServiceLane, chunks};
 use std::alloc::Global;
 
-/// Places the units of a cue list that keeps the rules: each in the first slot that its cue, the units before it in its
+/// The last service that a list may have a share of.
+const LAST_SERVICE: u8 = 6;
+
+/// Places the units of a cue list that keeps the rules: each in the first slot or frame that its cue, the units before it in its
 /// lane and the lane's events allow. NoRoom has the first cue whose units, with those of its lane before it, have no
 /// placement at all.
 pub fn plan(alloc: Global, list: &CueList) -> Result<Plan, PlanFault>
     requires { IsRuled list.now }
     ensures { PlanAnswer list.now result }
 {
-    let cues = list.cues();
-    let rate = list.rate();
-    match placed_channel(alloc, cues, Chan::Cc1, rate) {
-        Ok(one) => match placed_channel(alloc, cues, Chan::Cc3, rate) {
-            Ok(two) => Ok(Plan::new(one, two, rate, list.frames())),
+    let services = placed_services(alloc, list);
+    match placed_fields(alloc, list) {
+        Ok((one, two)) => match services {
+            Ok(services) => Ok(Plan::new(one, two, services, list.rate(), list.frames())),
             Err(fault) => Err(fault),
         },
-        Err(one) => Err(first_fault(alloc, list, one)),
+        Err(fault) => Err(fault_beside(fault, services.err())),
     }
 }
 
-/// The fault of a list, where this is that of CC1.
-fn first_fault(alloc: Global, list: &CueList, one: PlanFault) -> PlanFault
-    requires ruled { IsRuled list.now }
-    requires one { LaneFault (channel_events Cc1 (slot_cues list.now Cc1)) (channel_pieces Cc1 (slot_cues list.now Cc1)) one }
-    ensures { PlanAnswer list.now (Err result) }
+/// Places the units of both fields.
+fn placed_fields(alloc: Global, list: &CueList) -> Result<(PlacedLane, PlacedLane), PlanFault>
+    requires { IsRuled list.now }
+    ensures placed { IfOk result (λ fields. AreFieldsPlanned list.now fields.0 fields.1) }
+    ensures fault { IfErr result (IsFaultIn IsField list.now) }
 {
+    let one = placed_channel(alloc, list.cues(), Chan::Cc1, list.rate());
     let two = placed_channel(alloc, list.cues(), Chan::Cc3, list.rate());
-    fault_beside(one, two)
+    match one {
+        Ok(one) => match two {
+            Ok(two) => Ok((one, two)),
+            Err(fault) => Err(fault),
+        },
+        Err(fault) => Err(fault_beside(fault, two.err())),
+    }
 }
 
-/// The fault of one lane, beside what another answers.
-fn fault_beside(one: PlanFault, two: Result<PlacedLane, PlanFault>) -> PlanFault
+/// Places the units of each service of which the list has a share.
+fn placed_services(alloc: Global, list: &CueList) -> Result<Vec<PlacedService>, PlanFault>
+    requires { IsRuled list.now }
+    ensures services { AreServices list.now 7 result }
+    ensures formed { IsFormed list.now }
+{
+    let cues = list.cues();
+    let rate = list.rate();
+    let mut services = Ok(Vec::new(alloc));
+    for service in 1..=LAST_SERVICE {
+        if let Some(share) = list.share(service) {
+            services = beside(services, placed_service(alloc, rate, cues, service, share));
+        }
+    }
+    services
+}
+
+/// Places the units of the cues of a service that has this share of each frame, at a rate.
+fn placed_service(
+    alloc: Global,
+    rate: Rate,
+    cues: &[Cue],
+    service: u8,
+    share: u8,
+) -> Result<PlacedService, PlanFault>
+    requires formed { All IsCueFormed cues.now }
+    requires few { length cues.now ≤ 20000 }
+    requires kept { (frames : ℕ) × AreKept rate frames (captions_of rate service cues.now) }
+    requires least { 8 ≤ share }
+    requires most { share ≤ 31 }
+    ensures placed { IfOk result (IsServicePlan service share (captions_of rate service cues.now) (service_chunks rate service cues.now)) }
+    ensures fault { IfErr result (IsLaneFault share (captions_of rate service cues.now) (service_chunks rate service cues.now)) }
+{
+    let captions = match captions(alloc, rate, cues, service) {
+        Ok(captions) => captions,
+        Err(error) => return Err(PlanFault::Memory(error)),
+    };
+    let chunks = match chunks(alloc, rate, cues, service) {
+        Ok(chunks) => chunks,
+        Err(error) => return Err(PlanFault::Memory(error)),
+    };
+    let lane = ServiceLane {
+        service,
+        share,
+        captions,
+        chunks,
+    };
+    lane.place(alloc)
+}
+
+/// One more lane beside others: all of them, or the fault of the earlier cue.
+fn beside(
+    services: Result<Vec<PlacedService>, PlanFault>,
+    other: Result<PlacedService, PlanFault>,
+) -> Result<Vec<PlacedService>, PlanFault>
+    ensures { IsBeside services other result }
+{
+    match services {
+        Ok(mut services) => {
+            if let Err(error) = services.push(other?) {
+                return Err(PlanFault::Memory(error.into()));
+            }
+            Ok(services)
+        }
+        Err(fault) => Err(fault_beside(fault, other.err())),
+    }
+}
+
+/// The fault of one lane, beside that of another, if it has one.
+fn fault_beside(one: PlanFault, two: Option<PlanFault>) -> PlanFault
     ensures { result ≡ fault_beside one two }
 {
     match two {
-        Ok(_) => one,
-        Err(two) => earlier_fault(one, two),
+        Some(two) => earlier_fault(one, two),
+        None => one,
     }
 }
 

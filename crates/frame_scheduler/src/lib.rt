@@ -6,6 +6,7 @@ pub use crate::frames::{FrameBytes, Plan};
 pub use crate::lanes::plan;
 pub use placements::PlanFault;
 
+mod blocks;
 mod channel;
 mod frames;
 pub mod lane;

@@ -10,8 +10,9 @@ use Rattle.cc_base.proofs.Puts.{puts_front, puts_more}
 use Rattle.line21_codes.specs.declared.pairs.Pair.{Pair}
 use Rattle.frame_scheduler.specs.declared.frames.FrameBytes.{FrameBytes}
 use Rattle.frame_carrier.proofs.CarriedLemmas.{frames_carried}
+use Rattle.frame_carrier.proofs.CarryingLemmas.{quiet_bytes, quiet_roomy}
 use Rattle.frame_carrier.specs.Carried.{AreBytePairs, IsBytePair}
-use Rattle.frame_carrier.specs.Carrying.{IsAt, column_bytes, frame_bytes}
+use Rattle.frame_carrier.specs.Carrying.{IsAt, channel_packet, column_bytes, frame_bytes, packet_count}
 use Rattle.frame_carrier.specs.declared.carrier.Carrier.{Carrier}
 use Rattle.scc_files.specs.Reading.{frames_of, frames_to}
 use Rattle.scc_files.proofs.Rising.{file_bytes, file_rises}
@@ -82,7 +83,7 @@ frames_behind (placed ∷ pairs) n last = frames_behind pairs (placed.0 + 1) las
 
 -- the words of pairs are on their way: those of the frames before this one were put
 pub record WordsOnTheWay (pairs left : Placed) (frame frames : ℕ) (carrier : Carrier) (old new : Option (List ℕ)) : Type 0 where
-  pub at_frame : IsAt rate.F2997 frame carrier
+  pub at_frame : IsAt rate.F2997 frame 0 carrier
   pub rising : AreRising frame left
   pub same : (other : ℕ) → frame ≤ other → pair_at left other ≡ pair_at pairs other
   pub sent : List ℕ
@@ -97,7 +98,7 @@ nothing_put (Some bytes) = sym (append-nil bytes)
 none_less : (n : ℕ) → n - 0 ≡ n
 none_less n = omega arith
 
-pub words_begun : (pairs left : Placed) (frames : ℕ) (carrier : Carrier) (start : Option (List ℕ)) → IsAt rate.F2997 0 carrier → AreRising 0 pairs
+pub words_begun : (pairs left : Placed) (frames : ℕ) (carrier : Carrier) (start : Option (List ℕ)) → IsAt rate.F2997 0 0 carrier → AreRising 0 pairs
     → left ≡ pairs → frames ≡ frames_of pairs → WordsOnTheWay pairs left 0 frames carrier start start
 words_begun pairs left frames carrier start at rising is count = record {
   at_frame = at;
@@ -107,6 +108,16 @@ words_begun pairs left frames carrier start at rising is count = record {
   appended = nothing_put start;
   whole = ap (column_bytes rate.F2997 (import_columns pairs) 0) (none_less frames ∙ count);
 }
+
+-- a frame of an import has no service blocks, so no channel packet
+pub quiet_words : (frame : ℕ) (bytes : FrameBytes) (pair : Pair) (words : List ℕ) → bytes ≡ frame_with pair
+    → words ≡ frame_bytes rate.F2997 frame bytes (channel_packet 0 bytes.blocks.items) → words ≡ frame_bytes rate.F2997 frame bytes []
+quiet_words frame bytes pair words is words_are =
+    words_are ∙ ap (λ blocks. frame_bytes rate.F2997 frame bytes (channel_packet 0 blocks)) (ap (λ (b : FrameBytes). b.blocks.items) is)
+
+pub quiet_next : (frame : ℕ) (bytes : FrameBytes) (pair : Pair) (moved : Carrier) → bytes ≡ frame_with pair
+    → IsAt rate.F2997 (frame + 1) (0 + packet_count bytes.blocks.items) moved → IsAt rate.F2997 (frame + 1) 0 moved
+quiet_next frame bytes pair moved is at = subst (λ blocks. IsAt rate.F2997 (frame + 1) (0 + packet_count blocks) moved) (ap (λ (b : FrameBytes). b.blocks.items) is) at
 
 -- the words of a frame are the first of those that are left
 first_words : (pairs left now : Placed) (frame frames : ℕ) (carrier : Carrier) (old new : Option (List ℕ)) (pair : Pair) (bytes : FrameBytes) (words : List ℕ)
@@ -126,7 +137,7 @@ first_words pairs left now frame frames carrier old new pair bytes words on pass
 -- they were put
 pub words_added : (pairs left now : Placed) (frame frames : ℕ) (carrier moved : Carrier) (old new after : Option (List ℕ)) (pair : Pair) (bytes : FrameBytes) (words : List ℕ)
     → WordsOnTheWay pairs left frame frames carrier old new → Passes frame left now pair → bytes ≡ frame_with pair → frame < frames
-    → words ≡ frame_bytes rate.F2997 frame bytes [] → IsAt rate.F2997 (frame + 1) moved → Puts new after put.Done words
+    → words ≡ frame_bytes rate.F2997 frame bytes [] → IsAt rate.F2997 (frame + 1) 0 moved → Puts new after put.Done words
     → WordsOnTheWay pairs now (frame + 1) frames moved old after
 words_added pairs left now frame frames carrier moved old new after pair bytes words on passes bytes_are below words_are at puts =
     let first = first_words pairs left now frame frames carrier old new pair bytes words on passes bytes_are below words_are in
@@ -204,7 +215,8 @@ import_put (Some bytes) old new pairs is puts = record {
   pairs = pairs;
   is = is;
   output_is = puts;
-  carried = frames_carried rate.F2997 (import_columns pairs) (frames_of pairs) (columns_bytes pairs (file_bytes pairs bytes is.file));
+  carried = frames_carried rate.F2997 (import_columns pairs) (frames_of pairs) (columns_bytes pairs (file_bytes pairs bytes is.file))
+      (quiet_bytes (import_columns pairs) (λ frame. refl)) (quiet_roomy rate.F2997 (import_columns pairs) (λ frame. refl));
 }
 
 -- or a front of them

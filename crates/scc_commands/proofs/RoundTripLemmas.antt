@@ -4,6 +4,7 @@ use Rattle.std.specs.Prelude.{nat_eq}
 use Rattle.cc_base.specs.declared.rate.Rate.TheVariants as rate
 use Rattle.cdp_packets.specs.Packets.{Packet as Frame}
 use Rattle.frame_carrier.proofs.CarriedLemmas.{frames_carried}
+use Rattle.frame_carrier.proofs.CarryingLemmas.{quiet_bytes, quiet_roomy}
 use Rattle.frame_carrier.specs.Carrying.{column_packets, frame_packet}
 use Rattle.line21_codes.specs.declared.pairs.Pair.{Pair}
 use Rattle.scc_files.specs.Reading.{frames_of, frames_to}
@@ -87,7 +88,8 @@ packets_filled : (pairs : Placed) (frame n : ℕ) → AreBytes pairs
     → exported_from frame (column_packets rate.F2997 (import_columns pairs) frame n) ≡ filled pairs frame n
 packets_filled pairs frame zero are = refl
 packets_filled pairs frame (suc n) are =
-    let room = (frames_carried rate.F2997 (import_columns pairs) 0 (columns_bytes pairs are)).room frame in
+    let room = (frames_carried rate.F2997 (import_columns pairs) 0 (columns_bytes pairs are)
+    (quiet_bytes (import_columns pairs) (λ frame. refl)) (quiet_roomy rate.F2997 (import_columns pairs) (λ frame. refl))).room frame in
     ap (λ l. at_number frame l ++ exported_from (suc frame) (column_packets rate.F2997 (import_columns pairs) (suc frame) n)) (room.pairs false)
     ∙ ap (λ l. (frame, pair_at pairs frame) ∷ l) (packets_filled pairs (suc frame) n are)
 

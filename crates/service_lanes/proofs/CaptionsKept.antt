@@ -35,7 +35,7 @@ no_delay rate.F50 = refl
 no_delay rate.F5994 = refl
 no_delay rate.F60 = refl
 
-eqb_turned : (a b : ℕ) → (a == b) ≡ (b == a)
+pub eqb_turned : (a b : ℕ) → (a == b) ≡ (b == a)
 eqb_turned a b = at (a == b) (b == a) refl refl
   where
     at : (x y : Bool) → (a == b) ≡ x → (b == a) ≡ y → x ≡ y

@@ -4,3 +4,4 @@ pub mod FrontLemmas
 pub mod LoadLemmas
 pub mod PlaceLemmas
 pub mod CaptionsKept
+pub mod ChunkOrderLemmas

@@ -8,9 +8,6 @@ loop-triplets-preserved c =
     let old = c.loop-triplets.triplets.items in
     let more : c.push.new.self.items ≡ old ++ filler ∷ [] = c.push.ensures.items ∙ ap (λ t. old ++ t ∷ []) c.filler.ensures in
     let low : length old < c.args.number = omega (arith, c.loop-triplets-test.true, c.len.ensures.value, c.from.ensures) in
-    let w = fill_more old c.args.number (c.args.triplets.now.items ++ replicate (c.args.number - length c.args.triplets.now.items) filler) low c.loop-triplets.invariant.filled in
-    record {
-      room = subst (λ items. length items ≤ c.args.number) (sym more) w.0;
-      filled = subst (λ items. items ++ replicate (c.args.number - length items) filler
-          ≡ c.args.triplets.now.items ++ replicate (c.args.number - length c.args.triplets.now.items) filler) (sym more) w.1;
-    }
+    let w = fill_more old c.args.number (c.args.triplets.now.items ++ replicate (c.args.number - length c.args.triplets.now.items) filler) low c.loop-triplets.invariant in
+    subst (λ items. items ++ replicate (c.args.number - length items) filler
+    ≡ c.args.triplets.now.items ++ replicate (c.args.number - length c.args.triplets.now.items) filler) (sym more) w.1

@@ -1,24 +1,31 @@
 use Rattle.std.proofs.Common.{◌∙◌}
-use Rattle.line21_codes.specs.declared.channels.Chan.TheVariants.{Cc1, Cc3}
-use Rattle.frame_scheduler.proofs.EventsApartLemmas.{events_apart}
-use Rattle.frame_scheduler.proofs.LanesLemmas.{both_planned, two_refused}
+use Rattle.frame_scheduler.proofs.PlanLemmas.{all_planned, fields_refused, planned_fits, planned_numbered, planned_start, services_refused}
 use Rattle.frame_scheduler.proofs.lanes.plan.Goals as goal
 
-pub placed_channel-requires-clause-apart : goal.placed_channel-requires-clause-apart
-placed_channel-requires-clause-apart c =
-    rw (c.cues-cues.ensures.cues, c.rate-rate.ensures) (events_apart c.args.list.now c.requires Cc1)
+pub new-requires-clause-at_first : goal.new-requires-clause-at_first
+new-requires-clause-at_first c =
+    planned_start c.args.list.now c.placed_services-services.ensures.formed c.requires c.in-Ok-services.services.items c.in-Ok-services.ensures.services
 
-pub placed_channel-requires-in-Ok-clause-apart : goal.placed_channel-requires-in-Ok-clause-apart
-placed_channel-requires-in-Ok-clause-apart c =
-    rw (c.cues-cues.ensures.cues, c.rate-rate.ensures) (events_apart c.args.list.now c.requires Cc3)
+pub new-requires-clause-numbered : goal.new-requires-clause-numbered
+new-requires-clause-numbered c =
+    planned_numbered c.args.list.now c.placed_services-services.ensures.formed c.requires c.in-Ok-services.services.items c.in-Ok-services.ensures.services
 
-pub returns-in-Ok-placed_channel : goal.returns-in-Ok-placed_channel
-returns-in-Ok-placed_channel c =
-    both_planned c.args.list.now c.cues-cues.ensures.formed c.in-Ok.one c.in-Ok-placed_channel.two c.new.result
-    (rw (c.cues-cues.ensures.cues, c.rate-rate.ensures) at c.in-Ok.ensures.placed) (rw (c.cues-cues.ensures.cues, c.rate-rate.ensures) at c.in-Ok-placed_channel.ensures.placed)
-    c.new.ensures.lanes (c.new.ensures.rate ∙ c.rate-rate.ensures) c.new.ensures.frame (c.new.ensures.left ∙ c.frames.ensures)
+pub new-requires-clause-room : goal.new-requires-clause-room
+new-requires-clause-room c =
+    planned_fits c.args.list.now c.placed_services-services.ensures.formed c.requires c.in-Ok-services.services.items c.in-Ok-services.ensures.services
 
-pub returns-in-Err-placed_channel : goal.returns-in-Err-placed_channel
-returns-in-Err-placed_channel c =
-    two_refused c.args.list.now c.cues-cues.ensures.formed c.in-Err-placed_channel.fault c.in-Ok.one
-    (rw (c.cues-cues.ensures.cues, c.rate-rate.ensures) at c.in-Ok.ensures.placed) (rw (c.cues-cues.ensures.cues, c.rate-rate.ensures) at c.in-Err-placed_channel.ensures.fault)
+pub returns-in-Ok-services : goal.returns-in-Ok-services
+returns-in-Ok-services c =
+    all_planned c.args.list.now c.placed_services-services.ensures.formed c.requires c.in-Ok.one c.in-Ok.two c.in-Ok-services.services.items c.new.result c.in-Ok.ensures.placed
+    c.in-Ok-services.ensures.services c.new.ensures.lanes c.new.ensures.services (c.new.ensures.rate ∙ c.rate.ensures) c.new.ensures.frame (c.new.ensures.left ∙ c.frames.ensures)
+
+pub returns-in-Err-services : goal.returns-in-Err-services
+returns-in-Err-services c =
+    services_refused c.args.list.now c.placed_services-services.ensures.formed c.requires c.in-Ok.one c.in-Ok.two c.in-Err-services.fault c.in-Ok.ensures.placed
+    c.in-Err-services.ensures.services
+
+pub returns-in-Err : goal.returns-in-Err
+returns-in-Err c =
+    rw c.fault_beside.ensures
+    (fields_refused c.args.list.now c.placed_services-services.ensures.formed c.requires c.in-Err.fault c.placed_services-services.result c.err.result c.in-Err.ensures.fault
+    c.placed_services-services.ensures.services c.err.ensures.value)

@@ -1,7 +1,7 @@
 use Rattle.std.proofs.Common.{◌≡◌, ◌∙◌, ap, sym}
-use Rattle.frame_carrier.specs.Carrying.{carried_bytes}
+use Rattle.frame_carrier.specs.CarriedBytes.{carried_bytes}
 use Rattle.frame_carrier.proofs.CarryingLemmas.{twenty_are}
-use Rattle.frame_carrier.proofs.carrier.put_frame.Goals as goal
+use Rattle.frame_carrier.proofs.carrier.put_pairs.Goals as goal
 
 pub returns-in-20-Some-Some : goal.returns-in-20-Some-Some
 returns-in-20-Some-Some c =
