@@ -2,14 +2,12 @@
 use Rattle.std.proofs.Common.{[], ◌≡◌, ◌∙◌, ◌++◌, ◌∷◌, ◌+◌, ◌<◌, ◌==◌, ◌&&◌, ◌||◌, if◌then◌else◌, Bool, add-one, ap, arith, length, length-append, refl, subst, suc, sym, take, zero, ℕ, List, false, true}
 use Rattle.std.proofs.lemmas.List.{take-append-le, take_all}
 use Rattle.cc_base.specs.declared.rate.Rate.{Rate}
-use Rattle.std.specs.Prelude.{nat_le}
-use Rattle.std.specs.List.{filter}
-use Rattle.std.proofs.lemmas.Bool.Decides.{nat_tests}
+use Rattle.std.proofs.lemmas.List.Elements.{filter-append}
 use Rattle.cc_data.specs.declared.triplet.Triplet.{Triplet}
 use Rattle.cdp_packets.specs.Packets.{Packet as Frame}
 use Rattle.cdp_packets.specs.PacketTriplets.{packet_triplets}
-use Rattle.channel_packets.specs.ChannelPackets.{channel_triplets}
-use Rattle.frame_carrier.specs.Carried.{AreCarried, IsWithinRoom, is_of_channel}
+use Rattle.channel_packets.specs.ChannelPackets.{channel_triplets, continues, starts}
+use Rattle.frame_carrier.specs.Carried.{AreCarried, IsWithinRoom}
 use Rattle.frame_carrier.specs.Carrying.{channel_of, channel_packet, column_bytes, column_packets, frame_packet, packets_before}
 use Rattle.frame_scheduler.specs.Columns.{Columns}
 use Rattle.frame_scheduler.specs.Planned.{columns_of}
@@ -33,32 +31,16 @@ packets_count : (rate : Rate) (columns : Columns) (frame n : ℕ) → length (co
 packets_count rate columns frame zero = refl
 packets_count rate columns frame (suc n) = ap suc (packets_count rate columns (suc frame) n)
 
--- triplets of line 21 and fillers are none of channel packets
-not_of_channel : (valid : Bool) (kind : ℕ) → (valid && nat_le 2 kind) ≡ false → ((valid && (kind == 3)) || (valid && (kind == 2))) ≡ false
-not_of_channel false kind few = refl
-not_of_channel true zero few = refl
-not_of_channel true (suc zero) few = refl
-not_of_channel true (suc (suc more)) few = absurd (grind (arith, nat_tests))
-
-quiet_triplets : (triplets more : List Triplet) → filter is_of_channel triplets ≡ [] → channel_triplets more ≡ [] → channel_triplets (triplets ++ more) ≡ []
-quiet_triplets [] more quiet none = none
-quiet_triplets (t ∷ triplets) more quiet none = at (is_of_channel t) refl (λ rest. quiet_triplets triplets more rest none)
-  where
-    at : (b : Bool) → is_of_channel t ≡ b → (filter is_of_channel triplets ≡ [] → channel_triplets (triplets ++ more) ≡ [])
-        → channel_triplets (t ∷ (triplets ++ more)) ≡ []
-    at true of_it rest = absurd (let e : t ∷ filter is_of_channel triplets ≡ [] = rw of_it at quiet in cc)
-    at false other rest =
-        let left = channel_triplets (triplets ++ more) in
-        ap (λ (b : Bool). if b then t ∷ left else left) (not_of_channel t.valid t.kind other) ∙ rest (rw other at quiet)
-
 -- so the frames that are built carry no channel packet
 quiet_packets : (rate : Rate) (columns : Columns) → ((frame : ℕ) → IsWithinRoom rate (columns frame) (channel_of columns frame) (frame_packet rate frame (columns frame) (channel_of columns frame)))
     → ((frame : ℕ) → (columns frame).blocks.items ≡ []) → (frame n : ℕ) → channel_triplets (file_triplets (column_packets rate columns frame n)) ≡ []
 quiet_packets rate columns room none frame zero = refl
 quiet_packets rate columns room none frame (suc n) =
-    quiet_triplets (packet_triplets (frame_packet rate frame (columns frame) (channel_of columns frame))) (file_triplets (column_packets rate columns (suc frame) n))
+    filter-append (λ t. starts t || continues t) (packet_triplets (frame_packet rate frame (columns frame) (channel_of columns frame)))
+    (file_triplets (column_packets rate columns (suc frame) n))
+    ∙ ap (λ l. l ++ channel_triplets (file_triplets (column_packets rate columns (suc frame) n)))
     ((room frame).service ∙ ap (channel_packet (packets_before columns frame)) (none frame))
-    (quiet_packets rate columns room none (suc frame) n)
+    ∙ quiet_packets rate columns room none (suc frame) n
 
 built_file : (rate : Rate) (columns : Columns) (n : ℕ) → AreCarried rate columns n → ((frame : ℕ) → (columns frame).blocks.items ≡ [])
     → IsFileUnder services_say (column_packets rate columns 0 n) (column_bytes rate columns 0 n)

@@ -1,6 +1,6 @@
 -- The frames of a sound lane: before each of them either no delay is on and nothing is held, or one is, and what is held is what
 -- it puts off and what was loaded since.
-use Rattle.std.proofs.Common.{◌≡◌, ◌≢◌, ℕ, zero, suc, ◌+◌, ◌-◌, ◌<◌, ◌≤◌, ◌==◌, ◌⊎◌, Bool, true, false, if◌then◌else◌, List, [], ◌∷◌, ◌++◌, Option, Some, None, length, length-append, refl, sym, ap, subst, ◌∙◌, arith, add-zero, inl, inr}
+use Rattle.std.proofs.Common.{◌≡◌, ℕ, zero, suc, ◌+◌, ◌-◌, ◌<◌, ◌≤◌, ◌==◌, ◌⊎◌, Bool, true, false, if◌then◌else◌, List, [], ◌∷◌, ◌++◌, Option, Some, None, length, length-append, refl, sym, ap, subst, ◌∙◌, arith, add-zero, inl, inr}
 use Rattle.std.specs.Prelude.{map}
 use Rattle.std.proofs.lemmas.Bool.{cases_lt}
 use Rattle.std.proofs.lemmas.Bool.Decides.{nat_tests}
@@ -10,10 +10,10 @@ use Rattle.cc_base.specs.declared.rate.Rate.TheVariants.{F2997}
 use Rattle.cc_base.specs.Rate.{delay_frames_of}
 use Rattle.cc_base.specs.Steps.{front_from}
 use Rattle.dtvcc_codes.specs.declared.commands.Command.{Command}
-use Rattle.dtvcc_codes.specs.declared.commands.Command.TheVariants.{Dly, Dsw}
+use Rattle.dtvcc_codes.specs.declared.commands.Command.TheVariants.{Dly}
 use Rattle.dtvcc_codes.specs.Reading.{command_of, completed, completions, open_after, told_size}
 use Rattle.dtvcc_screen.specs.declared.clock.Clock.{Clock}
-use Rattle.dtvcc_screen.specs.Cores.{CoreState, after_tick, arrived, fill, released}
+use Rattle.dtvcc_screen.specs.Cores.{CoreState, arrived, fill, released}
 use Rattle.dtvcc_screen.specs.Laws.{on_screen_all}
 use Rattle.dtvcc_screen.specs.Meaning.{Event, Tick, Byte, Reset, Served, after, on_event, ticked}
 use Rattle.dtvcc_screen.specs.Objects.{acting_on}
@@ -21,7 +21,7 @@ use Rattle.dtvcc_screen.specs.Screens.{ScreenState, empty_screen}
 use Rattle.dtvcc_screen.proofs.CoreLemmas.{by_byte, completions_length}
 use Rattle.dtvcc_shown.specs.Filling.{AllFill}
 use Rattle.dtvcc_shown.specs.ServiceLanes.{Delay, IsInDelay, IsOutside, Lane, delay_bytes, frame_bytes, frame_events, opening_events, served, spent}
-use Rattle.dtvcc_shown.specs.Soundness.{ArePlain, IsLasting, IsQuiet, IsSoundLane}
+use Rattle.dtvcc_shown.specs.Soundness.{ArePlain, IsSoundLane}
 use Rattle.dtvcc_shown.proofs.PlainLemmas.{AllPlain, later, later_fill, now, now_fill, releases, served_at}
 
 -- bytes one behind another

@@ -1,20 +1,19 @@
 -- A placed lane is sound: its loads are plain, and those of a delay have at most 125 bytes.
-use Rattle.std.proofs.Common.{◌≡◌, ℕ, zero, suc, ◌+◌, ◌-◌, ◌<◌, ◌≤◌, ◌==◌, Bool, true, false, if◌then◌else◌, List, [], ◌∷◌, ◌++◌, Option, Some, None, length, length-append, refl, sym, ap, subst, ◌∙◌, arith, add-zero}
+use Rattle.std.proofs.Common.{◌≡◌, ℕ, zero, suc, ◌+◌, ◌-◌, ◌<◌, ◌≤◌, ◌==◌, Bool, true, false, if◌then◌else◌, List, [], ◌∷◌, ◌++◌, length, length-append, refl, sym, ap, subst, ◌∙◌, arith}
 use Rattle.std.specs.Prelude.{All, option_map}
-use Rattle.std.specs.List.{AllByRecursion, flat_map, zip}
+use Rattle.std.specs.List.{zip}
 use Rattle.std.proofs.lemmas.Bool.Decides.{nat_tests}
 use Rattle.std.proofs.lemmas.List.Elements.{All-head, All-tail}
 use Rattle.std.proofs.lemmas.List.Sums.{sum_by-cons}
 use Rattle.cc_base.specs.Steps.{front_from}
 use Rattle.dtvcc_codes.specs.Reading.{completions, open_after}
 use Rattle.service_lanes.specs.declared.chunk.Chunk.{Chunk}
-use Rattle.placements.specs.Placing.{IsPlaced}
 use Rattle.service_lanes.specs.ServiceBytes.{loads_at}
-use Rattle.service_lanes.specs.ServiceLane.{IsWithinRoom, bytes_between, is_between, service_lane, size_of, used}
+use Rattle.service_lanes.specs.ServiceLane.{bytes_between, is_between, size_of, used}
 use Rattle.service_lanes.proofs.ServiceLaneLemmas.{placed_within}
-use Rattle.dtvcc_shown.specs.PlacedLanes.{IsPlacedLane, delay_ends, loaded, unloaded}
+use Rattle.dtvcc_shown.specs.PlacedLanes.{IsPlacedLane, delay_ends, loaded}
 use Rattle.dtvcc_shown.specs.ServiceLanes.{Delay, Lane, spent}
-use Rattle.dtvcc_shown.specs.Soundness.{ArePlain, IsLasting, IsQuiet, IsSoundLane}
+use Rattle.dtvcc_shown.specs.Soundness.{ArePlain, IsSoundLane}
 use Rattle.dtvcc_shown.proofs.PlainLemmas.{AllPlain}
 
 -- plain bytes one behind another, whatever was open before them

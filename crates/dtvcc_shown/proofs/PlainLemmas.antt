@@ -1,21 +1,20 @@
 -- What plain bytes do: outside of a delay they act at once, and in one they are held.
-use Rattle.std.proofs.Common.{◌≡◌, ◌≢◌, ℕ, ◌+◌, ◌<◌, ◌≤◌, ◌==◌, Bool, true, false, if◌then◌else◌, List, [], ◌∷◌, ◌++◌, Option, Some, None, length, length-append, refl, sym, ap, subst, ◌∙◌, arith, append_assoc, append-nil}
+use Rattle.std.proofs.Common.{◌≡◌, ℕ, ◌+◌, ◌<◌, ◌≤◌, ◌==◌, Bool, true, false, if◌then◌else◌, List, [], ◌∷◌, ◌++◌, Option, Some, None, length, length-append, refl, sym, ap, subst, ◌∙◌, arith, append_assoc, append-nil}
 use Rattle.std.specs.Prelude.{map}
 use Rattle.std.specs.List.{AllByRecursion}
 use Rattle.std.proofs.lemmas.Bool.Decides.{nat_tests}
-use Rattle.cc_base.specs.declared.rate.Rate.{Rate}
 use Rattle.cc_base.specs.Steps.{front_from}
 use Rattle.dtvcc_codes.specs.declared.commands.Command.{Command}
 use Rattle.dtvcc_codes.specs.declared.commands.Command.TheVariants.{Dly, Dlc, Rst}
 use Rattle.dtvcc_codes.specs.Reading.{completed, completions, open_after}
 use Rattle.dtvcc_screen.specs.declared.clock.Clock.{Clock}
 use Rattle.dtvcc_screen.specs.Commands.{on_screen}
-use Rattle.dtvcc_screen.specs.Cores.{CoreState, acted_if, after_byte, after_tick, all_acted, arrived, clean, fill, fill_in, go_on, held_more, is_cancel, is_due, is_reset, released, tenths_of, until_of}
+use Rattle.dtvcc_screen.specs.Cores.{CoreState, acted_if, all_acted, fill_in, go_on, held_more, is_cancel, is_reset, released, tenths_of, until_of}
 use Rattle.dtvcc_screen.specs.Laws.{on_screen_all, on_screen_if}
-use Rattle.dtvcc_screen.specs.Meaning.{Event, Tick, Byte, Served, after, on_event, ticked}
+use Rattle.dtvcc_screen.specs.Meaning.{Byte, Served, after, on_event}
 use Rattle.dtvcc_screen.specs.Objects.{acting_on}
 use Rattle.dtvcc_screen.specs.Screens.{ScreenState}
-use Rattle.dtvcc_screen.proofs.CoreLemmas.{arrived_held, arrived_now, by_byte, fill_held, fill_now}
+use Rattle.dtvcc_screen.proofs.CoreLemmas.{arrived_held, arrived_now, by_byte, fill_held}
 use Rattle.dtvcc_shown.specs.Filling.{AllFill}
 use Rattle.dtvcc_shown.specs.Soundness.{IsPlain, is_plain}
 

@@ -1,5 +1,5 @@
 -- The lane of a service whose units are placed: each frame is loaded with the units that stand in it.
-use Rattle.std.specs.Prelude.{◌≡◌, ℕ, List, [], All, Option, option_map}
+use Rattle.std.specs.Prelude.{ℕ, List, [], All, Option, option_map}
 use Rattle.service_lanes.specs.declared.chunk.Chunk.{Chunk}
 use Rattle.placements.specs.Placing.{IsPlaced}
 use Rattle.service_lanes.specs.ServiceBytes.{loads_at}

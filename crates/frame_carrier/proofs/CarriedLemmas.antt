@@ -1,6 +1,6 @@
 -- The frames of a programme are carried: each packet is one by the definitions of its layers, and a receiver gets its pairs.
 use Rattle.std.proofs.Common.{◌≡◌, ℕ, zero, suc, ◌+◌, ◌-◌, ◌*◌, ◌/◌, ◌%◌, ◌<◌, ◌≤◌, Bool, true, false, Option, Some, None, List, [], ◌∷◌, ◌++◌, All, length, replicate, take, refl, sym, ap, ◌∙◌, subst, arith, append-nil, append_assoc}
-use Rattle.std.specs.Prelude.{if◌then◌else◌, IfSome, nat_le, option_to_list, ◌&&◌, ◌==◌}
+use Rattle.std.specs.Prelude.{if◌then◌else◌, IfSome, nat_le, option_to_list, ◌&&◌, ◌||◌, ◌==◌}
 use Rattle.std.proofs.lemmas.List.{length-append}
 use Rattle.std.specs.List.{filter}
 use Rattle.std.proofs.lemmas.Bool.Decides.{nat_tests}
@@ -26,8 +26,9 @@ use Rattle.words_files.specs.Received.{field_kind, field_pair, field_pairs, rece
 use Rattle.words_files.proofs.FrameLemmas.{joined}
 use Rattle.frame_scheduler.specs.Columns.{Columns, first_pairs, pair_in}
 use Rattle.frame_scheduler.specs.declared.frames.FrameBytes.{FrameBytes}
+use Rattle.channel_packets.specs.ChannelPackets.{channel_triplets, continues, starts}
 use Rattle.channel_packets.specs.Written.{bytes_written, continuing, header_for, packet_written, starting}
-use Rattle.frame_carrier.specs.Carried.{AreByteBlocks, AreBytePairs, AreRoomy, FramesAreCarried, IsBytePair, IsWithinRoom, is_of_channel}
+use Rattle.frame_carrier.specs.Carried.{AreByteBlocks, AreBytePairs, AreRoomy, FramesAreCarried, IsBytePair, IsWithinRoom}
 use Rattle.frame_carrier.specs.CarriedBytes.{caption_flags}
 use Rattle.frame_carrier.specs.Carrying.{channel_of, channel_packet, packets_before, column_bytes, column_packets, counter_of, frame_bytes, frame_packet}
 use Rattle.frame_carrier.specs.FrameTriplets.{field_triplets, filler, frame_triplets, front_triplets, pair_triplet}
@@ -266,35 +267,40 @@ field_is rate carried packet second_field channel =
     ∙ ap (λ l. (if second_field then [] else option_to_list carried.one) ++ l) two
     ∙ both_is second_field carried
 
--- of the triplets that count the others are those of the channel packet
-field_none : (kind : ℕ) (pair : Option Pair) → kind < 2 → filter is_of_channel (field_triplets kind pair) ≡ []
-field_none kind None low = refl
-field_none kind (Some pair) low = let none : nat_le 2 kind ≡ false = grind (arith, nat_tests) in rw none refl
+-- the triplets of channel packets are those of the frame's
+first_none : (pair : Option Pair) → channel_triplets (field_triplets 0 pair) ≡ []
+first_none None = refl
+first_none (Some pair) = refl
 
-fillers_none : (n : ℕ) → filter is_of_channel (replicate n filler) ≡ []
+second_none : (pair : Option Pair) → channel_triplets (field_triplets 1 pair) ≡ []
+second_none None = refl
+second_none (Some pair) = refl
+
+fillers_none : (n : ℕ) → channel_triplets (replicate n filler) ≡ []
 fillers_none zero = refl
 fillers_none (suc n) = fillers_none n
 
-channel_all : (ts : List Triplet) → All IsChannelTriplet ts → filter is_of_channel ts ≡ ts
-channel_all [] all = refl
-channel_all (t ∷ ts) all =
-    let here = All-head IsChannelTriplet t ts all in
-    let valid = here.valid in
-    let high : nat_le 2 t.kind ≡ true = let kind = here.kind in grind (arith, nat_tests) in
-    let test : is_of_channel t ≡ true = ap (λ b. b && nat_le 2 t.kind) valid ∙ high in
-    rw test (ap (λ l. t ∷ l) (channel_all ts (All-tail IsChannelTriplet t ts all)))
+further_all : (bytes : List ℕ) → channel_triplets (bytes_written bytes) ≡ bytes_written bytes
+further_all [] = refl
+further_all (a ∷ []) = refl
+further_all (a ∷ (b ∷ bytes)) = ap (λ l. continuing a b ∷ l) (further_all bytes)
 
-service_is : (rate : Rate) (carried : FrameBytes) (packet : List Triplet) → All IsChannelTriplet packet
-    → filter is_of_channel (frame_triplets rate carried packet) ≡ packet
-service_is rate carried packet channel =
-    filter-append is_of_channel (front_triplets carried packet) (replicate (triplets_of rate - length (front_triplets carried packet)) filler)
-    ∙ ap (λ l. filter is_of_channel (front_triplets carried packet) ++ l) (fillers_none (triplets_of rate - length (front_triplets carried packet)))
-    ∙ append-nil (filter is_of_channel (front_triplets carried packet))
-    ∙ filter-append is_of_channel (field_triplets 0 carried.one) (field_triplets 1 carried.two ++ packet)
-    ∙ ap (λ l. l ++ filter is_of_channel (field_triplets 1 carried.two ++ packet)) (field_none 0 carried.one (omega arith))
-    ∙ filter-append is_of_channel (field_triplets 1 carried.two) packet
-    ∙ ap (λ l. l ++ filter is_of_channel packet) (field_none 1 carried.two (omega arith))
-    ∙ channel_all packet channel
+channel_all : (count : ℕ) (blocks : List ℕ) → channel_triplets (channel_packet count blocks) ≡ channel_packet count blocks
+channel_all count [] = refl
+channel_all count (byte ∷ blocks) = ap (λ l. starting (header_for (count % 4) (length (byte ∷ blocks))) byte ∷ l) (further_all blocks)
+
+service_is : (rate : Rate) (carried : FrameBytes) (count : ℕ) (blocks : List ℕ)
+    → channel_triplets (frame_triplets rate carried (channel_packet count blocks)) ≡ channel_packet count blocks
+service_is rate carried count blocks =
+    let packet = channel_packet count blocks in
+    filter-append (λ t. starts t || continues t) (front_triplets carried packet) (replicate (triplets_of rate - length (front_triplets carried packet)) filler)
+    ∙ ap (λ l. channel_triplets (front_triplets carried packet) ++ l) (fillers_none (triplets_of rate - length (front_triplets carried packet)))
+    ∙ append-nil (channel_triplets (front_triplets carried packet))
+    ∙ filter-append (λ t. starts t || continues t) (field_triplets 0 carried.one) (field_triplets 1 carried.two ++ packet)
+    ∙ ap (λ l. l ++ channel_triplets (field_triplets 1 carried.two ++ packet)) (first_none carried.one)
+    ∙ filter-append (λ t. starts t || continues t) (field_triplets 1 carried.two) packet
+    ∙ ap (λ l. l ++ channel_triplets packet) (second_none carried.two)
+    ∙ channel_all count blocks
 
 -- a frame keeps to its room
 within_room : (rate : Rate) (frame : ℕ) (carried : FrameBytes) (count : ℕ) → length (front_triplets carried (channel_packet count carried.blocks.items)) ≤ triplets_of rate
@@ -306,7 +312,7 @@ within_room rate frame carried count roomy =
     record {
       number = ap length same ∙ frame_number rate carried packet roomy;
       pairs = λ second_field. ap (field_pairs second_field) same ∙ field_is rate carried packet second_field channel;
-      service = ap (filter is_of_channel) same ∙ service_is rate carried packet channel;
+      service = ap channel_triplets same ∙ service_is rate carried count carried.blocks.items;
     }
 
 -- the blocks of a frame are few

@@ -1,12 +1,12 @@
 -- What is carried of a programme's frames: their bytes are a words file of their packets, each frame has the triplets that
 -- its rate asks, with the pair of each field in which it has a slot, and a receiver gets just these pairs.
-use Rattle.std.specs.Prelude.{◌≡◌, ℕ, ◌<◌, ◌≤◌, ◌&&◌, nat_le, Bool, List, length, take, All, IfSome, option_to_list}
-use Rattle.std.specs.List.{filter}
+use Rattle.std.specs.Prelude.{◌≡◌, ℕ, ◌<◌, ◌≤◌, Bool, List, length, take, All, IfSome, option_to_list}
 use Rattle.cc_data.specs.declared.triplet.Triplet.{Triplet}
 use Rattle.cc_base.specs.Rate.{triplets_of}
 use Rattle.cc_base.specs.declared.rate.Rate.{Rate}
 use Rattle.line21_codes.specs.declared.pairs.Pair.{Pair}
 use Rattle.cdp_packets.specs.Packets.{Packet as Frame}
+use Rattle.channel_packets.specs.ChannelPackets.{channel_triplets}
 use Rattle.cdp_packets.specs.PacketTriplets.{packet_triplets}
 use Rattle.words_files.specs.Frames.{IsFileOf}
 use Rattle.words_files.specs.Received.{field_pairs, received_pairs}
@@ -32,16 +32,12 @@ AreRoomy rate columns = (frame : ℕ) → length (front_triplets (columns frame)
 abbrev pub AreByteBlocks : Columns → Type 0
 AreByteBlocks columns = (frame : ℕ) → All (λ byte. byte < 256) (columns frame).blocks.items
 
--- a triplet of a caption channel packet, which counts
-abbrev pub is_of_channel : Triplet → Bool
-is_of_channel t = t.valid && nat_le 2 t.kind
-
 -- a frame's packet has as many triplets as the rate asks; of those that count each field's have the pair that the frame has in
 -- the field, and the others are those of the frame's channel packet
 pub record IsWithinRoom (rate : Rate) (bytes : FrameBytes) (packet : List Triplet) (frame : Frame) : Type 0 where
   pub number : length (packet_triplets frame) ≡ triplets_of rate
   pub pairs : (second_field : Bool) → field_pairs second_field (packet_triplets frame) ≡ option_to_list (pair_in second_field bytes)
-  pub service : filter is_of_channel (packet_triplets frame) ≡ packet
+  pub service : channel_triplets (packet_triplets frame) ≡ packet
 
 -- so many frames of columns are carried
 pub record AreCarried (rate : Rate) (columns : Columns) (n : ℕ) : Type 0 where

@@ -86,7 +86,12 @@ impl Carrier {
         if packet.is_empty() {
             put_pairs(self.rate, counter, frame, out);
         } else {
-            put_triplets(self.rate, counter, &frame_triplets(self.rate, frame, &packet), out);
+            put_triplets(
+                self.rate,
+                counter,
+                &frame_triplets(self.rate, frame, &packet),
+                out,
+            );
         }
     }
 

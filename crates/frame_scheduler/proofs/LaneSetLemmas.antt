@@ -1,5 +1,5 @@
 -- The first cue without room among some lanes, from those among parts of them.
-use Rattle.std.proofs.Common.{◌≡◌, ◌<◌, ◌≤◌, ◌⊎◌, inl, inr, ℕ, refl, sym, subst, arith, min}
+use Rattle.std.proofs.Common.{◌≡◌, ◌<◌, ◌⊎◌, inl, inr, ℕ, sym, subst, arith, min}
 use Rattle.std.proofs.lemmas.Bool.{cases_lt}
 use Rattle.cue_lists.specs.Listing.{Listing}
 use Rattle.cue_lists.specs.declared.lane.Lane.{Lane}
@@ -7,7 +7,7 @@ use Rattle.placements.specs.declared.planning.PlanFault.{PlanFault}
 use Rattle.placements.specs.declared.planning.PlanFault.TheVariants.{Memory, NoRoom}
 use Rattle.frame_scheduler.specs.LanePlan.{earlier_fault}
 use Rattle.frame_scheduler.specs.LaneSets.{IsFaultIn, IsFirstIn}
-use Rattle.frame_scheduler.specs.Planned.{LaneHasRoom, LaneLacksRoom}
+use Rattle.frame_scheduler.specs.Planned.{LaneHasRoom}
 
 -- each cue has room on the lane
 abbrev pub IsRoomy : Listing → Lane → Type 0

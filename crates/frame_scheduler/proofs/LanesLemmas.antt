@@ -1,5 +1,5 @@
 -- What the lanes of a list answer together.
-use Rattle.std.proofs.Common.{◌≡◌, ◌∙◌, ◌<◌, ℕ, suc, false, List, [], ◌∷◌, ap, sym, subst, refl, arith, inl, inr, ◌⊎◌, Some, None, Option, Result, Ok, Err, IfOk, IfErr, All}
+use Rattle.std.proofs.Common.{◌≡◌, ◌∙◌, ℕ, suc, false, List, [], ◌∷◌, ap, sym, subst, refl, arith, inl, inr, ◌⊎◌, Some, None, Option, Result, Ok, Err, IfOk, IfErr, All}
 use Rattle.std.specs.Prelude.{⊤}
 use Rattle.std.specs.Result.{result_err}
 use Rattle.std.specs.Option.{option_map}
@@ -26,9 +26,7 @@ use Rattle.line21_author.proofs.CueSlotLemmas.{cues_formed_in_slots}
 use Rattle.line21_author.specs.declared.event.Event.{Event}
 use Rattle.frame_scheduler.specs.ChannelLane.{IsChannelPlaced, channel_pieces, channel_slot, pieces_from}
 use Rattle.frame_scheduler.specs.FieldLane.{lane}
-use Rattle.frame_scheduler.specs.Frames.{PlanAnswer}
-use Rattle.frame_scheduler.specs.LanePlan.{IsPlanOf, LaneFault, Planned, lane_pair, pair_at, piece_cue, earlier_fault, fault_beside}
-use Rattle.placements.specs.LaneRoom as room
+use Rattle.frame_scheduler.specs.LanePlan.{IsPlanOf, LaneFault, Planned, lane_pair, pair_at, piece_cue, fault_beside}
 use Rattle.frame_scheduler.specs.LaneTimeline.{placed_timeline}
 use Rattle.placements.specs.Placing.{IsEarliest, IsPlaced}
 use Rattle.frame_scheduler.specs.SlotLists.{slot_cues}
@@ -39,8 +37,6 @@ use Rattle.service_lanes.specs.ServicePlan.{IsLaneFault}
 use Rattle.service_lanes.proofs.ChunkOrderLemmas.{chunks_in_order}
 use Rattle.frame_scheduler.proofs.LaneSetLemmas.{IsRoomy, fault_of_both, fault_of_p, fault_of_q}
 use Rattle.frame_scheduler.specs.Timeline.{slot}
-use Rattle.frame_scheduler.specs.declared.frames.FrameBytes.{FrameBytes}
-use Rattle.frame_scheduler.specs.declared.frames.Plan.{Plan}
 use Rattle.frame_scheduler.specs.declared.lane.piece.Piece.{Piece}
 use Rattle.frame_scheduler.specs.declared.lane.placed_unit.PlacedUnit.{PlacedUnit}
 use Rattle.placements.specs.declared.planning.PlanFault.{PlanFault}
@@ -240,4 +236,3 @@ module _ (l : Listing) (formed : IsFormed l) where
   pub at_first : (channel : Chan) (planned : Planned) → IsPlanOf (events channel) (pieces channel) planned
       → planned.slot ≡ slot_from (cadence_of l.rate channel) 0
   at_first channel planned is = is.2 ∙ sym (slot_from_first (cadence_of l.rate channel))
-

@@ -1,19 +1,17 @@
 -- What planning a list answers, from its fields and its services.
-use Rattle.std.proofs.Common.{◌≡◌, ◌∙◌, ◌+◌, ◌<◌, ◌≤◌, ◌⊎◌, inl, inr, ◌==◌, ℕ, zero, suc, Bool, true, false, List, [], ◌∷◌, ◌++◌, ap, sym, subst, refl, arith, Some, None, Option, Result, Ok, Err, IfOk, IfErr, All, append-nil, append_assoc}
-use Rattle.std.specs.Prelude.{⊤, is_some, if◌then◌else◌, option_map, find, sum_by, unwrap_or, Vec}
+use Rattle.std.proofs.Common.{◌≡◌, ◌∙◌, ◌+◌, ◌≤◌, ◌⊎◌, inl, inr, ◌==◌, ℕ, zero, suc, Bool, true, false, List, [], ◌∷◌, ◌++◌, ap, sym, subst, refl, arith, Some, None, Option, Result, Ok, Err, All, append-nil, append_assoc}
+use Rattle.std.specs.Prelude.{⊤, is_some, if◌then◌else◌, option_map, find, unwrap_or, Vec}
 use Rattle.std.specs.Global.{Global}
 use Rattle.std.specs.List.{flat_map, list_any, zip}
 use Rattle.cue_lists.specs.Rules.Lane.{is_win}
 use Rattle.cue_lists.specs.declared.cue.Cue.{Cue}
 use Rattle.std.specs.Result.{result_err}
 use Rattle.std.proofs.lemmas.Bool.{cases_lt, eqb-true}
-use Rattle.std.proofs.lemmas.Bool.Decides.{nat_tests}
 use Rattle.std.proofs.lemmas.List.Concat.{flat_map-append}
-use Rattle.std.proofs.lemmas.List.Elements.{All-cons, All-head, All-nil, All-tail}
+use Rattle.std.proofs.lemmas.List.Elements.{All-cons, All-nil}
 use Rattle.std.proofs.lemmas.List.Sums.{sum_by-cons}
 use Rattle.cc_base.specs.declared.rate.Rate.{Rate}
 use Rattle.cc_base.specs.declared.rate.Rate.TheVariants as rate
-use Rattle.line21_codes.specs.declared.channels.Chan.{Chan}
 use Rattle.line21_codes.specs.declared.channels.Chan.TheVariants.{Cc1, Cc3}
 use Rattle.line21_codes.specs.declared.pairs.Pair.{Pair}
 use Rattle.line21_slots.specs.Cadences.{cadence_of, slot_from}
@@ -29,13 +27,11 @@ use Rattle.placements.proofs.PlacingLemmas.{earliest_same}
 use Rattle.service_lanes.proofs.ChunkOrderLemmas.{none_of_line21, none_sent}
 use Rattle.service_lanes.specs.ServiceBytes.{bytes_in}
 use Rattle.service_lanes.specs.ServicePlan.{PlannedService, lane_bytes}
-use Rattle.service_lanes.specs.declared.chunk.Chunk.{Chunk}
-use Rattle.dtvcc_author.specs.declared.caption.Caption.{Caption}
 use Rattle.frame_scheduler.specs.Blocks.{blocks_of, blocks_room, lane_block, service_block}
 use Rattle.frame_scheduler.specs.Frames.{AreFieldsPlanned, PlanAnswer}
 use Rattle.frame_scheduler.specs.LanePlan.{Planned, earlier_fault, fault_beside, lane_pair}
 use Rattle.frame_scheduler.specs.LaneSets.{IsFaultIn, IsField, IsServiceBelow}
-use Rattle.frame_scheduler.specs.Planned.{IsLanePlaced, Placement, captions_in, channel_pair, chunks_in, frame_blocks, service_bytes, service_lane_of, services, share_in}
+use Rattle.frame_scheduler.specs.Planned.{IsLanePlaced, Placement, captions_in, chunks_in, frame_blocks, service_bytes, service_lane_of, services}
 use Rattle.frame_scheduler.specs.ServicePlans.{AreServices, AreServicesPlanned, IsServicePlanned, shared_below}
 use Rattle.frame_scheduler.specs.ServicesLeft.{IsNumbered}
 use Rattle.frame_scheduler.specs.declared.frames.FrameBytes.{FrameBytes}
@@ -45,11 +41,11 @@ use Rattle.frame_scheduler.proofs.LanesLemmas.{IsAny, IsOnly, at_first, cover_fi
 use Rattle.frame_scheduler.proofs.ServicesLemmas.{IsAmong, below_roomy, planned_of, shared_or_not, share_is, unshared, unshared_placed, unshared_roomy}
 
 -- the bytes that the share of a service takes, with the header of its block
-abbrev weight : List Share → ℕ → ℕ
+abbrev pub weight : List Share → ℕ → ℕ
 weight shares service = unwrap_or (option_map (λ (s : Share). s.bytes + 1) (find (λ (s : Share). s.service == service) shares)) 0
 
 -- those of the services below a number
-abbrev weights : List Share → ℕ → ℕ
+abbrev pub weights : List Share → ℕ → ℕ
 weights shares zero = 0
 weights shares (suc n) = weights shares n + weight shares n
 
@@ -76,7 +72,7 @@ weights_none : (n : ℕ) → weights [] n ≡ 0
 weights_none zero = refl
 weights_none (suc n) = let rest = weights_none n in omega (arith, rest)
 
-weights_taken : (shares : List Share) (n : ℕ) → weights shares n ≤ shares_taken shares
+pub weights_taken : (shares : List Share) (n : ℕ) → weights shares n ≤ shares_taken shares
 weights_taken [] n = let none = weights_none n in omega (arith, none)
 weights_taken (x ∷ xs) n =
     let rest = weights_taken xs n in
@@ -85,7 +81,7 @@ weights_taken (x ∷ xs) n =
     omega (arith, rest, one, all)
 
 -- a frame has at most 35 bytes of blocks
-room_most : (r : Rate) → share_room r ≤ 35
+pub room_most : (r : Rate) → share_room r ≤ 35
 room_most rate.F23976 = omega arith
 room_most rate.F24 = omega arith
 room_most rate.F25 = omega arith
@@ -118,6 +114,14 @@ planned_parts l (s ∷ ss) ts (p ∷ plans) are =
     let rest = planned_parts l ss ts plans are.1 in
     record { front = p ∷ rest.front; back = rest.back; is = ap (λ ps. p ∷ ps) rest.is; first = (are.0, rest.first); second = rest.second }
 
+-- the share of a service, with the header
+pub weight_is : (l : Listing) (n bytes : ℕ) → share_of l n ≡ Some bytes → weight l.shares n ≡ bytes + 1
+weight_is l n bytes is = at (find (λ (s : Share). s.service == n) l.shares) is
+  where
+    at : (found : Option Share) → option_map (λ (s : Share). s.bytes) found ≡ Some bytes → unwrap_or (option_map (λ (s : Share). s.bytes + 1) found) 0 ≡ bytes + 1
+    at None none = cc
+    at (Some s) some = let same : s.bytes ≡ bytes = cc in ap (λ n. n + 1) same
+
 -- of one service or none
 one_room : (l : Listing) (n : ℕ) (o : Option ℕ) (plans : List PlannedService) → share_of l n ≡ o
     → AreServicesPlanned l (if is_some o then n ∷ [] else []) plans → blocks_room plans ≤ weight l.shares n
@@ -126,13 +130,9 @@ one_room l n None (p ∷ plans) is are = absurd are
 one_room l n (Some bytes) [] is are = absurd are
 one_room l n (Some bytes) (p ∷ []) is are =
     let share : p.share ≡ bytes = are.0.share_is ∙ ap (λ o. unwrap_or o 0) is in
-    let size : weight l.shares n ≡ bytes + 1 = weight_of (find (λ (s : Share). s.service == n) l.shares) is in
+    let size = weight_is l n bytes is in
     let all = sum_by-cons (λ (q : PlannedService). q.share + 1) p [] in
     omega (arith, share, size, all)
-  where
-    weight_of : (found : Option Share) → option_map (λ (s : Share). s.bytes) found ≡ Some bytes → unwrap_or (option_map (λ (s : Share). s.bytes + 1) found) 0 ≡ bytes + 1
-    weight_of None none = cc
-    weight_of (Some s) some = let same : s.bytes ≡ bytes = cc in ap (λ n. n + 1) same
 one_room l n (Some bytes) (p ∷ (q ∷ plans)) is are = absurd are.1
 
 -- the blocks of planned services have room
@@ -261,7 +261,7 @@ module _ (l : Listing) (formed : IsFormed l) (ruled : IsRuled l) where
       ∙ ap (λ fs. service_block service (bytes_in (captions_in l service) (zip (chunks_in l service) fs) frame)) frames
 
   -- a service without a share has no block
-  no_block : (placed : Placement) (service frame : ℕ) → share_of l service ≡ None
+  pub no_block : (placed : Placement) (service frame : ℕ) → share_of l service ≡ None
       → service_block service (service_bytes l service (placed (Service service)) frame) ≡ []
   no_block placed service frame none =
       let sent = none_sent l service ruled none in

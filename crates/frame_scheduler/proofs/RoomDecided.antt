@@ -39,7 +39,7 @@ use Rattle.frame_scheduler.specs.Planned as list
 use Rattle.frame_scheduler.specs.SlotLists.{slot_cues}
 use Rattle.frame_scheduler.proofs.ChannelOrderLemmas.{channel_in_order}
 use Rattle.frame_scheduler.proofs.FieldLaneLemmas.{fits_earlier}
-use Rattle.placements.proofs.LaneRoomLemmas.{no_room_at, room_all}
+use Rattle.placements.proofs.LaneRoomLemmas.{no_room_at}
 use Rattle.frame_scheduler.proofs.LanesLemmas.{IsAny, IsOnly, channel_fault, cover_fields, earliest_room, first_of_any, in_fields, placed_everywhere, placement, service_fault, service_room}
 use Rattle.placements.proofs.PlacingLemmas.{earliest_none, one_more}
 

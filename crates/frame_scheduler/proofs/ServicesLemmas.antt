@@ -1,11 +1,9 @@
 -- The lanes of services, one after another.
-use Rattle.std.proofs.Common.{◌≡◌, ◌∙◌, ◌+◌, ◌<◌, ◌≤◌, ◌⊎◌, inl, inr, ◌==◌, ℕ, zero, suc, Bool, true, false, List, [], ◌∷◌, ◌++◌, ap, sym, subst, refl, arith, Some, None, Option, Result, Ok, Err, IfOk, IfErr, All, append-nil, append_assoc}
+use Rattle.std.proofs.Common.{◌≡◌, ◌∙◌, ◌<◌, ◌≤◌, ◌⊎◌, inl, inr, ◌==◌, ℕ, zero, suc, Bool, true, false, List, [], ◌∷◌, ◌++◌, ap, sym, subst, refl, arith, Some, None, Option, Result, Ok, Err, IfOk, IfErr, All, append-nil}
 use Rattle.std.specs.Prelude.{is_some, if◌then◌else◌, option_map, find, unwrap_or, Vec}
 use Rattle.std.specs.Global.{Global}
-use Rattle.std.specs.List.{flat_map, zip}
-use Rattle.std.proofs.lemmas.Bool.{cases_eq, cases_lt, eq-eqb, eqb-true}
-use Rattle.std.proofs.lemmas.List.Concat.{flat_map-append}
-use Rattle.std.proofs.lemmas.List.Elements.{All-cons, All-head, All-nil, All-tail}
+use Rattle.std.proofs.lemmas.Bool.{cases_eq, cases_lt, eqb-true}
+use Rattle.std.proofs.lemmas.List.Elements.{All-head, All-tail}
 use Rattle.std.proofs.lemmas.Result.{IfErr-weaker}
 use Rattle.cc_base.specs.declared.rate.Rate.{Rate}
 use Rattle.dtvcc_author.specs.Captions.{captions_of}
@@ -13,22 +11,19 @@ use Rattle.service_lanes.specs.ServiceChunks.{service_chunks}
 use Rattle.cue_lists.specs.declared.cue.Cue.{Cue}
 use Rattle.cue_lists.specs.Listing.{IsFormed, Listing, share_of}
 use Rattle.cue_lists.specs.Rules.{IsRuled}
-use Rattle.cue_lists.specs.Shares.{AreShares, IsShare}
+use Rattle.cue_lists.specs.Shares.{IsShare}
 use Rattle.cue_lists.specs.declared.lane.Lane.{Lane}
 use Rattle.cue_lists.specs.declared.lane.Lane.TheVariants.{Channel, Service}
 use Rattle.cue_lists.specs.declared.list.Share.{Share}
 use Rattle.placements.specs.Placing.{IsEarliest}
 use Rattle.placements.specs.declared.planning.PlanFault.{PlanFault}
 use Rattle.placements.specs.declared.planning.PlanFault.TheVariants.{Memory, NoRoom}
-use Rattle.placements.proofs.PlacingLemmas.{earliest_none, earliest_same}
-use Rattle.service_lanes.specs.ServicePlan.{IsLaneFault, IsPlanOf, PlannedService, lane_bytes}
+use Rattle.placements.proofs.PlacingLemmas.{earliest_none}
+use Rattle.service_lanes.specs.ServicePlan.{IsLaneFault, IsPlanOf, PlannedService}
 use Rattle.service_lanes.proofs.ChunkOrderLemmas.{none_sent}
-use Rattle.frame_scheduler.specs.Blocks.{blocks_of, blocks_room, lane_block, service_block}
-use Rattle.frame_scheduler.specs.LanePlan.{earlier_fault, fault_beside}
-use Rattle.frame_scheduler.specs.LaneSets.{IsFaultIn, IsFirstIn, IsServiceBelow}
-use Rattle.frame_scheduler.specs.Planned.{IsLanePlaced, LaneHasRoom, captions_in, chunks_in, service_bytes, service_lane_of, services, share_in}
+use Rattle.frame_scheduler.specs.LaneSets.{IsFaultIn, IsServiceBelow}
+use Rattle.frame_scheduler.specs.Planned.{IsLanePlaced, captions_in, chunks_in, service_lane_of, share_in}
 use Rattle.frame_scheduler.specs.ServicePlans.{AreServices, AreServicesPlanned, IsBeside, IsServicePlanned, shared_below}
-use Rattle.frame_scheduler.specs.ServicesLeft.{IsNumbered}
 use Rattle.frame_scheduler.proofs.LaneSetLemmas.{IsRoomy, fault_of_both, fault_of_p, fault_of_q}
 use Rattle.frame_scheduler.proofs.LanesLemmas.{IsOnly, service_fault, service_room}
 

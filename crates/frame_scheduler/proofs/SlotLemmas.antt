@@ -1,16 +1,14 @@
 -- A list that keeps the rules, in slots.
-use Rattle.std.proofs.Common.{◌≡◌, ℕ, List, All, sym, subst}
-use Rattle.std.specs.List.{AllByRecursion}
+use Rattle.std.proofs.Common.{ℕ, All, sym, subst}
 use Rattle.std.proofs.lemmas.List.Elements.{recursion_from_All}
 use Rattle.line21_codes.specs.declared.channels.Chan.{Chan}
-use Rattle.line21_slots.specs.Cadences.{cadence_of, slot_from, slot_step, step_of}
+use Rattle.line21_slots.specs.Cadences.{cadence_of, slot_from, step_of}
 use Rattle.line21_slots.proofs.CadenceLemmas.{slot_step_is}
 use Rattle.cue_lists.specs.Channels.{cues_on}
 use Rattle.cue_lists.specs.Cues.{IsCueFormed}
 use Rattle.cue_lists.specs.Listing.{IsFormed, Listing}
 use Rattle.cue_lists.specs.Rules.{IsRuled}
 use Rattle.cue_lists.specs.Rules.Sentences.{AreInSequence, IsOnSlots}
-use Rattle.cue_lists.specs.declared.cue.Cue.{Cue}
 use Rattle.line21_author.proofs.CueSlotLemmas.{cues_formed_in_slots, cues_on_slots}
 use Rattle.line21_author.proofs.SlotSequenceLemmas.{AreInSlots, in_slots}
 use Rattle.frame_scheduler.specs.SlotLists.{slot_cues, slots_in_list}

@@ -1,5 +1,5 @@
 -- A field's lane that is placed, and what placing one answers.
-use Rattle.std.specs.Prelude.{◌≡◌, ℕ, ◌+◌, List, min, ⊤, Option, Some, None, if◌then◌else◌, Result, Ok, Err}
+use Rattle.std.specs.Prelude.{◌≡◌, ℕ, ◌+◌, List, min, ⊤, Option, Some, None, if◌then◌else◌}
 use Rattle.std.specs.Option.{option_map}
 use Rattle.line21_codes.specs.declared.pairs.Pair.{Pair}
 use Rattle.line21_slots.specs.Cadences.{has_slot_in, slot_in}

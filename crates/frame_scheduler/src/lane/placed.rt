@@ -9,9 +9,9 @@ use crate::lane::cursor::Cursor;
 use crate::lane::front::Front;
 use crate::lane::piece::Piece;
 use crate::lane::placed_unit::PlacedUnit;
-use placements::PlanFault;
 use line21_author::Event;
 use line21_codes::Pair;
+use placements::PlanFault;
 use std::alloc::Global;
 use std::marker::Model;
 

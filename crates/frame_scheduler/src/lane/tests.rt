@@ -2,9 +2,9 @@ ghost use Rattle.std.specs.Prelude.{◌≡◌, ◌+◌, ◌^◌, ◌<◌, length
 
 use crate::lane::piece::Piece;
 use crate::lane::placed::{FieldLane, PlacedLane};
-use placements::PlanFault;
 use line21_author::{Event, Unit};
 use line21_codes::Pair;
+use placements::PlanFault;
 use std::process::Abort;
 use std::test::Fail;
 

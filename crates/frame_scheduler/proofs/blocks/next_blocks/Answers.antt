@@ -1,4 +1,4 @@
-use Rattle.std.proofs.Common.{◌≡◌, ◌∙◌, ◌+◌, ◌≤◌, ◌<◌, ◌++◌, length, get_or, set, take, rules, arith, sym, ap, subst}
+use Rattle.std.proofs.Common.{◌≡◌, ◌∙◌, ◌+◌, ◌≤◌, ◌<◌, ◌++◌, length, get_or, set, take, arith, sym, ap, subst}
 use Rattle.frame_scheduler.specs.Blocks.{blocks_room, lane_block, moved_on, next_blocks}
 use Rattle.frame_scheduler.proofs.BlockLemmas.{blocks_one, moved_one, next_of, partly, room_one, room_within}
 use Rattle.frame_scheduler.proofs.blocks.next_blocks.Goals as goal

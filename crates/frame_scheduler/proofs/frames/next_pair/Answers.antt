@@ -1,5 +1,4 @@
-use Rattle.std.proofs.Common.{◌≡◌, ◌∙◌, sym, false}
-use Rattle.line21_slots.specs.Cadences.{has_slot_in}
+use Rattle.std.proofs.Common.{◌∙◌, sym}
 use Rattle.frame_scheduler.proofs.NextFrameLemmas.{none_given}
 use Rattle.frame_scheduler.proofs.frames.next_pair.Goals as goal
 

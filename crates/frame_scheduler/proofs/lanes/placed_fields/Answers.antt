@@ -1,5 +1,4 @@
 use Rattle.line21_codes.specs.declared.channels.Chan.TheVariants.{Cc1, Cc3}
-use Rattle.frame_scheduler.specs.LaneSets.{IsFaultIn, IsField}
 use Rattle.frame_scheduler.proofs.EventsApartLemmas.{events_apart}
 use Rattle.frame_scheduler.proofs.LanesLemmas.{refused_beside, two_refused}
 use Rattle.frame_scheduler.proofs.lanes.placed_fields.Goals as goal

@@ -1,8 +1,7 @@
-use Rattle.std.proofs.Common.{◌≡◌, ◌∙◌, ◌+◌, suc, ℕ, Some, None, ap, sym, subst, arith}
+use Rattle.std.proofs.Common.{◌≡◌, ◌∙◌, ◌+◌, suc, Some, None, sym, subst, arith}
 use Rattle.dtvcc_author.specs.Captions.{captions_of}
 use Rattle.dtvcc_author.specs.Kept.{AreKept}
 use Rattle.service_lanes.proofs.CaptionsKept.{captions_kept}
-use Rattle.frame_scheduler.specs.Planned.{captions_in}
 use Rattle.frame_scheduler.specs.ServicePlans.{AreServices}
 use Rattle.cue_lists.specs.Listing.{share_of}
 use Rattle.frame_scheduler.proofs.ServicesLemmas.{one_faulty, one_planned, services_more, services_none, services_start, share_is}
@@ -15,11 +14,12 @@ loop-service-init c = services_start c.args.list.now c.cues-cues.ensures.formed 
 pub placed_service-requires-clause-kept : goal.placed_service-requires-clause-kept
 placed_service-requires-clause-kept c =
     let l = c.args.list.now in
-    let service = c.loop-service.service in
-    (l.frames,
-    subst (λ r. AreKept r l.frames (captions_of r service c.cues-cues.result.now)) (sym c.rate-rate.ensures)
-    (subst (λ cues. AreKept l.rate l.frames (captions_of l.rate service cues)) (sym c.cues-cues.ensures.cues)
-    (captions_kept l service c.cues-cues.ensures.formed c.requires)))
+    let service = c.loop-service.service in (
+      l.frames,
+      subst (λ r. AreKept r l.frames (captions_of r service c.cues-cues.result.now)) (sym c.rate-rate.ensures)
+          (subst (λ cues. AreKept l.rate l.frames (captions_of l.rate service cues)) (sym c.cues-cues.ensures.cues)
+          (captions_kept l service c.cues-cues.ensures.formed c.requires)),
+    )
 
 pub placed_service-requires-clause-least : goal.placed_service-requires-clause-least
 placed_service-requires-clause-least c =

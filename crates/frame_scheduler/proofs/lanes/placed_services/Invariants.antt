@@ -1,6 +1,4 @@
 use Rattle.frame_scheduler.specs.ServicePlans.{AreServices}
-use Rattle.frame_scheduler.proofs.ServicesLemmas.{services_more}
-use Rattle.frame_scheduler.proofs.LanesLemmas.{refused_beside}
 use Rattle.frame_scheduler.proofs.lanes.placed_services.Given as goal
 
 abbrev pub invariant-loop-service : goal.invariant-loop-service
