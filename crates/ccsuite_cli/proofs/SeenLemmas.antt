@@ -10,7 +10,7 @@ use Rattle.channel_packets.specs.ChannelPackets.{channel_triplets, continues, st
 use Rattle.frame_carrier.specs.Carried.{AreCarried, IsWithinRoom}
 use Rattle.frame_carrier.specs.Carrying.{channel_of, channel_packet, column_bytes, column_packets, frame_packet, packets_before}
 use Rattle.frame_scheduler.specs.Columns.{Columns}
-use Rattle.frame_scheduler.specs.Planned.{columns_of}
+use Rattle.frame_scheduler.specs.Planned.{Placement, columns_of}
 use Rattle.line21_codes.specs.declared.channels.Chan.TheVariants.{Cc1, Cc2, Cc3, Cc4}
 use Rattle.services_files.specs.Services.{services_say}
 use Rattle.services_files.specs.WholeFiles.{file_triplets}
@@ -22,8 +22,9 @@ use Rattle.words_files.proofs.FramesOfLemmas.{file_frames, frames_grow}
 use Rattle.words_files.proofs.GotLemmas.{got}
 use Rattle.cc_receiver.proofs.ReceivedLemmas.{shown_received}
 use Rattle.cc_receiver.proofs.TakenLemmas.{frames_count}
-use Rattle.cue_list_commands.proofs.Outputs.{no_blocks, sound_words}
-use Rattle.cue_list_commands.specs.Output.{build_output, built_packets}
+use Rattle.cue_list_commands.proofs.Outputs.{sound_words}
+use Rattle.cue_lists.specs.Listing.{Listing}
+use Rattle.cue_list_commands.specs.Output.{IsSoundWords, build_output, built_packets}
 use Rattle.ccsuite_cli.specs.Seen.{BuiltWordsAreSeen}
 
 -- a packet a frame
@@ -31,39 +32,10 @@ packets_count : (rate : Rate) (columns : Columns) (frame n : ℕ) → length (co
 packets_count rate columns frame zero = refl
 packets_count rate columns frame (suc n) = ap suc (packets_count rate columns (suc frame) n)
 
--- so the frames that are built carry no channel packet
-quiet_packets : (rate : Rate) (columns : Columns) → ((frame : ℕ) → IsWithinRoom rate (columns frame) (channel_of columns frame) (frame_packet rate frame (columns frame) (channel_of columns frame)))
-    → ((frame : ℕ) → (columns frame).blocks.items ≡ []) → (frame n : ℕ) → channel_triplets (file_triplets (column_packets rate columns frame n)) ≡ []
-quiet_packets rate columns room none frame zero = refl
-quiet_packets rate columns room none frame (suc n) =
-    filter-append (λ t. starts t || continues t) (packet_triplets (frame_packet rate frame (columns frame) (channel_of columns frame)))
-    (file_triplets (column_packets rate columns (suc frame) n))
-    ∙ ap (λ l. l ++ channel_triplets (file_triplets (column_packets rate columns (suc frame) n)))
-    ((room frame).service ∙ ap (channel_packet (packets_before columns frame)) (none frame))
-    ∙ quiet_packets rate columns room none (suc frame) n
-
-built_file : (rate : Rate) (columns : Columns) (n : ℕ) → AreCarried rate columns n → ((frame : ℕ) → (columns frame).blocks.items ≡ [])
-    → IsFileUnder services_say (column_packets rate columns 0 n) (column_bytes rate columns 0 n)
-built_file rate columns n carried none =
-    let packets = column_packets rate columns 0 n in
-    whole-under packets (column_bytes rate columns 0 n) (record {
-      file = carried.file;
-      channel = record {
-        packets = [];
-        blocks = [];
-        channel = record {
-          packets_are = record {
-            strays = [];
-            stretches = [];
-            spelled = quiet_packets rate columns carried.room none 0 n;
-            strays_are = refl;
-            stretches_are = refl;
-            packets_are = refl;
-          };
-          blocks_are = tt;
-        };
-      };
-    })
+-- what is built is a words file whose caption channel is whole
+built_file : (list : Listing) (placed : Placement) → IsSoundWords list placed → IsFileUnder services_say (built_packets list placed) (build_output list placed)
+built_file list placed sound =
+    whole-under (built_packets list placed) (build_output list placed) (record { file = sound.carried.file; channel = sound.whole })
 
 -- so many frames, and others behind them
 front_is : (packets frames behind : List Frame) (n : ℕ) → packets ≡ frames ++ behind → n ≡ length frames → take n packets ≡ frames
@@ -77,7 +49,7 @@ built_seen bytes list placed words rest receiver frame accepted output had count
     let gotten = got services_say words had.bytes_are in
     let frames = gotten.frames in
     let whole : AreFramesOf services_say packets (words ++ rest) =
-    subst (AreFramesOf services_say packets) output (file_frames services_say packets (build_output list placed) (built_file list.rate (columns_of list placed) list.frames sound.carried (no_blocks bytes list placed accepted))) in
+    subst (AreFramesOf services_say packets) output (file_frames services_say packets (build_output list placed) (built_file list placed sound)) in
     let (behind, grown) = frames_grow services_say frames packets words rest gotten.are whole in
     let count : frame + 1 ≡ length frames = sym counted ∙ frames_count frames words receiver had gotten.are in
     let front : take (suc frame) packets ≡ frames = front_is packets frames behind (suc frame) grown (sym (add-one frame) ∙ count) in

@@ -1,7 +1,6 @@
 -- Every list is accepted or refused, never both, and refused with one status.
-use Rattle.std.proofs.Common.{◌≡◌, ◌∙◌, ◌<◌, ◌≤◌, ◌⊎◌, ℕ, List, length, Result, Ok, Err, true, false, refl, sym, subst, ap, arith, inl, inr}
-use Rattle.std.proofs.lemmas.Bool.{cases_Bool, cases_lt}
-use Rattle.cc_base.specs.declared.why.Why.TheVariants as why
+use Rattle.std.proofs.Common.{◌≡◌, ◌∙◌, ◌<◌, ◌≤◌, ◌⊎◌, ℕ, List, length, Result, Ok, Err, refl, sym, subst, ap, arith, inl, inr}
+use Rattle.std.proofs.lemmas.Bool.{cases_lt}
 use Rattle.cc_base.specs.declared.limit_of.LimitOf.TheVariants as limit
 use Rattle.cue_lists.specs.Listing.{Listing}
 use Rattle.cue_lists.specs.Reading.{read_list}
@@ -19,11 +18,10 @@ use Rattle.cue_lists.proofs.Unique.{first_fault_read}
 use Rattle.frame_scheduler.specs.Planned.{IsFirstWithoutRoom, IsListPlaced, Placement}
 use Rattle.frame_scheduler.proofs.LanesLemmas.{first_without_room, one_placement, placed_has_room}
 use Rattle.frame_scheduler.proofs.RoomDecided.{list_decided}
-use Rattle.cue_list_commands.specs.Accepted.{BreaksRule, IsAccepted, IsFaulty, IsGoodList, IsRefused, IsRefusedList, list_limit}
+use Rattle.cue_list_commands.specs.Accepted.{BreaksRule, IsAccepted, IsFaulty, IsGoodList, IsRefused, IsRefusedList, LacksRoom, list_limit}
 use Rattle.cue_list_commands.specs.Reads.{form_status}
-use Rattle.cue_list_commands.specs.Unbuilt.{has_window}
 use Rattle.cue_list_commands.specs.ListVerdict.{AcceptanceIsOne, AcceptedIsNotRefused, EveryListIsJudged, RefusalIsOne}
-use Rattle.command_base.specs.declared.status.Place.TheVariants.{Byte, Field}
+use Rattle.command_base.specs.declared.status.Place.TheVariants.{Field}
 use Rattle.command_base.specs.declared.status.Status.{Status}
 use Rattle.command_base.specs.declared.status.Status.TheVariants as status
 use Rattle.cue_lists.proofs.ListLimits.{no_want_of_memory}
@@ -77,14 +75,6 @@ pub accepted_not_refused : AcceptedIsNotRefused
 accepted_not_refused bytes list placed (status.NoRoom cue) accepted lacks =
     let same = spelled_one bytes lacks.list list lacks.spelled accepted.spelled in
     placed_has_room list placed cue accepted.placement (subst (λ l. IsFirstWithoutRoom l cue) same lacks.first)
-accepted_not_refused bytes list placed (status.Malformed (Field rec field) why) accepted (inl faulty) =
-    spelled_faultless bytes list (fault.Malformed rec field why) accepted.spelled faulty
-accepted_not_refused bytes list placed (status.Malformed (Field rec field) why) accepted (inr unbuilt) =
-    let same = spelled_one bytes unbuilt.list list unbuilt.spelled accepted.spelled in
-    let windows : has_window list ≡ true = subst (λ (l : Listing). has_window l ≡ true) same unbuilt.windows in
-    let none = accepted.built in
-    cc
-accepted_not_refused bytes list placed (status.Malformed (Byte byte) why) accepted refused = refused
 accepted_not_refused bytes list placed answer accepted refused =
     good_not_refused bytes list answer (accepted_good bytes list placed accepted) refused
 
@@ -94,42 +84,20 @@ accepted_once bytes one other placed moved first second =
     let same = spelled_one bytes other one second.spelled first.spelled in
     (sym same, one_placement one placed moved first.placement (subst (λ l. IsListPlaced l moved) same second.placement))
 
--- a list that keeps the rules can't be placed: it has a window, or a cue of it has no room
-record IsUnplaced (bytes : List ℕ) (answer : Status) : Type 0 where
-  list : Listing
-  within : length bytes ≤ list_limit
-  spelled : Spells (records_of bytes) list
-  ruled : IsRuled list
-  cause : ((has_window list ≡ true) × (answer ≡ status.Malformed (Field 2 1) why.NotBuilt))
-      ⊎ ((cue : ℕ) × (has_window list ≡ false) × IsFirstWithoutRoom list cue × (answer ≡ status.NoRoom cue))
-
 -- why a list is refused
 abbrev Cause : List ℕ → Status → Type 0
 Cause bytes answer = ((list_limit < length bytes) × (answer ≡ status.Limit limit.Bytes))
     ⊎ ((f : CueFault) × IsFaulty bytes f × (answer ≡ form_status f))
     ⊎ ((fault : RuleFault) × BreaksRule bytes fault × (answer ≡ status.Rule fault))
-    ⊎ IsUnplaced bytes answer
+    ⊎ ((cue : ℕ) × LacksRoom bytes cue × (answer ≡ status.NoRoom cue))
 
 cause_of : (bytes : List ℕ) (answer : Status) → IsRefused bytes answer → Cause bytes answer
 cause_of bytes (status.Limit limit.Bytes) long = inl (long, refl)
 cause_of bytes (status.Limit limit.Frames) faulty = inr (inl (fault.Limit limit.Frames, faulty, refl))
 cause_of bytes (status.Limit limit.Cues) faulty = inr (inl (fault.Limit limit.Cues, faulty, refl))
-cause_of bytes (status.Malformed (Field rec field) why) (inl faulty) = inr (inl (fault.Malformed rec field why, faulty, refl))
-cause_of bytes (status.Malformed (Field rec field) why) (inr unbuilt) = inr (inr (inr (record {
-  list = unbuilt.list;
-  within = unbuilt.within;
-  spelled = unbuilt.spelled;
-  ruled = unbuilt.ruled;
-  cause = inl (unbuilt.windows, rw (unbuilt.record_is, unbuilt.field_is, unbuilt.reason_is) refl);
-})))
+cause_of bytes (status.Malformed (Field rec field) why) faulty = inr (inl (fault.Malformed rec field why, faulty, refl))
 cause_of bytes (status.Rule fault) breaks = inr (inr (inl (fault, breaks, refl)))
-cause_of bytes (status.NoRoom cue) lacks = inr (inr (inr (record {
-  list = lacks.list;
-  within = lacks.within;
-  spelled = lacks.spelled;
-  ruled = lacks.ruled;
-  cause = inr (cue, lacks.built, lacks.first, refl);
-})))
+cause_of bytes (status.NoRoom cue) lacks = inr (inr (inr (cue, lacks, refl)))
 cause_of bytes _ refused = absurd refused
 
 -- a list has one fault, one broken rule, one first cue without a placement
@@ -144,43 +112,38 @@ one_rule_fault bytes a b first second =
     let same = spelled_one bytes second.list first.list second.spelled first.spelled in
     one_fault first.list a b first.broken (subst (λ l. HasFault l b) same second.broken)
 
-one_unplaced : (list : Listing) (one other : Status)
-    → ((has_window list ≡ true) × (one ≡ status.Malformed (Field 2 1) why.NotBuilt)) ⊎ ((cue : ℕ) × (has_window list ≡ false) × IsFirstWithoutRoom list cue × (one ≡ status.NoRoom cue))
-    → ((has_window list ≡ true) × (other ≡ status.Malformed (Field 2 1) why.NotBuilt)) ⊎ ((cue : ℕ) × (has_window list ≡ false) × IsFirstWithoutRoom list cue × (other ≡ status.NoRoom cue)) → one ≡ other
-one_unplaced list one other (inl (windows, is)) (inl (again, at)) = is ∙ sym at
-one_unplaced list one other (inl (windows, is)) (inr (cue, none, first, at)) = absurd (let q = sym windows ∙ none in cc)
-one_unplaced list one other (inr (cue, none, first, is)) (inl (windows, at)) = absurd (let q = sym windows ∙ none in cc)
-one_unplaced list one other (inr (cue, none, first, is)) (inr (more, again, second, at)) = is ∙ ap status.NoRoom (first_without_room list cue more first second) ∙ sym at
+one_cue : (bytes : List ℕ) (a b : ℕ) → LacksRoom bytes a → LacksRoom bytes b → a ≡ b
+one_cue bytes a b first second =
+    let same = spelled_one bytes second.list first.list second.spelled first.spelled in
+    first_without_room first.list a b first.first (subst (λ l. IsFirstWithoutRoom l b) same second.first)
 
 -- two causes are one
 same_status : (bytes : List ℕ) (one other : Status) → Cause bytes one → Cause bytes other → one ≡ other
 same_status bytes one other (inl (long, is)) (inl (too_long, at)) = is ∙ sym at
 same_status bytes one other (inl (long, is)) (inr (inl (f, faulty, at))) = absurd (let within = faulty.within in omega arith)
 same_status bytes one other (inl (long, is)) (inr (inr (inl (fault, breaks, at)))) = absurd (let within = breaks.within in omega arith)
-same_status bytes one other (inl (long, is)) (inr (inr (inr lacks))) = absurd (let within = lacks.within in omega arith)
+same_status bytes one other (inl (long, is)) (inr (inr (inr (cue, lacks, at)))) = absurd (let within = lacks.within in omega arith)
 same_status bytes one other (inr (inl (f, faulty, is))) (inl (long, at)) = absurd (let within = faulty.within in omega arith)
 same_status bytes one other (inr (inl (f, faulty, is))) (inr (inl (g, other_faulty, at))) =
     is ∙ ap form_status (one_form_fault bytes f g faulty other_faulty) ∙ sym at
 same_status bytes one other (inr (inl (f, faulty, is))) (inr (inr (inl (fault, breaks, at)))) =
     absurd (spelled_faultless bytes breaks.list f breaks.spelled faulty)
-same_status bytes one other (inr (inl (f, faulty, is))) (inr (inr (inr lacks))) =
+same_status bytes one other (inr (inl (f, faulty, is))) (inr (inr (inr (cue, lacks, at)))) =
     absurd (spelled_faultless bytes lacks.list f lacks.spelled faulty)
 same_status bytes one other (inr (inr (inl (fault, breaks, is)))) (inl (long, at)) = absurd (let within = breaks.within in omega arith)
 same_status bytes one other (inr (inr (inl (fault, breaks, is)))) (inr (inl (f, faulty, at))) =
     absurd (spelled_faultless bytes breaks.list f breaks.spelled faulty)
 same_status bytes one other (inr (inr (inl (fault, breaks, is)))) (inr (inr (inl (other_fault, other_breaks, at)))) =
     is ∙ ap status.Rule (one_rule_fault bytes fault other_fault breaks other_breaks) ∙ sym at
-same_status bytes one other (inr (inr (inl (fault, breaks, is)))) (inr (inr (inr lacks))) =
+same_status bytes one other (inr (inr (inl (fault, breaks, is)))) (inr (inr (inr (cue, lacks, at)))) =
     absurd (spelled_unbroken bytes lacks.list fault lacks.spelled lacks.ruled breaks)
-same_status bytes one other (inr (inr (inr lacks))) (inl (long, at)) = absurd (let within = lacks.within in omega arith)
-same_status bytes one other (inr (inr (inr lacks))) (inr (inl (f, faulty, at))) =
+same_status bytes one other (inr (inr (inr (cue, lacks, is)))) (inl (long, at)) = absurd (let within = lacks.within in omega arith)
+same_status bytes one other (inr (inr (inr (cue, lacks, is)))) (inr (inl (f, faulty, at))) =
     absurd (spelled_faultless bytes lacks.list f lacks.spelled faulty)
-same_status bytes one other (inr (inr (inr lacks))) (inr (inr (inl (fault, breaks, at)))) =
+same_status bytes one other (inr (inr (inr (cue, lacks, is)))) (inr (inr (inl (fault, breaks, at)))) =
     absurd (spelled_unbroken bytes lacks.list fault lacks.spelled lacks.ruled breaks)
-same_status bytes one other (inr (inr (inr lacks))) (inr (inr (inr other_lacks))) =
-    let same = spelled_one bytes other_lacks.list lacks.list other_lacks.spelled lacks.spelled in
-    one_unplaced lacks.list one other lacks.cause
-    (subst (λ (l : Listing). ((has_window l ≡ true) × (other ≡ status.Malformed (Field 2 1) why.NotBuilt)) ⊎ ((cue : ℕ) × (has_window l ≡ false) × IsFirstWithoutRoom l cue × (other ≡ status.NoRoom cue))) same other_lacks.cause)
+same_status bytes one other (inr (inr (inr (cue, lacks, is)))) (inr (inr (inr (more, other_lacks, at)))) =
+    is ∙ ap status.NoRoom (one_cue bytes cue more lacks other_lacks) ∙ sym at
 
 -- a list that is refused is refused with one status
 pub refused_once : RefusalIsOne
@@ -206,12 +169,9 @@ Judged bytes = ((list : Listing) × (placed : Placement) × IsAccepted bytes lis
 list_judged : (bytes : List ℕ) (list : Listing) → length bytes ≤ list_limit → Spells (records_of bytes) list → Judged bytes
 list_judged bytes list within spelled =
     elim (ruled_or_broken list) [
-      | inl ruled ↦ elim (cases_Bool (has_window list)) [
-        | inl windows ↦ inr (status.Malformed (Field 2 1) why.NotBuilt, inr (record { list = list; within = within; spelled = spelled; ruled = ruled; windows = windows; record_is = refl; field_is = refl; reason_is = refl }))
-        | inr none ↦ elim (list_decided list spelled.formed ruled) [
-          | inl there ↦ inl (list, there.0, record { within = within; spelled = spelled; built = none; ruled = ruled; placement = there.1 })
-          | inr without ↦ inr (status.NoRoom without.0, record { list = list; within = within; spelled = spelled; built = none; ruled = ruled; first = without.1 })
-        ]
+      | inl ruled ↦ elim (list_decided list spelled.formed ruled) [
+        | inl there ↦ inl (list, there.0, record { within = within; spelled = spelled; ruled = ruled; placement = there.1 })
+        | inr without ↦ inr (status.NoRoom without.0, record { list = list; within = within; spelled = spelled; ruled = ruled; first = without.1 })
       ]
       | inr broken ↦ inr (status.Rule broken.0, record { list = list; within = within; spelled = spelled; broken = broken.1 })
     ]

@@ -31,7 +31,6 @@ written_is_built_alike bytes list placed accepted within = record {
       formed = in_order_formed list accepted.spelled.formed;
       allowed = tt;
     };
-    built = accepted.built;
     ruled = in_order_ruled list accepted.spelled.formed accepted.ruled;
     placement = λ on. placed_in_order list placed accepted.spelled.formed on (accepted.placement on);
   };

@@ -1,5 +1,5 @@
 -- What holds of the output of an accepted list.
-use Rattle.std.proofs.Common.{[], ◌≡◌, ◌∙◌, sym, subst, true, false, ℕ, suc, List, reverse, arith, Option, Some, None}
+use Rattle.std.proofs.Common.{◌≡◌, ◌∙◌, sym, subst, true, false, ℕ, suc, List, reverse, arith, Option, Some, None}
 use Rattle.std.specs.Prelude.{IfSome}
 use Rattle.std.specs.Io.KnownBytes.{Appends}
 use Rattle.cc_base.specs.Streams.{Puts}
@@ -21,8 +21,8 @@ use Rattle.frame_scheduler.proofs.ListDoublingLemmas.{columns_doubled}
 use Rattle.frame_carrier.specs.Carried.{AreBytePairs, AreCarried, IsBytePair}
 use Rattle.frame_carrier.specs.Carrying.{column_bytes}
 use Rattle.frame_carrier.proofs.CarriedLemmas.{frames_carried}
-use Rattle.frame_carrier.proofs.CarryingLemmas.{quiet_bytes, quiet_roomy}
-use Rattle.frame_scheduler.proofs.PlanLemmas.{windowless_blocks}
+use Rattle.services_carried.proofs.ChannelLemmas.{programmes_whole}
+use Rattle.services_carried.proofs.RoomLemmas.{blocks_bytes, blocks_within, frames_roomy, has_blocks}
 use Rattle.line21_shown.specs.Shown.{ShowsField}
 use Rattle.line21_shown.proofs.CaptionedLemmas.{AreBytes, frame_bytes}
 use Rattle.line21_shown.proofs.SequenceLemmas.{authored_seen}
@@ -56,21 +56,18 @@ byte_pairs list placed formed false frame =
 byte_pairs list placed formed true frame =
     of_bytes (channel_pair list Cc3 (placed (Channel Cc3)) frame) (frame_bytes list Cc3 (placed (Channel Cc3)) formed.cues frame)
 
--- a list without windows has no service blocks
-pub no_blocks : (bytes : List ℕ) (list : Listing) (placed : Placement) → IsAccepted bytes list placed → (frame : ℕ) → (columns_of list placed frame).blocks.items ≡ []
-no_blocks bytes list placed accepted frame =
-    windowless_blocks list placed frame accepted.built
-
 -- what `build` puts of an accepted list is sound
 pub sound_words : (bytes : List ℕ) (list : Listing) (placed : Placement) → IsAccepted bytes list placed → IsSoundWords list placed
 sound_words bytes list placed accepted =
     let formed : IsFormed list = accepted.spelled.formed in
     let carried : AreCarried list.rate (columns_of list placed) list.frames =
-    frames_carried list.rate (columns_of list placed) list.frames (byte_pairs list placed formed) (quiet_bytes (columns_of list placed) (no_blocks bytes list placed accepted))
-    (quiet_roomy list.rate (columns_of list placed) (no_blocks bytes list placed accepted)) in
+    frames_carried list.rate (columns_of list placed) list.frames (byte_pairs list placed formed) (blocks_bytes list placed formed accepted.ruled accepted.placement)
+    (frames_roomy list placed formed accepted.ruled accepted.placement) in
     record {
       doubled = doubled_columns bytes list placed accepted;
       carried = carried;
+      within = blocks_within list placed formed accepted.ruled accepted.placement;
+      whole = programmes_whole list.rate (columns_of list placed) list.frames (has_blocks list placed formed accepted.ruled accepted.placement) carried;
       shown = λ frame below second_field.
           subst (λ (pairs : List Pair). ShowsField (after second_field (reverse pairs)) (authored_channel second_field) list.cues frame)
           (sym (carried.received second_field (suc frame) (omega arith)))

@@ -1,5 +1,5 @@
 -- A list whose form is at fault is refused with that fault's status.
-use Rattle.std.proofs.Common.{◌≢◌, ◌≤◌, ℕ, List, length, Ok, Err, inl}
+use Rattle.std.proofs.Common.{◌≢◌, ◌≤◌, ℕ, List, length, Ok, Err}
 use Rattle.std.specs.Prelude.{IfOk, Result}
 use Rattle.cc_base.specs.declared.limit_of.LimitOf.TheVariants as limit
 use Rattle.cue_lists.specs.Answers.{Answers}
@@ -15,7 +15,6 @@ use Rattle.cue_list_commands.specs.Accepted.{IsGoodList, IsRefused, IsRefusedLis
 use Rattle.command_base.proofs.WholeInputLemmas.{AreRefusals}
 use Rattle.command_base.specs.WholeInput.{Judges}
 use Rattle.cue_list_commands.specs.Reads.{IsProgrammeOf, form_status}
-use Rattle.command_base.specs.declared.status.Place.TheVariants.{Byte, Field}
 use Rattle.command_base.specs.declared.status.Status.{Status}
 use Rattle.command_base.specs.declared.status.Status.TheVariants as status
 
@@ -33,16 +32,12 @@ form_refused bytes (fault.Malformed rec field why) within due first = record { w
 -- what is refused where room isn't asked is refused
 pub refused_list : (bytes : List ℕ) (answer : Status) → IsRefusedList bytes answer → IsRefused bytes answer
 refused_list bytes (status.NoRoom cue) refused = absurd refused
-refused_list bytes (status.Malformed (Field rec field) why) refused = inl refused
-refused_list bytes (status.Malformed (Byte byte) why) refused = refused
 refused_list bytes _ refused = refused
 
 -- a list that isn't good has no programme
 pub no_programme : (bytes : List ℕ) (s : Status) → Judges IsGoodList IsRefusedList bytes (Err s) → Judges IsProgrammeOf IsRefused bytes (Err s)
 no_programme bytes status.Memory judged = tt
 no_programme bytes (status.NoRoom cue) judged = absurd judged
-no_programme bytes (status.Malformed (Field rec field) why) judged = inl judged
-no_programme bytes (status.Malformed (Byte byte) why) judged = judged
 no_programme bytes _ judged = judged
 
 -- what is refused is refused with a status of a refusal

@@ -1,8 +1,6 @@
 -- Which cue lists are accepted, and why another one is refused.
-use Rattle.std.specs.Prelude.{◌≡◌, ◌⊎◌, true, ◌<◌, ◌≤◌, ℕ, List, length}
+use Rattle.std.specs.Prelude.{◌<◌, ◌≤◌, ℕ, List, length}
 use Rattle.cc_base.specs.declared.limit_of.LimitOf.TheVariants as limit
-use Rattle.cc_base.specs.declared.why.Why.{Why}
-use Rattle.cc_base.specs.declared.why.Why.TheVariants as why
 use Rattle.cue_lists.specs.FirstFault.{IsFirstFault}
 use Rattle.cue_lists.specs.Listing.{Listing}
 pub use Rattle.cue_lists.specs.Records.{list_limit}
@@ -16,14 +14,12 @@ use Rattle.frame_scheduler.specs.Planned.{IsFirstWithoutRoom, IsListPlaced, Plac
 use Rattle.command_base.specs.declared.status.Place.TheVariants.{Byte, Field}
 use Rattle.command_base.specs.declared.status.Status.{Status}
 use Rattle.command_base.specs.declared.status.Status.TheVariants as status
-use Rattle.cue_list_commands.specs.Unbuilt.{IsBuilt, has_window}
 
--- the records of the bytes spell a cue list that keeps the rules and has no window, and whose units have their earliest
--- placement in these frames
+-- the records of the bytes spell a cue list that keeps the rules, and whose units have their earliest placement in these
+-- frames
 pub record IsAccepted (bytes : List ℕ) (list : Listing) (placed : Placement) : Type 0 where
   pub within : length bytes ≤ list_limit
   pub spelled : Spells (records_of bytes) list
-  pub built : IsBuilt list
   pub ruled : IsRuled list
   pub placement : IsListPlaced list placed
 
@@ -39,24 +35,11 @@ pub record BreaksRule (bytes : List ℕ) (fault : RuleFault) : Type 0 where
   pub spelled : Spells (records_of bytes) list
   pub broken : HasFault list fault
 
--- the records of the bytes spell a list that keeps the rules and has a window, which can't be placed yet: windows begin with
--- the shares of their services, the first of which is record 2
-pub record IsUnbuilt (bytes : List ℕ) (rec field : ℕ) (reason : Why) : Type 0 where
-  pub list : Listing
-  pub within : length bytes ≤ list_limit
-  pub spelled : Spells (records_of bytes) list
-  pub ruled : IsRuled list
-  pub windows : has_window list ≡ true
-  pub record_is : rec ≡ 2
-  pub field_is : field ≡ 1
-  pub reason_is : reason ≡ why.NotBuilt
-
 -- the records of the bytes spell a list that keeps the rules, and this cue is the first without a placement
 pub record LacksRoom (bytes : List ℕ) (cue : ℕ) : Type 0 where
   pub list : Listing
   pub within : length bytes ≤ list_limit
   pub spelled : Spells (records_of bytes) list
-  pub built : IsBuilt list
   pub ruled : IsRuled list
   pub first : IsFirstWithoutRoom list cue
 
@@ -72,12 +55,12 @@ IsRefused bytes (status.Limit limit.Bytes) = list_limit < length bytes
 IsRefused bytes (status.Limit limit.Frames) = IsFaulty bytes (fault.Limit limit.Frames)
 IsRefused bytes (status.Limit limit.Cues) = IsFaulty bytes (fault.Limit limit.Cues)
 IsRefused bytes (status.Malformed (Byte byte) why) = ⊥
-IsRefused bytes (status.Malformed (Field rec field) why) = IsFaulty bytes (fault.Malformed rec field why) ⊎ IsUnbuilt bytes rec field why
+IsRefused bytes (status.Malformed (Field rec field) why) = IsFaulty bytes (fault.Malformed rec field why)
 IsRefused bytes (status.Rule fault) = BreaksRule bytes fault
 IsRefused bytes (status.NoRoom cue) = LacksRoom bytes cue
 IsRefused bytes _ = ⊥
 
--- the same where it isn't asked whether a list can be placed: none is refused for its windows, or for want of room
+-- the same where it isn't asked whether a list can be placed: none is refused for want of room
 abbrev pub IsRefusedList : List ℕ → Status → Type 0
 IsRefusedList bytes (status.NoRoom cue) = ⊥
 IsRefusedList bytes (status.Malformed (Field rec field) why) = IsFaulty bytes (fault.Malformed rec field why)

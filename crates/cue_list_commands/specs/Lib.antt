@@ -6,4 +6,3 @@ pub mod Migration
 pub mod Output
 pub mod Reads
 pub mod SideEnds
-pub mod Unbuilt

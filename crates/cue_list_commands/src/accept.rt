@@ -1,20 +1,17 @@
 ghost use Rattle.std.specs.Prelude.{◌≡◌, ◌≤◌, IfOk, length};
 ghost use Rattle.cue_list_commands.specs.Accepted.{IsGoodList, IsRefused, IsRefusedList, list_limit};
 ghost use Rattle.command_base.specs.WholeInput.{Judges};
-ghost use Rattle.cue_list_commands.specs.Unbuilt.{has_window};
 ghost use Rattle.cue_lists.specs.Rules.{IsRuled};
 ghost use Rattle.cue_list_commands.specs.Reads.{IsProgrammeOf, ReadsList, ReadsProgramme, form_status};
 
 use crate::programme::Programme;
-use cc_base::{Source, Why};
+use cc_base::Source;
 use command_base::{Place, Status, read_input};
-use cue_lists::lane::is_win;
 use cue_lists::{CueFault, CueList, check, parse};
 use frame_scheduler::{PlanFault, plan};
 use std::alloc::Global;
 
-/// Reads a cue list to its end and judges it: its bytes' number, its form and limits, its rules, that it has no window, its
-/// room. Gives its programme, or the status with which it is refused.
+/// Reads a cue list to its end and judges it: its bytes' number, its form and limits, its rules, its room. Gives its programme, or the status with which it is refused.
 pub fn read_programme<M: Source>(alloc: Global, input: &mut M) -> Result<Programme, Status>
     ensures { ReadsProgramme (M.left input.old) (M.left input.new) (M.faults input.old) (M.faults input.new) result }
 {
@@ -44,9 +41,6 @@ fn judge(alloc: Global, bytes: &[u8]) -> Result<Programme, Status>
         Ok(list) => list,
         Err(status) => return Err(status),
     };
-    if has_window(&list) {
-        return Err(Status::Malformed(Place::Field { rec: 2, field: 1 }, Why::NotBuilt));
-    }
     match plan(alloc, &list) {
         Ok(plan) => Ok(Programme {
             rate: list.rate(),
@@ -55,13 +49,6 @@ fn judge(alloc: Global, bytes: &[u8]) -> Result<Programme, Status>
         Err(PlanFault::Memory(_)) => Err(Status::Memory),
         Err(PlanFault::NoRoom(cue)) => Err(Status::NoRoom(cue)),
     }
-}
-
-/// Whether a list has captions in windows, which can't be placed yet.
-fn has_window(list: &CueList) -> bool
-    ensures { result ≡ has_window list.now }
-{
-    list.cues().iter().any(|cue| is_win(cue.kind))
 }
 
 /// Judges all but the placement of a cue list.

@@ -2,7 +2,7 @@
 use Rattle.std.specs.Prelude.{◌≡◌, ℕ, ◌+◌, ◌-◌, ◌<◌, ◌≤◌, nat_lt, if◌then◌else◌, true, false, Option, Some, None, List, []}
 use Rattle.cc_base.specs.declared.rate.Rate.{Rate}
 use Rattle.cc_data.specs.declared.triplet.Triplet.{Triplet}
-use Rattle.frame_carrier.specs.Carrying.{IsAt}
+use Rattle.frame_carrier.specs.Carrying.{IsAt, channel_of, packets_before}
 use Rattle.frame_carrier.specs.FrameTriplets.{frame_triplets}
 use Rattle.frame_scheduler.specs.Columns.{Columns}
 use Rattle.frame_scheduler.specs.Frames.{GivesFrom, frames_left}
@@ -25,10 +25,14 @@ silent_frame rate frame = record {
   blocks = record { items = [] };
 }
 
--- the triplets of a frame, where so many frames are planned
+-- the frames, where so many are planned
+abbrev pub padded : Rate → Columns → ℕ → Columns
+padded rate columns count frame = if nat_lt frame count then columns frame else silent_frame rate frame
+
+-- the triplets of a frame
 abbrev pub captions_of : Rate → Columns → ℕ → ℕ → List Triplet
 captions_of rate columns count frame =
-    frame_triplets rate (if nat_lt frame count then columns frame else silent_frame rate frame) []
+    frame_triplets rate (padded rate columns count frame) (channel_of (padded rate columns count) frame)
 
 -- this frame is next
 pub record GivesCaptions (rate : Rate) (columns : Columns) (count frame : ℕ) (captions : Captions) : Type 0 where
@@ -36,7 +40,7 @@ pub record GivesCaptions (rate : Rate) (columns : Columns) (count frame : ℕ) (
   pub planned : captions.over ≡ false → frame < count → GivesFrom columns frame captions.plan
   pub left : captions.over ≡ false → frames_left captions.plan ≡ count - frame
   pub none_left : captions.over ≡ true → count ≤ frame
-  pub carrier : IsAt rate frame captions.carrier
+  pub carrier : IsAt rate frame (packets_before (padded rate columns count) frame) captions.carrier
 
 -- the plan has given this frame, and the carrier has not carried it yet
 pub record GivesPlanned (rate : Rate) (columns : Columns) (count frame : ℕ) (captions : Captions) : Type 0 where
@@ -44,4 +48,4 @@ pub record GivesPlanned (rate : Rate) (columns : Columns) (count frame : ℕ) (c
   pub planned : captions.over ≡ false → frame + 1 < count → GivesFrom columns (frame + 1) captions.plan
   pub left : captions.over ≡ false → frames_left captions.plan ≡ count - (frame + 1)
   pub none_left : captions.over ≡ true → count ≤ frame
-  pub carrier : IsAt rate frame captions.carrier
+  pub carrier : IsAt rate frame (packets_before (padded rate columns count) frame) captions.carrier

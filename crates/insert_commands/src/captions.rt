@@ -1,8 +1,8 @@
-ghost use Rattle.std.specs.Prelude.{◌≡◌, ◌<◌, ◌≤◌, ◌+◌, ℕ, [], All, MatchBool, length, nat_lt, if◌then◌else◌};
+ghost use Rattle.std.specs.Prelude.{◌≡◌, ◌<◌, ◌≤◌, ◌+◌, ℕ, All, MatchBool, length};
 ghost use Rattle.cc_base.specs.declared.rate.Rate.{Rate as OfRate};
 ghost use Rattle.frame_scheduler.specs.Columns.{Columns};
 ghost use Rattle.frame_scheduler.specs.Frames.{GivesFrom, frames_left};
-ghost use Rattle.insert_commands.specs.ListCaptions.{GivesCaptions, GivesPlanned, captions_of, silent_frame, silent_pair};
+ghost use Rattle.insert_commands.specs.ListCaptions.{GivesCaptions, GivesPlanned, captions_of, padded, silent_frame, silent_pair};
 
 use arrayvec::ArrayVec;
 use cc_base::Rate;
@@ -61,8 +61,7 @@ impl Captions {
     /// What the next frame carries: that of the plan, or a frame without captions.
     fn next_frame(&mut self, frame: u32) -> FrameBytes
         ensures gives { (rate : OfRate) (columns : Columns) (count : ℕ) → GivesCaptions rate columns count frame self.old
-            → (result ≡ (if nat_lt frame count then columns frame else silent_frame rate frame)) × GivesPlanned rate columns count frame self.new }
-        ensures no_blocks { result.blocks.items ≡ [] }
+            → (result ≡ padded rate columns count frame) × GivesPlanned rate columns count frame self.new }
     {
         if !self.over {
             if let Some(bytes) = self.plan.next() {
@@ -84,8 +83,7 @@ impl Captions {
 
 /// A frame without captions.
 fn silent(rate: Rate, frame: u32) -> FrameBytes
-    ensures frame { result ≡ silent_frame rate frame }
-    ensures no_blocks { result.blocks.items ≡ [] }
+    ensures { result ≡ silent_frame rate frame }
 {
     FrameBytes {
         one: silent_pair(rate, Chan::Cc1, frame),

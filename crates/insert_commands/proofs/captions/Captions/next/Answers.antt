@@ -1,16 +1,32 @@
-use Rattle.std.proofs.Common.{[], ap, ◌∙◌, arith}
+use Rattle.std.proofs.Common.{add-one, ap, ◌≡◌, ◌∙◌, arith, subst, suc, sym, ℕ, ◌+◌}
+use Rattle.cc_base.specs.declared.rate.Rate.{Rate}
+use Rattle.frame_carrier.specs.Carrying.{IsAt, channel_packet, packet_count, packets_before}
 use Rattle.frame_carrier.specs.FrameTriplets.{frame_triplets}
+use Rattle.frame_carrier.specs.declared.carrier.Carrier.{Carrier}
+use Rattle.frame_scheduler.specs.Columns.{Columns}
+use Rattle.frame_scheduler.specs.declared.frames.FrameBytes.{FrameBytes}
+use Rattle.insert_commands.specs.ListCaptions.{padded}
 use Rattle.insert_commands.proofs.captions.Captions.next.Goals as goal
+
+-- a carrier that has carried a frame of columns is at the next one
+carried_next : (rate : Rate) (columns : Columns) (frame : ℕ) (carrier : Carrier) (bytes : FrameBytes) → bytes ≡ columns frame
+    → IsAt rate (frame + 1) (packets_before columns frame + packet_count bytes.blocks.items) carrier → IsAt rate (frame + 1) (packets_before columns (frame + 1)) carrier
+carried_next rate columns frame carrier bytes is at =
+    subst (λ (n : ℕ). IsAt rate (frame + 1) (packets_before columns n) carrier) (sym (add-one frame))
+    (subst (λ (b : FrameBytes). IsAt rate (frame + 1) (packets_before columns frame + packet_count b.blocks.items) carrier) is at)
 
 pub returns-clause-gives : goal.returns-clause-gives
 returns-clause-gives c rate columns count had =
-    let given = c.next_frame-bytes.ensures.gives rate columns count had in (
-      c.triplets.ensures.triplets rate c.args.frame given.1.carrier ∙ ap (λ b. frame_triplets rate b []) given.0,
+    let given = c.next_frame-bytes.ensures.gives rate columns count had in
+    let all = padded rate columns count in
+    let frame : ℕ = c.args.frame in
+    let before = packets_before all frame in (
+      c.triplets.ensures.triplets rate frame before given.1.carrier ∙ ap (λ (b : FrameBytes). frame_triplets rate b (channel_packet before b.blocks.items)) given.0,
       record {
         rate_is = given.1.rate_is;
         planned = given.1.planned;
         left = given.1.left;
         none_left = λ over. let most = given.1.none_left over in omega (arith, most);
-        carrier = c.triplets.ensures.next rate c.args.frame given.1.carrier;
+        carrier = carried_next rate all frame _ _ given.0 (c.triplets.ensures.next rate frame before given.1.carrier);
       },
     )
