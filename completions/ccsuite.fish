@@ -7,6 +7,7 @@ complete -c ccsuite -n __fish_use_subcommand -a cues -d 'A cue list as it is wri
 complete -c ccsuite -n __fish_use_subcommand -a decode -d 'The changed screens of each frame of a words file'
 complete -c ccsuite -n __fish_use_subcommand -a show -d 'All screens at a frame of a words file'
 complete -c ccsuite -n __fish_use_subcommand -a verify -d 'Whether words show what a cue list says'
+complete -c ccsuite -n __fish_use_subcommand -a insert -d 'Words with the captions of a cue list'
 complete -c ccsuite -n __fish_use_subcommand -a import -d 'The words of an SCC file'
 complete -c ccsuite -n __fish_use_subcommand -a export -d 'The SCC file of words'
-complete -c ccsuite -n '__fish_seen_subcommand_from verify; and test (count (commandline -opc)) -eq 2' -F
+complete -c ccsuite -n '__fish_seen_subcommand_from verify insert; and test (count (commandline -opc)) -eq 2' -F

@@ -52,7 +52,7 @@ class Case:
 
     @property
     def reads_nothing(self):
-        return self.words[:1] == ["load"] or self.status == 1 or self.listed is not None and self.status == 7
+        return self.words[:1] == ["load"] or self.status == 1 or self.listed is not None and self.status in (7, 8)
 
     @property
     def reads_words(self):
@@ -359,6 +359,11 @@ def commands():
     yield "verify", [
         Case(["verify"], words, listed=hello), Case(["verify"], words, 9, differs, late), Case(["verify"], words[:3200], 10, b"short: 20 frames\n", hello),
         Case(["verify"], words, 7, b"rule Clash: cue 1\n", clash), Case(["verify"], flagged, 6, b"malformed at byte 320: Flag\n", hello),
+    ], [80, 160, 4000]
+    three, four = b"ccsuite,1,29.97,3\n", b"ccsuite,1,29.97,4\n"
+    yield "insert", [
+        Case(["insert"], mixed, listed=three), Case(["insert"], mixed, 10, b"short: 3 frames\n", four), Case(["insert"], words, listed=hello),
+        Case(["insert"], mixed, 8, b"no room: cue 1\n", dense), Case(["insert"], flagged, 6, b"malformed at byte 320: Flag\n", three),
     ], [80, 160, 4000]
     archive = example("archive.scc")
     yield "import", [

@@ -10,6 +10,7 @@ mod build;
 mod cues;
 mod decode;
 mod double_rates;
+mod insert;
 mod pairs;
 mod scc;
 mod seen;
@@ -20,12 +21,14 @@ mod words;
 /// The list of the caption HI on 30 frames.
 const HI: &[u8] = b"ccsuite,1,29.97,30\npop,CC1,0,7,20\nrun,15,0,white,HI\n";
 
-/// What a run is given: its words, its input in pieces, the takes and puts that fail, and the room of its output.
+/// What a run is given: its words, its input in pieces, its side file, the takes and puts that fail, and the room of its output.
 #[derive(Clone, Copy)]
 struct Given<'a> {
     words: &'a [&'a str],
     text: &'a [u8],
     piece: usize,
+    side: &'a [u8],
+    failing_side: &'a [u64],
     failing_takes: &'a [u64],
     failing_puts: &'a [u64],
     room: usize,
@@ -37,6 +40,8 @@ fn pairs_of(text: &[u8], piece: usize) -> Given<'_> {
         words: &["pairs"],
         text,
         piece,
+        side: &[],
+        failing_side: &[],
         failing_takes: &[],
         failing_puts: &[],
         room: 200_000,
@@ -82,7 +87,11 @@ fn run_to_end(alloc: Global, given: Given<'_>) -> Result<Ended, Fail> {
         [given.piece].to_vec(alloc)?,
         given.failing_takes.to_vec(alloc)?,
     );
-    let mut side = SteadySource::new(Vec::new(alloc));
+    let mut side = MemorySource::new(
+        given.side.to_vec(alloc)?,
+        Vec::new(alloc),
+        given.failing_side.to_vec(alloc)?,
+    );
     let mut out = MemorySink::new(alloc, given.room, given.failing_puts.to_vec(alloc)?)?;
     let mut err = MemorySink::new(alloc, 200, Vec::new(alloc))?;
     let status = run(alloc, &words, &mut input, &mut side, &mut out, &mut err);

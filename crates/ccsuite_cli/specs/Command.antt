@@ -7,7 +7,7 @@ use Rattle.time_codes.specs.Texts.{time_of_text}
 use Rattle.time_codes.specs.TimeCodes.{is_time_code}
 use Rattle.time_codes.specs.declared.time_code.TimeCode.{TimeCode}
 use Rattle.ccsuite_cli.specs.declared.command.Command.{Command}
-use Rattle.ccsuite_cli.specs.declared.command.Command.TheVariants.{Build, Cues, Decode, Export, Import, Pairs, Show, Verify}
+use Rattle.ccsuite_cli.specs.declared.command.Command.TheVariants.{Build, Cues, Decode, Export, Import, Insert, Pairs, Show, Verify}
 
 -- the last frame that `show` can name
 abbrev pub last_frame : ℕ
@@ -25,6 +25,7 @@ IsRunnable _ = ⊤
 -- the command names a side file
 abbrev pub has_side_file : Option Command → Bool
 has_side_file (Some Verify) = true
+has_side_file (Some Insert) = true
 has_side_file _ = false
 
 -- the command that these words are, if they are one
@@ -39,6 +40,7 @@ command_of (word ∷ []) =
 command_of (word ∷ argument ∷ []) =
     if bytes_eq word (codes "show") then option_map Show (number_within 0 last_frame argument)
     else if bytes_eq word (codes "verify") then Some Verify
+    else if bytes_eq word (codes "insert") then Some Insert
     else if bytes_eq word (codes "export") then option_map Export (start_of argument)
     else None
 command_of _ = None

@@ -19,7 +19,7 @@ use Rattle.scc_commands.specs.Import.{IsImport, IsRefusedImport, Placed}
 use Rattle.cue_list_commands.specs.SideEnds.{SideEnds}
 use Rattle.ccsuite_cli.specs.Answer.{Answer, RunAnswer}
 use Rattle.ccsuite_cli.specs.declared.command.Command.{Command}
-use Rattle.ccsuite_cli.specs.declared.command.Command.TheVariants.{Build, Cues, Decode, Import, Pairs, Show}
+use Rattle.ccsuite_cli.specs.declared.command.Command.TheVariants.{Build, Cues, Decode, Import, Insert, Pairs, Show}
 
 -- the commands that read a cue list
 abbrev pub ReadsCueList : Command → Type 0
@@ -97,7 +97,12 @@ RefusedImportIsAnswered = (bytes : List ℕ) (refusal : Status) (old new : Ends)
 abbrev pub TellsSideFaults : SideEnds → SideEnds → Status → Type 0
 TellsSideFaults side later answer = side.faults < later.faults → answer ≡ status.ReadFault
 
+-- nothing is asked of the side file, but of that of `insert`: that its bytes are told
+abbrev pub IsSideTold : Option Command → SideEnds → Type 0
+IsSideTold (Some Insert) side = (bytes : List ℕ) × (side.left ≡ Some bytes)
+IsSideTold _ side = Unit {0}
+
 -- every run tells faults
 abbrev pub FaultsAreTold : Type 0
 FaultsAreTold = (command : Option Command) (side later : SideEnds) (old new : Ends) (answer : Status) → RunAnswer command side later old new answer
-    → TellsSideFaults side later answer × TellsFaults old new answer
+    → TellsSideFaults side later answer × (IsSideTold command side → TellsFaults old new answer)

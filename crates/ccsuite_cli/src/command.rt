@@ -21,6 +21,8 @@ pub enum Command {
     Show(u32),
     /// `verify CUES`: whether a words file shows what the cue list of the side file authors.
     Verify,
+    /// `insert CUES`: a words file with the captions of the cue list of the side file in place of its own.
+    Insert,
     /// `import`: the words that carry the pairs of an SCC file.
     Import,
     /// `export TIME`: the SCC file of the field 1 pairs of a words file, whose frame 0 has this time code.
@@ -62,8 +64,8 @@ fn read_word(word: &str) -> Option<Command>
     }
 }
 
-/// The command of a word and its argument: `show` with the number of a frame, `verify` with the path of a side file, whatever it is,
-/// `export` with a time code.
+/// The command of a word and its argument: `show` with the number of a frame, `verify` and `insert` with the path of a side file,
+/// whatever it is, `export` with a time code.
 fn read_two(word: &str, argument: &str) -> Option<Command>
     ensures command { result ≡ command_of (word.now ∷ argument.now ∷ []) }
     ensures runnable { IsRunnable result }
@@ -72,6 +74,8 @@ fn read_two(word: &str, argument: &str) -> Option<Command>
         read_frame(argument).map(Command::Show)
     } else if word == "verify" {
         Some(Command::Verify)
+    } else if word == "insert" {
+        Some(Command::Insert)
     } else if word == "export" {
         match read_start(argument) {
             Some(time) => Some(Command::Export(time)),

@@ -9,6 +9,7 @@ use crate::command::{Command, read_command};
 use cc_base::{Sink, Source};
 use command_base::{Status, put_status};
 use cue_list_commands::{run_build, run_cues, run_pairs};
+use insert_commands::run_insert;
 use scc_commands::{run_export, run_import};
 use std::alloc::Global;
 use verify_commands::run_verify;
@@ -79,6 +80,7 @@ fn perform<M: Source, S: Source, O: Sink>(
         Command::Decode => run_decode(alloc, input, out),
         Command::Show(frame) => run_show(alloc, frame, input, out),
         Command::Verify => run_verify(alloc, input, side, out),
+        Command::Insert => run_insert(alloc, input, side, out),
         Command::Import => run_import(alloc, input, out),
         Command::Export(time) => run_export(alloc, time, input, out),
     }

@@ -5,3 +5,4 @@ pub mod StepLemmas
 pub mod JudgeLemmas
 pub mod StopLemmas
 pub mod FeedLemmas
+pub mod VerdictLemmas

@@ -30,3 +30,9 @@ returns-in-Verify-clause-answer g c = rw c.in-Verify.is c.run_verify.ensures
 
 pub returns-in-Verify-clause-side : goal.returns-in-Verify-clause-side
 returns-in-Verify-clause-side g c = rw c.in-Verify.is (λ none. cc)
+
+pub returns-in-Insert-clause-answer : goal.returns-in-Insert-clause-answer
+returns-in-Insert-clause-answer g c = rw c.in-Insert.is c.run_insert.ensures
+
+pub returns-in-Insert-clause-side : goal.returns-in-Insert-clause-side
+returns-in-Insert-clause-side g c = rw c.in-Insert.is (λ none. cc)
