@@ -16,6 +16,8 @@ mod scc;
 mod seen;
 mod services;
 mod show;
+mod verify;
+mod windows;
 mod words;
 
 /// The list of the caption HI on 30 frames.
@@ -213,9 +215,9 @@ fn refusals() -> [Refusal; 12] {
             b"malformed at record 3 field 2: Field\n",
         ),
         (
-            "ccsuite,1,29.97,300\nshare,1,31\nwin,1,0,0,60,200,0,0,60,50,1,10,0,1,1\nrun,0,0,plain,HI\n",
-            malformed(2, 1, Why::NotBuilt),
-            b"malformed at record 2 field 1: NotBuilt\n",
+            "ccsuite,1,29.97,300\nshare,1,8\nwin,1,0,0,1,200,0,0,60,50,1,10,0,1,1\nrun,0,0,plain,HI\n",
+            Status::NoRoom(1),
+            b"no room: cue 1\n",
         ),
         (
             "ccsuite,1,29.97,30\npop,CC1,0,7,20\nrun,15,0,white,中\n",

@@ -202,7 +202,7 @@ fn hello(alloc: Global) -> Result<Vec<u8>, Fail> {
 }
 
 /// The text of its window.
-const SHOWN: &str =
+pub(super) const SHOWN: &str =
     "S1 1\nW0 at 0 60 50 0 size 1 10 lock 1 1 pri 0 attr 0 0 3 0 0 0 0 fill 0000 border 0000 runs 1\n0 0 1 0 0 1 0 0 0 0222 0000 000 HELLO\n";
 
 /// The text of a service whose window 0 has one row of six columns, with a text in it.
