@@ -39,8 +39,6 @@ pub enum Why {
     SccSyntax,
     /// An SCC line's time code is before that of the line before.
     Backwards,
-    /// A cue list's field is good, and this version can't author it yet.
-    NotBuilt,
     /// A field of a cue list is out of its form or range.
     Field,
     /// A text has a character without a code for its kind of cue.
@@ -78,7 +76,7 @@ pub enum Why {
 }
 
 impl Why {
-    /// The reason's number: 1 to 13 for words and packets, 14 to 17 for SCC files, 19 to 29 and 31 for cue lists and
+    /// The reason's number: 1 to 13 for words and packets, 14 to 17 for SCC files, 20 to 29 and 31 for cue lists and
     /// their rules, 40 to 45 for findings.
     pub fn number(self) -> u8
         ensures { result ≡ number_of self }
@@ -101,7 +99,6 @@ impl Why {
             Why::Header => 15,
             Why::SccSyntax => 16,
             Why::Backwards => 17,
-            Why::NotBuilt => 19,
             Why::Field => 20,
             Why::NoCode => 21,
             Why::Order => 22,
@@ -144,7 +141,6 @@ impl Why {
             Why::Header => "Header",
             Why::SccSyntax => "SccSyntax",
             Why::Backwards => "Backwards",
-            Why::NotBuilt => "NotBuilt",
             Why::Field => "Field",
             Why::NoCode => "NoCode",
             Why::Order => "Order",
