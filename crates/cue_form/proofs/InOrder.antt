@@ -141,19 +141,19 @@ in_six : (service : ℕ) → 1 ≤ service → service ≤ 6 → list_any (λ k.
 in_six service from upto =
     passed (list_any (λ k. k == service) (1 ∷ 2 ∷ 3 ∷ 4 ∷ 5 ∷ 6 ∷ []))
     (λ none.
-        let a = neither_of (1 == service) _ none in
-        let b = neither_of (2 == service) _ a.1 in
-        let c = neither_of (3 == service) _ b.1 in
-        let d = neither_of (4 == service) _ c.1 in
-        let e = neither_of (5 == service) _ d.1 in
-        let f = neither_of (6 == service) _ e.1 in
-        let one = differs 1 service a.0 in
-        let two = differs 2 service b.0 in
-        let three = differs 3 service c.0 in
-        let four = differs 4 service d.0 in
-        let five = differs 5 service e.0 in
-        let six = differs 6 service f.0 in
-        omega (arith, one, two, three, four, five, six))
+    let a = neither_of (1 == service) _ none in
+    let b = neither_of (2 == service) _ a.1 in
+    let c = neither_of (3 == service) _ b.1 in
+    let d = neither_of (4 == service) _ c.1 in
+    let e = neither_of (5 == service) _ d.1 in
+    let f = neither_of (6 == service) _ e.1 in
+    let one = differs 1 service a.0 in
+    let two = differs 2 service b.0 in
+    let three = differs 3 service c.0 in
+    let four = differs 4 service d.0 in
+    let five = differs 5 service e.0 in
+    let six = differs 6 service f.0 in
+    omega (arith, one, two, three, four, five, six))
   where
     neither_of : (a b : Bool) → (a || b) ≡ false → (a ≡ false) × (b ≡ false)
     neither_of true b none = cc

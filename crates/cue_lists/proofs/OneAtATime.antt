@@ -76,19 +76,19 @@ not_both : (list : Listing) (service id frame : ℕ) (cue other : Cue) → IsCue
 not_both list service id frame cue other formed sound clear shows =
     fails (shows_in service id frame other)
     (λ also.
-        let uses = first_of (uses_window service id cue.kind) _ shows in
-        let uses_too = first_of (uses_window service id other.kind) _ also in
-        let here = second_of (uses_window service id cue.kind) _ shows in
-        let there = second_of (uses_window service id other.kind) _ also in
-        let of : is_of_service service cue.kind ≡ true = of_window service id cue.kind uses in
-        let gone = clear.vacated (both_use service id other.kind cue.kind uses_too uses) in
-        hide_at ⊥ cue.hide (window_hides cue.kind cue (window_of_service service cue.kind of) formed.kind)
-        (λ hide is.
-            let before : frame < hide = below_hide frame hide cue.hide is (second_of (nat_le cue.show frame) (is_before frame cue.hide) here) in
-            let left : hide ≤ other.load = if_some (λ h. h ≤ other.load) cue.hide hide gone is in
-            let shown : other.show ≤ frame = le_holds other.show frame (first_of (nat_le other.show frame) (is_before frame other.hide) there) in
-            let loaded : other.load < other.show = sound.loaded in
-            omega arith))
+    let uses = first_of (uses_window service id cue.kind) _ shows in
+    let uses_too = first_of (uses_window service id other.kind) _ also in
+    let here = second_of (uses_window service id cue.kind) _ shows in
+    let there = second_of (uses_window service id other.kind) _ also in
+    let of : is_of_service service cue.kind ≡ true = of_window service id cue.kind uses in
+    let gone = clear.vacated (both_use service id other.kind cue.kind uses_too uses) in
+    hide_at ⊥ cue.hide (window_hides cue.kind cue (window_of_service service cue.kind of) formed.kind)
+    (λ hide is.
+    let before : frame < hide = below_hide frame hide cue.hide is (second_of (nat_le cue.show frame) (is_before frame cue.hide) here) in
+    let left : hide ≤ other.load = if_some (λ h. h ≤ other.load) cue.hide hide gone is in
+    let shown : other.show ≤ frame = le_holds other.show frame (first_of (nat_le other.show frame) (is_before frame other.hide) there) in
+    let loaded : other.load < other.show = sound.loaded in
+    omega arith))
 
 -- each cue of a service is sound
 all_sound : (list : Listing) (service : ℕ) (cues : List Cue) → AreInService list service cues → AllByRecursion (IsSoundWindow list service) cues

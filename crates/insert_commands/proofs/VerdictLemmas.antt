@@ -57,8 +57,10 @@ pub insert_told : (side later : SideEnds) (old new : Ends) (answer : Status)
 insert_told side later old new answer (inl is) = (refused_told side later answer is.0, λ bytes left. same_told old new answer is.1)
 insert_told side later old new answer (inr (programme, reads, inl is)) =
     (λ rose. let e = reads.0 in absurd (omega (arith, rose)), λ bytes left. same_told old new answer is.1)
-insert_told side later old new answer (inr (programme, reads, inr is)) =
-    (λ rose. let e = reads.0 in absurd (omega (arith, rose)), λ bytes left.
-    let given = subst (λ (l : Option (List ℕ)). IfSome l (λ b. IsProgrammeOf b programme)) left reads.1 in
-    let list : Captioning = record { rate = given.list.rate; columns = columns_of given.list given.placed; count = given.list.frames } in
-    words_told list old new answer (is list given.gives given.rate given.frames))
+insert_told side later old new answer (inr (programme, reads, inr is)) = (
+  λ rose. let e = reads.0 in absurd (omega (arith, rose)),
+  λ bytes left.
+      let given = subst (λ (l : Option (List ℕ)). IfSome l (λ b. IsProgrammeOf b programme)) left reads.1 in
+      let list : Captioning = record { rate = given.list.rate; columns = columns_of given.list given.placed; count = given.list.frames } in
+      words_told list old new answer (is list given.gives given.rate given.frames),
+)

@@ -6,7 +6,9 @@ use cue_lists::{check, parse};
 use std::test::Fail;
 
 #[test]
-fn a_plan_keeps_two_lanes_one_of_each_share_and_the_number_of_frames_left(rt: HostRuntime) -> Result<(), Fail> {
+fn a_plan_keeps_two_lanes_one_of_each_share_and_the_number_of_frames_left(
+    rt: HostRuntime,
+) -> Result<(), Fail> {
     let alloc = rt.alloc();
     let Ok(list) = parse(alloc, b"ccsuite,1,29.97,30\nshare,2,12\n") else {
         return Err(Fail::from("the list is good"));
