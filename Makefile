@@ -1,7 +1,7 @@
 # make demo     shows `ccsuite pairs` on a cue list within a minute, not yet proved; then does as `make`, and shows it again
 # make          proves every crate and builds the program: build/ccsuite
 # make check    the gate: every proof from nothing, the must-fail edits, the tests, the program by two compilers
-# make bench    how fast `pairs` and `build` write and `decode` reads, and what cue lists, the receiver's pairs and bytes of services cost
+# make bench    how fast `pairs`, `build` and `insert` write and `decode` and `verify` read, and what cue lists, the receiver's frames and pairs and bytes of services cost
 # make install  puts the program, its man page, completions, documents, examples and viewer under PREFIX (/usr/local), behind DESTDIR if it is set
 # make uninstall      takes away what install puts
 # make faults   makes memory, reads and writes fail at each place of short runs, and compares how each run ends (needs strace)
@@ -51,8 +51,10 @@ bench: build/ccsuite
 	bench/pairs.sh
 	bench/build.sh
 	bench/decode.sh
+	bench/verify.sh
 	bench/cues.sh
 	bench/screen.sh
+	bench/receiver.sh
 	bench/blocks.sh
 	bench/dtvcc_codes.sh
 	bench/scc.sh

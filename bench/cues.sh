@@ -1,7 +1,6 @@
 #!/usr/bin/env bash
-# What a cue list costs to read, check and plan, with 2,000 and with 20,000 pop-on cues, and to read and check with as many
-# cues in eight windows of one service, each with a delay, beside csv that only goes through the records of the same bytes, by
-# turns in one run. Proves and builds bench/cues in a folder of its own.
+# What a cue list costs to read, check and plan, with 2,000 and with 20,000 pop-on cues, and with as many cues in eight windows
+# of one service, each with a delay, beside csv that only goes through the records of the same bytes, by turns in one run. Proves and builds bench/cues in a folder of its own.
 set -eu
 cd "$(dirname "$0")/.."
 work=$(mktemp -d)
@@ -62,8 +61,6 @@ measure() {
 for cues in 2000 20000; do
     for list in "lines-$cues" "windows-$cues"; do
         "$program" check < "$work/$list" | tail -n 1
-        measure "$list" csv
-        measure "$list" check
+        for what in csv check plan; do measure "$list" "$what"; done
     done
-    measure "lines-$cues" plan
 done

@@ -10,4 +10,5 @@ complete -c ccsuite -n __fish_use_subcommand -a verify -d 'Whether words show wh
 complete -c ccsuite -n __fish_use_subcommand -a insert -d 'Words with the captions of a cue list'
 complete -c ccsuite -n __fish_use_subcommand -a import -d 'The words of an SCC file'
 complete -c ccsuite -n __fish_use_subcommand -a export -d 'The SCC file of words'
+complete -c ccsuite -n __fish_use_subcommand -a load -d 'A list of many captions, carried and received'
 complete -c ccsuite -n '__fish_seen_subcommand_from verify insert; and test (count (commandline -opc)) -eq 2' -F

@@ -62,7 +62,7 @@ for shell in bash zsh fish; do
         echo "$shell isn't installed: its completions weren't tried"
         continue
     fi
-    offers "$shell" 'ccsuite ' 'pairs build cues decode show verify insert import export'
+    offers "$shell" 'ccsuite ' 'pairs build cues decode show verify insert import export load'
     offers "$shell" 'ccsuite b' 'build'
     offers "$shell" 'ccsuite q' ''
     offers "$shell" 'ccsuite show ' ''
@@ -71,6 +71,7 @@ for shell in bash zsh fish; do
     offers "$shell" 'ccsuite verify list.csv ' ''
     offers "$shell" 'ccsuite insert l' 'list.csv'
     offers "$shell" 'ccsuite insert list.csv ' ''
+    offers "$shell" 'ccsuite load ' ''
     [ "$failed" = 0 ] && echo "completions of $shell: as they should be"
 done
 exit "$failed"

@@ -323,7 +323,7 @@ def built(text):
 def commands():
     """Each command with its cases, and the sizes of the pieces in which they are read."""
     usage = b"usage: ccsuite pairs|build|decode|show FRAME|verify CUES|insert CUES|import|export TIME|cues|load N\n"
-    yield "usage", [Case(it, b"x", 1, usage) for it in ([], ["load", "0"], ["show"], ["show", "01"], ["pairs", "x"])], []
+    yield "usage", [Case(it, b"x", 1, usage) for it in ([], ["load", "0"], ["load", "03"], ["show"], ["show", "01"], ["pairs", "x"])], []
     hello = example("hello.csv")
     dense = hello.replace(b",0,7,20", b",0,6,20")
     clash = hello.replace(b",0,7,20", b",0,7,8")
@@ -375,6 +375,7 @@ def commands():
         Case(export, words), Case(export, mixed), Case(export, flagged, 6, b"malformed at byte 320: Flag\n"), Case(export, b""),
         Case(["export", "23:59:59:15"], words, 5, b"limit Day\n"),
     ], [80, 160, 4000]
+    yield "load", [Case(["load", "3"], b"")], []
 
 
 # ---- Limits ----------------------------------------------------------------------------------------------------------------------

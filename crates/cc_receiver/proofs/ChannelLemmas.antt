@@ -59,7 +59,7 @@ kept_more true triplet all own more is = ap (λ ts. triplet ∷ ts) is
 kept_more false triplet all own more is = is
 
 -- the triplets of channel packets, of one more triplet
-channel_more : (triplets : List Triplet) (triplet : Triplet) (own : Bool) → (starts triplet || continues triplet) ≡ own
+pub channel_more : (triplets : List Triplet) (triplet : Triplet) (own : Bool) → (starts triplet || continues triplet) ≡ own
     → channel_triplets (triplets ++ triplet ∷ []) ≡ channel_triplets triplets ++ (if own then triplet ∷ [] else [])
 channel_more [] triplet own is = ap (λ (b : Bool). if b then triplet ∷ [] else []) is
 channel_more (first ∷ triplets) triplet own is =

@@ -4,9 +4,11 @@ pub mod RefusedLemmas
 pub mod ChannelLemmas
 pub mod JudgingLemmas
 pub mod ServingLemmas
+pub mod SilentLemmas
 pub mod ByteLemmas
 pub mod GatheredLemmas
 pub mod FilledLemmas
+pub mod FillingLemmas
 pub mod HeardLemmas
 pub mod ReceivedLemmas
 pub mod FinishLemmas
@@ -14,3 +16,5 @@ pub mod WholeLemmas
 pub mod KeepsLemmas
 pub mod IdleLemmas
 pub mod ServedLemmas
+pub mod SeenLemmas
+pub mod FedFrames

@@ -1,4 +1,5 @@
 pub mod Receiving
+pub mod Filling
 pub mod Gathering
 pub mod Hearing
 pub mod Gatherers
@@ -7,6 +8,7 @@ pub mod Serving
 pub mod ReceivedServices
 pub mod Catchers
 pub mod Receivers
+pub mod SeenServices
 pub mod Wholes
 pub mod Idle
 pub mod Feeds

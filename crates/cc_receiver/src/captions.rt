@@ -54,6 +54,7 @@ pub(crate) struct Captions {
 }
 
 // Applies pairs to a field, in order.
+#[inline(always)]
 fn apply_all(field: &mut Field, pairs: &[Pair])
     ensures { (second_field : Bool) (before : List PairOf) → Leads second_field before field.old
         → Leads second_field (reverse pairs.now ++ before) field.new }

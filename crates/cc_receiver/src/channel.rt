@@ -1,4 +1,4 @@
-ghost use Rattle.std.specs.Prelude.{◌≡◌, ℕ, ◌++◌, ◌==◌, ◌||◌, List, [], ◌∷◌, None, IsTrue};
+ghost use Rattle.std.specs.Prelude.{◌≡◌, ℕ, ◌++◌, ◌==◌, ◌||◌, false, List, [], ◌∷◌, None, IsTrue};
 ghost use Rattle.std.specs.List.{concat, flat_map};
 ghost use Rattle.cc_base.specs.Steps.{step_why};
 ghost use Rattle.cc_base.specs.Syntax.{open_behind};
@@ -7,12 +7,13 @@ ghost use Rattle.cc_data.specs.Triplets.{triplets_of};
 ghost use Rattle.cdp_packets.specs.declared.parts.CdpPart.{CdpPart as Part};
 ghost use Rattle.cdp_packets.specs.PacketTriplets.{section_triplets};
 ghost use Rattle.cdp_packets.specs.Sections.{AreSections};
-ghost use Rattle.channel_packets.specs.ChannelPackets.{continues, starts};
+ghost use Rattle.channel_packets.specs.ChannelPackets.{channel_triplets, continues, starts};
 ghost use Rattle.channel_packets.specs.declared.parts.PacketPart.{PacketPart as Piece};
 ghost use Rattle.service_blocks.specs.Readers.{HasRead};
 ghost use Rattle.service_blocks.specs.Reading.{block_syntax, judge_part};
 ghost use Rattle.services_files.specs.Services.{services_say, why_unheard};
 
+use crate::filling::count_fillers;
 use cc_base::{Step, Why};
 use cc_data::{Triplet, read_triplet};
 use cdp_packets::{CdpPart, split_section, triplet_bytes};
@@ -29,6 +30,17 @@ pub(crate) fn is_of_channel(triplet: Triplet) -> bool
     ensures { result ≡ (starts triplet || continues triplet) }
 {
     triplet.valid && (triplet.kind == PACKET_START || triplet.kind == PACKET_DATA)
+}
+
+/// Whether any of these counts and is one of channel packets.
+pub(crate) fn any_of_channel(triplets: &[Triplet]) -> bool
+    ensures { result ≡ false → channel_triplets triplets.now ≡ [] }
+{
+    let mut any = false;
+    for triplet in triplets {
+        any |= is_of_channel(*triplet);
+    }
+    any
 }
 
 /// The readers of the caption channel: of its packets, and of the service blocks in them (CTA-708-E, sections 5 and 6). They judge
@@ -66,6 +78,7 @@ impl Channel {
     }
 
     /// Takes the next triplet, and says why it is refused, if it is: where a header of a service block in it passes its packet.
+    #[inline(always)]
     pub(crate) fn take(&mut self, triplet: Triplet) -> Option<Why>
         ensures why { (before : List TripletOf) → HasHeard before self.old → result ≡ why_unheard before (triplet ∷ []) }
         ensures heard { (before : List TripletOf) → HasHeard before self.old → result ≡ None → HasHeard (before ++ triplet ∷ []) self.new }
@@ -122,11 +135,15 @@ impl Channel {
     fn takes_triplets(&mut self, bytes: &[u8]) -> bool
         ensures { (before : List TripletOf) → HasHeard before self.old → IsTrue result → HasHeard (before ++ triplets_of bytes.now) self.new }
     {
-        let (triplets, _) = bytes.as_chunks::<3>();
-        for triplet in triplets {
+        let mut rest = bytes;
+        while let Some((triplet, more)) = rest.split_first_chunk::<3>() {
+            if count_fillers(rest).is_some() {
+                return true;
+            }
             if self.take(read_triplet(*triplet)).is_some() {
                 return false;
             }
+            rest = more;
         }
         true
     }

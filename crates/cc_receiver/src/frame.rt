@@ -1,4 +1,4 @@
-ghost use Rattle.std.specs.Prelude.{◌≡◌, ℕ, ◌≤◌, List, [], length};
+ghost use Rattle.std.specs.Prelude.{◌≡◌, ℕ, ◌≤◌, false, List, [], IsTrue, length};
 ghost use Rattle.std.specs.List.{concat, flat_map, list_all};
 ghost use Rattle.cc_data.specs.Triplets.{triplets_of};
 ghost use Rattle.cdp_packets.specs.Packets.{Packet};
@@ -9,6 +9,7 @@ ghost use Rattle.cdp_packets.specs.WholePackets.{SaysPacket};
 ghost use Rattle.cc_receiver.specs.Gathering.{Gathered, gather, with_triplet, with_all};
 ghost use Rattle.cc_receiver.specs.Idle.{are_null, is_null};
 
+use crate::filling::{FILLERS, count_fillers};
 use arrayvec::ArrayVec;
 use cc_base::Rate;
 use cc_data::{Triplet, read_triplet};
@@ -65,9 +66,9 @@ impl Frame {
         self.flags = 0;
         self.counter = 0;
         self.sections.clear();
-        self.triplets.clear();
-        self.pairs_one.clear();
-        self.pairs_two.clear();
+        self.triplets = ArrayVec::new();
+        self.pairs_one = ArrayVec::new();
+        self.pairs_two = ArrayVec::new();
     }
 
     /// Says what a whole packet says.
@@ -106,9 +107,27 @@ impl Frame {
     fn take_triplets(&mut self, bytes: &[u8])
         ensures { (gathered : Gathered) → Holds gathered self.old → Holds (with_all (triplets_of bytes.now) gathered) self.new }
     {
-        let (triplets, _) = bytes.as_chunks::<3>();
-        for triplet in triplets {
+        let mut rest = bytes;
+        while let Some((triplet, more)) = rest.split_first_chunk::<3>() {
+            if self.fill_up(rest) {
+                return;
+            }
             self.triplet(read_triplet(*triplet));
+            rest = more;
+        }
+    }
+
+    // Takes the triplets of these bytes where all of them are fillers and there is room, and says whether it did.
+    fn fill_up(&mut self, bytes: &[u8]) -> bool
+        ensures took { (gathered : Gathered) → IsTrue result → Holds gathered self.old → Holds (with_all (triplets_of bytes.now) gathered) self.new }
+        ensures none { result ≡ false → self.new ≡ self.old }
+    {
+        match count_fillers(bytes) {
+            Some(count) => self
+                .triplets
+                .try_extend_from_slice(&FILLERS[..count])
+                .is_ok(),
+            None => false,
         }
     }
 

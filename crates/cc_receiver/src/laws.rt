@@ -6,17 +6,23 @@ ghost use Rattle.line21_codes.specs.declared.channels.Chan.{Chan};
 ghost use Rattle.services_files.specs.Services.{services_say};
 ghost use Rattle.words_files.specs.FramesOf.{AreFramesOf};
 ghost use Rattle.words_files.specs.Received.{received_grids};
+ghost use Rattle.dtvcc_services.specs.Numbers.{IsService};
+ghost use Rattle.cc_receiver.specs.ReceivedServices.{received_windows};
+ghost use Rattle.cc_receiver.specs.SeenServices.{seen_windows};
 ghost use Rattle.cc_receiver.specs.declared.receiver.Receiver.{Receiver as ReceiverOf};
 ghost use Rattle.cc_receiver.specs.Receivers.{HasReceived, frame_count, shown};
 
 /// A receiver counts the frames of the bytes that it was fed, in whatever pieces, and shows what they leave on the screens of a
-/// receiver that was reset before the first one.
+/// receiver that was reset before the first one, and of the windows of its services.
 pub fn receiver_equals_meaning()
     ensures count { (bytes : List ℕ) (frames : List FrameOf) (receiver : ReceiverOf) → HasReceived bytes receiver
         → AreFramesOf services_say frames bytes → frame_count receiver ≡ length frames }
     ensures shown { (bytes : List ℕ) (frames : List FrameOf) (receiver : ReceiverOf) (chan : Chan) → HasReceived bytes receiver
         → AreFramesOf services_say frames bytes
         → shown receiver chan ≡ received_grids frames chan }
+    ensures windows { (bytes : List ℕ) (frames : List FrameOf) (receiver : ReceiverOf) (service id : ℕ) → HasReceived bytes receiver
+        → AreFramesOf services_say frames bytes → IsService service
+        → seen_windows receiver service id ≡ received_windows frames service id }
 {}
 
 /// More bytes that bring no frame leave all screens. So where a word is refused, and from then on, they stay those of the last

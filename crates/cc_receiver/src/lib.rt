@@ -4,6 +4,7 @@
 
 mod captions;
 mod channel;
+mod filling;
 mod frame;
 pub mod laws;
 mod receiver;

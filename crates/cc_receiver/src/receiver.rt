@@ -261,7 +261,8 @@ impl Receiver {
         self.captions.served.services.held(service)
     }
 
-    /// Whether a service, 1 to 63, was sent a byte since the first frame, or since it was last reset: where it wasn't, it has no window.
+    /// Whether a service, 1 to 63, may have a window: where it says no, it was sent no byte since the first frame, or since it was last
+    /// reset, and it has none.
     pub fn is_used(&self, service: u8) -> bool
         requires { IsService service }
         ensures { (bytes : List ℕ) (frames : List FrameOf) → HasReceived bytes self.now → AreFramesOf services_say frames bytes

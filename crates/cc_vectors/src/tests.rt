@@ -11,6 +11,7 @@ mod cues;
 mod decode;
 mod double_rates;
 mod insert;
+mod load;
 mod pairs;
 mod scc;
 mod seen;
@@ -118,7 +119,7 @@ fn words_that_are_no_command_are_usage(rt: HostRuntime) -> Result<(), Fail> {
     let usage =
         b"usage: ccsuite pairs|build|decode|show FRAME|verify CUES|insert CUES|import|export TIME|cues|load N\n";
     let none: [&str; 0] = [];
-    let lists: [&[&str]; 26] = [
+    let lists: [&[&str]; 31] = [
         &none,
         &["pairs", "x"],
         &["Pairs"],
@@ -143,8 +144,13 @@ fn words_that_are_no_command_are_usage(rt: HostRuntime) -> Result<(), Fail> {
         &["export", "00:01:00;00"],
         &["export", "24:00:00:00"],
         &["export", "00:00:00:00", "x"],
+        &["load"],
+        &["load", ""],
         &["load", "0"],
+        &["load", "03"],
+        &["load", "+3"],
         &["load", "10001"],
+        &["load", "3", "3"],
     ];
     for words in lists {
         let ended = run_to_end(

@@ -1,11 +1,6 @@
 -- What the checks find of a list's cues at a frame, and what they know then.
 use Rattle.std.proofs.Common.{◌≡◌, ℕ, Bool, List, subst, sym}
-use Rattle.std.proofs.Math.Path.{fun_ext}
 use Rattle.std.specs.Prelude.{IsTrue, Option}
-use Rattle.cc_receiver.specs.Receivers.{HasReceived, shown}
-use Rattle.cc_receiver.specs.declared.receiver.Receiver.{Receiver}
-use Rattle.cc_receiver.proofs.ReceivedLemmas.{shown_received}
-use Rattle.cdp_packets.specs.Packets.{Packet as Frame}
 use Rattle.cue_types.specs.declared.cue.Cue.{Cue}
 use Rattle.line21_codes.specs.declared.channels.Chan.{Chan}
 use Rattle.line21_screen.specs.Grid.{Grid}
@@ -14,14 +9,6 @@ use Rattle.screen_checks.specs.Differing.{Windows}
 use Rattle.screen_checks.specs.Services.{IsFirstOtherService, KnowServices, StandAt}
 use Rattle.screen_checks.specs.declared.channel_checks.ChannelChecks.{ChannelChecks}
 use Rattle.screen_checks.specs.declared.service_checks.ServiceChecks.{ServiceChecks}
-use Rattle.services_files.specs.Services.{services_say}
-use Rattle.words_files.specs.FramesOf.{AreFramesOf}
-use Rattle.words_files.specs.Received.{received_grids}
-
--- a receiver shows what the pairs of the frames leave
-pub frames_shown : (bytes : List ℕ) (frames : List Frame) (receiver : Receiver) → HasReceived bytes receiver → AreFramesOf services_say frames bytes
-    → shown receiver ≡ received_grids frames
-frames_shown bytes frames receiver had are = fun_ext (λ chan. shown_received frames bytes receiver chan had are)
 
 -- an idle frame leaves it
 pub leave_idle : (is_idle : Bool) (former now : Chan → Grid) → (IsTrue is_idle → (channel : Chan) → now channel ≡ former channel) → LeaveGrids is_idle former now

@@ -1,3 +1,7 @@
+mod CleanLemmas
 mod CommandLemmas
+mod FilledLemmas
 mod SeenLemmas
+mod SizeLemmas
 mod VerdictLemmas
+mod VerifiedLemmas

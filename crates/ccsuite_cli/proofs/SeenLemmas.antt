@@ -1,44 +1,37 @@
 -- A receiver that is fed the words that were built shows what was authored.
-use Rattle.std.proofs.Common.{[], ◌≡◌, ◌∙◌, ◌++◌, ◌∷◌, ◌+◌, ◌<◌, ◌==◌, ◌&&◌, ◌||◌, if◌then◌else◌, Bool, add-one, ap, arith, length, length-append, refl, subst, suc, sym, take, zero, ℕ, List, false, true}
+use Rattle.std.proofs.Common.{◌≡◌, ◌∙◌, ◌++◌, ◌∷◌, ◌+◌, add-one, ap, append_assoc, arith, length, length-append, subst, suc, sym, take, ℕ, List, false, true}
 use Rattle.std.proofs.lemmas.List.{take-append-le, take_all}
-use Rattle.cc_base.specs.declared.rate.Rate.{Rate}
-use Rattle.std.proofs.lemmas.List.Elements.{filter-append}
-use Rattle.cc_data.specs.declared.triplet.Triplet.{Triplet}
 use Rattle.cdp_packets.specs.Packets.{Packet as Frame}
-use Rattle.cdp_packets.specs.PacketTriplets.{packet_triplets}
-use Rattle.channel_packets.specs.ChannelPackets.{channel_triplets, continues, starts}
-use Rattle.frame_carrier.specs.Carried.{AreCarried, IsWithinRoom}
-use Rattle.frame_carrier.specs.Carrying.{channel_of, channel_packet, column_bytes, column_packets, frame_packet, packets_before}
-use Rattle.frame_scheduler.specs.Columns.{Columns}
 use Rattle.frame_scheduler.specs.Planned.{Placement, columns_of}
 use Rattle.line21_codes.specs.declared.channels.Chan.TheVariants.{Cc1, Cc2, Cc3, Cc4}
 use Rattle.services_files.specs.Services.{services_say}
-use Rattle.services_files.specs.WholeFiles.{file_triplets}
 use Rattle.services_files.proofs.WholeFileLemmas.{whole-under}
 use Rattle.words_files.specs.Offences.{IsFileUnder}
 use Rattle.words_files.specs.FramesOf.{AreFramesOf}
 use Rattle.words_files.specs.Received.{received_grids}
-use Rattle.words_files.proofs.FramesOfLemmas.{file_frames, frames_grow}
+use Rattle.words_files.proofs.FramesOfLemmas.{file_frames, frames_grow, frames_of_once}
 use Rattle.words_files.proofs.GotLemmas.{got}
+use Rattle.services_shown.proofs.ToldLemmas.{packets_count}
+use Rattle.cc_receiver.specs.ReceivedServices.{received_windows}
 use Rattle.cc_receiver.proofs.ReceivedLemmas.{shown_received}
+use Rattle.cc_receiver.proofs.SeenLemmas.{windows_received}
 use Rattle.cc_receiver.proofs.TakenLemmas.{frames_count}
+use Rattle.dtvcc_screen.specs.Meaning.{start}
+use Rattle.dtvcc_shown.specs.Filling.{AllFill}
+use Rattle.services_files.specs.Events.{service_events}
 use Rattle.cue_list_commands.proofs.Outputs.{sound_words}
 use Rattle.cue_lists.specs.Listing.{Listing}
 use Rattle.cue_list_commands.specs.Output.{IsSoundWords, build_output, built_packets}
 use Rattle.ccsuite_cli.specs.Seen.{BuiltWordsAreSeen}
-
--- a packet a frame
-packets_count : (rate : Rate) (columns : Columns) (frame n : ℕ) → length (column_packets rate columns frame n) ≡ n
-packets_count rate columns frame zero = refl
-packets_count rate columns frame (suc n) = ap suc (packets_count rate columns (suc frame) n)
+use Rattle.ccsuite_cli.proofs.FilledLemmas.{none_filled}
 
 -- what is built is a words file whose caption channel is whole
-built_file : (list : Listing) (placed : Placement) → IsSoundWords list placed → IsFileUnder services_say (built_packets list placed) (build_output list placed)
+pub built_file : (list : Listing) (placed : Placement) → IsSoundWords list placed → IsFileUnder services_say (built_packets list placed) (build_output list placed)
 built_file list placed sound =
     whole-under (built_packets list placed) (build_output list placed) (record { file = sound.carried.file; channel = sound.whole })
 
 -- so many frames, and others behind them
-front_is : (packets frames behind : List Frame) (n : ℕ) → packets ≡ frames ++ behind → n ≡ length frames → take n packets ≡ frames
+pub front_is : (packets frames behind : List Frame) (n : ℕ) → packets ≡ frames ++ behind → n ≡ length frames → take n packets ≡ frames
 front_is packets frames behind n is count =
     ap (take n) is ∙ take-append-le n frames behind (omega arith) ∙ take_all n frames (omega arith)
 
@@ -66,4 +59,14 @@ built_seen bytes list placed words rest receiver frame accepted output had count
       cc2 = cc2 ∙ one.second;
       cc3 = λ settled. cc3 ∙ two.first settled;
       cc4 = cc4 ∙ two.second;
+      windows = λ service id numbered low.
+          windows_received frames words receiver service id had gotten.are numbered
+          ∙ ap (λ (f : List Frame). received_windows f service id) (sym front)
+          ∙ sound.windows frame (omega arith) service id numbered low;
+      unfilled = λ service earlier last later numbered are.
+          let same : packets ≡ earlier ++ last ∷ (later ++ behind) =
+          grown ∙ ap (λ (f : List Frame). f ++ behind) (frames_of_once services_say frames (earlier ++ last ∷ later) words gotten.are are)
+          ∙ append_assoc earlier (last ∷ later) behind in
+          none_filled service earlier last (later ++ behind)
+          (subst (λ (f : List Frame). AllFill 127 start (service_events service f)) same (sound.fills service numbered));
     }

@@ -6,11 +6,12 @@ use Rattle.scc_commands.proofs.SccVerdictLemmas.{told_export, told_import}
 use Rattle.command_base.specs.declared.status.Status.{Status}
 use Rattle.cue_list_commands.specs.SideEnds.{SideEnds}
 use Rattle.insert_commands.proofs.VerdictLemmas.{insert_told}
+use Rattle.load_commands.proofs.VerdictLemmas.{load_told}
 use Rattle.verify_commands.proofs.VerdictLemmas.{verify_told}
 use Rattle.words_commands.proofs.LongWordsLemmas.{decode_long, show_long}
 use Rattle.words_commands.proofs.WordsVerdictLemmas.{decode_refused, decode_told, show_refused, show_told}
 use Rattle.ccsuite_cli.specs.Verdict.{AcceptedIsAnswered, FaultsAreTold, LongWordsAreRefused, MalformedIsRefused, RefusedListIsAnswered, TellsSideFaults}
-use Rattle.ccsuite_cli.specs.declared.command.Command.TheVariants.{Build, Cues, Decode, Export, Import, Insert, Pairs, Show, Verify}
+use Rattle.ccsuite_cli.specs.declared.command.Command.TheVariants.{Build, Cues, Decode, Export, Import, Insert, Load, Pairs, Show, Verify}
 
 -- an accepted list
 pub accepted_answered : AcceptedIsAnswered
@@ -44,15 +45,14 @@ side_kept side later answer same rose = let e = ap (λ (s : SideEnds). s.faults)
 
 -- a count that is greater than before
 pub faults_told : FaultsAreTold
-faults_told None side later old new answer is = (side_kept side later answer is.0, λ any. same_told old new answer is.1.1)
-faults_told (Some Pairs) side later old new answer is = (side_kept side later answer is.0, λ any. told_pairs old new answer is.1)
-faults_told (Some Build) side later old new answer is = (side_kept side later answer is.0, λ any. told_build old new answer is.1)
-faults_told (Some Cues) side later old new answer is = (side_kept side later answer is.0, λ any. told_cues old new answer is.1)
-faults_told (Some Decode) side later old new answer is = (side_kept side later answer is.0, λ any. decode_told old new answer is.1)
-faults_told (Some (Show frame)) side later old new answer is = (side_kept side later answer is.0, λ any. show_told frame old new answer is.1)
-faults_told (Some Verify) side later old new answer is =
-    let told = verify_told side later old new answer is in (told.0, λ any. told.1)
-faults_told (Some Insert) side later old new answer is =
-    let told = insert_told side later old new answer is in (told.0, λ read. told.1 read.0 read.1)
-faults_told (Some Import) side later old new answer is = (side_kept side later answer is.0, λ any. told_import old new answer is.1)
-faults_told (Some (Export time)) side later old new answer is = (side_kept side later answer is.0, λ any. told_export time old new answer is.1)
+faults_told None side later old new answer is = (side_kept side later answer is.0, same_told old new answer is.1.1)
+faults_told (Some Pairs) side later old new answer is = (side_kept side later answer is.0, told_pairs old new answer is.1)
+faults_told (Some Build) side later old new answer is = (side_kept side later answer is.0, told_build old new answer is.1)
+faults_told (Some Cues) side later old new answer is = (side_kept side later answer is.0, told_cues old new answer is.1)
+faults_told (Some Decode) side later old new answer is = (side_kept side later answer is.0, decode_told old new answer is.1)
+faults_told (Some (Show frame)) side later old new answer is = (side_kept side later answer is.0, show_told frame old new answer is.1)
+faults_told (Some Verify) side later old new answer is = verify_told side later old new answer is
+faults_told (Some Insert) side later old new answer is = insert_told side later old new answer is
+faults_told (Some Import) side later old new answer is = (side_kept side later answer is.0, told_import old new answer is.1)
+faults_told (Some (Export time)) side later old new answer is = (side_kept side later answer is.0, told_export time old new answer is.1)
+faults_told (Some (Load count)) side later old new answer is = (side_kept side later answer is.0, load_told count old new answer is.1)

@@ -10,8 +10,9 @@ use Rattle.scc_commands.specs.Import.{ImportAnswer}
 use Rattle.cue_list_commands.specs.SideEnds.{SideEnds}
 use Rattle.verify_commands.specs.VerifyAnswer.{VerifyAnswer}
 use Rattle.insert_commands.specs.InsertAnswer.{InsertAnswer}
+use Rattle.load_commands.specs.LoadAnswer.{LoadAnswer}
 use Rattle.ccsuite_cli.specs.declared.command.Command.{Command}
-use Rattle.ccsuite_cli.specs.declared.command.Command.TheVariants.{Build, Cues, Decode, Export, Import, Insert, Pairs, Show, Verify}
+use Rattle.ccsuite_cli.specs.declared.command.Command.TheVariants.{Build, Cues, Decode, Export, Import, Insert, Load, Pairs, Show, Verify}
 
 -- what a run answers that reads no side file
 abbrev pub Answer : Option Command → Ends → Ends → Status → Type 0
@@ -25,9 +26,10 @@ Answer (Some Verify) old new answer = ⊥
 Answer (Some Insert) old new answer = ⊥
 Answer (Some Import) old new answer = ImportAnswer old new answer
 Answer (Some (Export time)) old new answer = ExportAnswer time old new answer
+Answer (Some (Load count)) old new answer = LoadAnswer count old new answer
 
 -- what a run answers: by its side file too, where its command names one, and else it leaves that
 abbrev pub RunAnswer : Option Command → SideEnds → SideEnds → Ends → Ends → Status → Type 0
 RunAnswer (Some Verify) side later old new answer = VerifyAnswer side later old new answer
-RunAnswer (Some Insert) side later old new answer = InsertAnswer side.left later.left side.faults later.faults old new answer
+RunAnswer (Some Insert) side later old new answer = InsertAnswer side later old new answer
 RunAnswer command side later old new answer = (later ≡ side) × Answer command old new answer

@@ -1,13 +1,14 @@
 -- The command lines of the program.
-use Rattle.std.specs.Prelude.{◌≡◌, ℕ, List, [], ◌∷◌, Option, option_map, Some, None, codes, if◌then◌else◌, Bool, true, false, ⊤}
+use Rattle.std.specs.Prelude.{◌≡◌, ◌≤◌, ℕ, List, [], ◌∷◌, Option, option_map, Some, None, codes, if◌then◌else◌, Bool, true, false, ⊤}
 use Rattle.std.specs.Option.{option_and_then}
 use Rattle.std.specs.Str.{bytes_eq}
 use Rattle.cue_lists.specs.Fields.{number_within}
+use Rattle.load_lists.specs.LoadList.{most_load}
 use Rattle.time_codes.specs.Texts.{time_of_text}
 use Rattle.time_codes.specs.TimeCodes.{is_time_code}
 use Rattle.time_codes.specs.declared.time_code.TimeCode.{TimeCode}
 use Rattle.ccsuite_cli.specs.declared.command.Command.{Command}
-use Rattle.ccsuite_cli.specs.declared.command.Command.TheVariants.{Build, Cues, Decode, Export, Import, Insert, Pairs, Show, Verify}
+use Rattle.ccsuite_cli.specs.declared.command.Command.TheVariants.{Build, Cues, Decode, Export, Import, Insert, Load, Pairs, Show, Verify}
 
 -- the last frame that `show` can name
 abbrev pub last_frame : ℕ
@@ -17,9 +18,10 @@ last_frame = 4294967294
 abbrev pub start_of : List ℕ → Option TimeCode
 start_of text = option_and_then (λ t. if is_time_code t then Some t else None) (time_of_text text)
 
--- a command whose time code, if it has one, is of the day
+-- a command whose time code, if it has one, is of the day, and whose number of captions, if it has one, is that of a load
 abbrev pub IsRunnable : Option Command → Type 0
 IsRunnable (Some (Export time)) = is_time_code time ≡ true
+IsRunnable (Some (Load count)) = (1 ≤ count) × (count ≤ most_load)
 IsRunnable _ = ⊤
 
 -- the command names a side file
@@ -42,5 +44,6 @@ command_of (word ∷ argument ∷ []) =
     else if bytes_eq word (codes "verify") then Some Verify
     else if bytes_eq word (codes "insert") then Some Insert
     else if bytes_eq word (codes "export") then option_map Export (start_of argument)
+    else if bytes_eq word (codes "load") then option_map Load (number_within 1 most_load argument)
     else None
 command_of _ = None

@@ -1,6 +1,7 @@
 -- The verdict of a run where no count of faults rose: what is good is answered Ok, and what isn't with its one refusal, or want of
 -- memory. And where a count rose, the answer says so.
 use Rattle.std.specs.Prelude.{◌≡◌, ◌<◌, ◌≤◌, ◌⊎◌, ℕ, List, length, Option, Some}
+use Rattle.cc_base.specs.Streams.{Rose}
 use Rattle.cc_base.specs.declared.refusal.Refusal.{Refusal}
 use Rattle.cdp_packets.specs.Packets.{Packet as Frame}
 use Rattle.cue_lists.specs.Listing.{Listing}
@@ -19,7 +20,7 @@ use Rattle.scc_commands.specs.Import.{IsImport, IsRefusedImport, Placed}
 use Rattle.cue_list_commands.specs.SideEnds.{SideEnds}
 use Rattle.ccsuite_cli.specs.Answer.{Answer, RunAnswer}
 use Rattle.ccsuite_cli.specs.declared.command.Command.{Command}
-use Rattle.ccsuite_cli.specs.declared.command.Command.TheVariants.{Build, Cues, Decode, Import, Insert, Pairs, Show}
+use Rattle.ccsuite_cli.specs.declared.command.Command.TheVariants.{Build, Cues, Decode, Import, Load, Pairs, Show}
 
 -- the commands that read a cue list
 abbrev pub ReadsCueList : Command → Type 0
@@ -93,16 +94,16 @@ abbrev pub RefusedImportIsAnswered : Type 0
 RefusedImportIsAnswered = (bytes : List ℕ) (refusal : Status) (old new : Ends) (answer : Status)
     → IsRefusedImport bytes refusal → IsReadOf bytes old new → Answer (Some Import) old new answer → (answer ≡ refusal) ⊎ (answer ≡ status.Memory)
 
+-- `load` answers Ok, or want of memory, where the output's count of faults didn't rise, whatever the number of captions
+abbrev pub LoadIsAnswered : Type 0
+LoadIsAnswered = (count : ℕ) (old new : Ends) (answer : Status) → (Rose old.write_faults new.write_faults → ⊥)
+    → Answer (Some (Load count)) old new answer → (answer ≡ status.Ok) ⊎ (answer ≡ status.Memory)
+
 -- where the side file's count of faults is greater than before, that is the answer
 abbrev pub TellsSideFaults : SideEnds → SideEnds → Status → Type 0
 TellsSideFaults side later answer = side.faults < later.faults → answer ≡ status.ReadFault
 
--- nothing is asked of the side file, but of that of `insert`: that its bytes are told
-abbrev pub IsSideTold : Option Command → SideEnds → Type 0
-IsSideTold (Some Insert) side = (bytes : List ℕ) × (side.left ≡ Some bytes)
-IsSideTold _ side = Unit {0}
-
 -- every run tells faults
 abbrev pub FaultsAreTold : Type 0
 FaultsAreTold = (command : Option Command) (side later : SideEnds) (old new : Ends) (answer : Status) → RunAnswer command side later old new answer
-    → TellsSideFaults side later answer × (IsSideTold command side → TellsFaults old new answer)
+    → TellsSideFaults side later answer × TellsFaults old new answer

@@ -1,9 +1,11 @@
-ghost use Rattle.std.specs.Prelude.{◌≡◌, [], ◌∷◌, IfSome, map, string_bytes, true};
+ghost use Rattle.std.specs.Prelude.{◌≡◌, ◌≤◌, [], ◌∷◌, IfSome, map, string_bytes, true};
 ghost use Rattle.ccsuite_cli.specs.Command.{IsRunnable, command_of, last_frame, start_of};
 ghost use Rattle.cue_lists.specs.Fields.{number_within};
+ghost use Rattle.load_lists.specs.LoadList.{most_load};
 ghost use Rattle.time_codes.specs.TimeCodes.{is_time_code};
 
 use cue_lists::read_within;
+use load_lists::MOST_LOAD;
 use time_codes::{TimeCode, frame_of, read_time};
 
 /// What the words of a command line ask for.
@@ -27,6 +29,8 @@ pub enum Command {
     Import,
     /// `export TIME`: the SCC file of the field 1 pairs of a words file, whose frame 0 has this time code.
     Export(TimeCode),
+    /// `load N`: what comes of a list of so many captions, 1 to 10,000.
+    Load(u32),
 }
 
 /// The last frame that `show` can name.
@@ -65,7 +69,7 @@ fn read_word(word: &str) -> Option<Command>
 }
 
 /// The command of a word and its argument: `show` with the number of a frame, `verify` and `insert` with the path of a side file,
-/// whatever it is, `export` with a time code.
+/// whatever it is, `export` with a time code, `load` with the number of captions.
 fn read_two(word: &str, argument: &str) -> Option<Command>
     ensures command { result ≡ command_of (word.now ∷ argument.now ∷ []) }
     ensures runnable { IsRunnable result }
@@ -79,6 +83,11 @@ fn read_two(word: &str, argument: &str) -> Option<Command>
     } else if word == "export" {
         match read_start(argument) {
             Some(time) => Some(Command::Export(time)),
+            None => None,
+        }
+    } else if word == "load" {
+        match read_count(argument) {
+            Some(count) => Some(Command::Load(count)),
             None => None,
         }
     } else {
@@ -104,6 +113,17 @@ fn read_frame(number: &str) -> Option<u32>
 {
     match read_within(0, LAST_FRAME, number.as_bytes()) {
         Some(frame) => Some(frame as u32),
+        None => None,
+    }
+}
+
+/// The number of captions of a load, written as in cue lists, 1 to 10,000.
+fn read_count(number: &str) -> Option<u32>
+    ensures count { result ≡ number_within 1 most_load number.now }
+    ensures within { IfSome result (λ count. (1 ≤ count) × (count ≤ most_load)) }
+{
+    match read_within(1, u64::from(MOST_LOAD), number.as_bytes()) {
+        Some(count) => Some(count as u32),
         None => None,
     }
 }

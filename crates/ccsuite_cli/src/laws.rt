@@ -1,6 +1,7 @@
 //! Laws of what a run answers and puts: functions that do nothing, with the laws as their contracts.
 ghost use Rattle.ccsuite_cli.specs.Seen.{BuiltWordsAreSeen};
-ghost use Rattle.ccsuite_cli.specs.Verdict.{AcceptedIsAnswered, FaultsAreTold, FileIsDecoded, FileIsShown, GoodListIsWritten, LongWordsAreRefused, MalformedIsRefused, RefusedImportIsAnswered, RefusedListIsAnswered, SccFileIsImported};
+ghost use Rattle.ccsuite_cli.specs.Verdict.{AcceptedIsAnswered, FaultsAreTold, FileIsDecoded, FileIsShown, GoodListIsWritten, LoadIsAnswered, LongWordsAreRefused, MalformedIsRefused, RefusedImportIsAnswered, RefusedListIsAnswered, SccFileIsImported};
+ghost use Rattle.ccsuite_cli.specs.Verified.{BuiltWordsAreVerified};
 ghost use Rattle.scc_commands.specs.ExportVerdict.{FileIsExported, MalformedIsNotExported, StopIsAnswered};
 
 /// The law that every command that reads a cue list answers Ok to an input that is an accepted cue list, or Memory, where
@@ -72,6 +73,11 @@ pub fn stop_is_answered()
     ensures { StopIsAnswered }
 {}
 
+/// The law that `load` answers Ok, or Memory, where the output's count of faults didn't rise, whatever the number of captions.
+pub fn load_is_answered()
+    ensures { LoadIsAnswered }
+{}
+
 /// The law that every run answers ReadFault where the input's count of faults is greater than before, and WriteFault where the
 /// output's is.
 pub fn faults_are_told()
@@ -79,7 +85,14 @@ pub fn faults_are_told()
 {}
 
 /// The law that what is authored is what is seen: a receiver that was fed any front of the words that `build` puts of an accepted
-/// cue list, cut anywhere, shows the authored grids of the last frame that it counts, wherever that is settled.
+/// cue list, cut anywhere, shows the authored grids of the last frame that it counts, wherever that is settled, and of each service
+/// the authored windows; and no service's buffer was filled.
 pub fn built_words_are_seen()
     ensures { BuiltWordsAreSeen }
+{}
+
+/// The law that the words that `build` puts of an accepted cue list are verified against that list: a words file within the limit,
+/// with the list's frames, at none of which anything is found.
+pub fn built_words_are_verified()
+    ensures { BuiltWordsAreVerified }
 {}

@@ -10,6 +10,7 @@ use cc_base::{Sink, Source};
 use command_base::{Status, put_status};
 use cue_list_commands::{run_build, run_cues, run_pairs};
 use insert_commands::run_insert;
+use load_commands::run_load;
 use scc_commands::{run_export, run_import};
 use std::alloc::Global;
 use verify_commands::run_verify;
@@ -83,5 +84,6 @@ fn perform<M: Source, S: Source, O: Sink>(
         Command::Insert => run_insert(alloc, input, side, out),
         Command::Import => run_import(alloc, input, out),
         Command::Export(time) => run_export(alloc, time, input, out),
+        Command::Load(count) => run_load(alloc, count, out),
     }
 }

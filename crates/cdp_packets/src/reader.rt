@@ -12,7 +12,7 @@ use crate::open_packet::OpenPacket;
 use crate::parts::CdpPart;
 use cc_base::{Fed, Refusal, Resume, Step, Upward, Why};
 
-/// Reads (cdp_syntax the) bytes of caption a distribution packet, in any pieces (SMPTE ST 334-2), and hands its parts upward: the rate, the
+/// Reads the bytes of a caption distribution packet, in any pieces (SMPTE ST 334-2), and hands its parts upward: the rate, the
 /// flags, the counter, each byte of the sections with the triplets of cc_data behind their bytes, and its end.
 ///
 /// The length of the packet is known before. A byte is refused where no packet of this length goes on with it:

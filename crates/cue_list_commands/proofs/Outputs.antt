@@ -23,6 +23,9 @@ use Rattle.frame_carrier.specs.Carrying.{column_bytes}
 use Rattle.frame_carrier.proofs.CarriedLemmas.{frames_carried}
 use Rattle.services_carried.proofs.ChannelLemmas.{programmes_whole}
 use Rattle.services_carried.proofs.RoomLemmas.{blocks_bytes, blocks_within, frames_roomy, has_blocks}
+use Rattle.services_shown.proofs.BufferLemmas.{buffers_never_fill}
+use Rattle.services_shown.proofs.DelayLemmas.{delays_sent}
+use Rattle.services_shown.proofs.SeenLemmas.{authored_windows_seen}
 use Rattle.line21_shown.specs.Shown.{ShowsField}
 use Rattle.line21_shown.proofs.CaptionedLemmas.{AreBytes, frame_bytes}
 use Rattle.line21_shown.proofs.SequenceLemmas.{authored_seen}
@@ -50,7 +53,7 @@ of_bytes None are = tt
 of_bytes (Some pair) are = record { a = are.0; b = are.1 }
 
 -- the pairs of a placed list are of bytes
-byte_pairs : (list : Listing) (placed : Placement) → IsFormed list → AreBytePairs (columns_of list placed)
+pub byte_pairs : (list : Listing) (placed : Placement) → IsFormed list → AreBytePairs (columns_of list placed)
 byte_pairs list placed formed false frame =
     of_bytes (channel_pair list Cc1 (placed (Channel Cc1)) frame) (frame_bytes list Cc1 (placed (Channel Cc1)) formed.cues frame)
 byte_pairs list placed formed true frame =
@@ -68,10 +71,13 @@ sound_words bytes list placed accepted =
       carried = carried;
       within = blocks_within list placed formed accepted.ruled accepted.placement;
       whole = programmes_whole list.rate (columns_of list placed) list.frames (has_blocks list placed formed accepted.ruled accepted.placement) carried;
+      fills = buffers_never_fill list placed formed accepted.ruled accepted.placement;
       shown = λ frame below second_field.
           subst (λ (pairs : List Pair). ShowsField (after second_field (reverse pairs)) (authored_channel second_field) list.cues frame)
           (sym (carried.received second_field (suc frame) (omega arith)))
           (authored_seen list placed formed accepted.ruled accepted.placement frame second_field);
+      windows = authored_windows_seen list placed formed accepted.ruled accepted.placement;
+      delayed = delays_sent list placed formed accepted.ruled;
     }
 
 -- the output of a programme was put: it is that of its list

@@ -11,6 +11,9 @@ use Rattle.frame_carrier.specs.Carrying.{column_bytes, column_packets}
 use Rattle.cue_lists.specs.Shares.{share_room}
 use Rattle.services_carried.specs.ServicesCarried.{AreWithin}
 use Rattle.services_files.specs.WholeFiles.{CarryChannel}
+use Rattle.services_shown.specs.Buffers.{BuffersNeverFill}
+use Rattle.services_shown.specs.Delays.{AreDelaysSent}
+use Rattle.services_shown.specs.SeenWindows.{ShowAuthoredWindows}
 use Rattle.line21_shown.specs.Shown.{ShowsList, state_at}
 use Rattle.cue_list_commands.specs.Lines.{pair_lines}
 
@@ -38,12 +41,16 @@ pub record IsSoundPairs (list : Listing) (placed : Placement) : Type 0 where
       → ShowsList list (λ second_field. state_at second_field (columns_of list placed) frame) frame
 
 -- what holds of the words that `build` puts: they are a words file of the frames' packets, each frame keeps to its room, and
--- its service blocks to theirs; the packets carry a whole caption channel; control pairs are doubled, and at every settled
--- frame a receiver that takes the words and was reset before the first one shows the authored grids
+-- its service blocks to theirs; the packets carry a whole caption channel, of which no byte fills the buffer of a service;
+-- control pairs are doubled; and a receiver that takes the words and was reset before the first one shows the authored grids at
+-- every settled frame, and at every frame of each service the authored windows; and the delay of each window cue is sent
 pub record IsSoundWords (list : Listing) (placed : Placement) : Type 0 where
   pub doubled : AreDoubled list (columns_of list placed)
   pub carried : AreCarried list.rate (columns_of list placed) list.frames
   pub within : AreWithin (share_room list.rate) (columns_of list placed)
   pub whole : CarryChannel (built_packets list placed)
+  pub fills : BuffersNeverFill (built_packets list placed)
   pub shown : (frame : ℕ) → frame < list.frames
       → ShowsList list (λ second_field. received_at second_field (built_packets list placed) frame) frame
+  pub windows : (frame : ℕ) → frame < list.frames → ShowAuthoredWindows list.cues (built_packets list placed) frame
+  pub delayed : AreDelaysSent list placed

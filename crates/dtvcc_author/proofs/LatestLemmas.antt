@@ -275,7 +275,7 @@ command_is rate frames test cs kept command code spells = at (list_any test cs) 
         rw zeros refl
 
 -- the bytes of a delay
-delays_written : (found : Option Caption) → flat_map written (delay_commands found) ≡ delay_bytes (option_map delay_of found)
+pub delays_written : (found : Option Caption) → flat_map written (delay_commands found) ≡ delay_bytes (option_map delay_of found)
 unfolding written
 delays_written None = refl
 delays_written (Some c) = refl
@@ -305,7 +305,7 @@ events_exact rate frames frame cs events kept are =
     joined o p q r = cc
 
 -- the caption whose delay starts in a frame is the only one
-find_delayed : (rate : Rate) (frames frame : ℕ) (cs : List Caption) (c : Caption) → AreKept rate frames cs → Has c cs
+pub find_delayed : (rate : Rate) (frames frame : ℕ) (cs : List Caption) (c : Caption) → AreKept rate frames cs → Has c cs
     → is_delayed_at frame c ≡ true → delayed_at frame cs ≡ Some c
 find_delayed rate frames frame [] c kept has holds = absurd has
 find_delayed rate frames frame (x ∷ xs) c kept (inl same) holds =

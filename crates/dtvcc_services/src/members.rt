@@ -37,7 +37,7 @@ impl Member {
         })
     }
 
-    /// Whether a byte came since it was new or reset.
+    /// Whether it may have a window: where it says no, no byte came since it was new or reset.
     pub(crate) fn is_used(&self) -> bool
         ensures { result ≡ false → Stands clean self.now.core }
     {

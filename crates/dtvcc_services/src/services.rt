@@ -140,7 +140,7 @@ impl Services {
         member.core.held()
     }
 
-    /// Whether a byte came to a service since it was new or reset: where none came it has no window.
+    /// Whether a service may have a window: where it says no, no byte came to it since it was new or reset, and it has none.
     pub fn is_used(&self, service: u8) -> bool
         requires { IsService service }
         ensures { (before frame : Events) → Leads before frame self.now → result ≡ false → screen_at (served_now before frame service) ≡ empty_screen }

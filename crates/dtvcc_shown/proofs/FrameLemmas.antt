@@ -14,25 +14,28 @@ use Rattle.dtvcc_codes.specs.declared.commands.Command.TheVariants.{Dly}
 use Rattle.dtvcc_codes.specs.Reading.{command_of, completed, completions, open_after, told_size}
 use Rattle.dtvcc_screen.specs.declared.clock.Clock.{Clock}
 use Rattle.dtvcc_screen.specs.Cores.{CoreState, arrived, fill, released}
-use Rattle.dtvcc_screen.specs.Laws.{on_screen_all}
+use Rattle.dtvcc_screen.specs.Laws.{on_screen_all, on_screen_if}
 use Rattle.dtvcc_screen.specs.Meaning.{Event, Tick, Byte, Reset, Served, after, on_event, ticked}
 use Rattle.dtvcc_screen.specs.Objects.{acting_on}
 use Rattle.dtvcc_screen.specs.Screens.{ScreenState, empty_screen}
 use Rattle.dtvcc_screen.proofs.CoreLemmas.{by_byte, completions_length}
 use Rattle.dtvcc_shown.specs.Filling.{AllFill}
-use Rattle.dtvcc_shown.specs.ServiceLanes.{Delay, IsInDelay, IsOutside, Lane, delay_bytes, frame_bytes, frame_events, opening_events, served, spent}
+use Rattle.dtvcc_author.specs.declared.frame_events.Delay.{Delay}
+use Rattle.dtvcc_author.specs.EventBytes.{delay_bytes}
+use Rattle.dtvcc_shown.specs.ServiceLanes.{IsInDelay, IsOutside, Lane, frame_bytes, frame_events, opening_events, served, spent}
 use Rattle.dtvcc_shown.specs.Soundness.{ArePlain, IsSoundLane}
+use Rattle.dtvcc_shown.specs.Undelayed.{acted_on, opened, shows_bytes, undelayed}
 use Rattle.dtvcc_shown.proofs.PlainLemmas.{AllPlain, later, later_fill, now, now_fill, releases, served_at}
 
 -- bytes one behind another
-after_append : (s : Served) (events more : List Event) → after s (events ++ more) ≡ after (after s events) more
+pub after_append : (s : Served) (events more : List Event) → after s (events ++ more) ≡ after (after s events) more
 after_append s [] more = refl
 after_append s (event ∷ events) more = after_append (on_event event s) events more
 
 after_both : (s : Served) (bytes more : List ℕ) → after s (map Byte (bytes ++ more)) ≡ after (after s (map Byte bytes)) (map Byte more)
 after_both s bytes more = ap (after s) (map-append Byte bytes more) ∙ after_append s (map Byte bytes) (map Byte more)
 
-fill_append : (s : Served) (events more : List Event) → AllFill 127 s events → AllFill 127 (after s events) more → AllFill 127 s (events ++ more)
+pub fill_append : (s : Served) (events more : List Event) → AllFill 127 s events → AllFill 127 (after s events) more → AllFill 127 s (events ++ more)
 fill_append s [] more all too = too
 fill_append s (Tick rate ∷ events) more all too = fill_append (on_event (Tick rate) s) events more all too
 fill_append s (Byte byte ∷ events) more all too = (all.0, fill_append (on_event (Byte byte) s) events more all.1 too)
@@ -134,6 +137,17 @@ plain_append : (said more : List (Option Command)) → AllPlain said → AllPlai
 plain_append [] more all too = too
 plain_append (first ∷ said) more all too = (all.0, plain_append said more all.1 too)
 
+-- what is held acts, and then more of it
+acts_both : (said more : List (Option Command)) (s : ScreenState) → on_screen_all (said ++ more) s ≡ on_screen_all more (on_screen_all said s)
+acts_both [] more s = refl
+acts_both (first ∷ said) more s = acts_both said more (on_screen_if first s)
+
+-- DisplayWindows acts before the loads
+shows_first : (windows : ℕ) (loads : List ℕ) (s : ScreenState)
+    → acted_on (0x89 ∷ windows ∷ loads) s ≡ acted_on loads (acted_on (0x89 ∷ windows ∷ []) s)
+unfolding told_size command_of
+shows_first windows loads s = refl
+
 module _ (lane : Lane) (sound : IsSoundLane lane) where
   -- two delays that are on before one frame are one
   one_delay : (start other frame : ℕ) (delay more : Delay) → IsInDelay lane start delay frame → IsInDelay lane other more frame
@@ -160,6 +174,7 @@ module _ (lane : Lane) (sound : IsSoundLane lane) where
     is : served lane frame ≡ served_at clock screen [] None []
     ticks : clock.ticks ≡ frame
     free : IsOutside lane frame
+    shows : screen ≡ undelayed lane frame
 
   -- one is
   record Within (frame start : ℕ) (delay : Delay) : Type 0 where
@@ -174,6 +189,8 @@ module _ (lane : Lane) (sound : IsSoundLane lane) where
     count : length held ≡ 2 + spent lane start (frame - start)
     plain : AllPlain held
     screen_is : screen ≡ (after (served lane start) (opening_events lane start)).core.screen
+    shows : screen ≡ opened lane start
+    leads : on_screen_all held screen ≡ undelayed lane frame
 
   abbrev Stands : ℕ → Type 0
   Stands frame = Calm frame ⊎ ((start : ℕ) × (delay : Delay) × Within frame start delay)
@@ -190,6 +207,7 @@ module _ (lane : Lane) (sound : IsSoundLane lane) where
     is : on_event (Tick lane.rate) (served lane frame) ≡ served_at clock screen [] None []
     ticks : clock.ticks ≡ frame + 1
     rate : clock.rate ≡ lane.rate
+    shows : screen ≡ undelayed lane frame
     free : (start : ℕ) (delay : Delay) → IsInDelay lane start delay frame → frame < delay.ends → ⊥
 
   -- the frame begins outside of a delay
@@ -200,6 +218,7 @@ module _ (lane : Lane) (sound : IsSoundLane lane) where
     is = ap (on_event (Tick lane.rate)) calm.is;
     ticks = ap (λ (n : ℕ). n + 1) calm.ticks;
     rate = refl;
+    shows = calm.shows;
     free = λ start delay on more. calm.free start delay on;
   }
 
@@ -219,11 +238,19 @@ module _ (lane : Lane) (sound : IsSoundLane lane) where
             ∙ ap (λ (after_it : CoreState). record { clock = clock; core = after_it }) (releases within.held clock within.screen [] within.plain);
         ticks = ap (λ (n : ℕ). n + 1) within.ticks;
         rate = refl;
+        shows = within.leads;
         free = λ other more on below.
             let same = one_delay start other frame delay more within.on on in
             let ends : delay.ends ≡ more.ends = ap (λ (d : Delay). d.ends) same.1 in
             omega arith;
       }
+
+  -- a frame in which nothing but loads comes
+  quiet_acts : (frame : ℕ) → lane.events frame ≡ [] → lane.delay frame ≡ None
+      → acted_on (shows_bytes (lane.delay frame)) (opened lane frame) ≡ undelayed lane frame
+  quiet_acts frame no_events no_delay =
+      ap (λ (o : Option Delay). acted_on (shows_bytes o) (opened lane frame)) no_delay
+      ∙ ap (λ (bytes : List ℕ). acted_on bytes (undelayed lane frame)) no_events
 
   -- a delay goes on
   within_step : (frame start : ℕ) (delay : Delay) → Within frame start delay → frame < delay.ends → Step frame
@@ -272,6 +299,9 @@ module _ (lane : Lane) (sound : IsSoundLane lane) where
             count = omega arith;
             plain = plain_append within.held said within.plain loads.plain;
             screen_is = within.screen_is;
+            shows = within.shows;
+            leads = acts_both within.held said within.screen
+                ∙ ap (acted_on (lane.loads frame)) (within.leads ∙ sym (quiet_acts frame quiet.events quiet.delay));
           },
         );
         fills =
@@ -287,14 +317,14 @@ module _ (lane : Lane) (sound : IsSoundLane lane) where
       let events = sound.events frame in
       let loads = sound.loads frame in
       let first : ScreenState = on_screen_all (completions [] (lane.events frame)) ready.screen in
-      let opened : after begun_at (map Byte (lane.events frame)) ≡ served_at ready.clock first [] None [] =
+      let behind : after begun_at (map Byte (lane.events frame)) ≡ served_at ready.clock first [] None [] =
       ap (λ (s : Served). after s (map Byte (lane.events frame))) ready.is ∙ plain_now (lane.events frame) ready.clock ready.screen events in
       let bytes : frame_bytes lane frame ≡ lane.events frame ++ lane.loads frame =
       ap (λ (o : Option Delay). lane.events frame ++ (delay_bytes o ++ lane.loads frame)) is in
       let came : served lane (suc frame) ≡ served_at ready.clock (on_screen_all (completions [] (lane.loads frame)) first) [] None [] =
       ap (λ (b : List ℕ). after begun_at (map Byte b)) bytes
       ∙ after_both begun_at (lane.events frame) (lane.loads frame)
-      ∙ ap (λ (s : Served). after s (map Byte (lane.loads frame))) opened
+      ∙ ap (λ (s : Served). after s (map Byte (lane.loads frame))) behind
       ∙ plain_now (lane.loads frame) ready.clock first loads in
       record {
         stands = inl (record {
@@ -302,6 +332,8 @@ module _ (lane : Lane) (sound : IsSoundLane lane) where
           screen = on_screen_all (completions [] (lane.loads frame)) first;
           is = came;
           ticks = (let ticks = ready.ticks in omega arith);
+          shows = ap (λ (s : ScreenState). acted_on (lane.loads frame) (acted_on (lane.events frame) s)) ready.shows
+              ∙ ap (λ (o : Option Delay). acted_on (lane.loads frame) (acted_on (shows_bytes o) (opened lane frame))) (sym is);
           free = λ start delay on. elim (cases_lt start frame) [
             | inl low ↦ ready.free start delay (record { starts = on.starts; from = low; to = omega (arith, on.to) }) (omega (arith, on.to))
             | inr high ↦
@@ -313,7 +345,7 @@ module _ (lane : Lane) (sound : IsSoundLane lane) where
             subst (λ (b : List ℕ). AllFill 127 begun_at (map Byte b)) (sym bytes)
             (fill_both begun_at (lane.events frame) (lane.loads frame)
             (subst (λ (s : Served). AllFill 127 s (map Byte (lane.events frame))) (sym ready.is) (now_fill (lane.events frame) ready.clock ready.screen [] events.plain))
-            (subst (λ (s : Served). AllFill 127 s (map Byte (lane.loads frame))) (sym opened) (now_fill (lane.loads frame) ready.clock first [] loads.plain)));
+            (subst (λ (s : Served). AllFill 127 s (map Byte (lane.loads frame))) (sym behind) (now_fill (lane.loads frame) ready.clock first [] loads.plain)));
       }
   ready_step frame ready (Some delay) is =
       let begun_at : Served = on_event (Tick lane.rate) (served lane frame) in
@@ -324,8 +356,9 @@ module _ (lane : Lane) (sound : IsSoundLane lane) where
       let rest : List ℕ = 0x89 ∷ delay.windows ∷ lane.loads frame in
       let first : ScreenState = on_screen_all (completions [] (lane.events frame)) ready.screen in
       let until : ℕ = ready.clock.ticks + delay_frames_of ready.clock.rate delay.tenths in
-      let opened : after begun_at (map Byte (lane.events frame)) ≡ served_at ready.clock first [] None [] =
+      let behind : after begun_at (map Byte (lane.events frame)) ≡ served_at ready.clock first [] None [] =
       ap (λ (s : Served). after s (map Byte (lane.events frame))) ready.is ∙ plain_now (lane.events frame) ready.clock ready.screen events in
+      let shown : first ≡ opened lane frame = ap (acted_on (lane.events frame)) ready.shows in
       let begun = delay_begins delay.tenths ready.clock first lasting.some in
       let bytes : frame_bytes lane frame ≡ lane.events frame ++ (begins ++ rest) =
       ap (λ (o : Option Delay). lane.events frame ++ (delay_bytes o ++ lane.loads frame)) is in
@@ -338,7 +371,7 @@ module _ (lane : Lane) (sound : IsSoundLane lane) where
       let came : served lane (suc frame) ≡ served_at ready.clock first [] (Some until) (completions [] rest) =
       ap (λ (b : List ℕ). after begun_at (map Byte b)) bytes
       ∙ after_both begun_at (lane.events frame) (begins ++ rest)
-      ∙ ap (λ (s : Served). after s (map Byte (begins ++ rest))) opened
+      ∙ ap (λ (s : Served). after s (map Byte (begins ++ rest))) behind
       ∙ after_both (served_at ready.clock first [] None []) begins rest
       ∙ ap (λ (s : Served). after s (map Byte rest)) begun
       ∙ later rest ready.clock first [] until [] room plain
@@ -361,14 +394,18 @@ module _ (lane : Lane) (sound : IsSoundLane lane) where
             on = record { starts = is; from = omega arith; to = (let after_it = lasting.after in omega arith) };
             count = (let size : length rest ≡ 2 + length (lane.loads frame) = omega arith in omega arith);
             plain = plain;
-            screen_is = sym (ap (λ (s : Served). s.core.screen) opened);
+            screen_is = sym (ap (λ (s : Served). s.core.screen) behind);
+            shows = shown;
+            leads = shows_first delay.windows (lane.loads frame) first
+                ∙ ap (λ (s : ScreenState). acted_on (lane.loads frame) (acted_on (0x89 ∷ delay.windows ∷ []) s)) shown
+                ∙ ap (λ (o : Option Delay). acted_on (lane.loads frame) (acted_on (shows_bytes o) (opened lane frame))) (sym is);
           },
         );
         fills =
             subst (λ (b : List ℕ). AllFill 127 begun_at (map Byte b)) (sym bytes)
             (fill_both begun_at (lane.events frame) (begins ++ rest)
             (subst (λ (s : Served). AllFill 127 s (map Byte (lane.events frame))) (sym ready.is) (now_fill (lane.events frame) ready.clock ready.screen [] events.plain))
-            (subst (λ (s : Served). AllFill 127 s (map Byte (begins ++ rest))) (sym opened)
+            (subst (λ (s : Served). AllFill 127 s (map Byte (begins ++ rest))) (sym behind)
             (fill_both (served_at ready.clock first [] None []) begins rest (begins_fill delay.tenths ready.clock first)
             (subst (λ (s : Served). AllFill 127 s (map Byte rest)) (sym begun) (later_fill rest ready.clock first [] until [] room plain)))));
       }
@@ -387,6 +424,7 @@ module _ (lane : Lane) (sound : IsSoundLane lane) where
     screen = empty_screen;
     is = refl;
     ticks = refl;
+    shows = refl;
     free = λ start delay on. let below : start < 0 = on.from in omega arith;
   })
   stands_at (suc frame) = (step frame (stands_at frame)).stands
@@ -414,3 +452,21 @@ module _ (lane : Lane) (sound : IsSoundLane lane) where
       at : Stands frame → (served lane frame).core.held ≡ []
       at (inl calm) = ap (λ (s : Served). s.core.held) calm.is
       at (inr (start, delay, within)) = absurd (outside start delay within.on)
+
+  -- outside of delays the screen is as if nothing were ever put off
+  pub shows_undelayed : (frame : ℕ) → IsOutside lane frame → (served lane frame).core.screen ≡ undelayed lane frame
+  shows_undelayed frame outside = at (stands_at frame)
+    where
+      at : Stands frame → (served lane frame).core.screen ≡ undelayed lane frame
+      at (inl calm) = ap (λ (s : Served). s.core.screen) calm.is ∙ calm.shows
+      at (inr (start, delay, within)) = absurd (outside start delay within.on)
+
+  -- and within one as the events of its first frame leave that
+  pub shows_opened : (start frame : ℕ) (delay : Delay) → IsInDelay lane start delay frame → (served lane frame).core.screen ≡ opened lane start
+  shows_opened start frame delay on = at (stands_at frame)
+    where
+      at : Stands frame → (served lane frame).core.screen ≡ opened lane start
+      at (inl calm) = absurd (calm.free start delay on)
+      at (inr (other, more, within)) =
+          let same = one_delay other start frame more delay within.on on in
+          ap (λ (s : Served). s.core.screen) within.is ∙ within.shows ∙ ap (opened lane) same.0

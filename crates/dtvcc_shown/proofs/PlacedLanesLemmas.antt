@@ -1,50 +1,33 @@
 -- A placed lane is sound: its loads are plain, and those of a delay have at most 125 bytes.
-use Rattle.std.proofs.Common.{◌≡◌, ℕ, zero, suc, ◌+◌, ◌-◌, ◌<◌, ◌≤◌, ◌==◌, Bool, true, false, if◌then◌else◌, List, [], ◌∷◌, ◌++◌, length, length-append, refl, sym, ap, subst, ◌∙◌, arith}
+use Rattle.std.proofs.Common.{◌≡◌, ℕ, zero, suc, ◌+◌, ◌-◌, ◌<◌, ◌≤◌, ◌==◌, Bool, true, false, if◌then◌else◌, List, [], ◌∷◌, ◌++◌, length, length-append, refl, sym, ap, ◌∙◌, arith}
 use Rattle.std.specs.Prelude.{All, option_map}
 use Rattle.std.specs.List.{zip}
 use Rattle.std.proofs.lemmas.Bool.Decides.{nat_tests}
 use Rattle.std.proofs.lemmas.List.Elements.{All-head, All-tail}
 use Rattle.std.proofs.lemmas.List.Sums.{sum_by-cons}
-use Rattle.cc_base.specs.Steps.{front_from}
-use Rattle.dtvcc_codes.specs.Reading.{completions, open_after}
 use Rattle.service_lanes.specs.declared.chunk.Chunk.{Chunk}
 use Rattle.service_lanes.specs.ServiceBytes.{loads_at}
 use Rattle.service_lanes.specs.ServiceLane.{bytes_between, is_between, size_of, used}
 use Rattle.service_lanes.proofs.ServiceLaneLemmas.{placed_within}
 use Rattle.dtvcc_shown.specs.PlacedLanes.{IsPlacedLane, delay_ends, loaded}
-use Rattle.dtvcc_shown.specs.ServiceLanes.{Delay, Lane, spent}
+use Rattle.dtvcc_author.specs.declared.frame_events.Delay.{Delay}
+use Rattle.dtvcc_shown.specs.ServiceLanes.{Lane, spent}
 use Rattle.dtvcc_shown.specs.Soundness.{ArePlain, IsSoundLane}
-use Rattle.dtvcc_shown.proofs.PlainLemmas.{AllPlain}
+use Rattle.dtvcc_shown.proofs.PlainLemmas.{nothing_plain, plain_both}
 
--- plain bytes one behind another, whatever was open before them
-plain_join : (open_bytes bytes more : List ℕ) → AllPlain (completions open_bytes bytes) → front_from open_after open_bytes bytes ≡ []
-    → AllPlain (completions [] more) → AllPlain (completions open_bytes (bytes ++ more))
-plain_join open_bytes [] more all whole too = subst (λ (left : List ℕ). AllPlain (completions left more)) (sym whole) too
-plain_join open_bytes (byte ∷ bytes) more all whole too = (all.0, plain_join (open_after open_bytes byte) bytes more all.1 whole too)
-
-whole_join : (open_bytes bytes more : List ℕ) → front_from open_after open_bytes bytes ≡ []
-    → front_from open_after open_bytes (bytes ++ more) ≡ front_from open_after [] more
-whole_join open_bytes [] more whole = ap (λ (left : List ℕ). front_from open_after left more) whole
-whole_join open_bytes (byte ∷ bytes) more whole = whole_join (open_after open_bytes byte) bytes more whole
-
-plain_both : (bytes more : List ℕ) → ArePlain bytes → ArePlain more → ArePlain (bytes ++ more)
-plain_both bytes more are too = record {
-  plain = plain_join [] bytes more are.plain are.whole too.plain;
-  whole = whole_join [] bytes more are.whole ∙ too.whole;
-}
-
--- the units of a frame are plain together
-loads_plain : (chunks : List Chunk) (frames : List ℕ) (frame : ℕ) → All (λ chunk. ArePlain chunk.unit.items) chunks
-    → ArePlain (loads_at (zip chunks frames) frame)
-loads_plain [] frames frame plain = record { plain = tt; whole = refl }
-loads_plain (u ∷ us) [] frame plain = record { plain = tt; whole = refl }
-loads_plain (u ∷ us) (f ∷ fs) frame plain =
-    plain_both (if f == frame then u.unit.items else []) (loads_at (zip us fs) frame)
-    (at (f == frame)) (loads_plain us fs frame (All-tail (λ chunk. ArePlain chunk.unit.items) u us plain))
-  where
-    at : (here : Bool) → ArePlain (if here then u.unit.items else [])
-    at true = All-head (λ chunk. ArePlain chunk.unit.items) u us plain
-    at false = record { plain = tt; whole = refl }
+-- what holds of no bytes, and of bytes one behind another, holds of the units of a frame together
+module _ (P : List ℕ → Type 0) (none : P []) (both : (bytes more : List ℕ) → P bytes → P more → P (bytes ++ more)) where
+  pub loads_hold : (chunks : List Chunk) (frames : List ℕ) (frame : ℕ) → All (λ (chunk : Chunk). P chunk.unit.items) chunks
+      → P (loads_at (zip chunks frames) frame)
+  loads_hold [] frames frame each = none
+  loads_hold (u ∷ us) [] frame each = none
+  loads_hold (u ∷ us) (f ∷ fs) frame each =
+      both (if f == frame then u.unit.items else []) (loads_at (zip us fs) frame)
+      (at (f == frame)) (loads_hold us fs frame (All-tail (λ (chunk : Chunk). P chunk.unit.items) u us each))
+    where
+      at : (here : Bool) → P (if here then u.unit.items else [])
+      at true = All-head (λ (chunk : Chunk). P chunk.unit.items) u us each
+      at false = none
 
 -- one frame more has what stands in it
 between_last : (from count f : ℕ) → (f == from + count) ≡ true → is_between from (from + suc count) f ≡ true
@@ -111,7 +94,7 @@ pub placed_sound : (lane : Lane) (room : ℕ → ℕ) (chunks : List Chunk) (fra
     → IsSoundLane (loaded lane (zip chunks frames))
 placed_sound lane room chunks frames is = record {
   events = is.sound.events;
-  loads = λ frame. loads_plain chunks frames frame is.plain;
+  loads = λ frame. loads_hold ArePlain nothing_plain plain_both chunks frames frame is.plain;
   lasting = λ start delay starts.
       let lasts = is.sound.lasting start delay starts in
       record { some = lasts.some; ends_is = lasts.ends_is; after = lasts.after };

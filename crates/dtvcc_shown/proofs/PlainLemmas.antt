@@ -16,10 +16,31 @@ use Rattle.dtvcc_screen.specs.Objects.{acting_on}
 use Rattle.dtvcc_screen.specs.Screens.{ScreenState}
 use Rattle.dtvcc_screen.proofs.CoreLemmas.{arrived_held, arrived_now, by_byte, fill_held}
 use Rattle.dtvcc_shown.specs.Filling.{AllFill}
-use Rattle.dtvcc_shown.specs.Soundness.{IsPlain, is_plain}
+use Rattle.dtvcc_shown.specs.Soundness.{ArePlain, IsPlain, is_plain}
 
 abbrev pub AllPlain : List (Option Command) → Type 0
 AllPlain said = AllByRecursion IsPlain said
+
+-- no bytes are plain
+pub nothing_plain : ArePlain []
+nothing_plain = record { plain = tt; whole = refl }
+
+-- plain bytes one behind another, whatever was open before them
+plain_join : (open_bytes bytes more : List ℕ) → AllPlain (completions open_bytes bytes) → front_from open_after open_bytes bytes ≡ []
+    → AllPlain (completions [] more) → AllPlain (completions open_bytes (bytes ++ more))
+plain_join open_bytes [] more all whole too = subst (λ (left : List ℕ). AllPlain (completions left more)) (sym whole) too
+plain_join open_bytes (byte ∷ bytes) more all whole too = (all.0, plain_join (open_after open_bytes byte) bytes more all.1 whole too)
+
+whole_join : (open_bytes bytes more : List ℕ) → front_from open_after open_bytes bytes ≡ []
+    → front_from open_after open_bytes (bytes ++ more) ≡ front_from open_after [] more
+whole_join open_bytes [] more whole = ap (λ (left : List ℕ). front_from open_after left more) whole
+whole_join open_bytes (byte ∷ bytes) more whole = whole_join (open_after open_bytes byte) bytes more whole
+
+pub plain_both : (bytes more : List ℕ) → ArePlain bytes → ArePlain more → ArePlain (bytes ++ more)
+plain_both bytes more are too = record {
+  plain = plain_join [] bytes more are.plain are.whole too.plain;
+  whole = whole_join [] bytes more are.whole ∙ too.whole;
+}
 
 -- a service by its parts
 abbrev pub served_at : Clock → ScreenState → List ℕ → Option ℕ → List (Option Command) → Served

@@ -4,7 +4,8 @@ use Rattle.service_lanes.specs.declared.chunk.Chunk.{Chunk}
 use Rattle.placements.specs.Placing.{IsPlaced}
 use Rattle.service_lanes.specs.ServiceBytes.{loads_at}
 use Rattle.service_lanes.specs.ServiceLane.{service_lane}
-use Rattle.dtvcc_shown.specs.ServiceLanes.{Delay, Lane}
+use Rattle.dtvcc_author.specs.declared.frame_events.Delay.{Delay}
+use Rattle.dtvcc_shown.specs.ServiceLanes.{Lane}
 use Rattle.dtvcc_shown.specs.Soundness.{ArePlain, IsSoundLane}
 
 -- the lane with these units, and with none

@@ -1,14 +1,10 @@
 -- What a service of DTVCC is sent frame by frame: in each frame first what hides and shows windows, then perhaps a delay with
 -- what it puts off, then what loads windows (CTA-708-E, DeleteWindows, DisplayWindows and Delay).
-use Rattle.std.specs.Prelude.{◌≡◌, ℕ, zero, suc, ◌+◌, ◌<◌, ◌≤◌, List, [], ◌∷◌, ◌++◌, Option, Some, None, length, map}
+use Rattle.std.specs.Prelude.{◌≡◌, ℕ, zero, suc, ◌+◌, ◌<◌, ◌≤◌, List, ◌∷◌, ◌++◌, Option, Some, length, map}
 use Rattle.cc_base.specs.declared.rate.Rate.{Rate}
+use Rattle.dtvcc_author.specs.EventBytes.{delay_bytes}
+use Rattle.dtvcc_author.specs.declared.frame_events.Delay.{Delay}
 use Rattle.dtvcc_screen.specs.Meaning.{Event, Tick, Byte, Served, after, start}
-
--- a delay: its tenths of a second, the windows that are shown when it ends, a bit each, and the frame in which it ends
-pub record Delay : Type 0 where
-  pub tenths : ℕ
-  pub windows : ℕ
-  pub ends : ℕ
 
 -- the rate of the frames, and for each frame the bytes of its events, the delay that starts there, and the bytes of its loads
 pub record Lane : Type 0 where
@@ -16,11 +12,6 @@ pub record Lane : Type 0 where
   pub events : ℕ → List ℕ
   pub delay : ℕ → Option Delay
   pub loads : ℕ → List ℕ
-
--- Delay, and DisplayWindows behind it, which is held
-abbrev pub delay_bytes : Option Delay → List ℕ
-delay_bytes None = []
-delay_bytes (Some delay) = 0x8D ∷ delay.tenths ∷ 0x89 ∷ delay.windows ∷ []
 
 -- the bytes of a frame
 abbrev pub frame_bytes : Lane → ℕ → List ℕ

@@ -7,7 +7,8 @@ use Rattle.cc_base.specs.Steps.{front_from}
 use Rattle.dtvcc_codes.specs.declared.commands.Command.{Command}
 use Rattle.dtvcc_codes.specs.declared.commands.Command.TheVariants.{Dly, Dlc, Rst}
 use Rattle.dtvcc_codes.specs.Reading.{completions, open_after}
-use Rattle.dtvcc_shown.specs.ServiceLanes.{Delay, Lane, spent}
+use Rattle.dtvcc_author.specs.declared.frame_events.Delay.{Delay}
+use Rattle.dtvcc_shown.specs.ServiceLanes.{Lane, spent}
 
 -- the command neither delays nor ends a delay nor resets
 abbrev pub is_plain : Command → Bool

@@ -1,13 +1,26 @@
 //! Laws of the definitions: functions without a body, whose contract is the law.
 
-ghost use Rattle.std.specs.Prelude.{◌≡◌, ℕ, List, []};
+ghost use Rattle.std.specs.Prelude.{◌≡◌, ℕ, List, [], All};
 ghost use Rattle.std.specs.List.{zip};
+ghost use Rattle.cc_base.specs.declared.rate.Rate.{Rate};
+ghost use Rattle.cue_types.specs.Cues.{IsCueFormed};
+ghost use Rattle.cue_types.specs.declared.cue.Cue.{Cue};
 ghost use Rattle.dtvcc_screen.specs.Meaning.{after};
+ghost use Rattle.dtvcc_author.specs.declared.caption.Caption.{Caption};
+ghost use Rattle.dtvcc_author.specs.Captions.{captions_of};
+ghost use Rattle.dtvcc_author.specs.Kept.{AreKept};
+ghost use Rattle.placements.specs.Placing.{IsPlaced};
 ghost use Rattle.service_lanes.specs.declared.chunk.Chunk.{Chunk};
-ghost use Rattle.dtvcc_shown.specs.PlacedLanes.{IsPlacedLane, loaded};
+ghost use Rattle.service_lanes.specs.ServiceBytes.{bytes_in};
+ghost use Rattle.service_lanes.specs.ServiceChunks.{service_chunks};
+ghost use Rattle.service_lanes.specs.ServiceRoom.{caption_lane};
+ghost use Rattle.dtvcc_shown.specs.CaptionLanes.{lane_of};
+ghost use Rattle.dtvcc_shown.specs.Undelayed.{opened, undelayed};
+ghost use Rattle.dtvcc_shown.specs.PlacedLanes.{IsPlacedLane, loaded, unloaded};
 ghost use Rattle.dtvcc_shown.specs.Filling.{AllFill};
-ghost use Rattle.dtvcc_shown.specs.ServiceLanes.{Delay, IsInDelay, IsOutside, Lane, frame_events, opening_events, served};
-ghost use Rattle.dtvcc_shown.specs.Soundness.{IsSoundLane};
+ghost use Rattle.dtvcc_author.specs.declared.frame_events.Delay.{Delay};
+ghost use Rattle.dtvcc_shown.specs.ServiceLanes.{IsInDelay, IsOutside, Lane, frame_bytes, frame_events, opening_events, served};
+ghost use Rattle.dtvcc_shown.specs.Soundness.{ArePlain, IsSoundLane};
 
 /// At every byte of every frame at most 127 bytes are held: no byte ever fills the buffer, with any number of delays.
 pub fn law_of_the_buffer()
@@ -33,4 +46,28 @@ pub fn law_of_placed_lanes()
         → IsSoundLane (loaded lane (zip chunks frames)) }
     ensures fills { (lane : Lane) (room : ℕ → ℕ) (chunks : List Chunk) (frames : List ℕ) → IsPlacedLane lane room chunks frames
         → (frame : ℕ) → let all = loaded lane (zip chunks frames) in AllFill 127 (served all frame) (frame_events all frame) }
+{}
+
+/// The lane of a service's captions gives each frame the bytes of the service; where the captions keep the rules and the cues
+/// are in their ranges it is sound without its units, these are plain and whole, and it is sound with them, wherever they stand
+/// that it allows.
+pub fn law_of_caption_lanes()
+    ensures bytes { (rate : Rate) (cs : List Caption) (placed : List (Chunk × ℕ)) (frame : ℕ)
+        → frame_bytes (lane_of rate cs placed) frame ≡ bytes_in cs placed frame }
+    ensures captions { (rate : Rate) (frames : ℕ) (cs : List Caption) (placed : List (Chunk × ℕ)) → AreKept rate frames cs
+        → IsSoundLane (unloaded (lane_of rate cs placed)) }
+    ensures units { (rate : Rate) (service : ℕ) (cues : List Cue) → All IsCueFormed cues
+        → All (λ chunk. ArePlain chunk.unit.items) (service_chunks rate service cues) }
+    ensures placed { (rate : Rate) (share service frames : ℕ) (cues : List Cue) (placed : List ℕ)
+        → All IsCueFormed cues → let cs = captions_of rate service cues in let chunks = service_chunks rate service cues in
+        AreKept rate frames cs → IsPlaced (caption_lane share cs) [] chunks placed → IsSoundLane (lane_of rate cs (zip chunks placed)) }
+{}
+
+/// The screen of a service is as if nothing were ever put off wherever no delay is on, and within a delay as the events of its
+/// first frame leave that.
+pub fn law_of_undelayed_screens()
+    ensures outside { (lane : Lane) (frame : ℕ) → IsSoundLane lane → IsOutside lane frame
+        → (served lane frame).core.screen ≡ undelayed lane frame }
+    ensures within { (lane : Lane) (start frame : ℕ) (delay : Delay) → IsSoundLane lane → IsInDelay lane start delay frame
+        → (served lane frame).core.screen ≡ opened lane start }
 {}

@@ -615,26 +615,6 @@ fn windows_are_there_from_define_to_delete(rt: HostRuntime) -> Result<(), AllocE
 }
 
 #[test]
-fn changes_are_told_once(rt: HostRuntime) -> Result<(), AllocError> {
-    let mut window = Window::new(rt.alloc())?;
-    assert!(rt; !window.take_changed());
-    window.define(&definition(2, 4, 0, 0));
-    assert!(rt; window.take_changed());
-    assert!(rt; !window.take_changed());
-    write(&mut window, 'A');
-    assert!(rt; window.take_changed());
-    for call in [Locate(0, 0), Back, CarriageReturn] {
-        apply(&mut window, call);
-        assert!(rt; !window.take_changed());
-    }
-    for call in [CarriageReturn, RowReturn, FormFeed, Clear, Size(1, 4)] {
-        apply(&mut window, call);
-        assert!(rt; window.take_changed());
-    }
-    Ok(())
-}
-
-#[test]
 fn rows_are_those_that_can_have_a_cell(rt: HostRuntime) -> Result<(), AllocError> {
     let mut window = Window::new(rt.alloc())?;
     for call in [

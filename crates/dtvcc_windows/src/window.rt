@@ -8,7 +8,6 @@ use crate::cells::{Cells, DCell};
 use crate::styles::{pen_style, window_style};
 use dtvcc_codes::{Definition, PenAttr, PenColors, WinAttr};
 use std::alloc::{AllocError, Global};
-use std::mem;
 use std::ops::Range;
 
 /// A caption window (CTA-708-E, caption windows): its definition, attributes and cells, and its pen. It may not be there
@@ -27,8 +26,6 @@ pub struct Window {
     col: u8,
     pen: PenAttr,
     colors: PenColors,
-    // Whether something that is shown changed since it was last asked.
-    changed: bool,
     pub ghost filled: { live ≡ true → vec_len cells.places ≡ 1024 },
     pub ghost rows_to: { definition.rows ≤ 16 },
     pub ghost cols_from: { 1 ≤ definition.cols },
@@ -46,12 +43,11 @@ impl Window {
     ghost use Rattle.dtvcc_windows.specs.Showing.{StandsIn, as_shown, shown};
     ghost use Rattle.dtvcc_windows.specs.Text.{backspaced, carriage_returned, cleared, form_fed, located, row_returned, written};
     ghost use Rattle.dtvcc_windows.specs.Windows.{with_attributes, with_colors, with_pen, with_visibility};
-    ghost use Rattle.dtvcc_windows.specs.Objects.{Notes, has_changed, is_live, state_of, window_of};
+    ghost use Rattle.dtvcc_windows.specs.Objects.{is_live, state_of, window_of};
 
     /// A window that isn't there yet.
     pub fn new(alloc: Global) -> Result<Window, AllocError>
         ensures none { IfOk result (λ window. window_of window ≡ None) }
-        ensures asked { IfOk result (λ window. has_changed window ≡ false) }
     {
         Ok(Window {
             cells: Cells::new(alloc)?,
@@ -67,7 +63,6 @@ impl Window {
             col: 0,
             pen: PenAttr::default(),
             colors: PenColors::default(),
-            changed: false,
         })
     }
 
@@ -75,7 +70,6 @@ impl Window {
     pub fn define(&mut self, d: &Definition)
         requires { IsDefinition d.now }
         ensures window { window_of self.new ≡ Some (defined d.now (window_of self.old)) }
-        ensures noted { Notes self.old self.new }
     {
         if self.live {
             self.redefine(*d);
@@ -88,7 +82,6 @@ impl Window {
     fn make(&mut self, d: Definition)
         requires { IsDefinition d }
         ensures window { window_of self.new ≡ Some (made d) }
-        ensures changed { has_changed self.new ≡ true }
     {
         self.cells.clear();
         self.live = true;
@@ -98,7 +91,6 @@ impl Window {
         self.col = 0;
         (self.pen, self.colors) = pen_style(style_or_first(d.ps));
         self.definition = d;
-        self.changed = true;
     }
 
     // One that was there changes.
@@ -106,7 +98,6 @@ impl Window {
         requires spelled { IsDefinition d }
         requires live { IsTrue (is_live self.old) }
         ensures window { window_of self.new ≡ Some (redefined d (state_of self.old)) }
-        ensures changed { has_changed self.new ≡ true }
     {
         self.cells.refit(&self.definition, &d);
         self.visible = d.visible;
@@ -115,7 +106,6 @@ impl Window {
         self.col = self.col.min(d.cols - 1);
         (self.pen, self.colors) = pen_style_or(d.ps, self.pen, self.colors);
         self.definition = d;
-        self.changed = true;
     }
 
     /// Writes a character at the pen, or removes the cell there (`None`, the transparent space), and moves the pen one column
@@ -123,7 +113,6 @@ impl Window {
     pub fn put(&mut self, ch: Option<char>)
         requires { IsTrue (is_live self.old) }
         ensures window { window_of self.new ≡ option_map (written ch) (window_of self.old) }
-        ensures noted { Notes self.old self.new }
     {
         if self.col < self.definition.cols {
             match ch {
@@ -138,7 +127,6 @@ impl Window {
                 None => self.cells.put(self.row, self.col, None),
             }
             self.col += 1;
-            self.changed = true;
         }
     }
 
@@ -146,12 +134,10 @@ impl Window {
     pub fn back(&mut self)
         requires { IsTrue (is_live self.old) }
         ensures window { window_of self.new ≡ option_map backspaced (window_of self.old) }
-        ensures noted { Notes self.old self.new }
     {
         if self.col != 0 {
             self.cells.put(self.row, self.col - 1, None);
             self.col -= 1;
-            self.changed = true;
         }
     }
 
@@ -159,12 +145,10 @@ impl Window {
     pub fn form_feed(&mut self)
         requires { IsTrue (is_live self.old) }
         ensures window { window_of self.new ≡ option_map form_fed (window_of self.old) }
-        ensures noted { Notes self.old self.new }
     {
         self.cells.clear();
         self.row = 0;
         self.col = 0;
-        self.changed = true;
     }
 
     /// Puts the pen at the beginning of the next row; on the last row all rows move up by one, and the last is empty
@@ -172,11 +156,9 @@ impl Window {
     pub fn carriage_return(&mut self)
         requires { IsTrue (is_live self.old) }
         ensures window { window_of self.new ≡ option_map carriage_returned (window_of self.old) }
-        ensures noted { Notes self.old self.new }
     {
         if self.row + 1 == self.definition.rows {
             self.cells.raise();
-            self.changed = true;
         } else {
             self.row += 1;
         }
@@ -187,18 +169,15 @@ impl Window {
     pub fn row_return(&mut self)
         requires { IsTrue (is_live self.old) }
         ensures window { window_of self.new ≡ option_map row_returned (window_of self.old) }
-        ensures noted { Notes self.old self.new }
     {
         self.cells.clear_from(self.row, 0);
         self.col = 0;
-        self.changed = true;
     }
 
     /// Puts the pen at a row and a column, counted from 0, each the last one at most (CTA-708-E, SetPenLocation).
     pub fn locate(&mut self, row: u8, col: u8)
         requires { IsTrue (is_live self.old) }
         ensures window { window_of self.new ≡ option_map (located row col) (window_of self.old) }
-        ensures noted { Notes self.old self.new }
     {
         self.row = row.min(self.definition.rows - 1);
         self.col = col.min(self.definition.cols - 1);
@@ -208,38 +187,31 @@ impl Window {
     pub fn clear(&mut self)
         requires { IsTrue (is_live self.old) }
         ensures window { window_of self.new ≡ option_map cleared (window_of self.old) }
-        ensures noted { Notes self.old self.new }
     {
         // The pen stays where it is.
         self.cells.clear();
-        self.changed = true;
     }
 
     /// Shows the window or hides it (CTA-708-E, DisplayWindows, HideWindows, ToggleWindows).
     pub fn set_visible(&mut self, on: bool)
         requires { IsTrue (is_live self.old) }
         ensures window { window_of self.new ≡ option_map (with_visibility on) (window_of self.old) }
-        ensures noted { Notes self.old self.new }
     {
         self.visible = on;
-        self.changed = true;
     }
 
     /// Gives the window other attributes (CTA-708-E, SetWindowAttributes).
     pub fn set_attributes(&mut self, attributes: WinAttr)
         requires { IsTrue (is_live self.old) }
         ensures window { window_of self.new ≡ option_map (with_attributes attributes) (window_of self.old) }
-        ensures noted { Notes self.old self.new }
     {
         self.attributes = attributes;
-        self.changed = true;
     }
 
     /// Gives the pen other attributes, for the characters that follow (CTA-708-E, SetPenAttributes).
     pub fn set_pen(&mut self, pen: PenAttr)
         requires { IsTrue (is_live self.old) }
         ensures window { window_of self.new ≡ option_map (with_pen pen) (window_of self.old) }
-        ensures noted { Notes self.old self.new }
     {
         self.pen = pen;
     }
@@ -248,7 +220,6 @@ impl Window {
     pub fn set_colors(&mut self, colors: PenColors)
         requires { IsTrue (is_live self.old) }
         ensures window { window_of self.new ≡ option_map (with_colors colors) (window_of self.old) }
-        ensures noted { Notes self.old self.new }
     {
         self.colors = colors;
     }
@@ -257,10 +228,8 @@ impl Window {
     pub fn delete(&mut self)
         requires { IsTrue (is_live self.old) }
         ensures window { window_of self.new ≡ None }
-        ensures noted { Notes self.old self.new }
     {
         self.live = false;
-        self.changed = true;
     }
 
     /// The cell at a row and a column, counted from 0; there is none outside of the window's size.
@@ -362,9 +331,7 @@ impl Window {
     /// Takes over what another window is.
     pub fn copy_from(&mut self, other: &Window)
         ensures window { window_of self.new ≡ window_of other.now }
-        ensures noted { Notes self.old self.new }
     {
-        self.changed = true;
         if !other.live {
             self.live = false;
             return;
@@ -378,16 +345,6 @@ impl Window {
         self.col = other.col;
         self.pen = other.pen;
         self.colors = other.colors;
-    }
-
-    /// Whether what is shown of the window may have changed since this was last asked, or since the window was new: where it
-    /// says no, it is the same.
-    pub fn take_changed(&mut self) -> bool
-        ensures told { result ≡ has_changed self.old }
-        ensures asked { has_changed self.new ≡ false }
-        ensures same { window_of self.new ≡ window_of self.old }
-    {
-        mem::replace(&mut self.changed, false)
     }
 }
 

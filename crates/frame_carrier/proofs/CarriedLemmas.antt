@@ -302,6 +302,13 @@ service_is rate carried count blocks =
     ∙ ap (λ l. l ++ channel_triplets packet) (second_none carried.two)
     ∙ channel_all count blocks
 
+-- so are those of its packet
+pub packet_channel_is : (rate : Rate) (frame : ℕ) (carried : FrameBytes) (count : ℕ)
+    → channel_triplets (packet_triplets (frame_packet rate frame carried (channel_packet count carried.blocks.items))) ≡ channel_packet count carried.blocks.items
+packet_channel_is rate frame carried count =
+    ap channel_triplets (packet_triplets_are rate frame carried (channel_packet count carried.blocks.items) (packet_kinds count carried.blocks.items))
+    ∙ service_is rate carried count carried.blocks.items
+
 -- a frame keeps to its room
 within_room : (rate : Rate) (frame : ℕ) (carried : FrameBytes) (count : ℕ) → length (front_triplets carried (channel_packet count carried.blocks.items)) ≤ triplets_of rate
     → IsWithinRoom rate carried (channel_packet count carried.blocks.items) (frame_packet rate frame carried (channel_packet count carried.blocks.items))
@@ -312,7 +319,7 @@ within_room rate frame carried count roomy =
     record {
       number = ap length same ∙ frame_number rate carried packet roomy;
       pairs = λ second_field. ap (field_pairs second_field) same ∙ field_is rate carried packet second_field channel;
-      service = ap channel_triplets same ∙ service_is rate carried count carried.blocks.items;
+      service = packet_channel_is rate frame carried count;
     }
 
 -- the blocks of a frame are few

@@ -20,7 +20,7 @@ use Rattle.window_texts.specs.WindowTexts.{service_text, shown_ids}
 use Rattle.window_texts.proofs.DifferenceLemmas.{differs-itself}
 use Rattle.words_files.specs.Received.{received_grids}
 use Rattle.grid_print.specs.declared.kept.Kept.{Kept}
-use Rattle.grid_print.specs.GridTexts.{all_text, changed_channel, changed_service, changed_services, changes_text, channels, channels_differ, frame_line, grid_text, service_differs, services, services_differ, shown_channel, shown_service, shown_services}
+use Rattle.grid_print.specs.GridTexts.{all_text, changed_channel, changed_service, changed_services, changes_text, channels, channels_differ, frame_line, grid_text, screens_differ, service_differs, services, services_differ, shown_channel, shown_service, shown_services}
 use Rattle.grid_print.specs.Kept.{KeepsServices, changed_at, changed_places, seen_at}
 use Rattle.grid_print.specs.Runs.{runs}
 use Rattle.grid_print.specs.Screens.{HaveSameWindows, IsBehind, LookAlike, Screens}
@@ -214,6 +214,9 @@ texts_alike a b new same =
 pub changes_alike : (frame : ℕ) (a b new : Screens) → LookAlike a b → changes_text frame a new ≡ changes_text frame b new
 unfolding changes_text
 changes_alike frame a b new alike = rw (alike.grids, services_alike a.windows b.windows new.windows alike.windows, texts_alike a.windows b.windows new.windows alike.windows) refl
+
+pub differ_alike : (a b new : Screens) → LookAlike a b → screens_differ a new ≡ screens_differ b new
+differ_alike a b new alike = rw (alike.grids, services_alike a.windows b.windows new.windows alike.windows) refl
 
 -- and don't change
 no_channel_differs : (grids : Chan → Grid) → false ≡ channels_differ grids grids

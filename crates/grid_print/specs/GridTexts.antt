@@ -104,10 +104,14 @@ channels_differ old new = list_any (λ chan. differs (old chan) (new chan)) chan
 unfoldable pub all_text : ℕ → Screens → List ℕ
 all_text frame screens = frame_line frame ++ flat_map (shown_channel screens.grids) channels ++ shown_services screens.windows
 
+-- the grid of some channel differs, or the windows of some service
+abbrev pub screens_differ : Screens → Screens → Bool
+screens_differ old new = channels_differ old.grids new.grids || services_differ old.windows new.windows
+
 -- what changes from some screens to those of a frame: nothing where nothing differs; else the frame's line, the grid of each channel
 -- whose grid differs, and the windows of each service whose windows differ
 unfoldable pub changes_text : ℕ → Screens → Screens → List ℕ
 changes_text frame old new =
-    if channels_differ old.grids new.grids || services_differ old.windows new.windows
+    if screens_differ old new
     then frame_line frame ++ flat_map (changed_channel old.grids new.grids) channels ++ changed_services old.windows new.windows
     else []

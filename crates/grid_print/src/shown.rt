@@ -39,7 +39,7 @@ impl Shown {
     ghost use Rattle.std.specs.Prelude.{◌<◌, ◌+◌, ◌++◌, true};
     ghost use Rattle.cc_base.specs.Streams.{PutCause, Puts};
     ghost use Rattle.line21_screen.specs.Grid.{empty_grid};
-    ghost use Rattle.grid_print.specs.GridTexts.{changes_text, channels_differ, frame_line, service_differs, services_differ};
+    ghost use Rattle.grid_print.specs.GridTexts.{changes_text, channels_differ, frame_line, screens_differ, service_differs, services_differ};
     ghost use Rattle.grid_print.specs.Kept.{changed_at};
     ghost use Rattle.grid_print.specs.Shown.{last_grid, last_shown};
     ghost use Rattle.grid_print.specs.Screens.{HaveSameWindows, LookAlike, received_screens};
@@ -83,6 +83,31 @@ impl Shown {
         if changed {
             self.write_differing(r, frame, services, text, out);
         }
+    }
+
+    /// Whether the screens of a frame differ from those that were shown last, so that there is something to write. They are then the
+    /// ones that were shown last.
+    pub fn pass(&mut self, r: &Receiver) -> bool
+        ensures told { (frames : List Frame) → IsBehind frames r.now → result ≡ screens_differ (last_shown self.old) (received_screens frames) }
+        ensures now { (frames : List Frame) → IsBehind frames r.now → LookAlike (last_shown self.new) (received_screens frames) }
+    {
+        let channels = self.channels_differ(r);
+        let services = self.keep_services(r, true);
+        if channels {
+            self.keep_channels(r);
+        }
+        channels | services
+    }
+
+    // Keeps the grid of each channel.
+    fn keep_channels(&mut self, r: &Receiver)
+        ensures now { last_grid self.new ≡ shown r.now }
+        ensures services { self.new.services ≡ self.old.services }
+    {
+        self.cc1.copy_from(r.displayed(Chan::Cc1));
+        self.cc2.copy_from(r.displayed(Chan::Cc2));
+        self.cc3.copy_from(r.displayed(Chan::Cc3));
+        self.cc4.copy_from(r.displayed(Chan::Cc4));
     }
 
     // Keeps what is seen of all services, and says whether that of one differs from what was kept; not so where nothing touched them.

@@ -390,6 +390,7 @@ fn windows_that_change_are_told_frame_by_frame(rt: HostRuntime) -> Result<(), Al
     ];
     let mut receiver = Receiver::new(alloc)?;
     let mut shown = Shown::new(alloc)?;
+    let mut passed = Shown::new(alloc)?;
     for (frame, (channel, text)) in frames.iter().enumerate() {
         let brings = Brings {
             one: &[],
@@ -403,6 +404,7 @@ fn windows_that_change_are_told_frame_by_frame(rt: HostRuntime) -> Result<(), Al
             Put::Done
         );
         assert_eq!(rt; sink.bytes(), text.as_bytes(), "frame {frame}");
+        assert_eq!(rt; passed.pass(&receiver), !text.is_empty());
     }
     Ok(())
 }

@@ -51,7 +51,7 @@ last_same (f ∷ g ∷ front) [] p q same = cc
 last_same (f ∷ front) (e ∷ earlier) p q same = last_same front earlier p q cc
 
 -- a packet has bytes
-has_bytes : (bytes : List ℕ) (r : Packet) → IsPacketBytes r bytes → 0 < length bytes
+pub has_bytes : (bytes : List ℕ) (r : Packet) → IsPacketBytes r bytes → 0 < length bytes
 has_bytes [] r is = absurd (some_packet r [] is refl)
 has_bytes (b ∷ bytes) r is = omega arith
 
@@ -115,7 +115,7 @@ no_more a b = from_test (nat_lt b a) refl
     from_test false is = inl (grind (arith, nat_tests))
 
 -- behind one front stands one list
-tail_same : (front xs ys : List ℕ) → front ++ xs ≡ front ++ ys → xs ≡ ys
+pub tail_same : (front xs ys : List ℕ) → front ++ xs ≡ front ++ ys → xs ≡ ys
 tail_same [] xs ys same = same
 tail_same (f ∷ front) xs ys same = tail_same front xs ys cc
 

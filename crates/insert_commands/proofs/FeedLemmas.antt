@@ -1,33 +1,29 @@
 -- What a receiver makes of the bytes behind those of the kept packet.
-use Rattle.std.proofs.Common.{◌≡◌, ◌≢◌, ℕ, ◌+◌, ◌-◌, ◌<◌, ◌≤◌, inl, inr, All, List, [], ◌∷◌, ◌++◌, length, take, drop, refl, ap, sym, subst, ◌∙◌, append_assoc, length-append, length-drop, arith}
-use Rattle.std.proofs.lemmas.List.{length-take-le, take-append-drop, take-append-le, take_all}
+use Rattle.std.proofs.Common.{◌≡◌, ◌≢◌, ℕ, ◌+◌, ◌-◌, ◌<◌, ◌≤◌, inl, inr, All, List, [], ◌∷◌, ◌++◌, length, take, drop, ap, sym, subst, ◌∙◌, append_assoc, length-append, length-drop, arith}
+use Rattle.std.proofs.lemmas.List.{length-take-le, take-append-drop, take-append-le, take-take, take_all}
 use Rattle.std.proofs.Math.Seq.{take-append-add}
 use Rattle.std.proofs.lemmas.List.Elements.{All-cons, All-head, All-nil, All-tail}
 use Rattle.cc_base.specs.Steps.{front_from}
 use Rattle.cc_base.specs.Syntax.{open_behind}
-use Rattle.cc_base.specs.declared.refusal.Refusal.{Refusal}
 use Rattle.cc_base.proofs.StepLemmas.{front_from-append}
 use Rattle.anc_words.specs.Packets.{Packet}
 use Rattle.anc_words.specs.Reading.{anc_syntax, nothing_open, open_after}
 use Rattle.anc_words.specs.WordsFiles.{IsPacketBytes, IsWordsFile}
 use Rattle.anc_words.proofs.ByteLemmas.{file_is_read}
-use Rattle.cc_receiver.specs.Feeds.{Counts, HasFed, HasRefused}
+use Rattle.cc_receiver.specs.Feeds.{Counts, HasFed}
 use Rattle.cc_receiver.specs.Receivers.{HasReceived, frame_count}
 use Rattle.cc_receiver.specs.Receiving.{EndsBy, EndsWith}
 use Rattle.cc_receiver.specs.declared.receiver.Ended.{Ended}
 use Rattle.cc_receiver.specs.declared.receiver.Ended.TheVariants as ended
 use Rattle.cc_receiver.specs.declared.receiver.Fed.{Fed}
 use Rattle.cc_receiver.specs.declared.receiver.Receiver.{Receiver}
-use Rattle.cc_receiver.proofs.TakenLemmas.{frames_count}
+use Rattle.cc_receiver.proofs.FedFrames.{counted_nothing, counts_one, moves_by, nothing_is_file, nothing_offends}
 use Rattle.cdp_packets.specs.Packets.{Packet as Frame}
 use Rattle.services_files.specs.Services.{services_say}
-use Rattle.insert_commands.proofs.FramesLemmas.{frames_still, nothing_is_file, nothing_offends}
-use Rattle.words_files.specs.FramesOf.{AreFramesOf}
-use Rattle.words_files.specs.Offences.{FirstOffendingWord, IsFileUnder, IsUnoffending}
-use Rattle.words_files.proofs.FramesOfLemmas.{file_frames}
-use Rattle.insert_commands.specs.OpenPackets.{Ends, EndsCaption, EndsForeign, HasRead, NoPacketEnds, Refuses, open_bytes}
+use Rattle.words_files.specs.Offences.{IsFileUnder, IsUnoffending}
+use Rattle.insert_commands.specs.OpenPackets.{Ends, EndsCaption, EndsForeign, HasRead, NoPacketEnds, Reads, open_bytes}
 use Rattle.insert_commands.specs.declared.packets.Packets.{Packets}
-use Rattle.insert_commands.proofs.EndLemmas.{brings, closed_file, file_under, frames_here, no_more, one_packet}
+use Rattle.insert_commands.proofs.EndLemmas.{brings, closed_file, file_under, no_more, one_packet}
 use Rattle.insert_commands.proofs.RoomLemmas.{packet_room}
 
 -- the first of two lists of bytes is of bytes
@@ -45,7 +41,7 @@ take_less k used bytes within few =
 -- nothing was fed
 pub nothing_read : (packets : Packets) → HasReceived [] packets.receiver → open_bytes packets ≡ [] → HasRead [] [] packets
 nothing_read packets received none =
-    let count : frame_count packets.receiver ≡ 0 = frames_count [] [] packets.receiver received (file_frames services_say [] [] nothing_is_file) in
+    let count = counted_nothing packets.receiver received in
     record {
       received = subst (λ b. HasReceived b packets.receiver) (sym none) received;
       few = omega (arith, count);
@@ -100,12 +96,6 @@ module _ (frames : List Frame) (file bytes : List ℕ) (old : Packets) (new : Re
       (all_front (file ++ take n more) (drop n more) (subst (All (λ b. b < 256)) cut received_whole.bytes_are)) closed in
       no_sooner packets n some few is) in
       omega (arith, room, length-append (open_bytes old) (take fed.used bytes))
-
-  -- at most one frame was counted, and none where no packet of captions ended
-  counts_one : (before now : ℕ) (answer : Ended) → Counts before now answer → now ≤ before + 1
-  counts_one before now ended.Caption counts = omega arith
-  counts_one before now ended.No counts = omega arith
-  counts_one before now ended.Foreign counts = omega arith
 
   few_now : 0 < fed.used → frame_count new ≤ length (file ++ more)
   few_now some =
@@ -192,22 +182,18 @@ module _ (frames : List Frame) (file bytes : List ℕ) (old : Packets) (new : Re
   fed_ends packets receiver kept ended.Caption is by_caption by_foreign =
       subst (λ b. EndsCaption frames file b packets) (sym kept) (fed_caption packets receiver (by_caption is) is)
 
--- a word was refused
-pub refuses : (frames : List Frame) (file bytes : List ℕ) (old : Packets) (new : Receiver) (refusal : Refusal) → HasRead frames file old
-    → HasRefused (file ++ open_bytes old) bytes old.receiver new refusal → Refuses frames file bytes old refusal
-refuses frames file bytes old new refusal had refused =
-    let whole = append_assoc file (open_bytes old) bytes in
+-- a front of a piece was read, so a front of the bytes
+pub reads_front : (frames : List Frame) (file bytes : List ℕ) (most : ℕ) (old new : Packets) (fed : Fed) → most ≤ length bytes → (0 < length bytes → 0 < most)
+    → fed.used ≤ length (take most bytes) → (fed.ended ≡ ended.No → fed.used ≡ length (take most bytes)) → (fed.ended ≢ ended.No → 0 < fed.used)
+    → open_bytes new ≡ open_bytes old ++ take fed.used (take most bytes) → Ends fed.ended frames file new → Reads frames file bytes old new fed
+reads_front frames file bytes most old new fed fits some within all moves kept ends =
+    let long = length-take-le most bytes fits in
     record {
-      frames_are = subst (λ b. AreFramesOf services_say frames b) whole
-          (frames_still (file ++ open_bytes old) bytes old.receiver new frames (frames_here frames file (open_bytes old) had.under had.none) had.received refused.received refused.stays);
-      offends = subst (λ b. FirstOffendingWord services_say b refusal) whole refused.offence;
+      within = omega (arith, long, fits, within);
+      moves = λ any. let more = some any in moves_by fed.used (length (take most bytes)) fed.ended all moves (omega (arith, long, more));
+      kept = kept ∙ ap (λ b. open_bytes old ++ b) (take-take fed.used most bytes (omega (arith, long, within)));
+      ends = ends;
     }
-
--- of some bytes some are read
-pub moves_by : (used size : ℕ) (answer : Ended) → (answer ≡ ended.No → used ≡ size) → (answer ≢ ended.No → 0 < used) → 0 < size → 0 < used
-moves_by used size ended.Caption all some any = some (λ is. cc)
-moves_by used size ended.No all some any = let is = all refl in omega arith
-moves_by used size ended.Foreign all some any = some (λ is. cc)
 
 -- where a packet ended, some were
 pub caption_moves : (used : ℕ) (answer : Ended) → (answer ≢ ended.No → 0 < used) → answer ≡ ended.Caption → 0 < used

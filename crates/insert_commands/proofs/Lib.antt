@@ -1,8 +1,11 @@
 pub mod RoomLemmas
 pub mod EndLemmas
-pub mod FramesLemmas
 pub mod StepLemmas
 pub mod JudgeLemmas
 pub mod StopLemmas
 pub mod FeedLemmas
+pub mod SizeLemmas
+pub mod RefusedLemmas
+pub mod AnswerLemmas
+pub mod ExactLemmas
 pub mod VerdictLemmas

@@ -21,15 +21,17 @@ use Rattle.cc_receiver.specs.declared.receiver.Receiver.{Receiver}
 use Rattle.cc_receiver.proofs.TakenLemmas.{frames_count}
 use Rattle.cdp_packets.specs.Packets.{Packet as Frame}
 use Rattle.cdp_packets.proofs.PacketLemmas.{rate_of-code}
-use Rattle.packet_inserter.specs.Insertion.{IsInserted}
+use Rattle.packet_inserter.specs.Insertion.{IsInserted, packet_length}
 use Rattle.services_files.specs.Services.{services_say}
 use Rattle.words_files.specs.Offences.{IsFileUnder, IsUnoffending}
 use Rattle.words_files.proofs.FramesOfLemmas.{file_frames}
-use Rattle.insert_commands.specs.InsertAnswer.{Captioning, PutsInserted, words_limit}
-use Rattle.insert_commands.specs.InsertSteps.{Gives, HasFrame, HasJudged, HasStopped, PutsWords, Replaces, StopsBy}
-use Rattle.insert_commands.specs.InsertedFile.{BringsFrame, IsForeign, carried_words}
-use Rattle.insert_commands.specs.InsertedFile.AreInserted.{caption, foreign}
-use Rattle.insert_commands.specs.ListCaptions.{captions_of}
+use Rattle.words_commands.specs.WordsAnswer.{words_limit}
+use Rattle.insert_commands.specs.InsertAnswer.{PutsInserted}
+use Rattle.insert_commands.specs.InsertSteps.{HasFrame, HasJudged, HasStopped, PutsWords, Replaces, StopsBy}
+use Rattle.inserted_words.specs.InsertedFile.{BringsFrame, IsForeign, carried_words}
+use Rattle.inserted_words.specs.InsertedFile.AreInserted.{caption, foreign}
+use Rattle.inserted_words.specs.Captioning.{Captioning, captions_of}
+use Rattle.insert_commands.specs.ListCaptions.{GivesCaptions}
 use Rattle.insert_commands.specs.OpenPackets.{Ends, EndsCaption, EndsForeign, HasRead, MayFollow, NoPacketEnds, Reads, Refuses, open_bytes}
 use Rattle.insert_commands.specs.declared.inserting.Inserting.{Inserting}
 use Rattle.insert_commands.specs.declared.inserting.Stop.{Stop}
@@ -68,15 +70,16 @@ rest_parted before bytes used =
 
 module _ (list : Captioning) (start now : Option (List ℕ)) (before bytes : List ℕ) (old : Inserting) (had : HasJudged list start now before old) where
   -- a word was refused
-  pub step_refused : (refusal : Refusal) → Refuses had.frames had.file bytes old.packets refusal → HasStopped list start now (before ++ bytes) (stop.Refused refusal)
+  pub step_refused : (refusal : Refusal) → Refuses had.file (open_bytes old.packets ++ bytes) refusal → HasStopped list start now (before ++ bytes) (stop.Refused refusal)
   step_refused refusal refuses = record {
     frames = had.frames;
     file = had.file;
-    behind = open_bytes old.packets ++ bytes;
-    unjudged = [];
-    spelled = ap (λ b. b ++ bytes) had.spelled ∙ append_assoc had.file (open_bytes old.packets) bytes ∙ sym (append-nil (had.file ++ (open_bytes old.packets ++ bytes)));
+    behind = refuses.behind;
+    unjudged = refuses.rest;
+    spelled = ap (λ b. b ++ bytes) had.spelled ∙ append_assoc had.file (open_bytes old.packets) bytes ∙ ap (λ b. had.file ++ b) refuses.spelled
+        ∙ sym (append_assoc had.file refuses.behind refuses.rest);
     puts = had.puts;
-    cause = (refl, refuses.frames_are, refuses.offends);
+    cause = refuses.stands;
   }
 
   -- no packet ended
@@ -87,7 +90,7 @@ module _ (list : Captioning) (start now : Option (List ℕ)) (before bytes : Lis
     file = had.file;
     spelled = parted before had.file (open_bytes old.packets) bytes (take fed.used bytes) (open_bytes new.packets) had.spelled read.kept;
     read = subst (λ e. Rattle.insert_commands.specs.OpenPackets.Ends e had.frames had.file new.packets) still read.ends;
-    gives = subst (Gives list (length had.frames)) (sym same) had.gives;
+    gives = subst (GivesCaptions list (length had.frames)) (sym same) had.gives;
     puts = had.puts;
   }
 
@@ -105,7 +108,7 @@ module _ (list : Captioning) (start now : Option (List ℕ)) (before bytes : Lis
         → PutsInserted list had.frames whole answer start then
     foreign_puts then answer is puts = record {
       text = had.puts.text ++ open_bytes mid;
-      inserted = foreign (captions_of list.rate list.columns list.count) had.frames had.file had.puts.text (open_bytes mid) whole (had.puts.text ++ open_bytes mid)
+      inserted = foreign (captions_of list) had.frames had.file had.puts.text (open_bytes mid) whole (had.puts.text ++ open_bytes mid)
           had.puts.inserted is refl refl;
       rates = had.puts.rates;
       output = puts_then start now then answer had.puts.text (open_bytes mid) had.puts.output puts;
@@ -120,7 +123,7 @@ module _ (list : Captioning) (start now : Option (List ℕ)) (before bytes : Lis
       file = whole;
       spelled = spelled_whole ∙ sym (ap (λ b. whole ++ b) none ∙ append-nil whole);
       read = begun had.frames had.file (open_bytes mid) mid.receiver new.packets is.received is.few is.unoffending is.under receiver none;
-      gives = subst (Gives list (length had.frames)) (sym same) had.gives;
+      gives = subst (GivesCaptions list (length had.frames)) (sym same) had.gives;
       puts = foreign_puts then put.Done (record { packet = is.packet; is = is.is; is_foreign = is.is_foreign }) puts;
     }
 
@@ -141,13 +144,13 @@ module _ (list : Captioning) (start now : Option (List ℕ)) (before bytes : Lis
     brings is = (is.frame, record { packet = is.packet; is = is.is; is_caption = is.is_caption; carries = is.carries })
 
     caption_puts : (then : Option (List ℕ)) (answer : Put) (new_frame : Frame) (is : EndsCaption had.frames had.file (open_bytes mid) mid)
-        → is.frame.rate ≡ list.rate → IsInserted (captions_of list.rate list.columns list.count (length had.frames)) is.frame new_frame
+        → is.frame.rate ≡ list.rate → IsInserted (captions_of list (length had.frames)) is.frame new_frame → packet_length new_frame ≤ 255
         → Puts now then answer (carried_words new_frame) → PutsInserted list (had.frames ++ is.frame ∷ []) whole answer start then
     unfolding brings
-    caption_puts then answer new_frame is rate inserted puts = record {
+    caption_puts then answer new_frame is rate inserted fits puts = record {
       text = had.puts.text ++ carried_words new_frame;
-      inserted = caption (captions_of list.rate list.columns list.count) had.frames (had.frames ++ is.frame ∷ []) is.frame new_frame had.file had.puts.text
-          (open_bytes mid) whole (had.puts.text ++ carried_words new_frame) had.puts.inserted (brings is).1 inserted refl refl refl;
+      inserted = caption (captions_of list) had.frames (had.frames ++ is.frame ∷ []) is.frame new_frame had.file had.puts.text
+          (open_bytes mid) whole (had.puts.text ++ carried_words new_frame) had.puts.inserted (brings is).1 inserted fits refl refl refl;
       rates = All-append (λ f. f.rate ≡ list.rate) had.frames (is.frame ∷ []) had.puts.rates
           (All-cons (λ f. f.rate ≡ list.rate) is.frame [] rate (All-nil (λ f. f.rate ≡ list.rate)));
       output = puts_then start now then answer had.puts.text (carried_words new_frame) had.puts.output puts;
@@ -160,26 +163,26 @@ module _ (list : Captioning) (start now : Option (List ℕ)) (before bytes : Lis
     pub step_replaced : (then : Option (List ℕ)) (new : Inserting) (words : ArrayVec ℕ) (is : EndsCaption had.frames had.file (open_bytes mid) mid)
         → Replaces list (length had.frames) is.frame new.captions (Ok words) → Appends now then words.items
         → new.packets.receiver ≡ mid.receiver → open_bytes new.packets ≡ [] → HasJudged list start then (before ++ take fed.used bytes) new
-    step_replaced then new words is (rate, gives, (new_frame, inserted, words_are)) puts receiver none = record {
+    step_replaced then new words is (rate, gives, (new_frame, inserted, fits, words_are)) puts receiver none = record {
       frames = had.frames ++ is.frame ∷ [];
       file = whole;
       spelled = spelled_whole ∙ sym (ap (λ b. whole ++ b) none ∙ append-nil whole);
       read = begun (had.frames ++ is.frame ∷ []) had.file (open_bytes mid) mid.receiver new.packets is.received is.few is.unoffending is.under receiver none;
-      gives = subst (λ n. Gives list n new.captions) (sym (one_more is.frame)) gives;
-      puts = caption_puts then put.Done new_frame is rate inserted (subst (Appends now then) words_are puts);
+      gives = subst (λ n. GivesCaptions list n new.captions) (sym (one_more is.frame)) gives;
+      puts = caption_puts then put.Done new_frame is rate inserted fits (subst (Appends now then) words_are puts);
     }
 
     pub step_unreplaced : (then : Option (List ℕ)) (new : Inserting) (words : ArrayVec ℕ) (why : Stop) (is : EndsCaption had.frames had.file (open_bytes mid) mid)
         → Replaces list (length had.frames) is.frame new.captions (Ok words) → PutsWords now then words.items (Err why)
         → HasStopped list start then (before ++ bytes) why
-    step_unreplaced then new words why is (rate, gives, (new_frame, inserted, words_are)) (unwritten, failed) =
+    step_unreplaced then new words why is (rate, gives, (new_frame, inserted, fits, words_are)) (unwritten, failed) =
         subst (HasStopped list start then (before ++ bytes)) (sym unwritten) (record {
           frames = had.frames ++ is.frame ∷ [];
           file = whole;
           behind = [];
           unjudged = drop fed.used bytes;
           spelled = spelled_rest ∙ ap (λ b. b ++ drop fed.used bytes) (sym (append-nil whole));
-          puts = caption_puts then put.Failed new_frame is rate inserted (subst (Puts now then put.Failed) words_are failed);
+          puts = caption_puts then put.Failed new_frame is rate inserted fits (subst (Puts now then put.Failed) words_are failed);
           cause = tt;
         })
 

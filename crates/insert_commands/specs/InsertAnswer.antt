@@ -1,60 +1,48 @@
--- What is made of words in which a cue list's captions are inserted: what was put, and why the run stopped, in one place.
-use Rattle.std.specs.Prelude.{◌≡◌, ◌≢◌, ◌<◌, ◌≤◌, ◌⊎◌, ℕ, List, [], ◌++◌, length, Option, IfSome, Ok, Err}
-use Rattle.std.specs.List.{All}
+-- What `insert` answers: each status has its cause, and what was put, in one place. The side file's cue list is read to its end and
+-- judged first, and so is its room; then the bytes of a words file are judged in order, up to the limit, and what stands for each
+-- packet is put before more are taken.
+use Rattle.std.specs.Prelude.{◌≡◌, ◌≢◌, ◌<◌, ◌≤◌, ◌+◌, ◌⊎◌, ℕ, List, [], ◌++◌, length, Option, IfSome}
 use Rattle.std.specs.Io.KnownBytes.{Consumes}
-use Rattle.cc_base.specs.Streams.{Puts, Rose}
+use Rattle.cc_base.specs.Streams.{Puts, Rose, TakesWithin}
 use Rattle.cc_base.specs.declared.limit_of.LimitOf.TheVariants as limit
-use Rattle.cc_base.specs.declared.rate.Rate.{Rate}
 use Rattle.cc_base.specs.declared.refusal.Refusal.{Refusal}
 use Rattle.cc_base.specs.declared.streams.Put.{Put}
 use Rattle.cc_base.specs.declared.streams.Put.TheVariants as put
 use Rattle.cdp_packets.specs.Packets.{Packet as Frame}
 use Rattle.command_base.specs.Ends.{Ends}
+use Rattle.command_base.specs.WholeInput.{whole_limit}
 use Rattle.command_base.specs.declared.status.Place.TheVariants.{Byte}
 use Rattle.command_base.specs.declared.status.Status.{Status}
 use Rattle.command_base.specs.declared.status.Status.TheVariants as status
-use Rattle.cue_list_commands.specs.Reads.{ReadsProgramme}
-use Rattle.cue_list_commands.specs.declared.programme.Programme.{Programme}
-use Rattle.frame_scheduler.specs.Frames.{GivesFrom, frames_left}
+use Rattle.cue_list_commands.specs.Accepted.{IsAccepted, IsRefused}
+use Rattle.cue_list_commands.specs.SideEnds.{SideEnds}
+use Rattle.cue_lists.specs.Listing.{Listing}
 use Rattle.findings.specs.declared.finding.Finding.{Finding}
 use Rattle.findings.specs.declared.finding.Kind45.TheVariants as kind
-use Rattle.frame_scheduler.specs.Columns.{Columns}
+use Rattle.frame_scheduler.specs.Planned.{Placement}
 use Rattle.packet_inserter.specs.Insertion.{IsInserted, packet_length}
 use Rattle.services_files.specs.Services.{services_say}
-use Rattle.words_files.specs.FramesOf.{AreFramesOf}
-use Rattle.words_files.specs.Offences.{FirstOffendingWord, IsCutShort, IsFileUnder, IsUnoffending}
-use Rattle.insert_commands.specs.InsertedFile.{AreInserted, BringsFrame}
-use Rattle.insert_commands.specs.ListCaptions.{captions_of}
-use Rattle.insert_commands.specs.OpenPackets.{NoPacketEnds}
+use Rattle.words_commands.specs.WordsAnswer.{IsSteady, IsWhole, words_limit}
+use Rattle.words_files.specs.Offences.{IsCutShort, IsFileUnder, IsUnoffending}
+use Rattle.inserted_words.specs.InsertedFile.{AreInserted, BringsFrame}
+use Rattle.inserted_words.specs.Captioning.{Captioning, captioning_of, captions_of}
+use Rattle.inserted_words.specs.Soundness.{HaveRate, IsSoundInsertion}
+use Rattle.insert_commands.specs.OpenPackets.{NoPacketEnds, OffendsBehind}
 
--- the most bytes of a words file
-abbrev pub words_limit : ℕ
-words_limit = 2147483647
-
--- the list whose captions are inserted: its rate, what each of its frames carries, and how many they are
-pub record Captioning : Type 0 where
-  pub rate : Rate
-  pub columns : Columns
-  pub count : ℕ
-
--- what may hold where a run stops: of the frames whose packets were put, of their file, of the bytes judged behind it, and of those
--- taken and not judged
+-- what may hold where a run stops: of the captions, of the frames whose packets were put, of their file, of the bytes judged behind
+-- it, and of those taken and not judged
 abbrev pub Cause : Type 1
-Cause = List Frame → List ℕ → List ℕ → List ℕ → Type 0
-
--- all frames have this rate
-abbrev pub HaveRate : Rate → List Frame → Type 0
-HaveRate rate frames = All (λ frame. frame.rate ≡ rate) frames
+Cause = Captioning → List Frame → List ℕ → List ℕ → List ℕ → Type 0
 
 -- what was put of these frames' file, or a front of it where a put failed
 pub record PutsInserted (list : Captioning) (frames : List Frame) (file : List ℕ) (answer : Put) (old new : Option (List ℕ)) : Type 0 where
   pub text : List ℕ
-  pub inserted : AreInserted (captions_of list.rate list.columns list.count) frames file text
+  pub inserted : AreInserted (captions_of list) frames file text
   pub rates : HaveRate list.rate frames
   pub output : Puts old new answer text
 
 -- a run judged bytes, within the limit, and took more behind them; the packets of a file with which they begin were put, with the
--- list's captions; and it stopped for this cause
+-- captions; and it stopped for this cause
 pub record Stops (list : Captioning) (Why : Cause) (answer : Put) (old new : Ends) : Type 0 where
   pub frames : List Frame
   pub file : List ℕ
@@ -63,21 +51,24 @@ pub record Stops (list : Captioning) (Why : Cause) (answer : Put) (old new : End
   pub taken : Consumes old.left new.left ((file ++ behind) ++ unjudged)
   pub within : length (file ++ behind) ≤ words_limit
   pub puts : PutsInserted list frames file answer old.written new.written
-  pub cause : Why frames file behind unjudged
+  pub cause : Why list frames file behind unjudged
 
--- the bytes judged are all that the input had, and it was read to its end
-abbrev pub IsWhole : Option (List ℕ) → List ℕ → List ℕ → Type 0
-IsWhole left judged unjudged = IfSome left (λ bytes. bytes ≡ judged) × (unjudged ≡ [])
+-- the whole input is a words file of the frames, and all of it was put
+pub record IsWholeFile (left : Option (List ℕ)) (frames : List Frame) (file behind unjudged : List ℕ) : Type 0 where
+  pub whole : IsWhole left file unjudged
+  pub is_file : IsFileUnder services_say frames file
+  pub all : behind ≡ []
 
--- the whole input is a words file of the frames, of which there are as many as the list has, at least
-abbrev pub IsWholeFile : Captioning → Option (List ℕ) → Cause
-IsWholeFile list left frames file behind unjudged =
-    (behind ≡ []) × IsWhole left file unjudged × IsFileUnder services_say frames file × (list.count ≤ length frames)
+-- so it is, and there are as many frames as the list has, at least
+pub record HasFrames (left : Option (List ℕ)) (list : Captioning) (frames : List Frame) (file behind unjudged : List ℕ) : Type 0 where
+  pub whole : IsWholeFile left frames file behind unjudged
+  pub enough : list.count ≤ length frames
 
--- it is one of so many frames, fewer than the list has
-abbrev pub IsShort : Captioning → ℕ → Option (List ℕ) → Cause
-IsShort list count left frames file behind unjudged =
-    (behind ≡ []) × IsWhole left file unjudged × IsFileUnder services_say frames file × (count ≡ length frames) × (length frames < list.count)
+-- so it is, and there are so many frames, fewer than the list has
+pub record IsShort (left : Option (List ℕ)) (count : ℕ) (list : Captioning) (frames : List Frame) (file behind unjudged : List ℕ) : Type 0 where
+  pub whole : IsWholeFile left frames file behind unjudged
+  pub count_is : count ≡ length frames
+  pub few : length frames < list.count
 
 -- no word of the bytes judged offends, and no packet ends behind the file
 pub record HasNoOffence (file behind : List ℕ) : Type 0 where
@@ -85,74 +76,93 @@ pub record HasNoOffence (file behind : List ℕ) : Type 0 where
   pub none : NoPacketEnds file behind
 
 -- all bytes taken were judged
-abbrev pub IsJudged : Cause
-IsJudged frames file behind unjudged = (unjudged ≡ []) × HasNoOffence file behind
+pub record IsJudged (list : Captioning) (frames : List Frame) (file behind unjudged : List ℕ) : Type 0 where
+  pub all : unjudged ≡ []
+  pub no_offence : HasNoOffence file behind
 
 -- there is a byte past the limit
-abbrev pub PassesLimit : Cause
-PassesLimit frames file behind unjudged = (length (file ++ behind) ≡ words_limit) × (0 < length unjudged) × HasNoOffence file behind
+pub record PassesLimit (list : Captioning) (frames : List Frame) (file behind unjudged : List ℕ) : Type 0 where
+  pub full : length (file ++ behind) ≡ words_limit
+  pub past : 0 < length unjudged
+  pub no_offence : HasNoOffence file behind
 
--- a word offends, and the frames are those of the bytes before it; or the whole input is cut short
+-- behind the bytes judged stands the first word that offends, within the limit, and no packet ends before it behind the file
+pub record IsOffence (refusal : Refusal) (file behind unjudged : List ℕ) : Type 0 where
+  pub stands : OffendsBehind refusal file behind unjudged
+  pub fits : length (file ++ behind) + 2 ≤ words_limit
+
+-- the whole input was judged, and is cut short
+pub record IsCut (refusal : Refusal) (left : Option (List ℕ)) (file behind unjudged : List ℕ) : Type 0 where
+  pub whole : IsWhole left (file ++ behind) unjudged
+  pub cut : IsCutShort services_say (file ++ behind) refusal
+  pub none : NoPacketEnds file behind
+
+-- a word offends, or the whole input is cut short
 abbrev pub IsRefusedWith : Refusal → Option (List ℕ) → Cause
-IsRefusedWith refusal left frames file behind unjudged =
-    (AreFramesOf services_say frames (file ++ behind) × FirstOffendingWord services_say (file ++ behind) refusal)
-    ⊎ (IsWhole left (file ++ behind) unjudged × HasNoOffence file behind × IsCutShort services_say (file ++ behind) refusal)
+IsRefusedWith refusal left list frames file behind unjudged =
+    IsOffence refusal file behind unjudged ⊎ IsCut refusal left file behind unjudged
 
--- the frame behind the file has another rate than the list
-pub record IsFoundAt (list : Captioning) (finding : Finding) (frames : List Frame) (file behind unjudged : List ℕ) : Type 0 where
+-- the frame behind the file has another rate than the list, and no word offends
+pub record IsFoundAt (finding : Finding) (list : Captioning) (frames : List Frame) (file behind unjudged : List ℕ) : Type 0 where
   pub last : Frame
   pub brings : BringsFrame last behind
   pub unoffending : IsUnoffending services_say (file ++ behind)
   pub other : last.rate ≢ list.rate
   pub is : finding ≡ record { frame = length frames; kind = kind.WrongRate list.rate last.rate }
 
--- it has the list's rate, and its packet would have more than 255 bytes with the list's captions
+-- it has the list's rate, and its packet would have more than 255 bytes with the list's captions; no word offends
 pub record PassesPacket (list : Captioning) (frames : List Frame) (file behind unjudged : List ℕ) : Type 0 where
   pub last : Frame
   pub brings : BringsFrame last behind
   pub unoffending : IsUnoffending services_say (file ++ behind)
   pub rate_is : last.rate ≡ list.rate
   pub new : Frame
-  pub inserted : IsInserted (captions_of list.rate list.columns list.count (length frames)) last new
+  pub inserted : IsInserted (captions_of list (length frames)) last new
   pub long : 255 < packet_length new
 
 -- nothing more is said
 abbrev pub IsAnyhow : Cause
-IsAnyhow frames file behind unjudged = Unit {0}
+IsAnyhow list frames file behind unjudged = Unit {0}
 
--- neither count of faults rose
-pub record IsSteady (old new : Ends) : Type 0 where
-  pub reads : new.read_faults ≡ old.read_faults
-  pub writes : new.write_faults ≡ old.write_faults
+-- the whole input was put with the captions of a list, and what was put is sound: a words file that shows what the list authors
+pub record InsertsWhole (list : Listing) (placed : Placement) (old new : Ends) : Type 0 where
+  pub stops : Stops (captioning_of list placed) (HasFrames old.left) put.Done old new
+  pub sound : IsSoundInsertion list placed stops.frames stops.puts.text
 
--- how words are answered in which a list's captions are inserted
-abbrev pub InsertsWords : Captioning → Ends → Ends → Status → Type 0
-InsertsWords list old new status.Ok = IsSteady old new × Stops list (IsWholeFile list old.left) put.Done old new
-InsertsWords list old new status.ReadFault =
-    Rose old.read_faults new.read_faults × (new.write_faults ≡ old.write_faults) × Stops list IsJudged put.Done old new
-InsertsWords list old new status.WriteFault =
-    (new.read_faults ≡ old.read_faults) × Rose old.write_faults new.write_faults × Stops list IsAnyhow put.Failed old new
-InsertsWords list old new (status.Limit limit.Bytes) = IsSteady old new × Stops list PassesLimit put.Done old new
-InsertsWords list old new (status.Limit limit.Packet) = IsSteady old new × Stops list (PassesPacket list) put.Done old new
-InsertsWords list old new (status.Malformed (Byte place) why) =
-    IsSteady old new × Stops list (IsRefusedWith (record { place = place; why = why }) old.left) put.Done old new
-InsertsWords list old new (status.Differs finding) = IsSteady old new × Stops list (IsFoundAt list finding) put.Done old new
-InsertsWords list old new (status.Short count) = IsSteady old new × Stops list (IsShort list count old.left) put.Done old new
-InsertsWords list old new _ = ⊥
+-- the side file is an accepted cue list, of which in its placement this holds
+abbrev pub OfList : SideEnds → (Listing → Placement → Type 0) → Type 0
+OfList side Holds = IfSome side.left (λ text. (list : Listing) × (placed : Placement) × IsAccepted text list placed × Holds list placed)
 
--- the side file is refused with this status, and nothing else was touched
-abbrev pub RefusesList : Option (List ℕ) → Option (List ℕ) → ℕ → ℕ → Ends → Ends → Status → Type 0
-RefusesList left later before now old new answer = ReadsProgramme left later before now (Err answer) × (new ≡ old)
+-- so it is, and the words stopped the run for this cause
+abbrev pub StopsInserting : Cause → Put → SideEnds → Ends → Ends → Type 0
+StopsInserting Why answer side old new = OfList side (λ list placed. Stops (captioning_of list placed) Why answer old new)
 
--- the side file gives a programme: its captions are inserted, or memory was wanted before any word was taken
-abbrev pub InsertsList : Option (List ℕ) → Option (List ℕ) → ℕ → ℕ → Ends → Ends → Status → Type 0
-InsertsList left later before now old new answer =
-    (programme : Programme) × ReadsProgramme left later before now (Ok programme)
-    × (((answer ≡ status.Memory) × (new ≡ old))
-    ⊎ ((list : Captioning) → GivesFrom list.columns 0 programme.plan → programme.rate ≡ list.rate → frames_left programme.plan ≡ list.count
-    → InsertsWords list old new answer))
+-- the side file is refused, and nothing else was touched
+abbrev pub RefusesList : SideEnds → SideEnds → Ends → Ends → Status → Type 0
+RefusesList side later old new answer = (later.faults ≡ side.faults) × (new ≡ old) × IfSome side.left (λ text. IsRefused text answer)
+
+-- no count of faults rose, and the words stopped the run for this cause
+abbrev pub JudgesWords : Cause → SideEnds → SideEnds → Ends → Ends → Type 0
+JudgesWords Why side later old new = (later.faults ≡ side.faults) × IsSteady old new × StopsInserting Why put.Done side old new
 
 -- what `insert` answers
-abbrev pub InsertAnswer : Option (List ℕ) → Option (List ℕ) → ℕ → ℕ → Ends → Ends → Status → Type 0
-InsertAnswer left later before now old new answer =
-    RefusesList left later before now old new answer ⊎ InsertsList left later before now old new answer
+abbrev pub InsertAnswer : SideEnds → SideEnds → Ends → Ends → Status → Type 0
+InsertAnswer side later old new status.Ok =
+    (later.faults ≡ side.faults) × IsSteady old new × OfList side (λ list placed. InsertsWhole list placed old new)
+InsertAnswer side later old new status.Usage = ⊥
+InsertAnswer side later old new status.ReadFault =
+    (Rose side.faults later.faults × TakesWithin whole_limit side.left later.left × (new ≡ old))
+    ⊎ ((later.faults ≡ side.faults) × Rose old.read_faults new.read_faults × (new.write_faults ≡ old.write_faults)
+    × StopsInserting IsJudged put.Done side old new)
+InsertAnswer side later old new status.WriteFault =
+    (later.faults ≡ side.faults) × (new.read_faults ≡ old.read_faults) × Rose old.write_faults new.write_faults
+    × StopsInserting IsAnyhow put.Failed side old new
+InsertAnswer side later old new status.Memory = (later.faults ≡ side.faults) × (new ≡ old)
+InsertAnswer side later old new (status.Limit limit.Bytes) =
+    RefusesList side later old new (status.Limit limit.Bytes) ⊎ JudgesWords PassesLimit side later old new
+InsertAnswer side later old new (status.Limit limit.Packet) = JudgesWords PassesPacket side later old new
+InsertAnswer side later old new (status.Malformed (Byte place) why) =
+    JudgesWords (IsRefusedWith (record { place = place; why = why }) old.left) side later old new
+InsertAnswer side later old new (status.Differs finding) = JudgesWords (IsFoundAt finding) side later old new
+InsertAnswer side later old new (status.Short count) = JudgesWords (IsShort old.left count) side later old new
+InsertAnswer side later old new answer = RefusesList side later old new answer

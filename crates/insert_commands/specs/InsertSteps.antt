@@ -11,6 +11,7 @@ use Rattle.cc_receiver.specs.declared.receiver.Receiver.{Receiver}
 use Rattle.cdp_packets.specs.Packets.{Packet as Frame}
 use Rattle.cdp_packets.specs.Sections.{AreSections}
 use Rattle.std.specs.List.{concat}
+use Rattle.command_base.specs.Ends.{Ends}
 use Rattle.command_base.specs.declared.status.Place.TheVariants.{Byte}
 use Rattle.command_base.specs.declared.status.Status.{Status}
 use Rattle.command_base.specs.declared.status.Status.TheVariants as status
@@ -18,11 +19,13 @@ use Rattle.findings.specs.declared.finding.Kind45.TheVariants as kind
 use Rattle.packet_inserter.specs.Insertion.{IsInserted, packet_length}
 use Rattle.services_files.specs.Services.{services_say}
 use Rattle.words_files.specs.FramesOf.{AreFramesOf}
-use Rattle.words_files.specs.Offences.{FirstOffendingWord, IsCutShort}
-use Rattle.insert_commands.specs.InsertAnswer.{Captioning, Cause, IsAnyhow, IsFoundAt, PassesPacket, PutsInserted}
-use Rattle.insert_commands.specs.InsertedFile.{carried_words}
-use Rattle.insert_commands.specs.ListCaptions.{GivesCaptions, captions_of}
-use Rattle.insert_commands.specs.OpenPackets.{HasRead, open_bytes}
+use Rattle.words_commands.specs.WordsAnswer.{IsSteady}
+use Rattle.words_files.specs.Offences.{IsCutShort}
+use Rattle.insert_commands.specs.InsertAnswer.{Cause, HasFrames, IsAnyhow, IsFoundAt, IsJudged, IsRefusedWith, IsShort, PassesLimit, PassesPacket, PutsInserted, Stops}
+use Rattle.inserted_words.specs.InsertedFile.{carried_words}
+use Rattle.inserted_words.specs.Captioning.{Captioning, captions_of}
+use Rattle.insert_commands.specs.ListCaptions.{GivesCaptions}
+use Rattle.insert_commands.specs.OpenPackets.{HasRead, OffendsBehind, open_bytes}
 use Rattle.insert_commands.specs.declared.captions.Captions.{Captions}
 use Rattle.insert_commands.specs.declared.inserting.Inserting.{Inserting}
 use Rattle.insert_commands.specs.declared.inserting.Stop.{Stop}
@@ -39,19 +42,15 @@ pub record HasFrame (receiver : Receiver) : Type 0 where
   pub sections : AreSections last.sections
   pub short : length (concat last.sections) ≤ 244
 
--- the captions of a list are given from this frame on
-abbrev pub Gives : Captioning → ℕ → Captions → Type 0
-Gives list frame captions = GivesCaptions list.rate list.columns list.count frame captions
-
 -- what stands for the packet of a frame
 abbrev pub Replaces : Captioning → ℕ → Frame → Captions → Result (ArrayVec ℕ) Stop → Type 0
 Replaces list number last captions (Ok words) =
-    (last.rate ≡ list.rate) × Gives list (number + 1) captions
-    × ((new : Frame) × IsInserted (captions_of list.rate list.columns list.count number) last new × (words.items ≡ carried_words new))
+    (last.rate ≡ list.rate) × GivesCaptions list (number + 1) captions
+    × ((new : Frame) × IsInserted (captions_of list number) last new × (packet_length new ≤ 255) × (words.items ≡ carried_words new))
 Replaces list number last captions (Err (stop.Found finding)) =
     (last.rate ≢ list.rate) × (finding ≡ record { frame = number; kind = kind.WrongRate list.rate last.rate })
 Replaces list number last captions (Err stop.Packet) =
-    (last.rate ≡ list.rate) × ((new : Frame) × IsInserted (captions_of list.rate list.columns list.count number) last new × (255 < packet_length new))
+    (last.rate ≡ list.rate) × ((new : Frame) × IsInserted (captions_of list number) last new × (255 < packet_length new))
 Replaces list number last captions (Err _) = ⊥
 
 -- words were put, or a front of them
@@ -65,16 +64,15 @@ pub record HasJudged (list : Captioning) (start now : Option (List ℕ)) (bytes 
   pub file : List ℕ
   pub spelled : bytes ≡ file ++ open_bytes inserting.packets
   pub read : HasRead frames file inserting.packets
-  pub gives : Gives list (length frames) inserting.captions
+  pub gives : GivesCaptions list (length frames) inserting.captions
   pub puts : PutsInserted list frames file put.Done start now
 
 -- why it stopped
-abbrev pub StopsFor : Captioning → Stop → Cause
-StopsFor list (stop.Refused refusal) frames file behind unjudged =
-    (unjudged ≡ []) × AreFramesOf services_say frames (file ++ behind) × FirstOffendingWord services_say (file ++ behind) refusal
-StopsFor list stop.Unwritten frames file behind unjudged = IsAnyhow frames file behind unjudged
-StopsFor list (stop.Found finding) frames file behind unjudged = IsFoundAt list finding frames file behind unjudged
-StopsFor list stop.Packet frames file behind unjudged = PassesPacket list frames file behind unjudged
+abbrev pub StopsFor : Stop → Cause
+StopsFor (stop.Refused refusal) list frames file behind unjudged = OffendsBehind refusal file behind unjudged
+StopsFor stop.Unwritten list frames file behind unjudged = IsAnyhow list frames file behind unjudged
+StopsFor (stop.Found finding) list frames file behind unjudged = IsFoundAt finding list frames file behind unjudged
+StopsFor stop.Packet list frames file behind unjudged = PassesPacket list frames file behind unjudged
 
 -- what the last put of a run that stopped so answered
 abbrev pub put_of : Stop → Put
@@ -89,7 +87,7 @@ pub record HasStopped (list : Captioning) (start now : Option (List ℕ)) (bytes
   pub unjudged : List ℕ
   pub spelled : bytes ≡ (file ++ behind) ++ unjudged
   pub puts : PutsInserted list frames file (put_of why) start now
-  pub cause : StopsFor list why frames file behind unjudged
+  pub cause : StopsFor why list frames file behind unjudged
 
 -- what is made of the next of these bytes, behind those before
 abbrev pub StepJudges : Captioning → Option (List ℕ) → Option (List ℕ) → List ℕ → List ℕ → Inserting → Result ℕ Stop → Type 0
@@ -123,3 +121,27 @@ EndsAs list frames file behind status.Ok = (behind ≡ []) × (list.count ≤ le
 EndsAs list frames file behind (status.Short count) = (behind ≡ []) × (count ≡ length frames) × (length frames < list.count)
 EndsAs list frames file behind (status.Malformed (Byte place) why) = IsCutShort services_say (file ++ behind) (record { place = place; why = why })
 EndsAs list frames file behind _ = ⊥
+
+-- the counts of faults where words end a run: that of the input rose, or that of the output, or neither
+abbrev pub CountsBy : Ends → Ends → Status → Type 0
+CountsBy old new status.ReadFault = Rose old.read_faults new.read_faults × (new.write_faults ≡ old.write_faults)
+CountsBy old new status.WriteFault = (new.read_faults ≡ old.read_faults) × Rose old.write_faults new.write_faults
+CountsBy old new status.Ok = IsSteady old new
+CountsBy old new (status.Limit limit.Bytes) = IsSteady old new
+CountsBy old new (status.Limit limit.Packet) = IsSteady old new
+CountsBy old new (status.Malformed (Byte place) why) = IsSteady old new
+CountsBy old new (status.Differs finding) = IsSteady old new
+CountsBy old new (status.Short count) = IsSteady old new
+CountsBy old new _ = ⊥
+
+-- how words are answered in which these captions are inserted
+abbrev pub InsertsWords : Captioning → Ends → Ends → Status → Type 0
+InsertsWords list old new status.Ok = Stops list (HasFrames old.left) put.Done old new
+InsertsWords list old new status.ReadFault = Stops list IsJudged put.Done old new
+InsertsWords list old new status.WriteFault = Stops list IsAnyhow put.Failed old new
+InsertsWords list old new (status.Limit limit.Bytes) = Stops list PassesLimit put.Done old new
+InsertsWords list old new (status.Limit limit.Packet) = Stops list PassesPacket put.Done old new
+InsertsWords list old new (status.Malformed (Byte place) why) = Stops list (IsRefusedWith (record { place = place; why = why }) old.left) put.Done old new
+InsertsWords list old new (status.Differs finding) = Stops list (IsFoundAt finding) put.Done old new
+InsertsWords list old new (status.Short count) = Stops list (IsShort old.left count) put.Done old new
+InsertsWords list old new _ = ⊥

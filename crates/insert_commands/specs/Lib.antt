@@ -1,5 +1,5 @@
 pub mod InsertAnswer
 pub mod InsertSteps
-pub mod InsertedFile
+pub mod InsertVerdict
 pub mod ListCaptions
 pub mod OpenPackets

@@ -1,5 +1,5 @@
 -- Words that are read packet by packet (SMPTE ST 291-1): the packets that have ended, and the bytes of the one that is open.
-use Rattle.std.specs.Prelude.{◌≡◌, ◌<◌, ◌≤◌, ◌+◌, ℕ, List, [], ◌∷◌, ◌++◌, length, take, Result, Ok, Err}
+use Rattle.std.specs.Prelude.{◌≡◌, ◌<◌, ◌≤◌, ◌+◌, ℕ, List, [], ◌∷◌, ◌++◌, length, take, slice_index, MatchOption, Option, Result, Ok, Err}
 use Rattle.anc_words.specs.Packets.{IsCaption, Packet, user_bytes}
 use Rattle.anc_words.specs.WordsFiles.{IsPacketBytes, IsWordsFile}
 use Rattle.cc_base.specs.declared.refusal.Refusal.{Refusal}
@@ -9,13 +9,27 @@ use Rattle.cc_receiver.specs.declared.receiver.Ended.TheVariants as ended
 use Rattle.cc_receiver.specs.declared.receiver.Fed.{Fed}
 use Rattle.cdp_packets.specs.Packets.{IsCdp, Packet as Frame}
 use Rattle.services_files.specs.Services.{services_say}
-use Rattle.words_files.specs.FramesOf.{AreFramesOf}
 use Rattle.words_files.specs.Offences.{FirstOffendingWord, IsFileUnder, IsUnoffending}
 use Rattle.insert_commands.specs.declared.packets.Packets.{Packets}
 
 -- no packet ends among the bytes behind a file
 abbrev pub NoPacketEnds : List ℕ → List ℕ → Type 0
 NoPacketEnds file behind = (packets : List Packet) (n : ℕ) → 0 < n → n ≤ length behind → IsWordsFile packets (file ++ take n behind) → ⊥
+
+-- behind these bytes, with which no packet ends behind a file, stands the first word that offends
+pub record OffendsBehind (refusal : Refusal) (file behind rest : List ℕ) : Type 0 where
+  pub offends : FirstOffendingWord services_say ((file ++ behind) ++ rest) refusal
+  pub before : offends.before ≡ file ++ behind
+  pub none : NoPacketEnds file behind
+
+-- the low byte of a packet's sixth word, its count, where that has come
+abbrev pub IsCount : List ℕ → Option ℕ → Type 0
+IsCount bytes count = MatchOption count (length bytes ≤ 11) (λ count. (11 < length bytes) × (count ≡ slice_index bytes 11))
+
+-- no packet has so many bytes, more than these and fewer than with those behind them
+abbrev pub EndsNoSooner : List ℕ → List ℕ → ℕ → Type 0
+EndsNoSooner held bytes more =
+    (packet : Packet) (n : ℕ) → length held < n → n < length held + more → IsPacketBytes packet (take n (held ++ bytes)) → ⊥
 
 -- the bytes that are kept of the open packet
 abbrev pub open_bytes : Packets → List ℕ
@@ -70,11 +84,13 @@ pub record Reads (frames : List Frame) (file bytes : List ℕ) (old new : Packet
   pub kept : open_bytes new ≡ open_bytes old ++ take fed.used bytes
   pub ends : Ends fed.ended frames file new
 
--- a word of the bytes was refused
-pub record Refuses (frames : List Frame) (file bytes : List ℕ) (old : Packets) (refusal : Refusal) : Type 0 where
-  pub frames_are : AreFramesOf services_say frames (file ++ (open_bytes old ++ bytes))
-  pub offends : FirstOffendingWord services_say (file ++ (open_bytes old ++ bytes)) refusal
+-- a word of these bytes behind a file was refused
+pub record Refuses (file bytes : List ℕ) (refusal : Refusal) : Type 0 where
+  pub behind : List ℕ
+  pub rest : List ℕ
+  pub spelled : bytes ≡ behind ++ rest
+  pub stands : OffendsBehind refusal file behind rest
 
 abbrev pub Receives : List Frame → List ℕ → List ℕ → Packets → Packets → Result Fed Refusal → Type 0
 Receives frames file bytes old new (Ok fed) = Reads frames file bytes old new fed
-Receives frames file bytes old new (Err refusal) = Refuses frames file bytes old refusal
+Receives frames file bytes old new (Err refusal) = Refuses file (open_bytes old ++ bytes) refusal

@@ -1,8 +1,6 @@
 ghost use Rattle.std.specs.Prelude.{◌≡◌, ◌<◌, ◌≤◌, ◌+◌, ℕ, All, MatchBool, length};
-ghost use Rattle.cc_base.specs.declared.rate.Rate.{Rate as OfRate};
-ghost use Rattle.frame_scheduler.specs.Columns.{Columns};
-ghost use Rattle.frame_scheduler.specs.Frames.{GivesFrom, frames_left};
-ghost use Rattle.insert_commands.specs.ListCaptions.{GivesCaptions, GivesPlanned, captions_of, padded, silent_frame, silent_pair};
+ghost use Rattle.inserted_words.specs.Captioning.{Captioning, captions_of, padded, silent_frame, silent_pair};
+ghost use Rattle.insert_commands.specs.ListCaptions.{GivesCaptions, GivesPlanned, HasCaptions};
 
 use arrayvec::ArrayVec;
 use cc_base::Rate;
@@ -29,8 +27,7 @@ pub(crate) struct Captions {
 impl Captions {
     /// The captions of a programme, from frame 0 on.
     pub(crate) fn new(programme: Programme) -> Captions
-        ensures { (columns : Columns) → GivesFrom columns 0 programme.plan
-            → GivesCaptions programme.rate columns (frames_left programme.plan) 0 result }
+        ensures { (list : Captioning) → HasCaptions list programme → GivesCaptions list 0 result }
     {
         Captions {
             rate: programme.rate,
@@ -42,15 +39,15 @@ impl Captions {
 
     /// The frame rate of the programme.
     pub(crate) fn rate(&self) -> Rate
-        ensures { (rate : OfRate) (columns : Columns) (count frame : ℕ) → GivesCaptions rate columns count frame self.now → result ≡ rate }
+        ensures { (list : Captioning) (frame : ℕ) → GivesCaptions list frame self.now → result ≡ list.rate }
     {
         self.rate
     }
 
     /// The triplets of the next frame, which has this number.
     pub(crate) fn next(&mut self, frame: u32) -> ArrayVec<Triplet, 31>
-        ensures gives { (rate : OfRate) (columns : Columns) (count : ℕ) → GivesCaptions rate columns count frame self.old
-            → (result.items ≡ captions_of rate columns count frame) × GivesCaptions rate columns count (frame + 1) self.new }
+        ensures gives { (list : Captioning) → GivesCaptions list frame self.old
+            → (result.items ≡ captions_of list frame) × GivesCaptions list (frame + 1) self.new }
         ensures kinds { All (λ t. t.kind < 4) result.items }
         ensures few { length result.items ≤ 31 }
     {
@@ -60,8 +57,8 @@ impl Captions {
 
     /// What the next frame carries: that of the plan, or a frame without captions.
     fn next_frame(&mut self, frame: u32) -> FrameBytes
-        ensures gives { (rate : OfRate) (columns : Columns) (count : ℕ) → GivesCaptions rate columns count frame self.old
-            → (result ≡ padded rate columns count frame) × GivesPlanned rate columns count frame self.new }
+        ensures gives { (list : Captioning) → GivesCaptions list frame self.old
+            → (result ≡ padded list frame) × GivesPlanned list frame self.new }
     {
         if !self.over {
             if let Some(bytes) = self.plan.next() {
@@ -74,8 +71,8 @@ impl Captions {
 
     /// Whether the programme has no frame from the next one on.
     pub(crate) fn is_over(&mut self) -> bool
-        ensures { (rate : OfRate) (columns : Columns) (count frame : ℕ) → GivesCaptions rate columns count frame self.old
-            → MatchBool result (count ≤ frame) (frame < count) }
+        ensures { (list : Captioning) (frame : ℕ) → GivesCaptions list frame self.old
+            → MatchBool result (list.count ≤ frame) (frame < list.count) }
     {
         self.over || self.plan.next().is_none()
     }

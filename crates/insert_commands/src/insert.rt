@@ -1,20 +1,18 @@
 ghost use Rattle.std.specs.Prelude.{[], List, ℕ, Option};
 ghost use Rattle.command_base.specs.Ends.{ends};
-ghost use Rattle.insert_commands.specs.InsertAnswer.{Captioning, InsertAnswer, InsertsWords, words_limit};
-ghost use Rattle.insert_commands.specs.InsertSteps.{HasJudged};
+ghost use Rattle.cue_list_commands.specs.SideEnds.{side_ends};
+ghost use Rattle.insert_commands.specs.InsertAnswer.{InsertAnswer};
+ghost use Rattle.insert_commands.specs.InsertSteps.{CountsBy, HasJudged, InsertsWords};
+ghost use Rattle.inserted_words.specs.Captioning.{Captioning};
 ghost use Rattle.insert_commands.specs.OpenPackets.{MayFollow};
+ghost use Rattle.words_commands.specs.WordsAnswer.{words_limit};
 
 use crate::inserting::Inserting;
 use cc_base::{LimitOf, Sink, Source, Took};
 use command_base::Status;
 use cue_list_commands::read_programme;
 use std::alloc::Global;
-
-/// The most bytes of a words file.
-const WORDS_LIMIT: usize = 2_147_483_647;
-
-/// The most bytes of a take.
-const TAKE: usize = 32_768;
+use words_commands::{TAKE, WORDS_LIMIT};
 
 /// Reads a cue list from a side file, judges it, its room too, and then puts a words file with the list's captions in place of its own:
 /// packets that aren't of captions stay as they are. What one take gave is put before the next take.
@@ -28,7 +26,7 @@ pub fn run_insert<M: Source, S: Source, O: Sink>(
     side: &mut S,
     out: &mut O,
 ) -> Status
-    ensures { InsertAnswer (S.left side.old) (S.left side.new) (S.faults side.old) (S.faults side.new)
+    ensures { InsertAnswer (side_ends (S.left side.old) (S.faults side.old)) (side_ends (S.left side.new) (S.faults side.new))
         (ends (M.left input.old) (M.faults input.old) (O.written out.old) (O.faults out.old))
         (ends (M.left input.new) (M.faults input.new) (O.written out.new) (O.faults out.new)) result }
 {
@@ -46,8 +44,10 @@ pub fn run_insert<M: Source, S: Source, O: Sink>(
 /// put, before the next take.
 fn insert_words<M: Source, O: Sink>(mut inserting: Inserting, input: &mut M, out: &mut O) -> Status
     requires { MayFollow words_limit inserting.packets words_limit }
-    ensures { (list : Captioning) (start : Option (List ℕ)) → HasJudged list start (O.written out.old) [] inserting
+    ensures words { (list : Captioning) (start : Option (List ℕ)) → HasJudged list start (O.written out.old) [] inserting
         → InsertsWords list (ends (M.left input.old) (M.faults input.old) start (O.faults out.old))
+        (ends (M.left input.new) (M.faults input.new) (O.written out.new) (O.faults out.new)) result }
+    ensures counts { CountsBy (ends (M.left input.old) (M.faults input.old) (O.written out.old) (O.faults out.old))
         (ends (M.left input.new) (M.faults input.new) (O.written out.new) (O.faults out.new)) result }
 {
     let mut bytes = [0u8; TAKE];

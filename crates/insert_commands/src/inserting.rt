@@ -3,11 +3,13 @@ ghost use Rattle.insert_commands.specs.declared.inserting.Stop.TheVariants as st
 ghost use Rattle.cc_receiver.specs.Receivers.{HasReceived, frame_count};
 ghost use Rattle.cdp_packets.specs.Packets.{Packet as Frame};
 ghost use Rattle.cdp_packets.specs.Sections.{AreSections};
-ghost use Rattle.frame_scheduler.specs.Frames.{GivesFrom, frames_left};
 ghost use Rattle.services_files.specs.Services.{services_say};
 ghost use Rattle.words_files.specs.FramesOf.{AreFramesOf};
-ghost use Rattle.insert_commands.specs.InsertAnswer.{Captioning, words_limit};
-ghost use Rattle.insert_commands.specs.InsertSteps.{EndsAs, Gives, HasFrame, HasJudged, Judges, PutsWords, Replaces, StepJudges, StopCause, stop_status};
+ghost use Rattle.command_base.specs.Ends.{Ends};
+ghost use Rattle.words_commands.specs.WordsAnswer.{IsSteady, words_limit};
+ghost use Rattle.insert_commands.specs.InsertSteps.{CountsBy, EndsAs, HasFrame, HasJudged, Judges, PutsWords, Replaces, StepJudges, StopCause, stop_status};
+ghost use Rattle.inserted_words.specs.Captioning.{Captioning};
+ghost use Rattle.insert_commands.specs.ListCaptions.{GivesCaptions, HasCaptions};
 ghost use Rattle.insert_commands.specs.OpenPackets.{HasRead, MayFollow, open_bytes};
 
 use crate::captions::Captions;
@@ -69,8 +71,7 @@ impl Inserting {
         ensures read { IfOk result (λ inserting. HasRead [] [] inserting.packets) }
         ensures none { IfOk result (λ inserting. open_bytes inserting.packets ≡ []) }
         ensures may { IfOk result (λ inserting. MayFollow words_limit inserting.packets words_limit) }
-        ensures gives { (list : Captioning) → GivesFrom list.columns 0 programme.plan → programme.rate ≡ list.rate
-            → frames_left programme.plan ≡ list.count → IfOk result (λ inserting. Gives list 0 inserting.captions) }
+        ensures gives { (list : Captioning) → HasCaptions list programme → IfOk result (λ inserting. GivesCaptions list 0 inserting.captions) }
     {
         let packets = match Packets::new(alloc) {
             Ok(packets) => packets,
@@ -86,7 +87,7 @@ impl Inserting {
     fn replacement(&mut self, frame: u32) -> Result<ArrayVec<u8, 524>, Stop>
         requires { HasFrame self.now.packets.receiver }
         ensures replaces { (list : Captioning) (bytes : List ℕ) (earlier : List Frame) (last : Frame) → HasReceived bytes self.old.packets.receiver
-            → AreFramesOf services_say (earlier ++ last ∷ []) bytes → AreSections last.sections → Gives list frame self.old.captions
+            → AreFramesOf services_say (earlier ++ last ∷ []) bytes → AreSections last.sections → GivesCaptions list frame self.old.captions
             → Replaces list frame last self.new.captions result }
         ensures packets { self.new.packets ≡ self.old.packets }
         ensures written { IfErr result (λ why. why ≢ stop.Unwritten) }
@@ -174,8 +175,9 @@ impl Inserting {
 
     /// How the run ends where the bytes end here: Ok where they are a words file with as many frames as the list has, at least.
     pub(crate) fn ending(&mut self) -> Status
-        ensures { (list : Captioning) (start now : Option (List ℕ)) (bytes : List ℕ) (had : HasJudged list start now bytes self.old)
+        ensures ends { (list : Captioning) (start now : Option (List ℕ)) (bytes : List ℕ) (had : HasJudged list start now bytes self.old)
             → EndsAs list had.frames had.file (open_bytes self.old.packets) result }
+        ensures counts { (old new : Ends) → IsSteady old new → CountsBy old new result }
     {
         match self.packets.receiver.finish() {
             Ok(()) => {

@@ -6,4 +6,5 @@ pub use crate::insert::run_insert;
 mod captions;
 mod insert;
 mod inserting;
+pub mod laws;
 mod packets;

@@ -1,7 +1,6 @@
-ghost use Rattle.std.specs.Prelude.{◌≡◌, ◌≢◌, ◌<◌, ◌≤◌, ◌+◌, ◌++◌, ℕ, [], List, IfOk, length};
-ghost use Rattle.cc_receiver.specs.Receivers.{HasReceived, frame_count};
+ghost use Rattle.std.specs.Prelude.{◌≡◌, ◌<◌, ◌≤◌, ◌+◌, ◌++◌, ℕ, [], List, IfOk, length};
 ghost use Rattle.cdp_packets.specs.Packets.{Packet as Frame};
-ghost use Rattle.insert_commands.specs.OpenPackets.{HasRead, MayFollow, Receives, open_bytes};
+ghost use Rattle.insert_commands.specs.OpenPackets.{EndsNoSooner, HasRead, IsCount, MayFollow, Receives, open_bytes};
 
 use arrayvec::ArrayVec;
 use cc_base::Refusal;
@@ -10,6 +9,12 @@ use std::alloc::{AllocError, Global};
 
 /// The most bytes of an ancillary packet: 255 user words and seven others (SMPTE ST 291-1).
 const PACKET_ROOM: usize = 524;
+
+/// The bytes of the seven words beside the user words: the flag of three words, DID, SDID, the count and the checksum word.
+const OTHER_WORDS: usize = 14;
+
+/// The place of the count's low byte.
+const COUNT: usize = 11;
 
 /// A receiver of words, with the bytes of the packet that is open.
 #[derive(Drop)]
@@ -36,12 +41,40 @@ impl Packets {
         ensures { (frames : List Frame) (file : List ℕ) → HasRead frames file self.old
             → Receives frames file bytes.now self.old self.new result }
     {
-        match self.receiver.feed(bytes) {
+        let piece = &bytes[..self.up_to_end(bytes)];
+        match self.receiver.feed(piece) {
             Ok(fed) => {
-                self.keep(&bytes[..fed.used]);
+                self.keep(&piece[..fed.used]);
                 Ok(fed)
             }
             Err(refusal) => Err(refusal),
+        }
+    }
+
+    /// How many of the next bytes come at most before those of another packet than the one that is open or begins with them.
+    fn up_to_end(&self, bytes: &[u8]) -> usize
+        ensures within { result ≤ length bytes.now }
+        ensures some { 0 < length bytes.now → 0 < result }
+        ensures none { EndsNoSooner (open_bytes self.now) bytes.now result }
+    {
+        match self.count(bytes) {
+            Some(count) => {
+                let size = OTHER_WORDS + 2 * usize::from(count);
+                size.saturating_sub(self.held.len()).max(1).min(bytes.len())
+            }
+            None => bytes.len(),
+        }
+    }
+
+    /// The number of user words of the packet that is open or begins with these bytes, where it has come with them.
+    fn count(&self, bytes: &[u8]) -> Option<u8>
+        ensures { IsCount (open_bytes self.now ++ bytes.now) result }
+    {
+        let held = self.held.as_slice();
+        if COUNT < held.len() {
+            Some(held[COUNT])
+        } else {
+            bytes.get(COUNT - held.len()).copied()
         }
     }
 

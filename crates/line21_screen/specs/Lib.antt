@@ -11,3 +11,4 @@ pub mod Fields
 pub mod Meaning
 pub mod Objects
 pub mod Scrolling
+pub mod NullPairs

@@ -8,6 +8,9 @@ use crate::modes::Mode;
 use line21_codes::{Cell, Code, Doubler, Pair, read_pair};
 use std::alloc::{AllocError, Global};
 
+/// Each byte of a null pair: 00 with odd parity (CTA-608-E).
+const NULL: u8 = 0x80;
+
 /// The receiver of one field of line 21: the caption memories of its two data channels.
 #[derive(Drop)]
 pub struct Field {
@@ -28,6 +31,7 @@ impl Field {
     ghost use Rattle.line21_screen.specs.Fields.{channel, on_channel, after_text, after_code};
     ghost use Rattle.line21_screen.specs.Controls.{after_control, IsPossible};
     ghost use Rattle.line21_screen.specs.Meaning.{after};
+    ghost use Rattle.line21_screen.specs.NullPairs.{null_pair};
     ghost use Rattle.line21_screen.specs.Objects.{channel_of, field_of, grid_in, Leads};
 
     /// A field that had no pair yet: its memories are empty, no mode is set, and data channel 1 is
@@ -48,13 +52,26 @@ impl Field {
     /// Takes the field's next pair, of whatever bytes: one with bad parity counts as null. The repeat
     /// of a control pair is ignored, and each other pair does what its code says (CTA-608-E,
     /// 47 CFR 79.101).
+    #[inline(always)]
     pub fn apply(&mut self, pair: Pair)
         ensures { (second_field : Bool) (before : List Pair) → Leads second_field before self.old
             → Leads second_field (pair ∷ before) self.new }
     {
+        if pair.a == NULL && pair.b == NULL {
+            self.pass_null();
+            return;
+        }
         if !self.doubler.step(pair) {
             self.act(code(pair));
         }
+    }
+
+    // Takes the field's next pair, which is null: it does nothing, and behind it no control pair waits for its repeat.
+    fn pass_null(&mut self)
+        ensures { (second_field : Bool) (before : List Pair) → Leads second_field before self.old
+            → Leads second_field (null_pair ∷ before) self.new }
+    {
+        let _ignored = self.doubler.step(Pair { a: NULL, b: NULL });
     }
 
     /// The displayed cell of data channel 1 or 2 at a row, 1 to 15, and a column, 0 to 31.

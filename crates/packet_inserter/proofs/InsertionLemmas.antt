@@ -71,11 +71,11 @@ section-are : (section : List ℕ) (kept : List (List ℕ)) (b : Bool) → IsSec
 section-are section kept true is are = (is, are)
 section-are section kept false is are = are
 
-filter-are : (cut : List (List ℕ)) → AreSections cut → AreSections (filter is_kept cut)
+pub filter-are : (cut : List (List ℕ)) → AreSections cut → AreSections (filter is_kept cut)
 filter-are [] are = tt
 filter-are (section ∷ cut) are = section-are section (filter is_kept cut) (is_kept section) are.0 (filter-are cut are.1)
 
-put_among-are : (before behind : List (List ℕ)) (section : List ℕ) → IsSection section → AreSections (before ++ behind)
+pub put_among-are : (before behind : List (List ℕ)) (section : List ℕ) → IsSection section → AreSections (before ++ behind)
     → AreSections (before ++ section ∷ behind)
 put_among-are [] behind section is are = (is, are)
 put_among-are (first ∷ before) behind section is are = (are.0, put_among-are before behind section is are.1)

@@ -1,6 +1,5 @@
 -- The verdict of an export.
-use Rattle.std.proofs.Common.{◌≡◌, ◌≢◌, ◌∙◌, ◌+◌, ◌<◌, ◌≤◌, ◌++◌, ◌⊎◌, ap, append_assoc, arith, inl, inr, length, length-append, refl, subst, suc, sym, ℕ, List, [], ◌∷◌, Option, Some, None, IfSome, Err, false, true}
-use Rattle.std.specs.Io.KnownBytes.{Consumes}
+use Rattle.std.proofs.Common.{◌≡◌, ◌∙◌, ◌+◌, ◌≤◌, ◌++◌, ap, arith, inl, inr, length, length-append, refl, subst, suc, sym, ℕ, List, [], ◌∷◌, false, true}
 use Rattle.cc_base.specs.declared.limit_of.LimitOf.TheVariants as limit
 use Rattle.cc_base.specs.declared.refusal.Refusal.{Refusal}
 use Rattle.cc_base.specs.declared.streams.Put.{Put}
@@ -15,28 +14,16 @@ use Rattle.findings.specs.declared.finding.Kind45.{Kind45}
 use Rattle.findings.specs.declared.finding.Kind45.TheVariants as kind
 use Rattle.scc_files.specs.Writing.{is_past_day}
 use Rattle.time_codes.specs.declared.time_code.TimeCode.{TimeCode}
-use Rattle.words_files.proofs.EndingLemmas.{cut_short_has_no_offence, file_has_no_offence, offence_stays}
-use Rattle.services_files.proofs.FillingLemmas.{takes_filling}
+use Rattle.words_files.proofs.EndingLemmas.{offence_stays}
 use Rattle.words_files.proofs.FramesOfLemmas.{file_frames, frames_grow}
-use Rattle.words_files.proofs.OffenceLemmas.{offence_refused}
 use Rattle.services_files.specs.Services.{services_say}
-use Rattle.words_files.specs.Catching.{refusal_of}
 use Rattle.words_files.specs.FramesOf.{AreFramesOf}
 use Rattle.words_files.specs.Offences.{FirstOffendingWord, IsCutShort, IsFileUnder, IsMalformed}
-use Rattle.scc_commands.specs.Export.{AreExported, AreWithinDay, Cause, ExportAnswer, HasFinding, HasNoFinding, HaveNoFinding, IsFoundAt, IsRefusedWith, IsWhole, PassesDay, PassesLimit, Stops, StopsEarly, at_number, export_front, exported, exported_from, first_standing, pairs_of, words_limit}
+use Rattle.words_commands.proofs.WordsVerdictLemmas.{known_judged, known_whole, malformed_no_file, one_malformed}
+use Rattle.words_commands.specs.WordsAnswer.{IsRefusedWith, PassesLimit, words_limit}
+use Rattle.scc_commands.specs.Export.{AreExported, AreWithinDay, AtNone, HasFinding, HasNoFinding, HaveNoFinding, IsFoundAt, PassesDay, Stops, StopsEarly, at_number, export_front, exported, exported_from, first_standing, pairs_of}
 use Rattle.scc_commands.specs.ExportVerdict.{FileIsExported, MalformedIsNotExported}
 use Rattle.scc_commands.specs.Import.{Placed}
-
--- what was judged of known bytes, and the rest of them
-pub known_judged : (old new : Option (List ℕ)) (bytes judged unjudged : List ℕ) → old ≡ Some bytes → Consumes old new (judged ++ unjudged)
-    → (rest : List ℕ) × (bytes ≡ judged ++ (unjudged ++ rest))
-known_judged old None bytes judged unjudged known consumed = absurd (subst (λ l. Consumes l None (judged ++ unjudged)) known consumed)
-known_judged old (Some rest) bytes judged unjudged known consumed =
-    (rest, subst (λ l. Consumes l (Some rest) (judged ++ unjudged)) known consumed ∙ append_assoc judged unjudged rest)
-
--- what was judged of known bytes that were read to their end is all of them
-pub known_whole : (left : Option (List ℕ)) (bytes judged : List ℕ) → left ≡ Some bytes → IfSome left (λ all. all ≡ judged) → bytes ≡ judged
-known_whole left bytes judged known whole = subst (λ l. IfSome l (λ all. all ≡ judged)) known whole
 
 -- within the day, in front and behind
 within_back : (time : TimeCode) (pairs more : Placed) → AreWithinDay time (pairs ++ more) → AreWithinDay time more
@@ -102,28 +89,22 @@ never_past time bytes all answer old new are good read stops =
 
 -- no more bytes than the limit pass it
 pub never_passes : (time : TimeCode) (bytes : List ℕ) (answer : Put) (old new : Ends) → length bytes ≤ words_limit → IsReadOf bytes old new
-    → Stops time (export_front time) PassesLimit answer old new → ⊥
+    → Stops time (export_front time) (AtNone PassesLimit) answer old new → ⊥
 never_passes time bytes answer old new within read stops =
     let (rest, is) = known_judged old.left new.left bytes stops.judged stops.unjudged read.left stops.taken in
     let size = ap length is ∙ length-append stops.judged (stops.unjudged ++ rest) in
     let more = length-append stops.unjudged rest in
-    let at_limit = stops.cause.1 in
-    let some = stops.cause.2 in omega arith
+    let (at_limit, some, fine) = stops.cause.1 in omega arith
 
 -- a refusal is one of the bytes
 refused_so : (time : TimeCode) (bytes : List ℕ) (refusal : Refusal) (answer : Put) (old new : Ends) → IsReadOf bytes old new
-    → Stops time (export_front time) (IsRefusedWith refusal old.left) answer old new → IsMalformed services_say bytes refusal
+    → Stops time (export_front time) (AtNone (IsRefusedWith refusal old.left)) answer old new → IsMalformed services_say bytes refusal
 refused_so time bytes refusal answer old new read stops =
     let (rest, is) = known_judged old.left new.left bytes stops.judged stops.unjudged read.left stops.taken in
     elim stops.cause.1 [
       | inl offence ↦ inl (subst (λ l. FirstOffendingWord services_say l refusal) (sym is) (offence_stays services_say stops.judged (stops.unjudged ++ rest) refusal offence))
       | inr cut ↦ inr (subst (λ l. IsCutShort services_say l refusal) (sym (known_whole old.left bytes stops.judged read.left cut.0.0)) cut.1)
     ]
-
--- what is malformed is no file
-malformed_no_file : (bytes : List ℕ) (refusal : Refusal) (frames : List Frame) → IsMalformed services_say bytes refusal → IsFileUnder services_say frames bytes → ⊥
-malformed_no_file bytes refusal frames (inl offence) file = file_has_no_offence services_say frames bytes refusal file offence
-malformed_no_file bytes refusal frames (inr cut) file = cut.no_file frames file
 
 -- a file that is exported stops for nothing
 file_early : (time : TimeCode) (bytes : List ℕ) (frames : List Frame) (old new : Ends) (answer : Status) → IsFileUnder services_say frames bytes → AreExported time frames
@@ -147,20 +128,7 @@ file_exported time bytes frames old new status.WriteFault file good within read 
 file_exported time bytes frames old new answer file good within read answered =
     absurd (file_early time bytes frames old new answer file good within read answered)
 
--- malformed in one way
-one_malformed : (bytes : List ℕ) (refusal other : Refusal) → IsMalformed services_say bytes refusal → IsMalformed services_say bytes other → refusal ≡ other
-one_malformed bytes refusal other (inl one) (inl two) =
-    same_some refusal other (sym (offence_refused services_say takes_filling bytes refusal one) ∙ offence_refused services_say takes_filling bytes other two)
-  where
-    same_some : (a b : Refusal) → Some a ≡ Some b → a ≡ b
-    same_some a b same = cc
-one_malformed bytes refusal other (inl one) (inr two) = absurd (cut_short_has_no_offence services_say bytes other refusal two one)
-one_malformed bytes refusal other (inr one) (inl two) = absurd (cut_short_has_no_offence services_say bytes refusal other one two)
-one_malformed bytes refusal other (inr one) (inr two) = same_refusal refusal other (one.place_is ∙ sym two.place_is) (one.why_is ∙ sym two.why_is)
-  where
-    same_refusal : (a b : Refusal) → a.place ≡ b.place → a.why ≡ b.why → a ≡ b
-    same_refusal a b place why = rw (place, why) refl
-
+-- what stops early for malformed words is their refusal
 malformed_early : (time : TimeCode) (bytes : List ℕ) (frames : List Frame) (refusal : Refusal) (old new : Ends) (answer : Status) → AreFramesOf services_say frames bytes
     → AreExported time frames → IsMalformed services_say bytes refusal → length bytes ≤ words_limit → IsReadOf bytes old new → StopsEarly time old new answer
     → answer ≡ status.Malformed (Byte refusal.place) refusal.why
@@ -179,7 +147,7 @@ malformed_early time bytes frames refusal old new _ are good malformed within re
 
 pub malformed_not_exported : MalformedIsNotExported
 malformed_not_exported time bytes frames refusal old new status.Ok are good malformed within read answered =
-    let (at_end, whole, file) = answered.1.cause in
+    let (whole, file) = answered.1.cause.1 in
     absurd (malformed_no_file bytes refusal answered.1.frames malformed
     (subst (λ l. IsFileUnder services_say answered.1.frames l) (sym (known_whole old.left bytes answered.1.judged read.left whole.0)) file))
 malformed_not_exported time bytes frames refusal old new status.Memory are good malformed within read answered = inr refl

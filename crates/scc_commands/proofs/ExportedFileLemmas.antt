@@ -1,23 +1,21 @@
 -- The file that `export` puts is an SCC file of just the pairs that were exported.
-use Rattle.std.proofs.Common.{◌≡◌, ◌+◌, ◌%◌, ◌/◌, ◌<◌, ◌≤◌, ◌++◌, ◌==◌, arith, length, map, refl, suc, subst, ap, ℕ, Bool, List, [], ◌∷◌, false, true}
-use Rattle.std.specs.Prelude.{◌&&◌, None}
+use Rattle.std.proofs.Common.{◌≡◌, ◌+◌, ◌%◌, ◌<◌, ◌≤◌, ◌++◌, ◌==◌, arith, length, map, refl, suc, subst, ℕ, Bool, List, [], ◌∷◌, false, true}
+use Rattle.std.specs.Prelude.{◌&&◌}
 use Rattle.std.specs.List.{AllByRecursion, concat, flat_map}
 use Rattle.anc_words.specs.Packets.{Packet, user_bytes}
-use Rattle.cc_base.specs.Rate.{code_of}
-use Rattle.cc_data.specs.Triplets.{triplet_of, triplets_of}
+use Rattle.cc_data.specs.Triplets.{triplets_of}
 use Rattle.cc_data.specs.declared.triplet.Triplet.{Triplet}
 use Rattle.cdp_packets.specs.PacketTriplets.{packet_triplets, section_triplets}
 use Rattle.cdp_packets.specs.Packets.{IsCdp, Packet as Frame}
 use Rattle.line21_codes.specs.declared.pairs.Pair.{Pair}
 use Rattle.scc_files.specs.SccFiles.{IsSccFile}
-use Rattle.scc_files.specs.Written.{AreWritable, counted, shown, written_file}
-use Rattle.scc_files.specs.Writing.{is_past_day}
+use Rattle.scc_files.specs.Written.{AreWritable, counted, shown}
 use Rattle.time_codes.specs.Frames.{frame_number}
 use Rattle.time_codes.specs.declared.time_code.TimeCode.{TimeCode}
 use Rattle.words_files.specs.Frames.{CarryFrames, IsFileOf}
-use Rattle.words_files.specs.Received.{field_kind, field_pair, field_pairs}
+use Rattle.words_files.specs.Received.{field_pair}
 use Rattle.scc_files.proofs.RoundTrip.{written_is_file}
-use Rattle.scc_commands.specs.Export.{AreExported, AreWithinDay, HaveNoFinding, at_number, export_file, exported, exported_from, first_standing, pairs_of}
+use Rattle.scc_commands.specs.Export.{AreExported, AreWithinDay, HaveNoFinding, at_number, export_file, exported, exported_from, pairs_of}
 
 abbrev AreBytes : List ℕ → Type 0
 AreBytes = AllByRecursion (λ (byte : ℕ). byte < 256)

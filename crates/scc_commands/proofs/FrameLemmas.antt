@@ -1,5 +1,5 @@
 -- What becomes of a frame that is exported.
-use Rattle.std.proofs.Common.{◌≡◌, ◌∙◌, ◌++◌, ap, append-nil, refl, subst, sym, ℕ, List, [], ◌∷◌, length, Option, Some, None, Ok, Err, false, true}
+use Rattle.std.proofs.Common.{◌≡◌, ◌∙◌, ◌++◌, ap, append-nil, refl, subst, sym, ℕ, List, [], ◌∷◌, length, Option, Some, None, Ok, Err}
 use Rattle.cc_base.specs.Streams.{Puts}
 use Rattle.cc_base.specs.declared.streams.Put.TheVariants as put
 use Rattle.cdp_packets.specs.Packets.{Packet as Frame}
@@ -8,10 +8,8 @@ use Rattle.findings.specs.declared.finding.Finding.{Finding}
 use Rattle.line21_codes.specs.declared.pairs.Pair.{Pair}
 use Rattle.scc_files.specs.Writing.{GivesPiece, Standing, is_past_day, piece_of, stand_behind, standing_of}
 use Rattle.time_codes.specs.declared.time_code.TimeCode.{TimeCode}
-use Rattle.services_files.specs.Services.{services_say}
-use Rattle.words_files.specs.Offences.{IsUnoffending}
-use Rattle.scc_commands.specs.Export.{AreExported, HasFinding, HasNoFinding, PassesDay, export_front, exported, first_standing, pairs_of, stand_after}
-use Rattle.scc_commands.specs.ExportSteps.{IsWritten, StopsFor, WritesFrame}
+use Rattle.scc_commands.specs.Export.{HasFinding, HasNoFinding, export_front, exported, first_standing, pairs_of, stand_after}
+use Rattle.scc_commands.specs.ExportSteps.{WritesFrame}
 use Rattle.scc_commands.specs.declared.exporting.Exporting.{Exporting}
 use Rattle.scc_commands.specs.declared.exporting.Stop.TheVariants as stop
 use Rattle.scc_commands.proofs.WrittenLemmas.{exported_more, front_more, gathered_failed, gathered_more, past_is, stand_frame}

@@ -1,5 +1,5 @@
 -- The words of an SCC file's pairs, frame by frame.
-use Rattle.std.proofs.Common.{◌==◌, if◌then◌else◌, Bool, IfOk, Some, None, length, ◌≡◌, ◌≢◌, ◌∙◌, ◌+◌, ◌-◌, ◌<◌, ◌≤◌, ◌++◌, add-one, ap, append-nil, arith, refl, subst, suc, sym, zero, ℕ, List, [], ◌∷◌, Option, Ok, Err, Result, false, true}
+use Rattle.std.proofs.Common.{◌==◌, if◌then◌else◌, Bool, IfOk, Some, None, length, ◌≡◌, ◌≢◌, ◌∙◌, ◌+◌, ◌-◌, ◌<◌, ◌≤◌, ◌++◌, add-one, ap, append-nil, arith, refl, subst, suc, sym, ℕ, List, [], ◌∷◌, Option, Ok, Err, Result, false, true}
 use Rattle.std.specs.Prelude.{IfSome, nat_eq}
 use Rattle.cc_base.specs.declared.limit_of.LimitOf.TheVariants as limit
 use Rattle.std.specs.Io.KnownBytes.{Appends}

@@ -2,7 +2,6 @@ pub mod ExportVerdictLemmas
 pub mod ExportedFileLemmas
 pub mod ExportingLemmas
 pub mod FrameLemmas
-pub mod FramesLemmas
 pub mod ImportLemmas
 pub mod RoundTripLemmas
 pub mod SccVerdictLemmas

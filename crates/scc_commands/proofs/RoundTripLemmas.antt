@@ -1,11 +1,10 @@
 -- What is imported is exported again: the written form of the file's pairs.
-use Rattle.std.proofs.Common.{◌≡◌, ◌≢◌, ◌∙◌, ◌+◌, ◌<◌, ◌≤◌, ◌++◌, ◌==◌, add-one, ap, arith, if◌then◌else◌, refl, subst, suc, sym, zero, ℕ, Bool, List, [], ◌∷◌, Some, option_to_list, false, true}
+use Rattle.std.proofs.Common.{◌≡◌, ◌≢◌, ◌∙◌, ◌+◌, ◌<◌, ◌≤◌, ◌++◌, ap, arith, refl, subst, suc, sym, zero, ℕ, Bool, [], ◌∷◌, false, true}
 use Rattle.std.specs.Prelude.{nat_eq}
 use Rattle.cc_base.specs.declared.rate.Rate.TheVariants as rate
-use Rattle.cdp_packets.specs.Packets.{Packet as Frame}
 use Rattle.frame_carrier.proofs.CarriedLemmas.{frames_carried}
 use Rattle.frame_carrier.proofs.CarryingLemmas.{quiet_bytes, quiet_roomy}
-use Rattle.frame_carrier.specs.Carrying.{column_packets, frame_packet}
+use Rattle.frame_carrier.specs.Carrying.{column_packets}
 use Rattle.line21_codes.specs.declared.pairs.Pair.{Pair}
 use Rattle.scc_files.specs.Reading.{frames_of, frames_to}
 use Rattle.scc_files.specs.SccFiles.{AreBytes, AreRising}
@@ -13,7 +12,7 @@ use Rattle.scc_files.specs.Writing.{Standing, head_text, piece_of, stand_behind}
 use Rattle.scc_files.specs.Written.{text_from, written_file}
 use Rattle.time_codes.specs.Frames.{frame_number}
 use Rattle.time_codes.specs.declared.time_code.TimeCode.{TimeCode}
-use Rattle.scc_commands.specs.Export.{at_number, export_file, exported_from, first_standing, pairs_of}
+use Rattle.scc_commands.specs.Export.{at_number, export_file, exported_from, first_standing}
 use Rattle.scc_commands.specs.Import.{Placed, import_columns, import_packets, null_pair, pair_at}
 use Rattle.scc_commands.proofs.ImportLemmas.{columns_bytes, none_before, other_number}
 

@@ -1,10 +1,10 @@
 -- What `import` and `export` answer where no count of faults rose, and where one did.
-use Rattle.std.proofs.Common.{◌≡◌, ◌≢◌, ◌∙◌, ◌⊎◌, ◌<◌, ◌≤◌, ap, arith, inl, inr, length, refl, subst, sym, ℕ, List, Ok, Option, Result}
+use Rattle.std.proofs.Common.{◌≡◌, ◌⊎◌, ◌<◌, ap, arith, inl, inr, refl, subst, ℕ, List, Ok, Result}
 use Rattle.command_base.proofs.CountLemmas.{read_told, same_told, steady_told, write_told}
-use Rattle.command_base.proofs.WholeInputLemmas.{AreRefusals, answered, refused, told, unrefused}
+use Rattle.command_base.proofs.WholeInputLemmas.{answered, refused, told, unrefused}
 use Rattle.command_base.specs.Counts.{IsReadOf, TellsFaults}
 use Rattle.command_base.specs.Ends.{Ends}
-use Rattle.command_base.specs.declared.status.Place.TheVariants.{Byte, Field}
+use Rattle.command_base.specs.declared.status.Place.TheVariants.{Byte}
 use Rattle.command_base.specs.declared.status.Status.{Status}
 use Rattle.command_base.specs.declared.status.Status.TheVariants as status
 use Rattle.cc_base.specs.declared.limit_of.LimitOf.TheVariants as limit
@@ -15,7 +15,7 @@ use Rattle.scc_files.specs.Reading.{frames_of, read_file}
 use Rattle.scc_files.specs.SccFiles.{IsSccFile}
 use Rattle.time_codes.specs.declared.time_code.TimeCode.{TimeCode}
 use Rattle.scc_commands.specs.Export.{ExportAnswer, StopsEarly}
-use Rattle.scc_commands.specs.Import.{HasTooManyFrames, ImportAnswer, IsImport, IsRefusedImport, Placed, PutsImport, PutsImportFront}
+use Rattle.scc_commands.specs.Import.{ImportAnswer, IsImport, IsRefusedImport, Placed, PutsImport, PutsImportFront}
 
 -- a count of faults that is greater than before
 pub told_import : (old new : Ends) (answer : Status) → ImportAnswer old new answer → TellsFaults old new answer

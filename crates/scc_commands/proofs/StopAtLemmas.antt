@@ -1,5 +1,5 @@
 -- An export stops at the first frame at which something is found or whose pair stands past the day, and nowhere else.
-use Rattle.std.proofs.Common.{◌≡◌, ◌∙◌, ◌+◌, ◌<◌, ◌≤◌, ◌++◌, ◌⊎◌, ap, append-nil, append_assoc, arith, inl, inr, length, refl, subst, sym, ℕ, Bool, List, [], ◌∷◌, Option, Some, false, true}
+use Rattle.std.proofs.Common.{◌≡◌, ◌∙◌, ◌+◌, ◌≤◌, ◌++◌, ◌⊎◌, ap, append-nil, append_assoc, arith, inl, inr, length, refl, subst, sym, ℕ, Bool, List, [], ◌∷◌, false, true}
 use Rattle.std.specs.Prelude.{nat_le}
 use Rattle.cc_base.specs.declared.limit_of.LimitOf.TheVariants as limit
 use Rattle.cc_base.specs.declared.refusal.Refusal.{Refusal}
@@ -20,9 +20,11 @@ use Rattle.words_files.proofs.EndingLemmas.{file_has_no_offence, offence_stays}
 use Rattle.words_files.proofs.FramesOfLemmas.{file_frames, frames_grow, frames_of_once}
 use Rattle.words_files.proofs.WordLemmas.{front_of}
 use Rattle.words_files.specs.FramesOf.{AreFramesOf}
-use Rattle.words_files.specs.Offences.{FirstOffendingWord, IsCutShort, IsFileUnder}
-use Rattle.scc_commands.proofs.ExportVerdictLemmas.{known_judged, known_whole, never_passes, no_finding_at, not_found, within_at}
-use Rattle.scc_commands.specs.Export.{AreExported, AreWithinDay, Cause, ExportAnswer, HasFinding, IsRefusedWith, IsWholeFile, StandsPastDay, Stops, StopsEarly, at_number, export_file, export_front, first_standing, words_limit}
+use Rattle.words_files.specs.Offences.{FirstOffendingWord, IsFileUnder}
+use Rattle.words_commands.proofs.WordsVerdictLemmas.{known_judged, known_whole}
+use Rattle.words_commands.specs.WordsAnswer.{IsRefusedWith, IsWholeFile, words_limit}
+use Rattle.scc_commands.proofs.ExportVerdictLemmas.{never_passes, no_finding_at, not_found, within_at}
+use Rattle.scc_commands.specs.Export.{AreExported, AreWithinDay, AtNone, ExportAnswer, HasFinding, StandsPastDay, Stops, StopsEarly, at_number, export_front, first_standing}
 use Rattle.scc_commands.specs.ExportVerdict.{StopIsAnswered, StopsAt}
 
 -- the front of a list that ends before an item, and another one: the other has the item, or it ends at the same place, or before
@@ -154,7 +156,7 @@ no_offence time bytes stop refusal has frames judged more is are good offence =
         (subst (λ l. FirstOffendingWord services_say l refusal) (sym longer) (offence_stays services_say judged rest refusal offence))
 
 never_refused : (time : TimeCode) (bytes : List ℕ) (stop : Status) (refusal : Refusal) (answer : Put) (old new : Ends) → StopsIn time bytes stop → IsReadOf bytes old new
-    → Stops time (export_front time) (IsRefusedWith refusal old.left) answer old new → ⊥
+    → Stops time (export_front time) (AtNone (IsRefusedWith refusal old.left)) answer old new → ⊥
 never_refused time bytes stop refusal answer old new has read stops =
     let (rest, is) = known_judged old.left new.left bytes stops.judged stops.unjudged read.left stops.taken in
     let are = subst (λ l. AreFramesOf services_say l stops.judged) (ap (λ l. stops.frames ++ l) stops.cause.0 ∙ append-nil stops.frames) stops.frames_are in
@@ -168,9 +170,9 @@ never_refused time bytes stop refusal answer old new has read stops =
 
 -- nor does it come to the end of a file
 never_whole : (time : TimeCode) (bytes : List ℕ) (stop : Status) (text : List Frame → List ℕ) (answer : Put) (old new : Ends) → StopsIn time bytes stop → IsReadOf bytes old new
-    → Stops time text (IsWholeFile old.left) answer old new → ⊥
+    → Stops time text (AtNone (IsWholeFile old.left)) answer old new → ⊥
 never_whole time bytes stop text answer old new has read stops =
-    let (at_end, whole, file) = stops.cause in
+    let (whole, file) = stops.cause.1 in
     let is = known_whole old.left bytes stops.judged read.left whole.0 in
     let same = frames_of_once services_say stops.frames ((has.frames ++ has.last ∷ []) ++ has.behind) bytes
     (file_frames services_say stops.frames bytes (subst (IsFileUnder services_say stops.frames) (sym is) file)) has.are in

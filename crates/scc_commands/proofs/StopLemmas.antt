@@ -1,9 +1,7 @@
 -- Where the reading of a words file that is exported ends, and why.
-use Rattle.std.proofs.Common.{◌≡◌, ◌∙◌, ◌+◌, ◌-◌, ◌++◌, ◌<◌, ◌≤◌, ap, append_assoc, append-nil, arith, drop, inl, inr, length, length-append, min, refl, subst, sym, take, ℕ, List, [], ◌∷◌, IfSome, Option, Some, None, Ok, Err, Result}
+use Rattle.std.proofs.Common.{◌≡◌, ◌∙◌, ◌+◌, ◌-◌, ◌++◌, ◌<◌, ◌≤◌, ap, append_assoc, append-nil, arith, inl, inr, length, length-append, refl, subst, sym, take, ℕ, List, [], Option, Ok, Err, Result}
 use Rattle.std.specs.Borrow.{Bor}
-use Rattle.std.proofs.lemmas.List.{length-drop, length-take-le, take-append-drop, take-take}
-use Rattle.std.specs.Io.KnownBytes.{Appends, Consumes, IsAtEnd, Keeps}
-use Rattle.std.proofs.KnownBytes.{Appends-trans, Consumes-trans}
+use Rattle.std.specs.Io.KnownBytes.{Consumes, IsAtEnd, Keeps}
 use Rattle.cc_base.proofs.Puts.{puts_stop, puts_then}
 use Rattle.cc_base.proofs.Takes.{consumes_kept}
 use Rattle.cc_base.specs.Streams.{Puts, Rose}
@@ -11,23 +9,25 @@ use Rattle.cc_base.specs.declared.limit_of.LimitOf.TheVariants as limit
 use Rattle.cc_base.specs.declared.streams.Put.{Put}
 use Rattle.cc_base.specs.declared.streams.Put.TheVariants as put
 use Rattle.cc_receiver.specs.Receivers.{HasReceived}
-use Rattle.cdp_packets.specs.Packets.{Packet as Frame}
+use Rattle.cc_receiver.proofs.FedFrames.{nothing_is_file}
 use Rattle.scc_files.specs.Writing.{end_text, head_text}
 use Rattle.time_codes.specs.declared.time_code.TimeCode.{TimeCode}
 use Rattle.words_files.proofs.FramesOfLemmas.{file_frames, frames_of_once}
 use Rattle.services_files.specs.Services.{services_say}
-use Rattle.words_files.specs.FramesOf.{AreFramesOf}
 use Rattle.words_files.specs.Offences.{IsFileUnder, IsUnoffending}
 use Rattle.command_base.specs.Ends.{Ends, ends}
-use Rattle.text_output.specs.Gathered.{IsGathered, held_of}
+use Rattle.text_output.specs.Gathered.{held_of}
 use Rattle.command_base.specs.declared.status.Status.{Status}
 use Rattle.command_base.specs.declared.status.Status.TheVariants as status
-use Rattle.scc_commands.specs.Export.{Cause, ExportAnswer, IsAnyhow, IsWholeFile, Stops, StopsEarly, export_file, export_front, exported, first_standing, stand_after, words_limit}
+use Rattle.words_commands.specs.WordsAnswer.{IsWholeFile, words_limit}
+use Rattle.words_commands.proofs.PieceLemmas.{IsPiece, all_taken, nothing_taken, whole_piece, with_piece}
+use Rattle.words_commands.proofs.WayLemmas.{all_put}
+use Rattle.scc_commands.specs.Export.{AtNone, Cause, ExportAnswer, IsAnyhow, Stops, StopsEarly, export_file, export_front}
 use Rattle.scc_commands.specs.ExportSteps.{EndsAt, HasJudged, HasPut, HasStopped, IsFileEndedBy, ReadsWords, StopCause, stop_status}
 use Rattle.scc_commands.specs.declared.exporting.Exporting.{Exporting}
 use Rattle.scc_commands.specs.declared.exporting.Stop.{Stop}
 use Rattle.scc_commands.specs.declared.exporting.Stop.TheVariants as stop
-use Rattle.scc_commands.proofs.FramesLemmas.{nothing_is_file}
+use Rattle.scc_commands.proofs.ExportingLemmas.{at_none}
 use Rattle.scc_commands.proofs.WrittenLemmas.{file_ends}
 
 -- bytes were taken and judged, and the text of their frames was put; so many more are within the limit
@@ -37,23 +37,26 @@ pub record IsUnderway (first left start0 now : Option (List ℕ)) (begun export 
   pub within : length taken + room ≡ words_limit
   pub put_all : (time : TimeCode) (start : Option (List ℕ)) → HasPut time start start0 [] begun → HasPut time start now taken export
 
--- a text of which nothing is held was put
-all_put : (start now : Option (List ℕ)) (held all : List ℕ) → IsGathered start now held all → held ≡ [] → Appends start now all
-all_put start now held all way none =
-    subst (Appends start now) (sym (append-nil way.sent) ∙ ap (λ l. way.sent ++ l) (sym none) ∙ way.whole) way.appended
-
--- nothing was taken yet
-nothing_taken : (first : Option (List ℕ)) → Consumes first first []
-nothing_taken None = tt
-nothing_taken (Some bytes) = refl
-
 pub underway_begun : (first start : Option (List ℕ)) (export : Exporting) → IsUnderway first first start start export export words_limit
 underway_begun first start export =
     record { taken = []; consumed = nothing_taken first; within = refl; put_all = λ time begins had. had }
 
--- the frames of bytes at none of which the run stopped
-at_none : (frames : List Frame) (bytes : List ℕ) → AreFramesOf services_say frames bytes → AreFramesOf services_say (frames ++ []) bytes
-at_none frames bytes are = subst (λ f. AreFramesOf services_say f bytes) (sym (append-nil frames)) are
+-- what a run stops for, where the bytes judged are all that was taken
+judged_stops : (time : TimeCode) (Why : Cause) (first left after start now : Option (List ℕ)) (reads later writes still : ℕ) (export : Exporting) (taken : List ℕ) (room : ℕ)
+    → (had : HasPut time start now taken export) → Consumes first left taken → length taken + room ≡ words_limit → Keeps left after → Why had.judged.frames [] taken []
+    → Stops time (export_front time) Why put.Done (ends first reads start writes) (ends after later now still)
+judged_stops time Why first left after start now reads later writes still export taken room had consumed within keeps cause = record {
+  frames = had.judged.frames;
+  at = [];
+  judged = taken;
+  unjudged = [];
+  taken = subst (Consumes first after) (sym (append-nil taken)) (consumes_kept first left after taken consumed keeps);
+  within = omega arith;
+  frames_are = at_none had.judged.frames taken had.judged.frames_are;
+  are_exported = had.judged.are_exported;
+  cause = cause;
+  output = all_put start now (held_of export.text) (export_front time had.judged.frames) had.judged.way had.none_held;
+}
 
 -- the input failed
 pub take_failed : (time : TimeCode) (first left after start now : Option (List ℕ)) (reads later writes still : ℕ) (export : Exporting) (taken : List ℕ) (room : ℕ)
@@ -62,25 +65,8 @@ pub take_failed : (time : TimeCode) (first left after start now : Option (List �
 take_failed time first left after start now reads later writes still export taken room had consumed within keeps rose same = (
   rose,
   same,
-  record {
-    frames = had.judged.frames;
-    at = [];
-    judged = taken;
-    unjudged = [];
-    taken = subst (Consumes first after) (sym (append-nil taken)) (consumes_kept first left after taken consumed keeps);
-    within = omega arith;
-    frames_are = at_none had.judged.frames taken had.judged.frames_are;
-    are_exported = had.judged.are_exported;
-    cause = (refl, refl, had.judged.unoffending);
-    output = all_put start now (held_of export.text) (export_front time had.judged.frames) had.judged.way had.none_held;
-  },
+  judged_stops time _ first left after start now reads later writes still export taken room had consumed within keeps (refl, (refl, had.judged.unoffending)),
 )
-
--- what was taken up to the end of an input is all that it had
-all_taken : (first left : Option (List ℕ)) (taken : List ℕ) → Consumes first left taken → IsAtEnd left → IfSome first (λ bytes. bytes ≡ taken)
-all_taken None left taken consumed ended = tt
-all_taken (Some all) None taken consumed ended = absurd consumed
-all_taken (Some all) (Some rest) taken consumed ended = consumed ∙ ap (λ l. taken ++ l) ended ∙ append-nil taken
 
 -- the input is a words file
 pub file_ended : (time : TimeCode) (first left after start now : Option (List ℕ)) (reads later writes still : ℕ) (export : Exporting) (taken : List ℕ) (room : ℕ) (ending : Bor (List ℕ))
@@ -93,21 +79,10 @@ file_ended time first left after start now reads later writes still export taken
     let (frames, is_file) = file taken had.judged.received had.judged.unoffending in
     let frames_is = frames_of_once services_say frames had.judged.frames taken (file_frames services_say frames taken is_file) had.judged.frames_are in (
       record { reads = steady; writes = same },
-      record {
-        frames = had.judged.frames;
-        at = [];
-        judged = taken;
-        unjudged = [];
-        taken = subst (Consumes first after) (sym (append-nil taken)) (consumes_kept first left after taken consumed keeps);
-        within = omega arith;
-        frames_are = at_none had.judged.frames taken had.judged.frames_are;
-        are_exported = had.judged.are_exported;
-        cause = (
-          (refl, (all_taken first left taken consumed ended, refl), subst (λ f. IsFileUnder services_say f taken) frames_is is_file),
-          ending_is ∙ ap (λ w. end_text w.behind) had.judged.writer,
-        );
-        output = all_put start now (held_of export.text) (export_front time had.judged.frames) had.judged.way had.none_held;
-      },
+      judged_stops time _ first left after start now reads later writes still export taken room had consumed within keeps (
+        (refl, ((all_taken first left taken consumed ended, refl), subst (λ f. IsFileUnder services_say f taken) frames_is is_file)),
+        ending_is ∙ ap (λ w. end_text w.behind) had.judged.writer,
+      ),
     )
 
 -- the input is cut short
@@ -118,18 +93,8 @@ pub file_cut : (time : TimeCode) (first left after start now : Option (List ℕ)
     → StopsEarly time (ends first reads start writes) (ends after later now still) (stop_status why)
 file_cut time first left after start now reads later writes still export taken room (stop.Refused refusal) had consumed within (ended, keeps) steady same file = (
   record { reads = steady; writes = same },
-  record {
-    frames = had.judged.frames;
-    at = [];
-    judged = taken;
-    unjudged = [];
-    taken = subst (Consumes first after) (sym (append-nil taken)) (consumes_kept first left after taken consumed keeps);
-    within = omega arith;
-    frames_are = at_none had.judged.frames taken had.judged.frames_are;
-    are_exported = had.judged.are_exported;
-    cause = (refl, inr ((all_taken first left taken consumed ended, refl), file taken had.judged.received had.judged.unoffending));
-    output = all_put start now (held_of export.text) (export_front time had.judged.frames) had.judged.way had.none_held;
-  },
+  judged_stops time _ first left after start now reads later writes still export taken room had consumed within keeps
+      (refl, inr ((all_taken first left taken consumed ended, refl), file taken had.judged.received had.judged.unoffending)),
 )
 file_cut time first left after start now reads later writes still export taken room stop.Unwritten had consumed within ended steady same file =
     absurd (file taken had.judged.received had.judged.unoffending)
@@ -137,28 +102,6 @@ file_cut time first left after start now reads later writes still export taken r
     absurd (file taken had.judged.received had.judged.unoffending)
 file_cut time first left after start now reads later writes still export taken room stop.Day had consumed within ended steady same file =
     absurd (file taken had.judged.received had.judged.unoffending)
-
--- a piece of a take, and what is left of it
-pub record IsPiece (room count : ℕ) (buffer piece rest : List ℕ) : Type 0 where
-  pub spelled : take count buffer ≡ piece ++ rest
-  pub size : length piece ≡ min count room
-  pub rest_size : length rest ≡ count - min count room
-
-pub piece_of : (room count most : ℕ) (buffer : List ℕ) → count ≤ length buffer → most ≡ min count room
-    → IsPiece room count buffer (take most buffer) (drop most (take count buffer))
-piece_of room count most buffer within is =
-    let size = length-take-le count buffer within in
-    record {
-      spelled = sym (take-append-drop most (take count buffer)) ∙ ap (λ l. l ++ drop most (take count buffer)) (take-take most count buffer (omega arith));
-      size = length-take-le most buffer (omega arith) ∙ is;
-      rest_size = length-drop most (take count buffer) ∙ omega arith;
-    }
-
--- what was taken with it
-with_piece : (first left after : Option (List ℕ)) (taken piece rest whole : List ℕ) → Consumes first left taken → Consumes left after whole → whole ≡ piece ++ rest
-    → Consumes first after ((taken ++ piece) ++ rest)
-with_piece first left after taken piece rest whole consumed next is =
-    subst (Consumes first after) (ap (λ l. taken ++ l) is ∙ sym (append_assoc taken piece rest)) (Consumes-trans first left after taken whole consumed next)
 
 -- what a stop in bytes makes of the run
 stopped_so : (time : TimeCode) (Why : Cause) (answer : Put) (first after start then : Option (List ℕ)) (reads later writes still : ℕ) (bytes rest : List ℕ) (why : Stop)
@@ -250,7 +193,7 @@ piece_passes time first left after start then reads later writes still export ta
         within = omega arith;
         frames_are = at_none had.judged.frames (taken ++ piece) had.judged.frames_are;
         are_exported = had.judged.are_exported;
-        cause = (refl, omega arith, omega arith, had.judged.unoffending);
+        cause = (refl, (omega arith, omega arith, had.judged.unoffending));
         output = all_put start then (held_of export.text) (export_front time had.judged.frames) had.judged.way had.none_held;
       },
     )
@@ -264,20 +207,13 @@ pub piece_judged : (first left after start0 now then : Option (List ℕ)) (begun
 piece_judged first left after start0 now then begun export later_export room count buffer piece rest on next is whole judges =
     let within = on.within in
     let size = is.size in
-    let more = is.rest_size in
     let sum = length-append on.taken piece in
-    let no_rest : rest ≡ [] = none_left rest (omega arith) in
     record {
       taken = on.taken ++ piece;
-      consumed = subst (Consumes first after) (ap (λ l. (on.taken ++ piece) ++ l) no_rest ∙ append-nil (on.taken ++ piece))
-          (with_piece first left after on.taken piece rest (take count buffer) on.consumed next is.spelled);
+      consumed = whole_piece first left after room count on.taken buffer piece rest on.consumed next is whole;
       within = omega arith;
       put_all = λ time start had. judges time start (on.put_all time start had).judged;
     }
-  where
-    none_left : (rest : List ℕ) → length rest ≡ 0 → rest ≡ []
-    none_left [] is = refl
-    none_left (byte ∷ rest) is = absurd (omega arith)
 
 -- what is read is the same where no fault came before
 pub reads_from : (time : TimeCode) (first start : Option (List ℕ)) (reads writes later : ℕ) (new : Ends) (r : Result (Bor (List ℕ)) Status) → later ≡ writes
@@ -313,7 +249,7 @@ head_failed time first start then reads writes still failed rose =
 -- the end of the file was put behind its front, or a front of it
 end_put : (time : TimeCode) (first left start now then : Option (List ℕ)) (reads later writes still last : ℕ) (ending : List ℕ) (answer : Put)
     → Stops time (export_front time) (IsFileEndedBy time ending first) put.Done (ends first reads start writes) (ends left later now still) → Puts now then answer ending
-    → Stops time (export_file time) (IsWholeFile first) answer (ends first reads start writes) (ends left later then last)
+    → Stops time (export_file time) (AtNone (IsWholeFile first)) answer (ends first reads start writes) (ends left later then last)
 end_put time first left start now then reads later writes still last ending answer stops line = record {
   frames = stops.frames;
   at = stops.at;

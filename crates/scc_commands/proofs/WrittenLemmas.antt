@@ -1,14 +1,12 @@
 -- The text of frames that are exported, frame by frame.
-use Rattle.std.proofs.Common.{◌≡◌, ◌∙◌, ◌+◌, ◌<◌, ◌≤◌, ◌++◌, add-one, ap, append_assoc, append-nil, arith, refl, subst, suc, sym, zero, ℕ, Bool, List, [], ◌∷◌, length, Option, Some, None, false, true}
+use Rattle.std.proofs.Common.{◌≡◌, ◌∙◌, ◌+◌, ◌≤◌, ◌++◌, ap, append_assoc, append-nil, arith, refl, subst, suc, sym, ℕ, Bool, List, [], ◌∷◌, length, Option, Some, None, false, true}
 use Rattle.std.specs.Prelude.{◌==◌, ◌&&◌, if◌then◌else◌, min, slice_get}
 use Rattle.std.proofs.lemmas.List.{length-append}
 use Rattle.cc_data.specs.declared.triplet.Triplet.{Triplet}
 use Rattle.cdp_packets.specs.PacketTriplets.{packet_triplets}
 use Rattle.words_files.specs.Received.{field_pair, field_pairs}
 use Rattle.std.proofs.KnownBytes.{Appends-trans}
-use Rattle.std.proofs.lemmas.Bool.{cases_Bool}
-use Rattle.std.specs.Io.KnownBytes.{Appends}
-use Rattle.cc_base.proofs.Puts.{puts_stop, puts_then}
+use Rattle.cc_base.proofs.Puts.{puts_stop}
 use Rattle.cc_base.specs.Streams.{Puts}
 use Rattle.cc_base.specs.declared.streams.Put.TheVariants as put
 use Rattle.cdp_packets.specs.Packets.{Packet as Frame}
@@ -20,6 +18,7 @@ use Rattle.scc_files.specs.Writing.{Standing, StandsFirst, end_text, head_text, 
 use Rattle.scc_files.specs.declared.writer.SccWriter.{SccWriter}
 use Rattle.scc_files.specs.Written.{text_from}
 use Rattle.time_codes.specs.declared.time_code.TimeCode.{TimeCode}
+use Rattle.words_commands.proofs.WayLemmas.{way_unwritten}
 use Rattle.scc_commands.specs.Import.{Placed}
 use Rattle.scc_commands.specs.Export.{AreExported, AreWithinDay, HasNoFinding, HaveNoFinding, at_number, export_file, export_front, exported, exported_from, first_standing, pairs_of, pieces, stand_after}
 
@@ -128,7 +127,7 @@ gathered_more a b c before after piece all way (sent, appended, is) = record {
 -- a put of what is held failed
 pub gathered_failed : (a b c : Option (List ℕ)) (held piece all : List ℕ) → IsGathered a b held all → Puts b c put.Failed held → Puts a c put.Failed (all ++ piece)
 gathered_failed a b c held piece all way failed =
-    puts_stop a c all piece (subst (Puts a c put.Failed) way.whole (puts_then a b c put.Failed way.sent held way.appended failed))
+    puts_stop a c all piece (way_unwritten a b c held all way failed)
 
 -- the front of a file and what ends it are the file
 text_is : (pairs : Placed) (w : Standing) → pieces w pairs ++ end_text (stand_after w pairs).behind ≡ text_from w pairs

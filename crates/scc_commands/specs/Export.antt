@@ -1,11 +1,10 @@
 -- What `export` answers: the SCC file of the field 1 pairs that the frames of a words file carry, or why the run stopped, and with what
 -- text before.
-use Rattle.std.specs.Prelude.{◌≡◌, ◌≢◌, ◌<◌, ◌≤◌, ◌⊎◌, ℕ, suc, Bool, true, false, List, [], ◌∷◌, ◌++◌, length, Option, IfSome, None, ⊤}
+use Rattle.std.specs.Prelude.{◌≡◌, ◌≢◌, ◌<◌, ◌≤◌, ◌⊎◌, ℕ, suc, true, false, List, [], ◌∷◌, ◌++◌, length, None, ⊤}
 use Rattle.std.specs.Io.KnownBytes.{Consumes}
 use Rattle.cc_base.specs.Streams.{Puts, Rose}
 use Rattle.cc_base.specs.declared.limit_of.LimitOf.TheVariants as limit
 use Rattle.cc_base.specs.declared.rate.Rate.TheVariants as rate
-use Rattle.cc_base.specs.declared.refusal.Refusal.{Refusal}
 use Rattle.cc_base.specs.declared.streams.Put.{Put}
 use Rattle.cc_base.specs.declared.streams.Put.TheVariants as put
 use Rattle.line21_codes.specs.declared.pairs.Pair.{Pair}
@@ -20,17 +19,14 @@ use Rattle.cdp_packets.specs.Packets.{Packet as Frame}
 use Rattle.cdp_packets.specs.PacketTriplets.{packet_triplets}
 use Rattle.services_files.specs.Services.{services_say}
 use Rattle.words_files.specs.FramesOf.{AreFramesOf}
-use Rattle.words_files.specs.Offences.{FirstOffendingWord, IsCutShort, IsFileUnder, IsUnoffending}
+use Rattle.words_files.specs.Offences.{IsUnoffending}
 use Rattle.words_files.specs.Received.{field_pairs}
 use Rattle.command_base.specs.Ends.{Ends}
 use Rattle.command_base.specs.declared.status.Place.TheVariants.{Byte}
 use Rattle.command_base.specs.declared.status.Status.{Status}
 use Rattle.command_base.specs.declared.status.Status.TheVariants as status
+use Rattle.words_commands.specs.WordsAnswer.{Cause as WordsCause, HasNoOffence, IsRefusedWith, IsSteady, IsWholeFile, PassesLimit, words_limit}
 use Rattle.scc_commands.specs.Import.{Placed}
-
--- the most bytes of a words file
-abbrev pub words_limit : ℕ
-words_limit = 2147483647
 
 -- the field 1 pairs of a frame: those of its triplets that count
 abbrev pub pairs_of : Frame → List Pair
@@ -96,11 +92,6 @@ pub record AreExported (time : TimeCode) (frames : List Frame) : Type 0 where
   pub no_finding : HaveNoFinding frames
   pub within_day : AreWithinDay time (exported frames)
 
--- neither count of faults rose
-pub record IsSteady (old new : Ends) : Type 0 where
-  pub reads : new.read_faults ≡ old.read_faults
-  pub writes : new.write_faults ≡ old.write_faults
-
 -- what may hold where a run stops: of the frames that were exported, of the frame at which it stopped, if it stopped at one, of the bytes
 -- judged, and of those taken behind them and not judged
 abbrev pub Cause : Type 1
@@ -120,26 +111,9 @@ pub record Stops (time : TimeCode) (text : List Frame → List ℕ) (Why : Cause
   pub cause : Why frames at judged unjudged
   pub output : Puts old.written new.written answer (text frames)
 
--- the bytes judged are all that the input had, and it was read to its end
-abbrev pub IsWhole : Option (List ℕ) → List ℕ → List ℕ → Type 0
-IsWhole left judged unjudged = IfSome left (λ bytes. bytes ≡ judged) × (unjudged ≡ [])
-
--- the whole input is a words file of the frames
-abbrev pub IsWholeFile : Option (List ℕ) → Cause
-IsWholeFile left frames at judged unjudged = (at ≡ []) × IsWhole left judged unjudged × IsFileUnder services_say frames judged
-
--- no word of the bytes taken offends
-abbrev pub HasNoOffence : Cause
-HasNoOffence frames at judged unjudged = (at ≡ []) × (unjudged ≡ []) × IsUnoffending services_say judged
-
--- there is a byte past the limit, and no word within it offends
-abbrev pub PassesLimit : Cause
-PassesLimit frames at judged unjudged = (at ≡ []) × (length judged ≡ words_limit) × (0 < length unjudged) × IsUnoffending services_say judged
-
--- a word offends, or the whole input is cut short
-abbrev pub IsRefusedWith : Refusal → Option (List ℕ) → Cause
-IsRefusedWith refusal left frames at judged unjudged =
-    (at ≡ []) × (FirstOffendingWord services_say judged refusal ⊎ (IsWhole left judged unjudged × IsCutShort services_say judged refusal))
+-- it stopped at no frame, and this cause of a reading of words holds
+abbrev pub AtNone : WordsCause → Cause
+AtNone Why frames at judged unjudged = (at ≡ []) × Why frames judged unjudged
 
 -- this is found at the frame with which the bytes judged end, none of whose words offends
 pub record IsFoundAt (finding : Finding) (frames at : List Frame) (judged unjudged : List ℕ) : Type 0 where
@@ -170,22 +144,22 @@ IsAnyhow frames at judged unjudged = ⊤
 -- how a run ends before the end of a words file
 abbrev pub StopsEarly : TimeCode → Ends → Ends → Status → Type 0
 StopsEarly time old new status.ReadFault =
-    Rose old.read_faults new.read_faults × (new.write_faults ≡ old.write_faults) × Stops time (export_front time) HasNoOffence put.Done old new
+    Rose old.read_faults new.read_faults × (new.write_faults ≡ old.write_faults) × Stops time (export_front time) (AtNone HasNoOffence) put.Done old new
 StopsEarly time old new status.WriteFault =
     (new.read_faults ≡ old.read_faults) × Rose old.write_faults new.write_faults × Stops time (export_front time) IsAnyhow put.Failed old new
-StopsEarly time old new (status.Limit limit.Bytes) = IsSteady old new × Stops time (export_front time) PassesLimit put.Done old new
+StopsEarly time old new (status.Limit limit.Bytes) = IsSteady old new × Stops time (export_front time) (AtNone PassesLimit) put.Done old new
 StopsEarly time old new (status.Limit limit.Day) = IsSteady old new × Stops time (export_front time) (PassesDay time) put.Done old new
 StopsEarly time old new (status.Malformed (Byte place) why) =
-    IsSteady old new × Stops time (export_front time) (IsRefusedWith (record { place = place; why = why }) old.left) put.Done old new
+    IsSteady old new × Stops time (export_front time) (AtNone (IsRefusedWith (record { place = place; why = why }) old.left)) put.Done old new
 StopsEarly time old new (status.Differs finding) = IsSteady old new × Stops time (export_front time) (IsFoundAt finding) put.Done old new
 StopsEarly time old new _ = ⊥
 
 -- what `export` answers, where frame 0 has this time code
 abbrev pub ExportAnswer : TimeCode → Ends → Ends → Status → Type 0
-ExportAnswer time old new status.Ok = IsSteady old new × Stops time (export_file time) (IsWholeFile old.left) put.Done old new
+ExportAnswer time old new status.Ok = IsSteady old new × Stops time (export_file time) (AtNone (IsWholeFile old.left)) put.Done old new
 ExportAnswer time old new status.WriteFault =
     StopsEarly time old new status.WriteFault
     ⊎ ((new.read_faults ≡ old.read_faults) × Rose old.write_faults new.write_faults
-    × Stops time (export_file time) (IsWholeFile old.left) put.Failed old new)
+    × Stops time (export_file time) (AtNone (IsWholeFile old.left)) put.Failed old new)
 ExportAnswer time old new status.Memory = new ≡ old
 ExportAnswer time old new answer = StopsEarly time old new answer

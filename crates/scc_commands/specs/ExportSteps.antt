@@ -1,14 +1,10 @@
 -- Steps on the way through a words file that is exported: a piece of its bytes is judged, and the text of its frames is put.
 use Rattle.std.specs.Borrow.{Bor}
-use Rattle.std.specs.Prelude.{◌≡◌, ◌<◌, ◌≤◌, ◌+◌, ℕ, List, [], ◌∷◌, ◌++◌, length, take, Option, Some, None, Result, Ok, Err}
+use Rattle.std.specs.Prelude.{◌≡◌, ◌≤◌, ℕ, List, [], ◌∷◌, ◌++◌, length, take, Option, Some, None, Result, Ok, Err}
 use Rattle.cc_base.specs.Streams.{Puts, Rose}
 use Rattle.cc_base.specs.declared.limit_of.LimitOf.TheVariants as limit
-use Rattle.cc_base.specs.declared.refusal.Refusal.{Refusal}
 use Rattle.cc_base.specs.declared.streams.Put.TheVariants as put
-use Rattle.cc_receiver.specs.Feeds.{Counts}
 use Rattle.cc_receiver.specs.Receivers.{HasReceived, frame_count}
-use Rattle.cc_receiver.specs.declared.receiver.Fed.{Fed}
-use Rattle.cc_receiver.specs.declared.receiver.Receiver.{Receiver}
 use Rattle.cdp_packets.specs.Packets.{Packet as Frame}
 use Rattle.services_files.specs.Services.{services_say}
 use Rattle.words_files.specs.FramesOf.{AreFramesOf}
@@ -21,7 +17,8 @@ use Rattle.text_output.specs.Gathered.{IsGathered, held_of}
 use Rattle.command_base.specs.declared.status.Place.TheVariants.{Byte}
 use Rattle.command_base.specs.declared.status.Status.{Status}
 use Rattle.command_base.specs.declared.status.Status.TheVariants as status
-use Rattle.scc_commands.specs.Export.{AreExported, Cause, HasFinding, HasNoFinding, IsAnyhow, IsFoundAt, IsSteady, IsWholeFile, PassesDay, Stops, StopsEarly, export_front, exported, first_standing, stand_after, words_limit}
+use Rattle.words_commands.specs.WordsAnswer.{IsSteady, IsWholeFile}
+use Rattle.scc_commands.specs.Export.{AreExported, AtNone, Cause, HasFinding, HasNoFinding, IsAnyhow, IsFoundAt, PassesDay, Stops, StopsEarly, export_front, exported, first_standing, stand_after}
 use Rattle.scc_commands.specs.declared.exporting.Exporting.{Exporting}
 use Rattle.scc_commands.specs.declared.exporting.Stop.{Stop}
 use Rattle.scc_commands.specs.declared.exporting.Stop.TheVariants as stop
@@ -30,27 +27,6 @@ use Rattle.scc_commands.specs.declared.exporting.Stop.TheVariants as stop
 abbrev pub Finds : Frame → Option Kind45 → Type 0
 Finds frame None = HasNoFinding frame
 Finds frame (Some found) = HasFinding frame found
-
--- a receiver was fed these bytes, and so many may follow within the limit
-pub record MayBeFed (receiver : Receiver) (more : ℕ) : Type 0 where
-  pub before : List ℕ
-  pub received : HasReceived before receiver
-  pub few : frame_count receiver ≤ length before
-  pub within : length before + more ≤ words_limit
-
--- a receiver read a front of the bytes behind those before: it stopped behind the end of a packet, or read all of them
-pub record HasRead (before bytes : List ℕ) (old new : Receiver) (fed : Fed) : Type 0 where
-  pub received : HasReceived (before ++ take fed.used bytes) new
-  pub unoffending : IsUnoffending services_say (before ++ take fed.used bytes)
-  pub within : fed.used ≤ length bytes
-  pub moves : 0 < length bytes → 0 < fed.used
-  pub counts : Counts (frame_count old) (frame_count new) fed.ended
-
--- what a receiver answers for more bytes behind these
-abbrev pub Receives : List ℕ → List ℕ → Receiver → Receiver → Result Fed Refusal → Type 0
-Receives before bytes old new (Ok fed) = HasRead before bytes old new fed
-Receives before bytes old new (Err refusal) =
-    HasReceived (before ++ bytes) new × FirstOffendingWord services_say (before ++ bytes) refusal × (frame_count new ≡ frame_count old)
 
 -- an export before all bytes
 pub record Begins (time : TimeCode) (export : Exporting) : Type 0 where
@@ -148,7 +124,7 @@ stop_status stop.Day = status.Limit limit.Day
 -- the input was read to its end, its bytes are a words file of the frames, and this ends the SCC file of their pairs
 abbrev pub IsFileEndedBy : TimeCode → List ℕ → Option (List ℕ) → Cause
 IsFileEndedBy time ending left frames at judged unjudged =
-    IsWholeFile left frames at judged unjudged × (ending ≡ end_text (stand_after (first_standing time) (exported frames)).behind)
+    AtNone (IsWholeFile left) frames at judged unjudged × (ending ≡ end_text (stand_after (first_standing time) (exported frames)).behind)
 
 -- an input is read to its end, or the export stops before
 abbrev pub ReadsWords : TimeCode → Ends → Ends → Result (Bor (List ℕ)) Status → Type 0

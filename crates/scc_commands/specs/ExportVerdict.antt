@@ -13,7 +13,8 @@ use Rattle.time_codes.specs.declared.time_code.TimeCode.{TimeCode}
 use Rattle.services_files.specs.Services.{services_say}
 use Rattle.words_files.specs.FramesOf.{AreFramesOf}
 use Rattle.words_files.specs.Offences.{IsFileUnder, IsMalformed}
-use Rattle.scc_commands.specs.Export.{AreExported, ExportAnswer, HasFinding, StandsPastDay, words_limit}
+use Rattle.words_commands.specs.WordsAnswer.{words_limit}
+use Rattle.scc_commands.specs.Export.{AreExported, ExportAnswer, HasFinding, StandsPastDay}
 
 -- a words file within the limit, at none of whose frames anything is found, and none of whose pairs stands past the day
 abbrev pub FileIsExported : Type 0

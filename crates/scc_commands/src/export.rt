@@ -2,8 +2,10 @@ ghost use Rattle.std.specs.Prelude.{◌≡◌, [], List, ℕ, Option, true};
 ghost use Rattle.command_base.specs.Ends.{ends};
 ghost use Rattle.time_codes.specs.TimeCodes.{is_time_code};
 ghost use Rattle.time_codes.specs.declared.time_code.TimeCode.{TimeCode as Time};
-ghost use Rattle.scc_commands.specs.Export.{ExportAnswer, words_limit};
-ghost use Rattle.scc_commands.specs.ExportSteps.{HasPut, MayBeFed, ReadsWords};
+ghost use Rattle.words_commands.specs.WordsAnswer.{words_limit};
+ghost use Rattle.words_commands.specs.WordsReading.{MayBeFed};
+ghost use Rattle.scc_commands.specs.Export.{ExportAnswer};
+ghost use Rattle.scc_commands.specs.ExportSteps.{HasPut, ReadsWords};
 
 use crate::exporting::Exporting;
 use cc_base::{LimitOf, Put, Sink, Source, Took};
@@ -11,12 +13,7 @@ use command_base::Status;
 use scc_files::HEAD;
 use std::alloc::Global;
 use time_codes::TimeCode;
-
-/// The most bytes of a words file.
-const WORDS_LIMIT: usize = 2_147_483_647;
-
-/// The most bytes of a take.
-const TAKE: usize = 32_768;
+use words_commands::{TAKE, WORDS_LIMIT};
 
 /// Reads a words file, and puts the SCC file of its field 1 pairs, whose frame 0 has this time code, which a frame of the day must
 /// have. What one take gave is judged, and its text put, before the next take.

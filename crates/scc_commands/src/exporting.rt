@@ -8,8 +8,10 @@ ghost use Rattle.time_codes.specs.declared.time_code.TimeCode.{TimeCode as Time}
 ghost use Rattle.services_files.specs.Services.{services_say};
 ghost use Rattle.words_files.specs.FramesOf.{AreFramesOf};
 ghost use Rattle.words_files.specs.Offences.{IsUnoffending};
-ghost use Rattle.scc_commands.specs.Export.{export_front, exported, first_standing, stand_after, words_limit};
-ghost use Rattle.scc_commands.specs.ExportSteps.{Begins, EndsAt, HasJudged, HasStopped, Judges, JudgesAndPuts, MayBeFed, Receives, StepJudges, StopCause, StopsBy, WritesFrame, stop_status};
+ghost use Rattle.words_commands.specs.WordsAnswer.{words_limit};
+ghost use Rattle.words_commands.specs.WordsReading.{MayBeFed, Receives};
+ghost use Rattle.scc_commands.specs.Export.{export_front, exported, first_standing, stand_after};
+ghost use Rattle.scc_commands.specs.ExportSteps.{Begins, EndsAt, HasJudged, HasStopped, Judges, JudgesAndPuts, StepJudges, StopCause, StopsBy, WritesFrame, stop_status};
 
 use crate::finding::find;
 use cc_base::{LimitOf, Put, Refusal, Sink};

@@ -29,7 +29,7 @@ pub record Delayed (cs : List Caption) (start end : ℕ) : Type 0 where
   pub starts : caption.starts ≡ start
   pub ends : caption.show ≡ end
 
-delay_test : (start : ℕ) (c : Caption) → is_delayed_at start c ≡ true → (0 < c.tenths) × (c.starts ≡ start)
+pub delay_test : (start : ℕ) (c : Caption) → is_delayed_at start c ≡ true → (0 < c.tenths) × (c.starts ≡ start)
 delay_test start c test =
     let parts = and_parts (not (c.tenths == 0)) (c.starts == start) test in
     let some = parts.0 in
@@ -60,7 +60,7 @@ delay_some r frames cs start end kept is =
     omega (arith, d.starts, d.ends, shown, some)
 
 -- one of two captions is the other, or stands behind it
-two_of : (r : Rate) (frames : ℕ) (cs : List Caption) (a b : Caption) → AreKept r frames cs → Has a cs → Has b cs
+pub two_of : (r : Rate) (frames : ℕ) (cs : List Caption) (a b : Caption) → AreKept r frames cs → Has a cs → Has b cs
     → (a ≡ b) ⊎ (Follows a b ⊎ Follows b a)
 two_of r frames [] a b kept in_a in_b = absurd in_a
 two_of r frames (x ∷ xs) a b kept (inl is) (inl too) = inl (is ∙ sym too)

@@ -1,6 +1,6 @@
 -- The service blocks of a list are bytes.
-use Rattle.std.proofs.Common.{◌≡◌, ◌∙◌, ℕ, zero, suc, ◌+◌, ◌*◌, ◌<◌, ◌≤◌, ◌==◌, Bool, true, false, if◌then◌else◌, List, [], ◌∷◌, ◌++◌, Option, Some, None, All, length, refl, sym, ap, subst, arith, map}
-use Rattle.std.specs.Prelude.{find, nat_lt}
+use Rattle.std.proofs.Common.{◌≡◌, ℕ, suc, ◌+◌, ◌*◌, ◌<◌, ◌≤◌, ◌==◌, Bool, true, false, if◌then◌else◌, List, [], ◌∷◌, ◌++◌, Option, Some, None, All, length, refl, sym, subst, arith, map}
+use Rattle.std.specs.Prelude.{nat_lt}
 use Rattle.std.specs.List.{cons_option, flat_map, list_any, zip}
 use Rattle.std.proofs.lemmas.Bool.Decides.{nat_tests}
 use Rattle.std.proofs.lemmas.List.Elements.{All-append, All-cons, All-head, All-nil, All-tail}
@@ -12,7 +12,7 @@ use Rattle.cue_lists.specs.declared.cue.Kind.TheVariants.{Pop, Paint, Roll, Win}
 use Rattle.cue_lists.specs.declared.cue.WinCue.{WinCue}
 use Rattle.dtvcc_codes.specs.declared.commands.Command.{Command}
 use Rattle.dtvcc_codes.specs.declared.commands.Command.TheVariants.{Dlw, Dly, Dsw}
-use Rattle.dtvcc_codes.specs.Spellable.{IsSpellable}
+use Rattle.dtvcc_codes.specs.Spellable.{IsSpellable, is_skipped}
 use Rattle.dtvcc_codes.specs.Writing.{bit, written}
 use Rattle.dtvcc_codes.proofs.WrittenLemmas.{written_are_bytes}
 use Rattle.dtvcc_author.specs.Captions.{caption_of, caption_with, captions_of, window_caption}
@@ -24,19 +24,18 @@ use Rattle.dtvcc_author.proofs.WritableLemmas.{commands_writable}
 use Rattle.service_lanes.specs.ServiceBytes.{bytes_in, loads_at}
 use Rattle.service_lanes.specs.ServiceChunks.{chunk_of, chunks_from, chunks_with, service_chunks}
 use Rattle.service_lanes.specs.declared.chunk.Chunk.{Chunk}
-use Rattle.service_blocks.specs.Written.{block_for, block_written}
 use Rattle.frame_scheduler.specs.Blocks.{service_block}
 
 -- a byte
 abbrev pub IsByte : ℕ → Type 0
 IsByte byte = byte < 256
 
--- what is written of commands that can be spelled is bytes
-written_bytes : (commands : List Command) → All IsSpellable commands → All IsByte (flat_map written commands)
+-- what is written of commands that have bytes is these
+written_bytes : (commands : List Command) → All IsWritable commands → All IsByte (flat_map written commands)
 written_bytes [] all = All-nil IsByte
 written_bytes (command ∷ commands) all =
-    All-append IsByte (written command) (flat_map written commands) (written_are_bytes command (All-head IsSpellable command commands all))
-    (written_bytes commands (All-tail IsSpellable command commands all))
+    All-append IsByte (written command) (flat_map written commands) (written_are_bytes command (All-head IsWritable command commands all).spellable)
+    (written_bytes commands (All-tail IsWritable command commands all))
 
 -- a byte of windows is one
 bit_most : (on : Bool) (value : ℕ) → bit on value ≤ value
@@ -55,47 +54,51 @@ windows_are_byte named =
     let h = bit_most (named 7) 128 in
     omega (arith, a, b, c, d, e, f, g, h)
 
-one_command : (command : Command) → IsSpellable command → All IsSpellable (command ∷ [])
-one_command command is = All-cons IsSpellable command [] is (All-nil IsSpellable)
+one_command : (command : Command) → IsSpellable command → is_skipped command ≡ false → All IsWritable (command ∷ [])
+one_command command is unskipped = All-cons IsWritable command [] (record { spellable = is; unskipped = unskipped }) (All-nil IsWritable)
 
-dlw_spellable : (test : Caption → Bool) (cs : List Caption) → All IsSpellable (windows_command Dlw test cs)
-dlw_spellable test cs = at (list_any test cs)
+dlw_writable : (test : Caption → Bool) (cs : List Caption) → All IsWritable (windows_command Dlw test cs)
+dlw_writable test cs = at (list_any test cs)
   where
-    at : (b : Bool) → All IsSpellable (if b then Dlw (windows_byte (names test cs)) ∷ [] else [])
-    at true = one_command (Dlw (windows_byte (names test cs))) (windows_are_byte (names test cs))
-    at false = All-nil IsSpellable
+    at : (b : Bool) → All IsWritable (if b then Dlw (windows_byte (names test cs)) ∷ [] else [])
+    at true = one_command (Dlw (windows_byte (names test cs))) (windows_are_byte (names test cs)) refl
+    at false = All-nil IsWritable
 
-dsw_spellable : (test : Caption → Bool) (cs : List Caption) → All IsSpellable (windows_command Dsw test cs)
-dsw_spellable test cs = at (list_any test cs)
+dsw_writable : (test : Caption → Bool) (cs : List Caption) → All IsWritable (windows_command Dsw test cs)
+dsw_writable test cs = at (list_any test cs)
   where
-    at : (b : Bool) → All IsSpellable (if b then Dsw (windows_byte (names test cs)) ∷ [] else [])
-    at true = one_command (Dsw (windows_byte (names test cs))) (windows_are_byte (names test cs))
-    at false = All-nil IsSpellable
+    at : (b : Bool) → All IsWritable (if b then Dsw (windows_byte (names test cs)) ∷ [] else [])
+    at true = one_command (Dsw (windows_byte (names test cs))) (windows_are_byte (names test cs)) refl
+    at false = All-nil IsWritable
 
 -- a DELAY is a byte
-abbrev IsShort : Caption → Type 0
+abbrev pub IsShort : Caption → Type 0
 IsShort c = c.tenths < 256
 
-delay_spellable : (frame : ℕ) (cs : List Caption) → All IsShort cs → All IsSpellable (delay_commands (delayed_at frame cs))
-delay_spellable frame [] all = All-nil IsSpellable
-delay_spellable frame (c ∷ cs) all = at (is_delayed_at frame c) (delay_spellable frame cs (All-tail IsShort c cs all))
+delay_writable : (frame : ℕ) (cs : List Caption) → All IsShort cs → All IsWritable (delay_commands (delayed_at frame cs))
+delay_writable frame [] all = All-nil IsWritable
+delay_writable frame (c ∷ cs) all = at (is_delayed_at frame c) (delay_writable frame cs (All-tail IsShort c cs all))
   where
-    at : (b : Bool) → All IsSpellable (delay_commands (delayed_at frame cs)) → All IsSpellable (delay_commands (if b then Some c else delayed_at frame cs))
+    at : (b : Bool) → All IsWritable (delay_commands (delayed_at frame cs)) → All IsWritable (delay_commands (if b then Some c else delayed_at frame cs))
     at true rest =
-        All-cons IsSpellable (Dly c.tenths) (Dsw (windows_byte (λ id. c.id == id)) ∷ []) (All-head IsShort c cs all)
-        (one_command (Dsw (windows_byte (λ id. c.id == id))) (windows_are_byte (λ id. c.id == id)))
+        All-append IsWritable (Dly c.tenths ∷ []) (Dsw (windows_byte (λ id. c.id == id)) ∷ [])
+        (one_command (Dly c.tenths) (All-head IsShort c cs all) refl)
+        (one_command (Dsw (windows_byte (λ id. c.id == id))) (windows_are_byte (λ id. c.id == id)) refl)
     at false rest = rest
 
+-- the events of a frame have bytes
+pub events_writable : (frame : ℕ) (cs : List Caption) → All IsShort cs → All IsWritable (event_commands frame cs)
+events_writable frame cs short =
+    All-append IsWritable (windows_command Dlw (is_hidden_at frame) cs ++ windows_command Dsw (is_shown_at frame) cs) (delay_commands (delayed_at frame cs))
+    (All-append IsWritable (windows_command Dlw (is_hidden_at frame) cs) (windows_command Dsw (is_shown_at frame) cs)
+    (dlw_writable (is_hidden_at frame) cs) (dsw_writable (is_shown_at frame) cs))
+    (delay_writable frame cs short)
+
 events_are_bytes : (frame : ℕ) (cs : List Caption) → All IsShort cs → All IsByte (event_bytes frame cs)
-events_are_bytes frame cs short =
-    written_bytes (event_commands frame cs)
-    (All-append IsSpellable (windows_command Dlw (is_hidden_at frame) cs ++ windows_command Dsw (is_shown_at frame) cs) (delay_commands (delayed_at frame cs))
-    (All-append IsSpellable (windows_command Dlw (is_hidden_at frame) cs) (windows_command Dsw (is_shown_at frame) cs)
-    (dlw_spellable (is_hidden_at frame) cs) (dsw_spellable (is_shown_at frame) cs))
-    (delay_spellable frame cs short))
+events_are_bytes frame cs short = written_bytes (event_commands frame cs) (events_writable frame cs short)
 
 -- the captions of formed cues
-captions_short : (r : Rate) (service : ℕ) (cues : List Cue) → All IsCueFormed cues → All IsShort (captions_of r service cues)
+pub captions_short : (r : Rate) (service : ℕ) (cues : List Cue) → All IsCueFormed cues → All IsShort (captions_of r service cues)
 captions_short r service [] formed = All-nil IsShort
 captions_short r service (cue ∷ cues) formed =
     at cue.kind (All-head IsCueFormed cue cues formed).kind (captions_short r service cues (All-tail IsCueFormed cue cues formed))

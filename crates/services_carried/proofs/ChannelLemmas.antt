@@ -1,23 +1,24 @@
 -- The frames of a programme carry a caption channel: their packets, one for each frame with service blocks, with just these.
-use Rattle.std.proofs.Common.{◌≡◌, ◌∙◌, ℕ, zero, suc, ◌+◌, ◌-◌, ◌%◌, ◌<◌, ◌≤◌, ◌==◌, ◌&&◌, ◌||◌, Bool, true, false, if◌then◌else◌, List, [], ◌∷◌, ◌++◌, All, length, length-append, refl, sym, ap, subst, arith, append-nil, append_assoc, cond}
-use Rattle.std.specs.Prelude.{nat_le, nat_lt}
-use Rattle.std.specs.List.{filter}
+use Rattle.std.proofs.Common.{◌≡◌, ◌∙◌, ℕ, zero, suc, ◌+◌, ◌-◌, ◌%◌, ◌≤◌, ◌==◌, ◌||◌, Bool, true, false, if◌then◌else◌, List, [], ◌∷◌, ◌++◌, Option, Some, None, All, length, length-append, map, refl, sym, ap, subst, arith, append-nil, append_assoc, cond}
+use Rattle.std.specs.List.{flat_map}
 use Rattle.std.proofs.lemmas.Bool.Decides.{nat_tests}
 use Rattle.std.proofs.lemmas.List.Elements.{All-head, All-tail, filter-append}
 use Rattle.cc_base.specs.declared.rate.Rate.{Rate}
 use Rattle.cc_data.specs.declared.triplet.Triplet.{Triplet}
 use Rattle.cdp_packets.specs.PacketTriplets.{packet_triplets}
-use Rattle.channel_packets.specs.ChannelPackets.{AreChannelPackets, ChannelPacket, channel_triplets, continues, size_of, starts}
+use Rattle.channel_packets.specs.ChannelPackets.{ChannelPacket, channel_triplets, continues, is_gap, size_of, starts}
 use Rattle.channel_packets.specs.Written.{completed, header_for, packet_for, packet_written}
-use Rattle.channel_packets.proofs.LawLemmas.{header_for-size, packets-same, written-are}
-use Rattle.service_blocks.proofs.WrittenLemmas.{written_before}
-use Rattle.service_blocks.specs.Channels.{AreChannel, HaveBlocks}
+use Rattle.channel_packets.proofs.LawLemmas.{header_for-number, header_for-size, packets-same, written-are}
+use Rattle.service_blocks.proofs.WrittenLemmas.{Says-block_for, written_before}
+use Rattle.service_blocks.specs.declared.parts.BlockPart.{BlockPart}
+use Rattle.service_blocks.specs.declared.parts.BlockPart.TheVariants as part
+use Rattle.service_blocks.specs.BlockParts.{block_parts}
+use Rattle.service_blocks.specs.Channels.{AreChannel, said}
 use Rattle.service_blocks.specs.ServiceBlocks.{AreBlocks, Block, end, ended}
 use Rattle.service_blocks.specs.Written.{block_for, block_written}
-use Rattle.services_files.specs.WholeFiles.{CarryChannel, file_triplets}
+use Rattle.services_files.specs.WholeFiles.{file_triplets}
 use Rattle.frame_scheduler.specs.Columns.{Columns}
-use Rattle.frame_carrier.specs.Carried.{AreCarried, IsWithinRoom}
-use Rattle.frame_carrier.specs.Carrying.{channel_of, channel_packet, column_packets, frame_packet, packets_before}
+use Rattle.frame_carrier.specs.Carrying.{channel_of, channel_packet, column_packets, frame_packet, packet_count, packets_before}
 use Rattle.services_carried.specs.ServicesCarried.{HasBlocks, IsSent, ProgrammesAreWhole, Sent, sent_bytes}
 
 -- the blocks of what is sent
@@ -65,52 +66,71 @@ packet_blocks number sent bytes is all few = at (length bytes % 2 == 0) refl
         subst (AreBlocks (size_of (header_for number (length bytes))) (blocks_for sent)) (sym (done ∙ is ∙ sym (append-nil (sent_bytes sent))))
         (sent_blocks (size_of (header_for number (length bytes))) sent [] all (let same = ap length is in omega (arith, size, count, same)) tt)
 
--- triplets that are a channel, behind the packet of a frame
-record IsChannel (triplets : List Triplet) : Type 0 where
-  packets : List ChannelPacket
-  blocks : List (List Block)
-  channel : AreChannel packets blocks triplets
+-- what the blocks of what is sent say
+abbrev pub parts_sent : List Sent → List BlockPart
+parts_sent [] = []
+parts_sent (sent ∷ more) = map (part.Byte sent.service) sent.bytes ++ parts_sent more
 
-module _ (rate : Rate) (columns : Columns) (has : (frame : ℕ) → HasBlocks columns frame)
-    (room : (frame : ℕ) → IsWithinRoom rate (columns frame) (channel_of columns frame) (frame_packet rate frame (columns frame) (channel_of columns frame))) where
-  -- the triplets of channel packets of frames are those of the first one and of the others
-  first_channel : (frame n : ℕ) → channel_triplets (file_triplets (column_packets rate columns frame (suc n)))
-      ≡ channel_of columns frame ++ channel_triplets (file_triplets (column_packets rate columns (suc frame) n))
-  first_channel frame n =
-      filter-append (λ t. starts t || continues t) (packet_triplets (frame_packet rate frame (columns frame) (channel_of columns frame)))
-      (file_triplets (column_packets rate columns (suc frame) n))
-      ∙ ap (λ l. l ++ channel_triplets (file_triplets (column_packets rate columns (suc frame) n))) (room frame).service
+blocks_say : (sent : List Sent) → All IsSent sent → flat_map block_parts (blocks_for sent) ≡ parts_sent sent
+blocks_say [] all = refl
+blocks_say (sent ∷ more) all =
+    let own = All-head IsSent sent more all in
+    ap (λ ps. ps ++ flat_map block_parts (blocks_for more)) (Says-block_for sent.service sent.bytes own.least own.most own.some own.few).says
+    ∙ ap (λ ps. map (part.Byte sent.service) sent.bytes ++ ps) (blocks_say more (All-tail IsSent sent more all))
 
-  -- a packet in front
-  with_packet : (number : ℕ) (sent : List Sent) (bytes : List ℕ) (rest : List Triplet) → bytes ≡ sent_bytes sent → All IsSent sent → 1 ≤ length bytes → length bytes ≤ 35
-      → IsChannel rest → IsChannel (packet_written number bytes ++ rest)
-  with_packet number sent bytes rest is all some few channel = record {
-    packets = packet_for number bytes ∷ channel.packets;
-    blocks = blocks_for sent ∷ channel.blocks;
-    channel = record {
-      packets_are = written-are number bytes rest channel.packets some (omega (arith, few)) channel.channel.packets_are;
-      blocks_are = (packet_blocks number sent bytes is all (omega (arith, few)), channel.channel.blocks_are);
-    };
-  }
+-- no bytes are of nothing that is sent
+nothing_sent : (sent : List Sent) → [] ≡ sent_bytes sent → parts_sent sent ≡ []
+nothing_sent [] none = refl
+nothing_sent (sent ∷ more) none = absurd cc
 
-  -- or none
-  with_frame : (count : ℕ) (bytes : List ℕ) (sent : List Sent) (rest : List Triplet) → bytes ≡ sent_bytes sent → All IsSent sent → length bytes ≤ 35
-      → IsChannel rest → IsChannel (channel_packet count bytes ++ rest)
-  with_frame count [] sent rest is all few channel = channel
-  with_frame count (byte ∷ bytes) sent rest is all few channel = with_packet (count % 4) sent (byte ∷ bytes) rest is all (omega arith) few channel
+-- behind so many packets the last one has this number
+abbrev IsLast : ℕ → Option ℕ → Type 0
+IsLast count None = Unit {0}
+IsLast count (Some last) = (last + 1) % 4 ≡ count % 4
 
-  -- the frames from one on
-  channel_from : (frame n : ℕ) → IsChannel (channel_triplets (file_triplets (column_packets rate columns frame n)))
-  channel_from frame zero = record {
-    packets = [];
-    blocks = [];
-    channel = record { packets_are = record { strays = []; stretches = []; spelled = refl; strays_are = refl; stretches_are = refl; packets_are = refl }; blocks_are = tt };
-  }
-  channel_from frame (suc n) =
-      let own = has frame in
-      subst IsChannel (sym (first_channel frame n))
-      (with_frame (packets_before columns frame) (columns frame).blocks.items own.sent (channel_triplets (file_triplets (column_packets rate columns (suc frame) n)))
-      own.blocks own.are own.few (channel_from (suc frame) n))
+-- so the next one isn't behind a gap
+no_gap : (count : ℕ) (last : Option ℕ) → IsLast count last → is_gap last (count % 4) ≡ false
+no_gap count None behind = refl
+no_gap count (Some last) behind = let same : (count % 4 == (last + 1) % 4) ≡ true = grind (arith, nat_tests) in rw same refl
+
+-- triplets that are a channel, of which this is said behind a packet of the last number
+pub record IsChannel (last : Option ℕ) (says : List BlockPart) (triplets : List Triplet) : Type 0 where
+  pub packets : List ChannelPacket
+  pub blocks : List (List Block)
+  pub channel : AreChannel packets blocks triplets
+  pub says_are : said last packets blocks ≡ says
+
+-- a packet in front
+with_packet : (last : Option ℕ) (count : ℕ) (sent : List Sent) (bytes : List ℕ) (says : List BlockPart) (rest : List Triplet) → IsLast count last
+    → bytes ≡ sent_bytes sent → All IsSent sent → 1 ≤ length bytes → length bytes ≤ 35 → IsChannel (Some (count % 4)) says rest
+    → IsChannel last (parts_sent sent ++ says) (packet_written (count % 4) bytes ++ rest)
+with_packet last count sent bytes says rest behind is all some few channel =
+    let number = count % 4 in
+    let others = λ (n : ℕ). said (Some n) channel.packets channel.blocks in
+    let reset = λ (gap : Bool). let parts : List BlockPart = if gap then part.Reset ∷ [] else [] in parts in
+    record {
+      packets = packet_for number bytes ∷ channel.packets;
+      blocks = blocks_for sent ∷ channel.blocks;
+      channel = record {
+        packets_are = written-are number bytes rest channel.packets some (omega (arith, few)) channel.channel.packets_are;
+        blocks_are = (packet_blocks number sent bytes is all (omega (arith, few)), channel.channel.blocks_are);
+      };
+      says_are = ap (λ n. reset (is_gap last n) ++ (flat_map block_parts (blocks_for sent) ++ others n)) (header_for-number number (length bytes))
+          ∙ ap (λ gap. reset gap ++ (flat_map block_parts (blocks_for sent) ++ others number)) (no_gap count last behind)
+          ∙ ap (λ ps. ps ++ others number) (blocks_say sent all)
+          ∙ ap (λ ps. parts_sent sent ++ ps) channel.says_are;
+    }
+
+-- or none
+with_frame : (last : Option ℕ) (count : ℕ) (bytes : List ℕ) (sent : List Sent) (says : List BlockPart) (rest : List Triplet) → IsLast count last
+    → bytes ≡ sent_bytes sent → All IsSent sent → length bytes ≤ 35
+    → ((next : Option ℕ) → IsLast (count + packet_count bytes) next → IsChannel next says rest)
+    → IsChannel last (parts_sent sent ++ says) (channel_packet count bytes ++ rest)
+with_frame last count [] sent says rest behind is all few channel =
+    let same : count ≡ count + 0 = omega arith in
+    subst (λ ps. IsChannel last (ps ++ says) rest) (sym (nothing_sent sent is)) (channel last (subst (λ n. IsLast n last) same behind))
+with_frame last count (byte ∷ bytes) sent says rest behind is all few channel =
+    with_packet last count sent (byte ∷ bytes) says rest behind is all (omega arith) few (channel (Some (count % 4)) (omega arith))
 
 -- the triplets of channel packets are their own
 channel_twice : (triplets : List Triplet) → channel_triplets (channel_triplets triplets) ≡ channel_triplets triplets
@@ -122,15 +142,53 @@ channel_twice (t ∷ triplets) = at (starts t || continues t) refl (channel_twic
     at true is rest = rw is (ap (λ l. t ∷ l) rest)
     at false is rest = rest
 
+module _ (rate : Rate) (columns : Columns) (has : (frame : ℕ) → HasBlocks columns frame)
+    (own : (frame : ℕ) → channel_triplets (packet_triplets (frame_packet rate frame (columns frame) (channel_of columns frame))) ≡ channel_of columns frame) where
+  -- what the frames from one on say
+  abbrev pub parts_from : ℕ → ℕ → List BlockPart
+  parts_from frame zero = []
+  parts_from frame (suc n) = parts_sent (has frame).sent ++ parts_from (suc frame) n
+
+  -- the triplets of channel packets of frames are those of the first one and of the others
+  first_channel : (frame n : ℕ) → channel_triplets (file_triplets (column_packets rate columns frame (suc n)))
+      ≡ channel_of columns frame ++ channel_triplets (file_triplets (column_packets rate columns (suc frame) n))
+  first_channel frame n =
+      filter-append (λ t. starts t || continues t) (packet_triplets (frame_packet rate frame (columns frame) (channel_of columns frame)))
+      (file_triplets (column_packets rate columns (suc frame) n))
+      ∙ ap (λ l. l ++ channel_triplets (file_triplets (column_packets rate columns (suc frame) n))) (own frame)
+
+  -- the frames from one on
+  channel_from : (frame n : ℕ) (last : Option ℕ) → IsLast (packets_before columns frame) last
+      → IsChannel last (parts_from frame n) (channel_triplets (file_triplets (column_packets rate columns frame n)))
+  channel_from frame zero last behind = record {
+    packets = [];
+    blocks = [];
+    channel = record { packets_are = record { strays = []; stretches = []; spelled = refl; strays_are = refl; stretches_are = refl; packets_are = refl }; blocks_are = tt };
+    says_are = refl;
+  }
+  channel_from frame (suc n) last behind =
+      let here = has frame in
+      let rest = channel_triplets (file_triplets (column_packets rate columns (suc frame) n)) in
+      subst (IsChannel last (parts_from frame (suc n))) (sym (first_channel frame n))
+      (with_frame last (packets_before columns frame) (columns frame).blocks.items here.sent (parts_from (suc frame) n) rest behind here.blocks here.are here.few
+      (channel_from (suc frame) n))
+
+  -- all triplets of the frames up to one
+  pub channel_of_first : (n : ℕ) → IsChannel None (parts_from 0 n) (file_triplets (column_packets rate columns 0 n))
+  channel_of_first n =
+      let triplets = file_triplets (column_packets rate columns 0 n) in
+      let all = channel_from 0 n None tt in
+      record {
+        packets = all.packets;
+        blocks = all.blocks;
+        channel = record {
+          packets_are = packets-same all.packets (channel_triplets triplets) triplets (channel_twice triplets) all.channel.packets_are;
+          blocks_are = all.channel.blocks_are;
+        };
+        says_are = all.says_are;
+      }
+
 pub programmes_whole : ProgrammesAreWhole
 programmes_whole rate columns n has carried =
-    let packets = column_packets rate columns 0 n in
-    let all = channel_from rate columns has carried.room 0 n in
-    record {
-      packets = all.packets;
-      blocks = all.blocks;
-      channel = record {
-        packets_are = packets-same all.packets (channel_triplets (file_triplets packets)) (file_triplets packets) (channel_twice (file_triplets packets)) all.channel.packets_are;
-        blocks_are = all.channel.blocks_are;
-      };
-    }
+    let all = channel_of_first rate columns has (λ frame. (carried.room frame).service) n in
+    record { packets = all.packets; blocks = all.blocks; channel = all.channel }

@@ -1,3 +1,5 @@
 pub mod RoomLemmas
 pub mod ByteLemmas
 pub mod ChannelLemmas
+pub mod ToldLemmas
+pub mod LaneLemmas

@@ -1,28 +1,27 @@
 -- The frames of a list have room for its service blocks.
-use Rattle.std.proofs.Common.{◌≡◌, ◌∙◌, ℕ, zero, suc, ◌+◌, ◌-◌, ◌*◌, ◌%◌, ◌<◌, ◌≤◌, ◌==◌, Bool, true, false, if◌then◌else◌, List, [], ◌∷◌, ◌++◌, Option, Some, None, All, length, length-append, refl, sym, ap, subst, arith, append-nil, append_assoc, map}
-use Rattle.std.specs.Prelude.{IsSome, nat_lt, option_map, unwrap_or}
-use Rattle.std.specs.List.{flat_map, list_any, zip}
-use Rattle.std.proofs.lemmas.Bool.{eqb-true}
+use Rattle.std.proofs.Common.{◌≡◌, ◌∙◌, ℕ, ◌+◌, ◌*◌, ◌%◌, ◌≤◌, ◌==◌, Bool, true, false, List, [], ◌∷◌, ◌++◌, Option, Some, None, All, length, length-append, refl, sym, ap, subst, arith, append-nil, append_assoc}
+use Rattle.std.specs.Prelude.{nat_lt, option_map, unwrap_or}
+use Rattle.std.specs.List.{flat_map, zip}
 use Rattle.std.proofs.lemmas.Bool.Decides.{nat_tests}
-use Rattle.std.proofs.lemmas.List.Elements.{All-append, All-cons, All-head, All-nil, All-tail}
+use Rattle.std.proofs.lemmas.List.Elements.{All-append, All-cons, All-nil}
 use Rattle.cc_base.specs.Rate.{triplets_of}
 use Rattle.cc_base.specs.declared.rate.Rate.{Rate}
 use Rattle.cc_base.specs.declared.rate.Rate.TheVariants as rate
-use Rattle.cc_data.specs.declared.triplet.Triplet.{Triplet}
 use Rattle.line21_codes.specs.declared.channels.Chan.TheVariants.{Cc1, Cc3}
 use Rattle.line21_codes.specs.declared.pairs.Pair.{Pair}
-use Rattle.line21_slots.specs.Cadences.{cadence_of, has_slot_in, slot_in}
+use Rattle.line21_slots.specs.Cadences.{cadence_of, slot_in}
 use Rattle.cue_lists.specs.Listing.{IsFormed, IsListRate, Listing, share_of}
 use Rattle.cue_lists.specs.Rules.{IsRuled}
 use Rattle.cue_lists.specs.Shares.{share_room}
 use Rattle.cue_lists.specs.declared.lane.Lane.TheVariants.{Channel, Service}
-use Rattle.service_blocks.specs.Written.{block_for, block_written}
+use Rattle.service_blocks.specs.Written.{block_written}
 use Rattle.service_lanes.specs.ServiceBytes.{bytes_in}
 use Rattle.service_lanes.proofs.ChunkOrderLemmas.{none_sent}
 use Rattle.services_carried.specs.ServicesCarried.{HasBlocks, IsSent, Sent, sent_bytes}
+use Rattle.services_carried.specs.Told.{UnsharedAreSilent}
 use Rattle.service_lanes.proofs.PlaceLemmas.{within_share}
 use Rattle.frame_scheduler.specs.Blocks.{service_block}
-use Rattle.frame_scheduler.specs.Planned.{IsLanePlaced, IsListPlaced, Placement, captions_in, channel_pair, chunks_in, columns_of, frame_blocks, service_bytes, services, share_in}
+use Rattle.frame_scheduler.specs.Planned.{IsListPlaced, Placement, captions_in, channel_pair, chunks_in, columns_of, frame_blocks, service_bytes, services, share_in}
 use Rattle.frame_scheduler.proofs.PlanLemmas.{no_block, room_most, weight, weight_is, weights, weights_taken}
 use Rattle.frame_scheduler.proofs.ServicesLemmas.{share_is}
 use Rattle.line21_slots.specs.declared.cadence.Cadence.TheVariants.{EvenFrames, OddFrames}
@@ -30,9 +29,19 @@ use Rattle.frame_scheduler.specs.ChannelLane.{channel_slot}
 use Rattle.frame_scheduler.specs.SlotLists.{slot_cues}
 use Rattle.frame_carrier.specs.Carried.{AreRoomy}
 use Rattle.services_carried.proofs.ByteLemmas.{IsByte, block_are_bytes, service_are_bytes}
-use Rattle.frame_carrier.specs.Carrying.{channel_of, channel_packet, packets_before}
-use Rattle.frame_carrier.specs.FrameTriplets.{field_triplets, front_triplets}
+use Rattle.frame_carrier.specs.Carrying.{channel_of, packets_before}
+use Rattle.frame_carrier.specs.FrameTriplets.{field_triplets}
 use Rattle.frame_carrier.proofs.CarryingLemmas.{packet_few}
+
+-- a service without a share is sent nothing
+pub unshared_silent : UnsharedAreSilent
+unshared_silent l formed ruled service none =
+    let sent = none_sent l service ruled none in
+    record {
+      captions = sent.0;
+      chunks = sent.1;
+      bytes = λ frames frame. ap (λ cs. bytes_in cs (zip (chunks_in l service) frames) frame) sent.0 ∙ ap (λ us. bytes_in [] (zip us frames) frame) sent.1;
+    }
 
 -- a block has its bytes and a header
 block_length : (service : ℕ) (bytes : List ℕ) → service ≤ 6 → length (service_block service bytes) ≤ length bytes + 1
@@ -170,7 +179,7 @@ frames_roomy l placed formed ruled all frame =
     omega (arith, one, two, whole, rest, most)
 
 -- what a service is sent in a frame, if it is sent something
-abbrev sent_of : ℕ → List ℕ → List Sent
+abbrev pub sent_of : ℕ → List ℕ → List Sent
 sent_of service [] = []
 sent_of service (byte ∷ bytes) = record { service = service; bytes = byte ∷ bytes } ∷ []
 
@@ -196,11 +205,7 @@ module _ (l : Listing) (placed : Placement) (formed : IsFormed l) (ruled : IsRul
   few_bytes service = at (share_of l service) refl
     where
       at : (o : Option ℕ) → share_of l service ≡ o → length (own service) ≤ 31
-      at None none =
-          let sent = none_sent l service ruled none in
-          let none_here = ap (λ cs. length (bytes_in cs (zip (chunks_in l service) (placed (Service service))) frame)) sent.0
-          ∙ ap (λ us. length (bytes_in [] (zip us (placed (Service service))) frame)) sent.1 in
-          omega (arith, none_here)
+      at None none = let nothing = ap length ((unshared_silent l formed ruled service none).bytes (placed (Service service)) frame) in omega (arith, nothing)
       at (Some share) some =
           let most = share_is l formed ruled service share some in
           let within = bytes_within l placed formed ruled all service share frame some in
@@ -231,3 +236,8 @@ module _ (l : Listing) (placed : Placement) (formed : IsFormed l) (ruled : IsRul
     blocks = all_bytes services;
     few = let within = blocks_within l placed formed ruled all frame in let most = room_most l.rate in omega (arith, within, most);
   }
+
+  -- what is sent there is what each service has
+  pub blocks_sent : has_blocks.sent ≡ flat_map (λ service. sent_of service (own service)) services
+  unfolding has_blocks
+  blocks_sent = refl

@@ -1,1 +1,2 @@
 pub mod ServicesCarried
+pub mod Told

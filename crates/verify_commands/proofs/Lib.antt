@@ -1,4 +1,3 @@
-pub mod PieceLemmas
 pub mod StepLemmas
 pub mod StopLemmas
 pub mod AnswerLemmas

@@ -1,29 +1,23 @@
 -- A piece of words is judged by a verifier.
-use Rattle.std.proofs.Common.{◌≡◌, ◌∙◌, ◌+◌, ◌-◌, ◌++◌, ◌<◌, ◌≤◌, ap, append_assoc, arith, drop, length, length-append, subst, sym, take, ℕ, List, [], Ok, Err, Some, None}
-use Rattle.std.proofs.lemmas.List.{length-take-le, take-append-drop}
+use Rattle.std.proofs.Common.{◌≡◌, ◌∙◌, ◌+◌, ◌-◌, ◌++◌, ◌<◌, ◌≤◌, arith, drop, length, subst, sym, take, ℕ, List, [], Ok, Err, Some, None}
 use Rattle.cc_base.specs.declared.refusal.Refusal.{Refusal}
-use Rattle.cc_receiver.proofs.TakenLemmas.{frames_count}
-use Rattle.cc_receiver.specs.Feeds.{Counts}
+use Rattle.cc_receiver.proofs.FedFrames.{counted_nothing, counts_one, frames_still, nothing_offends}
 use Rattle.cc_receiver.specs.Receivers.{frame_count}
-use Rattle.cc_receiver.specs.declared.receiver.Ended.{Ended}
-use Rattle.cc_receiver.specs.declared.receiver.Ended.TheVariants as ended
 use Rattle.cc_receiver.specs.declared.receiver.Fed.{Fed}
-use Rattle.cc_verifier.proofs.VerifierLemmas.{found_is, found_none, frames_still, nothing_is_file}
+use Rattle.cc_verifier.proofs.VerifierLemmas.{found_is, found_none}
 use Rattle.cc_verifier.specs.Findings.{AreClean, FirstFinding}
 use Rattle.cc_verifier.specs.Verifiers.{FeedsOn, FindsOn, HasVerified, finding_of, frames_of, list_of}
 use Rattle.cc_verifier.specs.declared.verifier.Verifier.{Verifier}
 use Rattle.cue_types.specs.Listing.{Listing}
 use Rattle.findings.specs.declared.finding.Finding.{Finding}
-use Rattle.services_files.specs.Services.{services_say}
-use Rattle.verify_commands.proofs.PieceLemmas.{nothing_offends}
+use Rattle.words_commands.proofs.PieceLemmas.{front_size, front_spelled}
 use Rattle.words_commands.specs.WordsAnswer.{words_limit}
-use Rattle.words_files.proofs.FramesOfLemmas.{file_frames}
 use Rattle.verify_commands.specs.Verifying.{HasFound, HasJudged, HasOffended, MayBeFed}
 
 -- a verifier that was fed nothing
 pub judged_nothing : (list : Listing) (verifier : Verifier) → HasVerified [] verifier → list_of verifier ≡ list → finding_of verifier ≡ None → HasJudged list [] verifier
 judged_nothing list verifier verified own nothing =
-    let count = frames_count [] [] verifier.receiver verified.received (file_frames services_say [] [] nothing_is_file) in
+    let count = counted_nothing verifier.receiver verified.received in
     record { verified = verified; list_is = own; nothing = nothing; unoffending = nothing_offends; few = omega arith }
 
 pub may_begin : (verifier : Verifier) → HasJudged (list_of verifier) [] verifier → MayBeFed verifier words_limit
@@ -62,22 +56,11 @@ step_found list before bytes old new fed finding had feeds verified own found = 
   frames = verified.frames;
   judged = before ++ take fed.used bytes;
   unjudged = drop fed.used bytes;
-  spelled = ap (λ l. before ++ l) (sym (take-append-drop fed.used bytes)) ∙ sym (append_assoc before (take fed.used bytes) (drop fed.used bytes));
+  spelled = front_spelled before bytes fed.used;
   frames_are = verified.frames_are;
   first = subst (λ (l : Listing). FirstFinding l verified.frames finding) (own ∙ had.list_is) (found_is (before ++ take fed.used bytes) new verified finding found);
   unoffending = feeds.unoffending;
 }
-
--- at most one frame is counted
-counts_one : (before now : ℕ) (answer : Ended) → Counts before now answer → now ≤ before + 1
-counts_one before now ended.Caption counts = omega arith
-counts_one before now ended.No counts = omega arith
-counts_one before now ended.Foreign counts = omega arith
-
--- a front of bytes behind others is no shorter than it
-front_size : (before bytes : List ℕ) (used : ℕ) → used ≤ length bytes → length (before ++ take used bytes) ≡ length before + used
-front_size before bytes used within =
-    length-append before (take used bytes) ∙ ap (λ n. length before + n) (length-take-le used bytes within)
 
 -- or nothing is found
 pub step_on : (list : Listing) (before bytes : List ℕ) (old new : Verifier) (fed : Fed) → HasJudged list before old

@@ -1,6 +1,5 @@
 -- Where the verifying of a words file ends, and why.
-use Rattle.std.proofs.Common.{◌≡◌, ◌∙◌, ◌+◌, ◌-◌, ◌++◌, ◌<◌, ◌≤◌, ap, append_assoc, append-nil, arith, inl, inr, length, length-append, refl, subst, sym, take, ℕ, List, [], ◌∷◌, IfSome, Option, Some, None, Ok, Err}
-use Rattle.std.proofs.KnownBytes.{Consumes-trans}
+use Rattle.std.proofs.Common.{◌≡◌, ◌∙◌, ◌+◌, ◌-◌, ◌++◌, ◌<◌, ◌≤◌, ap, append_assoc, append-nil, arith, inl, inr, length, length-append, refl, subst, sym, take, ℕ, List, [], Option, Ok, Err}
 use Rattle.std.specs.Io.KnownBytes.{Consumes, IsAtEnd, Keeps}
 use Rattle.cc_base.proofs.Takes.{consumes_kept}
 use Rattle.cc_base.specs.Streams.{Rose}
@@ -11,14 +10,17 @@ use Rattle.cc_verifier.specs.Findings.{AreClean}
 use Rattle.cc_verifier.specs.Verifiers.{Judges, list_of}
 use Rattle.cc_verifier.specs.declared.verifier.Verdict.TheVariants as verdict
 use Rattle.cc_verifier.specs.declared.verifier.Verifier.{Verifier}
+use Rattle.cdp_packets.specs.Packets.{Packet as Frame}
 use Rattle.command_base.specs.declared.status.Status.{Status}
 use Rattle.command_base.specs.declared.status.Status.TheVariants as status
 use Rattle.cue_types.specs.Listing.{Listing}
 use Rattle.findings.specs.declared.finding.Finding.{Finding}
 use Rattle.services_files.specs.Services.{services_say}
-use Rattle.verify_commands.proofs.PieceLemmas.{IsPiece, cut_short}
+use Rattle.words_commands.proofs.PieceLemmas.{IsPiece, all_taken, cut_short, nothing_taken, whole_piece, with_piece}
 use Rattle.words_commands.specs.WordsAnswer.{words_limit}
+use Rattle.words_files.specs.FramesOf.{AreFramesOf}
 use Rattle.words_files.proofs.FramesOfLemmas.{file_frames, frames_of_once}
+use Rattle.verify_commands.specs.VerifyAnswer.{Cause, Stops}
 use Rattle.verify_commands.specs.Verifying.{EndsAt, HasJudged, HasStopped, StopsEarly, VerifiesWords, stop_status}
 use Rattle.verify_commands.specs.declared.words.Stop.{Stop}
 use Rattle.verify_commands.specs.declared.words.Stop.TheVariants as stop
@@ -31,95 +33,63 @@ pub record IsUnderway (first left : Option (List ℕ)) (list : Listing) (verifie
   pub judged : HasJudged list taken verifier
 
 -- nothing was taken yet
-nothing_taken : (first : Option (List ℕ)) → Consumes first first []
-nothing_taken None = tt
-nothing_taken (Some bytes) = refl
-
 pub underway_begun : (first : Option (List ℕ)) (list : Listing) (verifier : Verifier) → HasJudged list [] verifier → IsUnderway first first list verifier words_limit
 underway_begun first list verifier judged = record { taken = []; consumed = nothing_taken first; within = refl; judged = judged }
-
--- what was taken up to the end of an input is all that it had
-all_taken : (first left : Option (List ℕ)) (taken : List ℕ) → Consumes first left taken → IsAtEnd left → IfSome first (λ bytes. bytes ≡ taken)
-all_taken None left taken consumed ended = tt
-all_taken (Some all) None taken consumed ended = absurd consumed
-all_taken (Some all) (Some rest) taken consumed ended = consumed ∙ ap (λ l. taken ++ l) ended ∙ append-nil taken
-
--- what was taken with a piece
-with_piece : (first left after : Option (List ℕ)) (taken piece rest whole : List ℕ) → Consumes first left taken → Consumes left after whole → whole ≡ piece ++ rest
-    → Consumes first after ((taken ++ piece) ++ rest)
-with_piece first left after taken piece rest whole consumed next is =
-    subst (Consumes first after) (ap (λ l. taken ++ l) is ∙ sym (append_assoc taken piece rest)) (Consumes-trans first left after taken whole consumed next)
 
 -- nothing is found in what was judged
 clean_so_far : (list : Listing) (bytes : List ℕ) (verifier : Verifier) (had : HasJudged list bytes verifier) → AreClean list had.verified.frames
 clean_so_far list bytes verifier had =
     subst (λ (l : Listing). AreClean l had.verified.frames) had.list_is (found_none bytes verifier had.verified had.nothing)
 
+-- what a run stops for, where the bytes judged are all that was taken
+judged_stops : (Why : Cause) (first left after : Option (List ℕ)) (list : Listing) (verifier : Verifier) (room : ℕ) (frames : List Frame)
+    → (on : IsUnderway first left list verifier room) → Keeps left after → AreFramesOf services_say frames on.taken → Why list frames on.taken []
+    → Stops list Why first after
+judged_stops Why first left after list verifier room frames on keeps are cause =
+    let within = on.within in
+    record {
+      frames = frames;
+      judged = on.taken;
+      unjudged = [];
+      taken = subst (Consumes first after) (sym (append-nil on.taken)) (consumes_kept first left after on.taken on.consumed keeps);
+      within = omega arith;
+      frames_are = are;
+      cause = cause;
+    }
+
 -- the input failed
 pub take_failed : (first left after : Option (List ℕ)) (before now : ℕ) (list : Listing) (verifier : Verifier) (room : ℕ) → IsUnderway first left list verifier room
     → Keeps left after → Rose before now → VerifiesWords list first after before now (Err status.ReadFault)
-take_failed first left after before now list verifier room on keeps rose =
-    let within = on.within in (
-      rose,
-      record {
-        frames = on.judged.verified.frames;
-        judged = on.taken;
-        unjudged = [];
-        taken = subst (Consumes first after) (sym (append-nil on.taken)) (consumes_kept first left after on.taken on.consumed keeps);
-        within = omega arith;
-        frames_are = on.judged.verified.frames_are;
-        cause = record { no_offence = (refl, on.judged.unoffending); clean = clean_so_far list on.taken verifier on.judged };
-      },
-    )
+take_failed first left after before now list verifier room on keeps rose = (
+  rose,
+  judged_stops _ first left after list verifier room on.judged.verified.frames on keeps on.judged.verified.frames_are
+      (record { no_offence = (refl, on.judged.unoffending); clean = clean_so_far list on.taken verifier on.judged }),
+)
 
 -- the input is verified
 pub file_ended : (first left after : Option (List ℕ)) (before now : ℕ) (list : Listing) (verifier : Verifier) (room : ℕ) → (on : IsUnderway first left list verifier room)
     → IsAtEnd left × Keeps left after → now ≡ before → EndsAt list on.taken (Ok tt) → VerifiesWords list first after before now (Ok tt)
-file_ended first left after before now list verifier room on (ended, keeps) steady (frames, file, clean, enough) =
-    let within = on.within in (
-      steady,
-      record {
-        frames = frames;
-        judged = on.taken;
-        unjudged = [];
-        taken = subst (Consumes first after) (sym (append-nil on.taken)) (consumes_kept first left after on.taken on.consumed keeps);
-        within = omega arith;
-        frames_are = file_frames services_say frames on.taken file;
-        cause = record { whole = ((all_taken first left on.taken on.consumed ended, refl), file); clean = clean; enough = enough };
-      },
-    )
+file_ended first left after before now list verifier room on (ended, keeps) steady (frames, file, clean, enough) = (
+  steady,
+  judged_stops _ first left after list verifier room frames on keeps (file_frames services_say frames on.taken file)
+      (record { whole = ((all_taken first left on.taken on.consumed ended, refl), file); clean = clean; enough = enough }),
+)
 
 -- or it isn't
 pub file_stopped : (first left after : Option (List ℕ)) (before now : ℕ) (list : Listing) (verifier : Verifier) (room : ℕ) (why : Stop)
     → (on : IsUnderway first left list verifier room) → IsAtEnd left × Keeps left after → now ≡ before → EndsAt list on.taken (Err why)
     → StopsEarly list first after before now (stop_status why)
-file_stopped first left after before now list verifier room (stop.Refused refusal) on (ended, keeps) steady (frames, are, clean, short) =
-    let within = on.within in (
-      steady,
-      record {
-        frames = frames;
-        judged = on.taken;
-        unjudged = [];
-        taken = subst (Consumes first after) (sym (append-nil on.taken)) (consumes_kept first left after on.taken on.consumed keeps);
-        within = omega arith;
-        frames_are = are;
-        cause = record { refused = inr ((all_taken first left on.taken on.consumed ended, refl), short); clean = clean };
-      },
-    )
+file_stopped first left after before now list verifier room (stop.Refused refusal) on (ended, keeps) steady (frames, are, clean, short) = (
+  steady,
+  judged_stops _ first left after list verifier room frames on keeps are
+      (record { refused = inr ((all_taken first left on.taken on.consumed ended, refl), short); clean = clean }),
+)
 file_stopped first left after before now list verifier room (stop.Found finding) on ends steady never = absurd never
-file_stopped first left after before now list verifier room (stop.Short count) on (ended, keeps) steady (frames, file, clean, is, few) =
-    let within = on.within in (
-      steady,
-      record {
-        frames = frames;
-        judged = on.taken;
-        unjudged = [];
-        taken = subst (Consumes first after) (sym (append-nil on.taken)) (consumes_kept first left after on.taken on.consumed keeps);
-        within = omega arith;
-        frames_are = file_frames services_say frames on.taken file;
-        cause = record { whole = ((all_taken first left on.taken on.consumed ended, refl), file); clean = clean; count_is = is; few = few };
-      },
-    )
+file_stopped first left after before now list verifier room (stop.Short count) on (ended, keeps) steady (frames, file, clean, is, few) = (
+  steady,
+  judged_stops _ first left after list verifier room frames on keeps (file_frames services_say frames on.taken file)
+      (record { whole = ((all_taken first left on.taken on.consumed ended, refl), file); clean = clean; count_is = is; few = few }),
+)
 
 -- a piece was judged, and the run stopped in it
 pub piece_stopped : (first left after : Option (List ℕ)) (before now : ℕ) (list : Listing) (verifier : Verifier) (room count : ℕ) (buffer piece rest : List ℕ) (why : Stop)
@@ -180,11 +150,6 @@ piece_passes first left after before now list verifier later room count buffer p
       },
     )
 
--- no bytes are left
-none_left : (rest : List ℕ) → length rest ≡ 0 → rest ≡ []
-none_left [] is = refl
-none_left (byte ∷ rest) is = absurd (omega arith)
-
 -- a piece was judged, and is all of the take
 pub piece_judged : (first left after : Option (List ℕ)) (list : Listing) (verifier later : Verifier) (room count : ℕ) (buffer piece rest : List ℕ)
     → (on : IsUnderway first left list verifier room) → Consumes left after (take count buffer) → IsPiece room count buffer piece rest → count ≤ room
@@ -192,13 +157,10 @@ pub piece_judged : (first left after : Option (List ℕ)) (list : Listing) (veri
 piece_judged first left after list verifier later room count buffer piece rest on next is whole had =
     let within = on.within in
     let size = is.size in
-    let more = is.rest_size in
     let sum = length-append on.taken piece in
-    let no_rest : rest ≡ [] = none_left rest (omega arith) in
     record {
       taken = on.taken ++ piece;
-      consumed = subst (Consumes first after) (ap (λ l. (on.taken ++ piece) ++ l) no_rest ∙ append-nil (on.taken ++ piece))
-          (with_piece first left after on.taken piece rest (take count buffer) on.consumed next is.spelled);
+      consumed = whole_piece first left after room count on.taken buffer piece rest on.consumed next is whole;
       within = omega arith;
       judged = had;
     }

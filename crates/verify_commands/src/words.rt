@@ -8,12 +8,7 @@ use cc_base::{LimitOf, Refusal, Source, Took};
 use cc_verifier::{Verdict, Verifier};
 use command_base::{Place, Status};
 use findings::Finding;
-
-/// The most bytes of a words file.
-const WORDS_LIMIT: usize = 2_147_483_647;
-
-/// The most bytes of a take.
-const TAKE: usize = 32_768;
+use words_commands::{TAKE, WORDS_LIMIT};
 
 /// Why the verifying of words stopped.
 #[derive(Clone, Copy, Debug, PartialEq, Eq)]

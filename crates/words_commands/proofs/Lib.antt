@@ -1,7 +1,9 @@
-mod FramesLemmas
+pub mod FedLemmas
 pub mod LongWordsLemmas
-mod PrintingLemmas
+pub mod PieceLemmas
+pub mod PrintingLemmas
 mod ReadingLemmas
 mod StopLemmas
+pub mod WayLemmas
 mod WordsAnswerLemmas
 pub mod WordsVerdictLemmas

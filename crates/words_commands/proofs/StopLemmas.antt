@@ -1,11 +1,10 @@
 -- Where the reading of a words file ends, and why.
-use Rattle.std.proofs.Common.{◌≡◌, ◌∙◌, ◌+◌, ◌-◌, ◌++◌, ◌<◌, ◌≤◌, ap, append_assoc, append-nil, arith, drop, inl, inr, length, length-append, min, refl, subst, sym, take, ℕ, List, [], ◌∷◌, IfSome, Option, Some, None, Ok, Err}
-use Rattle.std.proofs.lemmas.List.{length-drop, length-take-le, take-append-drop, take-take}
-use Rattle.std.specs.Io.KnownBytes.{Appends, Consumes, IsAtEnd, Keeps}
-use Rattle.std.proofs.KnownBytes.{Consumes-trans}
+use Rattle.std.proofs.Common.{◌≡◌, ◌∙◌, ◌+◌, ◌-◌, ◌++◌, ◌<◌, ◌≤◌, ap, append_assoc, append-nil, arith, inl, inr, length, length-append, refl, subst, sym, take, ℕ, List, [], Option, Ok, Err}
+use Rattle.std.specs.Io.KnownBytes.{Consumes, IsAtEnd, Keeps}
 use Rattle.cc_base.proofs.Takes.{consumes_kept}
 use Rattle.cc_base.specs.Streams.{Rose}
 use Rattle.cc_base.specs.declared.limit_of.LimitOf.TheVariants as limit
+use Rattle.cc_base.specs.declared.streams.Put.TheVariants as put
 use Rattle.cc_receiver.specs.Receivers.{HasReceived}
 use Rattle.cc_receiver.proofs.TakenLemmas.{frames_count}
 use Rattle.cdp_packets.specs.Packets.{Packet as Frame}
@@ -13,9 +12,9 @@ use Rattle.words_files.proofs.FramesOfLemmas.{file_frames, frames_of_once}
 use Rattle.services_files.specs.Services.{services_say}
 use Rattle.words_files.specs.Offences.{IsFileUnder, IsUnoffending}
 use Rattle.command_base.specs.Ends.{Ends, ends}
-use Rattle.text_output.specs.Gathered.{IsGathered, held_of}
+use Rattle.text_output.specs.Gathered.{held_of}
 use Rattle.words_commands.specs.Printing.{Prints}
-use Rattle.words_commands.specs.WordsAnswer.{StopsEarly, words_limit}
+use Rattle.words_commands.specs.WordsAnswer.{Cause, Stops, StopsEarly, words_limit}
 use Rattle.words_commands.specs.WordsReading.{EndsAt, HasJudged, HasPut, HasStopped, ReadsWords, StopCause, stop_status}
 use Rattle.words_commands.specs.declared.printer.Printer.{Printer}
 use Rattle.words_commands.specs.declared.reading.Reading.{Reading}
@@ -23,6 +22,8 @@ use Rattle.words_commands.specs.declared.reading.Stop.{Stop}
 use Rattle.words_commands.specs.declared.reading.Stop.TheVariants as stop
 use Rattle.command_base.specs.declared.status.Status.{Status}
 use Rattle.command_base.specs.declared.status.Status.TheVariants as status
+use Rattle.words_commands.proofs.PieceLemmas.{IsPiece, all_taken, nothing_taken, whole_piece, with_piece}
+use Rattle.words_commands.proofs.WayLemmas.{all_put}
 
 -- bytes were taken and judged, and the text of their frames was put; so many more are within the limit
 pub record IsUnderway (first left start now : Option (List ℕ)) (printer : Printer) (reading : Reading) (room : ℕ) : Type 0 where
@@ -31,20 +32,27 @@ pub record IsUnderway (first left start now : Option (List ℕ)) (printer : Prin
   pub within : length taken + room ≡ words_limit
   pub put_all : (text : List Frame → List ℕ) → Prints text [] printer → text [] ≡ [] → HasPut text start now taken reading
 
--- a text of which nothing is held was put
-all_put : (start now : Option (List ℕ)) (held all : List ℕ) → IsGathered start now held all → held ≡ [] → Appends start now all
-all_put start now held all way none =
-    subst (Appends start now) (sym (append-nil way.sent) ∙ ap (λ l. way.sent ++ l) (sym none) ∙ way.whole) way.appended
-
--- nothing was taken yet
-nothing_taken : (first : Option (List ℕ)) → Consumes first first []
-nothing_taken None = tt
-nothing_taken (Some bytes) = refl
-
 pub underway_begun : (first start : Option (List ℕ)) (printer : Printer) (reading : Reading)
     → ((text : List Frame → List ℕ) → Prints text [] printer → text [] ≡ [] → HasPut text start start [] reading)
     → IsUnderway first first start start printer reading words_limit
 underway_begun first start printer reading puts = record { taken = []; consumed = nothing_taken first; within = refl; put_all = puts }
+
+-- what a run stops for, where the bytes judged are all that was taken
+judged_stops : (text : List Frame → List ℕ) (Why : Cause) (first left after start now : Option (List ℕ)) (reads later writes still : ℕ) (printer : Printer) (reading : Reading) (room : ℕ)
+    → (on : IsUnderway first left start now printer reading room) → (had : HasPut text start now on.taken reading) → Keeps left after → Why had.judged.frames on.taken []
+    → Stops text Why put.Done (ends first reads start writes) (ends after later now still)
+judged_stops text Why first left after start now reads later writes still printer reading room on had keeps cause =
+    let within = on.within in
+    record {
+      frames = had.judged.frames;
+      judged = on.taken;
+      unjudged = [];
+      taken = subst (Consumes first after) (sym (append-nil on.taken)) (consumes_kept first left after on.taken on.consumed keeps);
+      within = omega arith;
+      frames_are = had.judged.frames_are;
+      cause = cause;
+      output = all_put start now (held_of reading.text) (text had.judged.frames) had.judged.way had.none_held;
+    }
 
 -- the input failed
 pub take_failed : (text : List Frame → List ℕ) (first left after start now : Option (List ℕ)) (reads later writes still : ℕ) (printer : Printer) (reading : Reading) (room : ℕ)
@@ -52,26 +60,7 @@ pub take_failed : (text : List Frame → List ℕ) (first left after start now :
     → StopsEarly text (ends first reads start writes) (ends after later now still) status.ReadFault
 take_failed text first left after start now reads later writes still printer reading room on prints none keeps rose same =
     let had = on.put_all text prints none in
-    let within = on.within in (
-      rose,
-      same,
-      record {
-        frames = had.judged.frames;
-        judged = on.taken;
-        unjudged = [];
-        taken = subst (Consumes first after) (sym (append-nil on.taken)) (consumes_kept first left after on.taken on.consumed keeps);
-        within = omega arith;
-        frames_are = had.judged.frames_are;
-        cause = (refl, had.judged.unoffending);
-        output = all_put start now (held_of reading.text) (text had.judged.frames) had.judged.way had.none_held;
-      },
-    )
-
--- what was taken up to the end of an input is all that it had
-all_taken : (first left : Option (List ℕ)) (taken : List ℕ) → Consumes first left taken → IsAtEnd left → IfSome first (λ bytes. bytes ≡ taken)
-all_taken None left taken consumed ended = tt
-all_taken (Some all) None taken consumed ended = absurd consumed
-all_taken (Some all) (Some rest) taken consumed ended = consumed ∙ ap (λ l. taken ++ l) ended ∙ append-nil taken
+    (rose, same, judged_stops text _ first left after start now reads later writes still printer reading room on had keeps (refl, had.judged.unoffending))
 
 -- the input is a words file
 pub file_ended : (text : List Frame → List ℕ) (first left after start now : Option (List ℕ)) (reads later writes still : ℕ) (printer : Printer) (reading : Reading) (room count : ℕ)
@@ -80,23 +69,13 @@ pub file_ended : (text : List Frame → List ℕ) (first left after start now : 
     → ReadsWords text (ends first reads start writes) (ends after later now still) (Ok count)
 file_ended text first left after start now reads later writes still printer reading room count on prints none (ended, keeps) steady same file =
     let had = on.put_all text prints none in
-    let within = on.within in
     let (is, (frames, is_file)) = file on.taken had.judged.received had.judged.unoffending in
     let frames_is = frames_of_once services_say frames had.judged.frames on.taken (file_frames services_say frames on.taken is_file) had.judged.frames_are in (
       record { reads = steady; writes = same },
-      record {
-        frames = had.judged.frames;
-        judged = on.taken;
-        unjudged = [];
-        taken = subst (Consumes first after) (sym (append-nil on.taken)) (consumes_kept first left after on.taken on.consumed keeps);
-        within = omega arith;
-        frames_are = had.judged.frames_are;
-        cause = (
-          ((all_taken first left on.taken on.consumed ended, refl), subst (λ f. IsFileUnder services_say f on.taken) frames_is is_file),
-          is ∙ frames_count had.judged.frames on.taken reading.receiver had.judged.received had.judged.frames_are,
-        );
-        output = all_put start now (held_of reading.text) (text had.judged.frames) had.judged.way had.none_held;
-      },
+      judged_stops text _ first left after start now reads later writes still printer reading room on had keeps (
+        ((all_taken first left on.taken on.consumed ended, refl), subst (λ f. IsFileUnder services_say f on.taken) frames_is is_file),
+        is ∙ frames_count had.judged.frames on.taken reading.receiver had.judged.received had.judged.frames_are,
+      ),
     )
 
 -- the input is cut short
@@ -105,45 +84,14 @@ pub file_cut : (text : List Frame → List ℕ) (first left after start now : Op
     → ((bytes : List ℕ) → HasReceived bytes reading.receiver → IsUnoffending services_say bytes → EndsAt bytes reading.receiver (Err why))
     → StopsEarly text (ends first reads start writes) (ends after later now still) (stop_status why)
 file_cut text first left after start now reads later writes still printer reading room (stop.Refused refusal) on prints none (ended, keeps) steady same file =
-    let had = on.put_all text prints none in
-    let within = on.within in (
+    let had = on.put_all text prints none in (
       record { reads = steady; writes = same },
-      record {
-        frames = had.judged.frames;
-        judged = on.taken;
-        unjudged = [];
-        taken = subst (Consumes first after) (sym (append-nil on.taken)) (consumes_kept first left after on.taken on.consumed keeps);
-        within = omega arith;
-        frames_are = had.judged.frames_are;
-        cause = inr ((all_taken first left on.taken on.consumed ended, refl), file on.taken had.judged.received had.judged.unoffending);
-        output = all_put start now (held_of reading.text) (text had.judged.frames) had.judged.way had.none_held;
-      },
+      judged_stops text _ first left after start now reads later writes still printer reading room on had keeps
+          (inr ((all_taken first left on.taken on.consumed ended, refl), file on.taken had.judged.received had.judged.unoffending)),
     )
 file_cut text first left after start now reads later writes still printer reading room stop.Unwritten on prints none ended steady same file =
     let had = on.put_all text prints none in
     absurd (file on.taken had.judged.received had.judged.unoffending)
-
--- a piece of a take, and what is left of it
-pub record IsPiece (room count : ℕ) (buffer piece rest : List ℕ) : Type 0 where
-  pub spelled : take count buffer ≡ piece ++ rest
-  pub size : length piece ≡ min count room
-  pub rest_size : length rest ≡ count - min count room
-
-pub piece_of : (room count most : ℕ) (buffer : List ℕ) → count ≤ length buffer → most ≡ min count room
-    → IsPiece room count buffer (take most buffer) (drop most (take count buffer))
-piece_of room count most buffer within is =
-    let size = length-take-le count buffer within in
-    record {
-      spelled = sym (take-append-drop most (take count buffer)) ∙ ap (λ l. l ++ drop most (take count buffer)) (take-take most count buffer (omega arith));
-      size = length-take-le most buffer (omega arith) ∙ is;
-      rest_size = length-drop most (take count buffer) ∙ omega arith;
-    }
-
--- what was taken with it
-with_piece : (first left after : Option (List ℕ)) (taken piece rest whole : List ℕ) → Consumes first left taken → Consumes left after whole → whole ≡ piece ++ rest
-    → Consumes first after ((taken ++ piece) ++ rest)
-with_piece first left after taken piece rest whole consumed next is =
-    subst (Consumes first after) (ap (λ l. taken ++ l) is ∙ sym (append_assoc taken piece rest)) (Consumes-trans first left after taken whole consumed next)
 
 -- a piece was judged, and the reading stopped in it
 pub piece_stopped : (text : List Frame → List ℕ) (first left after start now then : Option (List ℕ)) (reads later writes still : ℕ) (printer : Printer) (reading : Reading)
@@ -220,20 +168,13 @@ pub piece_judged : (first left after start now then : Option (List ℕ)) (printe
 piece_judged first left after start now then printer reading later_reading room count buffer piece rest on next is whole judges =
     let within = on.within in
     let size = is.size in
-    let more = is.rest_size in
     let sum = length-append on.taken piece in
-    let no_rest : rest ≡ [] = none_left rest (omega arith) in
     record {
       taken = on.taken ++ piece;
-      consumed = subst (Consumes first after) (ap (λ l. (on.taken ++ piece) ++ l) no_rest ∙ append-nil (on.taken ++ piece))
-          (with_piece first left after on.taken piece rest (take count buffer) on.consumed next is.spelled);
+      consumed = whole_piece first left after room count on.taken buffer piece rest on.consumed next is whole;
       within = omega arith;
       put_all = λ text prints none. judges text (on.put_all text prints none).judged;
     }
-  where
-    none_left : (rest : List ℕ) → length rest ≡ 0 → rest ≡ []
-    none_left [] is = refl
-    none_left (byte ∷ rest) is = absurd (omega arith)
 
 -- what ended a reading is the answer
 pub reads_stopped : (text : List Frame → List ℕ) (old new : Ends) (why : Stop) (answer : Status) → answer ≡ stop_status why

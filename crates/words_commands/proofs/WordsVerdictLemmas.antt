@@ -117,12 +117,12 @@ file_shown frame bytes frames old new status.Memory file within read answered = 
 file_shown frame bytes frames old new answer file within read answered = absurd (file_early (show_output frame) bytes frames old new answer file within read answered)
 
 -- what is malformed is no file
-malformed_no_file : (bytes : List ℕ) (refusal : Refusal) (frames : List Frame) → IsMalformed services_say bytes refusal → IsFileUnder services_say frames bytes → ⊥
+pub malformed_no_file : (bytes : List ℕ) (refusal : Refusal) (frames : List Frame) → IsMalformed services_say bytes refusal → IsFileUnder services_say frames bytes → ⊥
 malformed_no_file bytes refusal frames (inl offence) file = file_has_no_offence services_say frames bytes refusal file offence
 malformed_no_file bytes refusal frames (inr cut) file = cut.no_file frames file
 
 -- bytes are malformed in one way
-one_malformed : (bytes : List ℕ) (refusal other : Refusal) → IsMalformed services_say bytes refusal → IsMalformed services_say bytes other → refusal ≡ other
+pub one_malformed : (bytes : List ℕ) (refusal other : Refusal) → IsMalformed services_say bytes refusal → IsMalformed services_say bytes other → refusal ≡ other
 one_malformed bytes refusal other (inl offence) (inl more) = offence_is_one services_say bytes refusal other offence more
 one_malformed bytes refusal other (inl offence) (inr cut) = absurd (cut_short_has_no_offence services_say bytes other refusal cut offence)
 one_malformed bytes refusal other (inr cut) (inl offence) = absurd (cut_short_has_no_offence services_say bytes refusal other cut offence)

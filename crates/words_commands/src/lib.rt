@@ -3,6 +3,7 @@
 
 pub use crate::decode::run_decode;
 pub use crate::show::run_show;
+pub use crate::words::{TAKE, WORDS_LIMIT};
 
 mod decode;
 mod printer;

@@ -11,10 +11,10 @@ use command_base::Status;
 use std::alloc::Global;
 
 /// The most bytes of a words file.
-const WORDS_LIMIT: usize = 2_147_483_647;
+pub const WORDS_LIMIT: usize = 2_147_483_647;
 
-/// The most bytes of a take.
-const TAKE: usize = 32_768;
+/// The most bytes that a command takes of a words file at once.
+pub const TAKE: usize = 32_768;
 
 /// Reads a words file to its end, and puts what is printed of its frames. What one take gave is judged, and its text put,
 /// before the next take. Gives the number of frames, or the status with which the run ends.

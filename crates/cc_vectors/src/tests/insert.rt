@@ -129,6 +129,10 @@ fn a_packet_of_more_than_255_bytes_is_the_limit(rt: HostRuntime) -> Result<(), F
     assert_eq!(rt; ended.status, Status::Limit(LimitOf::Packet));
     assert_eq!(rt; ended.out.bytes(), first.as_slice());
     assert_eq!(rt; ended.err.bytes(), b"limit Packet\n".as_slice());
+    let wide = wide_frame(alloc)?;
+    let alone = run_to_end(alloc, insert_of(b"ccsuite,1,29.97,3\n", &wide))?;
+    assert_eq!(rt; alone.status, Status::Limit(LimitOf::Packet));
+    assert_eq!(rt; alone.out.bytes(), b"".as_slice());
     Ok(())
 }
 
@@ -157,6 +161,7 @@ fn too_few_frames_are_short_and_more_are_not(rt: HostRuntime) -> Result<(), Fail
     Ok(())
 }
 
+/// A packet of another kind before an offending word was put, too.
 #[test]
 fn words_that_stop_a_run_leave_what_was_before_them(rt: HostRuntime) -> Result<(), Fail> {
     let alloc = rt.alloc();
@@ -164,11 +169,13 @@ fn words_that_stop_a_run_leave_what_was_before_them(rt: HostRuntime) -> Result<(
     let wrong = hi_words_ended_wrong(alloc)?;
     let cut = wrong.as_slice().get(..4798).unwrap_or(b"");
     let begun = words.as_slice().get(..177).unwrap_or(b"");
+    let mut behind = words.as_slice().get(..176).unwrap_or(b"").to_vec(alloc)?;
+    behind.extend_from_slice(b"\x04\x00")?;
     let rate = Kind45::WrongRate {
         expected: Rate::F30,
         seen: Rate::F2997,
     };
-    let rows: [(&[u8], &[u8], Status, usize, &[u8]); 4] = [
+    let rows: [(&[u8], &[u8], Status, usize, &[u8]); 5] = [
         (
             b"ccsuite,1,30,3\n",
             &words,
@@ -199,6 +206,13 @@ fn words_that_stop_a_run_leave_what_was_before_them(rt: HostRuntime) -> Result<(
             Status::Malformed(Place::Byte(177), Why::Truncated),
             176,
             b"malformed at byte 177: Truncated\n",
+        ),
+        (
+            b"ccsuite,1,29.97,3\n",
+            &behind,
+            Status::Malformed(Place::Byte(176), Why::HighBits),
+            176,
+            b"malformed at byte 176: HighBits\n",
         ),
     ];
     for (list, text, status, put, line) in rows {

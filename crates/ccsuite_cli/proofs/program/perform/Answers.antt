@@ -36,3 +36,9 @@ returns-in-Insert-clause-answer g c = rw c.in-Insert.is c.run_insert.ensures
 
 pub returns-in-Insert-clause-side : goal.returns-in-Insert-clause-side
 returns-in-Insert-clause-side g c = rw c.in-Insert.is (λ none. cc)
+
+pub run_load-requires : goal.run_load-requires
+run_load-requires g c = let within = rw c.in-Load.is at c.requires in record { some = within.0; most = within.1 }
+
+pub returns-in-Load-clause-answer : goal.returns-in-Load-clause-answer
+returns-in-Load-clause-answer g c = rw c.in-Load.is (refl, c.run_load.ensures _ _)

@@ -1,20 +1,18 @@
-use Rattle.std.proofs.Common.{inl, inr, refl}
+use Rattle.std.proofs.Common.{refl}
+use Rattle.insert_commands.proofs.AnswerLemmas.{list_refused, words_answered}
 use Rattle.insert_commands.proofs.StopLemmas.{judged_nothing}
 use Rattle.insert_commands.proofs.insert.run_insert.Goals as goal
 
 pub returns-in-Err : goal.returns-in-Err
-returns-in-Err g c = inl (c.in-Err.ensures, refl)
+returns-in-Err g c = list_refused _ _ _ _ _ c.in-Err.status c.in-Err.ensures
 
 pub returns-in_default : goal.returns-in_default
-returns-in_default g c = inr (c.in-Ok.programme, c.in-Ok.ensures, inl (refl, refl))
+returns-in_default g c = (c.in-Ok.ensures.0, refl)
 
 pub returns : goal.returns
 returns g c =
-    inr (
-      c.in-Ok.programme,
-      c.in-Ok.ensures,
-      inr (λ list gives rate count.
-          c.insert_words.ensures list (g.O.Sink.written c.args.out.now)
-          (judged_nothing list (g.O.Sink.written c.args.out.now) c.in-Ok-new.inserting c.in-Ok-new.ensures.read c.in-Ok-new.ensures.none
-          (c.in-Ok-new.ensures.gives list gives rate count))),
-    )
+    words_answered _ _ _ _ c.in-Ok.programme _ _ c.insert_words.result c.in-Ok.ensures c.insert_words.ensures.counts
+    (λ list has.
+    c.insert_words.ensures.words list (g.O.Sink.written c.args.out.now)
+    (judged_nothing list (g.O.Sink.written c.args.out.now) c.in-Ok-new.inserting c.in-Ok-new.ensures.read c.in-Ok-new.ensures.none
+    (c.in-Ok-new.ensures.gives list has)))

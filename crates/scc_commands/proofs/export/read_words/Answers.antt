@@ -1,8 +1,9 @@
 use Rattle.std.proofs.Common.{◌∙◌, ◌-◌, arith, refl, subst, Err}
 use Rattle.cc_base.specs.Streams.{Rose}
 use Rattle.scc_commands.specs.ExportSteps.{StopCause}
-use Rattle.scc_commands.proofs.ExportingLemmas.{may_end}
-use Rattle.scc_commands.proofs.StopLemmas.{file_cut, file_ended, piece_judged, piece_of, piece_passes, piece_stopped, reads_stopped, take_failed, underway_begun}
+use Rattle.words_commands.proofs.FedLemmas.{may_end}
+use Rattle.words_commands.proofs.PieceLemmas.{piece_of}
+use Rattle.scc_commands.proofs.StopLemmas.{file_cut, file_ended, piece_judged, piece_passes, piece_stopped, reads_stopped, take_failed, underway_begun}
 use Rattle.scc_commands.proofs.export.read_words.Goals as goal
 
 pub loop-export-init : goal.loop-export-init

@@ -1,5 +1,5 @@
 use Rattle.std.proofs.Common.{◌≡◌}
-use Rattle.scc_commands.specs.ExportSteps.{MayBeFed}
+use Rattle.words_commands.specs.WordsReading.{MayBeFed}
 use Rattle.scc_commands.proofs.StopLemmas.{IsUnderway}
 use Rattle.scc_commands.proofs.export.read_words.Given as goal
 

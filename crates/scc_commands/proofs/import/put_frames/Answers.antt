@@ -1,5 +1,5 @@
 use Rattle.std.proofs.Common.{◌∙◌}
-use Rattle.scc_commands.proofs.ImportLemmas.{quiet_next, quiet_words, words_added, words_begun, words_ended, words_failed}
+use Rattle.scc_commands.proofs.ImportLemmas.{quiet_next, quiet_words, words_added, words_ended, words_failed}
 use Rattle.scc_commands.proofs.import.put_frames.Goals as goal
 
 pub loop-frame-preserved : goal.loop-frame-preserved

@@ -1,4 +1,4 @@
-use Rattle.std.proofs.Common.{◌≡◌, ◌≤◌, ℕ}
+use Rattle.std.proofs.Common.{◌≡◌}
 use Rattle.scc_commands.specs.Cursors.{left_of}
 use Rattle.scc_commands.proofs.ImportLemmas.{WordsOnTheWay}
 use Rattle.scc_commands.proofs.import.put_frames.Given as goal

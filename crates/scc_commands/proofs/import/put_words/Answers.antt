@@ -1,4 +1,3 @@
-use Rattle.scc_commands.specs.ImportSteps.{ArePlaced}
 use Rattle.scc_commands.proofs.import.put_words.Goals as goal
 
 pub put_frames-requires : goal.put_frames-requires

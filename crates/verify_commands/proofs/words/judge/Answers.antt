@@ -1,6 +1,6 @@
 use Rattle.std.proofs.Common.{◌≤◌, ◌+◌, ◌++◌, ap, arith, length, subst, sym, take}
 use Rattle.std.proofs.lemmas.List.{take_all}
-use Rattle.verify_commands.proofs.PieceLemmas.{front_all, front_more, rest_size}
+use Rattle.words_commands.proofs.PieceLemmas.{front_all, front_more, rest_size}
 use Rattle.verify_commands.specs.Verifying.{HasJudged, HasStopped}
 use Rattle.verify_commands.proofs.StepLemmas.{may_end}
 use Rattle.verify_commands.proofs.words.judge.Goals as goal

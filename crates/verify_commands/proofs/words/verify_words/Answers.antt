@@ -1,7 +1,7 @@
 use Rattle.std.proofs.Common.{◌∙◌, ◌-◌, arith, refl, subst}
 use Rattle.cc_base.specs.Streams.{Rose}
 use Rattle.cc_verifier.specs.Verifiers.{list_of}
-use Rattle.verify_commands.proofs.PieceLemmas.{piece_of}
+use Rattle.words_commands.proofs.PieceLemmas.{piece_of}
 use Rattle.verify_commands.proofs.StepLemmas.{may_end, may_less}
 use Rattle.verify_commands.proofs.StopLemmas.{file_ended, file_stopped, piece_judged, piece_passes, piece_stopped, take_failed, underway_begun, words_stopped}
 use Rattle.verify_commands.proofs.words.verify_words.Goals as goal

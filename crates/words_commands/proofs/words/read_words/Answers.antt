@@ -1,8 +1,9 @@
 use Rattle.std.proofs.Common.{◌∙◌, ◌-◌, Err, arith, refl, subst}
 use Rattle.cc_base.specs.Streams.{Rose}
 use Rattle.words_commands.specs.WordsReading.{StopCause}
-use Rattle.words_commands.proofs.ReadingLemmas.{may_end}
-use Rattle.words_commands.proofs.StopLemmas.{file_cut, file_ended, piece_judged, piece_of, piece_passes, piece_stopped, reads_stopped, take_failed, underway_begun}
+use Rattle.words_commands.proofs.PieceLemmas.{piece_of}
+use Rattle.words_commands.proofs.FedLemmas.{may_end}
+use Rattle.words_commands.proofs.StopLemmas.{file_cut, file_ended, piece_judged, piece_passes, piece_stopped, reads_stopped, take_failed, underway_begun}
 use Rattle.words_commands.proofs.words.read_words.Goals as goal
 
 pub loop-reading-init : goal.loop-reading-init

@@ -1,10 +1,11 @@
 use Rattle.std.proofs.Common.{◌≡◌, ◌∙◌, ◌+◌, ◌++◌, ◌∷◌, [], arith, length, subst, sym, take}
+use Rattle.cc_receiver.proofs.FedFrames.{counts_none, frame_more, moves_by}
 use Rattle.cc_receiver.proofs.TakenLemmas.{frames_count}
 use Rattle.cc_receiver.specs.Feeds.{Counts}
 use Rattle.cc_receiver.specs.Receivers.{HasReceived, frame_count}
 use Rattle.cue_types.specs.Listing.{Listing}
 use Rattle.cc_verifier.specs.Verifiers.{Found}
-use Rattle.cc_verifier.proofs.VerifierLemmas.{by_end, counts_none, found_none, frame_more, goes_on_still, verified_still}
+use Rattle.cc_verifier.proofs.VerifierLemmas.{found_none, goes_on_still, verified_still}
 use Rattle.cc_verifier.proofs.verifier.Verifier.feed.Goals as goal
 
 pub returns-in-Err-clause-verified : goal.returns-in-Err-clause-verified
@@ -46,4 +47,4 @@ returns-in_default-clause-verified c before had =
     (counts_none (frame_count c.args.self.now.receiver) (frame_count c.feed.new.self) c.in-Ok.fed.ended c.in_default.not-Caption fed.counts)
 
 pub returns-in_default-clause-moves : goal.returns-in_default-clause-moves
-returns-in_default-clause-moves c some = by_end c.in-Ok.fed.ended c.in-Ok.fed.used (length c.args.bytes.now) some c.in_default.not-Caption c.in-Ok.ensures.all c.in-Ok.ensures.some
+returns-in_default-clause-moves c some = moves_by c.in-Ok.fed.used (length c.args.bytes.now) c.in-Ok.fed.ended c.in-Ok.ensures.all c.in-Ok.ensures.some some

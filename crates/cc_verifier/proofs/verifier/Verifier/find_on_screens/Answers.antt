@@ -5,7 +5,8 @@ use Rattle.cc_receiver.specs.Receivers.{shown}
 use Rattle.cc_receiver.specs.ReceivedServices.{received_windows}
 use Rattle.words_files.specs.Received.{received_grids}
 use Rattle.cc_verifier.proofs.FindingLemmas.{clean_services, screen_first, service_first, tried_screens}
-use Rattle.cc_verifier.proofs.ScreenLemmas.{channels_before, channels_found, channels_know, frames_shown, leave_idle, services_before, services_found, services_know}
+use Rattle.cc_receiver.proofs.FedFrames.{frames_shown}
+use Rattle.cc_verifier.proofs.ScreenLemmas.{channels_before, channels_found, channels_know, leave_idle, services_before, services_found, services_know}
 use Rattle.cc_verifier.proofs.verifier.Verifier.find_on_screens.Goals as goal
 
 pub returns-in-Some-clause-finds : goal.returns-in-Some-clause-finds

@@ -9,7 +9,7 @@ use Rattle.words_files.proofs.FramesOfLemmas.{file_frames}
 use Rattle.words_files.specs.Received.{received_grids}
 use Rattle.cc_verifier.proofs.FindingLemmas.{clean_none}
 use Rattle.cc_verifier.proofs.KeptLemmas.{ruled_timed}
-use Rattle.cc_verifier.proofs.VerifierLemmas.{nothing_is_file}
+use Rattle.cc_receiver.proofs.FedFrames.{nothing_is_file}
 use Rattle.cc_verifier.proofs.verifier.Verifier.new.Goals as goal
 
 pub new-requires : goal.new-requires

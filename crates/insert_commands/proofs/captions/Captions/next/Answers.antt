@@ -1,11 +1,11 @@
-use Rattle.std.proofs.Common.{add-one, ap, ◌≡◌, ◌∙◌, arith, subst, suc, sym, ℕ, ◌+◌}
+use Rattle.std.proofs.Common.{add-one, ap, ◌≡◌, ◌∙◌, arith, subst, sym, ℕ, ◌+◌}
 use Rattle.cc_base.specs.declared.rate.Rate.{Rate}
 use Rattle.frame_carrier.specs.Carrying.{IsAt, channel_packet, packet_count, packets_before}
 use Rattle.frame_carrier.specs.FrameTriplets.{frame_triplets}
 use Rattle.frame_carrier.specs.declared.carrier.Carrier.{Carrier}
 use Rattle.frame_scheduler.specs.Columns.{Columns}
 use Rattle.frame_scheduler.specs.declared.frames.FrameBytes.{FrameBytes}
-use Rattle.insert_commands.specs.ListCaptions.{padded}
+use Rattle.inserted_words.specs.Captioning.{padded}
 use Rattle.insert_commands.proofs.captions.Captions.next.Goals as goal
 
 -- a carrier that has carried a frame of columns is at the next one
@@ -16,17 +16,17 @@ carried_next rate columns frame carrier bytes is at =
     (subst (λ (b : FrameBytes). IsAt rate (frame + 1) (packets_before columns frame + packet_count b.blocks.items) carrier) is at)
 
 pub returns-clause-gives : goal.returns-clause-gives
-returns-clause-gives c rate columns count had =
-    let given = c.next_frame-bytes.ensures.gives rate columns count had in
-    let all = padded rate columns count in
+returns-clause-gives c list had =
+    let given = c.next_frame-bytes.ensures.gives list had in
     let frame : ℕ = c.args.frame in
-    let before = packets_before all frame in (
-      c.triplets.ensures.triplets rate frame before given.1.carrier ∙ ap (λ (b : FrameBytes). frame_triplets rate b (channel_packet before b.blocks.items)) given.0,
+    let before = packets_before (padded list) frame in (
+      c.triplets.ensures.triplets list.rate frame before given.1.carrier
+          ∙ ap (λ (b : FrameBytes). frame_triplets list.rate b (channel_packet before b.blocks.items)) given.0,
       record {
         rate_is = given.1.rate_is;
         planned = given.1.planned;
         left = given.1.left;
         none_left = λ over. let most = given.1.none_left over in omega (arith, most);
-        carrier = carried_next rate all frame _ _ given.0 (c.triplets.ensures.next rate frame before given.1.carrier);
+        carrier = carried_next list.rate (padded list) frame _ _ given.0 (c.triplets.ensures.next list.rate frame before given.1.carrier);
       },
     )

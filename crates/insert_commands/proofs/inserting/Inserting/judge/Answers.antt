@@ -1,6 +1,7 @@
 use Rattle.std.proofs.Common.{◌∙◌, ◌+◌, ◌++◌, ap, arith, length, subst, sym, take}
 use Rattle.insert_commands.specs.InsertSteps.{HasJudged, HasStopped}
-use Rattle.insert_commands.proofs.JudgeLemmas.{front_all, front_more, may_end, rest_size}
+use Rattle.insert_commands.proofs.JudgeLemmas.{may_end}
+use Rattle.words_commands.proofs.PieceLemmas.{front_all, front_more, rest_size}
 use Rattle.insert_commands.proofs.inserting.Inserting.judge.Goals as goal
 
 pub loop-at-preserved : goal.loop-at-preserved

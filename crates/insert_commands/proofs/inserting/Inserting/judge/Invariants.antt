@@ -1,6 +1,7 @@
 use Rattle.std.proofs.Common.{◌≡◌, ◌++◌, ◌≤◌, ◌+◌, ◌-◌, length, take, ℕ, List, Option}
-use Rattle.insert_commands.specs.InsertAnswer.{Captioning, words_limit}
+use Rattle.words_commands.specs.WordsAnswer.{words_limit}
 use Rattle.insert_commands.specs.InsertSteps.{HasJudged}
+use Rattle.inserted_words.specs.Captioning.{Captioning}
 use Rattle.insert_commands.specs.OpenPackets.{MayFollow}
 use Rattle.insert_commands.proofs.inserting.Inserting.judge.Given as goal
 

@@ -9,7 +9,7 @@ use Rattle.insert_commands.proofs.inserting.Inserting.replacement.Goals as goal
 
 pub returns-then-code-clause-replaces : goal.returns-then-code-clause-replaces
 returns-then-code-clause-replaces c list bytes earlier last had are sections gives =
-    let expected = c.rate-expected.ensures list.rate list.columns list.count c.args.frame gives in
+    let expected = c.rate-expected.ensures list c.args.frame gives in
     let seen = c.rate-seen.ensures bytes earlier last had are in (
       λ same. c.if-code.true (c.code.ensures ∙ ap code_of (seen ∙ same ∙ sym expected) ∙ sym c.code-2.ensures),
       ap (λ e. let f : Finding = record { frame = c.args.frame; kind = kind.WrongRate e c.rate-seen.result } in f) expected
@@ -28,28 +28,28 @@ insert-requires-clause-short c =
 
 pub returns-in-Err-clause-replaces : goal.returns-in-Err-clause-replaces
 returns-in-Err-clause-replaces c list bytes earlier last had are sections gives =
-    let expected = c.rate-expected.ensures list.rate list.columns list.count c.args.frame gives in
+    let expected = c.rate-expected.ensures list c.args.frame gives in
     let seen = c.rate-seen.ensures bytes earlier last had are in
     let rate = same_rate c.rate-seen.result c.rate-expected.result (sym c.code.ensures ∙ c.if-code.false ∙ c.code-2.ensures) in
     let (_, (new, inserted, long)) =
     c.in-Err.ensures.limit last
     (record { rate = seen; flags = c.flags.ensures bytes earlier last had are; counter = c.counter.ensures bytes earlier last had are; sections = c.sections.ensures bytes earlier last had are })
     sections in
-    let triplets = c.deref.ensures.0 ∙ (c.next-triplets.ensures.gives list.rate list.columns list.count gives).0 in
+    let triplets = c.deref.ensures.0 ∙ (c.next-triplets.ensures.gives list gives).0 in
     (sym seen ∙ rate ∙ expected, (new, subst (λ t. IsInserted t last new) triplets inserted, long))
 
 pub returns-clause-replaces : goal.returns-clause-replaces
 returns-clause-replaces c list bytes earlier last had are sections gives =
-    let expected = c.rate-expected.ensures list.rate list.columns list.count c.args.frame gives in
+    let expected = c.rate-expected.ensures list c.args.frame gives in
     let seen = c.rate-seen.ensures bytes earlier last had are in
     let rate = same_rate c.rate-seen.result c.rate-expected.result (sym c.code.ensures ∙ c.if-code.false ∙ c.code-2.ensures) in
     let (new, inserted, new_are, fits, written) =
     c.in-Ok.ensures.inserted last
     (record { rate = seen; flags = c.flags.ensures bytes earlier last had are; counter = c.counter.ensures bytes earlier last had are; sections = c.sections.ensures bytes earlier last had are })
     sections in
-    let given = c.next-triplets.ensures.gives list.rate list.columns list.count gives in
+    let given = c.next-triplets.ensures.gives list gives in
     let triplets = c.deref.ensures.0 ∙ given.0 in (
       sym seen ∙ rate ∙ expected,
       given.1,
-      (new, subst (λ t. IsInserted t last new) triplets inserted, c.write_packet.ensures.bytes ∙ ap (packet_bytes 0x61 0x01) (c.deref-2.ensures.0 ∙ written)),
+      (new, subst (λ t. IsInserted t last new) triplets inserted, fits, c.write_packet.ensures.bytes ∙ ap (packet_bytes 0x61 0x01) (c.deref-2.ensures.0 ∙ written)),
     )

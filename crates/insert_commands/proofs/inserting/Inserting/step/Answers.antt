@@ -2,7 +2,8 @@ use Rattle.std.proofs.Common.{◌++◌, ◌∷◌, [], Ok, Err, refl, ap, sym, s
 use Rattle.std.specs.Io.KnownBytes.{Appends}
 use Rattle.services_files.specs.Services.{services_say}
 use Rattle.words_files.proofs.FramesOfLemmas.{file_frames}
-use Rattle.insert_commands.specs.InsertSteps.{Gives, PutsWords, Replaces}
+use Rattle.insert_commands.specs.InsertSteps.{PutsWords, Replaces}
+use Rattle.insert_commands.specs.ListCaptions.{GivesCaptions}
 use Rattle.insert_commands.specs.OpenPackets.{open_bytes}
 use Rattle.insert_commands.proofs.StepLemmas.{ends_caption, ends_foreign, has_frame, more_caption, more_foreign, more_no, step_copied, step_refused, step_replaced, step_still, step_stopped, step_uncopied, step_unreplaced, stops_by}
 use Rattle.insert_commands.proofs.inserting.Inserting.step.Goals as goal
@@ -68,7 +69,7 @@ returns-in-Ok-put_words-2-clause-judges g c list start before had =
     let replaces = subst (λ n. Replaces list n ends.frame c.replacement.new.self.captions (Ok c.in-Ok-replacement.words)) number
     (c.in-Ok-replacement.ensures.replaces list (had.file ++ open_bytes c.feed.new.self) had.frames ends.frame ends.received
     (file_frames services_say (had.frames ++ ends.frame ∷ []) (had.file ++ open_bytes c.feed.new.self) ends.under) ends.carries.sections
-    (subst (λ n. Gives list n c.args.self.now.captions) (sym number) had.gives)) in
+    (subst (λ n. GivesCaptions list n c.args.self.now.captions) (sym number) had.gives)) in
     step_replaced list start _ before c.args.bytes.now c.args.self.now had c.feed.new.self c.in-Ok.fed read (g.O.Sink.written c.put_words-in-Ok-replacement.new.out)
     (record { packets = c.begin-in-Ok-put_words-2.new.self; captions = c.replacement.new.self.captions }) c.in-Ok-replacement.words ends replaces
     (subst (Appends (g.O.Sink.written c.args.out.now) (g.O.Sink.written c.put_words-in-Ok-replacement.new.out)) c.deref.ensures.0 c.in-Ok-put_words-2.ensures.puts)
@@ -94,7 +95,7 @@ returns-in-Err-put_words-2-clause-judges g c list start before had =
     let replaces = subst (λ n. Replaces list n ends.frame c.replacement.new.self.captions (Ok c.in-Ok-replacement.words)) number
     (c.in-Ok-replacement.ensures.replaces list (had.file ++ open_bytes c.feed.new.self) had.frames ends.frame ends.received
     (file_frames services_say (had.frames ++ ends.frame ∷ []) (had.file ++ open_bytes c.feed.new.self) ends.under) ends.carries.sections
-    (subst (λ n. Gives list n c.args.self.now.captions) (sym number) had.gives)) in
+    (subst (λ n. GivesCaptions list n c.args.self.now.captions) (sym number) had.gives)) in
     step_unreplaced list start _ before c.args.bytes.now c.args.self.now had c.feed.new.self c.in-Ok.fed read (g.O.Sink.written c.put_words-in-Ok-replacement.new.out)
     c.replacement.new.self c.in-Ok-replacement.words c.in-Err-put_words-2.stop ends replaces
     (subst (λ b. PutsWords (g.O.Sink.written c.args.out.now) (g.O.Sink.written c.put_words-in-Ok-replacement.new.out) b (Err c.in-Err-put_words-2.stop)) c.deref.ensures.0 c.in-Err-put_words-2.ensures.puts)
@@ -107,7 +108,7 @@ returns-in-Err-replacement-clause-judges g c list start before had =
     let replaces = subst (λ n. Replaces list n ends.frame c.replacement.new.self.captions (Err c.in-Err-replacement.stop)) number
     (c.in-Err-replacement.ensures.replaces list (had.file ++ open_bytes c.feed.new.self) had.frames ends.frame ends.received
     (file_frames services_say (had.frames ++ ends.frame ∷ []) (had.file ++ open_bytes c.feed.new.self) ends.under) ends.carries.sections
-    (subst (λ n. Gives list n c.args.self.now.captions) (sym number) had.gives)) in
+    (subst (λ n. GivesCaptions list n c.args.self.now.captions) (sym number) had.gives)) in
     step_stopped list start _ before c.args.bytes.now c.args.self.now had c.feed.new.self c.in-Ok.fed read c.replacement.new.self c.in-Err-replacement.stop ends replaces
 
 pub returns-in-Err-replacement-clause-cause : goal.returns-in-Err-replacement-clause-cause

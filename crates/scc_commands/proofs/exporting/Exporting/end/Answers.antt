@@ -1,5 +1,5 @@
 use Rattle.std.proofs.Common.{refl}
-use Rattle.scc_commands.proofs.ExportingLemmas.{cut_short}
+use Rattle.words_commands.proofs.PieceLemmas.{cut_short}
 use Rattle.scc_commands.proofs.exporting.Exporting.end.Goals as goal
 
 pub returns-in-Ok : goal.returns-in-Ok

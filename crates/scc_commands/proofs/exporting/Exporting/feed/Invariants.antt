@@ -1,6 +1,7 @@
 use Rattle.std.proofs.Common.{◌≡◌, ◌++◌, ◌≤◌, ◌+◌, ◌-◌, length, take, ℕ, List, Option}
 use Rattle.time_codes.specs.declared.time_code.TimeCode.{TimeCode}
-use Rattle.scc_commands.specs.ExportSteps.{HasJudged, MayBeFed}
+use Rattle.words_commands.specs.WordsReading.{MayBeFed}
+use Rattle.scc_commands.specs.ExportSteps.{HasJudged}
 use Rattle.scc_commands.proofs.exporting.Exporting.feed.Given as goal
 
 -- the bytes so far were judged, no fault came, and the rest may follow

@@ -1,4 +1,4 @@
-use Rattle.scc_commands.proofs.ExportingLemmas.{may_begin}
+use Rattle.words_commands.proofs.FedLemmas.{may_begin}
 use Rattle.scc_commands.proofs.WrittenLemmas.{stands_first}
 use Rattle.scc_commands.proofs.exporting.Exporting.new.Goals as goal
 

@@ -1,4 +1,4 @@
-use Rattle.scc_commands.proofs.ExportingLemmas.{received_by}
+use Rattle.words_commands.proofs.FedLemmas.{received_by}
 use Rattle.scc_commands.proofs.exporting.Exporting.receive.Goals as goal
 
 pub returns-clause-receives : goal.returns-clause-receives

@@ -1,9 +1,10 @@
-use Rattle.std.proofs.Common.{◌∙◌, ◌++◌, ◌+◌, ◌-◌, ap, length, subst, sym, take}
+use Rattle.std.proofs.Common.{◌∙◌, ◌+◌, ◌-◌, ap, length, subst, sym}
 use Rattle.text_output.specs.Gathered.{IsGathered, held_of}
 use Rattle.scc_files.specs.Writing.{standing_of}
 use Rattle.scc_commands.specs.Export.{export_front}
-use Rattle.scc_commands.specs.ExportSteps.{MayBeFed}
-use Rattle.scc_commands.proofs.ExportingLemmas.{fed_more, step_done, step_frame, step_refused, step_still, step_stopped}
+use Rattle.words_commands.specs.WordsReading.{MayBeFed}
+use Rattle.words_commands.proofs.FedLemmas.{fed_more}
+use Rattle.scc_commands.proofs.ExportingLemmas.{step_done, step_frame, step_refused, step_still, step_stopped}
 use Rattle.scc_commands.proofs.exporting.Exporting.step.Goals as goal
 
 pub returns-in-Err-clause-judges : goal.returns-in-Err-clause-judges

@@ -1,4 +1,4 @@
-use Rattle.std.proofs.Common.{◌≡◌, ap, refl, subst, sym, Some, None}
+use Rattle.std.proofs.Common.{◌≡◌, subst, sym, Some, None}
 use Rattle.std.specs.Prelude.{slice_get}
 use Rattle.scc_commands.specs.Export.{pairs_of}
 use Rattle.scc_commands.proofs.FrameLemmas.{frame_found, frame_past, frame_silent, frame_unwritten, frame_written}

@@ -3,7 +3,7 @@ use Rattle.std.proofs.Math.Path.{fun_ext}
 use Rattle.cc_base.specs.Streams.{PutCause}
 use Rattle.text_output.proofs.PageLemmas.{some_cause}
 use Rattle.grid_print.specs.Screens.{IsBehind, LookAlike, received_screens}
-use Rattle.words_commands.proofs.FramesLemmas.{frames_shown}
+use Rattle.cc_receiver.proofs.FedFrames.{frames_shown}
 use Rattle.words_commands.proofs.PrintingLemmas.{alike_after, changes_gathered, idle_gathered, same_behind, screens_put, screens_still}
 use Rattle.words_commands.proofs.printer.Printer.print.Goals as goal
 

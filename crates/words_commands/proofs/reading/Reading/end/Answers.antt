@@ -1,5 +1,5 @@
 use Rattle.std.proofs.Common.{refl}
-use Rattle.words_commands.proofs.ReadingLemmas.{cut_short}
+use Rattle.words_commands.proofs.PieceLemmas.{cut_short}
 use Rattle.words_commands.proofs.reading.Reading.end.Goals as goal
 
 pub returns-in-Ok : goal.returns-in-Ok

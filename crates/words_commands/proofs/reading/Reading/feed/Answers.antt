@@ -1,7 +1,8 @@
 use Rattle.std.proofs.Common.{◌∙◌, ◌+◌, ◌++◌, ap, arith, length, subst, sym, take}
 use Rattle.text_output.specs.Gathered.{held_of}
 use Rattle.words_commands.specs.WordsReading.{HasJudged, HasStopped}
-use Rattle.words_commands.proofs.ReadingLemmas.{front_all, front_more, may_end, rest_size}
+use Rattle.words_commands.proofs.PieceLemmas.{front_all, front_more, rest_size}
+use Rattle.words_commands.proofs.FedLemmas.{may_end}
 use Rattle.words_commands.proofs.reading.Reading.feed.Goals as goal
 
 pub loop-at-preserved : goal.loop-at-preserved

@@ -1,4 +1,5 @@
-use Rattle.words_commands.proofs.ReadingLemmas.{judged_nothing, may_begin}
+use Rattle.words_commands.proofs.FedLemmas.{may_begin}
+use Rattle.words_commands.proofs.ReadingLemmas.{judged_nothing}
 use Rattle.words_commands.proofs.reading.Reading.new.Goals as goal
 
 pub returns-clause-put : goal.returns-clause-put

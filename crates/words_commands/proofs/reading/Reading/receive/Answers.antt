@@ -1,4 +1,4 @@
-use Rattle.words_commands.proofs.ReadingLemmas.{received_by}
+use Rattle.words_commands.proofs.FedLemmas.{received_by}
 use Rattle.words_commands.proofs.reading.Reading.receive.Goals as goal
 
 pub returns-clause-receives : goal.returns-clause-receives

@@ -2,7 +2,8 @@ use Rattle.std.proofs.Common.{◌∙◌, ◌++◌, ◌∷◌, [], subst, sym}
 use Rattle.words_commands.specs.Printing.{Prints}
 use Rattle.text_output.specs.Gathered.{IsGathered, held_of}
 use Rattle.cc_receiver.proofs.TakenLemmas.{frames_count}
-use Rattle.words_commands.proofs.ReadingLemmas.{fed_more, step_done, step_failed, step_frame, step_refused, step_still}
+use Rattle.words_commands.proofs.FedLemmas.{fed_more}
+use Rattle.words_commands.proofs.ReadingLemmas.{step_done, step_failed, step_frame, step_refused, step_still}
 use Rattle.words_commands.proofs.reading.Reading.step.Goals as goal
 
 pub returns-in-Err-clause-judges : goal.returns-in-Err-clause-judges

@@ -1,0 +1,30 @@
+#!/usr/bin/env bash
+# What a frame costs the receiver of a words file, by the instructions that valgrind counts: frames whose pairs are null and that have no
+# bytes of services, and frames whose pairs of field 1 are pop-on captions. Proves and builds bench/receiver in a folder of its own.
+set -eu
+cd "$(dirname "$0")/.."
+work=$(mktemp -d)
+trap 'rm -rf "$work"' EXIT
+mkdir -p "$work/crates/receiver_bench/src"
+below=$(sed -n 's/^cc_receiver: //p' crates.txt)
+for name in $below cc_receiver; do
+    if [ -d "crates/$name" ]; then
+        cp -r "crates/$name" "$work/crates/"
+        grep "^$name:" crates.txt >> "$work/crates.txt"
+    fi
+done
+cp bench/receiver/main.txt "$work/crates/receiver_bench/src/main.rt"
+echo 'receiver_bench: cc_receiver' >> "$work/crates.txt"
+(cd "$work/crates/receiver_bench" && rt run -- null 1 > /dev/null)
+program=$work/crates/receiver_bench/out/receiver_bench
+frames=20000
+
+# the instructions of a run of so many frames
+count() {
+    valgrind --tool=callgrind --callgrind-out-file=/dev/null "$program" "$1" "$2" 2>&1 > /dev/null | awk '/Collected/ { print $4 }'
+}
+for stream in null pop; do
+    none=$(count "$stream" 0)
+    all=$(count "$stream" $frames)
+    printf '%-6s %d instructions a frame\n' "$stream" $(((all - none) / frames))
+done

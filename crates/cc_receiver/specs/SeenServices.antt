@@ -1,0 +1,16 @@
+-- What a viewer sees of the services of a receiver (CTA-708-E, caption windows).
+use Rattle.std.specs.Prelude.{ℕ, ◌-◌, Option, Some, None, slice_get}
+use Rattle.dtvcc_screen.specs.Objects.{screen_in}
+use Rattle.dtvcc_screen.specs.Shown.{grids}
+use Rattle.dtvcc_services.specs.declared.members.Member.{Member}
+use Rattle.dtvcc_windows.specs.Showing.{ShownWindow}
+use Rattle.cc_receiver.specs.declared.receiver.Receiver.{Receiver}
+
+-- what is seen of the windows of a service, where there is one
+abbrev pub seen_of : Option Member → ℕ → Option ShownWindow
+seen_of None id = None
+seen_of (Some member) id = grids (screen_in member.core) id
+
+-- what is seen of those of each service from 1 on, by the service and the window's id
+abbrev pub seen_windows : Receiver → ℕ → ℕ → Option ShownWindow
+seen_windows receiver service id = seen_of (slice_get receiver.captions.served.services.members.items (service - 1)) id

@@ -1,0 +1,50 @@
+ghost use Rattle.std.specs.Prelude.{◌≡◌, ◌≤◌, IfSome, IsTrue, length, replicate};
+ghost use Rattle.cc_data.specs.Triplets.{triplets_of};
+ghost use Rattle.cc_receiver.specs.Filling.{filler};
+
+use cc_data::Triplet;
+
+/// The most triplets of a packet.
+const MOST: usize = 81;
+
+/// The first byte of a filler.
+const FILLER: u8 = 0xFA;
+
+/// The bytes of a packet's fillers.
+const BYTES: [[u8; 3]; MOST] = [[FILLER, 0x00, 0x00]; MOST];
+
+/// A packet's fillers: triplets that don't count, with which encoders fill a section up (CTA-708-E, cc_data()).
+pub(crate) const FILLERS: [Triplet; MOST] = [Triplet {
+    valid: false,
+    kind: 2,
+    a: 0,
+    b: 0,
+}; MOST];
+
+/// How many triplets these bytes are, at most 81, where all of them are fillers.
+pub(crate) fn count_fillers(bytes: &[u8]) -> Option<usize>
+    ensures fillers { IfSome result (λ count. triplets_of bytes.now ≡ replicate count filler) }
+    ensures few { IfSome result (λ count. count ≤ 81) }
+{
+    let [FILLER, ..] = bytes else {
+        return None;
+    };
+    let fillers = BYTES.as_flattened();
+    if bytes.len() <= fillers.len() && are_same(bytes, &fillers[..bytes.len()]) {
+        Some(bytes.len() / 3)
+    } else {
+        None
+    }
+}
+
+// Whether the bytes of two pieces of one length are the same.
+fn are_same(left: &[u8], right: &[u8]) -> bool
+    requires { length left.now ≡ length right.now }
+    ensures { IsTrue result → left.now ≡ right.now }
+{
+    let mut are = true;
+    for place in 0..left.len() {
+        are &= left[place] == right[place];
+    }
+    are
+}

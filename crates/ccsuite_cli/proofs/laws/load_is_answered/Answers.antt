@@ -1,0 +1,5 @@
+use Rattle.load_commands.proofs.VerdictLemmas.{load_answered}
+use Rattle.ccsuite_cli.proofs.laws.load_is_answered.Goals as goal
+
+pub returns : goal.returns
+returns c = load_answered

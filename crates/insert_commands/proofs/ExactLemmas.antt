@@ -1,0 +1,229 @@
+-- Words that can take a list's captions are answered Ok, and a refused list is answered with its one refusal.
+use Rattle.std.proofs.Common.{◌≡◌, ◌∙◌, ◌<◌, ◌≤◌, ◌++◌, ◌∷◌, ap, append_assoc, append-nil, arith, inl, inr, length, length-append, refl, subst, sym, ℕ, List, [], IfSome, Option, Some}
+use Rattle.std.proofs.lemmas.List.Elements.{All-head, All-tail}
+use Rattle.std.specs.List.{All}
+use Rattle.anc_words.proofs.WordsFileLemmas.{IsWordsFile-nil, IsWordsFile-one}
+use Rattle.cc_base.specs.declared.limit_of.LimitOf.TheVariants as limit
+use Rattle.cc_base.specs.declared.refusal.Refusal.{Refusal}
+use Rattle.cc_base.specs.declared.streams.Put.{Put}
+use Rattle.cc_base.specs.declared.streams.Put.TheVariants as put
+use Rattle.cc_data.specs.declared.triplet.Triplet.{Triplet}
+use Rattle.cdp_packets.specs.Packets.{Packet as Frame}
+use Rattle.command_base.specs.Ends.{Ends}
+use Rattle.command_base.specs.declared.status.Place.TheVariants.{Byte, Field}
+use Rattle.command_base.specs.declared.status.Status.{Status}
+use Rattle.command_base.specs.declared.status.Status.TheVariants as status
+use Rattle.cue_list_commands.proofs.ListVerdictLemmas.{accepted_not_refused, accepted_once, refused_once}
+use Rattle.cue_list_commands.specs.Accepted.{IsAccepted, IsRefused}
+use Rattle.cue_list_commands.specs.SideEnds.{SideEnds}
+use Rattle.cue_lists.specs.Listing.{Listing}
+use Rattle.findings.specs.declared.finding.Finding.{Finding}
+use Rattle.frame_scheduler.specs.Planned.{Placement}
+use Rattle.inserted_words.specs.Captioning.{captioning_of}
+use Rattle.inserted_words.proofs.FileLemmas.{foreign_file}
+use Rattle.inserted_words.specs.InsertedFile.{AreInserted, BringsFrame}
+use Rattle.inserted_words.specs.InsertedFile.AreInserted.{nothing, foreign as copied, caption as replaced}
+use Rattle.services_files.specs.Services.{services_say}
+use Rattle.words_commands.proofs.WordsVerdictLemmas.{known_judged, known_whole}
+use Rattle.words_files.proofs.EndingLemmas.{file_has_no_offence, offence_stays}
+use Rattle.words_files.proofs.FrameLemmas.{joined, one_list}
+use Rattle.words_files.proofs.FramesOfLemmas.{carry_front, file_front}
+use Rattle.words_files.specs.Frames.{CarryFrames, IsFileOf}
+use Rattle.words_files.specs.Frames.CarryFrames.{none, caption}
+use Rattle.words_files.specs.Offences.{FirstOffendingWord, IsFileUnder}
+use Rattle.insert_commands.specs.InsertAnswer.{Cause, IsFoundAt, IsRefusedWith, IsShort, OfList, PassesLimit, PassesPacket, RefusesList, Stops}
+use Rattle.insert_commands.specs.InsertVerdict.{CanTake, InsertedIsAnswered, RefusedSideIsAnswered}
+
+-- what holds of the list of a side file holds of every accepted list that it spells
+list_known : (text : List ℕ) (side : SideEnds) (list : Listing) (placed : Placement) (Holds : Listing → Placement → Type 0) → side.left ≡ Some text
+    → IsAccepted text list placed → OfList side Holds → Holds list placed
+list_known text side list placed Holds known accepted is =
+    let (other, moved, is_accepted, holds) =
+    subst (λ (l : Option (List ℕ)). IfSome l (λ t. (other : Listing) × (moved : Placement) × IsAccepted t other moved × Holds other moved)) known is in
+    let same = accepted_once text other list moved placed is_accepted accepted in
+    subst (λ (p : Placement). Holds list p) same.1 (subst (λ (l : Listing). Holds l moved) same.0 holds)
+
+-- an accepted list isn't refused
+never_refused : (text : List ℕ) (list : Listing) (placed : Placement) (side later : SideEnds) (old new : Ends) (answer : Status) → side.left ≡ Some text
+    → IsAccepted text list placed → RefusesList side later old new answer → ⊥
+never_refused text list placed side later old new answer known accepted is =
+    accepted_not_refused text list placed answer accepted (subst (λ (l : Option (List ℕ)). IfSome l (λ t. IsRefused t answer)) known is.2)
+
+-- a packet of captions is a file of its frame
+brought_file : (frame : Frame) (bytes : List ℕ) → BringsFrame frame bytes → IsFileOf (frame ∷ []) bytes
+brought_file frame bytes brings = record {
+  packets = brings.packet ∷ [];
+  file = IsWordsFile-one brings.packet bytes brings.is;
+  carried = caption brings.packet [] frame [] brings.is_caption brings.carries none;
+}
+
+-- words in which captions are inserted are a file of their frames
+taken_file : (captions : ℕ → List Triplet) (frames : List Frame) (file text : List ℕ) → AreInserted captions frames file text → IsFileOf frames file
+taken_file _ _ _ _ (nothing captions) = record { packets = []; file = IsWordsFile-nil; carried = none }
+taken_file _ _ _ _ (copied captions frames file text bytes whole out before is whole_is out_is) =
+    subst (IsFileOf frames) (sym whole_is)
+    (subst (λ (fs : List Frame). IsFileOf fs (file ++ bytes)) (append-nil frames) (joined frames [] file bytes (taken_file captions frames file text before) (foreign_file bytes is)))
+taken_file _ _ _ _ (replaced captions frames more old new file text bytes whole out before brings inserted fits more_is whole_is out_is) =
+    subst (λ (fs : List Frame). IsFileOf fs whole) (sym more_is)
+    (subst (IsFileOf (frames ++ old ∷ [])) (sym whole_is) (joined frames (old ∷ []) file bytes (taken_file captions frames file text before) (brought_file old bytes brings)))
+
+-- frames of bytes that are a file begin with those that a front of the bytes brings
+front_frames : (some all : List Frame) (front rest : List ℕ) → IsFileOf some front → IsFileUnder services_say all (front ++ rest) → (behind : List Frame) × (all ≡ some ++ behind)
+front_frames some all front rest is whole =
+    let file = whole.file in
+    let packets = file_front is.packets file.packets front rest is.file file.file in
+    let carries = carry_front is.packets packets.rest some all is.carried (subst (λ ps. CarryFrames ps all) packets.spelled file.carried) in
+    (carries.behind, carries.spelled)
+
+-- a packet behind those that were put brings the next frame
+module _ (list : Listing) (placed : Placement) (Why : Cause) (bytes : List ℕ) (old new : Ends) (answer : Put) (known : old.left ≡ Some bytes)
+    (stops : Stops (captioning_of list placed) Why answer old new) (all : List Frame) (file : IsFileUnder services_say all bytes) where
+  judged_front : (rest : List ℕ) × (bytes ≡ (stops.file ++ stops.behind) ++ (stops.unjudged ++ rest))
+  judged_front = known_judged old.left new.left bytes (stops.file ++ stops.behind) stops.unjudged known stops.taken
+
+  put_file : IsFileOf stops.frames stops.file
+  put_file = taken_file _ stops.frames stops.file stops.puts.text stops.puts.inserted
+
+  pub next_frame : (last : Frame) → BringsFrame last stops.behind → (behind : List Frame) × (all ≡ stops.frames ++ last ∷ behind)
+  next_frame last brings =
+      let (rest, is) = judged_front in
+      let front = joined stops.frames (last ∷ []) stops.file stops.behind put_file (brought_file last stops.behind brings) in
+      let (behind, same) = front_frames (stops.frames ++ last ∷ []) all (stops.file ++ stops.behind) (stops.unjudged ++ rest) front
+      (subst (IsFileUnder services_say all) is file) in
+      (behind, same ∙ append_assoc stops.frames (last ∷ []) behind)
+
+  -- no word of a file offends
+  pub never_offends : (refusal : Refusal) → FirstOffendingWord services_say ((stops.file ++ stops.behind) ++ stops.unjudged) refusal → ⊥
+  never_offends refusal offends =
+      let (rest, is) = judged_front in
+      file_has_no_offence services_say all bytes refusal file
+      (subst (λ b. FirstOffendingWord services_say b refusal) (append_assoc (stops.file ++ stops.behind) stops.unjudged rest ∙ sym is)
+      (offence_stays services_say ((stops.file ++ stops.behind) ++ stops.unjudged) rest refusal offends))
+
+  -- bytes within a number are judged in part
+  pub never_past : (limit : ℕ) → length bytes ≤ limit → length (stops.file ++ stops.behind) ≡ limit → 0 < length stops.unjudged → ⊥
+  never_past limit within full past =
+      let (rest, is) = judged_front in
+      let long = ap length is in
+      omega (arith, within, full, past, long, length-append (stops.file ++ stops.behind) (stops.unjudged ++ rest), length-append stops.unjudged rest)
+
+-- each frame of those has what all have
+frame_has : (P : Frame → Type 0) (front : List Frame) (frame : Frame) (behind : List Frame) → All P (front ++ frame ∷ behind) → P frame
+frame_has P [] frame behind all = All-head P frame behind all
+frame_has P (f ∷ front) frame behind all = frame_has P front frame behind (All-tail P f (front ++ frame ∷ behind) all)
+
+-- the causes don't hold of words that can take the captions
+module _ (list : Listing) (placed : Placement) (bytes : List ℕ) (old new : Ends) (can : CanTake list placed bytes) (known : old.left ≡ Some bytes) where
+  never_passes : Stops (captioning_of list placed) PassesLimit put.Done old new → ⊥
+  never_passes stops = never_past list placed PassesLimit bytes old new put.Done known stops can.frames can.file _ can.within stops.cause.full stops.cause.past
+
+  never_long : Stops (captioning_of list placed) PassesPacket put.Done old new → ⊥
+  never_long stops =
+      let cause = stops.cause in
+      let (behind, same) = next_frame list placed PassesPacket bytes old new put.Done known stops can.frames can.file cause.last cause.brings in
+      let fits = can.fit stops.frames behind cause.last cause.new same cause.inserted in
+      let long = cause.long in
+      omega (arith, fits, long)
+
+  never_other : (finding : Finding) → Stops (captioning_of list placed) (IsFoundAt finding) put.Done old new → ⊥
+  never_other finding stops =
+      let cause = stops.cause in
+      let (behind, same) = next_frame list placed (IsFoundAt finding) bytes old new put.Done known stops can.frames can.file cause.last cause.brings in
+      cause.other (frame_has (λ f. f.rate ≡ list.rate) stops.frames cause.last behind (subst (All (λ f. f.rate ≡ list.rate)) same can.rates))
+
+  never_malformed : (refusal : Refusal) → Stops (captioning_of list placed) (IsRefusedWith refusal old.left) put.Done old new → ⊥
+  never_malformed refusal stops = elim stops.cause [
+    | inl is ↦ never_offends list placed (IsRefusedWith refusal old.left) bytes old new put.Done known stops can.frames can.file refusal is.stands.offends
+    | inr is ↦
+        is.cut.no_file can.frames
+        (subst (IsFileUnder services_say can.frames) (known_whole old.left bytes (stops.file ++ stops.behind) known is.whole.0) can.file)
+  ]
+
+  never_short : (count : ℕ) → Stops (captioning_of list placed) (IsShort old.left count) put.Done old new → ⊥
+  never_short count stops =
+      let cause = stops.cause in
+      let whole = cause.whole in
+      let same = one_list stops.frames can.frames bytes
+      (subst (λ b. IsFileUnder services_say stops.frames b) (sym (known_whole old.left bytes stops.file known whole.whole.0)) whole.is_file).file can.file.file in
+      let size = ap length same in
+      let few = cause.few in
+      let enough = can.enough in
+      omega (arith, size, few, enough)
+
+pub inserted_answered : InsertedIsAnswered
+inserted_answered text bytes list placed side later old new status.Ok accepted can known steady read is = inl refl
+inserted_answered text bytes list placed side later old new status.Memory accepted can known steady read is = inr refl
+inserted_answered text bytes list placed side later old new status.Usage accepted can known steady read is = absurd is
+inserted_answered text bytes list placed side later old new status.ReadFault accepted can known steady read (inl is) = absurd (steady is.0)
+inserted_answered text bytes list placed side later old new status.ReadFault accepted can known steady read (inr is) = absurd (read.reads is.1)
+inserted_answered text bytes list placed side later old new status.WriteFault accepted can known steady read is = absurd (read.writes is.2)
+inserted_answered text bytes list placed side later old new (status.Limit limit.Bytes) accepted can known steady read (inl is) =
+    absurd (never_refused text list placed side later old new (status.Limit limit.Bytes) known accepted is)
+inserted_answered text bytes list placed side later old new (status.Limit limit.Bytes) accepted can known steady read (inr is) =
+    absurd (never_passes list placed bytes old new can read.left
+    (list_known text side list placed (λ l p. Stops (captioning_of l p) PassesLimit put.Done old new) known accepted is.2))
+inserted_answered text bytes list placed side later old new (status.Limit limit.Packet) accepted can known steady read is =
+    absurd (never_long list placed bytes old new can read.left
+    (list_known text side list placed (λ l p. Stops (captioning_of l p) PassesPacket put.Done old new) known accepted is.2))
+inserted_answered text bytes list placed side later old new (status.Malformed (Byte place) why) accepted can known steady read is =
+    absurd (never_malformed list placed bytes old new can read.left (record { place = place; why = why })
+    (list_known text side list placed (λ l p. Stops (captioning_of l p) (IsRefusedWith (record { place = place; why = why }) old.left) put.Done old new) known accepted is.2))
+inserted_answered text bytes list placed side later old new (status.Differs finding) accepted can known steady read is =
+    absurd (never_other list placed bytes old new can read.left finding
+    (list_known text side list placed (λ l p. Stops (captioning_of l p) (IsFoundAt finding) put.Done old new) known accepted is.2))
+inserted_answered text bytes list placed side later old new (status.Short count) accepted can known steady read is =
+    absurd (never_short list placed bytes old new can read.left count
+    (list_known text side list placed (λ l p. Stops (captioning_of l p) (IsShort old.left count) put.Done old new) known accepted is.2))
+inserted_answered text bytes list placed side later old new (status.Limit limit.Frames) accepted can known steady read is =
+    absurd (never_refused text list placed side later old new (status.Limit limit.Frames) known accepted is)
+inserted_answered text bytes list placed side later old new (status.Limit limit.Cues) accepted can known steady read is =
+    absurd (never_refused text list placed side later old new (status.Limit limit.Cues) known accepted is)
+inserted_answered text bytes list placed side later old new (status.Limit limit.Day) accepted can known steady read is =
+    absurd (never_refused text list placed side later old new (status.Limit limit.Day) known accepted is)
+inserted_answered text bytes list placed side later old new (status.Malformed (Field rec field) why) accepted can known steady read is =
+    absurd (never_refused text list placed side later old new (status.Malformed (Field rec field) why) known accepted is)
+inserted_answered text bytes list placed side later old new (status.Rule fault) accepted can known steady read is =
+    absurd (never_refused text list placed side later old new (status.Rule fault) known accepted is)
+inserted_answered text bytes list placed side later old new (status.NoRoom cue) accepted can known steady read is =
+    absurd (never_refused text list placed side later old new (status.NoRoom cue) known accepted is)
+
+-- a side file that is refused has no accepted list
+no_list : (text : List ℕ) (refusal : Status) (side : SideEnds) (Holds : Listing → Placement → Type 0) → side.left ≡ Some text → IsRefused text refusal
+    → OfList side Holds → ⊥
+no_list text refusal side Holds known refused is =
+    let (list, placed, accepted, holds) =
+    subst (λ (l : Option (List ℕ)). IfSome l (λ t. (list : Listing) × (placed : Placement) × IsAccepted t list placed × Holds list placed)) known is in
+    accepted_not_refused text list placed refusal accepted refused
+
+-- it is refused so
+refused_so : (text : List ℕ) (refusal : Status) (side later : SideEnds) (old new : Ends) (answer : Status) → side.left ≡ Some text → IsRefused text refusal
+    → RefusesList side later old new answer → answer ≡ refusal
+refused_so text refusal side later old new answer known refused is =
+    refused_once text answer refusal (subst (λ (l : Option (List ℕ)). IfSome l (λ t. IsRefused t answer)) known is.2) refused
+
+pub refused_side : RefusedSideIsAnswered
+refused_side text refusal side later old new status.Ok refused known steady is = absurd (no_list text refusal side _ known refused is.2)
+refused_side text refusal side later old new status.Memory refused known steady is = inr refl
+refused_side text refusal side later old new status.Usage refused known steady is = absurd is
+refused_side text refusal side later old new status.ReadFault refused known steady (inl is) = absurd (steady is.0)
+refused_side text refusal side later old new status.ReadFault refused known steady (inr is) = absurd (no_list text refusal side _ known refused is.3)
+refused_side text refusal side later old new status.WriteFault refused known steady is = absurd (no_list text refusal side _ known refused is.3)
+refused_side text refusal side later old new (status.Limit limit.Bytes) refused known steady (inl is) =
+    inl (refused_so text refusal side later old new (status.Limit limit.Bytes) known refused is)
+refused_side text refusal side later old new (status.Limit limit.Bytes) refused known steady (inr is) = absurd (no_list text refusal side _ known refused is.2)
+refused_side text refusal side later old new (status.Limit limit.Packet) refused known steady is = absurd (no_list text refusal side _ known refused is.2)
+refused_side text refusal side later old new (status.Malformed (Byte place) why) refused known steady is = absurd (no_list text refusal side _ known refused is.2)
+refused_side text refusal side later old new (status.Differs finding) refused known steady is = absurd (no_list text refusal side _ known refused is.2)
+refused_side text refusal side later old new (status.Short count) refused known steady is = absurd (no_list text refusal side _ known refused is.2)
+refused_side text refusal side later old new (status.Limit limit.Frames) refused known steady is =
+    inl (refused_so text refusal side later old new (status.Limit limit.Frames) known refused is)
+refused_side text refusal side later old new (status.Limit limit.Cues) refused known steady is =
+    inl (refused_so text refusal side later old new (status.Limit limit.Cues) known refused is)
+refused_side text refusal side later old new (status.Limit limit.Day) refused known steady is =
+    inl (refused_so text refusal side later old new (status.Limit limit.Day) known refused is)
+refused_side text refusal side later old new (status.Malformed (Field rec field) why) refused known steady is =
+    inl (refused_so text refusal side later old new (status.Malformed (Field rec field) why) known refused is)
+refused_side text refusal side later old new (status.Rule fault) refused known steady is =
+    inl (refused_so text refusal side later old new (status.Rule fault) known refused is)
+refused_side text refusal side later old new (status.NoRoom cue) refused known steady is =
+    inl (refused_so text refusal side later old new (status.NoRoom cue) known refused is)

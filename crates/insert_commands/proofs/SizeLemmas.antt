@@ -1,0 +1,55 @@
+-- A packet's size by its count, and so how many bytes end no packet.
+use Rattle.std.proofs.Common.{◌≡◌, ℕ, ◌+◌, ◌-◌, ◌*◌, ◌%◌, ◌<◌, ◌≤◌, List, [], ◌∷◌, ◌++◌, length, take, max, get_or, get_or-take, refl, ap, ◌∙◌, length-append, arith, Option, Some, None, MatchOption}
+use Rattle.std.proofs.lemmas.List.{length-take-le}
+use Rattle.std.specs.List.{flat_map}
+use Rattle.anc_words.specs.Packets.{IsPacket, Packet}
+use Rattle.anc_words.specs.Words.{AreWords}
+use Rattle.anc_words.specs.WordsFiles.{IsPacketBytes}
+use Rattle.anc_words.specs.Writing.{word_bytes}
+use Rattle.anc_words.proofs.WordLemmas.{AreWords-bytes}
+use Rattle.insert_commands.specs.OpenPackets.{EndsNoSooner, IsCount}
+
+-- a word is two bytes
+words_long : (words : List ℕ) → length (flat_map word_bytes words) ≡ 2 * length words
+words_long [] = refl
+words_long (word ∷ words) = omega (arith, words_long words)
+
+-- the bytes of seven words and of the user words, as many as the count says
+pub record HasSize (bytes : List ℕ) : Type 0 where
+  pub past : 11 < length bytes
+  pub size : length bytes ≡ 14 + 2 * get_or bytes 11 0
+
+sized : (packet : Packet) (bytes words : List ℕ) → AreWords bytes words → IsPacket packet words → HasSize bytes
+sized packet bytes words are is =
+    let user = packet.user ++ is.checksum ∷ [] in
+    let all : bytes ≡ flat_map word_bytes (0x000 ∷ 0x3FF ∷ 0x3FF ∷ is.did ∷ is.sdid ∷ is.count ∷ user) = AreWords-bytes bytes words are ∙ ap (flat_map word_bytes) is.spelled in
+    let long : length bytes ≡ 12 + 2 * length user = ap length all ∙ words_long (0x000 ∷ 0x3FF ∷ 0x3FF ∷ is.did ∷ is.sdid ∷ is.count ∷ user) ∙ omega arith in
+    let count : get_or bytes 11 0 ≡ is.count % 256 = ap (λ b. get_or b 11 0) all in
+    let low = is.has_count.low_bits in
+    record {
+      past = omega (arith, long);
+      size = omega (arith, long, count, low, length-append packet.user (is.checksum ∷ []));
+    }
+
+pub packet_size : (packet : Packet) (bytes : List ℕ) → IsPacketBytes packet bytes → HasSize bytes
+packet_size packet bytes is = sized packet bytes is.words is.spelled is.is_packet
+
+-- an item of a front is that of the list
+front_item : (n k : ℕ) (bytes : List ℕ) → k < n → get_or (take n bytes) k 0 ≡ get_or bytes k 0
+front_item n k bytes within = get_or-take n bytes k 0 within
+
+-- the bytes up to a packet's end, by its count, end no other packet
+pub none_sooner : (held bytes : List ℕ) (count : Option ℕ) (more : ℕ) → IsCount (held ++ bytes) count → more ≤ length bytes
+    → MatchOption count (more ≡ length bytes) (λ count. more ≤ max (14 + 2 * count - length held) 1) → EndsNoSooner held bytes more
+none_sooner held bytes None more few within all packet n some less is =
+    let size = packet_size packet (take n (held ++ bytes)) is in
+    let past = size.past in
+    let long = length-take-le n (held ++ bytes) (omega (arith, length-append held bytes, within, less)) in
+    omega (arith, past, long, few, length-append held bytes, within, less)
+none_sooner held bytes (Some count) more (past, is_count) within most packet n some less is =
+    let size = packet_size packet (take n (held ++ bytes)) is in
+    let begun = size.past in
+    let whole = size.size in
+    let long = length-take-le n (held ++ bytes) (omega (arith, length-append held bytes, within, less)) in
+    let same = front_item n 11 (held ++ bytes) (omega (arith, begun, long)) in
+    omega (arith, whole, long, same, is_count, most, some, less)

@@ -1,0 +1,4 @@
+pub mod FileLemmas
+pub mod PaddedLemmas
+pub mod AlikeLemmas
+pub mod SoundLemmas

@@ -1,0 +1,162 @@
+-- A programme that frames without captions follow is carried as it is, and they add nothing.
+use Rattle.std.proofs.Common.{◌≡◌, ℕ, zero, suc, ◌+◌, ◌<◌, ◌≤◌, nat_le, nat_lt, map, Bool, true, false, if◌then◌else◌, Some, None, List, [], ◌∷◌, ◌++◌, All, IfSome, length, take, refl, ap, sym, subst, ◌∙◌, arith}
+use Rattle.std.proofs.lemmas.Bool.Decides.{nat_tests}
+use Rattle.std.proofs.lemmas.List.Elements.{All-nil}
+use Rattle.cc_base.specs.Rate.{triplets_of}
+use Rattle.cc_base.specs.declared.rate.Rate.{Rate}
+use Rattle.frame_carrier.specs.Carried.{AreByteBlocks, AreBytePairs, AreCarried, AreRoomy, IsBytePair}
+use Rattle.frame_carrier.specs.Carrying.{channel_of, channel_packet, column_packets, frame_packet, packet_count, packets_before}
+use Rattle.frame_carrier.specs.FrameTriplets.{front_triplets}
+use Rattle.frame_carrier.proofs.CarriedLemmas.{frames_carried}
+use Rattle.frame_carrier.proofs.CarryingLemmas.{front_few, triplets_many}
+use Rattle.frame_scheduler.specs.Columns.{pair_in}
+use Rattle.frame_scheduler.specs.declared.frames.FrameBytes.{FrameBytes}
+use Rattle.line21_codes.specs.declared.channels.Chan.TheVariants.{Cc1, Cc3}
+use Rattle.line21_slots.specs.Cadences.{cadence_of, has_slot_in}
+use Rattle.dtvcc_screen.specs.Meaning.{Byte, Event, Tick, after, start}
+use Rattle.dtvcc_shown.specs.Filling.{AllFill}
+use Rattle.dtvcc_shown.proofs.FrameLemmas.{fill_append}
+use Rattle.services_carried.specs.ServicesCarried.{HasBlocks, IsSent}
+use Rattle.services_carried.specs.Told.{sent_to, told}
+use Rattle.inserted_words.specs.Captioning.{Captioning, padded, silent_frame}
+
+-- a frame below the programme's end is the programme's
+pub padded_below : (list : Captioning) (frame : ℕ) → frame < list.count → padded list frame ≡ list.columns frame
+padded_below list frame below = at (nat_lt frame list.count) refl
+  where
+    at : (b : Bool) → nat_lt frame list.count ≡ b → padded list frame ≡ list.columns frame
+    at true is = rw is refl
+    at false is = absurd (let past : list.count ≤ frame = grind (arith, nat_tests) in omega (arith, past, below))
+
+-- from the end on it is one without captions
+pub padded_past : (list : Captioning) (frame : ℕ) → list.count ≤ frame → padded list frame ≡ silent_frame list.rate frame
+padded_past list frame past = at (nat_lt frame list.count) refl
+  where
+    at : (b : Bool) → nat_lt frame list.count ≡ b → padded list frame ≡ silent_frame list.rate frame
+    at true is = absurd (let below : frame < list.count = grind (arith, nat_tests) in omega (arith, past, below))
+    at false is = rw is refl
+
+-- what holds of each frame of the programme and of each one without captions holds of all
+by_end : (list : Captioning) (P : ℕ → FrameBytes → Type 0) → ((frame : ℕ) → frame < list.count → P frame (list.columns frame))
+    → ((frame : ℕ) → P frame (silent_frame list.rate frame)) → (frame : ℕ) → P frame (padded list frame)
+by_end list P programme silent frame = at (nat_lt frame list.count) refl
+  where
+    at : (b : Bool) → nat_lt frame list.count ≡ b → P frame (padded list frame)
+    at true is = rw is (programme frame (grind (arith, nat_tests)))
+    at false is = rw is (silent frame)
+
+-- the packets of the frames below the end are those of the programme
+pub packets_below : (list : Captioning) (frame : ℕ) → frame ≤ list.count → packets_before (padded list) frame ≡ packets_before list.columns frame
+packets_below list zero most = refl
+packets_below list (suc frame) most =
+    ap (λ n. n + packet_count (padded list frame).blocks.items) (packets_below list frame (omega (arith, most)))
+    ∙ ap (λ (b : FrameBytes). packets_before list.columns frame + packet_count b.blocks.items) (padded_below list frame (omega (arith, most)))
+
+-- so their distribution packets are
+packet_below : (list : Captioning) (frame : ℕ) → frame < list.count
+    → frame_packet list.rate frame (padded list frame) (channel_of (padded list) frame) ≡ frame_packet list.rate frame (list.columns frame) (channel_of list.columns frame)
+packet_below list frame below =
+    ap (λ n. frame_packet list.rate frame (padded list frame) (channel_packet n (padded list frame).blocks.items)) (packets_below list frame (omega (arith, below)))
+    ∙ ap (λ (b : FrameBytes). frame_packet list.rate frame b (channel_packet (packets_before list.columns frame) b.blocks.items)) (padded_below list frame below)
+
+pub front_packets : (list : Captioning) (frame n k : ℕ) → k ≤ n → frame + k ≤ list.count
+    → take k (column_packets list.rate (padded list) frame n) ≡ column_packets list.rate list.columns frame k
+front_packets list frame n zero few most = refl
+front_packets list frame zero (suc k) few most = absurd (omega (arith, few))
+front_packets list frame (suc n) (suc k) few most =
+    ap (λ p. p ∷ take k (column_packets list.rate (padded list) (suc frame) n)) (packet_below list frame (omega (arith, most)))
+    ∙ ap (λ rest. frame_packet list.rate frame (list.columns frame) (channel_of list.columns frame) ∷ rest)
+    (front_packets list (suc frame) n k (omega (arith, few)) (omega (arith, most)))
+
+-- the pair of a frame without captions is of bytes
+silent_bytes : (slot : Bool) → IfSome (if slot then Some (record { a = 0x80; b = 0x80 }) else None) IsBytePair
+silent_bytes true = record { a = omega arith; b = omega arith }
+silent_bytes false = tt
+
+silent_pairs : (rate : Rate) (second_field : Bool) (frame : ℕ) → IfSome (pair_in second_field (silent_frame rate frame)) IsBytePair
+silent_pairs rate false frame = silent_bytes (has_slot_in (cadence_of rate Cc1) frame)
+silent_pairs rate true frame = silent_bytes (has_slot_in (cadence_of rate Cc3) frame)
+
+-- it has room for its pairs
+silent_roomy : (rate : Rate) (frame count : ℕ) → length (front_triplets (silent_frame rate frame) (channel_packet count (silent_frame rate frame).blocks.items)) ≤ triplets_of rate
+silent_roomy rate frame count =
+    let few = front_few (silent_frame rate frame) [] in
+    let many = (triplets_many rate).0 in
+    omega (arith, few, many)
+
+module _ (list : Captioning) (pairs : AreBytePairs list.columns) (bytes : AreByteBlocks list.columns) (roomy : AreRoomy list.rate list.columns) where
+  pub padded_pairs : AreBytePairs (padded list)
+  padded_pairs second_field frame =
+      by_end list (λ n b. IfSome (pair_in second_field b) IsBytePair) (λ n below. pairs second_field n) (silent_pairs list.rate second_field) frame
+
+  pub padded_bytes : AreByteBlocks (padded list)
+  padded_bytes frame = by_end list (λ n b. All (λ byte. byte < 256) b.blocks.items) (λ n below. bytes n) (λ n. All-nil (λ byte. byte < 256)) frame
+
+  pub padded_roomy : AreRoomy list.rate (padded list)
+  padded_roomy frame =
+      by_end list (λ n b. length (front_triplets b (channel_packet (packets_before (padded list) n) b.blocks.items)) ≤ triplets_of list.rate)
+      (λ n below.
+      subst (λ count. length (front_triplets (list.columns n) (channel_packet count (list.columns n).blocks.items)) ≤ triplets_of list.rate)
+      (sym (packets_below list n (omega (arith, below)))) (roomy n))
+      (λ n. silent_roomy list.rate n (packets_before (padded list) n)) frame
+
+  -- so its frames are carried
+  pub padded_carried : (n : ℕ) → AreCarried list.rate (padded list) n
+  padded_carried n = frames_carried list.rate (padded list) n padded_pairs padded_bytes padded_roomy
+
+module _ (list : Captioning) (has : (frame : ℕ) → HasBlocks list.columns frame) where
+  -- the blocks of each frame, by whether it is one of the programme
+  blocks_by : (frame : ℕ) (b : Bool) → nat_lt frame list.count ≡ b → HasBlocks (padded list) frame
+  blocks_by frame true is =
+      let own = has frame in
+      let same = ap (λ (b : FrameBytes). b.blocks.items) (padded_below list frame (grind (arith, nat_tests))) in
+      let few = own.few in
+      record { sent = own.sent; are = own.are; blocks = same ∙ own.blocks; few = omega (arith, ap length same, few) }
+  blocks_by frame false is =
+      let none = ap (λ (b : FrameBytes). b.blocks.items) (padded_past list frame (grind (arith, nat_tests))) in
+      record { sent = []; are = All-nil IsSent; blocks = none; few = omega (arith, ap length none) }
+
+  pub padded_blocks : (frame : ℕ) → HasBlocks (padded list) frame
+  padded_blocks frame = blocks_by frame (nat_lt frame list.count) refl
+
+  -- what is sent in it
+  pub sent_below : (frame : ℕ) → frame < list.count → (padded_blocks frame).sent ≡ (has frame).sent
+  unfolding padded_blocks blocks_by
+  sent_below frame below = at (nat_lt frame list.count) refl
+    where
+      at : (b : Bool) (is : nat_lt frame list.count ≡ b) → (blocks_by frame b is).sent ≡ (has frame).sent
+      at true is = refl
+      at false is = absurd (let past : list.count ≤ frame = grind (arith, nat_tests) in omega (arith, past, below))
+
+  pub sent_past : (frame : ℕ) → list.count ≤ frame → (padded_blocks frame).sent ≡ []
+  unfolding padded_blocks blocks_by
+  sent_past frame past = at (nat_lt frame list.count) refl
+    where
+      at : (b : Bool) (is : nat_lt frame list.count ≡ b) → (blocks_by frame b is).sent ≡ []
+      at true is = absurd (let below : frame < list.count = grind (arith, nat_tests) in omega (arith, past, below))
+      at false is = refl
+
+  -- a service is told what it is told by the programme
+  told_below : (service n : ℕ) → n ≤ list.count
+      → told list.rate (λ frame. sent_to service (padded_blocks frame).sent) n ≡ told list.rate (λ frame. sent_to service (has frame).sent) n
+  told_below service zero most = refl
+  told_below service (suc n) most =
+      ap (λ es. es ++ (Tick list.rate ∷ map Byte (sent_to service (padded_blocks n).sent))) (told_below service n (omega (arith, most)))
+      ∙ ap (λ sent. told list.rate (λ frame. sent_to service (has frame).sent) n ++ (Tick list.rate ∷ map Byte (sent_to service sent)))
+      (sent_below n (omega (arith, most)))
+
+  -- and by the frames behind it nothing but ticks, so no byte of theirs fills its buffer
+  pub told_on_fills : (service n : ℕ) → ((k : ℕ) → k ≤ list.count → AllFill 127 start (told list.rate (λ frame. sent_to service (has frame).sent) k))
+      → AllFill 127 start (told list.rate (λ frame. sent_to service (padded_blocks frame).sent) n)
+  told_on_fills service n fills = at n (nat_le n list.count) refl
+    where
+      at : (n : ℕ) (b : Bool) → nat_le n list.count ≡ b → AllFill 127 start (told list.rate (λ frame. sent_to service (padded_blocks frame).sent) n)
+      at n true is =
+          subst (λ (es : List Event). AllFill 127 start es) (sym (told_below service n (grind (arith, nat_tests)))) (fills n (grind (arith, nat_tests)))
+      at zero false is = tt
+      at (suc n) false is =
+          let past : list.count ≤ n = grind (arith, nat_tests) in
+          fill_append start (told list.rate (λ frame. sent_to service (padded_blocks frame).sent) n) (Tick list.rate ∷ map Byte (sent_to service (padded_blocks n).sent))
+          (at n (nat_le n list.count) refl)
+          (subst (λ sent. AllFill 127 (after start (told list.rate (λ frame. sent_to service (padded_blocks frame).sent) n)) (Tick list.rate ∷ map Byte (sent_to service sent)))
+          (sym (sent_past n past)) tt)

@@ -1,0 +1,3 @@
+pub mod Captioning
+pub mod InsertedFile
+pub mod Soundness

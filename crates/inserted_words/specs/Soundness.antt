@@ -1,0 +1,48 @@
+-- What holds of words in which the captions of a cue list are inserted, and what a receiver makes of them.
+use Rattle.std.specs.Prelude.{◌≡◌, ◌<◌, ◌≤◌, ℕ, List, [], ◌∷◌, ◌++◌, length, take}
+use Rattle.std.specs.List.{All}
+use Rattle.cc_base.specs.declared.rate.Rate.{Rate}
+use Rattle.cc_data.specs.declared.triplet.Triplet.{Triplet}
+use Rattle.cdp_packets.specs.Packets.{Packet as Frame}
+use Rattle.cue_list_commands.specs.Accepted.{IsAccepted}
+use Rattle.cue_list_commands.specs.Output.{built_packets}
+use Rattle.cue_lists.specs.Listing.{Listing}
+use Rattle.frame_scheduler.specs.Planned.{Placement}
+use Rattle.line21_shown.specs.Shown.{ShowsList}
+use Rattle.packet_inserter.specs.Insertion.{IsInserted}
+use Rattle.services_files.specs.WholeFiles.{IsWhole}
+use Rattle.services_carried.specs.Told.{AreAlike}
+use Rattle.services_shown.specs.Buffers.{BuffersNeverFill}
+use Rattle.services_shown.specs.SeenWindows.{ShowAuthoredWindows}
+use Rattle.words_files.specs.Received.{received_at}
+use Rattle.inserted_words.specs.Captioning.{captioning_of, captions_of}
+use Rattle.inserted_words.specs.InsertedFile.{AreInserted}
+
+-- all frames have this rate
+abbrev pub HaveRate : Rate → List Frame → Type 0
+HaveRate rate frames = All (λ frame. frame.rate ≡ rate) frames
+
+-- as many frames as these, each with its captions in place of its own, and all else as it was
+pub data HaveCaptions : (ℕ → List Triplet) → List Frame → List Frame → Type 0 where
+  none : (captions : ℕ → List Triplet) → HaveCaptions captions [] []
+  more : (captions : ℕ → List Triplet) (frames news all all_news : List Frame) (old new : Frame) → HaveCaptions captions frames news
+      → IsInserted (captions (length frames)) old new → all ≡ frames ++ old ∷ [] → all_news ≡ news ++ new ∷ [] → HaveCaptions captions all all_news
+
+-- what holds of a text that was put of these frames with a list's captions: it is a words file of as many frames, each with its
+-- captions, which carry a whole caption channel; those of the list have the rates and triplets of the frames that `build` makes of
+-- it; no byte fills the buffer of a service; and a receiver that takes the text and was reset before the first frame shows the
+-- authored grids at every settled frame of the list, and at every one of each service the authored windows
+pub record IsSoundInsertion (list : Listing) (placed : Placement) (frames : List Frame) (text : List ℕ) : Type 0 where
+  pub news : List Frame
+  pub have : HaveCaptions (captions_of (captioning_of list placed)) frames news
+  pub whole : IsWhole news text
+  pub alike : AreAlike (take list.frames news) (built_packets list placed)
+  pub fills : BuffersNeverFill news
+  pub shown : (frame : ℕ) → frame < list.frames → ShowsList list (λ second_field. received_at second_field news frame) frame
+  pub windows : (frame : ℕ) → frame < list.frames → ShowAuthoredWindows list.cues news frame
+
+-- so it is where the list is accepted and the frames have its rate, and are as many as it has, at least
+abbrev pub InsertionsAreSound : Type 0
+InsertionsAreSound = (bytes : List ℕ) (list : Listing) (placed : Placement) (frames : List Frame) (file text : List ℕ) → IsAccepted bytes list placed
+    → AreInserted (captions_of (captioning_of list placed)) frames file text → HaveRate list.rate frames → list.frames ≤ length frames
+    → IsSoundInsertion list placed frames text

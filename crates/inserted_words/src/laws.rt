@@ -1,0 +1,8 @@
+//! Laws of the definitions: functions without a body, whose contract is the law.
+ghost use Rattle.inserted_words.specs.Soundness.{InsertionsAreSound};
+
+/// Where the captions of an accepted list are inserted into a words file of frames of its rate, as many as it has at least, the
+/// result is a words file of as many frames, fills no service's buffer, and shows the authored grids and windows of the list.
+pub fn law_of_insertions()
+    ensures { InsertionsAreSound }
+{}

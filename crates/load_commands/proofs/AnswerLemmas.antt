@@ -1,0 +1,98 @@
+-- The list of a load is accepted: it is read as a programme, or memory ran out, and what came of the programme is the summary.
+use Rattle.std.proofs.Common.{◌≡◌, ◌≢◌, ◌∙◌, ℕ, ◌≤◌, List, length, Option, Some, Result, Ok, Err, ap, refl, sym, subst, arith}
+use Rattle.command_base.specs.WholeInput.{Reads}
+use Rattle.command_base.specs.declared.status.Status.{Status}
+use Rattle.command_base.specs.declared.status.Status.TheVariants as status
+use Rattle.cue_lists.specs.Printing.{list_bytes}
+use Rattle.cue_list_commands.specs.Accepted.{IsAccepted, IsRefused}
+use Rattle.cue_list_commands.specs.Output.{build_output, built_packets}
+use Rattle.cue_list_commands.specs.Reads.{IsProgrammeOf}
+use Rattle.cue_list_commands.specs.declared.programme.Programme.{Programme}
+use Rattle.cue_list_commands.proofs.ListVerdictLemmas.{accepted_not_refused, accepted_once}
+use Rattle.cue_lists.specs.Listing.{Listing}
+use Rattle.frame_scheduler.specs.Columns.{Columns}
+use Rattle.frame_scheduler.specs.Frames.{GivesFrom, frames_left}
+use Rattle.frame_scheduler.specs.Planned.{IsListPlaced, Placement, columns_of}
+use Rattle.load_lists.specs.LoadList.{load_list, most_load}
+use Rattle.load_lists.proofs.RuledLemmas.{list_ruled}
+use Rattle.load_lists.proofs.WrittenLemmas.{list_written}
+use Rattle.load_rooms.proofs.LoadRoomLemmas.{list_placed}
+use Rattle.load_commands.specs.LoadOutput.{IsSummaryOf, change_count}
+use Rattle.load_commands.specs.Receiving.{AreAllWhole, AreWhole, HasTaken, IsSendable}
+use Rattle.load_commands.specs.declared.reception.Reception.{Reception}
+use Rattle.load_commands.specs.declared.summary.Summary.{Summary}
+use Rattle.load_commands.proofs.WholeLemmas.{frames_whole}
+
+-- a programme can be sent
+pub programme_sendable : (bytes : List ℕ) (programme : Programme) → IsProgrammeOf bytes programme → IsSendable programme
+programme_sendable bytes programme is = record {
+  columns = columns_of is.list is.placed;
+  gives = is.gives;
+  whole = λ count within.
+      subst (λ rate. AreWhole rate (columns_of is.list is.placed) count) (sym is.rate)
+      (frames_whole is.list is.placed is.accepted.spelled.formed is.accepted.ruled is.accepted.placement count);
+  within = let frames = is.frames in let most = is.accepted.spelled.formed.frames in omega (arith, frames, most);
+}
+
+module _ (count : ℕ) (some : 1 ≤ count) (most : count ≤ most_load) where
+  -- what is written of the list is accepted
+  list_accepted : IsAccepted (list_bytes (load_list count)) (load_list count) (list_placed count some most).0
+  list_accepted =
+      let written = list_written count some most in
+      record {
+        within = written.within;
+        spelled = written.spelled;
+        ruled = list_ruled count;
+        placement = (list_placed count some most).1;
+      }
+
+  -- so it isn't refused
+  pub not_refused : (new : Option (List ℕ)) (answer : Status) → Reads IsProgrammeOf IsRefused (Some (list_bytes (load_list count))) new 0 0 (Err answer)
+      → answer ≢ status.Memory → ⊥
+  not_refused new status.Ok reads other = reads
+  not_refused new status.Usage reads other = reads
+  not_refused new status.ReadFault reads other = let rose = reads.0 in omega (arith, rose)
+  not_refused new status.WriteFault reads other = reads
+  not_refused new status.Memory reads other = other refl
+  not_refused new (status.Limit which) reads other = accepted_not_refused _ _ _ (status.Limit which) list_accepted reads.1
+  not_refused new (status.Malformed place why) reads other = accepted_not_refused _ _ _ (status.Malformed place why) list_accepted reads.1
+  not_refused new (status.Rule fault) reads other = accepted_not_refused _ _ _ (status.Rule fault) list_accepted reads.1
+  not_refused new (status.NoRoom cue) reads other = accepted_not_refused _ _ _ (status.NoRoom cue) list_accepted reads.1
+  not_refused new (status.Differs finding) reads other = accepted_not_refused _ _ _ (status.Differs finding) list_accepted reads.1
+  not_refused new (status.Short frames) reads other = accepted_not_refused _ _ _ (status.Short frames) list_accepted reads.1
+
+  -- the summary with these bytes and changes
+  abbrev summary_with : ℕ → ℕ → Summary
+  summary_with bytes changes = record { cues = count; frames = (load_list count).frames; bytes = bytes; changes = changes }
+
+  -- what came of a placed list's frames
+  abbrev IsDone : Listing → Placement → Reception → Type 0
+  IsDone list placed reception =
+      (reception.bytes ≡ length (build_output list placed)) × (reception.changes ≡ change_count (built_packets list placed))
+
+  done : (programme : Programme) (reception : Reception) (is : IsProgrammeOf (list_bytes (load_list count)) programme)
+      → ((columns : Columns) → GivesFrom columns 0 programme.plan → AreAllWhole programme.rate columns (frames_left programme.plan)
+      → HasTaken programme.rate columns (frames_left programme.plan) reception) → IsDone is.list is.placed reception
+  done programme reception is takes =
+      let columns = columns_of is.list is.placed in
+      let whole = subst (λ rate. AreAllWhole rate columns (frames_left programme.plan)) (sym is.rate)
+      (λ first within. frames_whole is.list is.placed is.accepted.spelled.formed is.accepted.ruled is.accepted.placement first) in
+      let taken = subst (λ n. HasTaken is.list.rate columns n reception) is.frames
+      (subst (λ rate. HasTaken rate columns (frames_left programme.plan) reception) is.rate (takes columns is.gives whole)) in
+      (taken.bytes, taken.changes)
+
+  pub summary_is : (programme : Programme) (reception : Reception) → IsProgrammeOf (list_bytes (load_list count)) programme
+      → ((columns : Columns) → GivesFrom columns 0 programme.plan → AreAllWhole programme.rate columns (frames_left programme.plan)
+      → HasTaken programme.rate columns (frames_left programme.plan) reception)
+      → IsSummaryOf count (record { cues = count; frames = (load_list count).frames; bytes = reception.bytes; changes = reception.changes })
+  summary_is programme reception is takes =
+      let placed = list_placed count some most in
+      let once = accepted_once _ is.list (load_list count) is.placed placed.0 is.accepted list_accepted in
+      let all : IsDone (load_list count) placed.0 reception =
+      subst (λ p. IsDone (load_list count) p reception) once.1 (subst (λ l. IsDone l is.placed reception) once.0 (done programme reception is takes)) in
+      record {
+        placed = placed.0;
+        placement = placed.1;
+        is = ap (λ bytes. summary_with bytes reception.changes) all.0
+            ∙ ap (λ changes. summary_with (length (build_output (load_list count) placed.0)) changes) all.1;
+      }

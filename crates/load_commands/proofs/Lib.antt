@@ -1,0 +1,5 @@
+pub mod CountLemmas
+pub mod WholeLemmas
+pub mod TakingLemmas
+pub mod AnswerLemmas
+pub mod VerdictLemmas

@@ -1,0 +1,3 @@
+pub mod LoadOutput
+pub mod LoadAnswer
+pub mod Receiving

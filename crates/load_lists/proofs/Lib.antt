@@ -1,0 +1,4 @@
+pub mod LetterLemmas
+pub mod FormedLemmas
+pub mod RuledLemmas
+pub mod WrittenLemmas

@@ -1,0 +1,2 @@
+pub mod LoadList
+pub mod LoadLaws

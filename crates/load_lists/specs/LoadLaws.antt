@@ -1,0 +1,25 @@
+-- What holds of the list of every load.
+use Rattle.std.specs.Prelude.{ℕ, ◌≤◌, length}
+use Rattle.cue_form.specs.Printing.{list_bytes}
+use Rattle.cue_form.specs.Records.{list_limit, records_of}
+use Rattle.cue_form.specs.Spelling.{Spells}
+use Rattle.cue_types.specs.Listing.{IsFormed, Listing}
+use Rattle.cue_rules.specs.Rules.{IsRuled}
+use Rattle.load_lists.specs.LoadList.{load_list, most_load}
+
+-- it is in its form
+abbrev pub LoadsAreFormed : Type 0
+LoadsAreFormed = (count : ℕ) → 1 ≤ count → count ≤ most_load → IsFormed (load_list count)
+
+-- it keeps the rules
+abbrev pub LoadsAreRuled : Type 0
+LoadsAreRuled = (count : ℕ) → IsRuled (load_list count)
+
+-- what is written of a list is within the limit of a list's bytes, and spells it
+pub record IsWritten (list : Listing) : Type 0 where
+  pub within : length (list_bytes list) ≤ list_limit
+  pub spelled : Spells (records_of (list_bytes list)) list
+
+-- so is what is written of the list of a load
+abbrev pub LoadsAreWritten : Type 0
+LoadsAreWritten = (count : ℕ) → 1 ≤ count → count ≤ most_load → IsWritten (load_list count)

@@ -1,0 +1,89 @@
+-- The list of a load: so many captions, in turn pop-on on CC1, in a window of service 1 behind a delay of a second, and paint-on
+-- on CC3, one every 90 frames at 29.97 frames a second.
+use Rattle.std.specs.Prelude.{ℕ, zero, suc, ◌+◌, ◌*◌, ◌%◌, false, List, [], ◌∷◌, map, Some, None}
+use Rattle.std.specs.List.{range_with_len}
+use Rattle.cc_base.specs.declared.rate.Rate.TheVariants as rate
+use Rattle.line21_codes.specs.declared.channels.Chan.TheVariants.{Cc1, Cc3}
+use Rattle.line21_codes.specs.declared.styles.Colour.{Colour}
+use Rattle.line21_codes.specs.declared.styles.Colour.TheVariants.{White, Yellow}
+use Rattle.cue_types.specs.Listing.{Listing}
+use Rattle.cue_types.specs.declared.cue.Cue.{Cue}
+use Rattle.cue_types.specs.declared.cue.Kind.{Kind}
+use Rattle.cue_types.specs.declared.cue.Kind.TheVariants.{Pop, Paint, Win}
+use Rattle.cue_types.specs.declared.cue.Pen.TheVariants.{Line21, Dtv}
+use Rattle.cue_types.specs.declared.cue.Run.{Run}
+use Rattle.cue_types.specs.declared.cue.WinCue.{WinCue}
+
+-- the most captions of a load
+abbrev pub most_load : ℕ
+most_load = 10000
+
+-- the capital letter of a number, as they follow one another for ever: A is that of 0, and of 26
+abbrev pub letter : ℕ → ℕ
+letter n = 65 + n % 26
+
+-- the text of the caption of number k, counted from 0: 20 letters
+abbrev pub load_text : ℕ → List ℕ
+load_text k = map (λ j. letter (7 * k + 5 * j)) (range_with_len 0 20)
+
+-- a run of line 21 in a row, from a column on, in a colour
+abbrev pub line21_run : ℕ → ℕ → Colour → List ℕ → Run
+line21_run row col colour text = record {
+  row = row;
+  col = col;
+  pen = Line21 (record { colour = colour; italic = false; underline = false });
+  text = text;
+  colors = None;
+}
+
+-- a plain run at the head of a window
+abbrev pub window_run : List ℕ → Run
+window_run text = record { row = 0; col = 0; pen = Dtv false false; text = text; colors = None }
+
+-- the window of caption k, behind a delay of a second: two rows of 32 columns, under eight numbers one after another
+abbrev pub load_window : ℕ → WinCue
+load_window k = record {
+  service = 1;
+  id = k % 8;
+  delay = 10;
+  anchor = 0;
+  av = 60;
+  ah = 50;
+  rows = 2;
+  cols = 32;
+  priority = 0;
+  ws = 1;
+  ps = 1;
+  attr = None;
+}
+
+-- the kinds of captions take turns: how caption k is shown whose turn this is
+abbrev pub load_kind : ℕ → ℕ → Kind
+load_kind k zero = Pop Cc1
+load_kind k (suc zero) = Win (load_window k)
+load_kind k (suc (suc turn)) = Paint Cc3
+
+-- and its one run
+abbrev pub load_run : ℕ → ℕ → Run
+load_run k zero = line21_run 14 4 White (load_text k)
+load_run k (suc zero) = window_run (load_text k)
+load_run k (suc (suc turn)) = line21_run 15 8 Yellow (load_text k)
+
+-- caption k: it is shown two seconds after its LOAD, for three
+abbrev pub load_cue : ℕ → Cue
+load_cue k = record {
+  load = 90 * k;
+  show = 90 * k + 60;
+  hide = Some (90 * k + 150);
+  kind = load_kind k (k % 3);
+  runs = load_run k (k % 3) ∷ [];
+}
+
+-- the list of so many captions
+abbrev pub load_list : ℕ → Listing
+load_list count = record {
+  rate = rate.F2997;
+  frames = 90 * count + 120;
+  shares = record { service = 1; bytes = 31 } ∷ [];
+  cues = map load_cue (range_with_len 0 count);
+}

@@ -1,0 +1,64 @@
+-- What the services of a caption channel are told by frames: in each a tick of the frame's rate, then the bytes that the service is sent
+-- there, and no reset. What else the frames carry says nothing to them.
+use Rattle.std.specs.Prelude.{◌≡◌, ℕ, zero, suc, ◌<◌, ◌≤◌, ◌==◌, if◌then◌else◌, Bool, List, [], ◌∷◌, ◌++◌, None, map, take}
+use Rattle.std.specs.List.{flat_map}
+use Rattle.cc_base.specs.declared.rate.Rate.{Rate}
+use Rattle.cdp_packets.specs.Packets.{Packet as Frame}
+use Rattle.cdp_packets.specs.PacketTriplets.{packet_triplets}
+use Rattle.cue_lists.specs.Listing.{IsFormed, Listing, share_of}
+use Rattle.cue_lists.specs.Rules.{IsRuled}
+use Rattle.cue_lists.specs.declared.lane.Lane.TheVariants.{Service}
+use Rattle.dtvcc_screen.specs.Meaning.{Byte, Event, Tick}
+use Rattle.words_files.specs.Received.{received_pairs}
+use Rattle.services_files.specs.Events.{service_events}
+use Rattle.frame_scheduler.specs.Columns.{Columns}
+use Rattle.frame_scheduler.specs.Planned.{IsListPlaced, Placement, captions_in, chunks_in, columns_of, service_bytes}
+use Rattle.frame_carrier.specs.Carrying.{column_packets}
+use Rattle.services_carried.specs.ServicesCarried.{HasBlocks, Sent}
+
+-- what a service is told in the first frames: in each a tick of the rate, and the bytes that it is sent there
+abbrev pub told : Rate → (ℕ → List ℕ) → ℕ → List Event
+told rate bytes zero = []
+told rate bytes (suc n) = told rate bytes n ++ (Tick rate ∷ map Byte (bytes n))
+
+-- the bytes of a service in what is sent
+abbrev pub sent_to : ℕ → List Sent → List ℕ
+sent_to service sent = flat_map (λ one. if one.service == service then one.bytes else []) sent
+
+-- in the first frames of columns with whole blocks each service is told its bytes in them
+abbrev pub ColumnsAreTold : Type 0
+ColumnsAreTold = (rate : Rate) (columns : Columns) (n : ℕ) (has : (frame : ℕ) → HasBlocks columns frame) (service k : ℕ) → k ≤ n
+    → service_events service (take k (column_packets rate columns 0 n)) ≡ told rate (λ frame. sent_to service (has frame).sent) k
+
+-- in the first frames of a placed list each service is told the bytes of its lane
+abbrev pub ServicesAreTold : Type 0
+ServicesAreTold = (list : Listing) (placed : Placement) → IsFormed list → IsRuled list → IsListPlaced list placed → (service k : ℕ) → k ≤ list.frames
+    → service_events service (take k (column_packets list.rate (columns_of list placed) 0 list.frames))
+    ≡ told list.rate (service_bytes list service (placed (Service service))) k
+
+-- nothing is sent to the service, wherever units stand
+pub record IsSilent (list : Listing) (service : ℕ) : Type 0 where
+  pub captions : captions_in list service ≡ []
+  pub chunks : chunks_in list service ≡ []
+  pub bytes : (frames : List ℕ) (frame : ℕ) → service_bytes list service frames frame ≡ []
+
+-- nothing is to one of which a list that keeps the rules has no share, and it has none of a service above 6
+abbrev pub UnsharedAreSilent : Type 0
+UnsharedAreSilent = (list : Listing) → IsFormed list → IsRuled list → (service : ℕ) → share_of list service ≡ None → IsSilent list service
+
+abbrev pub HighAreUnshared : Type 0
+HighAreUnshared = (list : Listing) → IsFormed list → IsRuled list → (service : ℕ) → 6 < service → share_of list service ≡ None
+
+-- frames have the rates and the triplets of others, one by one
+pub record AreAlike (frames others : List Frame) : Type 0 where
+  pub rates : map (λ frame. frame.rate) frames ≡ map (λ frame. frame.rate) others
+  pub triplets : map packet_triplets frames ≡ map packet_triplets others
+
+-- all services are told the same by both, and both fields have the same pairs
+pub record SayAlike (frames others : List Frame) : Type 0 where
+  pub events : (service : ℕ) → service_events service frames ≡ service_events service others
+  pub pairs : (second_field : Bool) → received_pairs second_field frames ≡ received_pairs second_field others
+
+-- frames say nothing but their rates and triplets
+abbrev pub LikeFramesSayAlike : Type 0
+LikeFramesSayAlike = (frames others : List Frame) → AreAlike frames others → SayAlike frames others

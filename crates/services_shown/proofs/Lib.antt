@@ -1,0 +1,5 @@
+pub mod ToldLemmas
+pub mod BufferLemmas
+pub mod SeenLemmas
+pub mod CutLemmas
+pub mod DelayLemmas

@@ -1,0 +1,66 @@
+-- The bytes of a service's lane act on the screen as the commands of its captions do.
+use Rattle.std.proofs.Common.{◌≡◌, ◌∙◌, ℕ, zero, suc, Bool, true, false, if◌then◌else◌, ◌==◌, List, [], ◌∷◌, ◌++◌, Option, Some, None, refl, ap, append-nil}
+use Rattle.std.specs.Prelude.{option_map}
+use Rattle.std.specs.List.{flat_map, list_any}
+use Rattle.cc_base.specs.declared.rate.Rate.{Rate}
+use Rattle.dtvcc_codes.specs.declared.commands.Command.TheVariants.{Dlw, Dsw}
+use Rattle.dtvcc_codes.specs.Writing.{written}
+use Rattle.dtvcc_screen.specs.Screens.{ScreenState}
+use Rattle.dtvcc_author.specs.declared.caption.Caption.{Caption}
+use Rattle.dtvcc_author.specs.FrameEvents.{delayed_at, is_hidden_at, is_shown_at, names, windows_byte}
+use Rattle.dtvcc_author.specs.Latest.{delay_of}
+use Rattle.service_lanes.specs.declared.chunk.Chunk.{Chunk}
+use Rattle.service_lanes.specs.ServiceBytes.{loads_at}
+use Rattle.dtvcc_shown.specs.CaptionLanes.{lane_of, plain_events}
+use Rattle.dtvcc_shown.specs.Undelayed.{acted_on, shows_bytes, undelayed}
+use Rattle.dtvcc_shown.proofs.WrittenLemmas.{acted_append, dlw_acts, dlw_plain, dsw_acts}
+use Rattle.windows_shown.proofs.CaptionLoads.{CaptionLoad, captions, loads_act}
+use Rattle.windows_shown.proofs.EventLemmas.{acted_by, delay_shows}
+use Rattle.windows_shown.proofs.WindowLemmas.{opening, screen_at}
+
+-- one command for windows, and one behind another
+one_dsw : (windows : ℕ) (s : ScreenState) → acted_on (written (Dsw windows) ++ []) s ≡ acted_by (Dsw windows ∷ []) s
+one_dsw windows s = ap (λ (bytes : List ℕ). acted_on bytes s) (append-nil (written (Dsw windows))) ∙ dsw_acts windows s
+
+one_dlw : (windows : ℕ) (s : ScreenState) → acted_on (written (Dlw windows) ++ []) s ≡ acted_by (Dlw windows ∷ []) s
+one_dlw windows s = ap (λ (bytes : List ℕ). acted_on bytes s) (append-nil (written (Dlw windows))) ∙ dlw_acts windows s
+
+both_act : (a b : Bool) (hides shows : ℕ) (s : ScreenState)
+    → acted_on (flat_map written ((if a then Dlw hides ∷ [] else []) ++ (if b then Dsw shows ∷ [] else []))) s
+    ≡ acted_by (if b then Dsw shows ∷ [] else []) (acted_by (if a then Dlw hides ∷ [] else []) s)
+both_act true true hides shows s =
+    acted_append (written (Dlw hides)) (written (Dsw shows) ++ []) s (dlw_plain hides)
+    ∙ ap (acted_on (written (Dsw shows) ++ [])) (dlw_acts hides s)
+    ∙ one_dsw shows (acted_by (Dlw hides ∷ []) s)
+both_act true false hides shows s = one_dlw hides s
+both_act false true hides shows s = one_dsw shows s
+both_act false false hides shows s = refl
+
+-- the events of a frame
+pub events_act : (frame : ℕ) (gs : List CaptionLoad) (s : ScreenState) → acted_on (plain_events frame (captions gs)) s ≡ opening frame gs s
+events_act frame gs s =
+    both_act (list_any (is_hidden_at frame) (captions gs)) (list_any (is_shown_at frame) (captions gs))
+    (windows_byte (names (is_hidden_at frame) (captions gs))) (windows_byte (names (is_shown_at frame) (captions gs))) s
+
+-- what a delay puts off
+delay_acts : (found : Option Caption) (s : ScreenState) → acted_on (shows_bytes (option_map delay_of found)) s ≡ delay_shows found s
+unfolding written
+delay_acts None s = refl
+delay_acts (Some c) s = dsw_acts (windows_byte (λ id. c.id == id)) s
+
+-- the loads of every frame act as the commands of the captions
+abbrev pub AreLoads : List (Chunk × ℕ) → List CaptionLoad → Type 0
+AreLoads placed gs = (frame : ℕ) (s : ScreenState) → acted_on (loads_at placed frame) s ≡ loads_act frame gs s
+
+-- so the screen of the lane before a frame is that of the captions
+pub undelayed_is : (rate : Rate) (placed : List (Chunk × ℕ)) (gs : List CaptionLoad) → AreLoads placed gs → (frame : ℕ)
+    → undelayed (lane_of rate (captions gs) placed) frame ≡ screen_at gs frame
+undelayed_is rate placed gs loads zero = refl
+undelayed_is rate placed gs loads (suc frame) =
+    let lane = lane_of rate (captions gs) placed in
+    let s : ScreenState = screen_at gs frame in
+    ap (λ (t : ScreenState). acted_on (loads_at placed frame) (acted_on (shows_bytes (lane.delay frame)) (acted_on (plain_events frame (captions gs)) t)))
+    (undelayed_is rate placed gs loads frame)
+    ∙ ap (λ (t : ScreenState). acted_on (loads_at placed frame) (acted_on (shows_bytes (lane.delay frame)) t)) (events_act frame gs s)
+    ∙ ap (acted_on (loads_at placed frame)) (delay_acts (delayed_at frame (captions gs)) (opening frame gs s))
+    ∙ loads frame (delay_shows (delayed_at frame (captions gs)) (opening frame gs s))

@@ -1,0 +1,14 @@
+pub mod NamedLemmas
+pub mod CaptionLoads
+pub mod TextLemmas
+pub mod LoadLemmas
+pub mod MemberLemmas
+pub mod EventLemmas
+pub mod EditLemmas
+pub mod WindowLemmas
+pub mod SeenLemmas
+pub mod ByteLemmas
+pub mod CueLoadLemmas
+pub mod CueLemmas
+pub mod ShownLemmas
+pub mod ExampleLemmas

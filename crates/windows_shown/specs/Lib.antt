@@ -1,0 +1,2 @@
+pub mod AuthoredShown
+pub mod Examples
