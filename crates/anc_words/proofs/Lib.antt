@@ -13,3 +13,4 @@ pub mod ByteLemmas
 pub mod NextLemmas
 pub mod RefusedLemmas
 pub mod OffendsLemmas
+pub mod LaneLemmas

@@ -1,6 +1,7 @@
 ghost use Rattle.std.specs.Prelude.{◌≤◌, length};
 
 use crate::caption_words::CaptionWords;
+use crate::words::low_byte;
 
 /// A whole ancillary packet of captions (SMPTE ST 291-1), with DID 61 and SDID 01 (SMPTE ST 334-1): the flag, DID, SDID, the
 /// count, the user words and the checksum word, all as they must be. It borrows the bytes in which it was found.
@@ -43,7 +44,7 @@ impl<'a> CaptionPacket<'a> {
         ensures bytes { out.new ≡ carried_by self.now ++ drop result out.old }
     {
         for place in 0..self.user.len() {
-            out[place] = self.user[place][1];
+            out[place] = low_byte(self.user[place]);
         }
         self.user.len()
     }

@@ -1,9 +1,11 @@
-ghost use Rattle.std.specs.Prelude.{◌≡◌, ◌↔◌, ◌≤◌, ◌*◌, ◌%◌, ℕ, List, IfSome, IsSome, IsTrue, length, map};
-ghost use Rattle.std.specs.List.{list_all, sum};
+ghost use Rattle.std.specs.Prelude.{◌≡◌, ◌↔◌, ◌≤◌, ◌%◌, ◌^◌, if◌then◌else◌, ℕ, List, None, Some, IfSome, IsSome, IsTrue, length, map};
+ghost use Rattle.std.specs.List.{flat_map, list_all, sum};
 ghost use Rattle.anc_words.specs.CaptionWords.{AreRight, BeginsWith, low_of, word_of};
 ghost use Rattle.anc_words.specs.Reading.{is_eight_bit};
 
-use crate::words::Word;
+use crate::word_lanes::{are_eight_bit, lanes};
+use crate::words::{Word, value};
+use std::simd::prelude::*;
 
 /// The first five words of each packet of captions (SMPTE ST 291-1, SMPTE ST 334-1): the flag 000 3FF 3FF, DID 61, SDID 01.
 const HEAD: [u8; 10] = [0x00, 0x00, 0x03, 0xFF, 0x03, 0xFF, 0x01, 0x61, 0x01, 0x01];
@@ -48,44 +50,53 @@ impl<'a> CaptionWords<'a> {
     /// Whether all are 8-bit words, and the checksum word is that of the others.
     #[inline]
     pub(crate) fn are_right(&self) -> bool
-        requires { length self.now.user.now ≤ 255 }
         ensures { IsTrue result ↔ AreRight self.now.count (map word_of self.now.user.now) self.now.checksum }
     {
-        let sum = HEAD_SUM + u32::from(self.count) + sum_of(self.user);
-        Word::is_eight_bit(self.count)
-            && self.checksum == Word::checksum(sum).value
-            && are_eight_bit(self.user)
+        let Some(sum) = sum_of(self.user) else {
+            return false;
+        };
+        let sum = HEAD_SUM + u32::from(self.count) + u32::from(sum);
+        Word::is_eight_bit(self.count) && self.checksum == Word::checksum(sum).value
     }
 }
 
-// The word of two bytes, the high one first.
+// The sum of words, modulo 2^16. `None` where one of them isn't an 8-bit word.
 #[inline]
-fn value(word: [u8; 2]) -> u16
-    ensures { result ≡ word_of word }
+fn sum_of(words: &[[u8; 2]]) -> Option<u16>
+    ensures { result ≡ (if list_all is_eight_bit (map word_of words.now) then Some (sum (map word_of words.now) % 2 ^ 16) else None) }
 {
-    u16::from(word[0]) * 256 + u16::from(word[1])
+    let (eights, rest) = words.as_chunks::<8>();
+    Some(sum_of_eights(eights)?.wrapping_add(sum_of_rest(rest)?))
 }
 
-// The sum of words.
-fn sum_of(words: &[[u8; 2]]) -> u32
-    requires few { length words.now ≤ 255 }
-    ensures sum { result ≡ sum (map word_of words.now) }
-    ensures small { result ≤ 65535 * length words.now }
+// The same of words in eights.
+#[inline]
+fn sum_of_eights(eights: &[[[u8; 2]; 8]]) -> Option<u16>
+    ensures { result ≡ (if list_all is_eight_bit (map word_of (flat_map (λ eight. eight) eights.now)) then Some (sum (map word_of (flat_map (λ eight. eight) eights.now)) % 2 ^ 16) else None) }
 {
-    let mut sum = 0;
-    for word in words {
-        sum += u32::from(value(*word));
+    let mut sums = u16x8::splat(0);
+    for eight in eights {
+        let words = lanes(eight);
+        if !are_eight_bit(words) {
+            return None;
+        }
+        sums += words;
     }
-    sum
+    Some(sums.reduce_sum())
 }
 
-// Whether all words are 8-bit words.
-fn are_eight_bit(words: &[[u8; 2]]) -> bool
-    ensures { result ≡ list_all is_eight_bit (map word_of words.now) }
+// The same of words one by one.
+#[inline]
+fn sum_of_rest(words: &[[u8; 2]]) -> Option<u16>
+    ensures { result ≡ (if list_all is_eight_bit (map word_of words.now) then Some (sum (map word_of words.now) % 2 ^ 16) else None) }
 {
-    let mut are = true;
+    let mut total = 0u16;
     for word in words {
-        are &= Word::is_eight_bit(value(*word));
+        let word = value(*word);
+        if !Word::is_eight_bit(word) {
+            return None;
+        }
+        total = total.wrapping_add(word);
     }
-    are
+    Some(total)
 }

@@ -10,6 +10,7 @@ mod open_packet;
 mod packets;
 mod parts;
 mod reader;
+mod word_lanes;
 mod words;
 
 pub use caption_packet::CaptionPacket;

@@ -1,4 +1,5 @@
 ghost use Rattle.std.specs.Prelude.{◌≡◌, ◌<◌, ◌%◌};
+ghost use Rattle.anc_words.specs.CaptionWords.{low_of, word_of};
 ghost use Rattle.anc_words.specs.Reading.{is_eight_bit};
 ghost use Rattle.anc_words.specs.Writing.{eight_bit_word, nine_bit_word, word_bytes};
 
@@ -60,4 +61,21 @@ impl Word {
     {
         [(self.value / 256) as u8, (self.value % 256) as u8]
     }
+}
+
+/// The word of two bytes, the high one first.
+#[inline]
+pub(crate) fn value(bytes: [u8; 2]) -> u16
+    ensures { result ≡ word_of bytes }
+{
+    u16::from(bytes[0]) * 256 + u16::from(bytes[1])
+}
+
+/// The low one of a word's two bytes. It is taken from the word, since LLVM reads words one behind another in one load,
+/// and every second byte in a load each.
+#[inline]
+pub(crate) fn low_byte(bytes: [u8; 2]) -> u8
+    ensures { result ≡ low_of bytes }
+{
+    (value(bytes) % 256) as u8
 }

@@ -1,0 +1,38 @@
+//! Words of ancillary data (SMPTE ST 291-1) eight at a time, a lane each.
+ghost use Rattle.std.specs.Prelude.{◌≡◌, ◌%◌, ◌<◌, count_ones, map};
+ghost use Rattle.std.specs.List.{All, list_all};
+ghost use Rattle.anc_words.specs.CaptionWords.{word_of};
+ghost use Rattle.anc_words.specs.Reading.{is_eight_bit};
+
+use crate::words::value;
+use std::simd::prelude::*;
+
+/// The words of eight pairs of bytes, the high byte of each first.
+#[inline]
+pub(crate) fn lanes(words: &[[u8; 2]; 8]) -> u16x8
+    ensures { result ≡ map word_of words.now }
+{
+    u16x8::from_array(words.map(value))
+}
+
+/// Whether all are 8-bit words: the bits above bit 7 are 1 where bits 7 to 0 have an odd number of ones, and else 2.
+#[inline]
+pub(crate) fn are_eight_bit(words: u16x8) -> bool
+    ensures { result ≡ list_all is_eight_bit words }
+{
+    let high = words >> u16x8::splat(8);
+    let odd = odd_ones(words & u16x8::splat(0xFF));
+    high + odd == u16x8::splat(2)
+}
+
+// 1 in each lane whose byte has an odd number of ones, else 0.
+#[inline]
+fn odd_ones(bytes: u16x8) -> u16x8
+    requires { All (λ byte. byte < 256) bytes }
+    ensures { result ≡ map (λ byte. count_ones byte % 2) bytes }
+{
+    let bits = bytes ^ (bytes >> u16x8::splat(4));
+    let bits = bits ^ (bits >> u16x8::splat(2));
+    let bits = bits ^ (bits >> u16x8::splat(1));
+    bits & u16x8::splat(1)
+}
