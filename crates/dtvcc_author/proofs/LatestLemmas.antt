@@ -3,17 +3,17 @@
 use Rattle.std.proofs.Common.{get_or, ◌≡◌, ◌∙◌, ℕ, suc, zero, ◌+◌, ◌<◌, ◌≤◌, ◌⊎◌, inl, inr, ◌==◌, Bool, true, false, ◌&&◌, ◌||◌, not, List, [], ◌∷◌, ◌++◌, Option, Some, None, refl, sym, ap, subst, arith, length, take, drop, cond, if◌then◌else◌}
 use Rattle.std.specs.Prelude.{⊤, IfNone, IfSome, find, option_map, slice_index_or, slice_set}
 use Rattle.std.specs.List.{AllByRecursion, flat_map, list_any}
-use Rattle.std.proofs.lemmas.Bool.{and_parts, eq-eqb, eqb-true}
+use Rattle.std.proofs.lemmas.Bool.{and_parts, eq-eqb, eqb-true, or_parts}
 use Rattle.std.proofs.lemmas.Bool.Decides.{nat_tests}
 use Rattle.std.proofs.lemmas.List.{drop_all, drop_more, get_or-set_other, get_or-set_same, take_more, take-append-drop}
-use Rattle.std.proofs.lemmas.List.Folds.{list_any-append}
+use Rattle.std.proofs.lemmas.List.Folds.{list_any-append, list_any_at}
 use Rattle.std.proofs.lemmas.List.Concat.{flat_map-append}
 use Rattle.cc_base.specs.declared.rate.Rate.{Rate}
 use Rattle.dtvcc_codes.specs.declared.commands.Command.{Command}
 use Rattle.dtvcc_codes.specs.declared.commands.Command.TheVariants.{Dlw, Dsw}
 use Rattle.dtvcc_codes.specs.Writing.{written}
 use Rattle.dtvcc_author.specs.EventBytes.{command_bytes, delay_bytes, events_bytes}
-use Rattle.dtvcc_author.specs.FrameEvents.{delay_commands, delayed_at, event_bytes, is_delayed_at, is_hidden_at, is_shown_at, names, windows_byte, windows_command}
+use Rattle.dtvcc_author.specs.FrameEvents.{delay_commands, delayed_at, event_bytes, has_event_at, is_delayed_at, is_hidden_at, is_shown_at, names, windows_byte, windows_command}
 use Rattle.dtvcc_author.specs.Kept.{AreKept, Follows, IsSoundCaption}
 use Rattle.dtvcc_author.specs.Latest.{AreEventsOf, IsAt, caption_in, delay_of, latest_behind, latest_of, passes}
 use Rattle.dtvcc_author.specs.declared.caption.Caption.{Caption}
@@ -368,6 +368,49 @@ module _ (rate : Rate) (frames frame : ℕ) (cs : List Caption) (latest : Latest
           let told = delayed_named rate frames frame cs latest kept is found.0 found.1 in
           let wrong : true ≡ false = sym found.2 ∙ told ∙ fails found.0 found.1 in
           cc
+
+-- a caption without an event in the frame fails each of its tests
+record IsQuiet (frame : ℕ) (found : Option Caption) : Type 0 where
+  pub hidden : passes (is_hidden_at frame) found ≡ false
+  pub shown : passes (is_shown_at frame) found ≡ false
+  pub delayed : passes (is_delayed_at frame) found ≡ false
+
+quiet_is : (frame : ℕ) (found : Option Caption) → passes (has_event_at frame) found ≡ false → IsQuiet frame found
+quiet_is frame None none = record { hidden = refl; shown = refl; delayed = refl }
+quiet_is frame (Some c) none =
+    let parts = or_parts (c.hide == frame) (c.starts == frame) none in
+    record {
+      hidden = parts.0;
+      shown = rw parts.1 (fails (c.tenths == 0));
+      delayed = rw parts.1 (fails (not (c.tenths == 0)));
+    }
+  where
+    fails : (b : Bool) → (b && false) ≡ false
+    fails true = refl
+    fails false = refl
+
+-- where the last caption of no window has an event in the frame, the frame has none
+pub quiet_events : (rate : Rate) (frames frame : ℕ) (cs : List Caption) (latest : Latest) → AreKept rate frames cs → IsAt cs frame latest
+    → length latest.windows ≡ 8 → list_any (passes (has_event_at frame)) latest.windows ≡ false
+    → AreEventsOf frame cs (record { hidden = 0; shown = 0; delay = None })
+quiet_events rate frames frame cs latest kept is eight none = record {
+  hidden = sym (byte_same (names (is_hidden_at frame) cs) (λ id. false)
+      (λ id small. hidden_named rate frames frame cs latest kept is id small ∙ (quiet id small).hidden));
+  shown = sym (byte_same (names (is_shown_at frame) cs) (λ id. false)
+      (λ id small. shown_named rate frames frame cs latest kept is id small ∙ (quiet id small).shown));
+  delay = delay_none rate frames frame cs latest kept is (λ id small. (quiet id small).delayed);
+}
+  where
+    at : (id : ℕ) → id < 8 → (b : Bool) → passes (has_event_at frame) (caption_in latest id) ≡ b
+        → passes (has_event_at frame) (caption_in latest id) ≡ false
+    at id small false is_false = is_false
+    at id small true is_true =
+        let some = list_any_at (passes (has_event_at frame)) latest.windows id None (omega arith) is_true in
+        let wrong : true ≡ false = sym some ∙ none in
+        cc
+
+    quiet : (id : ℕ) → id < 8 → IsQuiet frame (caption_in latest id)
+    quiet id small = quiet_is frame (caption_in latest id) (at id small (passes (has_event_at frame) (caption_in latest id)) refl)
 
 -- some captions are passed, all of those behind the frame's beginning not
 pub record IsPassing (cs : List Caption) (frame : ℕ) (latest : Latest) : Type 0 where

@@ -1,9 +1,10 @@
 -- Every command of a window cue in its ranges has bytes.
-use Rattle.std.proofs.Common.{ℕ, ◌-◌, ◌<◌, zero, suc, Bool, true, false, List, [], ◌∷◌, ◌++◌, refl, arith}
+use Rattle.std.proofs.Common.{◌≡◌, ℕ, ◌-◌, ◌<◌, zero, suc, Bool, true, false, List, [], ◌∷◌, ◌++◌, refl, subst, arith}
 use Rattle.std.specs.Prelude.{All, Option, Some, None, IsSome, slice_index_or, unwrap_or, IfSome}
 use Rattle.std.specs.List.{AllByRecursion, flat_map}
-use Rattle.std.proofs.lemmas.List.Elements.{All-from_recursion, All-head, All-tail}
+use Rattle.std.proofs.lemmas.List.Elements.{All-from_recursion, All-head, All-tail, All-weaker, recursion_from_All}
 use Rattle.dtvcc_codes.specs.declared.commands.Command.{Command}
+use Rattle.dtvcc_codes.specs.declared.commands.Command.TheVariants.{Df, Put, Spa, Spl}
 use Rattle.dtvcc_codes.specs.declared.pens.PenAttr.{PenAttr}
 use Rattle.dtvcc_codes.specs.declared.pens.PenColors.{PenColors}
 use Rattle.dtvcc_codes.specs.declared.windows.WinAttr.{WinAttr}
@@ -20,7 +21,7 @@ use Rattle.cue_types.specs.declared.cue.WinCue.{WinCue}
 use Rattle.cue_types.specs.Cues.{IsCueFormed, IsOfKind}
 use Rattle.cue_types.specs.Windows.{AreWindowAttributes, IsWindow, IsWindowRun}
 use Rattle.dtvcc_author.specs.CueUnits.{IsWritable}
-use Rattle.dtvcc_author.specs.WindowCommands.{are_coloured, attribute_commands, character_commands, color_commands, commands_of, commands_with, definition_of, IsOfWindow, pen_of, run_commands, window_commands}
+use Rattle.dtvcc_author.specs.WindowCommands.{are_coloured, attribute_commands, character_commands, color_commands, commands_of, commands_with, definition_of, pen_of, run_commands, window_commands}
 
 -- a fact of each command
 abbrev AreWritable : List Command → Type 0
@@ -146,6 +147,54 @@ window_writable w runs formed placed = (
       (runs_writable (are_coloured runs) (pen_style w.ps).0 (pen_style w.ps).1 w runs (pen_style_is w.ps).0 (pen_style_is w.ps).1 formed placed),
 )
 
+-- what is written of a window: its definition, its attributes, and each of its runs
+pub record IsWindowWritable (w : WinCue) (runs : List Run) (coloured : Bool) (style : PenAttr × PenColors) : Type 0 where
+  pub definition : IsWritable (Df (definition_of w))
+  pub attributes : All IsWritable (attribute_commands w.attr)
+  pub each_run : All (λ run. All IsWritable (run_commands coloured style.0 style.1 run)) runs
+
+each_run_writable : (coloured : Bool) (pen : PenAttr) (colors : PenColors) (w : WinCue) (runs : List Run) → IsPenAttr pen → IsPenColors colors
+    → IsWindow w → All (IsWindowRun w) runs → All (λ run. All IsWritable (run_commands coloured pen colors run)) runs
+each_run_writable coloured pen colors w runs is are formed placed =
+    All-weaker (IsWindowRun w) (λ run. All IsWritable (run_commands coloured pen colors run))
+    (λ run of. All-from_recursion IsWritable (run_commands coloured pen colors run) (run_writable coloured pen colors w run is are formed of))
+    runs placed
+
+pub window_parts : (w : WinCue) (runs : List Run) (coloured : Bool) → IsWindow w → All (IsWindowRun w) runs
+    → IsWindowWritable w runs coloured (pen_style w.ps)
+window_parts w runs coloured formed placed = record {
+  definition = record { spellable = definition_writable w formed; unskipped = refl };
+  attributes = All-from_recursion IsWritable (attribute_commands w.attr) (attributes_writable w.attr formed.attr);
+  each_run = each_run_writable coloured (pen_style w.ps).0 (pen_style w.ps).1 w runs (pen_style_is w.ps).0 (pen_style_is w.ps).1 formed placed;
+}
+
+-- what is written of a run: its place, its pen, its colours, and each of its characters
+pub record IsRunWritable (coloured : Bool) (pen : PenAttr) (colors : PenColors) (run : Run) : Type 0 where
+  pub to_place : IsWritable (Spl run.row run.col)
+  pub to_pen : IsWritable (Spa (pen_of pen run.pen))
+  pub to_colors : All IsWritable (color_commands coloured colors run.colors)
+  pub characters : All (λ ch. IsWritable (Put (Some ch))) run.text
+
+both_writable : (commands more : List Command) → AreWritable (commands ++ more) → AreWritable commands × AreWritable more
+both_writable [] more all = (tt, all)
+both_writable (command ∷ commands) more all = let rest = both_writable commands more all.1 in ((all.0, rest.0), rest.1)
+
+each_character : (text : List ℕ) → AreWritable (character_commands text) → AllByRecursion (λ ch. IsWritable (Put (Some ch))) text
+each_character [] all = tt
+each_character (ch ∷ text) all = (all.0, each_character text all.1)
+
+pub run_parts : (coloured : Bool) (pen : PenAttr) (colors : PenColors) (run : Run) → All IsWritable (run_commands coloured pen colors run)
+    → IsRunWritable coloured pen colors run
+run_parts coloured pen colors run all =
+    let each = recursion_from_All IsWritable (run_commands coloured pen colors run) all in
+    let rest = both_writable (color_commands coloured colors run.colors) (character_commands run.text) each.1.1 in
+    record {
+      to_place = each.0;
+      to_pen = each.1.0;
+      to_colors = All-from_recursion IsWritable (color_commands coloured colors run.colors) rest.0;
+      characters = All-from_recursion (λ ch. IsWritable (Put (Some ch))) run.text (each_character run.text rest.1);
+    }
+
 -- a cue of a kind
 kind_writable : (kind : Kind) (hide : Option ℕ) (runs : List Run) → IsOfKind kind hide runs → AreWritable (commands_with kind runs)
 kind_writable (Pop channel) hide runs formed = tt
@@ -157,12 +206,15 @@ kind_writable (Win w) hide runs formed = window_writable w runs formed.0 formed.
 pub commands_writable : (cue : Cue) → IsCueFormed cue → All IsWritable (commands_of cue)
 commands_writable cue formed = All-from_recursion IsWritable (commands_of cue) (kind_writable cue.kind cue.hide cue.runs formed.kind)
 
--- its window is in its ranges
-kind_window : (kind : Kind) (hide : Option ℕ) (runs : List Run) → IsOfKind kind hide runs → IsOfWindow kind
-kind_window (Pop channel) hide runs formed = tt
-kind_window (Paint channel) hide runs formed = tt
-kind_window (Roll channel rows) hide runs formed = tt
-kind_window (Win w) hide runs formed = formed.0
+-- the window of a cue in its ranges is in its own, and so are its runs
+kind_runs : (kind : Kind) (hide : Option ℕ) (runs : List Run) → IsOfKind kind hide runs → (w : WinCue) → kind ≡ Win w
+    → IsWindow w × All (IsWindowRun w) runs
+kind_runs (Pop channel) hide runs formed w is = cc
+kind_runs (Paint channel) hide runs formed w is = cc
+kind_runs (Roll channel rows) hide runs formed w is = cc
+kind_runs (Win v) hide runs formed w is =
+    let same : v ≡ w = cc in
+    subst (λ u. IsWindow u × All (IsWindowRun u) runs) same (formed.0, formed.2)
 
-pub cue_window : (cue : Cue) → IsCueFormed cue → IsOfWindow cue.kind
-cue_window cue formed = kind_window cue.kind cue.hide cue.runs formed.kind
+pub cue_runs : (cue : Cue) → IsCueFormed cue → (w : WinCue) → cue.kind ≡ Win w → IsWindow w × All (IsWindowRun w) cue.runs
+cue_runs cue formed w is = kind_runs cue.kind cue.hide cue.runs formed.kind w is

@@ -1,6 +1,6 @@
 -- The events of a service: what it is sent in a frame to hide and to show its captions (CTA-708-E, DeleteWindows,
 -- DisplayWindows, Delay).
-use Rattle.std.specs.Prelude.{ℕ, ◌+◌, ◌==◌, ◌&&◌, not, Bool, if◌then◌else◌, List, [], ◌∷◌, ◌++◌, Option, Some, None, find, option_map}
+use Rattle.std.specs.Prelude.{ℕ, ◌+◌, ◌==◌, ◌&&◌, ◌||◌, not, Bool, if◌then◌else◌, List, [], ◌∷◌, ◌++◌, Option, Some, None, find, option_map}
 use Rattle.std.specs.List.{flat_map, list_any}
 use Rattle.dtvcc_codes.specs.declared.commands.Command.{Command}
 use Rattle.dtvcc_codes.specs.declared.commands.Command.TheVariants.{Dlw, Dly, Dsw}
@@ -18,6 +18,10 @@ is_shown_at frame c = (c.tenths == 0) && (c.starts == frame)
 -- its delay starts there
 abbrev pub is_delayed_at : ℕ → Caption → Bool
 is_delayed_at frame c = not (c.tenths == 0) && (c.starts == frame)
+
+-- it has an event there: it is hidden, or what shows it is sent
+abbrev pub has_event_at : ℕ → Caption → Bool
+has_event_at frame c = (c.hide == frame) || (c.starts == frame)
 
 -- a byte of windows: bit n is set where window n is named
 abbrev pub windows_byte : (ℕ → Bool) → ℕ

@@ -15,12 +15,6 @@ use Rattle.cue_types.specs.declared.cue.Pen.{Pen}
 use Rattle.cue_types.specs.declared.cue.Pen.TheVariants.{Line21, Dtv}
 use Rattle.cue_types.specs.declared.cue.Run.{Run}
 use Rattle.cue_types.specs.declared.cue.WinCue.{WinCue}
-use Rattle.cue_types.specs.Windows.{IsWindow}
-
--- a cue of a window has a window in its ranges
-abbrev pub IsOfWindow : Kind → Type 0
-IsOfWindow (Win window) = IsWindow window
-IsOfWindow _ = Unit {0}
 
 -- the window: hidden, its rows and columns locked, its anchor given in cells
 abbrev pub definition_of : WinCue → Definition

@@ -1,37 +1,40 @@
-ghost use Rattle.std.specs.Prelude.{◌≡◌, ◌≤◌, ◌++◌, IfOk, OnOk, map, Some};
-ghost use Rattle.std.specs.List.{flat_map, list_any};
+ghost use Rattle.std.specs.Prelude.{◌≡◌, ◌++◌, [], ◌∷◌, All, OnOk, map, Some};
+ghost use Rattle.std.specs.List.{flat_map};
 ghost use Rattle.dtvcc_codes.specs.declared.commands.Command.TheVariants as command;
-ghost use Rattle.cue_types.specs.Windows.{IsWindow};
-ghost use Rattle.dtvcc_windows.specs.Styles.{pen_style as style_of};
-ghost use Rattle.dtvcc_author.specs.WindowCommands.{are_coloured, attribute_commands, character_commands, color_commands, commands_of, definition_of, pen_of, run_commands, window_commands, IsOfWindow};
+ghost use Rattle.dtvcc_codes.specs.Writing.{written};
+ghost use Rattle.cue_types.specs.Windows.{IsWindow, IsWindowRun};
+ghost use Rattle.dtvcc_author.specs.CueUnits.{IsWritable};
+ghost use Rattle.dtvcc_author.specs.WindowCommands.{are_coloured, attribute_commands, character_commands, color_commands, definition_of, pen_of, run_commands, window_commands};
 
-use cue_types::{Cue, Kind, Pen, Run, WinCue};
-use dtvcc_codes::{Command, Definition, PenAttr, PenColors, WinAttr};
+use crate::unit::DUnits;
+use cue_types::{Pen, Run, WinCue};
+use dtvcc_codes::{Command, Definition, PenAttr, PenColors, WinAttr, write_command};
 use dtvcc_windows::pen_style;
-use std::alloc::{AllocError, Global};
+use std::alloc::AllocError;
 
-/// The commands of a cue.
-pub(crate) fn cue_commands(alloc: Global, cue: &Cue) -> Result<Vec<Command>, AllocError>
-    requires { IsOfWindow cue.now.kind }
-    ensures { IfOk result (λ commands. commands.items ≡ commands_of cue.now) }
+/// Appends the units that load runs into a window.
+pub(crate) fn push_window(
+    units: &mut DUnits,
+    window: WinCue,
+    runs: &[Run],
+) -> Result<(), AllocError>
+    requires window { IsWindow window }
+    requires runs { All (IsWindowRun window) runs.now }
+    ensures { OnOk result (units.new ≡ units.old ++ map written (window_commands window runs.now)) }
 {
-    let mut commands = Vec::new(alloc);
-    if let Kind::Win(window) = cue.kind {
-        push_window(&mut commands, window, cue.runs.as_slice())?;
-    }
-    Ok(commands)
-}
-
-// Appends the commands that load runs into a window.
-fn push_window(commands: &mut Vec<Command>, window: WinCue, runs: &[Run]) -> Result<(), AllocError>
-    requires { IsWindow window }
-    ensures { OnOk result (commands.new.items ≡ commands.old.items ++ window_commands window runs.now) }
-{
-    commands.push(Command::Df(definition_of(window)))?;
-    push_attributes(commands, window.attr)?;
+    push_command(units, Command::Df(definition_of(window)))?;
+    push_attributes(units, window.attr)?;
     let (pen, colors) = pen_style(window.ps);
     let coloured = are_coloured(runs);
-    push_runs(commands, coloured, pen, colors, runs)
+    push_runs(units, coloured, pen, colors, runs)
+}
+
+// Appends the unit of a command: what is written of it.
+fn push_command(units: &mut DUnits, command: Command) -> Result<(), AllocError>
+    requires { IsWritable command }
+    ensures { OnOk result (units.new ≡ units.old ++ written command ∷ []) }
+{
+    units.push(write_command(&command))
 }
 
 // DefineWindow of a cue's window: it is hidden, its size is locked, and its anchor is given in cells.
@@ -55,15 +58,13 @@ fn definition_of(window: WinCue) -> Definition
     }
 }
 
-// Appends the command that sets a window's own attributes, if it has its own.
-fn push_attributes(
-    commands: &mut Vec<Command>,
-    attributes: Option<WinAttr>,
-) -> Result<(), AllocError>
-    ensures { OnOk result (commands.new.items ≡ commands.old.items ++ attribute_commands attributes) }
+// Appends the unit that sets a window's own attributes, if it has its own.
+fn push_attributes(units: &mut DUnits, attributes: Option<WinAttr>) -> Result<(), AllocError>
+    requires { All IsWritable (attribute_commands attributes) }
+    ensures { OnOk result (units.new ≡ units.old ++ map written (attribute_commands attributes)) }
 {
     if let Some(attributes) = attributes {
-        commands.push(Command::Swa(attributes))?;
+        push_command(units, Command::Swa(attributes))?;
     }
     Ok(())
 }
@@ -75,40 +76,43 @@ fn are_coloured(runs: &[Run]) -> bool
     runs.iter().any(|run| run.colors.is_some())
 }
 
-// Appends the commands of runs.
+// Appends the units of runs.
 fn push_runs(
-    commands: &mut Vec<Command>,
+    units: &mut DUnits,
     coloured: bool,
     pen: PenAttr,
     colors: PenColors,
     runs: &[Run],
 ) -> Result<(), AllocError>
-    ensures { OnOk result (commands.new.items
-        ≡ commands.old.items ++ flat_map (run_commands coloured pen colors) runs.now) }
+    requires { All (λ run. All IsWritable (run_commands coloured pen colors run)) runs.now }
+    ensures { OnOk result (units.new
+        ≡ units.old ++ map written (flat_map (run_commands coloured pen colors) runs.now)) }
 {
     for run in runs {
-        push_run(commands, coloured, pen, colors, run)?;
+        push_run(units, coloured, pen, colors, run)?;
     }
     Ok(())
 }
 
-// Appends the commands of a run.
+// Appends the units of a run.
 fn push_run(
-    commands: &mut Vec<Command>,
+    units: &mut DUnits,
     coloured: bool,
     pen: PenAttr,
     colors: PenColors,
     run: &Run,
 ) -> Result<(), AllocError>
-    ensures { OnOk result (commands.new.items ≡ commands.old.items ++ run_commands coloured pen colors run.now) }
+    requires { All IsWritable (run_commands coloured pen colors run.now) }
+    ensures { OnOk result (units.new ≡ units.old ++ map written (run_commands coloured pen colors run.now)) }
 {
-    commands.push(Command::Spl {
+    let place = Command::Spl {
         row: run.row,
         col: run.col,
-    })?;
-    commands.push(Command::Spa(pen_of(pen, run.pen)))?;
-    push_colors(commands, coloured, colors, run.colors)?;
-    push_characters(commands, run.text.as_slice())
+    };
+    push_command(units, place)?;
+    push_command(units, Command::Spa(pen_of(pen, run.pen)))?;
+    push_colors(units, coloured, colors, run.colors)?;
+    push_characters(units, run.text.as_slice())
 }
 
 // The pen of a run: that of the window's style, with the run's italics and underline.
@@ -125,27 +129,29 @@ fn pen_of(style: PenAttr, pen: Pen) -> PenAttr
     }
 }
 
-// Appends the command that sets a run's colours, in a cue of which some run has its own.
+// Appends the unit that sets a run's colours, in a cue of which some run has its own.
 fn push_colors(
-    commands: &mut Vec<Command>,
+    units: &mut DUnits,
     coloured: bool,
     style: PenColors,
     own: Option<PenColors>,
 ) -> Result<(), AllocError>
-    ensures { OnOk result (commands.new.items ≡ commands.old.items ++ color_commands coloured style own) }
+    requires { All IsWritable (color_commands coloured style own) }
+    ensures { OnOk result (units.new ≡ units.old ++ map written (color_commands coloured style own)) }
 {
     if coloured {
-        commands.push(Command::Spc(own.unwrap_or(style)))?;
+        push_command(units, Command::Spc(own.unwrap_or(style)))?;
     }
     Ok(())
 }
 
-// Appends the commands of characters.
-fn push_characters(commands: &mut Vec<Command>, text: &[char]) -> Result<(), AllocError>
-    ensures { OnOk result (commands.new.items ≡ commands.old.items ++ character_commands text.now) }
+// Appends the units of characters.
+fn push_characters(units: &mut DUnits, text: &[char]) -> Result<(), AllocError>
+    requires { All (λ ch. IsWritable (command.Put (Some ch))) text.now }
+    ensures { OnOk result (units.new ≡ units.old ++ map written (character_commands text.now)) }
 {
     for ch in text {
-        commands.push(Command::Put(Some(*ch)))?;
+        push_command(units, Command::Put(Some(*ch)))?;
     }
     Ok(())
 }

@@ -1,7 +1,8 @@
 ghost use Rattle.std.specs.Prelude.{◌≡◌, ℕ, ◌≤◌, ◌<◌, ◌==◌, Bool, true, false, List, Option, Some, None, IfSome, IfNone};
+ghost use Rattle.std.specs.List.{list_any};
 ghost use Rattle.cc_base.specs.declared.rate.Rate.{Rate};
 ghost use Rattle.dtvcc_author.specs.Latest.{passes};
-ghost use Rattle.dtvcc_author.specs.FrameEvents.{is_delayed_at, is_hidden_at, is_shown_at, windows_byte as byte_of};
+ghost use Rattle.dtvcc_author.specs.FrameEvents.{has_event_at, is_delayed_at, is_hidden_at, is_shown_at, windows_byte as byte_of};
 
 use crate::caption::Caption;
 use crate::frame_events::{Delay, FrameEvents, windows_byte};
@@ -50,11 +51,25 @@ impl Latest {
         ensures { (rate : Rate) (frames : ℕ) (captions : List Caption) → AreKept rate frames captions → IsAt captions frame self.now
             → AreEventsOf frame captions result }
     {
+        if !self.has_event(frame) {
+            return FrameEvents {
+                hidden: 0,
+                shown: 0,
+                delay: None,
+            };
+        }
         FrameEvents {
             hidden: self.hidden(frame),
             shown: self.shown(frame),
             delay: self.delay(frame),
         }
+    }
+
+    // Whether the frame has an event. Few frames have one, so this is asked before the windows are gone through for each kind.
+    fn has_event(&self, frame: u32) -> bool
+        ensures { result ≡ list_any (passes (has_event_at frame)) self.now.windows }
+    {
+        self.windows.iter().any(|caption| has_event(caption, frame))
     }
 
     // The windows that are hidden in the frame, a bit each.
@@ -90,6 +105,13 @@ impl Latest {
         }
         None
     }
+}
+
+// Whether a caption is there and has an event in the frame.
+fn has_event(caption: &Option<Caption>, frame: u32) -> bool
+    ensures { result ≡ passes (has_event_at frame) caption.now }
+{
+    matches!(caption, Some(caption) if caption.hide == frame || caption.starts == frame)
 }
 
 // Whether a caption is there and is hidden in the frame.

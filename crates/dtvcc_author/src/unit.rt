@@ -1,6 +1,7 @@
-ghost use Rattle.std.specs.Prelude.{◌≡◌, map};
+ghost use Rattle.std.specs.Prelude.{◌≡◌, ◌++◌, [], ◌∷◌, OnOk, map};
 
 use arrayvec::ArrayVec;
+use std::alloc::AllocError;
 use std::marker::Model;
 
 /// Units in the order in which they are sent, each seen as its bytes: one command or one character each, which is not divided
@@ -24,6 +25,14 @@ impl DUnits {
         ensures { result ≡ map (λ unit. unit.items) units.items }
     {
         DUnits { units }
+    }
+
+    /// Appends a unit.
+    pub(crate) fn push(&mut self, unit: ArrayVec<u8, 7>) -> Result<(), AllocError>
+        ensures { OnOk result (self.new ≡ self.old ++ unit.items ∷ []) }
+    {
+        self.units.push(unit)?;
+        Ok(())
     }
 
     /// The units as a vector, which takes no memory.

@@ -1,7 +1,7 @@
-use Rattle.std.proofs.Common.{◌∙◌, sym}
+use Rattle.std.proofs.Common.{◌∙◌, rules, sym}
 use Rattle.dtvcc_author.specs.FrameEvents.{is_hidden_at, is_shown_at, names}
 use Rattle.dtvcc_author.specs.Latest.{caption_in, passes}
-use Rattle.dtvcc_author.proofs.LatestLemmas.{byte_same, delay_is, hidden_named, shown_named}
+use Rattle.dtvcc_author.proofs.LatestLemmas.{byte_same, delay_is, hidden_named, quiet_events, shown_named}
 use Rattle.dtvcc_author.proofs.latest.Latest.events.Goals as goal
 
 pub returns : goal.returns
@@ -17,3 +17,7 @@ returns c rate frames captions kept at =
           (shown_named rate frames frame captions latest kept at));
       delay = delay_is rate frames frame captions latest kept at c.delay.result c.delay.ensures.some c.delay.ensures.none;
     }
+
+pub returns-then-not-has_event : goal.returns-then-not-has_event
+returns-then-not-has_event c rate frames captions kept at =
+    quiet_events rate frames c.args.frame captions c.args.self.now kept at (search rules) (sym c.if-not-has_event.ensures)
