@@ -4,7 +4,6 @@ ghost use Rattle.dtvcc_author.specs.CueUnits.{units_of};
 ghost use Rattle.service_lanes.specs.ServiceChunks.{chunk_of, service_chunks};
 
 use crate::chunk::Chunk;
-use arrayvec::ArrayVec;
 use cc_base::Rate;
 use cue_lists::Cue;
 use dtvcc_author::{Caption, caption_of, units};
@@ -41,25 +40,13 @@ fn push_cue(
     requires { IsCueFormed cue.now }
     ensures { OnOk result (chunks.new.items ≡ chunks.old.items ++ map (chunk_of number caption) (units_of cue.now)) }
 {
-    let units = units(alloc, cue)?;
-    for unit in units.as_slice() {
+    for unit in units(alloc, cue)?.into_vec() {
         chunks.push(Chunk {
-            unit: copy_of(unit),
+            unit,
             load: caption.load,
             until: caption.starts,
             cue: number,
         })?;
     }
     Ok(())
-}
-
-// The bytes of a unit.
-fn copy_of(unit: &ArrayVec<u8, 7>) -> ArrayVec<u8, 7>
-    ensures { result.items ≡ unit.now.items }
-{
-    let mut bytes = ArrayVec::new();
-    if bytes.try_extend_from_slice(unit).is_err() {
-        unreachable!();
-    }
-    bytes
 }

@@ -12,3 +12,5 @@ mod cursor;
 mod front;
 pub mod laws;
 pub mod placed;
+#[cfg(test)]
+mod tests;
