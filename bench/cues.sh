@@ -6,7 +6,7 @@ cd "$(dirname "$0")/.."
 work=$(mktemp -d)
 trap 'rm -rf "$work"' EXIT
 mkdir -p "$work/crates/cues_bench/src"
-for crate in cc_base line21_codes line21_slots dtvcc_codes dtvcc_windows buffer_bound cue_types cue_form cue_rules authored_grids cue_lists \
+for crate in cc_base line21_codes line21_slots dtvcc_codes dtvcc_windows buffer_bound cue_types cue_form cue_print cue_rules authored_grids cue_lists \
     line21_author dtvcc_author placements service_lanes frame_scheduler; do
     cp -r "crates/$crate" "$work/crates/"
     grep "^$crate:" crates.txt >> "$work/crates.txt"

@@ -3,13 +3,11 @@ pub mod Complete
 pub mod Faults
 pub mod FieldFacts
 pub mod Goodness
-pub mod InOrder
 pub mod Judged
 pub mod LastRun
 pub mod ListLimits
 pub mod NumberFacts
 pub mod Passing
-pub mod PrintedFacts
 pub mod RecordFacts
 pub mod Rows
 pub mod ShareRoom

@@ -11,7 +11,6 @@ pub mod Fields
 pub mod FirstFault
 pub mod Form
 pub mod Judgements
-pub mod Printing
 pub mod Reading
 pub mod Records
 pub mod Spelling

@@ -9,7 +9,6 @@ use std::test::Fail;
 
 mod every_cue;
 mod many_cues;
-mod printed;
 mod refused;
 
 // The list is a pop-on cue of one run with this place and this text.

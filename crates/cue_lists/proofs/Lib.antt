@@ -2,10 +2,10 @@ pub mod OneAtATime
 pub mod SharesInOrder
 pub use Rattle.cue_form.proofs.Complete
 pub use Rattle.cue_form.proofs.Faults
-pub use Rattle.cue_form.proofs.InOrder
 pub use Rattle.cue_form.proofs.ListLimits
-pub use Rattle.cue_form.proofs.PrintedFacts
 pub use Rattle.cue_form.proofs.Unique
+pub use Rattle.cue_print.proofs.InOrder
+pub use Rattle.cue_print.proofs.PrintedFacts
 pub use Rattle.cue_rules.proofs.ChannelCues
 pub use Rattle.cue_rules.proofs.ChannelKept
 pub use Rattle.cue_rules.proofs.ChannelRules

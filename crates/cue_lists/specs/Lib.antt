@@ -6,10 +6,10 @@ pub use Rattle.cue_form.specs.Fields
 pub use Rattle.cue_form.specs.FirstFault
 pub use Rattle.cue_form.specs.Form
 pub use Rattle.cue_form.specs.Judgements
-pub use Rattle.cue_form.specs.Printing
 pub use Rattle.cue_form.specs.Reading
 pub use Rattle.cue_form.specs.Records
 pub use Rattle.cue_form.specs.Spelling
+pub use Rattle.cue_print.specs.Printing
 pub use Rattle.cue_rules.specs.Rules
 pub use Rattle.cue_types.specs.Cells
 pub use Rattle.cue_types.specs.Channels

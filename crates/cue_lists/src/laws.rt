@@ -1,7 +1,7 @@
 //! What the rules give for what is seen: functions that do nothing, with laws as their contracts.
 ghost use Rattle.std.specs.Prelude.{ℕ};
 ghost use Rattle.authored_grids.specs.AuthoredServiceGrid.{AreOneAtATime, IsWindowAt, authored_windows};
-ghost use Rattle.cue_form.specs.Printing.{in_order};
+ghost use Rattle.cue_print.specs.Printing.{in_order};
 ghost use Rattle.cue_rules.specs.Rules.{IsRuled};
 ghost use Rattle.cue_types.specs.Listing.{IsFormed, Listing};
 

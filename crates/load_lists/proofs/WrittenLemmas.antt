@@ -10,10 +10,10 @@ use Rattle.std.proofs.lemmas.Str.Ascii.{IsAscii-from_all}
 use Rattle.csv.specs.Writing.{by_style, escaped, field_text, fields_text, is_blank, needs_quotes, row_body, row_text}
 use Rattle.csv.specs.declared.writer.QuoteStyle.TheVariants.{Necessary}
 use Rattle.cue_types.specs.declared.head.Version.TheVariants.{Two}
-use Rattle.cue_form.specs.Printing.{bytes_of, flexible_writer, in_order, list_bytes}
 use Rattle.cue_form.specs.Records.{Field, Record, list_limit}
 use Rattle.cue_form.specs.Spelling.{cue_records}
-use Rattle.cue_form.proofs.PrintedFacts.{records_of-bytes}
+use Rattle.cue_print.specs.Printing.{bytes_of, flexible_writer, in_order, list_bytes}
+use Rattle.cue_print.proofs.PrintedFacts.{records_of-bytes}
 use Rattle.load_lists.specs.LoadLaws.{IsWritten}
 use Rattle.load_lists.specs.LoadList.{letter, load_cue, load_kind, load_list, load_run, load_text, most_load}
 use Rattle.load_lists.proofs.FormedLemmas.{list_formed, of_letters}

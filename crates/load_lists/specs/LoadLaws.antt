@@ -1,8 +1,8 @@
 -- What holds of the list of every load.
 use Rattle.std.specs.Prelude.{ℕ, ◌≤◌, length}
-use Rattle.cue_form.specs.Printing.{list_bytes}
 use Rattle.cue_form.specs.Records.{list_limit, records_of}
 use Rattle.cue_form.specs.Spelling.{Spells}
+use Rattle.cue_print.specs.Printing.{list_bytes}
 use Rattle.cue_types.specs.Listing.{IsFormed, Listing}
 use Rattle.cue_rules.specs.Rules.{IsRuled}
 use Rattle.load_lists.specs.LoadList.{load_list, most_load}

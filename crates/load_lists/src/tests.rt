@@ -1,5 +1,5 @@
 use crate::load_list;
-use cue_form::print;
+use cue_print::print;
 use std::test::Fail;
 
 #[test]

@@ -5,7 +5,7 @@ use Rattle.std.proofs.lemmas.List.Elements.{All-cons, All-head, All-nil, All-tai
 use Rattle.std.proofs.lemmas.List.Kept.{AllPairs-cons}
 use Rattle.std.proofs.lemmas.List.Sums.{sum_by-append, sum_by-cons}
 use Rattle.std.specs.List.{list_any}
-use Rattle.cue_form.specs.Printing.{in_order, share_list}
+use Rattle.cue_print.specs.Printing.{in_order, share_list}
 use Rattle.cue_types.specs.Listing.{IsFormed, Listing, share_of}
 use Rattle.cue_types.specs.Shares.{IsShare, shares_taken}
 use Rattle.cue_types.specs.declared.list.Share.{Share}

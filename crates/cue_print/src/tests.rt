@@ -2,10 +2,10 @@
 
 ghost use Rattle.std.specs.Prelude.{◌≤◌, length};
 
-use crate::printing::print;
-use crate::reading::parse;
+use crate::print;
 use crate::spelling::{cue_record, run_record, share_record};
 use csv::StringRecord;
+use cue_form::parse;
 use cue_types::{Cue, Kind, Pen, Run, Runs, Share, Text, WinCue};
 use std::alloc::Global;
 use std::process::Abort;

@@ -10,7 +10,7 @@ use Rattle.csv.proofs.RoundTrip.{read-write, rows_text}
 use Rattle.dtvcc_codes.specs.declared.pens.PenColors.{PenColors}
 use Rattle.dtvcc_codes.specs.declared.windows.WinAttr.{WinAttr}
 use Rattle.cue_types.specs.Listing.{IsFormed, Listing}
-use Rattle.cue_form.specs.Printing.{bytes_of, flexible_writer, in_order, list_bytes}
+use Rattle.cue_print.specs.Printing.{bytes_of, flexible_writer, in_order, list_bytes}
 use Rattle.cue_form.specs.Reading.{list_of, read_list}
 use Rattle.cue_form.specs.Records.{Field, Record, records_of}
 use Rattle.cue_form.specs.Spelling.{attribute_records, colour_records, cue_record, cue_records, list_records, run_record, run_records, share_record, window_attribute_records}
@@ -21,7 +21,7 @@ use Rattle.cue_types.specs.declared.cue.Run.{Run}
 use Rattle.cue_types.specs.declared.head.Version.{Version}
 use Rattle.cue_types.specs.declared.head.Version.TheVariants as version
 use Rattle.cue_types.specs.declared.list.Share.{Share}
-use Rattle.cue_form.proofs.InOrder.{in_order_formed}
+use Rattle.cue_print.proofs.InOrder.{in_order_formed}
 use Rattle.cue_form.proofs.Complete.{list_of-spelled}
 
 -- whether records may differ in length doesn't change their bytes

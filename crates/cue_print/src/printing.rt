@@ -2,7 +2,7 @@ ghost use Rattle.std.specs.Prelude.{◌≡◌, [], ◌∷◌, IfOk, OnOk, map};
 ghost use Rattle.std.specs.List.{flat_map};
 ghost use Rattle.std.specs.Vec.{vec_items};
 ghost use Rattle.csv.specs.Records.{fields_of};
-ghost use Rattle.cue_form.specs.Printing.{IsBetweenRecords, Wrote, in_order, list_bytes};
+ghost use Rattle.cue_print.specs.Printing.{IsBetweenRecords, Wrote, in_order, list_bytes};
 ghost use Rattle.cue_form.specs.Records.{records_of};
 ghost use Rattle.cue_form.specs.Spelling.{attribute_records, cue_records, list_records, run_records, share_record, window_attribute_records};
 
