@@ -1,6 +1,6 @@
 -- Words eight at a time, a lane each: which are 8-bit words, and their sum.
-use Rattle.std.proofs.Common.{◌≡◌, ◌+◌, ◌*◌, ◌/◌, ◌%◌, ◌^◌, ◌-◌, ◌<◌, ◌≤◌, ◌==◌, ℕ, zero, suc, Bool, true, false, not, ◌&&◌, if◌then◌else◌, cond, eqb, nat_eq, List, [], ◌∷◌, ◌++◌, Option, None, Some, length, map, take, drop, get_or, replicate, count_ones, bit_and, bit_xor, refl, arith, ap, sym, subst, ◌∙◌, ◌↔◌, inl, inr, Fits, lit<, lit≤, append-nil, append_assoc}
-use mir.Syntax.{w16}
+use Rattle.std.proofs.Common.{◌≡◌, ◌+◌, ◌*◌, ◌/◌, ◌%◌, ◌^◌, ◌-◌, ◌<◌, ◌≤◌, ◌==◌, ℕ, zero, suc, Bool, true, false, not, ◌&&◌, if◌then◌else◌, cond, eqb, nat_eq, nat_lt, List, [], ◌∷◌, ◌++◌, Option, None, Some, length, map, take, drop, get_or, replicate, count_ones, bit_and, bit_xor, refl, arith, ap, sym, subst, ◌∙◌, ◌↔◌, inl, inr, Fits, lit<, lit≤, append-nil, append_assoc}
+use mir.Syntax.{w8, w16}
 use Rattle.std.proofs.lemmas.Bool.{agree_below_at, cases_eq}
 use Rattle.std.proofs.lemmas.Bool.Decides.{nat_tests}
 use Rattle.std.proofs.lemmas.List.{drop-drop, length-map, map-append, take-append-drop, take_all}
@@ -10,10 +10,11 @@ use Rattle.std.proofs.lemmas.List.Folds.{list_all-append}
 use Rattle.std.proofs.lemmas.List.Sums.{sum_by-append, sum_by-cons}
 use Rattle.std.proofs.lemmas.Grind.{take_at_read}
 use Rattle.std.proofs.lemmas.Nat.{and_mask}
-use Rattle.std.proofs.lemmas.Simd.{bitmask_splat, splat_is_map, zip2_of_maps, zip2_splat, map-map, length-zip2, Each1-weaker}
+use Rattle.std.proofs.lemmas.Simd.{SwzOk, SwzOk-from_below, bitmask_splat, splat_is_map, swz_l, zip2_of_maps, zip2_splat, map-map, length-zip2, Each1-weaker}
 use Rattle.std.specs.List.{All, AllByRecursion, flat_map, list_all, sum}
 use Rattle.std.specs.Simd.{first_chunks}
-use lib.Lanes.{Each1, zip2, fold_l, mask_l, sum_l, top}
+use lib.Dec.{leb}
+use lib.Lanes.{Each1, digits_l, number_l, zip2, fold_l, mask_l, sum_l, top}
 use Rattle.anc_words.specs.CaptionWords.{AreRight, word_of}
 use Rattle.anc_words.specs.Reading.{is_eight_bit}
 use Rattle.anc_words.specs.Writing.{nine_bit_word}
@@ -21,6 +22,9 @@ use Rattle.anc_words.specs.Writing.{nine_bit_word}
 -- numbers that are tested to be the same
 test-same : (a b : ℕ) → (a == b) ≡ true → a ≡ b
 test-same a b is = grind (arith, nat_tests)
+
+test-less : (a b : ℕ) → nat_lt a b ≡ true → a < b
+test-less a b is = grind (arith, nat_tests)
 
 -- bits shifted away
 abbrev pub shifted : ℕ → ℕ → ℕ
@@ -31,49 +35,126 @@ itself : (v : List ℕ) → v ≡ map (λ x. x) v
 itself [] = refl
 itself (x ∷ v) = ap (λ rest. x ∷ rest) (itself v)
 
--- the bits of a byte folded onto the lowest, half by half
-abbrev folded_four : ℕ → ℕ
-folded_four byte = bit_xor byte (shifted byte 4)
+-- which numbers of four bits have an odd number of ones
+abbrev pub odd_table : List ℕ
+odd_table = 0 ∷ 1 ∷ 1 ∷ 0 ∷ 1 ∷ 0 ∷ 0 ∷ 1 ∷ 1 ∷ 0 ∷ 0 ∷ 1 ∷ 0 ∷ 1 ∷ 1 ∷ 0 ∷ []
 
-abbrev folded_six : ℕ → ℕ
-folded_six byte = bit_xor (folded_four byte) (shifted (folded_four byte) 2)
+abbrev looked_up : ℕ → ℕ
+looked_up half = get_or odd_table half 0
 
-abbrev folded : ℕ → ℕ
-folded byte = bit_xor (folded_six byte) (shifted (folded_six byte) 1)
+-- the halves of a byte, joined
+abbrev joined : ℕ → ℕ
+joined byte = bit_and (bit_xor byte (shifted byte 4)) 15
 
 -- tell whether it has an odd number of ones
-folded-odd : (byte : ℕ) → byte < 256 → bit_and (folded byte) 1 ≡ count_ones byte % 2
+joined-odd : (byte : ℕ) → byte < 256 → looked_up (joined byte) ≡ count_ones byte % 2
 unfolding lib.Count.ones
-folded-odd byte below =
-    test-same (bit_and (folded byte) 1) (count_ones byte % 2)
-    (agree_below_at (λ b. bit_and (folded b) 1 == count_ones b % 2) (λ _. true) 256 byte refl below)
+joined-odd byte below =
+    test-same (looked_up (joined byte)) (count_ones byte % 2)
+    (agree_below_at (λ b. looked_up (joined b) == count_ones b % 2) (λ _. true) 256 byte refl below)
 
 -- so they do in each lane
-odd-each : (v : List ℕ) → AllByRecursion (λ byte. byte < 256) v → map (λ byte. bit_and (folded byte) 1) v ≡ map (λ byte. count_ones byte % 2) v
+odd-each : (v : List ℕ) → AllByRecursion (λ byte. byte < 256) v → map looked_up (map joined v) ≡ map (λ byte. count_ones byte % 2) v
 odd-each [] are = refl
 odd-each (byte ∷ v) (below, are) =
-    let first = folded-odd byte below in
+    let first = joined-odd byte below in
     let others = odd-each v are in
     cc
 
--- the lanes folded
-abbrev pub lanes_four : List ℕ → List ℕ
-lanes_four v = zip2 bit_xor v (zip2 shifted v (replicate 8 4))
+joined-below : (v : List ℕ) → Each1 (λ half. half < 16) (map joined v)
+joined-below [] = tt
+joined-below (byte ∷ v) = (omega (arith, and_mask (bit_xor byte (shifted byte 4)) 4), joined-below v)
 
-abbrev pub lanes_six : List ℕ → List ℕ
-lanes_six v = zip2 bit_xor (lanes_four v) (zip2 shifted (lanes_four v) (replicate 8 2))
+-- lanes of two bytes, whose high bytes are 0
+abbrev spread : List ℕ → List ℕ
+spread [] = []
+spread (half ∷ v) = half ∷ 0 ∷ spread v
 
-abbrev pub lanes_folded : List ℕ → List ℕ
-lanes_folded v = zip2 bit_xor (lanes_six v) (zip2 shifted (lanes_six v) (replicate 8 1))
+abbrev twice : List ℕ → ℕ
+twice [] = 0
+twice (half ∷ v) = suc (suc (twice v))
+
+twice-length : (v : List ℕ) → twice v ≡ 2 * length v
+twice-length [] = refl
+twice-length (half ∷ v) = omega (arith, twice-length v)
+
+length-spread : (v : List ℕ) → length (spread v) ≡ twice v
+length-spread [] = refl
+length-spread (half ∷ v) = ap (λ n. suc (suc n)) (length-spread v)
+
+-- cut into their bytes
+cut : (v : List ℕ) → Each1 (λ half. half < 16) v → digits_l 256 (twice v) (number_l 65536 v) ≡ spread v
+cut [] each = refl
+cut (half ∷ v) (below, each) =
+    let rest = number_l 65536 v in
+    let low : (half + 65536 * rest) % 256 ≡ half = omega arith in
+    let high : (half + 65536 * rest) / 256 % 256 ≡ 0 = omega arith in
+    let behind : (half + 65536 * rest) / 256 / 256 ≡ rest = omega arith in
+    let others = cut v each in
+    rw (low, high, behind, others) refl
+
+-- and put together again
+put_together : (v : List ℕ) → Each1 (λ half. half < 16) v → digits_l 65536 (length v) (number_l 256 (spread v)) ≡ v
+put_together [] each = refl
+put_together (half ∷ v) (below, each) =
+    let rest = number_l 256 (spread v) in
+    let low : (half + 256 * (0 + 256 * rest)) % 65536 ≡ half = omega arith in
+    let behind : (half + 256 * (0 + 256 * rest)) / 65536 ≡ rest = omega arith in
+    let others = put_together v each in
+    rw (low, behind, others) refl
+
+-- looked up byte by byte
+looked-up-spread : (i : ℕ) (v : List ℕ) → i + twice v ≤ 16 → Each1 (λ half. half < 16) v → swz_l w8 16 odd_table i (spread v) ≡ spread (map looked_up v)
+looked-up-spread i [] room each = refl
+looked-up-spread i (half ∷ v) room (below, each) =
+    let low : 16 * (i / 16) + half ≡ half = omega arith in
+    let high : 16 * (suc i / 16) + 0 ≡ 0 = omega arith in
+    let first : cond (leb 128 half) 0 (get_or odd_table (16 * (i / 16) + half) 0) ≡ looked_up half =
+    ap (λ b. cond b 0 (get_or odd_table (16 * (i / 16) + half) 0)) (agree_below_at (λ h. leb 128 h) (λ _. false) 16 half refl below) ∙ ap looked_up low in
+    let second : get_or odd_table (16 * (suc i / 16) + 0) 0 ≡ 0 = ap looked_up high in
+    let others = looked-up-spread (suc (suc i)) v (omega arith) each in
+    cc
+
+looked-up-below : (v : List ℕ) → Each1 (λ half. half < 16) v → Each1 (λ half. half < 16) (map looked_up v)
+looked-up-below [] each = tt
+looked-up-below (half ∷ v) (below, each) = (test-less (looked_up half) 16 (agree_below_at (λ h. nat_lt (looked_up h) 16) (λ _. true) 16 half refl below), looked-up-below v each)
+
+abbrev pub lanes_joined : List ℕ → List ℕ
+lanes_joined v = zip2 bit_and (zip2 bit_xor v (zip2 shifted v (replicate 8 4))) (replicate 8 15)
+
+lanes-joined : (v : List ℕ) → length v ≡ 8 → lanes_joined v ≡ map joined v
+lanes-joined v long =
+    let four : zip2 bit_xor v (zip2 shifted v (replicate 8 4)) ≡ map (λ x. bit_xor x (shifted x 4)) v =
+    zip2_of_maps bit_xor (λ x. x) (λ x. shifted x 4) v (itself v) (zip2_splat shifted v 8 4 long) in
+    zip2_of_maps bit_and (λ x. bit_xor x (shifted x 4)) (λ _. 15) v four (splat_is_map v 8 15 long)
+
+-- the bytes of the lanes
+lane-bytes : (v : List ℕ) → length v ≡ 8 → digits_l 256 16 (number_l 65536 (lanes_joined v)) ≡ spread (map joined v)
+lane-bytes v long =
+    let many : twice (map joined v) ≡ 16 = omega (arith, twice-length (map joined v), length-map v joined) in
+    subst (λ n. digits_l 256 n (number_l 65536 (lanes_joined v)) ≡ spread (map joined v)) many
+    (ap (λ lanes. digits_l 256 (twice (map joined v)) (number_l 65536 lanes)) (lanes-joined v long) ∙ cut (map joined v) (joined-below v))
+
+spread-below : (v : List ℕ) → Each1 (λ half. half < 16) v → Each1 (λ j. j < 16) (spread v)
+spread-below [] each = tt
+spread-below (half ∷ v) (below, each) = (below, (lit< tt, spread-below v each))
+
+pub swizzle-fits : (v : List ℕ) → length v ≡ 8 → SwzOk w8 16 16 0 (digits_l 256 16 (number_l 65536 (lanes_joined v)))
+swizzle-fits v long =
+    let many : length (spread (map joined v)) ≡ 16 = omega (arith, length-spread (map joined v), twice-length (map joined v), length-map v joined) in
+    subst (SwzOk w8 16 16 0) (sym (lane-bytes v long)) (SwzOk-from_below w8 16 1 16 0 (spread (map joined v)) refl (omega arith) (spread-below (map joined v) (joined-below v)))
 
 pub odd-lanes : (v : List ℕ) → length v ≡ 8 → All (λ byte. byte < 256) v
-    → zip2 bit_and (lanes_folded v) (replicate 8 1) ≡ map (λ byte. count_ones byte % 2) v
+    → digits_l 65536 8 (number_l 256 (swz_l w8 16 odd_table 0 (digits_l 256 16 (number_l 65536 (lanes_joined v))))) ≡ map (λ byte. count_ones byte % 2) v
 odd-lanes v long are =
-    let splat = λ (n : ℕ). splat_is_map v 8 n long in
-    let four : lanes_four v ≡ map folded_four v = zip2_of_maps bit_xor (λ x. x) (λ x. shifted x 4) v (itself v) (zip2_of_maps shifted (λ x. x) (λ _. 4) v (itself v) (splat 4)) in
-    let six : lanes_six v ≡ map folded_six v = zip2_of_maps bit_xor folded_four (λ x. shifted (folded_four x) 2) v four (zip2_of_maps shifted folded_four (λ _. 2) v four (splat 2)) in
-    let all : lanes_folded v ≡ map folded v = zip2_of_maps bit_xor folded_six (λ x. shifted (folded_six x) 1) v six (zip2_of_maps shifted folded_six (λ _. 1) v six (splat 1)) in
-    zip2_of_maps bit_and folded (λ _. 1) v all (splat 1) ∙ odd-each v (recursion_from_All (λ byte. byte < 256) v are)
+    let each = joined-below v in
+    let odd : swz_l w8 16 odd_table 0 (digits_l 256 16 (number_l 65536 (lanes_joined v))) ≡ spread (map looked_up (map joined v)) =
+    ap (swz_l w8 16 odd_table 0) (lane-bytes v long) ∙ looked-up-spread 0 (map joined v) (omega (arith, twice-length (map joined v), length-map v joined)) each in
+    let many : length (map looked_up (map joined v)) ≡ 8 = length-map (map joined v) looked_up ∙ length-map v joined ∙ long in
+    let lanes = put_together (map looked_up (map joined v)) (looked-up-below (map joined v) each) in
+    ap (λ bytes. digits_l 65536 8 (number_l 256 bytes)) odd
+    ∙ subst (λ n. digits_l 65536 n (number_l 256 (spread (map looked_up (map joined v)))) ≡ map looked_up (map joined v)) many lanes
+    ∙ odd-each v (recursion_from_All (λ byte. byte < 256) v are)
 
 -- a word tested by its halves
 by_halves : (word : ℕ) → word < 2 ^ 16 → ((word / 256 + count_ones (word % 256) % 2) % 2 ^ 16 == 2) ≡ is_eight_bit word

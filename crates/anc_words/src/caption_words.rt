@@ -63,7 +63,7 @@ impl<'a> CaptionWords<'a> {
 // The sum of words, modulo 2^16. `None` where one of them isn't an 8-bit word.
 #[inline]
 fn sum_of(words: &[[u8; 2]]) -> Option<u16>
-    ensures { result ≡ (if list_all is_eight_bit (map word_of words.now) then Some (sum (map word_of words.now) % 2 ^ 16) else None) }
+    ensures { let all = map word_of words.now in result ≡ (if list_all is_eight_bit all then Some (sum all % 2 ^ 16) else None) }
 {
     let (eights, rest) = words.as_chunks::<8>();
     Some(sum_of_eights(eights)?.wrapping_add(sum_of_rest(rest)?))
@@ -72,7 +72,7 @@ fn sum_of(words: &[[u8; 2]]) -> Option<u16>
 // The same of words in eights.
 #[inline]
 fn sum_of_eights(eights: &[[[u8; 2]; 8]]) -> Option<u16>
-    ensures { result ≡ (if list_all is_eight_bit (map word_of (flat_map (λ eight. eight) eights.now)) then Some (sum (map word_of (flat_map (λ eight. eight) eights.now)) % 2 ^ 16) else None) }
+    ensures { let all = map word_of (flat_map (λ eight. eight) eights.now) in result ≡ (if list_all is_eight_bit all then Some (sum all % 2 ^ 16) else None) }
 {
     let mut sums = u16x8::splat(0);
     for eight in eights {
@@ -88,7 +88,7 @@ fn sum_of_eights(eights: &[[[u8; 2]; 8]]) -> Option<u16>
 // The same of words one by one.
 #[inline]
 fn sum_of_rest(words: &[[u8; 2]]) -> Option<u16>
-    ensures { result ≡ (if list_all is_eight_bit (map word_of words.now) then Some (sum (map word_of words.now) % 2 ^ 16) else None) }
+    ensures { let all = map word_of words.now in result ≡ (if list_all is_eight_bit all then Some (sum all % 2 ^ 16) else None) }
 {
     let mut total = 0u16;
     for word in words {

@@ -25,14 +25,16 @@ pub(crate) fn are_eight_bit(words: u16x8) -> bool
     high + odd == u16x8::splat(2)
 }
 
-// 1 in each lane whose byte has an odd number of ones, else 0.
+// Which numbers of four bits have an odd number of ones: 1 for these, and 0 for the others.
+const ODD: [u8; 16] = [0, 1, 1, 0, 1, 0, 0, 1, 1, 0, 0, 1, 0, 1, 1, 0];
+
+// 1 in each lane whose byte has an odd number of ones, else 0. A byte has it where the XOR of its two halves has.
 #[inline]
 fn odd_ones(bytes: u16x8) -> u16x8
     requires { All (λ byte. byte < 256) bytes }
     ensures { result ≡ map (λ byte. count_ones byte % 2) bytes }
 {
-    let bits = bytes ^ (bytes >> u16x8::splat(4));
-    let bits = bits ^ (bits >> u16x8::splat(2));
-    let bits = bits ^ (bits >> u16x8::splat(1));
-    bits & u16x8::splat(1)
+    let halves = (bytes ^ (bytes >> u16x8::splat(4))) & u16x8::splat(0xF);
+    let odd = u8x16::from_array(ODD).swizzle_dyn(halves.to_le_bytes());
+    u16x8::from_le_bytes(odd)
 }
