@@ -30,6 +30,7 @@ pub(crate) fn push_window(
 }
 
 // Appends the unit of a command: what is written of it.
+#[inline(always)]
 fn push_command(units: &mut DUnits, command: Command) -> Result<(), AllocError>
     requires { IsWritable command }
     ensures { OnOk result (units.new ≡ units.old ++ written command ∷ []) }

@@ -73,6 +73,7 @@ fn entry_of_char(table: &[(u8, char)], ch: char) -> Option<(u8, char)>
 /// The spelling of a character by the code sets G0, G1 and G2, the first of these that has it: its code, behind EXT1 where it
 /// is of G2. `None` exactly where no table has the character. The transparent codes of G2 spell no character
 /// (CTA-708-E, 7.1).
+#[inline(always)]
 #[tactic(auto, unfolding(crate::specs::CharacterSpellings::spelling_of))]
 pub fn spell_dtv(ch: char) -> Option<ArrayVec<u8, 2>>
     ensures spelling { option_map (λ bytes. bytes.items) result ≡ spelling_of ch }

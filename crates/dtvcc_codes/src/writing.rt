@@ -17,6 +17,9 @@ use arrayvec::ArrayVec;
 /// bits without a meaning as 0. The command isn't skipped, its fields are in their ranges, and its character, if it puts one,
 /// has a spelling. The bytes are read as the command again, with the last of them, and leave nothing open
 /// (CTA-708-E, 7.1, and the command descriptions).
+///
+/// It is inlined, so that a caller that knows which command it has writes that one alone.
+#[inline(always)]
 pub fn write_command(command: &Command) -> ArrayVec<u8, 7>
     requires spellable { IsSpellable command.now }
     requires unskipped { is_skipped command.now ≡ false }
@@ -28,6 +31,7 @@ pub fn write_command(command: &Command) -> ArrayVec<u8, 7>
     bytes_of(*command)
 }
 
+#[inline(always)]
 #[tactic(auto, unfolding(crate::specs::Writing::written))]
 fn bytes_of(command: Command) -> ArrayVec<u8, 7>
     requires spellable { IsSpellable command }
@@ -76,11 +80,14 @@ fn character_bytes(ch: char) -> ArrayVec<u8, 7>
     ensures { result.items ≡ unwrap_or (spelling_of ch) [] }
 {
     match spell_dtv(ch) {
-        Some(spelling) => {
-            let mut bytes = ArrayVec::new();
-            bytes.try_extend_from_slice(spelling.as_slice()).unwrap();
-            bytes
-        }
+        Some(spelling) => match spelling.as_slice() {
+            [code] => coded(*code, &[]),
+            codes => {
+                let mut bytes = ArrayVec::new();
+                bytes.try_extend_from_slice(codes).unwrap();
+                bytes
+            }
+        },
         None => unreachable!(),
     }
 }

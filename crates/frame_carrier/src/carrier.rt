@@ -86,12 +86,8 @@ impl Carrier {
         if packet.is_empty() {
             put_pairs(self.rate, counter, frame, out);
         } else {
-            put_triplets(
-                self.rate,
-                counter,
-                &frame_triplets(self.rate, frame, &packet),
-                out,
-            );
+            let triplets = frame_triplets(self.rate, frame, &packet);
+            put_counted(self.rate, counter, &triplets, out);
         }
     }
 
@@ -132,6 +128,23 @@ fn put_pairs(rate: Rate, counter: u16, frame: &FrameBytes, out: &mut ArrayVec<u8
         (10, Some(one), None) => put_triplets(rate, counter, &ten_triplets(FIELD_1, one), out),
         (10, None, Some(two)) => put_triplets(rate, counter, &ten_triplets(FIELD_2, two), out),
         _ => put_triplets(rate, counter, &frame_triplets(rate, frame, &[]), out),
+    }
+}
+
+/// Writes the ancillary packet of a distribution packet with these triplets into an empty `out`. Where they are as many as the
+/// frames of a rate have they are an array, so the compiler knows how long their section, their packet and their words are.
+fn put_counted(rate: Rate, counter: u16, triplets: &[Triplet], out: &mut ArrayVec<u8, 524>)
+    requires few { length triplets.now ≤ 31 }
+    requires kinds { All (λ t. t.kind < 4) triplets.now }
+    requires empty { out.old.items ≡ [] }
+    ensures { out.new.items ≡ carried_bytes rate counter triplets.now }
+{
+    if let Ok(twenty) = <&[Triplet; 20]>::try_from(triplets) {
+        put_triplets(rate, counter, twenty, out);
+    } else if let Ok(ten) = <&[Triplet; 10]>::try_from(triplets) {
+        put_triplets(rate, counter, ten, out);
+    } else {
+        put_triplets(rate, counter, triplets, out);
     }
 }
 

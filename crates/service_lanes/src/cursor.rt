@@ -78,7 +78,12 @@ fn push(bytes: &[u8], out: &mut ArrayVec<u8, 31>)
     requires { length out.old.items + length bytes.now ≤ 31 }
     ensures { out.new.items ≡ out.old.items ++ bytes.now }
 {
-    if out.try_extend_from_slice(bytes).is_err() {
-        unreachable!();
+    match bytes {
+        [byte] => out.push(*byte),
+        _ => {
+            if out.try_extend_from_slice(bytes).is_err() {
+                unreachable!();
+            }
+        }
     }
 }

@@ -23,10 +23,10 @@ returns-else-is_empty-clause-bytes c rate number count at =
     let packet : c.channel_packet-packet.result.items ≡ channel_packet count c.args.frame.now.blocks.items =
     c.channel_packet-packet.ensures.packet rate number count at ∙ ap (channel_packet count) c.deref.ensures.0 in
     words_are rate number count c.args.self.now c.args.frame.now c.pass.new.self.rate c.channel_packet-packet.new.self.counter c.channel_packet-packet.result.items
-    c.put_triplets.new.out.items at
+    c.put_counted.new.out.items at
     (c.pass.ensures.rate ∙ c.channel_packet-packet.ensures.kept.0) c.channel_packet-packet.ensures.kept.1 packet
-    (c.put_triplets.ensures ∙ ap (carried_bytes c.pass.new.self.rate c.channel_packet-packet.new.self.counter)
-    (c.deref-else-is_empty-2.ensures.0 ∙ c.frame_triplets.ensures.triplets ∙ ap (frame_triplets c.pass.new.self.rate c.args.frame.now) c.deref-else-is_empty.ensures.0))
+    (c.put_counted.ensures ∙ ap (carried_bytes c.pass.new.self.rate c.channel_packet-packet.new.self.counter)
+    (c.deref-else-is_empty-2.ensures.0 ∙ c.frame_triplets-triplets.ensures.triplets ∙ ap (frame_triplets c.pass.new.self.rate c.args.frame.now) c.deref-else-is_empty.ensures.0))
 
 pub returns-else-is_empty-clause-next : goal.returns-else-is_empty-clause-next
 returns-else-is_empty-clause-next c rate number count at =
