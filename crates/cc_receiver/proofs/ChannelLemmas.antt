@@ -1,7 +1,7 @@
 -- What the readers of the caption channel make of one more triplet.
 use Rattle.std.proofs.Common.{◌≡◌, ◌-◌, ◌||◌, ◌⊎◌, inl, inr, if◌then◌else◌, Bool, true, false, List, [], ◌∷◌, ◌++◌, Option, Some, None, refl, ap, sym, subst, ◌∙◌, append-nil}
 use Rattle.cc_base.specs.declared.step.Step.{Step}
-use Rattle.cc_base.specs.declared.step.Step.TheVariants.{Nothing, One, Two, Refuse}
+use Rattle.cc_base.specs.declared.step.Step.TheVariants.{Nothing, Two, Refuse}
 use Rattle.cc_base.specs.declared.why.Why.{Why}
 use Rattle.cc_base.specs.Steps.{front_from, step_parts, step_why}
 use Rattle.cc_base.specs.Syntax.{open_behind, parts_of}

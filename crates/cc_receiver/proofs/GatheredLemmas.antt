@@ -228,6 +228,16 @@ pairs_few second_field (t ∷ triplets) =
     let long = length-append (field_pair second_field t) (field_pairs second_field triplets) in
     omega (arith, one, few, long)
 
+-- those of one more triplet
+pub pairs_one_more : (second_field : Bool) (triplets : List Triplet) (t : Triplet) → length triplets < 81
+    → pair_more (field_pairs second_field triplets) (field_pair second_field t) ≡ field_pairs second_field (triplets ++ t ∷ [])
+pairs_one_more second_field triplets t room =
+    let few = pairs_few second_field triplets in
+    let pairs = field_pairs second_field triplets in
+    pair_fits (t.valid && (t.kind == field_kind second_field)) pairs (record { a = t.a; b = t.b }) (omega (arith, few, room))
+    ∙ ap (λ ps. pairs ++ ps) (sym (append-nil (field_pair second_field t)))
+    ∙ sym (flat_map-append (field_pair second_field) triplets (t ∷ []))
+
 -- room behind a section
 section_room : (sections : List ℕ) (triplets : List Triplet) (one two : List Pair) (section : List ℕ) (more : ℕ) → IsSection section
     → Room sections triplets one two (length section + more)

@@ -5,6 +5,7 @@ pub mod ChannelLemmas
 pub mod JudgingLemmas
 pub mod ServingLemmas
 pub mod SilentLemmas
+pub mod CountingLemmas
 pub mod ByteLemmas
 pub mod GatheredLemmas
 pub mod FilledLemmas

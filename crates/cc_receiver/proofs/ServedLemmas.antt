@@ -1,30 +1,26 @@
 -- The services of a receiver are where the events of its frames lead.
-use Rattle.std.proofs.Common.{◌≡◌, ◌<◌, ◌^◌, ◌⊎◌, inl, inr, ℕ, List, [], ◌∷◌, ◌++◌, length, map, reverse, refl, ap, sym, subst, ◌∙◌, append_assoc, append-nil, arith}
+use Rattle.std.proofs.Common.{◌≡◌, ◌<◌, ◌^◌, ℕ, List, [], ◌∷◌, ◌++◌, length, map, reverse, refl, ap, sym, subst, ◌∙◌, append-nil, arith}
 use Rattle.std.proofs.Math.Path.{fun_ext}
 use Rattle.std.proofs.lemmas.Grind.{flat_map-append}
-use Rattle.std.proofs.lemmas.List.{length-map, length-reverse, map-append, reverse-append}
-use Rattle.cc_base.specs.declared.rate.Rate.{Rate}
-use Rattle.cc_data.specs.declared.triplet.Triplet.{Triplet}
-use Rattle.cdp_packets.specs.declared.parts.CdpPart.{CdpPart}
+use Rattle.std.proofs.lemmas.List.{map-append, reverse-append}
 use Rattle.cdp_packets.specs.PacketParts.{packet_parts}
 use Rattle.cdp_packets.specs.PacketTriplets.{packet_triplets}
 use Rattle.cdp_packets.specs.Packets.{Packet as Frame}
-use Rattle.dtvcc_screen.specs.Meaning.{Event}
 use Rattle.dtvcc_services.specs.Objects.{Events, Leads}
 use Rattle.service_blocks.specs.Channels.{IsHeard}
 use Rattle.service_blocks.proofs.ChannelLemmas.{channel_heard}
-use Rattle.words_files.specs.Catching.{Caught, caught_in}
+use Rattle.words_files.specs.Catching.{caught_in}
 use Rattle.words_files.specs.FramesOf.{AreFramesOf}
 use Rattle.words_files.proofs.GotLemmas.{frames_are_caught}
-use Rattle.services_files.specs.Events.{events_of, frame_events, service_events}
+use Rattle.services_files.specs.Events.{frame_events, service_events}
 use Rattle.services_files.specs.Services.{services_say}
 use Rattle.services_files.specs.WholeFiles.{file_triplets}
 use Rattle.services_files.proofs.EventLemmas.{events_more}
 use Rattle.services_files.proofs.WholeFileLemmas.{under-whole}
 use Rattle.cc_receiver.specs.declared.receiver.Receiver.{Receiver}
-use Rattle.cc_receiver.specs.Gathering.{Gathered, gathered}
-use Rattle.cc_receiver.specs.Receivers.{HasReceived, frame_count}
-use Rattle.cc_receiver.specs.Serving.{HasServed, ServesFrames, earlier_events, followed_by, given_by, last_events, no_events, said_events, said_triplets}
+use Rattle.cc_receiver.specs.Gathering.{Gathered}
+use Rattle.cc_receiver.specs.Receivers.{HasReceived}
+use Rattle.cc_receiver.specs.Serving.{ServesFrames, earlier_events, given_by, last_events, said_events, said_triplets}
 use Rattle.cc_receiver.proofs.GatheredLemmas.{packet_gathered}
 use Rattle.cc_receiver.proofs.ServingLemmas.{both_are}
 use Rattle.cc_receiver.proofs.HeardLemmas.{AllFit, Fits, frames_of_fit}

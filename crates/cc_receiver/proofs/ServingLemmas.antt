@@ -1,34 +1,28 @@
 -- What whole frames give the services, step by step.
-use Rattle.std.proofs.Common.{◌≡◌, ◌+◌, ◌<◌, ◌^◌, ◌||◌, ℕ, Bool, true, false, List, [], ◌∷◌, ◌++◌, length, Option, Some, None, arith, refl, ap, sym, subst, ◌∙◌, append_assoc, append-nil}
+use Rattle.std.proofs.Common.{◌≡◌, ◌+◌, ◌<◌, ◌^◌, ◌||◌, ℕ, false, List, [], ◌∷◌, ◌++◌, length, arith, refl, ap, sym, subst, ◌∙◌, append_assoc, append-nil}
 use Rattle.std.proofs.Math.Path.{fun_ext}
 use Rattle.std.proofs.lemmas.Grind.{flat_map-append}
-use Rattle.std.proofs.lemmas.Option.{slice_get_within}
 use Rattle.cc_base.specs.declared.rate.Rate.{Rate}
 use Rattle.cc_base.specs.declared.step.Step.{Step}
-use Rattle.cc_base.specs.Steps.{IsTaken, front_from, step_parts}
+use Rattle.cc_base.specs.Steps.{IsTaken, step_parts}
 use Rattle.cc_base.specs.Syntax.{AllTaken, open_behind, parts_from, parts_of}
 use Rattle.cc_base.proofs.StepLemmas.{front_from-append}
 use Rattle.cc_data.specs.declared.triplet.Triplet.{Triplet}
 use Rattle.cdp_packets.specs.declared.parts.CdpPart.{CdpPart}
 use Rattle.channel_packets.specs.declared.parts.PacketPart.{PacketPart}
 use Rattle.channel_packets.specs.ChannelPackets.{channel_triplets, continues, starts}
-use Rattle.channel_packets.specs.Readers as packets
 use Rattle.channel_packets.specs.Reading.{judge_triplet, packet_syntax}
-use Rattle.dtvcc_screen.specs.Meaning.{Tick, after, start}
-use Rattle.dtvcc_screen.specs.Shown.{LooksSame}
-use Rattle.dtvcc_services.specs.Filling.{is_filled}
-use Rattle.dtvcc_services.specs.Numbers.{IsLowest, IsService}
-use Rattle.dtvcc_services.specs.Objects.{Events, Leads, Serves, frames_of, screen_at}
+use Rattle.dtvcc_screen.specs.Meaning.{Tick}
+use Rattle.dtvcc_services.specs.Objects.{Events, Leads, frames_of}
 use Rattle.dtvcc_services.specs.declared.services.Services.{Services}
 use Rattle.service_blocks.specs.declared.parts.BlockPart.{BlockPart}
 use Rattle.service_blocks.specs.Channels.{IsHeard, IsHeardBehind, heard_behind}
 use Rattle.service_blocks.proofs.ChannelLemmas.{heard_first, heard_pieces}
-use Rattle.service_blocks.specs.Readers as blocks
 use Rattle.service_blocks.specs.Reading as reading
 use Rattle.service_blocks.specs.Reading.{block_syntax, judge_part}
 use Rattle.services_files.specs.Events.{event_of, events_of}
 use Rattle.services_files.proofs.EventLemmas.{heard_behind-append}
-use Rattle.cc_receiver.proofs.ChannelLemmas.{no_pieces, passed_over, pieces_of}
+use Rattle.cc_receiver.proofs.ChannelLemmas.{passed_over, pieces_of}
 use Rattle.cc_receiver.specs.Channels.{HasHeard}
 use Rattle.cc_receiver.specs.Gathering.{gathered}
 use Rattle.cc_receiver.specs.Serving.{HasServed, ServesFrames, earlier_events, followed_by, given_by, last_events, said_events, said_triplets}

@@ -50,10 +50,6 @@ with_triplet t g = record g {
   pairs_two = pair_more g.pairs_two (field_pair true t);
 }
 
--- behind more triplets
-abbrev pub with_all : List Triplet → Gathered → Gathered
-with_all triplets g = front_from (λ before t. with_triplet t before) g triplets
-
 -- behind one more part
 abbrev pub gather : Gathered → CdpPart → Gathered
 gather g (part.Rate rate) = record g { rate = rate }

@@ -1,6 +1,8 @@
 pub mod Receiving
 pub mod Filling
 pub mod Gathering
+pub mod Counting
+pub mod TripletLists
 pub mod Hearing
 pub mod Gatherers
 pub mod Channels

@@ -1,6 +1,6 @@
 -- What a receiver gets of DTVCC from the frames of a words file: each service is where its events in the frames lead from its reset state
 -- (CTA-708-E, sections 5 to 8).
-use Rattle.std.specs.Prelude.{◌≡◌, ◌<◌, ℕ, Bool, List, Option}
+use Rattle.std.specs.Prelude.{ℕ, Bool, List, Option}
 use Rattle.cdp_packets.specs.Packets.{Packet as Frame}
 use Rattle.dtvcc_screen.specs.Cores.{CoreState}
 use Rattle.dtvcc_screen.specs.Meaning.{after, start}

@@ -14,6 +14,7 @@ ghost use Rattle.cc_receiver.specs.Hearing.{heard};
 use crate::channel::Channel;
 use crate::frame::Frame;
 use crate::services::Served;
+use crate::triplets::Triplets;
 use anc_words::WordPart;
 use cc_base::{Step, Upward, Why};
 use cdp_packets::{CdpPart, CdpReader, read_packet};
@@ -183,7 +184,7 @@ impl Captions {
         apply_all(&mut self.first, self.last.pairs_one.as_slice());
         apply_all(&mut self.second, self.last.pairs_two.as_slice());
         self.served
-            .frame(self.last.rate, self.last.triplets.as_slice());
+            .frame(self.last.rate, self.last.triplets.front());
         self.frames = self.frames.wrapping_add(1);
     }
 
@@ -197,12 +198,14 @@ impl Captions {
         let Some(packet) = read_packet(bytes) else {
             return false;
         };
+        let mut triplets = Triplets::new();
+        triplets.read(packet.sections);
         let mut judging = self.channel;
-        if !judging.takes_sections(packet.sections) {
+        if !judging.takes(triplets.front()) {
             return false;
         }
         self.channel = judging;
-        self.last.fill(packet);
+        self.last.fill(packet, &triplets);
         self.act();
         true
     }

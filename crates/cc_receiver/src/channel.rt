@@ -1,22 +1,17 @@
-ghost use Rattle.std.specs.Prelude.{◌≡◌, ℕ, ◌++◌, ◌==◌, ◌||◌, false, List, [], ◌∷◌, None, IsTrue};
-ghost use Rattle.std.specs.List.{concat, flat_map};
+ghost use Rattle.std.specs.Prelude.{◌≡◌, ◌++◌, ◌||◌, List, [], ◌∷◌, None, IsTrue};
 ghost use Rattle.cc_base.specs.Steps.{step_why};
 ghost use Rattle.cc_base.specs.Syntax.{open_behind};
 ghost use Rattle.cc_data.specs.declared.triplet.Triplet.{Triplet as TripletOf};
-ghost use Rattle.cc_data.specs.Triplets.{triplets_of};
 ghost use Rattle.cdp_packets.specs.declared.parts.CdpPart.{CdpPart as Part};
-ghost use Rattle.cdp_packets.specs.PacketTriplets.{section_triplets};
-ghost use Rattle.cdp_packets.specs.Sections.{AreSections};
-ghost use Rattle.channel_packets.specs.ChannelPackets.{channel_triplets, continues, starts};
+ghost use Rattle.channel_packets.specs.ChannelPackets.{continues, starts};
 ghost use Rattle.channel_packets.specs.declared.parts.PacketPart.{PacketPart as Piece};
 ghost use Rattle.service_blocks.specs.Readers.{HasRead};
 ghost use Rattle.service_blocks.specs.Reading.{block_syntax, judge_part};
 ghost use Rattle.services_files.specs.Services.{services_say, why_unheard};
 
-use crate::filling::count_fillers;
 use cc_base::{Step, Why};
-use cc_data::{Triplet, read_triplet};
-use cdp_packets::{CdpPart, split_section, triplet_bytes};
+use cc_data::Triplet;
+use cdp_packets::CdpPart;
 use channel_packets::{PacketPart, PacketReader};
 use service_blocks::BlockReader;
 
@@ -30,17 +25,6 @@ pub(crate) fn is_of_channel(triplet: Triplet) -> bool
     ensures { result ≡ (starts triplet || continues triplet) }
 {
     triplet.valid && (triplet.kind == PACKET_START || triplet.kind == PACKET_DATA)
-}
-
-/// Whether any of these counts and is one of channel packets.
-pub(crate) fn any_of_channel(triplets: &[Triplet]) -> bool
-    ensures { result ≡ false → channel_triplets triplets.now ≡ [] }
-{
-    let mut any = false;
-    for triplet in triplets {
-        any |= is_of_channel(*triplet);
-    }
-    any
 }
 
 /// The readers of the caption channel: of its packets, and of the service blocks in them (CTA-708-E, sections 5 and 6). They judge
@@ -116,34 +100,14 @@ impl Channel {
         }
     }
 
-    /// Takes the triplets of sections, up to one that is refused, and says whether none is.
-    pub(crate) fn takes_sections(&mut self, sections: &[u8]) -> bool
-        ensures { (before : List TripletOf) (cut : List (List ℕ)) → AreSections cut → concat cut ≡ sections.now → HasHeard before self.old
-            → IsTrue result → HasHeard (before ++ flat_map section_triplets cut) self.new }
+    /// Takes triplets, up to one that is refused, and says whether none is.
+    pub(crate) fn takes(&mut self, triplets: &[Triplet]) -> bool
+        ensures { (before : List TripletOf) → HasHeard before self.old → IsTrue result → HasHeard (before ++ triplets.now) self.new }
     {
-        let mut rest = sections;
-        while let Some((section, behind)) = split_section(rest) {
-            if !self.takes_triplets(triplet_bytes(section)) {
+        for triplet in triplets {
+            if self.take(*triplet).is_some() {
                 return false;
             }
-            rest = behind;
-        }
-        true
-    }
-
-    // Takes the triplets of these bytes, up to one that is refused, and says whether none is.
-    fn takes_triplets(&mut self, bytes: &[u8]) -> bool
-        ensures { (before : List TripletOf) → HasHeard before self.old → IsTrue result → HasHeard (before ++ triplets_of bytes.now) self.new }
-    {
-        let mut rest = bytes;
-        while let Some((triplet, more)) = rest.split_first_chunk::<3>() {
-            if count_fillers(rest).is_some() {
-                return true;
-            }
-            if self.take(read_triplet(*triplet)).is_some() {
-                return false;
-            }
-            rest = more;
         }
         true
     }

@@ -1,11 +1,11 @@
-ghost use Rattle.std.specs.Prelude.{◌≡◌, ◌≤◌, IfSome, IsTrue, length, replicate};
+ghost use Rattle.std.specs.Prelude.{◌≡◌, ◌≤◌, IfSome, replicate};
 ghost use Rattle.cc_data.specs.Triplets.{triplets_of};
 ghost use Rattle.cc_receiver.specs.Filling.{filler};
 
 use cc_data::Triplet;
 
 /// The most triplets of a packet.
-const MOST: usize = 81;
+pub(crate) const MOST: usize = 81;
 
 /// The first byte of a filler.
 const FILLER: u8 = 0xFA;
@@ -30,21 +30,9 @@ pub(crate) fn count_fillers(bytes: &[u8]) -> Option<usize>
         return None;
     };
     let fillers = BYTES.as_flattened();
-    if bytes.len() <= fillers.len() && are_same(bytes, &fillers[..bytes.len()]) {
+    if bytes.len() <= fillers.len() && bytes == &fillers[..bytes.len()] {
         Some(bytes.len() / 3)
     } else {
         None
     }
-}
-
-// Whether the bytes of two pieces of one length are the same.
-fn are_same(left: &[u8], right: &[u8]) -> bool
-    requires { length left.now ≡ length right.now }
-    ensures { IsTrue result → left.now ≡ right.now }
-{
-    let mut are = true;
-    for place in 0..left.len() {
-        are &= left[place] == right[place];
-    }
-    are
 }

@@ -1,19 +1,19 @@
-ghost use Rattle.std.specs.Prelude.{◌≡◌, ℕ, ◌≤◌, false, List, [], IsTrue, length};
-ghost use Rattle.std.specs.List.{concat, flat_map, list_all};
-ghost use Rattle.cc_data.specs.Triplets.{triplets_of};
+ghost use Rattle.std.specs.Prelude.{◌≡◌, ◌≤◌, Bool, [], length};
+ghost use Rattle.std.specs.List.{list_all};
 ghost use Rattle.cdp_packets.specs.Packets.{Packet};
 ghost use Rattle.cdp_packets.specs.PacketParts.{packet_parts};
-ghost use Rattle.cdp_packets.specs.PacketTriplets.{section_triplets};
+ghost use Rattle.cdp_packets.specs.PacketTriplets.{packet_triplets};
 ghost use Rattle.cdp_packets.specs.Sections.{AreSections};
 ghost use Rattle.cdp_packets.specs.WholePackets.{SaysPacket};
-ghost use Rattle.cc_receiver.specs.Gathering.{Gathered, gather, with_triplet, with_all};
+ghost use Rattle.words_files.specs.Received.{field_kind, field_pair, field_pairs};
+ghost use Rattle.cc_receiver.specs.Gathering.{Gathered, gather, pair_more, with_triplet};
 ghost use Rattle.cc_receiver.specs.Idle.{are_null, is_null};
 
-use crate::filling::{FILLERS, count_fillers};
+use crate::triplets::Triplets;
 use arrayvec::ArrayVec;
 use cc_base::Rate;
-use cc_data::{Triplet, read_triplet};
-use cdp_packets::{CdpPart, WholePacket, split_section, triplet_bytes};
+use cc_data::Triplet;
+use cdp_packets::{CdpPart, WholePacket};
 use line21_codes::Pair;
 
 // Whether all pairs are null pairs: two bytes 00, with odd parity (CTA-608-E).
@@ -21,6 +21,34 @@ fn are_null(pairs: &[Pair]) -> bool
     ensures { result ≡ list_all is_null pairs.now }
 {
     pairs.iter().all(|pair| pair.a == 0x80 && pair.b == 0x80)
+}
+
+/// The kinds of triplets of line 21's fields (CTA-708-E, cc_type).
+const FIELD_ONE: u8 = 0;
+
+const FIELD_TWO: u8 = 1;
+
+// Puts the pair of a triplet, if it counts and is of this kind, behind others, where there is room.
+fn put_pair(triplet: Triplet, kind: u8, pairs: &mut ArrayVec<Pair, 81>)
+    ensures { (second_field : Bool) → kind ≡ field_kind second_field
+        → pairs.new.items ≡ pair_more pairs.old.items (field_pair second_field triplet) }
+{
+    if triplet.valid && triplet.kind == kind {
+        let _ = pairs.try_push(Pair {
+            a: triplet.a,
+            b: triplet.b,
+        });
+    }
+}
+
+// Puts the pairs of at most 81 triplets, of those that count and are of this kind, into an empty list.
+fn put_pairs(triplets: &[Triplet], kind: u8, pairs: &mut ArrayVec<Pair, 81>)
+    ensures { (second_field : Bool) → kind ≡ field_kind second_field → length triplets.now ≤ 81 → pairs.old.items ≡ []
+        → pairs.new.items ≡ field_pairs second_field triplets.now }
+{
+    for triplet in triplets {
+        put_pair(*triplet, kind, pairs);
+    }
 }
 
 /// What a caption distribution packet says, gathered from its parts (SMPTE ST 334-2; CTA-708-E, cc_data()).
@@ -32,8 +60,8 @@ pub(crate) struct Frame {
     /// The bytes of the sections, one section behind another. A packet has at most 255 bytes, eleven of them around the
     /// sections.
     pub(crate) sections: ArrayVec<u8, 244>,
-    /// The triplets, in order, of three bytes each.
-    pub(crate) triplets: ArrayVec<Triplet, 81>,
+    /// The triplets, in order.
+    pub(crate) triplets: Triplets,
     /// The pairs of field 1 among the triplets that count, in order.
     pub(crate) pairs_one: ArrayVec<Pair, 81>,
     /// The pairs of field 2 among the triplets that count, in order.
@@ -42,6 +70,7 @@ pub(crate) struct Frame {
 
 impl Frame {
     ghost use Rattle.cc_receiver.specs.Gatherers.{HasGathered, Holds};
+    ghost use Rattle.cc_receiver.specs.TripletLists.{HasTriplets};
 
     /// A frame of no parts.
     pub(crate) fn new() -> Frame
@@ -52,7 +81,7 @@ impl Frame {
             flags: 0,
             counter: 0,
             sections: ArrayVec::new(),
-            triplets: ArrayVec::new(),
+            triplets: Triplets::new(),
             pairs_one: ArrayVec::new(),
             pairs_two: ArrayVec::new(),
         }
@@ -66,22 +95,26 @@ impl Frame {
         self.flags = 0;
         self.counter = 0;
         self.sections.clear();
-        self.triplets = ArrayVec::new();
-        self.pairs_one = ArrayVec::new();
-        self.pairs_two = ArrayVec::new();
+        self.triplets.clear();
+        self.pairs_one.clear();
+        self.pairs_two.clear();
     }
 
-    /// Says what a whole packet says.
-    pub(crate) fn fill(&mut self, packet: WholePacket<'_>)
+    /// Says what a whole packet says, whose triplets these are.
+    pub(crate) fn fill(&mut self, packet: WholePacket<'_>, triplets: &Triplets)
         ensures { (said : Packet) → AreSections said.sections → SaysPacket packet.entry said → length packet.entry.sections.now ≤ 244
-            → HasGathered (packet_parts said) self.new }
+            → HasTriplets (packet_triplets said) triplets.now → HasGathered (packet_parts said) self.new }
     {
-        self.clear();
         self.rate = packet.rate;
         self.flags = packet.flags;
         self.counter = packet.counter;
+        self.sections.clear();
         let _ = self.sections.try_extend_from_slice(packet.sections);
-        self.take_sections(packet.sections);
+        self.triplets.copy_from(triplets);
+        self.pairs_one.clear();
+        put_pairs(triplets.front(), FIELD_ONE, &mut self.pairs_one);
+        self.pairs_two.clear();
+        put_pairs(triplets.front(), FIELD_TWO, &mut self.pairs_two);
     }
 
     /// Whether the pairs of both fields are null pairs.
@@ -91,61 +124,13 @@ impl Frame {
         are_null(self.pairs_one.as_slice()) && are_null(self.pairs_two.as_slice())
     }
 
-    // Takes the triplets of sections.
-    fn take_sections(&mut self, sections: &[u8])
-        ensures { (gathered : Gathered) (cut : List (List ℕ)) → AreSections cut → concat cut ≡ sections.now → Holds gathered self.old
-            → Holds (with_all (flat_map section_triplets cut) gathered) self.new }
-    {
-        let mut rest = sections;
-        while let Some((section, behind)) = split_section(rest) {
-            self.take_triplets(triplet_bytes(section));
-            rest = behind;
-        }
-    }
-
-    // Takes the triplets of these bytes.
-    fn take_triplets(&mut self, bytes: &[u8])
-        ensures { (gathered : Gathered) → Holds gathered self.old → Holds (with_all (triplets_of bytes.now) gathered) self.new }
-    {
-        let mut rest = bytes;
-        while let Some((triplet, more)) = rest.split_first_chunk::<3>() {
-            if self.fill_up(rest) {
-                return;
-            }
-            self.triplet(read_triplet(*triplet));
-            rest = more;
-        }
-    }
-
-    // Takes the triplets of these bytes where all of them are fillers and there is room, and says whether it did.
-    fn fill_up(&mut self, bytes: &[u8]) -> bool
-        ensures took { (gathered : Gathered) → IsTrue result → Holds gathered self.old → Holds (with_all (triplets_of bytes.now) gathered) self.new }
-        ensures none { result ≡ false → self.new ≡ self.old }
-    {
-        match count_fillers(bytes) {
-            Some(count) => self
-                .triplets
-                .try_extend_from_slice(&FILLERS[..count])
-                .is_ok(),
-            None => false,
-        }
-    }
-
     // Takes the next triplet, and its pair where it counts and is of line 21.
     fn triplet(&mut self, triplet: Triplet)
         ensures { (gathered : Gathered) → Holds gathered self.old → Holds (with_triplet triplet gathered) self.new }
     {
-        let _ = self.triplets.try_push(triplet);
-        let pair = Pair {
-            a: triplet.a,
-            b: triplet.b,
-        };
-        if triplet.valid && triplet.kind == 0 {
-            let _ = self.pairs_one.try_push(pair);
-        }
-        if triplet.valid && triplet.kind == 1 {
-            let _ = self.pairs_two.try_push(pair);
-        }
+        self.triplets.push(triplet);
+        put_pair(triplet, FIELD_ONE, &mut self.pairs_one);
+        put_pair(triplet, FIELD_TWO, &mut self.pairs_two);
     }
 
     /// Takes the next part.

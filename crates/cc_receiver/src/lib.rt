@@ -9,6 +9,7 @@ mod frame;
 pub mod laws;
 mod receiver;
 mod services;
+mod triplets;
 
 pub use findings::{Finding, Kind45, Which};
 pub use receiver::{Ended, Fed, Receiver};

@@ -326,7 +326,7 @@ impl Receiver {
         ensures { (bytes : List ℕ) (earlier : List FrameOf) (last : FrameOf) → HasReceived bytes self.now
             → AreFramesOf services_say (earlier ++ last ∷ []) bytes → result ≡ length (packet_triplets last) }
     {
-        self.captions.last.triplets.len() as u16
+        self.captions.last.triplets.as_slice().len() as u16
     }
 
     /// The bytes of the sections of the last whole frame, where there is one, one section behind another (SMPTE ST 334-2).

@@ -9,7 +9,7 @@ ghost use Rattle.service_blocks.specs.Readers.{HasRead};
 ghost use Rattle.service_blocks.specs.Reading.{block_syntax, judge_part};
 ghost use Rattle.services_files.specs.Events.{event_of, events_of};
 
-use crate::channel::{Channel, any_of_channel, is_of_channel};
+use crate::channel::{Channel, is_of_channel};
 use cc_base::{Rate, Step};
 use cc_data::Triplet;
 use channel_packets::PacketPart;
@@ -65,9 +65,6 @@ impl Served {
             return;
         }
         self.services.tick(rate);
-        if !any_of_channel(triplets) {
-            return;
-        }
         for triplet in triplets {
             self.triplet(*triplet);
         }

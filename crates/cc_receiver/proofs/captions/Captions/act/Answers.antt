@@ -1,11 +1,13 @@
-use Rattle.std.proofs.Common.{arith, rules, ◌∙◌, ◌++◌, false, true, reverse, subst}
+use Rattle.std.proofs.Common.{arith, ◌∙◌, ◌++◌, false, true, refl, reverse, subst}
 use Rattle.line21_screen.specs.Objects.{Leads}
+use Rattle.cc_receiver.specs.Gathering.{gathered}
 use Rattle.cc_receiver.specs.Hearing.{heard}
 use Rattle.cc_receiver.proofs.ServingLemmas.{serves_frame}
+use Rattle.cc_receiver.proofs.SilentLemmas.{served_whole}
 use Rattle.cc_receiver.proofs.captions.Captions.act.Goals as goal
 
 pub returns : goal.returns
-returns c caught parts gathered last judging channel keeps took tried =
+returns c caught parts half last judging channel keeps took tried =
     let count = keeps.count in
     record {
       refused = keeps.refused;
@@ -17,7 +19,8 @@ returns c caught parts gathered last judging channel keeps took tried =
           (c.apply_all.ensures false (heard false caught.frames) keeps.first);
       second = subst (λ ps. Leads true (reverse ps ++ heard true caught.frames) c.apply_all-2.new.field) (c.as_slice-2.ensures.value ∙ took.pairs_two)
           (c.apply_all-2.ensures true (heard true caught.frames) keeps.second);
-      services = serves_frame caught.frames parts c.args.self.now.last.rate c.as_slice-3.result.now c.args.self.now.served c.frame.new.self took.rate
-          (c.as_slice-3.ensures.value ∙ took.triplets) keeps.services c.frame.ensures.served c.frame.ensures.frames;
+      services = serves_frame caught.frames parts c.args.self.now.last.rate (gathered parts).triplets c.args.self.now.served c.frame.new.self took.rate refl keeps.services
+          (served_whole c.args.self.now.last.rate c.front.result.now (gathered parts).triplets c.args.self.now.served c.frame.new.self
+          (c.front.ensures (gathered parts).triplets took.triplets) c.frame.ensures.served) c.frame.ensures.frames;
       count = omega (arith, count);
     }

@@ -1,4 +1,4 @@
-use Rattle.std.proofs.Common.{rules, ◌≡◌, ◌||◌, true, false, [], ◌∷◌, ◌++◌, Some, None, ap, append-nil, append_assoc, subst, sym, ◌∙◌}
+use Rattle.std.proofs.Common.{rules, ◌≡◌, ◌||◌, true, false, [], ◌∷◌, ◌++◌, ap, append-nil, append_assoc, subst, sym, ◌∙◌}
 use Rattle.cc_base.specs.declared.step.Step.TheVariants.{One, Two}
 use Rattle.cc_base.specs.Syntax.{open_behind, parts_of}
 use Rattle.channel_packets.specs.ChannelPackets.{channel_triplets, continues, starts}

@@ -1,6 +1,7 @@
-use Rattle.std.proofs.Common.{ap, length, ◌∙◌}
+use Rattle.std.proofs.Common.{ap, length}
+use Rattle.cdp_packets.specs.PacketTriplets.{packet_triplets}
 use Rattle.cc_receiver.proofs.ReceivedLemmas.{last_received}
 use Rattle.cc_receiver.proofs.receiver.Receiver.triplet_count.Goals as goal
 
 pub returns : goal.returns
-returns c = λ bytes earlier last had are. c.len.ensures.value ∙ ap length (last_received earlier last bytes c.args.self.now had are).triplets
+returns c = λ bytes earlier last had are. ap length (c.as_slice.ensures.triplets (packet_triplets last) (last_received earlier last bytes c.args.self.now had are).triplets)

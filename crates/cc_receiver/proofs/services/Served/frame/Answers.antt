@@ -1,10 +1,8 @@
-use Rattle.std.proofs.Common.{rules, arith, ◌≡◌, ◌∙◌, ◌+◌, ◌++◌, [], ap, append-nil, drop, subst, sym, take}
+use Rattle.std.proofs.Common.{arith, ◌∙◌, ◌+◌, ◌++◌, ap, append-nil, drop, subst, sym, take}
 use Rattle.std.proofs.lemmas.List.{take-append-drop, take_all, take_more}
-use Rattle.channel_packets.specs.ChannelPackets.{channel_triplets}
 use Rattle.cc_receiver.specs.Channels.{HasHeard}
 use Rattle.cc_receiver.specs.Serving.{HasServed, followed_by, given_by}
 use Rattle.cc_receiver.proofs.ServingLemmas.{next_heard, served_more}
-use Rattle.cc_receiver.proofs.SilentLemmas.{silent_served}
 use Rattle.cc_receiver.proofs.services.Served.frame.Goals as goal
 
 pub loop-triplet-init : goal.loop-triplet-init
@@ -38,9 +36,3 @@ pub returns-clause-served : goal.returns-clause-served
 returns-clause-served c = λ before earlier last has few heard.
     subst (λ ts. HasServed (before ++ ts) (followed_by earlier last) (given_by c.args.rate before ts) c.loop-triplet.self)
     (take_all c.loop-triplet.triplet-index c.args.triplets.now (omega arith)) (c.loop-triplet.invariant.served before earlier last has heard)
-
-pub returns-then-not-any_of_channel-clause-served : goal.returns-then-not-any_of_channel-clause-served
-returns-then-not-any_of_channel-clause-served c = λ before earlier last has few heard.
-    let none : channel_triplets c.args.triplets.now ≡ [] = search rules in
-    silent_served c.args.rate before c.args.triplets.now (followed_by earlier last) (record { channel = c.args.self.now.channel; services = c.tick.new.self })
-    none has.heard (c.tick.ensures.leads earlier last has.leads)

@@ -1,4 +1,4 @@
-use Rattle.std.proofs.Common.{◌≡◌, ◌∙◌, ◌++◌, [], ◌∷◌, ap, sym}
+use Rattle.std.proofs.Common.{◌∙◌, ◌++◌, ap, sym}
 use Rattle.cc_base.specs.Steps.{step_parts}
 use Rattle.cc_base.specs.Syntax.{open_behind}
 use Rattle.service_blocks.specs.Reading.{block_syntax, judge_part}

@@ -1,10 +1,9 @@
 use Rattle.std.proofs.Common.{rules, ◌≡◌, ◌||◌, true, false, [], ◌∷◌, ◌++◌, ap, append-nil, append_assoc, subst, sym, ◌∙◌}
-use Rattle.cc_base.specs.declared.step.Step.TheVariants.{One, Two}
 use Rattle.cc_base.specs.Steps.{step_parts}
 use Rattle.cc_base.specs.Syntax.{open_behind, parts_from, parts_of}
 use Rattle.channel_packets.specs.ChannelPackets.{channel_triplets, continues, starts}
 use Rattle.channel_packets.specs.Readers as packets
-use Rattle.channel_packets.specs.Reading.{judge_triplet, packet_syntax}
+use Rattle.channel_packets.specs.Reading.{packet_syntax}
 use Rattle.service_blocks.specs.Readers as blocks
 use Rattle.service_blocks.specs.Reading.{block_syntax}
 use Rattle.services_files.specs.Events.{events_of}
