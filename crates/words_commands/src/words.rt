@@ -13,8 +13,10 @@ use std::alloc::Global;
 /// The most bytes of a words file.
 pub const WORDS_LIMIT: usize = 2_147_483_647;
 
-/// The most bytes that a command takes of a words file at once.
-pub const TAKE: usize = 32_768;
+/// The most bytes that a command takes of a words file at once. They are 250 frames of 160 bytes, as frames are at 29.97 and 30 with
+/// their 20 triplets, or 400 frames of 100 bytes, as at 59.94 and 60 with 10: the takes of such a file cut no frame. One that is cut is
+/// read byte by byte.
+pub const TAKE: usize = 40_000;
 
 /// Reads a words file to its end, and puts what is printed of its frames. What one take gave is judged, and its text put,
 /// before the next take. Gives the number of frames, or the status with which the run ends.
