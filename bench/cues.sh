@@ -1,16 +1,15 @@
 #!/usr/bin/env bash
 # What a cue list costs to read, check and plan, with 2,000 and with 20,000 pop-on cues, and with as many cues in eight windows
-# of one service, each with a delay, beside csv that only goes through the records of the same bytes, by turns in one run. Proves and builds bench/cues in a folder of its own.
+# of one service, each with a delay, beside csv that only goes through the records of the same bytes, by turns in one run. Proves and builds
+# bench/cues in a folder of its own.
 set -eu
 cd "$(dirname "$0")/.."
 work=$(mktemp -d)
 trap 'rm -rf "$work"' EXIT
 mkdir -p "$work/crates/cues_bench/src"
-for crate in cc_base line21_codes line21_slots dtvcc_codes dtvcc_windows buffer_bound cue_types cue_form cue_print cue_rules authored_grids cue_lists \
-    line21_author dtvcc_author placements service_lanes frame_scheduler; do
-    cp -r "crates/$crate" "$work/crates/"
-    grep "^$crate:" crates.txt >> "$work/crates.txt"
-done
+. bench/crates.sh
+take_crate cue_lists
+take_crate frame_scheduler
 cp bench/cues/main.txt "$work/crates/cues_bench/src/main.rt"
 echo 'cues_bench: cc_base cue_lists frame_scheduler csv' >> "$work/crates.txt"
 

@@ -7,13 +7,8 @@ cd "$(dirname "$0")/.."
 work=$(mktemp -d)
 trap 'rm -rf "$work"' EXIT
 mkdir -p "$work/crates/receiver_bench/src"
-below=$(sed -n 's/^cc_receiver: //p' crates.txt)
-for name in $below cc_receiver; do
-    if [ -d "crates/$name" ]; then
-        cp -r "crates/$name" "$work/crates/"
-        grep "^$name:" crates.txt >> "$work/crates.txt"
-    fi
-done
+. bench/crates.sh
+take_crate cc_receiver
 cp bench/receiver/main.txt "$work/crates/receiver_bench/src/main.rt"
 echo 'receiver_bench: cc_receiver' >> "$work/crates.txt"
 (cd "$work/crates/receiver_bench" && rt run -- null 1 > /dev/null)
