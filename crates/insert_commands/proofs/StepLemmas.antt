@@ -3,14 +3,10 @@ use Rattle.std.proofs.Common.{◌≡◌, ◌≢◌, ℕ, ◌+◌, ◌-◌, ◌%�
 use Rattle.std.proofs.lemmas.List.{length-map, length-take-le, take-append-drop}
 use Rattle.std.proofs.lemmas.List.Elements.{All-append, All-cons, All-nil}
 use Rattle.std.specs.List.{concat}
-use Rattle.std.specs.Io.KnownBytes.{Appends}
-use Rattle.arrayvec.specs.ArrayVec.{ArrayVec}
-use Rattle.cc_base.proofs.Puts.{puts_then}
 use Rattle.cc_base.specs.Rate.{code_of, rate_of}
 use Rattle.cc_base.specs.Streams.{Puts}
 use Rattle.cc_base.specs.declared.rate.Rate.{Rate}
 use Rattle.cc_base.specs.declared.refusal.Refusal.{Refusal}
-use Rattle.cc_base.specs.declared.streams.Put.{Put}
 use Rattle.cc_base.specs.declared.streams.Put.TheVariants as put
 use Rattle.anc_words.specs.Packets.{user_bytes}
 use Rattle.cc_receiver.specs.Receivers.{HasReceived, frame_count}
@@ -25,14 +21,17 @@ use Rattle.packet_inserter.specs.Insertion.{IsInserted, packet_length}
 use Rattle.services_files.specs.Services.{services_say}
 use Rattle.words_files.specs.Offences.{IsFileUnder, IsUnoffending}
 use Rattle.words_files.proofs.FramesOfLemmas.{file_frames}
+use Rattle.text_output.proofs.PageLemmas.{gathered_more}
+use Rattle.text_output.specs.Gathered.{Gathers, held_of}
 use Rattle.words_commands.specs.WordsAnswer.{words_limit}
-use Rattle.insert_commands.specs.InsertAnswer.{PutsInserted}
-use Rattle.insert_commands.specs.InsertSteps.{HasFrame, HasJudged, HasStopped, PutsWords, Replaces, StopsBy}
+use Rattle.insert_commands.proofs.FlushLemmas.{inserted_unwritten}
+use Rattle.insert_commands.specs.InsertSteps.{GathersInserted, HasFrame, HasJudged, HasStopped, Replaces, StopsBy}
 use Rattle.inserted_words.specs.InsertedFile.{BringsFrame, IsForeign, carried_words}
 use Rattle.inserted_words.specs.InsertedFile.AreInserted.{caption, foreign}
 use Rattle.inserted_words.specs.Captioning.{Captioning, captions_of}
 use Rattle.insert_commands.specs.ListCaptions.{GivesCaptions}
 use Rattle.insert_commands.specs.OpenPackets.{Ends, EndsCaption, EndsForeign, HasRead, MayFollow, NoPacketEnds, Reads, Refuses, open_bytes}
+use Rattle.insert_commands.specs.declared.captions.Captions.{Captions}
 use Rattle.insert_commands.specs.declared.inserting.Inserting.{Inserting}
 use Rattle.insert_commands.specs.declared.inserting.Stop.{Stop}
 use Rattle.insert_commands.specs.declared.inserting.Stop.TheVariants as stop
@@ -70,7 +69,8 @@ rest_parted before bytes used =
 
 module _ (list : Captioning) (start now : Option (List ℕ)) (before bytes : List ℕ) (old : Inserting) (had : HasJudged list start now before old) where
   -- a word was refused
-  pub step_refused : (refusal : Refusal) → Refuses had.file (open_bytes old.packets ++ bytes) refusal → HasStopped list start now (before ++ bytes) (stop.Refused refusal)
+  pub step_refused : (refusal : Refusal) → Refuses had.file (open_bytes old.packets ++ bytes) refusal
+      → HasStopped list start now (before ++ bytes) (held_of old.gathered) (stop.Refused refusal)
   step_refused refusal refuses = record {
     frames = had.frames;
     file = had.file;
@@ -78,20 +78,33 @@ module _ (list : Captioning) (start now : Option (List ℕ)) (before bytes : Lis
     unjudged = refuses.rest;
     spelled = ap (λ b. b ++ bytes) had.spelled ∙ append_assoc had.file (open_bytes old.packets) bytes ∙ ap (λ b. had.file ++ b) refuses.spelled
         ∙ sym (append_assoc had.file refuses.behind refuses.rest);
-    puts = had.puts;
+    gathers = had.gathers;
     cause = refuses.stands;
+  }
+
+  -- a put failed of what was gathered before
+  pub step_unwritten : (then : Option (List ℕ)) (held : List ℕ) → Puts now then put.Failed (held_of old.gathered)
+      → HasStopped list start then (before ++ bytes) held stop.Unwritten
+  step_unwritten then held failed = record {
+    frames = had.frames;
+    file = had.file;
+    behind = open_bytes old.packets;
+    unjudged = bytes;
+    spelled = ap (λ b. b ++ bytes) had.spelled;
+    gathers = inserted_unwritten list had.frames had.file start now then (held_of old.gathered) held had.gathers failed;
+    cause = tt;
   }
 
   -- no packet ended
   pub step_still : (new : Inserting) (fed : Fed) → Reads had.frames had.file bytes old.packets new.packets fed → fed.ended ≡ ended.No
-      → new.captions ≡ old.captions → HasJudged list start now (before ++ take fed.used bytes) new
-  step_still new fed read still same = record {
+      → new.captions ≡ old.captions → new.gathered ≡ old.gathered → HasJudged list start now (before ++ take fed.used bytes) new
+  step_still new fed read still same kept = record {
     frames = had.frames;
     file = had.file;
     spelled = parted before had.file (open_bytes old.packets) bytes (take fed.used bytes) (open_bytes new.packets) had.spelled read.kept;
     read = subst (λ e. Rattle.insert_commands.specs.OpenPackets.Ends e had.frames had.file new.packets) still read.ends;
     gives = subst (GivesCaptions list (length had.frames)) (sym same) had.gives;
-    puts = had.puts;
+    gathers = subst (λ g. GathersInserted list had.frames had.file put.Done start now (held_of g)) (sym kept) had.gathers;
   }
 
   module _ (mid : Packets) (fed : Fed) (read : Reads had.frames had.file bytes old.packets mid fed) where
@@ -104,110 +117,87 @@ module _ (list : Captioning) (start now : Option (List ℕ)) (before bytes : Lis
     spelled_rest : before ++ bytes ≡ (had.file ++ open_bytes mid) ++ drop fed.used bytes
     spelled_rest = rest_parted before bytes fed.used ∙ ap (λ b. b ++ drop fed.used bytes) spelled_whole
 
-    foreign_puts : (then : Option (List ℕ)) (answer : Put) → IsForeign (open_bytes mid) → Puts now then answer (open_bytes mid)
-        → PutsInserted list had.frames whole answer start then
-    foreign_puts then answer is puts = record {
-      text = had.puts.text ++ open_bytes mid;
-      inserted = foreign (captions_of list) had.frames had.file had.puts.text (open_bytes mid) whole (had.puts.text ++ open_bytes mid)
-          had.puts.inserted is refl refl;
-      rates = had.puts.rates;
-      output = puts_then start now then answer had.puts.text (open_bytes mid) had.puts.output puts;
+    foreign_gathers : (then : Option (List ℕ)) (after : List ℕ) → IsForeign (open_bytes mid)
+        → Gathers now then (held_of old.gathered) after put.Done (open_bytes mid) → GathersInserted list had.frames whole put.Done start then after
+    foreign_gathers then after is gathers = record {
+      text = had.gathers.text ++ open_bytes mid;
+      inserted = foreign (captions_of list) had.frames had.file had.gathers.text (open_bytes mid) whole (had.gathers.text ++ open_bytes mid)
+          had.gathers.inserted is refl refl;
+      rates = had.gathers.rates;
+      way = gathered_more start now then put.Done (held_of old.gathered) after (open_bytes mid) had.gathers.text had.gathers.way gathers;
     }
 
     -- a packet that isn't one of captions was copied
     pub step_copied : (then : Option (List ℕ)) (new : Inserting) → EndsForeign had.frames had.file (open_bytes mid) mid
-        → Appends now then (open_bytes mid) → new.packets.receiver ≡ mid.receiver → open_bytes new.packets ≡ [] → new.captions ≡ old.captions
+        → Gathers now then (held_of old.gathered) (held_of new.gathered) put.Done (open_bytes mid)
+        → new.packets.receiver ≡ mid.receiver → open_bytes new.packets ≡ [] → new.captions ≡ old.captions
         → HasJudged list start then (before ++ take fed.used bytes) new
-    step_copied then new is puts receiver none same = record {
+    step_copied then new is gathers receiver none same = record {
       frames = had.frames;
       file = whole;
       spelled = spelled_whole ∙ sym (ap (λ b. whole ++ b) none ∙ append-nil whole);
       read = begun had.frames had.file (open_bytes mid) mid.receiver new.packets is.received is.few is.unoffending is.under receiver none;
       gives = subst (GivesCaptions list (length had.frames)) (sym same) had.gives;
-      puts = foreign_puts then put.Done (record { packet = is.packet; is = is.is; is_foreign = is.is_foreign }) puts;
+      gathers = foreign_gathers then (held_of new.gathered) (record { packet = is.packet; is = is.is; is_foreign = is.is_foreign }) gathers;
     }
-
-    -- or that failed
-    pub step_uncopied : (then : Option (List ℕ)) (why : Stop) → EndsForeign had.frames had.file (open_bytes mid) mid
-        → PutsWords now then (open_bytes mid) (Err why) → HasStopped list start then (before ++ bytes) why
-    step_uncopied then why is (unwritten, failed) = subst (HasStopped list start then (before ++ bytes)) (sym unwritten) (record {
-      frames = had.frames;
-      file = whole;
-      behind = [];
-      unjudged = drop fed.used bytes;
-      spelled = spelled_rest ∙ ap (λ b. b ++ drop fed.used bytes) (sym (append-nil whole));
-      puts = foreign_puts then put.Failed (record { packet = is.packet; is = is.is; is_foreign = is.is_foreign }) failed;
-      cause = tt;
-    })
 
     brings : EndsCaption had.frames had.file (open_bytes mid) mid → (frame : Frame) × BringsFrame frame (open_bytes mid)
     brings is = (is.frame, record { packet = is.packet; is = is.is; is_caption = is.is_caption; carries = is.carries })
 
-    caption_puts : (then : Option (List ℕ)) (answer : Put) (new_frame : Frame) (is : EndsCaption had.frames had.file (open_bytes mid) mid)
+    caption_gathers : (then : Option (List ℕ)) (after : List ℕ) (new_frame : Frame) (is : EndsCaption had.frames had.file (open_bytes mid) mid)
         → is.frame.rate ≡ list.rate → IsInserted (captions_of list (length had.frames)) is.frame new_frame → packet_length new_frame ≤ 255
-        → Puts now then answer (carried_words new_frame) → PutsInserted list (had.frames ++ is.frame ∷ []) whole answer start then
+        → Gathers now then (held_of old.gathered) after put.Done (carried_words new_frame)
+        → GathersInserted list (had.frames ++ is.frame ∷ []) whole put.Done start then after
     unfolding brings
-    caption_puts then answer new_frame is rate inserted fits puts = record {
-      text = had.puts.text ++ carried_words new_frame;
-      inserted = caption (captions_of list) had.frames (had.frames ++ is.frame ∷ []) is.frame new_frame had.file had.puts.text
-          (open_bytes mid) whole (had.puts.text ++ carried_words new_frame) had.puts.inserted (brings is).1 inserted fits refl refl refl;
-      rates = All-append (λ f. f.rate ≡ list.rate) had.frames (is.frame ∷ []) had.puts.rates
+    caption_gathers then after new_frame is rate inserted fits gathers = record {
+      text = had.gathers.text ++ carried_words new_frame;
+      inserted = caption (captions_of list) had.frames (had.frames ++ is.frame ∷ []) is.frame new_frame had.file had.gathers.text
+          (open_bytes mid) whole (had.gathers.text ++ carried_words new_frame) had.gathers.inserted (brings is).1 inserted fits refl refl refl;
+      rates = All-append (λ f. f.rate ≡ list.rate) had.frames (is.frame ∷ []) had.gathers.rates
           (All-cons (λ f. f.rate ≡ list.rate) is.frame [] rate (All-nil (λ f. f.rate ≡ list.rate)));
-      output = puts_then start now then answer had.puts.text (carried_words new_frame) had.puts.output puts;
+      way = gathered_more start now then put.Done (held_of old.gathered) after (carried_words new_frame) had.gathers.text had.gathers.way gathers;
     }
 
     one_more : (frame : Frame) → length (had.frames ++ frame ∷ []) ≡ length had.frames + 1
     one_more frame = length-append had.frames (frame ∷ [])
 
-    -- the captions of a frame were put
-    pub step_replaced : (then : Option (List ℕ)) (new : Inserting) (words : ArrayVec ℕ) (is : EndsCaption had.frames had.file (open_bytes mid) mid)
-        → Replaces list (length had.frames) is.frame new.captions (Ok words) → Appends now then words.items
+    -- the captions of a frame were gathered
+    pub step_replaced : (then : Option (List ℕ)) (new : Inserting) (words : List ℕ) (is : EndsCaption had.frames had.file (open_bytes mid) mid)
+        → Replaces list (length had.frames) is.frame new.captions words (Ok tt)
+        → Gathers now then (held_of old.gathered) (held_of new.gathered) put.Done words
         → new.packets.receiver ≡ mid.receiver → open_bytes new.packets ≡ [] → HasJudged list start then (before ++ take fed.used bytes) new
-    step_replaced then new words is (rate, gives, (new_frame, inserted, fits, words_are)) puts receiver none = record {
+    step_replaced then new words is (rate, gives, (new_frame, inserted, fits, words_are)) gathers receiver none = record {
       frames = had.frames ++ is.frame ∷ [];
       file = whole;
       spelled = spelled_whole ∙ sym (ap (λ b. whole ++ b) none ∙ append-nil whole);
       read = begun (had.frames ++ is.frame ∷ []) had.file (open_bytes mid) mid.receiver new.packets is.received is.few is.unoffending is.under receiver none;
       gives = subst (λ n. GivesCaptions list n new.captions) (sym (one_more is.frame)) gives;
-      puts = caption_puts then put.Done new_frame is rate inserted fits (subst (Appends now then) words_are puts);
+      gathers = caption_gathers then (held_of new.gathered) new_frame is rate inserted fits
+          (subst (Gathers now then (held_of old.gathered) (held_of new.gathered) put.Done) words_are gathers);
     }
-
-    pub step_unreplaced : (then : Option (List ℕ)) (new : Inserting) (words : ArrayVec ℕ) (why : Stop) (is : EndsCaption had.frames had.file (open_bytes mid) mid)
-        → Replaces list (length had.frames) is.frame new.captions (Ok words) → PutsWords now then words.items (Err why)
-        → HasStopped list start then (before ++ bytes) why
-    step_unreplaced then new words why is (rate, gives, (new_frame, inserted, fits, words_are)) (unwritten, failed) =
-        subst (HasStopped list start then (before ++ bytes)) (sym unwritten) (record {
-          frames = had.frames ++ is.frame ∷ [];
-          file = whole;
-          behind = [];
-          unjudged = drop fed.used bytes;
-          spelled = spelled_rest ∙ ap (λ b. b ++ drop fed.used bytes) (sym (append-nil whole));
-          puts = caption_puts then put.Failed new_frame is rate inserted fits (subst (Puts now then put.Failed) words_are failed);
-          cause = tt;
-        })
 
     -- the run stopped at the frame
-    pub step_stopped : (new : Inserting) (why : Stop) (is : EndsCaption had.frames had.file (open_bytes mid) mid)
-        → Replaces list (length had.frames) is.frame new.captions (Err why) → HasStopped list start now (before ++ bytes) why
+    pub step_stopped : (captions : Captions) (words : List ℕ) (why : Stop) (is : EndsCaption had.frames had.file (open_bytes mid) mid)
+        → Replaces list (length had.frames) is.frame captions words (Err why) → HasStopped list start now (before ++ bytes) (held_of old.gathered) why
     unfolding brings
-    step_stopped new (stop.Refused refusal) is replaces = absurd replaces
-    step_stopped new stop.Unwritten is replaces = absurd replaces
-    step_stopped new (stop.Found finding) is (other, found) = record {
+    step_stopped captions words (stop.Refused refusal) is replaces = absurd replaces
+    step_stopped captions words stop.Unwritten is replaces = absurd replaces
+    step_stopped captions words (stop.Found finding) is (other, found) = record {
       frames = had.frames;
       file = had.file;
       behind = open_bytes mid;
       unjudged = drop fed.used bytes;
       spelled = spelled_rest;
-      puts = had.puts;
+      gathers = had.gathers;
       cause = record { last = is.frame; brings = (brings is).1; unoffending = is.unoffending; other = other; is = found };
     }
-    step_stopped new stop.Packet is (rate, (new_frame, inserted, long)) = record {
+    step_stopped captions words stop.Packet is (rate, (new_frame, inserted, long)) = record {
       frames = had.frames;
       file = had.file;
       behind = open_bytes mid;
       unjudged = drop fed.used bytes;
       spelled = spelled_rest;
-      puts = had.puts;
+      gathers = had.gathers;
       cause = record { last = is.frame; brings = (brings is).1; unoffending = is.unoffending; rate_is = rate; new = new_frame; inserted = inserted; long = long };
     }
 

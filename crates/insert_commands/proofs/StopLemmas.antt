@@ -19,8 +19,10 @@ use Rattle.services_files.specs.Services.{services_say}
 use Rattle.words_commands.proofs.PieceLemmas.{IsPiece, all_taken, nothing_taken, whole_piece, with_piece}
 use Rattle.words_commands.specs.WordsAnswer.{words_limit}
 use Rattle.words_files.specs.Offences.{IsFileUnder}
+use Rattle.text_output.specs.Gathered.{held_of}
+use Rattle.insert_commands.proofs.FlushLemmas.{inserted_put, was_put}
 use Rattle.insert_commands.specs.InsertAnswer.{Cause, PutsInserted, Stops}
-use Rattle.insert_commands.specs.InsertSteps.{CountsBy, EndsAs, HasJudged, HasStopped, InsertsWords, StopCause, stop_status}
+use Rattle.insert_commands.specs.InsertSteps.{CountsBy, EndsAs, HasPut, HasStopped, InsertsWords, StopCause, stop_status}
 use Rattle.inserted_words.specs.InsertedFile.AreInserted.{nothing}
 use Rattle.inserted_words.specs.Captioning.{Captioning, captions_of}
 use Rattle.insert_commands.specs.ListCaptions.{GivesCaptions}
@@ -37,12 +39,12 @@ nothing_left frames file (b ∷ behind) none is =
     absurd (none is.file.packets (length (b ∷ behind)) (omega arith) (omega arith)
     (subst (λ m. IsWordsFile is.file.packets (file ++ m)) (sym (take_all (length (b ∷ behind)) (b ∷ behind) (omega arith))) is.file.file))
 
--- bytes were taken and judged; so many more are within the limit
+-- bytes were taken and judged, and what stands for their packets was put; so many more are within the limit
 pub record IsUnderway (first left start0 now : Option (List ℕ)) (begun inserting : Inserting) (room : ℕ) : Type 0 where
   pub taken : List ℕ
   pub consumed : Consumes first left taken
   pub within : length taken + room ≡ words_limit
-  pub judged : (list : Captioning) (start : Option (List ℕ)) → HasJudged list start start0 [] begun → HasJudged list start now taken inserting
+  pub judged : (list : Captioning) (start : Option (List ℕ)) → HasPut list start start0 [] begun → HasPut list start now taken inserting
 
 pub underway_begun : (first start : Option (List ℕ)) (inserting : Inserting) → IsUnderway first first start start inserting inserting words_limit
 underway_begun first start inserting =
@@ -50,59 +52,59 @@ underway_begun first start inserting =
 
 -- what stands against the run, where the bytes judged are all that was taken
 judged_stops : (list : Captioning) (Why : Cause) (first left after start now : Option (List ℕ)) (reads later writes still : ℕ) (inserting : Inserting) (taken : List ℕ) (room : ℕ)
-    (had : HasJudged list start now taken inserting) → Consumes first left taken → length taken + room ≡ words_limit → Keeps left after
-    → Why list had.frames had.file (open_bytes inserting.packets) []
+    (had : HasPut list start now taken inserting) → Consumes first left taken → length taken + room ≡ words_limit → Keeps left after
+    → Why list had.judged.frames had.judged.file (open_bytes inserting.packets) []
     → Stops list Why put.Done (ends first reads start writes) (ends after later now still)
 judged_stops list Why first left after start now reads later writes still inserting taken room had consumed within keeps cause =
-    let size = ap length had.spelled in
+    let size = ap length had.judged.spelled in
     record {
-      frames = had.frames;
-      file = had.file;
+      frames = had.judged.frames;
+      file = had.judged.file;
       behind = open_bytes inserting.packets;
       unjudged = [];
-      taken = subst (Consumes first after) (had.spelled ∙ sym (append-nil (had.file ++ open_bytes inserting.packets))) (consumes_kept first left after taken consumed keeps);
+      taken = subst (Consumes first after) (had.judged.spelled ∙ sym (append-nil (had.judged.file ++ open_bytes inserting.packets))) (consumes_kept first left after taken consumed keeps);
       within = omega (arith, within, size);
-      puts = had.puts;
+      puts = was_put list start now taken inserting had;
       cause = cause;
     }
 
 -- the input failed
 pub take_failed : (list : Captioning) (first left after start now : Option (List ℕ)) (reads later writes still : ℕ) (inserting : Inserting) (taken : List ℕ) (room : ℕ)
-    → HasJudged list start now taken inserting → Consumes first left taken → length taken + room ≡ words_limit → Keeps left after
+    → HasPut list start now taken inserting → Consumes first left taken → length taken + room ≡ words_limit → Keeps left after
     → InsertsWords list (ends first reads start writes) (ends after later now still) status.ReadFault
 take_failed list first left after start now reads later writes still inserting taken room had consumed within keeps =
     judged_stops list _ first left after start now reads later writes still inserting taken room had consumed within keeps
-    (record { all = refl; no_offence = record { unoffending = had.read.unoffending; none = had.read.none } })
+    (record { all = refl; no_offence = record { unoffending = had.judged.read.unoffending; none = had.judged.read.none } })
 
 all_is : (first : Option (List ℕ)) (taken bytes : List ℕ) → taken ≡ bytes → IfSome first (λ b. b ≡ taken) → IfSome first (λ b. b ≡ bytes)
 all_is first taken bytes same all = subst (λ t. IfSome first (λ b. b ≡ t)) same all
 
 -- the input ended
 pub words_ended : (list : Captioning) (first left after start now : Option (List ℕ)) (reads later writes still : ℕ) (inserting : Inserting) (taken : List ℕ) (room : ℕ) (answer : Status)
-    (had : HasJudged list start now taken inserting) → Consumes first left taken → length taken + room ≡ words_limit → IsAtEnd left × Keeps left after
-    → EndsAs list had.frames had.file (open_bytes inserting.packets) answer
+    (had : HasPut list start now taken inserting) → Consumes first left taken → length taken + room ≡ words_limit → IsAtEnd left × Keeps left after
+    → EndsAs list had.judged.frames had.judged.file (open_bytes inserting.packets) answer
     → InsertsWords list (ends first reads start writes) (ends after later now still) answer
 words_ended list first left after start now reads later writes still inserting taken room status.Ok had consumed within (ended, keeps) (none, enough) =
-    let whole : taken ≡ had.file = had.spelled ∙ ap (λ b. had.file ++ b) none ∙ append-nil had.file in
+    let whole : taken ≡ had.judged.file = had.judged.spelled ∙ ap (λ b. had.judged.file ++ b) none ∙ append-nil had.judged.file in
     judged_stops list _ first left after start now reads later writes still inserting taken room had consumed within keeps
     (record {
-      whole = record { whole = (all_is first taken had.file whole (all_taken first left taken consumed ended), refl); is_file = had.read.under; all = none };
+      whole = record { whole = (all_is first taken had.judged.file whole (all_taken first left taken consumed ended), refl); is_file = had.judged.read.under; all = none };
       enough = enough;
     })
 words_ended list first left after start now reads later writes still inserting taken room (status.Short count) had consumed within (ended, keeps) (none, is, few) =
-    let whole : taken ≡ had.file = had.spelled ∙ ap (λ b. had.file ++ b) none ∙ append-nil had.file in
+    let whole : taken ≡ had.judged.file = had.judged.spelled ∙ ap (λ b. had.judged.file ++ b) none ∙ append-nil had.judged.file in
     judged_stops list _ first left after start now reads later writes still inserting taken room had consumed within keeps
     (record {
-      whole = record { whole = (all_is first taken had.file whole (all_taken first left taken consumed ended), refl); is_file = had.read.under; all = none };
+      whole = record { whole = (all_is first taken had.judged.file whole (all_taken first left taken consumed ended), refl); is_file = had.judged.read.under; all = none };
       count_is = is;
       few = few;
     })
 words_ended list first left after start now reads later writes still inserting taken room (status.Malformed (place.Byte byte) why) had consumed within (ended, keeps) cut =
     judged_stops list _ first left after start now reads later writes still inserting taken room had consumed within keeps
     (inr (record {
-      whole = (all_is first taken (had.file ++ open_bytes inserting.packets) had.spelled (all_taken first left taken consumed ended), refl);
+      whole = (all_is first taken (had.judged.file ++ open_bytes inserting.packets) had.judged.spelled (all_taken first left taken consumed ended), refl);
       cut = cut;
-      none = had.read.none;
+      none = had.judged.read.none;
     }))
 words_ended list first left after start now reads later writes still inserting taken room _ had consumed within ended ends_as = absurd ends_as
 
@@ -137,7 +139,7 @@ offence_fits refusal file behind rest room stands within =
 
 -- what a stop in bytes makes of the run
 stopped_so : (list : Captioning) (Why : Cause) (answer : Put) (first after start then : Option (List ℕ)) (reads later writes still : ℕ) (bytes rest : List ℕ) (why : Stop)
-    (had : HasStopped list start then bytes why) → Consumes first after (bytes ++ rest) → length bytes ≤ words_limit
+    (had : HasStopped list start then bytes [] why) → Consumes first after (bytes ++ rest) → length bytes ≤ words_limit
     → Why list had.frames had.file had.behind (had.unjudged ++ rest) → PutsInserted list had.frames had.file answer start then
     → Stops list Why answer (ends first reads start writes) (ends after later then still)
 stopped_so list Why answer first after start then reads later writes still bytes rest why had consumed within cause puts =
@@ -154,7 +156,7 @@ stopped_so list Why answer first after start then reads later writes still bytes
     }
 
 stop_answered : (list : Captioning) (first after start then : Option (List ℕ)) (reads later writes still : ℕ) (bytes rest : List ℕ) (why : Stop)
-    → HasStopped list start then bytes why → Consumes first after (bytes ++ rest) → length bytes ≤ words_limit
+    → HasStopped list start then bytes [] why → Consumes first after (bytes ++ rest) → length bytes ≤ words_limit
     → InsertsWords list (ends first reads start writes) (ends after later then still) (stop_status why)
 stop_answered list first after start then reads later writes still bytes rest (stop.Refused refusal) had consumed within =
     let size = ap length had.spelled in
@@ -162,22 +164,24 @@ stop_answered list first after start then reads later writes still bytes rest (s
     (inl (record {
       stands = offends_more refusal had.file had.behind had.unjudged rest had.cause;
       fits = offence_fits refusal had.file had.behind had.unjudged words_limit had.cause (omega (arith, size, within));
-    })) had.puts
+    })) (inserted_put list had.frames had.file put.Done start then had.gathers)
 stop_answered list first after start then reads later writes still bytes rest stop.Unwritten had consumed within =
-    stopped_so list _ put.Failed first after start then reads later writes still bytes rest stop.Unwritten had consumed within tt had.puts
+    stopped_so list _ put.Failed first after start then reads later writes still bytes rest stop.Unwritten had consumed within tt
+    (inserted_put list had.frames had.file put.Failed start then had.gathers)
 stop_answered list first after start then reads later writes still bytes rest (stop.Found finding) had consumed within =
     let cause = had.cause in
     stopped_so list _ put.Done first after start then reads later writes still bytes rest (stop.Found finding) had consumed within
-    (record { last = cause.last; brings = cause.brings; unoffending = cause.unoffending; other = cause.other; is = cause.is }) had.puts
+    (record { last = cause.last; brings = cause.brings; unoffending = cause.unoffending; other = cause.other; is = cause.is })
+    (inserted_put list had.frames had.file put.Done start then had.gathers)
 stop_answered list first after start then reads later writes still bytes rest stop.Packet had consumed within =
     let cause = had.cause in
     stopped_so list _ put.Done first after start then reads later writes still bytes rest stop.Packet had consumed within
     (record { last = cause.last; brings = cause.brings; unoffending = cause.unoffending; rate_is = cause.rate_is; new = cause.new; inserted = cause.inserted; long = cause.long })
-    had.puts
+    (inserted_put list had.frames had.file put.Done start then had.gathers)
 
 pub piece_stopped : (list : Captioning) (first left after start then : Option (List ℕ)) (reads later writes still : ℕ) (taken : List ℕ) (room count : ℕ) (buffer piece rest : List ℕ) (why : Stop)
     → Consumes first left taken → length taken + room ≡ words_limit → Consumes left after (take count buffer) → IsPiece room count buffer piece rest
-    → HasStopped list start then (taken ++ piece) why
+    → HasStopped list start then (taken ++ piece) [] why
     → InsertsWords list (ends first reads start writes) (ends after later then still) (stop_status why)
 piece_stopped list first left after start then reads later writes still taken room count buffer piece rest why consumed within next is had =
     let size = is.size in
@@ -196,28 +200,28 @@ stop_counts old new stop.Packet steady same = record { reads = steady; writes = 
 -- a byte stands past the limit
 pub piece_passes : (list : Captioning) (first left after start then : Option (List ℕ)) (reads later writes still : ℕ) (inserting : Inserting) (taken : List ℕ) (room count : ℕ) (buffer piece rest : List ℕ)
     → Consumes first left taken → length taken + room ≡ words_limit → Consumes left after (take count buffer) → IsPiece room count buffer piece rest
-    → room < count → HasJudged list start then (taken ++ piece) inserting
+    → room < count → HasPut list start then (taken ++ piece) inserting
     → InsertsWords list (ends first reads start writes) (ends after later then still) (status.Limit limit.Bytes)
 piece_passes list first left after start then reads later writes still inserting taken room count buffer piece rest consumed within next is past had =
     let size = is.size in
     let rest_size = is.rest_size in
-    let judged = ap length had.spelled in
-    let full : length (had.file ++ open_bytes inserting.packets) ≡ words_limit = omega (arith, within, size, past, judged, length-append taken piece) in
+    let judged = ap length had.judged.spelled in
+    let full : length (had.judged.file ++ open_bytes inserting.packets) ≡ words_limit = omega (arith, within, size, past, judged, length-append taken piece) in
     record {
-      frames = had.frames;
-      file = had.file;
+      frames = had.judged.frames;
+      file = had.judged.file;
       behind = open_bytes inserting.packets;
       unjudged = rest;
-      taken = subst (λ b. Consumes first after (b ++ rest)) had.spelled (with_piece first left after taken piece rest (take count buffer) consumed next is.spelled);
+      taken = subst (λ b. Consumes first after (b ++ rest)) had.judged.spelled (with_piece first left after taken piece rest (take count buffer) consumed next is.spelled);
       within = omega (arith, full);
-      puts = had.puts;
-      cause = record { full = full; past = omega (arith, rest_size, past); no_offence = record { unoffending = had.read.unoffending; none = had.read.none } };
+      puts = was_put list start then (taken ++ piece) inserting had;
+      cause = record { full = full; past = omega (arith, rest_size, past); no_offence = record { unoffending = had.judged.read.unoffending; none = had.judged.read.none } };
     }
 
 -- a piece was judged
 pub piece_judged : (first left after start0 before then : Option (List ℕ)) (begun old new : Inserting) (room count : ℕ) (buffer piece rest : List ℕ)
     → (on : IsUnderway first left start0 before begun old room) → Consumes left after (take count buffer) → IsPiece room count buffer piece rest → count ≤ room
-    → ((list : Captioning) (start : Option (List ℕ)) → HasJudged list start before on.taken old → HasJudged list start then (on.taken ++ piece) new)
+    → ((list : Captioning) (start : Option (List ℕ)) → HasPut list start before on.taken old → HasPut list start then (on.taken ++ piece) new)
     → IsUnderway first after start0 then begun new (room - count)
 piece_judged first left after start0 before then begun old new room count buffer piece rest on next is fits judges =
     let size = is.size in
@@ -231,14 +235,22 @@ piece_judged first left after start0 before then begun old new room count buffer
 
 -- nothing was judged
 pub judged_nothing : (list : Captioning) (start : Option (List ℕ)) (inserting : Inserting) → HasRead [] [] inserting.packets → open_bytes inserting.packets ≡ []
-    → GivesCaptions list 0 inserting.captions → HasJudged list start start [] inserting
-judged_nothing list start inserting read none gives = record {
-  frames = [];
-  file = [];
-  spelled = sym none;
-  read = read;
-  gives = gives;
-  puts = record { text = []; inserted = nothing (captions_of list); rates = All-nil (λ f. f.rate ≡ list.rate); output = Appends-nil start };
+    → held_of inserting.gathered ≡ [] → GivesCaptions list 0 inserting.captions → HasPut list start start [] inserting
+judged_nothing list start inserting read none held gives = record {
+  judged = record {
+    frames = [];
+    file = [];
+    spelled = sym none;
+    read = read;
+    gives = gives;
+    gathers = record {
+      text = [];
+      inserted = nothing (captions_of list);
+      rates = All-nil (λ f. f.rate ≡ list.rate);
+      way = record { sent = []; appended = Appends-nil start; whole = held };
+    };
+  };
+  none_held = held;
 }
 
 -- all bytes within the limit may follow

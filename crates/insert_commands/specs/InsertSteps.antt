@@ -1,11 +1,9 @@
 -- Steps on the way through words in which captions are inserted.
 use Rattle.std.specs.Prelude.{◌≡◌, ◌≢◌, ◌<◌, ◌≤◌, ◌+◌, ℕ, List, [], ◌∷◌, ◌++◌, length, take, Option, Result, Ok, Err}
-use Rattle.std.specs.Io.KnownBytes.{Appends}
 use Rattle.cc_base.specs.Streams.{Puts, Rose}
 use Rattle.cc_base.specs.declared.limit_of.LimitOf.TheVariants as limit
 use Rattle.cc_base.specs.declared.streams.Put.{Put}
 use Rattle.cc_base.specs.declared.streams.Put.TheVariants as put
-use Rattle.arrayvec.specs.ArrayVec.{ArrayVec}
 use Rattle.cc_receiver.specs.Receivers.{HasReceived, frame_count}
 use Rattle.cc_receiver.specs.declared.receiver.Receiver.{Receiver}
 use Rattle.cdp_packets.specs.Packets.{Packet as Frame}
@@ -21,9 +19,11 @@ use Rattle.services_files.specs.Services.{services_say}
 use Rattle.words_files.specs.FramesOf.{AreFramesOf}
 use Rattle.words_commands.specs.WordsAnswer.{IsSteady}
 use Rattle.words_files.specs.Offences.{IsCutShort}
-use Rattle.insert_commands.specs.InsertAnswer.{Cause, HasFrames, IsAnyhow, IsFoundAt, IsJudged, IsRefusedWith, IsShort, PassesLimit, PassesPacket, PutsInserted, Stops}
-use Rattle.inserted_words.specs.InsertedFile.{carried_words}
+use Rattle.text_output.specs.Gathered.{Gathers, GathersText, held_of}
+use Rattle.insert_commands.specs.InsertAnswer.{Cause, HasFrames, IsAnyhow, IsFoundAt, IsJudged, IsRefusedWith, IsShort, PassesLimit, PassesPacket, Stops}
+use Rattle.inserted_words.specs.InsertedFile.{AreInserted, carried_words}
 use Rattle.inserted_words.specs.Captioning.{Captioning, captions_of}
+use Rattle.inserted_words.specs.Soundness.{HaveRate}
 use Rattle.insert_commands.specs.ListCaptions.{GivesCaptions}
 use Rattle.insert_commands.specs.OpenPackets.{HasRead, OffendsBehind, open_bytes}
 use Rattle.insert_commands.specs.declared.captions.Captions.{Captions}
@@ -43,29 +43,42 @@ pub record HasFrame (receiver : Receiver) : Type 0 where
   pub short : length (concat last.sections) ≤ 244
 
 -- what stands for the packet of a frame
-abbrev pub Replaces : Captioning → ℕ → Frame → Captions → Result (ArrayVec ℕ) Stop → Type 0
-Replaces list number last captions (Ok words) =
+abbrev pub Replaces : Captioning → ℕ → Frame → Captions → List ℕ → Result (Unit {0}) Stop → Type 0
+Replaces list number last captions words (Ok done) =
     (last.rate ≡ list.rate) × GivesCaptions list (number + 1) captions
-    × ((new : Frame) × IsInserted (captions_of list number) last new × (packet_length new ≤ 255) × (words.items ≡ carried_words new))
-Replaces list number last captions (Err (stop.Found finding)) =
+    × ((new : Frame) × IsInserted (captions_of list number) last new × (packet_length new ≤ 255) × (words ≡ carried_words new))
+Replaces list number last captions words (Err (stop.Found finding)) =
     (last.rate ≢ list.rate) × (finding ≡ record { frame = number; kind = kind.WrongRate list.rate last.rate })
-Replaces list number last captions (Err stop.Packet) =
+Replaces list number last captions words (Err stop.Packet) =
     (last.rate ≡ list.rate) × ((new : Frame) × IsInserted (captions_of list number) last new × (255 < packet_length new))
-Replaces list number last captions (Err _) = ⊥
+Replaces list number last captions words (Err _) = ⊥
 
--- words were put, or a front of them
-abbrev pub PutsWords : Option (List ℕ) → Option (List ℕ) → List ℕ → Result (Unit {0}) Stop → Type 0
-PutsWords old new words (Ok done) = Appends old new words
-PutsWords old new words (Err why) = (why ≡ stop.Unwritten) × Puts old new put.Failed words
+-- words were gathered behind those that were held, or a put of these failed
+abbrev pub GathersWords : Option (List ℕ) → Option (List ℕ) → List ℕ → List ℕ → List ℕ → Result (Unit {0}) Stop → Type 0
+GathersWords old new before after words (Ok done) = Gathers old new before after put.Done words
+GathersWords old new before after words (Err why) = (why ≡ stop.Unwritten) × Puts old new put.Failed before
 
--- these bytes were judged, none of whose words offends, and the packets of their file were put with the list's captions
+-- what stands for the packets of these frames' file, with the list's captions, was gathered: a front of it was put, and the rest is
+-- held; or a put of it failed
+pub record GathersInserted (list : Captioning) (frames : List Frame) (file : List ℕ) (answer : Put) (old new : Option (List ℕ)) (held : List ℕ) : Type 0 where
+  pub text : List ℕ
+  pub inserted : AreInserted (captions_of list) frames file text
+  pub rates : HaveRate list.rate frames
+  pub way : GathersText old new held text answer
+
+-- these bytes were judged, none of whose words offends, and what stands for the packets of their file was gathered
 pub record HasJudged (list : Captioning) (start now : Option (List ℕ)) (bytes : List ℕ) (inserting : Inserting) : Type 0 where
   pub frames : List Frame
   pub file : List ℕ
   pub spelled : bytes ≡ file ++ open_bytes inserting.packets
   pub read : HasRead frames file inserting.packets
   pub gives : GivesCaptions list (length frames) inserting.captions
-  pub puts : PutsInserted list frames file put.Done start now
+  pub gathers : GathersInserted list frames file put.Done start now (held_of inserting.gathered)
+
+-- and all of that was put
+pub record HasPut (list : Captioning) (start now : Option (List ℕ)) (bytes : List ℕ) (inserting : Inserting) : Type 0 where
+  pub judged : HasJudged list start now bytes inserting
+  pub none_held : held_of inserting.gathered ≡ []
 
 -- why it stopped
 abbrev pub StopsFor : Stop → Cause
@@ -79,25 +92,30 @@ abbrev pub put_of : Stop → Put
 put_of stop.Unwritten = put.Failed
 put_of _ = put.Done
 
--- it stopped in these bytes
-pub record HasStopped (list : Captioning) (start now : Option (List ℕ)) (bytes : List ℕ) (why : Stop) : Type 0 where
+-- it stopped in these bytes, and what stands for the packets before was gathered
+pub record HasStopped (list : Captioning) (start now : Option (List ℕ)) (bytes held : List ℕ) (why : Stop) : Type 0 where
   pub frames : List Frame
   pub file : List ℕ
   pub behind : List ℕ
   pub unjudged : List ℕ
   pub spelled : bytes ≡ (file ++ behind) ++ unjudged
-  pub puts : PutsInserted list frames file (put_of why) start now
+  pub gathers : GathersInserted list frames file (put_of why) start now held
   pub cause : StopsFor why list frames file behind unjudged
 
 -- what is made of the next of these bytes, behind those before
 abbrev pub StepJudges : Captioning → Option (List ℕ) → Option (List ℕ) → List ℕ → List ℕ → Inserting → Result ℕ Stop → Type 0
 StepJudges list start now before bytes inserting (Ok used) = HasJudged list start now (before ++ take used bytes) inserting
-StepJudges list start now before bytes inserting (Err why) = HasStopped list start now (before ++ bytes) why
+StepJudges list start now before bytes inserting (Err why) = HasStopped list start now (before ++ bytes) (held_of inserting.gathered) why
 
 -- and of all of them
 abbrev pub Judges : Captioning → Option (List ℕ) → Option (List ℕ) → List ℕ → Inserting → Result (Unit {0}) Stop → Type 0
 Judges list start now bytes inserting (Ok done) = HasJudged list start now bytes inserting
-Judges list start now bytes inserting (Err why) = HasStopped list start now bytes why
+Judges list start now bytes inserting (Err why) = HasStopped list start now bytes (held_of inserting.gathered) why
+
+-- the same where all that was gathered is put as well
+abbrev pub JudgesAndPuts : Captioning → Option (List ℕ) → Option (List ℕ) → List ℕ → Inserting → Result (Unit {0}) Stop → Type 0
+JudgesAndPuts list start now bytes inserting (Ok done) = HasPut list start now bytes inserting
+JudgesAndPuts list start now bytes inserting (Err why) = HasStopped list start now bytes [] why
 
 -- a run stops for want of its output only where the count of faults rose, and else leaves it
 abbrev pub StopsBy : ℕ → ℕ → Stop → Type 0

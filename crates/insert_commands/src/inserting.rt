@@ -7,7 +7,8 @@ ghost use Rattle.services_files.specs.Services.{services_say};
 ghost use Rattle.words_files.specs.FramesOf.{AreFramesOf};
 ghost use Rattle.command_base.specs.Ends.{Ends};
 ghost use Rattle.words_commands.specs.WordsAnswer.{IsSteady, words_limit};
-ghost use Rattle.insert_commands.specs.InsertSteps.{CountsBy, EndsAs, HasFrame, HasJudged, Judges, PutsWords, Replaces, StepJudges, StopCause, stop_status};
+ghost use Rattle.text_output.specs.Gathered.{held_of};
+ghost use Rattle.insert_commands.specs.InsertSteps.{CountsBy, EndsAs, GathersWords, HasFrame, HasJudged, HasStopped, Judges, JudgesAndPuts, Replaces, StepJudges, StopCause, StopsBy, stop_status};
 ghost use Rattle.inserted_words.specs.Captioning.{Captioning};
 ghost use Rattle.insert_commands.specs.ListCaptions.{GivesCaptions, HasCaptions};
 ghost use Rattle.insert_commands.specs.OpenPackets.{HasRead, MayFollow, open_bytes};
@@ -17,13 +18,14 @@ use crate::packets::Packets;
 use anc_words::write_packet;
 use arrayvec::ArrayVec;
 use cc_base::{LimitOf, Put, Refusal, Sink};
-use cc_receiver::Ended;
+use cc_receiver::{Ended, Receiver};
 use cdp_packets::WholePacket;
 use command_base::{Place, Status};
 use cue_list_commands::Programme;
 use findings::{Finding, Kind45};
 use packet_inserter::insert;
 use std::alloc::{AllocError, Global};
+use text_output::Gathered;
 
 /// The identifiers of ancillary packets of captions (SMPTE ST 334-1).
 const CAPTION_DID: u8 = 0x61;
@@ -57,12 +59,13 @@ impl Stop {
     }
 }
 
-/// An insertion on its way: the words, packet by packet, and the captions of the frames to come. All memory that it takes is taken
-/// by `new` and by the programme.
+/// An insertion on its way: the words, packet by packet, the captions of the frames to come, and what stands for the packets that
+/// ended and waits to be put. All memory that it takes is taken by `new` and by the programme.
 #[derive(Drop)]
 pub(crate) struct Inserting {
     packets: Packets,
     captions: Captions,
+    gathered: Gathered,
 }
 
 impl Inserting {
@@ -70,6 +73,7 @@ impl Inserting {
     pub(crate) fn new(alloc: Global, programme: Programme) -> Result<Inserting, AllocError>
         ensures read { IfOk result (λ inserting. HasRead [] [] inserting.packets) }
         ensures none { IfOk result (λ inserting. open_bytes inserting.packets ≡ []) }
+        ensures held { IfOk result (λ inserting. held_of inserting.gathered ≡ []) }
         ensures may { IfOk result (λ inserting. MayFollow words_limit inserting.packets words_limit) }
         ensures gives { (list : Captioning) → HasCaptions list programme → IfOk result (λ inserting. GivesCaptions list 0 inserting.captions) }
     {
@@ -80,43 +84,12 @@ impl Inserting {
         Ok(Inserting {
             packets,
             captions: Captions::new(programme),
+            gathered: Gathered::new(),
         })
     }
 
-    /// What stands for the packet of the frame of this number, which ended last.
-    fn replacement(&mut self, frame: u32) -> Result<ArrayVec<u8, 524>, Stop>
-        requires { HasFrame self.now.packets.receiver }
-        ensures replaces { (list : Captioning) (bytes : List ℕ) (earlier : List Frame) (last : Frame) → HasReceived bytes self.old.packets.receiver
-            → AreFramesOf services_say (earlier ++ last ∷ []) bytes → AreSections last.sections → GivesCaptions list frame self.old.captions
-            → Replaces list frame last self.new.captions result }
-        ensures packets { self.new.packets ≡ self.old.packets }
-        ensures written { IfErr result (λ why. why ≢ stop.Unwritten) }
-    {
-        let receiver = &self.packets.receiver;
-        let (expected, seen) = (self.captions.rate(), receiver.rate());
-        if seen.code() != expected.code() {
-            let kind = Kind45::WrongRate { expected, seen };
-            return Err(Stop::Found(Finding { frame, kind }));
-        }
-        let packet = WholePacket {
-            rate: seen,
-            flags: receiver.flags(),
-            counter: receiver.counter(),
-            sections: receiver.sections(),
-        };
-        let triplets = self.captions.next(frame);
-        let mut new = ArrayVec::new();
-        match insert(&packet, &triplets, &mut new) {
-            Ok(()) => {}
-            Err(_) => return Err(Stop::Packet),
-        }
-        let mut words = ArrayVec::new();
-        write_packet(CAPTION_DID, CAPTION_SDID, &new, &mut words);
-        Ok(words)
-    }
-
-    /// Judges bytes up to the end of a packet, and puts what stands for the packet that ended there, if one did. Gives the number of
-    /// bytes judged.
+    /// Judges bytes up to the end of a packet, and gathers what stands for the packet that ended there, if one did. Gives the number
+    /// of bytes judged.
     fn step<O: Sink>(&mut self, bytes: &[u8], out: &mut O) -> Result<usize, Stop>
         requires some { 0 < length bytes.now }
         requires may { MayFollow words_limit self.now.packets (length bytes.now) }
@@ -134,28 +107,36 @@ impl Inserting {
         };
         match fed.ended {
             Ended::No => Ok(fed.used),
-            Ended::Foreign => match put_words(self.packets.bytes(), out) {
+            Ended::Foreign => match gather(self.packets.bytes(), &mut self.gathered, out) {
                 Ok(()) => {
                     self.packets.begin();
                     Ok(fed.used)
                 }
                 Err(stop) => Err(stop),
             },
-            Ended::Caption => match self.replacement(frame) {
-                Ok(words) => match put_words(&words, out) {
-                    Ok(()) => {
-                        self.packets.begin();
-                        Ok(fed.used)
-                    }
+            Ended::Caption => {
+                let mut words = ArrayVec::new();
+                match replace(
+                    &self.packets.receiver,
+                    &mut self.captions,
+                    frame,
+                    &mut words,
+                ) {
+                    Ok(()) => match gather(&words, &mut self.gathered, out) {
+                        Ok(()) => {
+                            self.packets.begin();
+                            Ok(fed.used)
+                        }
+                        Err(stop) => Err(stop),
+                    },
                     Err(stop) => Err(stop),
-                },
-                Err(stop) => Err(stop),
-            },
+                }
+            }
         }
     }
 
-    /// Judges bytes, and puts what stands for their packets.
-    pub(crate) fn judge<O: Sink>(&mut self, bytes: &[u8], out: &mut O) -> Result<(), Stop>
+    /// Judges bytes, and gathers what stands for their packets.
+    fn feed<O: Sink>(&mut self, bytes: &[u8], out: &mut O) -> Result<(), Stop>
         requires { MayFollow words_limit self.now.packets (length bytes.now) }
         ensures judges { (list : Captioning) (start : Option (List ℕ)) (before : List ℕ) → HasJudged list start (O.written out.old) before self.old
             → Judges list start (O.written out.new) (before ++ bytes.now) self.new result }
@@ -171,6 +152,40 @@ impl Inserting {
             }
         }
         Ok(())
+    }
+
+    /// Judges bytes, and puts what stands for their packets; where it stops among them, what stands for those before.
+    pub(crate) fn judge<O: Sink>(&mut self, bytes: &[u8], out: &mut O) -> Result<(), Stop>
+        requires { MayFollow words_limit self.now.packets (length bytes.now) }
+        ensures judges { (list : Captioning) (start : Option (List ℕ)) (before : List ℕ) → HasJudged list start (O.written out.old) before self.old
+            → JudgesAndPuts list start (O.written out.new) (before ++ bytes.now) self.new result }
+        ensures cause { StopCause (O.faults out.old) (O.faults out.new) result }
+        ensures more { (more : ℕ) → MayFollow words_limit self.old.packets (length bytes.now + more)
+            → IfOk result (λ done. MayFollow words_limit self.new.packets more) }
+    {
+        match self.feed(bytes, out) {
+            Ok(()) => match self.gathered.flush(out) {
+                Put::Done => Ok(()),
+                Put::Failed => Err(Stop::Unwritten),
+            },
+            Err(stop) => Err(self.put_before(stop, out)),
+        }
+    }
+
+    /// Puts what stands for the packets before a stop. Gives the stop, or that the output failed.
+    fn put_before<O: Sink>(&mut self, stop: Stop, out: &mut O) -> Stop
+        ensures stops { (list : Captioning) (start : Option (List ℕ)) (bytes : List ℕ)
+            → HasStopped list start (O.written out.old) bytes (held_of self.old.gathered) stop
+            → HasStopped list start (O.written out.new) bytes [] result }
+        ensures cause { (before : ℕ) → StopsBy before (O.faults out.old) stop → StopsBy before (O.faults out.new) result }
+    {
+        match stop {
+            Stop::Unwritten => Stop::Unwritten,
+            _ => match self.gathered.flush(out) {
+                Put::Done => stop,
+                Put::Failed => Stop::Unwritten,
+            },
+        }
     }
 
     /// How the run ends where the bytes end here: Ok where they are a words file with as many frames as the list has, at least.
@@ -192,12 +207,48 @@ impl Inserting {
     }
 }
 
-/// Puts words.
-fn put_words<O: Sink>(words: &[u8], out: &mut O) -> Result<(), Stop>
-    ensures puts { PutsWords (O.written out.old) (O.written out.new) words.now result }
+/// Writes what stands for the packet of the frame of this number, which a receiver received last, into an empty `words`.
+fn replace(
+    receiver: &Receiver,
+    captions: &mut Captions,
+    frame: u32,
+    words: &mut ArrayVec<u8, 524>,
+) -> Result<(), Stop>
+    requires frame { HasFrame receiver.now }
+    requires empty { words.old.items ≡ [] }
+    ensures replaces { (list : Captioning) (bytes : List ℕ) (earlier : List Frame) (last : Frame) → HasReceived bytes receiver.now
+        → AreFramesOf services_say (earlier ++ last ∷ []) bytes → AreSections last.sections → GivesCaptions list frame captions.old
+        → Replaces list frame last captions.new words.new.items result }
+    ensures written { IfErr result (λ why. why ≢ stop.Unwritten) }
+{
+    let (expected, seen) = (captions.rate(), receiver.rate());
+    if seen.code() != expected.code() {
+        let kind = Kind45::WrongRate { expected, seen };
+        return Err(Stop::Found(Finding { frame, kind }));
+    }
+    let packet = WholePacket {
+        rate: seen,
+        flags: receiver.flags(),
+        counter: receiver.counter(),
+        sections: receiver.sections(),
+    };
+    let triplets = captions.next(frame);
+    let mut new = ArrayVec::new();
+    match insert(&packet, &triplets, &mut new) {
+        Ok(()) => {}
+        Err(_) => return Err(Stop::Packet),
+    }
+    write_packet(CAPTION_DID, CAPTION_SDID, &new, words);
+    Ok(())
+}
+
+/// Gathers words behind those that are held.
+fn gather<O: Sink>(words: &[u8], gathered: &mut Gathered, out: &mut O) -> Result<(), Stop>
+    requires { length words.now ≤ 524 }
+    ensures gathers { GathersWords (O.written out.old) (O.written out.new) (held_of gathered.old) (held_of gathered.new) words.now result }
     ensures cause { StopCause (O.faults out.old) (O.faults out.new) result }
 {
-    match out.put(words) {
+    match gathered.add(words, out) {
         Put::Done => Ok(()),
         Put::Failed => Err(Stop::Unwritten),
     }

@@ -98,7 +98,8 @@ impl Packets {
 
     /// The bytes of the packet that is open, or that ended last.
     pub(crate) fn bytes(&self) -> &[u8]
-        ensures { result.now ≡ open_bytes self.now }
+        ensures is { result.now ≡ open_bytes self.now }
+        ensures few { length result.now ≤ 524 }
     {
         self.held.as_slice()
     }

@@ -224,7 +224,7 @@ fn words_that_stop_a_run_leave_what_was_before_them(rt: HostRuntime) -> Result<(
     Ok(())
 }
 
-/// Each packet is one put, and the packet of another kind is the second.
+/// A take of one byte ends one packet at most, so each packet is one put, and the packet of another kind is the second.
 #[test]
 fn faults_leave_the_packets_before_them(rt: HostRuntime) -> Result<(), Fail> {
     let alloc = rt.alloc();
@@ -254,6 +254,72 @@ fn faults_leave_the_packets_before_them(rt: HostRuntime) -> Result<(), Fail> {
             words.as_slice().get(..put).unwrap_or(b"")
         );
         assert_eq!(rt; ended.err.bytes(), line);
+    }
+    Ok(())
+}
+
+/// One take gives all of the words, and what stands for their packets is one put, also before a refused word is told.
+#[test]
+fn what_one_take_gives_is_one_put(rt: HostRuntime) -> Result<(), Fail> {
+    let alloc = rt.alloc();
+    let words = hi_words(alloc)?;
+    let wrong = hi_words_ended_wrong(alloc)?;
+    let refused = Status::Malformed(Place::Byte(4798), Why::AncSum);
+    let rows: [(&[u8], &[u64], &[u64], Status, usize); 5] = [
+        (&words, &[], &[1], Status::Ok, 4800),
+        (&words, &[1], &[1], Status::ReadFault, 4800),
+        (&words, &[], &[0], Status::WriteFault, 0),
+        (&wrong, &[], &[1], refused, 4640),
+        (&wrong, &[], &[0], Status::WriteFault, 0),
+    ];
+    for (text, failing_takes, failing_puts, status, put) in rows {
+        let ended = run_to_end(
+            alloc,
+            Given {
+                failing_takes,
+                failing_puts,
+                ..insert_of(HI, text)
+            },
+        )?;
+        assert_eq!(rt; ended.status, status);
+        assert_eq!(rt; ended.out.bytes(), text.get(..put).unwrap_or(b""));
+    }
+    Ok(())
+}
+
+/// A frame so often.
+fn repeated(alloc: Global, frame: &[u8], count: u32) -> Result<Vec<u8>, Fail> {
+    let mut words = Vec::new(alloc);
+    for _ in 0..count {
+        words.extend_from_slice(frame)?;
+    }
+    Ok(words)
+}
+
+/// The 910 frames, 32,760 bytes, are one take, and with captions 145,600 bytes. Of these 409 packets are put first, and then as
+/// many again: 65,440 bytes, behind which the next packet doesn't fit in the 65,536 that are gathered.
+#[test]
+fn more_than_is_gathered_is_put_packet_behind_packet(rt: HostRuntime) -> Result<(), Fail> {
+    let alloc = rt.alloc();
+    let words = repeated(alloc, &frame_with(alloc, 11, 0x01, &[])?, 910)?;
+    let due = repeated(alloc, &frame_with(alloc, 73, 0x43, &[NEW])?, 910)?;
+    let rows: [(&[u64], Status, usize); 5] = [
+        (&[], Status::Ok, 145_600),
+        (&[0], Status::WriteFault, 0),
+        (&[1], Status::WriteFault, 65_440),
+        (&[2], Status::WriteFault, 130_880),
+        (&[3], Status::Ok, 145_600),
+    ];
+    for (failing_puts, status, put) in rows {
+        let ended = run_to_end(
+            alloc,
+            Given {
+                failing_puts,
+                ..insert_of(b"ccsuite,1,29.97,910\n", &words)
+            },
+        )?;
+        assert_eq!(rt; ended.status, status);
+        assert_eq!(rt; ended.out.bytes(), due.as_slice().get(..put).unwrap_or(b""));
     }
     Ok(())
 }

@@ -15,7 +15,7 @@ returns-in-End-clause-words g c list start begun =
     let on = c.loop-inserting.invariant.underway in
     let had = on.judged list start begun in
     words_ended list _ _ _ start _ _ _ _ _ c.loop-inserting.inserting on.taken c.loop-inserting.room c.ending.result had on.consumed on.within
-    c.in-End.ensures.bytes (c.ending.ensures.ends list start _ on.taken had)
+    c.in-End.ensures.bytes (c.ending.ensures.ends list start _ on.taken had.judged)
 
 pub returns-in-End-clause-counts : goal.returns-in-End-clause-counts
 returns-in-End-clause-counts g c =
@@ -49,7 +49,7 @@ returns-in-Err-clause-words g c list start begun =
     (sym c.status.ensures)
     (piece_stopped list _ _ _ start _ _ _ _ _ on.taken c.loop-inserting.room c.in-Got.count c.take.new.buf _ _ c.in-Err.stop on.consumed on.within
     c.in-Got.ensures.bytes.2 piece
-    (c.in-Err.ensures.judges list start on.taken (on.judged list start begun)))
+    (c.in-Err.ensures.judges list start on.taken (on.judged list start begun).judged))
 
 pub returns-in-Err-clause-counts : goal.returns-in-Err-clause-counts
 returns-in-Err-clause-counts g c =
@@ -65,7 +65,7 @@ returns-then-room-count-clause-words g c list start begun =
     let piece = piece_of c.loop-inserting.room c.in-Got.count c.min.result c.take.new.buf c.in-Got.ensures.bytes.1 c.min.ensures in
     piece_passes list _ _ _ start _ _ _ _ _ c.judge.new.self on.taken c.loop-inserting.room c.in-Got.count c.take.new.buf _ _ on.consumed on.within
     c.in-Got.ensures.bytes.2 piece c.if-room-count.true
-    (c.in-Ok.ensures.judges list start on.taken (on.judged list start begun))
+    (c.in-Ok.ensures.judges list start on.taken (on.judged list start begun).judged)
 
 pub returns-then-room-count-clause-counts : goal.returns-then-room-count-clause-counts
 returns-then-room-count-clause-counts g c =
@@ -83,5 +83,5 @@ loop-inserting-preserved g c =
       more = c.in-Ok.ensures.more (c.loop-inserting.room - c.in-Got.count)
           (may_end c.loop-inserting.inserting.packets c.loop-inserting.room _ (omega arith) c.loop-inserting.invariant.more);
       underway = piece_judged _ _ _ _ _ _ c.args.inserting c.loop-inserting.inserting c.judge.new.self c.loop-inserting.room c.in-Got.count c.take.new.buf _ _ on
-          c.in-Got.ensures.bytes.2 piece c.if-room-count.false (λ list start had. c.in-Ok.ensures.judges list start on.taken had);
+          c.in-Got.ensures.bytes.2 piece c.if-room-count.false (λ list start had. c.in-Ok.ensures.judges list start on.taken had.judged);
     }

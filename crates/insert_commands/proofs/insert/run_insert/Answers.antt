@@ -14,5 +14,5 @@ returns g c =
     words_answered _ _ _ _ c.in-Ok.programme _ _ c.insert_words.result c.in-Ok.ensures c.insert_words.ensures.counts
     (λ list has.
     c.insert_words.ensures.words list (g.O.Sink.written c.args.out.now)
-    (judged_nothing list (g.O.Sink.written c.args.out.now) c.in-Ok-new.inserting c.in-Ok-new.ensures.read c.in-Ok-new.ensures.none
+    (judged_nothing list (g.O.Sink.written c.args.out.now) c.in-Ok-new.inserting c.in-Ok-new.ensures.read c.in-Ok-new.ensures.none c.in-Ok-new.ensures.held
     (c.in-Ok-new.ensures.gives list has)))

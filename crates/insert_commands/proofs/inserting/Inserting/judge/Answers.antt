@@ -1,33 +1,18 @@
-use Rattle.std.proofs.Common.{◌∙◌, ◌+◌, ◌++◌, ap, arith, length, subst, sym, take}
-use Rattle.insert_commands.specs.InsertSteps.{HasJudged, HasStopped}
-use Rattle.insert_commands.proofs.JudgeLemmas.{may_end}
-use Rattle.words_commands.proofs.PieceLemmas.{front_all, front_more, rest_size}
+use Rattle.std.proofs.Common.{◌++◌}
+use Rattle.insert_commands.proofs.FlushLemmas.{judged_failed, judged_flushed}
 use Rattle.insert_commands.proofs.inserting.Inserting.judge.Goals as goal
 
-pub loop-at-preserved : goal.loop-at-preserved
-loop-at-preserved g c =
-    let size = rest_size c.loop-at.at c.args.bytes.now c.loop-at.invariant.within in
-    let used = c.in-Ok.ensures.used in
-    record {
-      within = omega arith;
-      steady = c.in-Ok.ensures.cause ∙ c.loop-at.invariant.steady;
-      more = λ more may.
-          may_end c.step.new.self.packets _ _ (omega arith)
-          (c.in-Ok.ensures.more more (may_end c.loop-at.self.packets _ _ (ap (λ n. n + more) (sym size)) (c.loop-at.invariant.more more may)));
-      judged = λ list start before had.
-          subst (λ bytes. HasJudged list start (g.O.Sink.written c.step.new.out) bytes c.step.new.self)
-          (front_more before c.args.bytes.now c.loop-at.at c.in-Ok.used c.loop-at.invariant.within)
-          (c.in-Ok.ensures.judges list start (before ++ take c.loop-at.at c.args.bytes.now) (c.loop-at.invariant.judged list start before had));
-    }
+pub returns-in-Done-clause-judges : goal.returns-in-Done-clause-judges
+returns-in-Done-clause-judges g c list start before had =
+    judged_flushed list start _ _ (before ++ c.args.bytes.now) c.feed.new.self c.flush.new.self (c.in-Ok.ensures.judges list start before had) c.in-Done.ensures.bytes
+
+pub returns-in-Failed-clause-judges : goal.returns-in-Failed-clause-judges
+returns-in-Failed-clause-judges g c list start before had =
+    judged_failed list start _ _ (before ++ c.args.bytes.now) c.feed.new.self (c.in-Ok.ensures.judges list start before had) c.in-Failed.ensures.bytes
 
 pub returns-in-Err-clause-judges : goal.returns-in-Err-clause-judges
 returns-in-Err-clause-judges g c list start before had =
-    subst (λ bytes. HasStopped list start (g.O.Sink.written c.step.new.out) bytes c.in-Err.stop)
-    (front_all before c.args.bytes.now c.loop-at.at c.loop-at.invariant.within)
-    (c.in-Err.ensures.judges list start (before ++ take c.loop-at.at c.args.bytes.now) (c.loop-at.invariant.judged list start before had))
+    c.put_before.ensures.stops list start (before ++ c.args.bytes.now) (c.in-Err.ensures.judges list start before had)
 
-pub step-requires-clause-may : goal.step-requires-clause-may
-step-requires-clause-may g c =
-    let size = rest_size c.loop-at.at c.args.bytes.now c.loop-at.invariant.within in
-    may_end c.loop-at.self.packets _ _ (omega arith)
-    (c.loop-at.invariant.more 0 (may_end c.args.self.now.packets (length c.args.bytes.now) (length c.args.bytes.now + 0) (omega arith) c.requires))
+pub returns-in-Err-clause-cause : goal.returns-in-Err-clause-cause
+returns-in-Err-clause-cause g c = c.put_before.ensures.cause _ c.in-Err.ensures.cause

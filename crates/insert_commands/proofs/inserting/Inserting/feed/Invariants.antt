@@ -3,7 +3,7 @@ use Rattle.words_commands.specs.WordsAnswer.{words_limit}
 use Rattle.insert_commands.specs.InsertSteps.{HasJudged}
 use Rattle.inserted_words.specs.Captioning.{Captioning}
 use Rattle.insert_commands.specs.OpenPackets.{MayFollow}
-use Rattle.insert_commands.proofs.inserting.Inserting.judge.Given as goal
+use Rattle.insert_commands.proofs.inserting.Inserting.feed.Given as goal
 
 -- the bytes so far were judged, no fault came, and the rest may follow
 abbrev pub invariant-loop-at : goal.invariant-loop-at

@@ -5,7 +5,7 @@ use Rattle.findings.specs.declared.finding.Finding.{Finding}
 use Rattle.findings.specs.declared.finding.Kind45.TheVariants as kind
 use Rattle.packet_inserter.specs.Insertion.{IsInserted}
 use Rattle.insert_commands.proofs.StepLemmas.{same_rate}
-use Rattle.insert_commands.proofs.inserting.Inserting.replacement.Goals as goal
+use Rattle.insert_commands.proofs.inserting.replace.Goals as goal
 
 pub returns-then-code-clause-replaces : goal.returns-then-code-clause-replaces
 returns-then-code-clause-replaces c list bytes earlier last had are sections gives =
@@ -18,12 +18,12 @@ returns-then-code-clause-replaces c list bytes earlier last had are sections giv
 
 pub insert-requires-clause-list : goal.insert-requires-clause-list
 insert-requires-clause-list c =
-    let at = c.requires in
+    let at = c.requires.frame in
     record { cut = at.last.sections; are = at.sections; joined = sym (c.sections.ensures at.bytes at.earlier at.last at.received at.frames_are) }
 
 pub insert-requires-clause-short : goal.insert-requires-clause-short
 insert-requires-clause-short c =
-    let at = c.requires in
+    let at = c.requires.frame in
     subst (λ s. length s ≤ 244) (sym (c.sections.ensures at.bytes at.earlier at.last at.received at.frames_are)) at.short
 
 pub returns-in-Err-clause-replaces : goal.returns-in-Err-clause-replaces
