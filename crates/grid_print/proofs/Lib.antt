@@ -1,7 +1,5 @@
-pub mod RunLemmas
 pub mod TextLemmas
 pub mod RowLemmas
-pub mod FrontLemmas
 pub mod RunsOfLemmas
 pub mod NumberLemmas
 pub mod ServiceLemmas

@@ -6,13 +6,15 @@ use Rattle.line21_codes.specs.declared.channels.Chan.{Chan}
 use Rattle.line21_codes.specs.declared.channels.Chan.TheVariants.{Cc1, Cc2, Cc3, Cc4}
 use Rattle.line21_codes.specs.declared.styles.Colour.{Colour}
 use Rattle.line21_codes.specs.declared.styles.Colour.TheVariants.{White, Green, Blue, Cyan, Red, Yellow, Magenta}
+use Rattle.line21_codes.specs.declared.styles.Cell.{Cell}
 use Rattle.line21_codes.specs.declared.styles.Style.{Style}
 use Rattle.line21_screen.specs.Differences.{differs}
 use Rattle.line21_screen.specs.Grid.{Grid}
 use Rattle.dtvcc_windows.specs.Showing.{ShownWindow}
 use Rattle.window_texts.specs.Differences.{differs as window_differs}
 use Rattle.window_texts.specs.WindowTexts.{service_text, shown_ids}
-use Rattle.grid_print.specs.Runs.{Run, runs}
+use Rattle.cell_runs.specs.Runs.{Run}
+use Rattle.grid_print.specs.Runs.{runs}
 use Rattle.grid_print.specs.Screens.{Screens}
 
 -- the name of a channel
@@ -44,9 +46,9 @@ abbrev pub pen_text : Style → List ℕ
 pen_text style = text (colour_name style.colour ∷ italic_mark style.italic ∷ underline_mark style.underline ∷ [])
 
 -- the line of a run: its row, its column, its pen, and its characters in UTF-8
-unfoldable pub run_line : Run → List ℕ
+unfoldable pub run_line : Run Cell → List ℕ
 run_line run = text (
-    decimal run.row ∷ codes " " ∷ decimal run.col ∷ codes " " ∷ pen_text run.style ∷ codes " " ∷ encode_utf8_all run.text ∷ codes "\n" ∷ [])
+    decimal run.row ∷ codes " " ∷ decimal run.col ∷ codes " " ∷ pen_text run.first.style ∷ codes " " ∷ encode_utf8_all run.text ∷ codes "\n" ∷ [])
 
 -- the text of a channel's grid: the channel and the number of its runs, and then their lines
 unfoldable pub grid_text : Chan → Grid → List ℕ

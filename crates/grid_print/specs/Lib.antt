@@ -4,4 +4,3 @@ pub mod GridTexts
 pub mod Keeping
 pub mod Kept
 pub mod Shown
-pub mod RunsOf

@@ -3,13 +3,16 @@ ghost use Rattle.std.specs.List.{flat_map};
 ghost use Rattle.line21_screen.specs.Objects.{grid_in};
 ghost use Rattle.text_output.specs.Pages.{Writes, page};
 ghost use Rattle.grid_print.specs.GridTexts.{frame_line, grid_text, run_line};
-ghost use Rattle.grid_print.specs.Runs.{front_text, row_runs, runs};
+ghost use Rattle.cell_runs.specs.Runs.{front_text, row_runs};
+ghost use Rattle.cell_runs.specs.Writing.{in_styles};
+ghost use Rattle.grid_print.specs.Runs.{runs};
 
 use crate::names::{chan_name, colour_name, italic_mark, underline_mark};
-use crate::runs::{begun_style, run_count};
+use crate::runs::run_count;
 use cc_base::Sink;
+use cell_runs::{begun, write_front};
 use itoa::Buffer;
-use line21_codes::{Cell, Chan, Style};
+use line21_codes::{Cell, Chan};
 use line21_screen::Memory;
 use text_output::Gathered;
 
@@ -59,12 +62,12 @@ pub(crate) fn write_grid<O: Sink>(chan: Chan, memory: &Memory, text: &mut Gather
 // Writes the lines of a row's runs.
 fn write_row<O: Sink>(row: u8, cells: &[Option<Cell>], text: &mut Gathered, out: &mut O)
     requires { length cells.now ≤ 32 }
-    ensures { Writes (page text.old (O.written out.old) (O.faults out.old)) (page text.new (O.written out.new) (O.faults out.new)) (flat_map run_line (row_runs row cells.now)) }
+    ensures { Writes (page text.old (O.written out.old) (O.faults out.old)) (page text.new (O.written out.new) (O.faults out.new)) (flat_map run_line (row_runs in_styles row cells.now)) }
 {
     let mut left = None;
     for (col, cell) in cells.iter().enumerate() {
-        if let Some(style) = begun_style(left, *cell) {
-            write_run(row, col as u8, style, &cells[col..], text, out);
+        if let Some(first) = begun(left, *cell) {
+            write_run(row, col as u8, first, &cells[col..], text, out);
         }
         left = *cell;
     }
@@ -74,13 +77,13 @@ fn write_row<O: Sink>(row: u8, cells: &[Option<Cell>], text: &mut Gathered, out:
 fn write_run<O: Sink>(
     row: u8,
     col: u8,
-    style: Style,
+    first: Cell,
     cells: &[Option<Cell>],
     text: &mut Gathered,
     out: &mut O,
 )
     ensures { Writes (page text.old (O.written out.old) (O.faults out.old)) (page text.new (O.written out.new) (O.faults out.new))
-        (run_line (record { row = row; col = col; style = style; text = front_text style cells.now })) }
+        (run_line (record { row = row; col = col; first = first; text = front_text in_styles first cells.now })) }
 {
     text.write_all(
         &[
@@ -88,25 +91,13 @@ fn write_run<O: Sink>(
             b" ",
             Buffer::new().format(col).as_bytes(),
             b" ",
-            colour_name(style.colour),
-            italic_mark(style.italic),
-            underline_mark(style.underline),
+            colour_name(first.style.colour),
+            italic_mark(first.style.italic),
+            underline_mark(first.style.underline),
             b" ",
         ],
         out,
     );
-    write_front(style, cells, text, out);
+    write_front(first, cells, text, out);
     text.write(b"\n", out);
-}
-
-// Writes the characters of the cells at the front that have a style.
-fn write_front<O: Sink>(style: Style, cells: &[Option<Cell>], text: &mut Gathered, out: &mut O)
-    ensures { Writes (page text.old (O.written out.old) (O.faults out.old)) (page text.new (O.written out.new) (O.faults out.new)) (encode_utf8_all (front_text style cells.now)) }
-{
-    for cell in cells {
-        match cell {
-            Some(cell) if style == cell.style => text.write_character(cell.ch, out),
-            _ => return,
-        }
-    }
 }

@@ -19,7 +19,7 @@ use Rattle.dtvcc_windows.specs.Showing.{ShownWindow, shown}
 use Rattle.dtvcc_windows.specs.Windows.{WindowState}
 use Rattle.dtvcc_windows.specs.Sizes.{IsWithin, in_size}
 use Rattle.window_texts.specs.Differences.{differs, same_cell, same_cells, same_place, same_window}
-use Rattle.window_texts.proofs.AlikeLemmas.{Decides-alike}
+use Rattle.cell_runs.proofs.AlikeLemmas.{Decides-alike}
 use Rattle.dtvcc_windows.proofs.SameLemmas.{Decides-attributes}
 
 -- cells of the same parts are one

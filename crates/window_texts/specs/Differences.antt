@@ -7,7 +7,7 @@ use Rattle.dtvcc_codes.specs.declared.windows.WinAttr.{WinAttr}
 use Rattle.dtvcc_windows.specs.declared.cells.DCell.{DCell}
 use Rattle.dtvcc_windows.specs.Places.{Cells}
 use Rattle.dtvcc_windows.specs.Showing.{ShownWindow}
-use Rattle.window_texts.specs.Alike.{same_fill, same_rgb, written_alike}
+use Rattle.cell_runs.specs.Writing.{same_fill, same_rgb, written_alike}
 
 -- two places have the same cell, or neither has one
 abbrev pub same_cell : Option DCell → Option DCell → Bool

@@ -7,8 +7,10 @@ use Rattle.dtvcc_codes.specs.declared.pens.PenAttr.{PenAttr}
 use Rattle.dtvcc_codes.specs.declared.pens.PenColors.{PenColors}
 use Rattle.dtvcc_codes.specs.declared.pens.Rgb.{Rgb}
 use Rattle.dtvcc_codes.specs.declared.windows.WinAttr.{WinAttr}
+use Rattle.dtvcc_windows.specs.declared.cells.DCell.{DCell}
 use Rattle.dtvcc_windows.specs.Showing.{ShownWindow}
-use Rattle.window_texts.specs.Runs.{Run, runs}
+use Rattle.cell_runs.specs.Runs.{Run}
+use Rattle.window_texts.specs.Runs.{runs}
 
 -- a space and a number
 abbrev pub spaced : ℕ → List ℕ
@@ -64,8 +66,8 @@ abbrev pub colors_text : PenColors → List ℕ
 colors_text c = text (codes " " ∷ fill_digits c.fg ∷ codes " " ∷ fill_digits c.bg ∷ codes " " ∷ rgb_digits c.edge ∷ codes " " ∷ [])
 
 -- the line of a run: its row and column, its pen and colours, and its characters in UTF-8
-unfoldable pub run_line : Run → List ℕ
-run_line run = text (decimal run.row ∷ all_spaced (run.col ∷ []) ∷ pen_text run.pen ∷ colors_text run.colors ∷ encode_utf8_all run.text ∷ codes "\n" ∷ [])
+unfoldable pub run_line : Run DCell → List ℕ
+run_line run = text (decimal run.row ∷ all_spaced (run.col ∷ []) ∷ pen_text run.first.pen ∷ colors_text run.first.colors ∷ encode_utf8_all run.text ∷ codes "\n" ∷ [])
 
 -- the text of a window: its line, and those of its runs
 unfoldable pub window_text : ℕ → ShownWindow → List ℕ

@@ -5,14 +5,15 @@ ghost use Rattle.dtvcc_windows.specs.Showing.{ShownWindow};
 ghost use Rattle.dtvcc_windows.specs.Sizes.{IsWithin};
 ghost use Rattle.window_texts.specs.Differences.{differs};
 ghost use Rattle.window_texts.specs.Examples.{hello, no_service};
-ghost use Rattle.window_texts.specs.Runs.{runs};
-ghost use Rattle.window_texts.specs.RunsOf.{AreRunsOf};
+ghost use Rattle.cell_runs.specs.RunsOf.{AreRunsOf};
+ghost use Rattle.cell_runs.specs.Writing.{in_pens};
+ghost use Rattle.window_texts.specs.Runs.{places, runs};
 ghost use Rattle.window_texts.specs.WindowTexts.{service_text};
 
-/// The runs of a window are the longest stretches of neighbouring cells of one row with one pen and the same colours: each is
-/// one, each cell is in one, and they stand by row, then column.
+/// The runs of a window are the longest stretches of neighbouring cells of one row with one pen and the same colours, in which they
+/// are written alike (`cell_runs::laws`): each is one, each cell is in one, and they stand by row, then column.
 pub fn runs_are_the_longest_stretches()
-    ensures { (window : ShownWindow) → AreRunsOf window (runs window) }
+    ensures { (window : ShownWindow) → AreRunsOf in_pens (places window) (runs window) }
 {}
 
 /// The text of service 1 where its window 0 has one row of ten columns with HELLO in it, and of service 63 without a window.

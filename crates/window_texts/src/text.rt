@@ -4,11 +4,13 @@ ghost use Rattle.dtvcc_windows.specs.Objects.{is_live, state_of};
 ghost use Rattle.dtvcc_windows.specs.Showing.{as_shown};
 ghost use Rattle.dtvcc_windows.specs.Windows.{WindowState};
 ghost use Rattle.text_output.specs.Pages.{Writes, page};
-ghost use Rattle.window_texts.specs.Runs.{front_text, row_runs};
+ghost use Rattle.cell_runs.specs.Runs.{front_text, row_runs};
+ghost use Rattle.cell_runs.specs.Writing.{in_pens};
 ghost use Rattle.window_texts.specs.WindowTexts.{all_joined, all_spaced, attributes_text, colors_text, flag, pen_text, place_text, run_line, spaced, window_line, window_text};
 
-use crate::runs::{begun, run_count, written_alike};
+use crate::runs::run_count;
 use cc_base::Sink;
+use cell_runs::{begun, write_front};
 use dtvcc_codes::{Definition, PenAttr, PenColors, WinAttr};
 use dtvcc_windows::{DCell, Window};
 use text_output::Gathered;
@@ -82,7 +84,7 @@ fn write_attributes<O: Sink>(a: &WinAttr, text: &mut Gathered, out: &mut O)
 // Writes the lines of a row's runs.
 fn write_row<O: Sink>(row: u8, cells: &[Option<DCell>], text: &mut Gathered, out: &mut O)
     requires { length cells.now ≤ 64 }
-    ensures { Writes (page text.old (O.written out.old) (O.faults out.old)) (page text.new (O.written out.new) (O.faults out.new)) (flat_map run_line (row_runs row cells.now)) }
+    ensures { Writes (page text.old (O.written out.old) (O.faults out.old)) (page text.new (O.written out.new) (O.faults out.new)) (flat_map run_line (row_runs in_pens row cells.now)) }
 {
     let mut left = None;
     for (col, cell) in cells.iter().enumerate() {
@@ -103,7 +105,7 @@ fn write_run<O: Sink>(
     out: &mut O,
 )
     ensures { Writes (page text.old (O.written out.old) (O.faults out.old)) (page text.new (O.written out.new) (O.faults out.new))
-        (run_line (record { row = row; col = col; pen = first.pen; colors = first.colors; text = front_text first cells.now })) }
+        (run_line (record { row = row; col = col; first = first; text = front_text in_pens first cells.now })) }
 {
     write_small(row, text, out);
     write_spaced(&[col], text, out);
@@ -140,18 +142,6 @@ fn write_colors<O: Sink>(c: PenColors, text: &mut Gathered, out: &mut O)
     text.write(b" ", out);
     write_joined(&[c.edge.r, c.edge.g, c.edge.b], text, out);
     text.write(b" ", out);
-}
-
-// Writes the characters of the cells at the front that are written as the first one.
-fn write_front<O: Sink>(first: DCell, cells: &[Option<DCell>], text: &mut Gathered, out: &mut O)
-    ensures { Writes (page text.old (O.written out.old) (O.faults out.old)) (page text.new (O.written out.new) (O.faults out.new)) (encode_utf8_all (front_text first cells.now)) }
-{
-    for cell in cells {
-        match cell {
-            Some(cell) if written_alike(first, *cell) => text.write_character(cell.ch, out),
-            _ => return,
-        }
-    }
 }
 
 // Writes numbers, each behind a space.

@@ -1,5 +1,5 @@
-use Rattle.grid_print.proofs.RunsOfLemmas.{are_runs_of}
+use Rattle.grid_print.proofs.RunsOfLemmas.{runs_are_stretches}
 use Rattle.grid_print.proofs.laws.runs_are_the_longest_stretches.Goals as goal
 
 pub returns : goal.returns
-returns c = are_runs_of
+returns c = runs_are_stretches

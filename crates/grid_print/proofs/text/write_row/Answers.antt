@@ -3,8 +3,9 @@ use Rattle.std.proofs.lemmas.List.{append-nil, take_rest}
 use Rattle.std.specs.List.{filter_map, flat_map, range_with_len}
 use Rattle.text_output.proofs.PageLemmas.{written_same}
 use Rattle.grid_print.specs.GridTexts.{run_line}
-use Rattle.grid_print.specs.Runs.{begun_style, left_of, row_runs, run_at}
-use Rattle.grid_print.proofs.RunLemmas.{left_next, lines_kept, lines_more}
+use Rattle.cell_runs.specs.Runs.{begun, left_of, row_runs, run_at}
+use Rattle.cell_runs.specs.Writing.{in_styles}
+use Rattle.cell_runs.proofs.RunLemmas.{left_next, lines_kept, lines_more}
 use Rattle.grid_print.proofs.text.write_row.Goals as goal
 use Rattle.grid_print.proofs.text.write_row.Goals.{in-Some, in_default}
 
@@ -13,17 +14,17 @@ loop-col-init g c = record { left = refl; written = λ start faults before has. 
 
 pub loop-col-preserved : goal.loop-col-preserved
 loop-col-preserved g c =
-    let begun : c.begun_style.result ≡ begun_style (left_of c.args.cells.now c.loop-col.col) (get_or c.args.cells.now c.loop-col.col None) =
-    c.begun_style.ensures ∙ ap (λ left. begun_style left (get_or c.args.cells.now c.loop-col.col None)) c.loop-col.invariant.left in
+    let starts : c.begun.result ≡ begun in_styles (left_of c.args.cells.now c.loop-col.col) (get_or c.args.cells.now c.loop-col.col None) =
+    c.begun.ensures ∙ ap (λ left. begun in_styles left (get_or c.args.cells.now c.loop-col.col None)) c.loop-col.invariant.left in
     record {
       left = left_next c.args.cells.now c.loop-col.col;
       written = λ start faults before has.
-          elim c.match-begun_style.branch [
+          elim c.match-begun.branch [
             | in-Some w ↦ rw (w.text-is, w.out-is) (written_same start faults _ _ _
-                (lines_more c.args.row c.args.cells.now c.loop-col.col before w.in-Some.style (sym begun ∙ w.in-Some.is))
+                (lines_more in_styles run_line c.args.row c.args.cells.now c.loop-col.col before w.in-Some.first (sym starts ∙ w.in-Some.is))
                 (rw (take_rest c.args.cells.now c.loop-col.col) at (w.write_run.ensures start faults _ (c.loop-col.invariant.written start faults before has))))
             | in_default w ↦ rw (w.text-is, w.out-is) (written_same start faults _ _ _
-                (lines_kept c.args.row c.args.cells.now c.loop-col.col before (sym begun ∙ w.in_default.is))
+                (lines_kept in_styles run_line c.args.row c.args.cells.now c.loop-col.col before (sym starts ∙ w.in_default.is))
                 (c.loop-col.invariant.written start faults before has))
           ];
     }
@@ -33,5 +34,5 @@ unfolding row_runs
 returns g c start faults before has =
     let all : c.loop-col.col ≡ length c.args.cells.now = omega arith in
     written_same start faults _ _ _
-    (ap (λ n. before ++ flat_map run_line (filter_map (run_at c.args.row c.args.cells.now) (range_with_len 0 n))) all)
+    (ap (λ n. before ++ flat_map run_line (filter_map (run_at in_styles c.args.row c.args.cells.now) (range_with_len 0 n))) all)
     (c.loop-col.invariant.written start faults before has)

@@ -2,8 +2,9 @@ use Rattle.std.proofs.Common.{refl}
 use lib.Utf8.{encode}
 use Rattle.std.specs.Fmt.{digits}
 use Rattle.dtvcc_windows.specs.Places.{row_cells}
-use Rattle.window_texts.specs.Alike.{written_alike}
-use Rattle.window_texts.specs.Runs.{row_runs, runs}
+use Rattle.cell_runs.specs.Runs.{row_runs}
+use Rattle.cell_runs.specs.Writing.{written_alike}
+use Rattle.window_texts.specs.Runs.{runs}
 use Rattle.window_texts.specs.WindowTexts.{run_line, service_text, window_line, window_text}
 use Rattle.window_texts.proofs.laws.a_window_is_printed.Goals as goal
 

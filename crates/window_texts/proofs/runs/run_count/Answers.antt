@@ -1,18 +1,22 @@
 use Rattle.std.proofs.Common.{◌≡◌, ◌+◌, ◌∙◌, length, ap, sym, refl, arith, List}
 use Rattle.std.proofs.lemmas.List.{length-append}
 use Rattle.std.specs.List.{flat_map, range_with_len}
+use Rattle.dtvcc_windows.specs.declared.cells.DCell.{DCell}
 use Rattle.dtvcc_windows.specs.Objects.{state_of}
 use Rattle.dtvcc_windows.specs.Places.{row_cells}
 use Rattle.dtvcc_windows.specs.Showing.{StandsIn, as_shown}
-use Rattle.window_texts.specs.Runs.{Run, row_runs, runs_in}
-use Rattle.window_texts.proofs.RowLemmas.{at_live, nothing_before, nothing_behind, one_row_more, runs_by_rows, short_row}
+use Rattle.cell_runs.specs.Runs.{Run, row_runs}
+use Rattle.cell_runs.specs.Writing.{in_pens}
+use Rattle.cell_runs.proofs.RowLemmas.{one_row_more}
+use Rattle.window_texts.specs.Runs.{runs_in}
+use Rattle.window_texts.proofs.RowLemmas.{at_live, nothing_before, nothing_behind, runs_by_rows, short_row}
 use Rattle.window_texts.proofs.runs.run_count.Goals as goal
 
 pub loop-row-init : goal.loop-row-init
 loop-row-init c =
     let stands = at_live c.args.window.now (StandsIn c.rows-rows.result.start c.rows-rows.result.end) c.requires c.rows-rows.ensures in
     record {
-      counted = ap length (sym (nothing_before (λ (rs : List Run). rs) (as_shown (state_of c.args.window.now)) c.rows-rows.result.start refl stands.above));
+      counted = ap length (sym (nothing_before (λ (rs : List (Run DCell)). rs) (as_shown (state_of c.args.window.now)) c.rows-rows.result.start refl stands.above));
       most = omega arith;
     }
 
@@ -23,9 +27,9 @@ loop-row-preserved c =
     record {
       counted = ap (λ n. n + c.runs_of_row-count.result) c.loop-row.invariant.counted
           ∙ ap (λ n. length (flat_map (runs_in window) (range_with_len 0 c.loop-row.row)) + n)
-          (c.runs_of_row-count.ensures.count c.loop-row.row ∙ ap (λ cells. length (row_runs c.loop-row.row cells)) row)
+          (c.runs_of_row-count.ensures.count c.loop-row.row ∙ ap (λ cells. length (row_runs in_pens c.loop-row.row cells)) row)
           ∙ sym (length-append (flat_map (runs_in window) (range_with_len 0 c.loop-row.row)) (runs_in window c.loop-row.row))
-          ∙ ap length (one_row_more (runs_in window) c.loop-row.row);
+          ∙ ap length (one_row_more (runs_in window) 0 c.loop-row.row c.loop-row.row (c.loop-row.row + 1) (omega arith) refl);
       most = omega arith;
     }
 
@@ -36,7 +40,7 @@ returns c =
     let order = stands.order in
     let behind : c.loop-row.row ≡ c.rows-rows.result.end = omega (arith, order) in
     c.loop-row.invariant.counted ∙ ap (λ row. length (flat_map (runs_in window) (range_with_len 0 row))) behind
-    ∙ ap length (nothing_behind (λ (rs : List Run). rs) window c.rows-rows.result.end refl stands.within stands.below ∙ sym (runs_by_rows window))
+    ∙ ap length (nothing_behind (λ (rs : List (Run DCell)). rs) window c.rows-rows.result.end refl stands.within stands.below ∙ sym (runs_by_rows window))
 
 pub runs_of_row-count-requires : goal.runs_of_row-count-requires
 runs_of_row-count-requires c =
