@@ -7,7 +7,7 @@ ghost use Rattle.cue_form.specs.Spelling.{Spells};
 
 use crate::draft::Draft;
 use crate::fault::CueFault;
-use csv::ReaderBuilder;
+use csv::{ByteRecord, ReaderBuilder};
 use cue_types::CueList;
 use std::alloc::{AllocError, Global};
 
@@ -28,22 +28,22 @@ pub fn parse(alloc: Global, bytes: &[u8]) -> Result<CueList, CueFault>
     // Where memory lasts, the fault is the first one.
     ensures fault { IfErr result (λ fault. FaultsFirst (records_of bytes.now) fault) }
 {
-    let reader = ReaderBuilder::new()
+    let mut reader = ReaderBuilder::new()
         .has_headers(false)
         .flexible(true)
         .from_reader(alloc, bytes);
+    let mut row = ByteRecord::new(alloc);
     let mut draft = Draft::new(alloc);
     let mut record_number = 1u32;
-    for row in reader.into_byte_records() {
-        match row {
-            Ok(row) => {
-                if let Err(offence) = draft.take(alloc, &row) {
-                    return Err(offence.in_record(record_number));
-                }
-                record_number += 1;
-            }
+    'rows: loop {
+        match reader.read_byte_record(&mut row) {
+            Ok(true) => {}
+            Ok(false) => return draft.finish(record_number),
             Err(_) => return Err(CueFault::Memory(AllocError)),
         }
+        if let Err(offence) = draft.take(alloc, &row) {
+            return Err(offence.in_record(record_number));
+        }
+        record_number += 1;
     }
-    draft.finish(record_number)
 }
