@@ -3,6 +3,7 @@ use crate::unread_words::run_without_words;
 use cc_base::{ReaderSource, WriterSink};
 use side_files::{SideFile, side_of};
 use std::fs::File;
+use std::io::{Read, Stdin};
 use std::process::ExitCode;
 use std::{env, io};
 
@@ -23,15 +24,24 @@ pub fn start(rt: HostRuntime) -> ExitCode {
     ExitCode::from(status.code())
 }
 
-/// The side file that the words name, if they name one. A path that doesn't open, for whatever cause, is a missing file.
+/// The side file that the words name, if they name one. A path that doesn't open, for whatever cause, is a missing file; and so is
+/// each where standard input is closed, since the file would be opened as standard input.
 fn open_side(rt: &HostRuntime, words: &[String]) -> SideFile<File> {
-    match side_of(words) {
-        Some(path) => match File::open(rt, path) {
-            Ok(file) => SideFile::Opened(ReaderSource::new(file)),
-            Err(_) => SideFile::Missing(0),
-        },
-        None => SideFile::Empty,
+    let Some(path) = side_of(words) else {
+        return SideFile::Empty;
+    };
+    if !is_open(rt.stdin()) {
+        return SideFile::Missing(0);
     }
+    match File::open(rt, path) {
+        Ok(file) => SideFile::Opened(ReaderSource::new(file)),
+        Err(_) => SideFile::Missing(0),
+    }
+}
+
+/// Whether standard input is open: to read no byte of it fails where it isn't.
+fn is_open(mut input: Stdin) -> bool {
+    input.read(&mut []).is_ok()
 }
 
 /// The words behind the program's name.
