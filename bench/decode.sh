@@ -4,7 +4,7 @@
 # captions as most programmes have them (pop-on captions of two rows on CC1, paint-on ones on CC3), then of a live programme
 # (pop-on and paint-on captions on CC1, roll-up captions on CC3 without a rest), where two of five frames change a screen. Then
 # the peak memory of `decode` and `show` on 1,000 and on 1,000,000 frames. The same of captions of services: of one, which is sent bytes in
-# five of 60 frames, and of six, which are in 30 of 60; and of frames in which nothing comes. Needs build/ccsuite (make) and gcc.
+# five of 60 frames, and of six, which are in 30 of 60; and of 1,000,000 frames in which nothing comes. Needs build/ccsuite (make) and gcc.
 source "$(dirname "$0")/lists.sh"
 source bench/services_words.sh
 
@@ -63,9 +63,11 @@ timed() {
 }
 
 for programme in usual live one all none; do
+    frames=100000
     case $programme in
         usual | live) "$program" build < "$work/$programme.csv" > "$work/words" ;;
-        *) "$work/services_words" 100000 "$programme" > "$work/words" ;;
+        none) frames=1000000 && "$work/services_words" $frames none > "$work/words" ;;
+        *) "$work/services_words" $frames "$programme" > "$work/words" ;;
     esac
     for name in "${!least[@]}"; do unset "least[$name]"; done
     blocks=$("$program" decode < "$work/words" | grep -c '^frame ' || true)
@@ -77,7 +79,7 @@ for programme in usual live one all none; do
         timed show "$program" show 99999
     done
     for name in cat 'read loop' decode show; do
-        printf '%-32s %s ns a frame\n' "$programme: $name" $((least[$name] / 100))
+        printf '%-32s %s ns a frame\n' "$programme: $name" $((least[$name] * 1000 / frames))
     done
 done
 
