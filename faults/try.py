@@ -127,6 +127,12 @@ def numbers(calls, name, start):
     return [number for number, arguments in enumerate(of_name, 1) if arguments.startswith(start)]
 
 
+def reads_of_input(calls, takes):
+    """The numbers of the reads of standard input that take bytes, or of those that ask for none: these see whether it is open."""
+    reads = [arguments for called, arguments, _ in calls if called == "read"]
+    return [number for number, arguments in enumerate(reads, 1) if arguments.startswith("0,") and arguments.endswith(", 0") != takes]
+
+
 # ---- What is due -----------------------------------------------------------------------------------------------------------------
 
 def packet_ends(words):
@@ -209,10 +215,13 @@ def try_takes(case, whole, sizes):
     for size in sizes:
         plain = run(case, size, traced=True)
         need(case, f"pieces of {size}", plain, whole.status, whole.out, whole.err)
-        for take, number in enumerate(numbers(plain.calls, "read", "0")):
+        for take, number in enumerate(reads_of_input(plain.calls, True)):
             ended = run(case, size, inject=(f"read:error=EIO:when={number}",))
             need(case, f"take {take} of pieces of {size} fails", ended, 2, due(case, whole, take * size))
             tried += 1
+    for number in reads_of_input(whole.calls, False):
+        need(case, "the input isn't open", run(case, inject=(f"read:error=EIO:when={number}",)), 2, b"")
+        tried += 1
     return tried + try_takes_of_list(case, whole)
 
 
