@@ -1,12 +1,14 @@
 -- The words of an SCC file's pairs, frame by frame.
-use Rattle.std.proofs.Common.{◌==◌, if◌then◌else◌, Bool, IfOk, Some, None, length, ◌≡◌, ◌≢◌, ◌∙◌, ◌+◌, ◌-◌, ◌<◌, ◌≤◌, ◌++◌, add-one, ap, append-nil, arith, refl, subst, suc, sym, ℕ, List, [], ◌∷◌, Option, Ok, Err, Result, false, true}
+use Rattle.std.proofs.Common.{◌==◌, if◌then◌else◌, Bool, IfOk, Some, None, length, ◌≡◌, ◌≢◌, ◌∙◌, ◌+◌, ◌-◌, ◌<◌, ◌≤◌, ◌++◌, add-one, ap, append-nil, append_assoc, arith, refl, subst, suc, sym, ℕ, List, [], ◌∷◌, Option, Ok, Err, Result, false, true}
 use Rattle.std.specs.Prelude.{IfSome, nat_eq}
 use Rattle.cc_base.specs.declared.limit_of.LimitOf.TheVariants as limit
 use Rattle.std.specs.Io.KnownBytes.{Appends}
 use Rattle.cc_base.specs.Streams.{Puts}
 use Rattle.cc_base.specs.declared.rate.Rate.TheVariants as rate
+use Rattle.cc_base.specs.declared.streams.Put.{Put}
 use Rattle.cc_base.specs.declared.streams.Put.TheVariants as put
-use Rattle.cc_base.proofs.Puts.{puts_front, puts_more}
+use Rattle.text_output.specs.Gathered.{Flushes, Gathers, IsGathered}
+use Rattle.words_commands.proofs.WayLemmas.{all_put, way_flushed, way_unwritten}
 use Rattle.line21_codes.specs.declared.pairs.Pair.{Pair}
 use Rattle.frame_scheduler.specs.declared.frames.FrameBytes.{FrameBytes}
 use Rattle.frame_carrier.proofs.CarriedLemmas.{frames_carried}
@@ -27,6 +29,7 @@ use Rattle.command_base.specs.declared.status.Status.TheVariants as status
 use Rattle.scc_commands.specs.Cursors.{Passes}
 use Rattle.scc_commands.specs.Import.{IsImport, IsRefusedImport, Placed, PutsImport, PutsImportFront, import_columns, import_words, null_pair, pair_at}
 use Rattle.scc_commands.specs.ImportSteps.{ArePlaced, fault_status, frame_with}
+use Rattle.scc_commands.proofs.WrittenLemmas.{gathered_failed, gathered_more}
 
 -- numbers that aren't equal
 pub other_number : (n m : ℕ) → n ≢ m → nat_eq n m ≡ false
@@ -81,14 +84,14 @@ pub frames_behind : (pairs : Placed) (n : ℕ) (last : ℕ × Pair) → frames_t
 frames_behind [] n last = refl
 frames_behind (placed ∷ pairs) n last = frames_behind pairs (placed.0 + 1) last
 
--- the words of pairs are on their way: those of the frames before this one were put
-pub record WordsOnTheWay (pairs left : Placed) (frame frames : ℕ) (carrier : Carrier) (old new : Option (List ℕ)) : Type 0 where
+-- the words of pairs are on their way: those of the frames before this one were gathered
+pub record WordsOnTheWay (pairs left : Placed) (frame frames : ℕ) (carrier : Carrier) (held : List ℕ) (old new : Option (List ℕ)) : Type 0 where
   pub at_frame : IsAt rate.F2997 frame 0 carrier
   pub rising : AreRising frame left
   pub same : (other : ℕ) → frame ≤ other → pair_at left other ≡ pair_at pairs other
-  pub sent : List ℕ
-  pub appended : Appends old new sent
-  pub whole : sent ++ column_bytes rate.F2997 (import_columns pairs) frame (frames - frame) ≡ import_words pairs
+  pub words : List ℕ
+  pub way : IsGathered old new held words
+  pub whole : words ++ column_bytes rate.F2997 (import_columns pairs) frame (frames - frame) ≡ import_words pairs
 
 -- nothing was put yet
 nothing_put : (start : Option (List ℕ)) → Appends start start []
@@ -98,14 +101,14 @@ nothing_put (Some bytes) = sym (append-nil bytes)
 none_less : (n : ℕ) → n - 0 ≡ n
 none_less n = omega arith
 
-pub words_begun : (pairs left : Placed) (frames : ℕ) (carrier : Carrier) (start : Option (List ℕ)) → IsAt rate.F2997 0 0 carrier → AreRising 0 pairs
-    → left ≡ pairs → frames ≡ frames_of pairs → WordsOnTheWay pairs left 0 frames carrier start start
-words_begun pairs left frames carrier start at rising is count = record {
+pub words_begun : (pairs left : Placed) (frames : ℕ) (carrier : Carrier) (held : List ℕ) (start : Option (List ℕ)) → IsAt rate.F2997 0 0 carrier
+    → AreRising 0 pairs → left ≡ pairs → frames ≡ frames_of pairs → held ≡ [] → WordsOnTheWay pairs left 0 frames carrier held start start
+words_begun pairs left frames carrier held start at rising is count none = record {
   at_frame = at;
   rising = subst (AreRising 0) (sym is) rising;
   same = λ other from. ap (λ l. pair_at l other) is;
-  sent = [];
-  appended = nothing_put start;
+  words = [];
+  way = record { sent = []; appended = nothing_put start; whole = none };
   whole = ap (column_bytes rate.F2997 (import_columns pairs) 0) (none_less frames ∙ count);
 }
 
@@ -120,12 +123,12 @@ pub quiet_next : (frame : ℕ) (bytes : FrameBytes) (pair : Pair) (moved : Carri
 quiet_next frame bytes pair moved is at = subst (λ blocks. IsAt rate.F2997 (frame + 1) (0 + packet_count blocks) moved) (ap (λ (b : FrameBytes). b.blocks.items) is) at
 
 -- the words of a frame are the first of those that are left
-first_words : (pairs left now : Placed) (frame frames : ℕ) (carrier : Carrier) (old new : Option (List ℕ)) (pair : Pair) (bytes : FrameBytes) (words : List ℕ)
-    → WordsOnTheWay pairs left frame frames carrier old new → Passes frame left now pair → bytes ≡ frame_with pair → frame < frames
+first_words : (pairs left now : Placed) (frame frames : ℕ) (carrier : Carrier) (held : List ℕ) (old new : Option (List ℕ)) (pair : Pair) (bytes : FrameBytes)
+    (words : List ℕ) → WordsOnTheWay pairs left frame frames carrier held old new → Passes frame left now pair → bytes ≡ frame_with pair → frame < frames
     → words ≡ frame_bytes rate.F2997 frame bytes []
     → column_bytes rate.F2997 (import_columns pairs) frame (frames - frame)
     ≡ words ++ column_bytes rate.F2997 (import_columns pairs) (frame + 1) (frames - (frame + 1))
-first_words pairs left now frame frames carrier old new pair bytes words on passes bytes_are below words_are =
+first_words pairs left now frame frames carrier held old new pair bytes words on passes bytes_are below words_are =
     let next : frames - frame ≡ suc (frames - (frame + 1)) = omega arith in
     let pair_is : pair ≡ pair_at pairs frame = passes.pair_is ∙ on.same frame (omega arith) in
     let columns_are : import_columns pairs frame ≡ bytes = sym (bytes_are ∙ ap frame_with pair_is) in
@@ -134,41 +137,50 @@ first_words pairs left now frame frames carrier old new pair bytes words on pass
     ∙ ap (λ w. w ++ column_bytes rate.F2997 (import_columns pairs) (suc frame) (frames - (frame + 1))) (sym words_are)
     ∙ ap (λ f. words ++ column_bytes rate.F2997 (import_columns pairs) f (frames - (frame + 1))) (sym (add-one frame))
 
--- they were put
-pub words_added : (pairs left now : Placed) (frame frames : ℕ) (carrier moved : Carrier) (old new after : Option (List ℕ)) (pair : Pair) (bytes : FrameBytes) (words : List ℕ)
-    → WordsOnTheWay pairs left frame frames carrier old new → Passes frame left now pair → bytes ≡ frame_with pair → frame < frames
-    → words ≡ frame_bytes rate.F2997 frame bytes [] → IsAt rate.F2997 (frame + 1) 0 moved → Puts new after put.Done words
-    → WordsOnTheWay pairs now (frame + 1) frames moved old after
-words_added pairs left now frame frames carrier moved old new after pair bytes words on passes bytes_are below words_are at puts =
-    let first = first_words pairs left now frame frames carrier old new pair bytes words on passes bytes_are below words_are in
-    let rest = column_bytes rate.F2997 (import_columns pairs) (frame + 1) (frames - (frame + 1)) in
-    let more = puts_more old new after put.Done on.sent words rest (import_words pairs) on.appended puts refl (ap (λ l. on.sent ++ l) (sym first) ∙ on.whole) in
+-- they were gathered
+pub words_added : (pairs left now : Placed) (frame frames : ℕ) (carrier moved : Carrier) (held kept : List ℕ) (old new after : Option (List ℕ)) (pair : Pair)
+    (bytes : FrameBytes) (words : List ℕ) → WordsOnTheWay pairs left frame frames carrier held old new → Passes frame left now pair
+    → bytes ≡ frame_with pair → frame < frames → words ≡ frame_bytes rate.F2997 frame bytes [] → IsAt rate.F2997 (frame + 1) 0 moved
+    → Gathers new after held kept put.Done words → WordsOnTheWay pairs now (frame + 1) frames moved kept old after
+words_added pairs left now frame frames carrier moved held kept old new after pair bytes words on passes bytes_are below words_are at gathers =
+    let first = first_words pairs left now frame frames carrier held old new pair bytes words on passes bytes_are below words_are in
     record {
       at_frame = at;
       rising = passes.rising;
       same = λ other from. passes.later other (omega arith) ∙ on.same other (omega arith);
-      sent = on.sent ++ words;
-      appended = more.0;
-      whole = more.1;
+      words = on.words ++ words;
+      way = gathered_more old new after held kept words on.words on.way gathers;
+      whole = append_assoc on.words words (column_bytes rate.F2997 (import_columns pairs) (frame + 1) (frames - (frame + 1)))
+          ∙ ap (λ l. on.words ++ l) (sym first) ∙ on.whole;
     }
 
--- a put of them failed
-pub words_failed : (pairs left now : Placed) (frame frames : ℕ) (carrier : Carrier) (old new after : Option (List ℕ)) (pair : Pair) (bytes : FrameBytes) (words : List ℕ)
-    → WordsOnTheWay pairs left frame frames carrier old new → Passes frame left now pair → bytes ≡ frame_with pair → frame < frames
-    → words ≡ frame_bytes rate.F2997 frame bytes [] → Puts new after put.Failed words → Puts old after put.Failed (import_words pairs)
-words_failed pairs left now frame frames carrier old new after pair bytes words on passes bytes_are below words_are puts =
-    let first = first_words pairs left now frame frames carrier old new pair bytes words on passes bytes_are below words_are in
-    let rest = column_bytes rate.F2997 (import_columns pairs) (frame + 1) (frames - (frame + 1)) in
-    puts_front old new after put.Failed on.sent words rest (import_words pairs) on.appended puts refl (ap (λ l. on.sent ++ l) (sym first) ∙ on.whole)
+-- a put of those before failed
+pub words_failed : (pairs left : Placed) (frame frames : ℕ) (carrier : Carrier) (held : List ℕ) (old new after : Option (List ℕ))
+    → WordsOnTheWay pairs left frame frames carrier held old new → Puts new after put.Failed held → Puts old after put.Failed (import_words pairs)
+words_failed pairs left frame frames carrier held old new after on failed =
+    subst (Puts old after put.Failed) on.whole
+    (gathered_failed old new after held (column_bytes rate.F2997 (import_columns pairs) frame (frames - frame)) on.words on.way failed)
 
--- all were put
-pub words_ended : (pairs left : Placed) (frame frames : ℕ) (carrier : Carrier) (old new : Option (List ℕ)) → WordsOnTheWay pairs left frame frames carrier old new
-    → frames ≤ frame → Appends old new (import_words pairs)
-words_ended pairs left frame frames carrier old new on ended =
+-- all were gathered
+words_ended : (pairs left : Placed) (frame frames : ℕ) (carrier : Carrier) (held : List ℕ) (old new : Option (List ℕ))
+    → WordsOnTheWay pairs left frame frames carrier held old new → frames ≤ frame → IsGathered old new held (import_words pairs)
+words_ended pairs left frame frames carrier held old new on ended =
     let none : frames - frame ≡ 0 = omega arith in
-    let whole : on.sent ≡ import_words pairs =
-    sym (append-nil on.sent) ∙ sym (ap (λ n. on.sent ++ column_bytes rate.F2997 (import_columns pairs) frame n) none) ∙ on.whole in
-    subst (Appends old new) whole on.appended
+    let whole : on.words ≡ import_words pairs =
+    sym (append-nil on.words) ∙ sym (ap (λ n. on.words ++ column_bytes rate.F2997 (import_columns pairs) frame n) none) ∙ on.whole in
+    subst (IsGathered old new held) whole on.way
+
+-- what is held of them is put, or that fails
+flushed : (old new after : Option (List ℕ)) (held kept all : List ℕ) (answer : Put) → IsGathered old new held all → Flushes new after held kept answer
+    → Puts old after answer all
+flushed old new after held kept all put.Done way (next, none) = all_put old after [] all (way_flushed old new after held all way next) refl
+flushed old new after held kept all put.Failed way failed = way_unwritten old new after held all way failed
+
+pub words_flushed : (pairs left : Placed) (frame frames : ℕ) (carrier : Carrier) (held kept : List ℕ) (old new after : Option (List ℕ)) (answer : Put)
+    → WordsOnTheWay pairs left frame frames carrier held old new → frames ≤ frame → Flushes new after held kept answer
+    → Puts old after answer (import_words pairs)
+words_flushed pairs left frame frames carrier held kept old new after answer on ended flushes =
+    flushed old new after held kept (import_words pairs) answer (words_ended pairs left frame frames carrier held old new on ended) flushes
 
 -- the refusals of an import are refusals
 pub import_refusals : AreRefusals IsRefusedImport

@@ -15,8 +15,9 @@ use frame_scheduler::FrameBytes;
 use line21_codes::Pair;
 use scc_files::{SccFault, SccPairs, read_scc};
 use std::alloc::Global;
+use text_output::Gathered;
 
-/// Reads an SCC file to its end and judges it, and then puts the ancillary packet of each of its frames, one put a frame:
+/// Reads an SCC file to its end and judges it, and then puts the ancillary packets of its frames, gathered so that a put has many:
 /// at 29.97 frames a second, from that of the first time code to that of the last pair, each with the pair at the frame in
 /// field 1 and the null pair in field 2.
 ///
@@ -100,7 +101,7 @@ fn put_words<O: Sink>(pairs: SccPairs, out: &mut O) -> Put
     put_frames(pairs.as_slice(), out)
 }
 
-/// Puts the ancillary packet of each frame of pairs.
+/// Puts the ancillary packets of the frames of pairs, gathered.
 fn put_frames<O: Sink>(pairs: &[(u32, Pair)], out: &mut O) -> Put
     requires { ArePlaced pairs.now }
     ensures bytes { Puts (O.written out.old) (O.written out.new) result (import_words pairs.now) }
@@ -108,13 +109,14 @@ fn put_frames<O: Sink>(pairs: &[(u32, Pair)], out: &mut O) -> Put
 {
     let mut cursor = Cursor::new(pairs);
     let mut carrier = Carrier::new(Rate::F2997);
+    let mut gathered = Gathered::new();
     for frame in 0..count_frames(pairs) {
         let mut words = ArrayVec::new();
         carrier.put_words(&frame_with(cursor.pass(frame)), &mut words);
-        match out.put(&words) {
+        match gathered.add(&words, out) {
             Put::Done => {}
             Put::Failed => return Put::Failed,
         }
     }
-    Put::Done
+    gathered.flush(out)
 }

@@ -142,15 +142,44 @@ fn faults_of_an_import_are_told(rt: HostRuntime) -> Result<(), Fail> {
     let unwritten = run_to_end(
         alloc,
         Given {
-            failing_puts: &[2],
+            failing_puts: &[0],
             ..import_of(SIX_FRAMES)
         },
     )?;
     assert_eq!(rt; unwritten.status, Status::WriteFault);
-    assert_eq!(rt;
-        unwritten.out.bytes(),
-        six_frames(alloc)?.get(..320).unwrap_or(&[])
-    );
+    assert_eq!(rt; unwritten.out.bytes(), b"".as_slice());
+    Ok(())
+}
+
+/// The words of 501 frames are 80,160 bytes. Of these 409 packets, 65,440 bytes, are put first: the next one doesn't fit in the 65,536
+/// that are gathered.
+#[test]
+fn more_than_is_gathered_is_imported_packet_behind_packet(rt: HostRuntime) -> Result<(), Fail> {
+    let alloc = rt.alloc();
+    let text = b"Scenarist_SCC V1.0\n\n00:00:00:00\t8080\n00:00:16:20\t8080\n";
+    let mut first = bytes_of(alloc, &silent(0))?;
+    first.extend_from_slice(&bytes_of(alloc, &silent(1))?)?;
+    first.extend_from_slice(&bytes_of(alloc, &silent(2))?)?;
+    let rows: [(&[u64], Status, usize); 4] = [
+        (&[], Status::Ok, 80_160),
+        (&[0], Status::WriteFault, 0),
+        (&[1], Status::WriteFault, 65_440),
+        (&[2], Status::Ok, 80_160),
+    ];
+    for (failing_puts, status, put) in rows {
+        let ended = run_to_end(
+            alloc,
+            Given {
+                failing_puts,
+                ..import_of(text)
+            },
+        )?;
+        assert_eq!(rt; ended.status, status);
+        assert_eq!(rt; ended.out.bytes().len(), put);
+        if put > 0 {
+            assert_eq!(rt; ended.out.bytes().get(..480), Some(first.as_slice()));
+        }
+    }
     Ok(())
 }
 
