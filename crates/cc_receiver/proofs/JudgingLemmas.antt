@@ -18,17 +18,6 @@ use Rattle.cc_receiver.specs.declared.channel.Channel.{Channel}
 one_more : (before : List CdpPart) (next : CdpPart) → whole_triplets (before ++ next ∷ []) ≡ whole_triplets before ++ whole_triplet next
 one_more before next = whole_triplets-append before (next ∷ []) ∙ ap (λ ts. whole_triplets before ++ ts) (append-nil (whole_triplet next))
 
--- a part that brings no whole triplet
-pub tried_other : (before : List CdpPart) (next : CdpPart) (channel : Channel) → whole_triplet next ≡ [] → HasTried before channel → HasTried (before ++ next ∷ []) channel
-tried_other before next channel none tried =
-    subst (λ ts. HasHeard ts channel) (sym (one_more before next ∙ ap (λ ts. whole_triplets before ++ ts) none ∙ append-nil (whole_triplets before))) tried
-
--- one that brings one
-pub tried_whole : (before : List CdpPart) (next : CdpPart) (triplet : Triplet) (channel : Channel) → whole_triplet next ≡ triplet ∷ []
-    → HasHeard (whole_triplets before ++ triplet ∷ []) channel → HasTried (before ++ next ∷ []) channel
-tried_whole before next triplet channel one tried =
-    subst (λ ts. HasHeard ts channel) (sym (one_more before next ∙ ap (λ ts. whole_triplets before ++ ts) one)) tried
-
 -- frames with one more
 pub frames_more : (frames : List (List CdpPart)) (parts : List CdpPart) → frames_parts (parts ∷ frames) ≡ frames_parts frames ++ parts
 frames_more frames parts =

@@ -54,10 +54,6 @@ abbrev Rises : ℕ → List ℕ → Type 0
 Rises low [] = Unit {0}
 Rises low (service ∷ services) = (low ≤ service) × Rises (suc service) services
 
-Rises-lower : (low more : ℕ) (services : List ℕ) → low ≤ more → Rises more services → Rises low services
-Rises-lower low more [] below rises = tt
-Rises-lower low more (service ∷ services) below rises = ((let from = rises.0 in omega arith), rises.1)
-
 -- the shares of these services
 abbrev of_services : List Share → List ℕ → List Share
 of_services shares services = flat_map (of_service shares) services

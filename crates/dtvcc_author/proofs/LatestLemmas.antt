@@ -102,10 +102,6 @@ elsewhere : (a n p : Bool) → ((a && false) || n) || p ≡ n || p
 elsewhere true n p = refl
 elsewhere false n p = refl
 
-or_no : (b : Bool) → b || false ≡ b
-or_no true = refl
-or_no false = refl
-
 -- a test that holds of a caption only from behind its LOAD up to its HIDE
 module _ (rate : Rate) (frames frame : ℕ) (test : Caption → Bool)
     (timely : (c : Caption) → IsSoundCaption rate frames c → test c ≡ true → (c.load < frame) × (frame ≤ c.hide)) where
@@ -417,18 +413,6 @@ pub record IsPassing (cs : List Caption) (frame : ℕ) (latest : Latest) : Type 
   pub within : latest.next ≤ length cs
   pub before : AllByRecursion (λ (c : Caption). c.load < frame) (take latest.next cs)
   pub windows : (id : ℕ) → id < 8 → caption_in latest id ≡ latest_of (take latest.next cs) id
-
-loads_before : (from frame : ℕ) (cs : List Caption) → from ≤ frame → AllByRecursion (λ (c : Caption). c.load < from) cs
-    → AllByRecursion (λ (c : Caption). c.load < frame) cs
-loads_before from frame [] low all = tt
-loads_before from frame (c ∷ cs) low all = (omega (arith, all.0), loads_before from frame cs low all.1)
-
-pub passing_from : (cs : List Caption) (from frame : ℕ) (latest : Latest) → from ≤ frame → IsAt cs from latest → IsPassing cs frame latest
-passing_from cs from frame latest low at = record {
-  within = at.within;
-  before = loads_before from frame (take latest.next cs) low at.before;
-  windows = at.windows;
-}
 
 -- with one more caption, that is the last in its window
 latest_push : (before : Option Caption) (cs : List Caption) (c : Caption) (id : ℕ)

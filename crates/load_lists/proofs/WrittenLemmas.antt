@@ -152,10 +152,6 @@ cues_most a (suc n) within =
     let both = length-append (bytes_of (cue_records (load_cue a))) (bytes_of rest) in
     omega (arith, here, count, more, split, both)
 
--- its share stands alone, so it is in order
-in_order_is : (count : ℕ) → in_order (load_list count) ≡ load_list count
-in_order_is count = refl
-
 -- the head and the share
 abbrev first_records : ℕ → List Record
 first_records count =

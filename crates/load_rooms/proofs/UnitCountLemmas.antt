@@ -33,10 +33,6 @@ abbrev pub turned : ℕ → ℕ → Cue
 turned k turn = record { load = 90 * k; show = 90 * k + 60; hide = Some (90 * k + 150); kind = load_kind k turn; runs = load_run k turn ∷ [] }
 
 -- basic characters are packed into no more codes than there are, and one that waits
-one_waits : Option ℕ → ℕ
-one_waits None = 0
-one_waits (Some first) = 1
-
 packed_few : (waiting : Option ℕ) (text : List ℕ) → AllByRecursion (λ ch. is_basic (spelling_of ch) ≡ true) text
     → length (packed waiting (filter_map spelling_of text)) ≤ length text + 1
 packed_few None [] basic = omega arith

@@ -12,26 +12,6 @@ use Rattle.cdp_packets.specs.Written.{cc_data_section}
 use Rattle.packet_inserter.specs.Insertion.{IsInserted, IsPlace, is_kept, is_time_code, packet_length}
 use Rattle.packet_inserter.specs.Walks.{StandsBehindTimeCodes}
 
--- the place where there is no section of cc_data
-pub place_without : (cut : List (List ℕ)) (place : ℕ) → All (λ section. is_kept section ≡ true) cut → StandsBehindTimeCodes cut place
-    → (before : List (List ℕ)) × IsPlace cut before × (place ≡ length (concat before))
-place_without cut place none stands = (stands.before, by_ends stands.ends, stands.long)
-  where
-    by_ends : (stands.behind ≡ []) ⊎ ((first : List ℕ) × (others : List (List ℕ)) × (stands.behind ≡ first ∷ others) × (is_time_code first ≡ false))
-        → IsPlace cut stands.before
-    by_ends (inl ended) =
-        let all : cut ≡ stands.before = stands.cut ∙ ap (λ b. stands.before ++ b) ended ∙ append-nil stands.before in
-        inr (inr (record { time_codes = subst (All (λ section. is_time_code section ≡ true)) (sym all) stands.time_codes; all = sym all }))
-    by_ends (inr (first, others, is, other)) =
-        inr (inl (record {
-          none = none;
-          time_codes = stands.time_codes;
-          first = first;
-          behind = others;
-          cut = stands.cut ∙ ap (λ b. stands.before ++ b) is;
-          is_first = other;
-        }))
-
 -- sections that are all kept
 filter-all : (sections : List (List ℕ)) → All (λ section. is_kept section ≡ true) sections → filter is_kept sections ≡ sections
 filter-all [] all = refl

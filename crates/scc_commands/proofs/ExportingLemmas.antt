@@ -94,11 +94,6 @@ step_frame time start now before bytes old new fed had read caption =
     frame_more before (take fed.used bytes) old.receiver new had.frames had.frames_are had.received read.received
     (subst (Counts (frame_count old.receiver) (frame_count new)) caption read.counts)
 
--- and was counted
-pub step_counted : (before bytes : List ℕ) (old new : Receiver) (fed : Fed) → HasRead before bytes old new fed → fed.ended ≡ ended.Caption → 0 < frame_count new
-step_counted before bytes old new fed read caption =
-    let count : frame_count new ≡ frame_count old + 1 = subst (Counts (frame_count old) (frame_count new)) caption read.counts in omega arith
-
 -- its pair was written
 pub step_done : (time : TimeCode) (start now then : Option (List ℕ)) (before bytes : List ℕ) (old : Exporting) (new : Receiver) (fed : Fed) (export : Exporting)
     → (had : HasJudged time start now before old) → HasRead before bytes old.receiver new fed → fed.ended ≡ ended.Caption

@@ -2,7 +2,6 @@
 use Rattle.std.proofs.Common.{◌==◌, if◌then◌else◌, Bool, IfOk, Some, None, length, ◌≡◌, ◌≢◌, ◌∙◌, ◌+◌, ◌-◌, ◌<◌, ◌≤◌, ◌++◌, add-one, ap, append-nil, append_assoc, arith, refl, subst, suc, sym, ℕ, List, [], ◌∷◌, Option, Ok, Err, Result, false, true}
 use Rattle.std.specs.Prelude.{IfSome, nat_eq}
 use Rattle.cc_base.specs.declared.limit_of.LimitOf.TheVariants as limit
-use Rattle.std.specs.Io.KnownBytes.{Appends}
 use Rattle.cc_base.specs.Streams.{Puts}
 use Rattle.cc_base.specs.declared.rate.Rate.TheVariants as rate
 use Rattle.cc_base.specs.declared.streams.Put.{Put}
@@ -92,25 +91,6 @@ pub record WordsOnTheWay (pairs left : Placed) (frame frames : ℕ) (carrier : C
   pub words : List ℕ
   pub way : IsGathered old new held words
   pub whole : words ++ column_bytes rate.F2997 (import_columns pairs) frame (frames - frame) ≡ import_words pairs
-
--- nothing was put yet
-nothing_put : (start : Option (List ℕ)) → Appends start start []
-nothing_put None = tt
-nothing_put (Some bytes) = sym (append-nil bytes)
-
-none_less : (n : ℕ) → n - 0 ≡ n
-none_less n = omega arith
-
-pub words_begun : (pairs left : Placed) (frames : ℕ) (carrier : Carrier) (held : List ℕ) (start : Option (List ℕ)) → IsAt rate.F2997 0 0 carrier
-    → AreRising 0 pairs → left ≡ pairs → frames ≡ frames_of pairs → held ≡ [] → WordsOnTheWay pairs left 0 frames carrier held start start
-words_begun pairs left frames carrier held start at rising is count none = record {
-  at_frame = at;
-  rising = subst (AreRising 0) (sym is) rising;
-  same = λ other from. ap (λ l. pair_at l other) is;
-  words = [];
-  way = record { sent = []; appended = nothing_put start; whole = none };
-  whole = ap (column_bytes rate.F2997 (import_columns pairs) 0) (none_less frames ∙ count);
-}
 
 -- a frame of an import has no service blocks, so no channel packet
 pub quiet_words : (frame : ℕ) (bytes : FrameBytes) (pair : Pair) (words : List ℕ) → bytes ≡ frame_with pair
