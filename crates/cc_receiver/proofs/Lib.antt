@@ -8,6 +8,7 @@ pub mod SilentLemmas
 pub mod CountingLemmas
 pub mod ByteLemmas
 pub mod GatheredLemmas
+pub mod SaysLemmas
 pub mod FilledLemmas
 pub mod FillingLemmas
 pub mod HeardLemmas

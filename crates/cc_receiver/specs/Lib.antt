@@ -3,6 +3,7 @@ pub mod Filling
 pub mod Gathering
 pub mod Counting
 pub mod TripletLists
+pub mod Says
 pub mod Hearing
 pub mod Gatherers
 pub mod Channels

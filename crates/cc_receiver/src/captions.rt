@@ -1,8 +1,10 @@
-ghost use Rattle.std.specs.Prelude.{◌≡◌, ◌<◌, if◌then◌else◌, ◌++◌, Bool, false, List, [], ◌∷◌, None, IfOk, IsTrue, reverse};
+ghost use Rattle.std.specs.Prelude.{◌≡◌, ◌≤◌, ◌<◌, if◌then◌else◌, ◌++◌, Bool, false, List, [], ◌∷◌, None, IfOk, IsTrue, length, reverse};
 ghost use Rattle.cc_base.specs.Feeding.{hand};
 ghost use Rattle.cdp_packets.specs.declared.parts.CdpPart.{CdpPart as Part};
 ghost use Rattle.cdp_packets.specs.PacketParts.{packet_parts};
 ghost use Rattle.cdp_packets.specs.Packets.{IsCdp, Packet as FrameOf};
+ghost use Rattle.cdp_packets.specs.Sections.{AreSections};
+ghost use Rattle.cdp_packets.specs.WholePackets.{SaysPacket};
 ghost use Rattle.line21_codes.specs.declared.pairs.Pair.{Pair as PairOf};
 ghost use Rattle.line21_screen.specs.Objects.{Leads};
 ghost use Rattle.words_files.specs.Catching.{Caught, begun, caught_after, ended, nothing_caught, taken, verdict_behind};
@@ -10,6 +12,7 @@ ghost use Rattle.services_files.specs.Services.{services_say};
 ghost use Rattle.cc_receiver.specs.Channels.{HasTried, frames_parts};
 ghost use Rattle.cc_receiver.specs.Gatherers.{HasGathered};
 ghost use Rattle.cc_receiver.specs.Hearing.{heard};
+ghost use Rattle.cc_receiver.specs.Says.{AreOfSections};
 
 use crate::channel::Channel;
 use crate::frame::Frame;
@@ -17,7 +20,7 @@ use crate::services::Served;
 use crate::triplets::Triplets;
 use anc_words::WordPart;
 use cc_base::{Step, Upward, Why};
-use cdp_packets::{CdpPart, CdpReader, read_packet};
+use cdp_packets::{CdpPart, CdpReader, WholePacket, read_packet};
 use line21_codes::Pair;
 use line21_screen::Field;
 use std::alloc::{AllocError, Global};
@@ -198,6 +201,40 @@ impl Captions {
         let Some(packet) = read_packet(bytes) else {
             return false;
         };
+        if self.last.is_of(packet.sections) {
+            self.again(packet)
+        } else {
+            self.anew(packet)
+        }
+    }
+
+    // Takes a whole packet whose sections are those of the last frame: what that says of them is not read again. Says whether
+    // nothing is refused; else nothing has changed.
+    fn again(&mut self, packet: WholePacket<'_>) -> bool
+        requires few { length packet.sections.now ≤ 244 }
+        requires sections { self.old.last.sections.items ≡ packet.sections.now }
+        requires are { let last = self.old.last in AreOfSections packet.sections.now last.triplets last.pairs_one.items last.pairs_two.items }
+        ensures frame { (caught : Caught) (frame : FrameOf) → Keeps caught self.old → AreSections frame.sections → SaysPacket packet.entry frame
+            → IsTrue result → Keeps (with_frame (packet_parts frame) caught) self.new }
+        ensures none { result ≡ false → self.new ≡ self.old }
+    {
+        let mut judging = self.channel;
+        if !judging.takes(self.last.triplets.front()) {
+            return false;
+        }
+        self.channel = judging;
+        self.last.head(packet);
+        self.act();
+        true
+    }
+
+    // Takes a whole packet, and reads its sections. Says whether nothing is refused; else nothing has changed.
+    fn anew(&mut self, packet: WholePacket<'_>) -> bool
+        requires few { length packet.sections.now ≤ 244 }
+        ensures frame { (caught : Caught) (frame : FrameOf) → Keeps caught self.old → AreSections frame.sections → SaysPacket packet.entry frame
+            → IsTrue result → Keeps (with_frame (packet_parts frame) caught) self.new }
+        ensures none { result ≡ false → self.new ≡ self.old }
+    {
         let mut triplets = Triplets::new();
         triplets.read(packet.sections);
         let mut judging = self.channel;

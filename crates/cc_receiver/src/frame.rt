@@ -1,13 +1,15 @@
-ghost use Rattle.std.specs.Prelude.{◌≡◌, ◌≤◌, Bool, [], length};
-ghost use Rattle.std.specs.List.{list_all};
+ghost use Rattle.std.specs.Prelude.{◌≡◌, ◌≤◌, ℕ, Bool, true, List, [], IsTrue, length};
+ghost use Rattle.std.specs.List.{concat, flat_map, list_all};
 ghost use Rattle.cdp_packets.specs.Packets.{Packet};
 ghost use Rattle.cdp_packets.specs.PacketParts.{packet_parts};
-ghost use Rattle.cdp_packets.specs.PacketTriplets.{packet_triplets};
+ghost use Rattle.cdp_packets.specs.PacketTriplets.{section_triplets};
 ghost use Rattle.cdp_packets.specs.Sections.{AreSections};
 ghost use Rattle.cdp_packets.specs.WholePackets.{SaysPacket};
 ghost use Rattle.words_files.specs.Received.{field_kind, field_pair, field_pairs};
 ghost use Rattle.cc_receiver.specs.Gathering.{Gathered, gather, pair_more, with_triplet};
 ghost use Rattle.cc_receiver.specs.Idle.{are_null, is_null};
+ghost use Rattle.cc_receiver.specs.Says.{AreOfSections};
+ghost use Rattle.cc_receiver.specs.TripletLists.{HasTriplets};
 
 use crate::triplets::Triplets;
 use arrayvec::ArrayVec;
@@ -66,11 +68,13 @@ pub(crate) struct Frame {
     pub(crate) pairs_one: ArrayVec<Pair, 81>,
     /// The pairs of field 2 among the triplets that count, in order.
     pub(crate) pairs_two: ArrayVec<Pair, 81>,
+    /// Whether a whole packet was read: the triplets and the pairs are those of the sections.
+    pub(crate) whole: bool,
+    pub ghost of_sections: { whole ≡ true → AreOfSections sections.items triplets pairs_one.items pairs_two.items },
 }
 
 impl Frame {
     ghost use Rattle.cc_receiver.specs.Gatherers.{HasGathered, Holds};
-    ghost use Rattle.cc_receiver.specs.TripletLists.{HasTriplets};
 
     /// A frame of no parts.
     pub(crate) fn new() -> Frame
@@ -84,6 +88,7 @@ impl Frame {
             triplets: Triplets::new(),
             pairs_one: ArrayVec::new(),
             pairs_two: ArrayVec::new(),
+            whole: false,
         }
     }
 
@@ -91,6 +96,7 @@ impl Frame {
     pub(crate) fn clear(&mut self)
         ensures { HasGathered [] self.new }
     {
+        self.whole = false;
         self.rate = Rate::F23976;
         self.flags = 0;
         self.counter = 0;
@@ -100,14 +106,22 @@ impl Frame {
         self.pairs_two.clear();
     }
 
+    /// Whether it is of a whole packet with these bytes of sections. Then its triplets and its pairs are theirs.
+    pub(crate) fn is_of(&self, sections: &[u8]) -> bool
+        ensures { IsTrue result → AreOfSections sections.now self.now.triplets self.now.pairs_one.items self.now.pairs_two.items
+            × (self.now.sections.items ≡ sections.now) }
+    {
+        self.whole && self.sections.as_slice() == sections
+    }
+
     /// Says what a whole packet says, whose triplets these are.
     pub(crate) fn fill(&mut self, packet: WholePacket<'_>, triplets: &Triplets)
-        ensures { (said : Packet) → AreSections said.sections → SaysPacket packet.entry said → length packet.entry.sections.now ≤ 244
-            → HasTriplets (packet_triplets said) triplets.now → HasGathered (packet_parts said) self.new }
+        requires few { length packet.sections.now ≤ 244 }
+        requires triplets { (cut : List (List ℕ)) → AreSections cut → concat cut ≡ packet.sections.now
+            → HasTriplets (flat_map section_triplets cut) triplets.now }
+        ensures { (said : Packet) → AreSections said.sections → SaysPacket packet.entry said → HasGathered (packet_parts said) self.new }
     {
-        self.rate = packet.rate;
-        self.flags = packet.flags;
-        self.counter = packet.counter;
+        self.whole = false;
         self.sections.clear();
         let _ = self.sections.try_extend_from_slice(packet.sections);
         self.triplets.copy_from(triplets);
@@ -115,6 +129,20 @@ impl Frame {
         put_pairs(triplets.front(), FIELD_ONE, &mut self.pairs_one);
         self.pairs_two.clear();
         put_pairs(triplets.front(), FIELD_TWO, &mut self.pairs_two);
+        self.whole = true;
+        self.head(packet);
+    }
+
+    /// Says what a whole packet says, of whose sections it is.
+    pub(crate) fn head(&mut self, packet: WholePacket<'_>)
+        requires few { length packet.sections.now ≤ 244 }
+        requires sections { self.old.sections.items ≡ packet.sections.now }
+        requires are { AreOfSections packet.sections.now self.old.triplets self.old.pairs_one.items self.old.pairs_two.items }
+        ensures { (said : Packet) → AreSections said.sections → SaysPacket packet.entry said → HasGathered (packet_parts said) self.new }
+    {
+        self.rate = packet.rate;
+        self.flags = packet.flags;
+        self.counter = packet.counter;
     }
 
     /// Whether the pairs of both fields are null pairs.
@@ -128,6 +156,7 @@ impl Frame {
     fn triplet(&mut self, triplet: Triplet)
         ensures { (gathered : Gathered) → Holds gathered self.old → Holds (with_triplet triplet gathered) self.new }
     {
+        self.whole = false;
         self.triplets.push(triplet);
         put_pair(triplet, FIELD_ONE, &mut self.pairs_one);
         put_pair(triplet, FIELD_TWO, &mut self.pairs_two);
@@ -142,6 +171,7 @@ impl Frame {
             CdpPart::Flags(flags) => self.flags = flags,
             CdpPart::Counter(counter) => self.counter = counter,
             CdpPart::SectionByte(byte) => {
+                self.whole = false;
                 let _ = self.sections.try_push(byte);
             }
             CdpPart::Triplet(triplet) => self.triplet(triplet),

@@ -13,7 +13,15 @@ returns c caught parts half last judging channel keeps took tried =
       refused = keeps.refused;
       is_open = λ _. tt;
       judges = λ _. tt;
-      last = took;
+      last = record {
+        rate = took.rate;
+        flags = took.flags;
+        counter = took.counter;
+        sections = took.sections;
+        triplets = took.triplets;
+        pairs_one = took.pairs_one;
+        pairs_two = took.pairs_two;
+      };
       channel = tried;
       first = subst (λ ps. Leads false (reverse ps ++ heard false caught.frames) c.apply_all.new.field) (c.as_slice.ensures.value ∙ took.pairs_one)
           (c.apply_all.ensures false (heard false caught.frames) keeps.first);

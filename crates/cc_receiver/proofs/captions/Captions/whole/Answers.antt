@@ -1,22 +1,12 @@
-use Rattle.std.proofs.Common.{rules, sym}
-use Rattle.cdp_packets.specs.PacketParts.{packet_parts}
-use Rattle.cdp_packets.specs.PacketTriplets.{packet_triplets}
-use Rattle.services_files.specs.Services.{whole_triplets}
-use Rattle.cc_receiver.specs.Channels.{frames_parts}
-use Rattle.cc_receiver.proofs.JudgingLemmas.{tried_packet}
-use Rattle.cc_receiver.proofs.SilentLemmas.{heard_whole}
+use Rattle.std.proofs.Common.{sym, ◌∙◌}
 use Rattle.cc_receiver.proofs.captions.Captions.whole.Goals as goal
 
-pub returns-clause-frame : goal.returns-clause-frame
-returns-clause-frame c = λ caught keeps _.
+pub returns-then-is_of-clause-frame : goal.returns-then-is_of-clause-frame
+returns-then-is_of-clause-frame c = λ caught keeps took.
     let (frame, is, says) = c.in-Some.ensures.packet in
-    let before = whole_triplets (frames_parts caught.frames) in
-    let has = c.read.ensures frame.sections is.sections (sym says.sections) c.in-Some.ensures.few in
-    let took = c.fill.ensures frame is.sections says c.in-Some.ensures.few has in
-    let heard = c.takes.ensures before keeps.channel (Prim.search rules) in (
-      frame,
-      is,
-      c.act.ensures caught (packet_parts frame) c.args.self.now.gathered c.args.self.now.last c.args.self.now.judging c.args.self.now.channel keeps took
-          (tried_packet caught.frames frame c.takes.new.self
-          (heard_whole before c.front.result.now (packet_triplets frame) c.takes.new.self (c.front.ensures (packet_triplets frame) has) heard)),
-    )
+    (frame, is, c.again.ensures.frame caught frame keeps is.sections says took)
+
+pub returns-else-is_of-clause-frame : goal.returns-else-is_of-clause-frame
+returns-else-is_of-clause-frame c = λ caught keeps took.
+    let (frame, is, says) = c.in-Some.ensures.packet in
+    (frame, is, c.anew.ensures.frame caught frame keeps is.sections says took)
