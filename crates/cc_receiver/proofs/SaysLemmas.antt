@@ -18,7 +18,7 @@ use Rattle.cc_receiver.specs.declared.triplets.Triplets.{Triplets}
 use Rattle.cc_receiver.proofs.GatheredLemmas.{packet_gathered}
 
 -- none counts, said both ways
-not_is : (v : Bool) → not v ≡ true → v ≡ false
+pub not_is : (v : Bool) → not v ≡ true → v ≡ false
 not_is true is = absurd cc
 not_is false is = refl
 

@@ -1,12 +1,16 @@
-use Rattle.std.proofs.Common.{sym, ◌∙◌}
 use Rattle.cc_receiver.proofs.captions.Captions.whole.Goals as goal
 
-pub returns-then-is_of-clause-frame : goal.returns-then-is_of-clause-frame
-returns-then-is_of-clause-frame c = λ caught keeps took.
-    let (frame, is, says) = c.in-Some.ensures.packet in
-    (frame, is, c.again.ensures.frame caught frame keeps is.sections says took)
-
-pub returns-else-is_of-clause-frame : goal.returns-else-is_of-clause-frame
-returns-else-is_of-clause-frame c = λ caught keeps took.
+pub returns-then-not-is_of-clause-frame : goal.returns-then-not-is_of-clause-frame
+returns-then-not-is_of-clause-frame c = λ caught keeps took.
     let (frame, is, says) = c.in-Some.ensures.packet in
     (frame, is, c.anew.ensures.frame caught frame keeps is.sections says took)
+
+pub returns-then-is_silent-clause-frame : goal.returns-then-is_silent-clause-frame
+returns-then-is_silent-clause-frame c = λ caught keeps _.
+    let (frame, is, says) = c.in-Some.ensures.packet in
+    (frame, is, c.silently.ensures caught frame keeps is.sections says)
+
+pub returns-clause-frame : goal.returns-clause-frame
+returns-clause-frame c = λ caught keeps took.
+    let (frame, is, says) = c.in-Some.ensures.packet in
+    (frame, is, c.again.ensures.frame caught frame keeps is.sections says took)
