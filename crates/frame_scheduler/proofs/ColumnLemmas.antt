@@ -5,8 +5,9 @@ use Rattle.std.proofs.lemmas.List.{length_push, get_or_append_left, get_or_push,
 use Rattle.std.specs.Int.Count.{ones}
 use Rattle.line21_codes.specs.declared.pairs.Pair.{Pair}
 use Rattle.line21_codes.specs.ControlPairs.{is_control}
+use Rattle.line21_codes.specs.NullPairs.{null_pair}
 use Rattle.line21_author.specs.declared.unit.Unit.{Unit}
-use Rattle.frame_scheduler.specs.Timeline.{IsSpaced, Timeline, first_of, repeat_of, repeat_at, slot, null_pair, column}
+use Rattle.frame_scheduler.specs.Timeline.{IsSpaced, Timeline, first_of, repeat_of, repeat_at, slot, column}
 use Rattle.frame_scheduler.specs.DoubledPairs.{EndsWith, BeginsWith, IsDoubled}
 
 -- a column has a slot for each frame

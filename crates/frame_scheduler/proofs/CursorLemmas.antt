@@ -2,12 +2,13 @@
 use Rattle.std.proofs.Common.{◌≡◌, ◌≢◌, ℕ, ◌+◌, ◌<◌, ◌≤◌, List, [], ◌∷◌, Option, Some, None, Bool, true, false, eqb, refl, sym, ap, ◌∙◌, subst, arith, drop, option_map, unwrap_or, suc, zero}
 use Rattle.std.proofs.lemmas.Bool.Decides.{nat_tests}
 use Rattle.line21_codes.specs.declared.pairs.Pair.{Pair}
+use Rattle.line21_codes.specs.NullPairs.{null_pair}
 use Rattle.line21_author.specs.declared.unit.Unit.{Unit}
 use Rattle.line21_author.specs.declared.event.Event.{Event}
 use Rattle.line21_author.specs.EventOrder.{AreFrom, AreApart}
 use Rattle.frame_scheduler.specs.declared.lane.cursor.Cursor.{Cursor}
 use Rattle.frame_scheduler.specs.declared.lane.placed_unit.PlacedUnit.{PlacedUnit}
-use Rattle.frame_scheduler.specs.Timeline.{IsSpaced, Timeline, first_of, repeat_of, repeat_at, slot, null_pair}
+use Rattle.frame_scheduler.specs.Timeline.{IsSpaced, Timeline, first_of, repeat_of, repeat_at, slot}
 use Rattle.frame_scheduler.specs.LaneEvents.{event_at}
 use Rattle.frame_scheduler.specs.LaneTimeline.{unit_at}
 use Rattle.frame_scheduler.specs.LaneCursor.{AreUnitsFrom, AreRising, IsAhead, IsReady, GivesSlot, IsNext}

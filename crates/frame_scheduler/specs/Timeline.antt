@@ -2,6 +2,7 @@
 use Rattle.std.specs.Prelude.{◌≡◌, ℕ, List, [], ◌∷◌, ◌++◌, Option, Some, None, if◌then◌else◌, unwrap_or, suc, zero}
 use Rattle.std.specs.Option.{option_map}
 use Rattle.line21_codes.specs.declared.pairs.Pair.{Pair}
+use Rattle.line21_codes.specs.NullPairs.{null_pair}
 use Rattle.line21_author.specs.declared.unit.Unit.{Unit}
 
 -- what begins at each slot
@@ -16,10 +17,6 @@ first_of (Some x) second = Some x
 -- what begins at a slot in either timeline; where something does in both, that of the first
 abbrev pub over : Timeline → Timeline → Timeline
 over first second n = first_of (first n) (second n)
-
--- the pair of a slot that carries nothing
-abbrev pub null_pair : Pair
-null_pair = record { a = 0x80; b = 0x80 }
 
 -- the pair that is due once more behind the slot in which a unit began
 abbrev pub repeat_of : Option Unit → Option Pair

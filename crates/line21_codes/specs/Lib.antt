@@ -1,5 +1,6 @@
 pub mod Channels
 pub mod Parity
+pub mod NullPairs
 pub mod MiscellaneousCodes
 pub mod MidRowCodes
 pub mod PreambleCodes

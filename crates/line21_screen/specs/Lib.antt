@@ -11,4 +11,3 @@ pub mod Fields
 pub mod Meaning
 pub mod Objects
 pub mod Scrolling
-pub mod NullPairs

@@ -31,7 +31,7 @@ impl Field {
     ghost use Rattle.line21_screen.specs.Fields.{channel, on_channel, after_text, after_code};
     ghost use Rattle.line21_screen.specs.Controls.{after_control, IsPossible};
     ghost use Rattle.line21_screen.specs.Meaning.{after};
-    ghost use Rattle.line21_screen.specs.NullPairs.{null_pair};
+    ghost use Rattle.line21_codes.specs.NullPairs.{null_pair};
     ghost use Rattle.line21_screen.specs.Objects.{channel_of, field_of, grid_in, Leads};
 
     /// A field that had no pair yet: its memories are empty, no mode is set, and data channel 1 is

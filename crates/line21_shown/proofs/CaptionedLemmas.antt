@@ -21,6 +21,7 @@ use Rattle.cue_lists.specs.declared.cue.Cue.{Cue}
 use Rattle.cue_lists.specs.declared.cue.Kind.{Kind}
 use Rattle.cue_lists.specs.declared.cue.Kind.TheVariants as kind
 use Rattle.line21_codes.specs.Channels.{is_in_second_field}
+use Rattle.line21_codes.specs.NullPairs.{null_pair}
 use Rattle.line21_author.specs.Channels.{cues_on, is_for_second_field, is_on}
 use Rattle.line21_slots.specs.Cadences.{cadence_of, slot_in}
 use Rattle.line21_author.specs.CueCodes.{cue_codes, opening_codes}
@@ -38,7 +39,7 @@ use Rattle.frame_scheduler.specs.LaneEvents.{event_at}
 use Rattle.frame_scheduler.specs.LaneTimeline.{lane_timeline, stands}
 use Rattle.frame_scheduler.specs.Planned.{channel_pair}
 use Rattle.frame_scheduler.specs.SlotLists.{slot_cues}
-use Rattle.frame_scheduler.specs.Timeline.{Timeline, null_pair, repeat_at, repeat_of, slot}
+use Rattle.frame_scheduler.specs.Timeline.{Timeline, repeat_at, repeat_of, slot}
 use Rattle.frame_scheduler.proofs.DoublingLemmas.{at_event, at_unit, lane_marked, lane_spaced, over_cases}
 use Rattle.frame_scheduler.proofs.EventsApartLemmas.{events_apart}
 use Rattle.frame_scheduler.proofs.ListDoublingLemmas.{channel_controls, channel_timeline}

@@ -8,12 +8,13 @@ use Rattle.line21_codes.specs.ControlPairs.{is_control}
 use Rattle.line21_codes.specs.Reading.{code_of}
 use Rattle.line21_codes.specs.Repeats.{Blocks, none, doubled, single}
 use Rattle.line21_codes.proofs.RepeatLemmas.{blocks-first, blocks-second}
+use Rattle.line21_codes.specs.NullPairs.{null_pair}
 use Rattle.line21_author.specs.declared.unit.Unit.{Unit}
 use Rattle.line21_screen.specs.Channels.{ChannelState}
 use Rattle.line21_screen.specs.Fields.{after_code}
 use Rattle.line21_screen.specs.Meaning.{after}
 use Rattle.line21_screen.proofs.MeaningLemmas.{after-none, after-acts, after-ignored}
-use Rattle.frame_scheduler.specs.Timeline.{Timeline, first_of, null_pair, repeat_at, repeat_of, slot}
+use Rattle.frame_scheduler.specs.Timeline.{Timeline, first_of, repeat_at, repeat_of, slot}
 use Rattle.frame_scheduler.proofs.ColumnLemmas.{null_plain}
 use Rattle.line21_shown.specs.Doing.{does}
 use Rattle.line21_shown.specs.Reading.{pairs_before, acts, first_alone, IsForFirst, IsCaptioned, ColumnsAreRead}

@@ -9,6 +9,7 @@ use Rattle.cc_base.specs.declared.streams.Put.TheVariants as put
 use Rattle.text_output.specs.Gathered.{Flushes, Gathers, IsGathered}
 use Rattle.words_commands.proofs.WayLemmas.{all_put, way_flushed, way_unwritten}
 use Rattle.line21_codes.specs.declared.pairs.Pair.{Pair}
+use Rattle.line21_codes.specs.NullPairs.{null_pair}
 use Rattle.frame_scheduler.specs.declared.frames.FrameBytes.{FrameBytes}
 use Rattle.frame_carrier.proofs.CarriedLemmas.{frames_carried}
 use Rattle.frame_carrier.proofs.CarryingLemmas.{quiet_bytes, quiet_roomy}
@@ -26,7 +27,7 @@ use Rattle.command_base.specs.WholeInput.{Judges, whole_limit}
 use Rattle.command_base.specs.declared.status.Status.{Status}
 use Rattle.command_base.specs.declared.status.Status.TheVariants as status
 use Rattle.scc_commands.specs.Cursors.{Passes}
-use Rattle.scc_commands.specs.Import.{IsImport, IsRefusedImport, Placed, PutsImport, PutsImportFront, import_columns, import_words, null_pair, pair_at}
+use Rattle.scc_commands.specs.Import.{IsImport, IsRefusedImport, Placed, PutsImport, PutsImportFront, import_columns, import_words, pair_at}
 use Rattle.scc_commands.specs.ImportSteps.{ArePlaced, fault_status, frame_with}
 use Rattle.scc_commands.proofs.WrittenLemmas.{gathered_failed, gathered_more}
 

@@ -6,6 +6,7 @@ use Rattle.frame_carrier.proofs.CarriedLemmas.{frames_carried}
 use Rattle.frame_carrier.proofs.CarryingLemmas.{quiet_bytes, quiet_roomy}
 use Rattle.frame_carrier.specs.Carrying.{column_packets}
 use Rattle.line21_codes.specs.declared.pairs.Pair.{Pair}
+use Rattle.line21_codes.specs.NullPairs.{null_pair}
 use Rattle.scc_files.specs.Reading.{frames_of, frames_to}
 use Rattle.scc_files.specs.SccFiles.{AreBytes, AreRising}
 use Rattle.scc_files.specs.Writing.{Standing, head_text, piece_of, stand_behind}
@@ -13,7 +14,7 @@ use Rattle.scc_files.specs.Written.{text_from, written_file}
 use Rattle.time_codes.specs.Frames.{frame_number}
 use Rattle.time_codes.specs.declared.time_code.TimeCode.{TimeCode}
 use Rattle.scc_commands.specs.Export.{at_number, export_file, exported_from, first_standing}
-use Rattle.scc_commands.specs.Import.{Placed, import_columns, import_packets, null_pair, pair_at}
+use Rattle.scc_commands.specs.Import.{Placed, import_columns, import_packets, pair_at}
 use Rattle.scc_commands.proofs.ImportLemmas.{columns_bytes, none_before, other_number}
 
 -- a pair a frame, of so many frames from one on

@@ -6,6 +6,7 @@ use Rattle.cc_base.specs.declared.limit_of.LimitOf.TheVariants as limit
 use Rattle.cc_base.specs.declared.rate.Rate.TheVariants as rate
 use Rattle.cc_base.specs.declared.streams.Put.TheVariants as put
 use Rattle.line21_codes.specs.declared.pairs.Pair.{Pair}
+use Rattle.line21_codes.specs.NullPairs.{null_pair}
 use Rattle.frame_scheduler.specs.Columns.{Columns}
 use Rattle.frame_carrier.specs.Carried.{AreCarried}
 use Rattle.frame_carrier.specs.Carrying.{column_bytes, column_packets}
@@ -22,10 +23,6 @@ use Rattle.command_base.specs.declared.status.Status.TheVariants as status
 -- pairs at their frames
 abbrev pub Placed : Type 0
 Placed = List (ℕ × Pair)
-
--- the null pair, 80 80
-abbrev pub null_pair : Pair
-null_pair = record { a = 0x80; b = 0x80 }
 
 -- the pair that stands at a frame, and the null pair where none stands there
 abbrev pub pair_at : Placed → ℕ → Pair

@@ -4,9 +4,10 @@ use Rattle.scc_files.specs.Reading.{frames_of}
 use Rattle.scc_files.specs.SccFiles.{AreRising}
 use Rattle.frame_scheduler.specs.declared.frames.FrameBytes.{FrameBytes}
 use Rattle.line21_codes.specs.declared.pairs.Pair.{Pair}
+use Rattle.line21_codes.specs.NullPairs.{null_pair}
 use Rattle.scc_files.specs.declared.fault.SccFault.{SccFault}
 use Rattle.scc_files.specs.declared.fault.SccFault.TheVariants as fault
-use Rattle.scc_commands.specs.Import.{Placed, most_frames, null_pair}
+use Rattle.scc_commands.specs.Import.{Placed, most_frames}
 use Rattle.command_base.specs.declared.status.Place.TheVariants.{Byte}
 use Rattle.command_base.specs.declared.status.Status.{Status}
 use Rattle.command_base.specs.declared.status.Status.TheVariants as status

@@ -1,7 +1,7 @@
 use Rattle.std.proofs.Common.{◌≡◌, refl, sym, ◌∙◌}
 use Rattle.line21_codes.specs.declared.codes.Code.TheVariants.{Null}
 use Rattle.line21_codes.specs.Reading.{code_of}
-use Rattle.line21_screen.specs.NullPairs.{null_pair}
+use Rattle.line21_codes.specs.NullPairs.{null_pair}
 use Rattle.line21_screen.proofs.LawLemmas.{null_does_nothing}
 use Rattle.line21_screen.proofs.field.Field.pass_null.Goals as goal
 
