@@ -1,14 +1,11 @@
 -- Frames whose pairs of line 21 do nothing: a field that has nothing to say carries null pairs (CTA-608-E).
-use Rattle.std.specs.Prelude.{◌==◌, ◌&&◌, Bool, true, false, List}
+use Rattle.std.specs.Prelude.{◌&&◌, Bool, true, false, List}
 use Rattle.std.specs.List.{list_all}
 use Rattle.line21_codes.specs.declared.pairs.Pair.{Pair}
+use Rattle.line21_codes.specs.NullPairs.{is_null}
 use Rattle.cdp_packets.specs.Packets.{Packet as Frame}
 use Rattle.cdp_packets.specs.PacketTriplets.{packet_triplets}
 use Rattle.words_files.specs.Received.{field_pairs}
-
--- a null pair: two bytes 00, each with the bit that makes the number of its ones odd
-abbrev pub is_null : Pair → Bool
-is_null pair = (pair.a == 0x80) && (pair.b == 0x80)
 
 -- the pairs of both fields are null pairs
 abbrev pub are_null : List Pair → List Pair → Bool

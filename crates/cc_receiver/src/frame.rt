@@ -7,9 +7,10 @@ ghost use Rattle.cdp_packets.specs.PacketParts.{packet_parts};
 ghost use Rattle.cdp_packets.specs.PacketTriplets.{section_triplets};
 ghost use Rattle.cdp_packets.specs.Sections.{AreSections};
 ghost use Rattle.cdp_packets.specs.WholePackets.{SaysPacket};
+ghost use Rattle.line21_codes.specs.NullPairs.{is_null};
 ghost use Rattle.words_files.specs.Received.{field_kind, field_pair, field_pairs};
 ghost use Rattle.cc_receiver.specs.Gathering.{Gathered, gather, pair_more, with_triplet};
-ghost use Rattle.cc_receiver.specs.Idle.{are_null, is_null};
+ghost use Rattle.cc_receiver.specs.Idle.{are_null};
 ghost use Rattle.cc_receiver.specs.Says.{AreOfSections};
 ghost use Rattle.cc_receiver.specs.TripletLists.{HasTriplets};
 

@@ -12,7 +12,7 @@ use Rattle.cc_base.specs.declared.streams.Put.TheVariants as put
 use Rattle.cdp_packets.specs.Packets.{Packet as Frame}
 use Rattle.text_output.specs.Gathered.{Gathers, IsGathered}
 use Rattle.line21_codes.specs.declared.pairs.Pair.{Pair}
-use Rattle.scc_files.specs.Words.{is_null}
+use Rattle.line21_codes.specs.NullPairs.{is_null}
 use Rattle.scc_files.proofs.Complete.{number_is}
 use Rattle.scc_files.specs.Writing.{Standing, StandsFirst, end_text, head_text, is_past_day, piece_of, stand_behind, standing_of}
 use Rattle.scc_files.specs.declared.writer.SccWriter.{SccWriter}

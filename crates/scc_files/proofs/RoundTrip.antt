@@ -4,13 +4,14 @@ use Rattle.std.specs.Prelude.{◌&&◌}
 use Rattle.std.proofs.lemmas.Bool.{eqb-true}
 use Rattle.std.proofs.lemmas.Grind.{common_steps}
 use Rattle.line21_codes.specs.declared.pairs.Pair.{Pair}
+use Rattle.line21_codes.specs.NullPairs.{is_null}
 use Rattle.time_codes.specs.Frames.{frame_number, frame_of, time_at}
 use Rattle.time_codes.specs.Texts.{HasTwoDigits, text_of}
 use Rattle.time_codes.specs.TimeCodes.{day_frames}
 use Rattle.scc_files.specs.Lines.{AreLines, AreWords, IsTimedLine, IsWord, TimedLine}
 use Rattle.scc_files.specs.Phases.{hex_value}
 use Rattle.scc_files.specs.SccFiles.{AreTimed, IsSccFile, one_a_frame, placed_from}
-use Rattle.scc_files.specs.Words.{hex_digit, is_null, word_of}
+use Rattle.scc_files.specs.Words.{hex_digit, word_of}
 use Rattle.scc_files.specs.Writing.{Standing, between}
 use Rattle.scc_files.specs.Written.{AreWritable, counted, counted_from, shown, text_from, written_file}
 use Rattle.scc_files.proofs.Complete.{number_is}

@@ -3,11 +3,12 @@ use Rattle.std.proofs.Common.{◌≡◌, ℕ, ◌+◌, ◌<◌, ◌≤◌, Bool,
 use Rattle.std.proofs.lemmas.Bool.{eqb-true}
 use Rattle.std.proofs.lemmas.Grind.{common_steps}
 use Rattle.line21_codes.specs.declared.pairs.Pair.{Pair}
+use Rattle.line21_codes.specs.NullPairs.{is_null}
 use Rattle.time_codes.specs.Frames.{time_at}
 use Rattle.time_codes.specs.Texts.{text_of}
 use Rattle.scc_files.specs.SccFiles.{AreRising, one_a_frame}
 use Rattle.scc_files.specs.Stretches.{AreApart, AreLongest, CallsWrite, IsWritten, IsWriting, Stretch, pairs_of, spaced, standing_first, stretch_lines}
-use Rattle.scc_files.specs.Words.{is_null, word_of}
+use Rattle.scc_files.specs.Words.{word_of}
 use Rattle.scc_files.specs.Writing.{Standing, between, head_text, piece_of, stand_behind}
 use Rattle.scc_files.specs.Written.{shown, text_from, written_file}
 use Rattle.scc_files.proofs.Rising.{rising_lower}

@@ -1,9 +1,10 @@
 -- Pieces that are put of a pair.
 use Rattle.std.proofs.Common.{◌≡◌, ℕ, ◌+◌, Bool, true, false, cond, refl, sym, ◌∙◌, ap, List, [], ◌∷◌, ◌++◌, Some, None, nat_eq}
 use Rattle.line21_codes.specs.declared.pairs.Pair.{Pair}
+use Rattle.line21_codes.specs.NullPairs.{is_null}
 use Rattle.time_codes.specs.Frames.{time_at}
 use Rattle.time_codes.specs.Texts.{text_of}
-use Rattle.scc_files.specs.Words.{is_null, word_of}
+use Rattle.scc_files.specs.Words.{word_of}
 use Rattle.scc_files.specs.Writing.{Standing, between, goes_on, piece_of}
 
 pub chosen : (null on : Bool) (a b c : List ℕ) → null ≡ false → on ≡ false → c ≡ cond null a (cond on b c)

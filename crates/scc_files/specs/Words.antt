@@ -1,5 +1,5 @@
--- The words of pairs as they are written, and the null pair.
-use Rattle.std.specs.Prelude.{ℕ, ◌+◌, ◌/◌, ◌%◌, ◌==◌, ◌&&◌, Bool, if◌then◌else◌, nat_lt, List, [], ◌∷◌}
+-- The words of pairs as they are written.
+use Rattle.std.specs.Prelude.{ℕ, ◌+◌, ◌/◌, ◌%◌, if◌then◌else◌, nat_lt, List, [], ◌∷◌}
 use Rattle.line21_codes.specs.declared.pairs.Pair.{Pair}
 
 -- the lower-case hex digit of a value below 16
@@ -9,7 +9,3 @@ hex_digit value = if nat_lt value 10 then 48 + value else 87 + value
 -- a pair's word: four lower-case hex digits
 abbrev pub word_of : Pair → List ℕ
 word_of pair = hex_digit (pair.a / 16) ∷ hex_digit (pair.a % 16) ∷ hex_digit (pair.b / 16) ∷ hex_digit (pair.b % 16) ∷ []
-
--- the null pair
-abbrev pub is_null : Pair → Bool
-is_null pair = (pair.a == 128) && (pair.b == 128)

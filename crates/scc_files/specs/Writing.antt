@@ -4,11 +4,12 @@ use Rattle.cc_base.specs.Streams.{PutCause, Puts}
 use Rattle.cc_base.specs.declared.streams.Put.{Put}
 use Rattle.cc_base.specs.declared.streams.Put.TheVariants as put
 use Rattle.line21_codes.specs.declared.pairs.Pair.{Pair}
+use Rattle.line21_codes.specs.NullPairs.{is_null}
 use Rattle.time_codes.specs.Frames.{frame_of, time_at}
 use Rattle.time_codes.specs.Texts.{text_of}
 use Rattle.time_codes.specs.TimeCodes.{day_frames}
 use Rattle.time_codes.specs.declared.time_code.TimeCode.{TimeCode}
-use Rattle.scc_files.specs.Words.{is_null, word_of}
+use Rattle.scc_files.specs.Words.{word_of}
 use Rattle.scc_files.specs.declared.writer.SccPut.{SccPut}
 use Rattle.scc_files.specs.declared.writer.SccPut.TheVariants as scc_put
 use Rattle.scc_files.specs.declared.writer.SccWriter.{SccWriter}

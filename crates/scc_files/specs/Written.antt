@@ -1,7 +1,7 @@
 -- The whole text that a writer puts of pairs, and the pairs that stand in it.
 use Rattle.std.specs.Prelude.{◌≡◌, ℕ, ◌+◌, ◌-◌, ◌<◌, ◌≤◌, Bool, false, if◌then◌else◌, List, [], ◌∷◌, ◌++◌, None, ⊤}
 use Rattle.line21_codes.specs.declared.pairs.Pair.{Pair}
-use Rattle.scc_files.specs.Words.{is_null}
+use Rattle.line21_codes.specs.NullPairs.{is_null}
 use Rattle.scc_files.specs.Writing.{Standing, end_text, head_text, is_past_day, piece_of, stand_behind}
 
 -- what is put of pairs at their frames, from where a writer stands to the end

@@ -37,7 +37,7 @@ pub struct SccWriter {
 impl SccWriter {
     ghost use Rattle.time_codes.specs.TimeCodes.{is_time_code};
     ghost use Rattle.scc_files.specs.Writing.{BeginsWriting, FinishesWriting, GivesPiece, StandsFirst, WritesPair, end_text, piece_of, standing_of};
-    ghost use Rattle.scc_files.specs.Words.{is_null};
+    ghost use Rattle.line21_codes.specs.NullPairs.{is_null};
 
     /// A writer of a file whose frame 0 has this time code, which a frame of the day must have. It puts nothing: it is for those
     /// who put `HEAD`, and then what `piece` and `ending` give, themselves.
