@@ -43,3 +43,7 @@ written t = ((if t.valid then 0xFC else 0xF8) + t.kind) ∷ t.a ∷ t.b ∷ []
 -- the bytes that triplets are written as
 abbrev pub all_written : List Triplet → List ℕ
 all_written ts = flat_map written ts
+
+-- FA 00 00, with which encoders fill a section up: it would be of a channel packet, if it counted
+abbrev pub filler : Triplet
+filler = record { valid = false; kind = 2; a = 0; b = 0 }

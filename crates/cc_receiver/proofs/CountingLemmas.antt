@@ -11,7 +11,7 @@ use Rattle.line21_codes.specs.declared.pairs.Pair.{Pair}
 use Rattle.words_files.specs.Received.{field_kind, field_pair, field_pairs}
 use Rattle.cc_receiver.specs.declared.triplets.Triplets.{Triplets}
 use Rattle.cc_receiver.specs.Counting.{HasFront, NoneCounts, with_more}
-use Rattle.cc_receiver.specs.Filling.{filler}
+use Rattle.cc_data.specs.Triplets.{filler}
 use Rattle.cc_receiver.specs.Gathering.{one_more}
 use Rattle.cc_receiver.specs.TripletLists.{HasTriplets}
 use Rattle.cc_receiver.proofs.GatheredLemmas.{more_fits}

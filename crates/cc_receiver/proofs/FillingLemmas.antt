@@ -1,8 +1,7 @@
 -- Fillers at the end of triplets: they are read of their bytes.
 use Rattle.std.proofs.Common.{◌≡◌, ℕ, zero, suc, ◌+◌, ◌*◌, ◌/◌, ◌≤◌, List, [], ◌∷◌, length, take, drop, replicate, refl, sym, ap, subst, ◌∙◌, arith}
 use Rattle.std.specs.List.{flat_map}
-use Rattle.cc_data.specs.Triplets.{triplets_of}
-use Rattle.cc_receiver.specs.Filling.{filler}
+use Rattle.cc_data.specs.Triplets.{filler, triplets_of}
 use Rattle.cc_receiver.proofs.FilledLemmas.{read_as}
 
 -- the bytes of fillers

@@ -1,5 +1,4 @@
 pub mod Receiving
-pub mod Filling
 pub mod Gathering
 pub mod Counting
 pub mod TripletLists

@@ -1,6 +1,5 @@
 ghost use Rattle.std.specs.Prelude.{◌≡◌, ◌≤◌, IfSome, replicate};
-ghost use Rattle.cc_data.specs.Triplets.{triplets_of};
-ghost use Rattle.cc_receiver.specs.Filling.{filler};
+ghost use Rattle.cc_data.specs.Triplets.{filler, triplets_of};
 
 use cc_data::Triplet;
 

@@ -11,7 +11,7 @@ use Rattle.cc_base.specs.declared.rate.Rate.{Rate}
 use Rattle.cc_base.specs.declared.rate.Rate.TheVariants as rates
 use Rattle.line21_codes.specs.declared.pairs.Pair.{Pair}
 use Rattle.cc_data.specs.declared.triplet.Triplet.{Triplet}
-use Rattle.cc_data.specs.Triplets.{all_written, written}
+use Rattle.cc_data.specs.Triplets.{all_written, filler, written}
 use Rattle.cc_data.proofs.TripletLemmas.{length-all_written}
 use Rattle.cdp_packets.specs.Packets.{IsCdp}
 use Rattle.cdp_packets.specs.PacketTriplets.{packet_triplets}
@@ -31,7 +31,7 @@ use Rattle.channel_packets.specs.Written.{bytes_written, continuing, header_for,
 use Rattle.frame_carrier.specs.Carried.{AreByteBlocks, AreBytePairs, AreRoomy, FramesAreCarried, IsBytePair, IsWithinRoom}
 use Rattle.frame_carrier.specs.CarriedBytes.{caption_flags}
 use Rattle.frame_carrier.specs.Carrying.{channel_of, channel_packet, packets_before, column_bytes, column_packets, counter_of, frame_bytes, frame_packet}
-use Rattle.frame_carrier.specs.FrameTriplets.{field_triplets, filler, frame_triplets, front_triplets, pair_triplet}
+use Rattle.frame_carrier.specs.FrameTriplets.{field_triplets, frame_triplets, front_triplets, pair_triplet}
 use Rattle.frame_carrier.proofs.CarryingLemmas.{IsKind, frame_kinds, frame_number, packet_kinds, packet_many, triplets_many}
 
 -- a byte

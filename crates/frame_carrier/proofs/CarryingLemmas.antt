@@ -7,6 +7,7 @@ use Rattle.cc_base.specs.Rate.{triplets_of}
 use Rattle.cc_base.specs.declared.rate.Rate.{Rate}
 use Rattle.cc_base.specs.declared.rate.Rate.TheVariants as rates
 use Rattle.cc_data.specs.declared.triplet.Triplet.{Triplet}
+use Rattle.cc_data.specs.Triplets.{filler}
 use Rattle.channel_packets.specs.Written.{bytes_written, continuing, header_for, packet_written, starting}
 use Rattle.frame_carrier.specs.Carrying.{IsAt, channel_of, channel_packet, packets_before, counter_of, frame_bytes, packet_count}
 use Rattle.frame_scheduler.specs.Columns.{Columns}
@@ -16,7 +17,7 @@ use Rattle.frame_carrier.specs.declared.carrier.Carrier.{Carrier}
 use Rattle.cdp_packets.specs.Sections.{IsSectionList}
 use Rattle.line21_codes.specs.declared.pairs.Pair.{Pair}
 use Rattle.frame_scheduler.specs.declared.frames.FrameBytes.{FrameBytes}
-use Rattle.frame_carrier.specs.FrameTriplets.{field_triplets, filler, frame_triplets, front_triplets, pair_triplet}
+use Rattle.frame_carrier.specs.FrameTriplets.{field_triplets, frame_triplets, front_triplets, pair_triplet}
 
 -- a rate has from ten to twenty-five triplets a frame
 pub triplets_many : (rate : Rate) → (10 ≤ triplets_of rate) × (triplets_of rate ≤ 25)

@@ -1,19 +1,16 @@
 -- The triplets of a frame (CTA-708-E, cc_data()): the pair of field 1, that of field 2, the triplets of the frame's caption
 -- channel packet, and behind them triplets that don't count up to the rate's number.
-use Rattle.std.specs.Prelude.{ℕ, ◌-◌, true, false, Option, Some, None, List, [], ◌∷◌, ◌++◌, length, replicate}
+use Rattle.std.specs.Prelude.{ℕ, ◌-◌, true, Option, Some, None, List, [], ◌∷◌, ◌++◌, length, replicate}
 use Rattle.cc_base.specs.Rate.{triplets_of}
 use Rattle.cc_base.specs.declared.rate.Rate.{Rate}
 use Rattle.line21_codes.specs.declared.pairs.Pair.{Pair}
 use Rattle.cc_data.specs.declared.triplet.Triplet.{Triplet}
+use Rattle.cc_data.specs.Triplets.{filler}
 use Rattle.frame_scheduler.specs.declared.frames.FrameBytes.{FrameBytes}
 
 -- a pair's triplet, which counts, of the kind of its field: 0 for field 1, and 1 for field 2
 abbrev pub pair_triplet : ℕ → Pair → Triplet
 pair_triplet kind pair = record { valid = true; kind = kind; a = pair.a; b = pair.b }
-
--- a triplet that doesn't count, FA 00 00 as written
-abbrev pub filler : Triplet
-filler = record { valid = false; kind = 2; a = 0; b = 0 }
 
 -- the triplet of a field, where the frame has a slot of it
 abbrev pub field_triplets : ℕ → Option Pair → List Triplet

@@ -1,6 +1,7 @@
 ghost use Rattle.std.specs.Prelude.{◌≡◌, All, ◌+◌, ◌-◌, ◌<◌, ◌≤◌, ◌++◌, [], ◌∷◌, Some, length, replicate};
 ghost use Rattle.cc_base.specs.Rate.{triplets_of};
-ghost use Rattle.frame_carrier.specs.FrameTriplets.{field_triplets, filler, frame_triplets, pair_triplet};
+ghost use Rattle.cc_data.specs.Triplets.{filler};
+ghost use Rattle.frame_carrier.specs.FrameTriplets.{field_triplets, frame_triplets, pair_triplet};
 
 use arrayvec::ArrayVec;
 use cc_base::Rate;

@@ -1,5 +1,5 @@
 use Rattle.std.proofs.Common.{◌≡◌, ◌-◌, ◌++◌, ◌≤◌, length, replicate}
-use Rattle.frame_carrier.specs.FrameTriplets.{filler}
+use Rattle.cc_data.specs.Triplets.{filler}
 use Rattle.frame_carrier.proofs.triplets.fill.Given as goal
 
 -- what is appended so far and what is to come

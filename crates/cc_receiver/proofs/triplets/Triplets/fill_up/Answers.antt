@@ -1,7 +1,7 @@
 use Rattle.std.proofs.Common.{◌+◌, ◌≤◌, ◌++◌, length, take, replicate, ap, subst, sym, ◌∙◌, arith}
 use Rattle.std.proofs.lemmas.List.{length-take, take-replicate}
 use Rattle.cc_receiver.specs.Counting.{with_more}
-use Rattle.cc_receiver.specs.Filling.{filler}
+use Rattle.cc_data.specs.Triplets.{filler}
 use Rattle.cc_receiver.specs.TripletLists.{HasTriplets}
 use Rattle.cc_receiver.proofs.CountingLemmas.{fillers_kept}
 use Rattle.cc_receiver.proofs.triplets.Triplets.fill_up.Goals as goal
