@@ -6,8 +6,9 @@ use Rattle.std.proofs.lemmas.Bool.{eqb-true}
 use Rattle.std.proofs.lemmas.Grind.{common_steps}
 use Rattle.std.proofs.lemmas.List.{length-set, length-take-le}
 use Rattle.cc_base.specs.declared.why.Why.TheVariants as why
+use Rattle.time_codes.specs.Texts.{is_digit}
 use Rattle.scc_files.specs.Offences.{EndsLine}
-use Rattle.scc_files.specs.Phases.{ended, first_text, fits, hex_value, is_blank, is_digit, moved, why_in, word_or_end}
+use Rattle.scc_files.specs.Phases.{ended, first_text, fits, hex_value, is_blank, moved, why_in, word_or_end}
 use Rattle.scc_files.specs.Reading.{Stepped, at_first, judged, reached, step}
 use Rattle.scc_files.specs.declared.phase.Phase.{Phase}
 use Rattle.scc_files.specs.declared.phase.Phase.TheVariants as phase

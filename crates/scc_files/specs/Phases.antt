@@ -3,6 +3,7 @@ use Rattle.std.specs.Prelude.{ℕ, ◌+◌, ◌-◌, ◌*◌, ◌<◌, ◌==◌,
 use Rattle.std.specs.Option.{option_map}
 use Rattle.cc_base.specs.declared.why.Why.{Why}
 use Rattle.cc_base.specs.declared.why.Why.TheVariants as why
+use Rattle.time_codes.specs.Texts.{is_digit}
 use Rattle.scc_files.specs.declared.phase.Phase.{Phase}
 use Rattle.scc_files.specs.declared.phase.Phase.TheVariants as phase
 
@@ -17,10 +18,6 @@ hex_value byte =
     else if nat_le 65 byte && nat_le byte 70 then Some (byte - 65 + 10)
     else if nat_le 97 byte && nat_le byte 102 then Some (byte - 97 + 10)
     else None
-
--- a decimal digit
-abbrev pub is_digit : ℕ → Bool
-is_digit byte = nat_le 48 byte && nat_le byte 57
 
 -- a TAB or a space
 abbrev pub is_blank : ℕ → Bool
