@@ -8,11 +8,12 @@ use Rattle.line21_codes.specs.declared.channels.Chan.{Chan}
 use Rattle.line21_codes.specs.declared.styles.Colour.{Colour}
 use Rattle.line21_codes.specs.declared.styles.Colour.TheVariants as colour
 use Rattle.line21_codes.specs.declared.styles.Style.{Style}
+use Rattle.line21_codes.specs.PenWords.{colour_word, italic_mark}
 use Rattle.cue_form.specs.Fields.{channel_field, channel_words, named, pen_field, plain_pen_field, plain_words, rate_field, rate_words}
 use Rattle.cue_types.specs.Line21Cues.{IsAuthoredChannel, IsLine21Pen}
 use Rattle.cue_types.specs.Listing.{IsListRate}
 use Rattle.cue_form.specs.Records.{Field}
-use Rattle.cue_form.specs.Spelling.{channel_word, colour_word, italic_mark, pen_word, rate_word, version_word}
+use Rattle.cue_form.specs.Spelling.{channel_word, pen_word, rate_word, version_word}
 use Rattle.cue_form.specs.Form.{kind_words, record_kind_of, version_words}
 use Rattle.cue_types.specs.Windows.{IsWindowPen}
 use Rattle.cue_types.specs.declared.cue.Pen.{Pen}

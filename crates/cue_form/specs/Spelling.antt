@@ -5,8 +5,7 @@ use Rattle.cc_base.specs.declared.rate.Rate.{Rate}
 use Rattle.cc_base.specs.declared.rate.Rate.TheVariants as rate
 use Rattle.line21_codes.specs.declared.channels.Chan.{Chan}
 use Rattle.line21_codes.specs.declared.channels.Chan.TheVariants as chan
-use Rattle.line21_codes.specs.declared.styles.Colour.{Colour}
-use Rattle.line21_codes.specs.declared.styles.Colour.TheVariants as colour
+use Rattle.line21_codes.specs.PenWords.{colour_word, italic_mark, underline_mark}
 use Rattle.dtvcc_codes.specs.declared.pens.Fill.{Fill}
 use Rattle.dtvcc_codes.specs.declared.pens.PenColors.{PenColors}
 use Rattle.dtvcc_codes.specs.declared.pens.Rgb.{Rgb}
@@ -38,23 +37,6 @@ abbrev pub channel_word : Chan → Field
 channel_word chan.Cc1 = codes "CC1"
 channel_word chan.Cc3 = codes "CC3"
 channel_word _ = []
-
--- the word of a colour
-abbrev pub colour_word : Colour → Field
-colour_word colour.White = codes "white"
-colour_word colour.Green = codes "green"
-colour_word colour.Blue = codes "blue"
-colour_word colour.Cyan = codes "cyan"
-colour_word colour.Red = codes "red"
-colour_word colour.Yellow = codes "yellow"
-colour_word colour.Magenta = codes "magenta"
-
--- what a pen's word has for italics, and for underlining
-abbrev pub italic_mark : Bool → Field
-italic_mark italic = if italic then codes "-i" else []
-
-abbrev pub underline_mark : Bool → Field
-underline_mark underline = if underline then codes "-u" else []
 
 -- the word of a pen
 abbrev pub pen_word : Pen → Field

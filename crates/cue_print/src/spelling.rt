@@ -2,8 +2,9 @@
 
 ghost use Rattle.std.specs.Prelude.{◌≡◌, [], ◌∷◌, ◌++◌, decimal, encode_utf8_all, IfOk, OnOk, Some};
 ghost use Rattle.std.specs.String.{string_bytes};
+ghost use Rattle.line21_codes.specs.PenWords.{colour_word, italic_mark, underline_mark};
 ghost use Rattle.csv.specs.Records.{fields_of};
-ghost use Rattle.cue_form.specs.Spelling.{attribute_record, channel_word, colour_record, colour_word, cue_record, fill_word, head_record, hide_word, italic_mark, pen_word, rate_word, rgb_word, run_record, share_record, underline_mark, version_word, wrap_number};
+ghost use Rattle.cue_form.specs.Spelling.{attribute_record, channel_word, colour_record, cue_record, fill_word, head_record, hide_word, pen_word, rate_word, rgb_word, run_record, share_record, version_word, wrap_number};
 ghost use Rattle.cue_types.specs.declared.cue.Kind.TheVariants as kind;
 ghost use Rattle.cue_types.specs.declared.head.Head.{Head};
 

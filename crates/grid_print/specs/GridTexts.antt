@@ -4,10 +4,9 @@ use Rattle.std.specs.List.{flat_map, list_any, range_with_len}
 use Rattle.cc_base.specs.Texts.{text}
 use Rattle.line21_codes.specs.declared.channels.Chan.{Chan}
 use Rattle.line21_codes.specs.declared.channels.Chan.TheVariants.{Cc1, Cc2, Cc3, Cc4}
-use Rattle.line21_codes.specs.declared.styles.Colour.{Colour}
-use Rattle.line21_codes.specs.declared.styles.Colour.TheVariants.{White, Green, Blue, Cyan, Red, Yellow, Magenta}
 use Rattle.line21_codes.specs.declared.styles.Cell.{Cell}
 use Rattle.line21_codes.specs.declared.styles.Style.{Style}
+use Rattle.line21_codes.specs.PenWords.{colour_word, italic_mark, underline_mark}
 use Rattle.line21_screen.specs.Differences.{differs}
 use Rattle.line21_screen.specs.Grid.{Grid}
 use Rattle.dtvcc_windows.specs.Showing.{ShownWindow}
@@ -24,26 +23,9 @@ chan_name Cc2 = codes "CC2"
 chan_name Cc3 = codes "CC3"
 chan_name Cc4 = codes "CC4"
 
--- the name of a colour
-abbrev pub colour_name : Colour → List ℕ
-colour_name White = codes "white"
-colour_name Green = codes "green"
-colour_name Blue = codes "blue"
-colour_name Cyan = codes "cyan"
-colour_name Red = codes "red"
-colour_name Yellow = codes "yellow"
-colour_name Magenta = codes "magenta"
-
--- what an italic pen has behind its colour, and what an underlined pen has behind that
-abbrev pub italic_mark : Bool → List ℕ
-italic_mark italic = if italic then codes "-i" else []
-
-abbrev pub underline_mark : Bool → List ℕ
-underline_mark underline = if underline then codes "-u" else []
-
 -- a pen
 abbrev pub pen_text : Style → List ℕ
-pen_text style = text (colour_name style.colour ∷ italic_mark style.italic ∷ underline_mark style.underline ∷ [])
+pen_text style = text (colour_word style.colour ∷ italic_mark style.italic ∷ underline_mark style.underline ∷ [])
 
 -- the line of a run: its row, its column, its pen, and its characters in UTF-8
 unfoldable pub run_line : Run Cell → List ℕ

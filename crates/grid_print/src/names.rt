@@ -1,5 +1,6 @@
 ghost use Rattle.std.specs.Prelude.{◌≡◌};
-ghost use Rattle.grid_print.specs.GridTexts.{chan_name, colour_name, italic_mark, underline_mark};
+ghost use Rattle.line21_codes.specs.PenWords.{colour_word, italic_mark, underline_mark};
+ghost use Rattle.grid_print.specs.GridTexts.{chan_name};
 
 use line21_codes::{Chan, Colour};
 
@@ -17,7 +18,7 @@ pub(crate) fn chan_name(chan: Chan) -> &'static [u8]
 
 /// A colour's name.
 pub(crate) fn colour_name(colour: Colour) -> &'static [u8]
-    ensures { result.now ≡ colour_name colour }
+    ensures { result.now ≡ colour_word colour }
 {
     match colour {
         Colour::White => b"white",

@@ -16,3 +16,4 @@ pub mod Writable
 pub mod Spellings
 pub mod Repeats
 pub mod SameStyles
+pub mod PenWords
