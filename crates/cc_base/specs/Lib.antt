@@ -9,3 +9,4 @@ pub mod Streams
 pub mod Syntax
 pub mod Texts
 pub mod Why
+pub mod Options

@@ -6,6 +6,7 @@ use Rattle.dtvcc_codes.specs.CharacterSpellings.{spelling_of as dtv_spelling_of}
 use Rattle.std.specs.List.{list_any}
 use Rattle.std.proofs.lemmas.Fmt.{decimal_digit}
 use Rattle.std.proofs.lemmas.List.Elements.{All-nil}
+use Rattle.cc_base.specs.Options.{passes}
 use Rattle.dtvcc_codes.specs.Spellable.{IsFill, IsPenColors, IsRgb}
 use Rattle.dtvcc_codes.specs.declared.pens.Fill.{Fill}
 use Rattle.dtvcc_codes.specs.declared.pens.PenColors.{PenColors}
@@ -21,7 +22,7 @@ use Rattle.cue_types.specs.Shares.{IsShare, shares_taken}
 use Rattle.cue_types.specs.Windows.{AreWindowAttributes, IsWindow, IsWindowRun}
 use Rattle.cue_form.specs.Fields.{channel_field, fill_field, frame_field, is_two_bits, named, number_field, number_within, pen_field, rate_field, rgb_field}
 use Rattle.cue_form.specs.Form.{columns_of, first_row, frame_or_none_field, is_coded, last_row, run_pen_field, suits_row, version_words}
-use Rattle.cue_form.specs.Judgements.{attribute_judgements, colour_judgements, head_judgements, passes, rolled_judgements, run_judgements, share_judgements, shown_judgements, window_judgements}
+use Rattle.cue_form.specs.Judgements.{attribute_judgements, colour_judgements, head_judgements, rolled_judgements, run_judgements, share_judgements, shown_judgements, window_judgements}
 use Rattle.cue_form.specs.Reading.{attributes_of, channel, colours_of, cue_of, fill, head_of, number, rgb, rolled_cue_of, run_of, share_record_of, shown_cue_of, window_cue_of}
 use Rattle.cue_form.specs.Records.{Field, Record, field}
 use Rattle.cue_form.specs.Spelling.{attribute_record, channel_word, colour_record, cue_record, fill_word, head_record, hide_word, pen_word, rgb_word, run_record, share_record, wrap_number}

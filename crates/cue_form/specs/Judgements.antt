@@ -7,6 +7,7 @@ use Rattle.cc_base.specs.declared.limit_of.LimitOf.{LimitOf}
 use Rattle.cc_base.specs.declared.limit_of.LimitOf.TheVariants as limit
 use Rattle.cc_base.specs.declared.why.Why.{Why}
 use Rattle.cc_base.specs.declared.why.Why.TheVariants as why
+use Rattle.cc_base.specs.Options.{passes}
 use Rattle.cue_form.specs.Begun.{Begun, cues_of}
 use Rattle.cue_form.specs.Fields.{channel_field, fill_field, frame_field, named, number_field, number_within, rate_field, rgb_field}
 use Rattle.cue_form.specs.Form.{columns_of, count_place, first_row, frame_or_none_field, is_coded, last_row, may_stand, record_kind_of, run_pen_field, suits_row, version_words}
@@ -39,11 +40,6 @@ bound good which = record { good = good; offence = offence.Limit which }
 -- of the number of fields: too few offend one past the last, too many one past the last that belongs
 abbrev pub count_judgement : Record → ℕ → Judgement
 count_judgement r count = judge (length r == count) (count_place count (length r)) why.Field
-
--- a value that is there passes a test
-abbrev pub passes : {A : Type 0} → (A → Bool) → Option A → Bool
-passes test (Some value) = test value
-passes test None = false
 
 -- a number in its range, at a place counted from 0
 abbrev pub within : Record → ℕ → ℕ → ℕ → Judgement

@@ -9,13 +9,14 @@ use Rattle.std.proofs.lemmas.List.{drop_all, drop_more, get_or-set_other, get_or
 use Rattle.std.proofs.lemmas.List.Folds.{list_any-append, list_any_at}
 use Rattle.std.proofs.lemmas.List.Concat.{flat_map-append}
 use Rattle.cc_base.specs.declared.rate.Rate.{Rate}
+use Rattle.cc_base.specs.Options.{passes}
 use Rattle.dtvcc_codes.specs.declared.commands.Command.{Command}
 use Rattle.dtvcc_codes.specs.declared.commands.Command.TheVariants.{Dlw, Dsw}
 use Rattle.dtvcc_codes.specs.Writing.{written}
 use Rattle.dtvcc_author.specs.EventBytes.{command_bytes, delay_bytes, events_bytes}
 use Rattle.dtvcc_author.specs.FrameEvents.{delay_commands, delayed_at, event_bytes, has_event_at, is_delayed_at, is_hidden_at, is_shown_at, names, windows_byte, windows_command}
 use Rattle.dtvcc_author.specs.Kept.{AreKept, Follows, IsSoundCaption}
-use Rattle.dtvcc_author.specs.Latest.{AreEventsOf, IsAt, caption_in, delay_of, latest_behind, latest_of, passes}
+use Rattle.dtvcc_author.specs.Latest.{AreEventsOf, IsAt, caption_in, delay_of, latest_behind, latest_of}
 use Rattle.dtvcc_author.specs.declared.caption.Caption.{Caption}
 use Rattle.dtvcc_author.specs.declared.frame_events.Delay.{Delay}
 use Rattle.dtvcc_author.specs.declared.frame_events.FrameEvents.{FrameEvents}

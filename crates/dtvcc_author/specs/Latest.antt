@@ -1,5 +1,5 @@
 -- In each window of a service the caption that was loaded last before a frame, and the events of the frame by that.
-use Rattle.std.specs.Prelude.{◌≡◌, ℕ, ◌<◌, ◌≤◌, ◌==◌, Bool, false, if◌then◌else◌, List, [], ◌∷◌, Option, Some, None, length, option_map, take, drop, slice_index_or}
+use Rattle.std.specs.Prelude.{◌≡◌, ℕ, ◌<◌, ◌≤◌, ◌==◌, if◌then◌else◌, List, [], ◌∷◌, Option, Some, None, length, option_map, take, drop, slice_index_or}
 use Rattle.std.specs.List.{AllByRecursion}
 use Rattle.dtvcc_author.specs.FrameEvents.{delayed_at, is_hidden_at, is_shown_at, names, windows_byte}
 use Rattle.dtvcc_author.specs.declared.caption.Caption.{Caption}
@@ -15,11 +15,6 @@ latest_behind before (c ∷ cs) id = latest_behind (if c.id == id then Some c el
 -- the last of the captions in the window
 abbrev pub latest_of : List Caption → ℕ → Option Caption
 latest_of cs id = latest_behind None cs id
-
--- the test holds of the caption that is there
-abbrev pub passes : (Caption → Bool) → Option Caption → Bool
-passes test None = false
-passes test (Some c) = test c
 
 -- the caption of a window
 abbrev pub caption_in : Latest → ℕ → Option Caption

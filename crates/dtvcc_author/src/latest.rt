@@ -1,7 +1,7 @@
 ghost use Rattle.std.specs.Prelude.{◌≡◌, ℕ, ◌≤◌, ◌<◌, ◌==◌, Bool, true, false, List, Option, Some, None, IfSome, IfNone};
 ghost use Rattle.std.specs.List.{list_any};
 ghost use Rattle.cc_base.specs.declared.rate.Rate.{Rate};
-ghost use Rattle.dtvcc_author.specs.Latest.{passes};
+ghost use Rattle.cc_base.specs.Options.{passes};
 ghost use Rattle.dtvcc_author.specs.FrameEvents.{has_event_at, is_delayed_at, is_hidden_at, is_shown_at, windows_byte as byte_of};
 
 use crate::caption::Caption;

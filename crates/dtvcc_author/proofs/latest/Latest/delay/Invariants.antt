@@ -1,6 +1,7 @@
 use Rattle.std.proofs.Common.{◌≡◌, ℕ, ◌<◌, false}
+use Rattle.cc_base.specs.Options.{passes}
 use Rattle.dtvcc_author.specs.FrameEvents.{is_delayed_at}
-use Rattle.dtvcc_author.specs.Latest.{caption_in, passes}
+use Rattle.dtvcc_author.specs.Latest.{caption_in}
 use Rattle.dtvcc_author.proofs.latest.Latest.delay.Given as goal
 
 abbrev pub invariant-loop-window : goal.invariant-loop-window

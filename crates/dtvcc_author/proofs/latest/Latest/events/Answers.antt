@@ -1,6 +1,7 @@
 use Rattle.std.proofs.Common.{◌∙◌, rules, sym}
+use Rattle.cc_base.specs.Options.{passes}
 use Rattle.dtvcc_author.specs.FrameEvents.{is_hidden_at, is_shown_at, names}
-use Rattle.dtvcc_author.specs.Latest.{caption_in, passes}
+use Rattle.dtvcc_author.specs.Latest.{caption_in}
 use Rattle.dtvcc_author.proofs.LatestLemmas.{byte_same, delay_is, hidden_named, quiet_events, shown_named}
 use Rattle.dtvcc_author.proofs.latest.Latest.events.Goals as goal
 

@@ -1,0 +1,7 @@
+-- What holds of values that may not be there.
+use Rattle.std.specs.Prelude.{Bool, false, Option, Some, None}
+
+-- a value that is there passes a test
+abbrev pub passes : {A : Type 0} → (A → Bool) → Option A → Bool
+passes test None = false
+passes test (Some value) = test value
