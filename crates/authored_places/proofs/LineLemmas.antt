@@ -82,20 +82,6 @@ chain_goes_on cue former earlier before (suc places) are on some =
     (ap (λ (cs : List Cue). slice_get (chain_of cue cs) (suc places)) are
     ∙ ap (λ b. slice_get (if b then chain_of former before else []) places) on)
 
--- where the newest cue isn't hidden in a frame, it shows what it showed in the frame before
-hide_stays : (hide : Option ℕ) (former frame : ℕ) → frame ≡ former + 1 → (hide ≡ Some frame → ⊥) → is_past hide frame ≡ is_past hide former
-hide_stays None former frame next not = refl
-hide_stays (Some hide) former frame next not =
-    let other : hide ≡ frame → ⊥ = λ e. not (ap Some e) in
-    grind arith
-
-pub shown_stays : (former frame : ℕ) (cues : List Cue) (cue : Cue) (earlier : List Cue) → cues ≡ cue ∷ earlier → frame ≡ former + 1
-    → (cue.hide ≡ Some frame → ⊥) → shown_of_newest frame cues ≡ shown_of_newest former cues
-shown_stays former frame cues cue earlier are next not =
-    ap (shown_of_newest frame) are
-    ∙ ap (λ b. if b then blank else shown_from cue.kind cue earlier) (hide_stays cue.hide former frame next not)
-    ∙ sym (ap (shown_of_newest former) are)
-
 -- a number below that of cues is the number of one
 pub cue_is : (cues : List Cue) (number : ℕ) → number < length cues → (cue : Cue) × (slice_get cues number ≡ Some cue)
 cue_is [] number within = absurd (omega arith)

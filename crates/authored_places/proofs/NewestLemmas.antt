@@ -33,8 +33,3 @@ pub newest_on : (channel : Chan) (cues : List Cue) (n : ℕ) (cue : Cue) → sli
     → newest channel cues (n + 1) ≡ cue ∷ newest channel cues n
 newest_on channel cues n cue is on =
     newest_more channel cues n cue is ∙ ap (λ b. cond b (cue ∷ newest channel cues n) (newest channel cues n)) on
-
-pub newest_off : (channel : Chan) (cues : List Cue) (n : ℕ) (cue : Cue) → slice_get cues n ≡ Some cue → is_on channel cue.kind ≡ false
-    → newest channel cues (n + 1) ≡ newest channel cues n
-newest_off channel cues n cue is off =
-    newest_more channel cues n cue is ∙ ap (λ b. cond b (cue ∷ newest channel cues n) (newest channel cues n)) off

@@ -73,13 +73,6 @@ pub first_of_last : (list : Listing) (earlier : List Frame) (last : Frame) (fram
 first_of_last list earlier last frame found clean first is =
     record { earlier = earlier; last = last; later = []; split = refl; frame_is = is; clean = clean; first = first }
 
--- whether the counter goes on
-pub no_jump_first : (earlier : List Frame) (last : Frame) (counter : Option ℕ) → IsLastCounter earlier counter → counter ≡ None
-    → (expected seen : ℕ) → Jumps earlier last expected seen → ⊥
-no_jump_first earlier last counter was none expected seen jump =
-    let empty : earlier ≡ [] = subst (IsLastCounter earlier) none was in
-    no_end jump.before jump.former [] (sym empty ∙ jump.came)
-
 pub goes_on : (earlier : List Frame) (last : Frame) (counter : Option ℕ) (k : ℕ) → IsLastCounter earlier counter → counter ≡ Some k
     → last.counter ≡ (k + 1) % 65536 → (expected seen : ℕ) → Jumps earlier last expected seen → ⊥
 goes_on earlier last counter k was some next expected seen jump =

@@ -18,11 +18,6 @@ good_of [] value read e = (tt, let same : value ≡ read = cc in same)
 good_of (j ∷ js) value read e =
     on_test _ j.good (λ f. let q = rw f at e in cc) (λ t. let more = good_of js value read (rw t at e) in ((t, more.0), more.1))
 
--- and where all are good it is read
-pub good_read : {A : Type 0} (js : List Judgement) (value : A) → AllGood js → judged js value ≡ Ok value
-good_read [] value good = refl
-good_read (j ∷ js) value good = rw (good.0) (good_read js value good.1)
-
 -- the offence of a record that was refused
 abbrev pub offence_of : {A : Type 0} → Result A Offence → Option Offence
 offence_of (Ok value) = None

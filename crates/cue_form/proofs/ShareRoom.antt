@@ -13,11 +13,3 @@ taken_more shares i share within is =
     let more = sum_by_more (λ (s : Share). s.bytes + 1) shares i share within in
     let same = ap (λ (s : Share). s.bytes + 1) is in
     omega (arith, more, same)
-
--- where one of them doesn't fit, all don't
-pub all_crowded : (shares : List Share) (i : ℕ) (share : Share) (left own room : ℕ) → i < length shares → share ≡ get_or shares i share
-    → left + shares_taken (take i shares) + own ≡ room → left < share.bytes + 1 → nat_le (shares_taken shares + own) room ≡ false
-all_crowded shares i share left own room within is kept crowded =
-    let more = taken_more shares i share within is in
-    let whole = sum_by-take-drop (λ (s : Share). s.bytes + 1) shares (i + 1) in
-    elim (leb_tells (shares_taken shares + own) room) [ inl t ↦ absurd (let low = t.1 in omega (arith, more, whole, kept, crowded, low)) | inr t ↦ t.0 ]

@@ -186,11 +186,6 @@ both_in service id (kind.Win a) (kind.Win b) is at =
     second_of true b is = is
     second_of false b is = cc
 
--- what a window cue's HIDE is
-with_hide : (P : ℕ → Type 0) (o : Option ℕ) → IsSome o → ((hide : ℕ) → o ≡ Some hide → P hide) → IfSome o P
-with_hide P None some each = tt
-with_hide P (Some hide) some each = each hide refl
-
 hide_at : (Q : Type 0) (o : Option ℕ) → IsSome o → ((hide : ℕ) → o ≡ Some hide → Q) → Q
 hide_at Q None some each = cc
 hide_at Q (Some hide) some each = each hide refl

@@ -129,9 +129,6 @@ not_le a b fails = elim (leb_tells a b) [ inl t ↦ cc | inr t ↦ t.1 ]
 pub not_lt : (a b : ℕ) → nat_lt a b ≡ false → b ≤ a
 not_lt a b fails = elim (leb_tells (suc a) b) [ inl t ↦ cc | inr t ↦ omega (arith, t.1) ]
 
-pub not_eq : (a b : ℕ) → (a == b) ≡ false → a ≢ b
-not_eq a b fails = elim (eqb_tells a b) [ inl t ↦ cc | inr t ↦ t.1 ]
-
 -- what holds of a cue that keeps the rules, behind these cues
 module _ (list : Listing) (earlier : List Cue) (cue : Cue) (keeps : KeepsRules list earlier cue) where
   -- LOAD is below SHOW
@@ -217,14 +214,3 @@ module _ (list : Listing) (earlier : List Cue) (cue : Cue) (keeps : KeepsRules l
       let unhidden' : is_none cue.hide ≡ true = rw none refl in
       not_le list.frames cue.show (second_fails (is_line21 cue.kind && is_none cue.hide) (nat_le list.frames cue.show)
       keeps.past_end.1.0 (rw (line21, unhidden') refl))
-
--- the former cue is the newest one of the lane
-pub former_is_head : (test : Cue → Bool) (earlier : List Cue) → nearest test earlier ≡ slice_get (filter test earlier) 0
-former_is_head test [] = refl
-former_is_head test (cue ∷ earlier) = by_test (test cue) (former_is_head test earlier)
-  where
-    by_test : (b : Bool) → nearest test earlier ≡ slice_get (filter test earlier) 0
-        → (if b then Some cue else nearest test earlier)
-        ≡ slice_get (if b then cue ∷ filter test earlier else filter test earlier) 0
-    by_test true older = refl
-    by_test false older = older

@@ -79,13 +79,6 @@ g2_rows : all_below (is_row_of extended_codes 4 0x20 0x7F) 256 ≡ true
 unfolding all_below is_row_of index_at
 g2_rows = refl
 
--- what a single code says
-base_says : (code n from to : ℕ) (row : Row) (parameters : List ℕ) (command : Command) → all_below (is_row_of base_codes n from to) 256 ≡ true → to < 256
-    → from ≤ code → code ≤ to → row_numbered base_codes n ≡ Some row → length parameters ≡ row.count → row.says code parameters ≡ command
-    → Spells command (code ∷ parameters)
-base_says code n from to row parameters command all small above below is count says =
-    base code parameters row refl (row_in_range base_codes n from to all small code above below ∙ is) count (sym says)
-
 -- bytes
 byte_list : (byte : ℕ) (bytes : List ℕ) → byte < 256 → All IsByte bytes → All IsByte (byte ∷ bytes)
 byte_list byte bytes is are = All-cons IsByte byte bytes is are

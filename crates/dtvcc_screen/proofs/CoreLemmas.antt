@@ -140,18 +140,6 @@ front_rest bytes k byte command within is says =
     (sym (front_next bytes k byte within is ∙ closed (front bytes k) byte command (sym says)))
     ∙ sym (front_split [] bytes (k + 1))
 
--- at the end nothing is left
-drop_end : (bytes : List ℕ) (k : ℕ) → length bytes ≤ k → drop k bytes ≡ []
-drop_end [] zero past = refl
-drop_end [] (suc k) past = refl
-drop_end (x ∷ xs) zero past = absurd (omega arith)
-drop_end (x ∷ xs) (suc k) past = drop_end xs k (omega arith)
-
-pub rest_ended : (bytes : List ℕ) (k : ℕ) (clock : Clock) (open_bytes : List ℕ) (screen : ScreenState) → length bytes ≤ k
-    → rest_acted bytes k clock open_bytes screen ≡ acting_on open_bytes screen
-rest_ended bytes k clock open_bytes screen past =
-    ap (λ (left : List ℕ). all_acted (completions (front bytes k) left) clock (acting_on open_bytes screen)) (drop_end bytes k past)
-
 -- what acts leaves the unfinished command as it is
 go_on-open : (until : Option ℕ) (rest : List (Option Command)) (core all : CoreState) (open_bytes : List ℕ) → core.open_bytes ≡ open_bytes
     → all.open_bytes ≡ open_bytes → (go_on until rest core all).open_bytes ≡ open_bytes
@@ -194,22 +182,6 @@ pub arrived_held : (said : Option Command) (clock : Clock) (core : CoreState) (e
     → is_cancel said ≡ false → arrived said clock core ≡ held_more said clock core
 arrived_held said clock core end is in_delay cancel =
     arrived_on said clock core (Some end) is in_delay ∙ ap (λ (b : Bool). if b then released clock core else held_more said clock core) cancel
-
--- how far the buffer is filled
-pub fill_reset : (until : Option ℕ) (said : Option Command) (held : List (Option Command)) → is_reset said ≡ true → fill_in until said held ≡ 0
-fill_reset None said held is = refl
-fill_reset (Some end) said held is =
-    ap (λ (b : Bool). if b then 0 else if is_cancel said then 0 else length held + 1) is
-
-pub fill_now : (until : Option ℕ) (said : Option Command) (held : List (Option Command)) → until ≡ None → fill_in until said held ≡ 0
-fill_now until said held none = ap (λ (u : Option ℕ). fill_in u said held) none
-
-pub fill_cancel : (until : Option ℕ) (said : Option Command) (held : List (Option Command)) → is_reset said ≡ false → is_cancel said ≡ true
-    → fill_in until said held ≡ 0
-fill_cancel None said held is cancel = refl
-fill_cancel (Some end) said held is cancel =
-    ap (λ (b : Bool). if b then 0 else if is_cancel said then 0 else length held + 1) is
-    ∙ ap (λ (b : Bool). if b then 0 else length held + 1) cancel
 
 pub fill_held : (until : Option ℕ) (end : ℕ) (said : Option Command) (held : List (Option Command)) → until ≡ Some end → is_reset said ≡ false
     → is_cancel said ≡ false → fill_in until said held ≡ length held + 1

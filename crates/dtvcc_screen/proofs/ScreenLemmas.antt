@@ -28,8 +28,6 @@ pub window_past : (windows : List Window) (id : ℕ) → length windows ≤ id �
 unfolding windows_of
 window_past windows id past = ap window_at (slice_get_past windows id past)
 
--- what a place has
-pub window_got : (windows : List Window) (id : ℕ) (got : Option Window) → slice_get windows id ≡ got → windows_of windows id ≡ window_at got
 unfolding windows_of
 window_got windows id got is = ap window_at is
 
@@ -82,9 +80,6 @@ windows_empty = refl
 -- the windows below an id are the new ones, the others still the old
 abbrev pub upto : ℕ → Windows → Windows → Windows
 upto n new old i = if nat_lt i n then new i else old i
-
-pub upto_none : (new old : Windows) → upto 0 new old ≡ old
-upto_none new old = fun_ext (λ i. grind (arith, nat_tests))
 
 -- the next window is the new one
 upto_more : (id : ℕ) (new old : Windows) → with_window id (new id) (upto id new old) ≡ upto (id + 1) new old

@@ -46,32 +46,9 @@ released_stands state clock bytes screen now held along same keeps are carries =
       are_bytes = subst (λ (open_bytes : List ℕ). All IsByte open_bytes) stays are;
     }
 
--- a frame begins
-pub due_some : (until : Option ℕ) (now : ℕ) → is_due until now ≡ true → until ≡ Some now
-due_some None now is = cc
-due_some (Some end) now is = ap (λ (n : ℕ). Some n) (same end now is) where
-  same : (end now : ℕ) → (end == now) ≡ true → end ≡ now
-  same end now is = grind (arith, nat_tests)
-
-pub tick_due : (state : CoreState) (clock : Clock) (now : Core) → is_due state.until clock.ticks ≡ true → Stands (released clock state) now
-    → Stands (after_tick clock state) now
-tick_due state clock now due stands =
-    subst (λ (b : Bool). Stands (if b then released clock state else state) now) (sym due) stands
-
-pub tick_early : (state : CoreState) (clock : Clock) (now : Core) → is_due state.until clock.ticks ≡ false → Stands state now
-    → Stands (after_tick clock state) now
-tick_early state clock now due stands =
-    subst (λ (b : Bool). Stands (if b then released clock state else state) now) (sym due) stands
-
 -- the state with one more byte of the unfinished command
 abbrev pub opened : ℕ → CoreState → CoreState
 opened byte state = record state { open_bytes = open_after state.open_bytes byte }
-
--- Reset
-pub reset_stands : (state clean : CoreState) (byte : ℕ) (clock : Clock) (said : Option Command) (now : Core) → said ≡ completed state.open_bytes byte
-    → arrived said clock (opened byte state) ≡ clean → Stands clean now → Stands (after_byte byte clock state) now
-reset_stands state clean byte clock said now says is stands =
-    subst (λ (s : CoreState). Stands s now) (sym (by_byte state byte clock said says ∙ is)) stands
 
 -- outside of a delay
 pub acts_stands : (state : CoreState) (byte : ℕ) (clock : Clock) (said : Option Command) (command : Command) (was now : Core) → Stands state was

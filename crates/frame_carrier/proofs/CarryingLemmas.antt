@@ -126,11 +126,6 @@ pub one_packet : (blocks : List ℕ) → 1 ≤ length blocks → packet_count bl
 one_packet [] some = absurd (omega arith)
 one_packet (byte ∷ blocks) some = refl
 
--- what has no triplets is a packet of no blocks
-pub none_packet : (count : ℕ) (blocks : List ℕ) → channel_packet count blocks ≡ [] → (packet_count blocks ≡ 0)
-none_packet count [] none = refl
-none_packet count (byte ∷ blocks) none = cc
-
 -- what is carried of a frame, by the carrier's rate and counter
 pub words_are : (rate : Rate) (number count : ℕ) (carrier : Carrier) (frame : FrameBytes) (own : Rate) (counter : ℕ) (packet : List Triplet) (words : List ℕ)
     → IsAt rate number count carrier → own ≡ carrier.rate → counter ≡ carrier.counter → packet ≡ channel_packet count frame.blocks.items

@@ -30,10 +30,6 @@ pub column_is : (t : Timeline) (ps : List Pair) → ((k : ℕ) → k < length ps
 column_is t ps h = ext_get_or null_pair ps (column t (length ps)) (sym (column_length t (length ps)))
     (λ k i. h k i ∙ sym (column_at t (length ps) k null_pair i))
 
--- a column with one more slot
-pub column_more : (t : Timeline) (n : ℕ) → column t (n + 1) ≡ column t n ++ slot t n ∷ []
-column_more t n = let e : n + 1 ≡ suc n = omega arith in rw e refl
-
 -- the front of a column is a column
 pub column_take : (t : Timeline) (n k : ℕ) → k ≤ n → take k (column t n) ≡ column t k
 column_take t zero k h = let e : k ≡ 0 = omega arith in rw e refl

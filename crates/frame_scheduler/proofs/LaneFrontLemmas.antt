@@ -51,12 +51,3 @@ pub apart_drop : (k : ℕ) (events : List Event) → AreApart events → AreApar
 apart_drop zero events a = a
 apart_drop (suc k) [] a = a
 apart_drop (suc k) (e ∷ events) a = apart_drop k events a.1
-
--- one more event behind the others
-pub apart_push : (es : List Event) (e : Event) → AreApart es → AreOver e.slot es → AreApart (es ++ e ∷ [])
-apart_push [] e apart passed = (tt, tt)
-apart_push (d ∷ es) e apart passed = (from_push es apart.0, apart_push es e apart.1 passed.1)
-  where
-    from_push : (ds : List Event) → AreFrom (d.slot + 2) ds → AreFrom (d.slot + 2) (ds ++ e ∷ [])
-    from_push [] a = (passed.0, tt)
-    from_push (f ∷ ds) a = (a.0, from_push ds a.1)

@@ -343,14 +343,3 @@ module _ (l : Listing) (formed : IsFormed l) (ruled : IsRuled l) where
         },
         left,
       )
-
--- a list without windows has no blocks
-pub windowless_blocks : (l : Listing) (placed : Placement) (frame : ℕ) → list_any (λ (cue : Cue). is_win cue.kind) l.cues ≡ false → frame_blocks l placed frame ≡ []
-windowless_blocks l placed frame none =
-    rw (each 1, each 2, each 3, each 4, each 5, each 6) refl
-  where
-    each : (service : ℕ) → service_block service (service_bytes l service (placed (Service service)) frame) ≡ []
-    each service =
-        let sent = none_of_line21 l.rate service l.cues none in
-        ap (λ cs. service_block service (bytes_in cs (zip (chunks_in l service) (placed (Service service))) frame)) sent.0
-        ∙ ap (λ us. service_block service (bytes_in [] (zip us (placed (Service service))) frame)) sent.1

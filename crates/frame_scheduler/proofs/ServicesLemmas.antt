@@ -27,10 +27,6 @@ use Rattle.frame_scheduler.specs.ServicePlans.{AreServices, AreServicesPlanned, 
 use Rattle.frame_scheduler.proofs.LaneSetLemmas.{IsRoomy, fault_of_both, fault_of_p, fault_of_q}
 use Rattle.frame_scheduler.proofs.LanesLemmas.{IsOnly, service_fault, service_room}
 
--- a planned lane has its units in their earliest placement
-pub planned_placed : (l : Listing) (service : ℕ) (planned : PlannedService) → IsServicePlanned l service planned → IsLanePlaced l (Service service) planned.frames
-planned_placed l service planned is = is.earliest
-
 pub planned_roomy : (l : Listing) (service : ℕ) (planned : PlannedService) → IsServicePlanned l service planned → IsRoomy l (Service service)
 planned_roomy l service planned is cue = service_room service l planned.frames is.earliest.placed cue
 

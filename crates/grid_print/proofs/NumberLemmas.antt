@@ -33,11 +33,6 @@ any_same f g a (suc n) same =
     ap (λ b. b || list_any f (range_with_len (a + 1) n)) (same a (omega arith) (omega arith))
     ∙ ap (λ b. g a || b) (any_same f g (a + 1) n (λ k from to. same k (omega arith) (omega arith)))
 
--- nothing of each, and none of each
-pub texts_none : {X : Type 0} (a n : ℕ) → flat_map {X = ℕ} {A = X} (λ k. []) (range_with_len a n) ≡ []
-texts_none a zero = refl
-texts_none a (suc n) = texts_none (a + 1) n
-
 pub any_none : (a n : ℕ) → list_any (λ (k : ℕ). false) (range_with_len a n) ≡ false
 any_none a zero = refl
 any_none a (suc n) = any_none (a + 1) n

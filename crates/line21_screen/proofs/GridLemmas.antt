@@ -103,14 +103,6 @@ none_left was cells first behind none_above none_below removed above below k d f
 kept_at : (b : Bool) (x : Option Cell) → b ≡ false → (if b then None else x) ≡ x
 kept_at b x fails = rw fails refl
 
--- no cells of a row are removed yet
-pub without_none : (g : Grid) (row col : ℕ) → g ≡ without_cells g row col col
-without_none g row col = fun_ext (λ r. fun_ext (λ c. sym (kept_at (r == row && nat_le col c && nat_lt c col) (g r c) (grind (arith, nat_tests)))))
-
--- one more cell of a row is removed
-pub without_more : (g : Grid) (row from to : ℕ) → from ≤ to → with_cell (without_cells g row from to) row to None ≡ without_cells g row from (to + 1)
-without_more g row from to le = fun_ext (λ r. fun_ext (λ c. grind (arith, nat_tests)))
-
 -- a moved grid has nothing outside of the grid
 moved_outside : (cells : List (Option Cell)) (rows old new r c : ℕ) → old ≤ 15 → new ≤ 15 → in_grid r c ≡ false → (b : Bool) → in_window rows new r ≡ b → (if b then grid_of cells (r + old - new) c else None) ≡ None
 moved_outside cells rows old new r c old_to new_to outside true within = grid_outside cells (r + old - new) c (grind (arith, nat_tests))

@@ -127,17 +127,6 @@ all_standing e a z (piece ∷ pieces) (f ∷ fs) beside =
     let test : nat_lt f z ≡ true = grind (arith, nat_tests) in
     rw test (ap (λ codes. piece_code piece ∷ codes) (all_standing e (suc f) z pieces fs beside.3))
 
--- those that are standing don't look at the displayed memory, where all don't
-blind_standing : (pieces : List Piece) (fs : List ℕ) (z : ℕ) (s : ChannelState) → AreBlind (piece_codes pieces) s → AreBlind (standing pieces fs z) s
-blind_standing [] fs z s blind = tt
-blind_standing (piece ∷ pieces) [] z s blind = tt
-blind_standing (piece ∷ pieces) (f ∷ fs) z s blind = go (nat_lt f z) refl (blind_standing pieces fs z (does (piece_code piece) s) blind.1)
-  where
-    go : (b : Bool) → nat_lt f z ≡ b → AreBlind (standing pieces fs z) (does (piece_code piece) s)
-        → AreBlind (cond b (piece_code piece ∷ standing pieces fs z) []) s
-    go true test rest = (blind.0, rest)
-    go false test rest = tt
-
 -- the timeline of units beside what hides
 abbrev Beside : Bool → Option ℕ → List Piece → List ℕ → Timeline
 Beside second_field hide pieces fs = over (erases second_field hide) (stands pieces fs)

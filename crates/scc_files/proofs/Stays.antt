@@ -43,12 +43,6 @@ stays (byte ∷ bytes) more r place refusal is early =
     ] in
     cases (step true r byte) refl is
 
--- no SCC file goes on with bytes of which one offends
-pub none_goes_on : (bytes more : List ℕ) (refusal : Refusal) (pairs : List (ℕ × Pair)) → read_file bytes ≡ Err refusal → refusal.place < length bytes
-    → IsSccFile pairs (bytes ++ more) → ⊥
-none_goes_on bytes more refusal pairs is early file =
-    err_ok (sym (stays bytes more at_first 0 refusal is (omega arith)) ∙ file_read pairs (bytes ++ more) file)
-
 -- and refused bytes are none
 pub none_is : (bytes : List ℕ) (refusal : Refusal) (pairs : List (ℕ × Pair)) → read_file bytes ≡ Err refusal → IsSccFile pairs bytes → ⊥
 none_is bytes refusal pairs is file = err_ok (sym is ∙ file_read pairs bytes file)

@@ -164,11 +164,6 @@ reach_last (first ∷ front) byte r s is =
 pub flipped : (n : ℕ) → nat_eq n 10 ≡ false → nat_eq 10 n ≡ false
 flipped n is = grind (arith, common_steps)
 
-pub never_fits : (b c : Bool) → cond b false (cond c false false) ≡ false
-never_fits true c = refl
-never_fits false true = refl
-never_fits false false = refl
-
 pub none_phase : {to : Phase} → None ≡ Some to → ⊥
 none_phase is = cc
 

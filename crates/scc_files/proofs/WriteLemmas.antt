@@ -22,17 +22,3 @@ piece_is w frame pair text word shown apart time spelled =
     ∙ ap (λ u. between w.behind ++ (text_of (time_at (w.start + frame) w.drop_frame) ++ (9 ∷ (u ++ [])))) spelled in
     whole ∙ chosen (is_null pair) (goes_on w.behind frame) [] (32 ∷ word_of pair)
     (between w.behind ++ (text_of (time_at (w.start + frame) w.drop_frame) ++ (9 ∷ word_of pair))) shown apart
-
-pub first_piece : (w : Standing) (frame : ℕ) (pair : Pair) (text word : List ℕ) → is_null pair ≡ false → w.behind ≡ None
-    → text ≡ text_of (time_at (w.start + frame) w.drop_frame) → word ≡ word_of pair → text ++ (9 ∷ (word ++ [])) ≡ piece_of w frame pair
-first_piece w frame pair text word shown none time spelled =
-    let apart : goes_on w.behind frame ≡ false = ap (λ b. goes_on b frame) none in
-    sym (ap (λ b. between b ++ (text ++ (9 ∷ (word ++ [])))) none) ∙ piece_is w frame pair text word shown apart time spelled
-
-pub next_piece : (w : Standing) (frame behind : ℕ) (pair : Pair) (text word : List ℕ) → is_null pair ≡ false → w.behind ≡ Some behind
-    → nat_eq behind frame ≡ false
-    → text ≡ text_of (time_at (w.start + frame) w.drop_frame) → word ≡ word_of pair
-    → 10 ∷ 10 ∷ (text ++ (9 ∷ (word ++ []))) ≡ piece_of w frame pair
-next_piece w frame behind pair text word shown some other time spelled =
-    let apart : goes_on w.behind frame ≡ false = ap (λ b. goes_on b frame) some ∙ other in
-    sym (ap (λ b. between b ++ (text ++ (9 ∷ (word ++ [])))) some) ∙ piece_is w frame pair text word shown apart time spelled

@@ -21,7 +21,3 @@ pub none_in_rows : (old new : Grid) → ((row : ℕ) → row < 16 → 1 ≤ row 
 none_in_rows old new same has =
     let to : has.row ≤ 15 = row_to has.row has.col has.inside in
     has.other (same has.row (omega arith) (row_from has.row has.col has.inside) has.col (col_to has.row has.col has.inside))
-
--- grids that are one have no other cell
-pub none_in_one : (old new : Grid) → old ≡ new → HasOther old new → ⊥
-none_in_one old new same has = has.other (ap (λ (g : Grid). g has.row has.col) same)

@@ -31,13 +31,6 @@ pub record Reaches (share : ℕ) (cs : List Caption) (us : List Chunk) (frames :
   pub front_is : IsFront share cs (zip us frames) front
   pub first : IsFirstBehind (zip us frames) front.frame
 
-pub reaches_start : (share : ℕ) (cs : List Caption) (front : Front) → IsFront share cs [] front → front.frame ≡ 0 → Reaches share cs [] [] front
-reaches_start share cs front is at = record {
-  earliest = earliest_none (caption_lane share cs);
-  front_is = is;
-  first = λ other all. omega (arith, at);
-}
-
 -- one more of the lane's units is placed
 pub reaches_next : (share : ℕ) (cs : List Caption) (us : List Chunk) (k : ℕ) (d : Chunk) (frames : List ℕ) (old new : Front) (f : ℕ) → k < length us
     → Reaches share cs (take k us) frames old

@@ -38,10 +38,6 @@ refused_overruns front item reason is = refused_part front item reason (step_ref
 overruns_refused : (front : Open) (item : PacketPart) → IsOverrun front item → step_why (judge_part front item) ≡ Some why.Overrun
 overruns_refused front item is = ap step_why (overrun_refused front item is)
 
--- a header of a packet and a byte 00 never do
-header_never : (front : Open) (gap : Bool) (size : ℕ) → IsOverrun front (Header gap size) → ⊥
-header_never front gap size is = let wrong = is.is_byte in cc
-
 zero_never : (front : Open) (left : ℕ) → IsOverrun front (Byte 0 left) → ⊥
 zero_never front left is =
     let same = is.is_byte in

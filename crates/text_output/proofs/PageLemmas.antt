@@ -46,15 +46,6 @@ piece_put a b c put.Done before after piece (flushed, none) next =
     (before ++ piece, Appends-trans a b c before piece flushed next, sym (ap (λ l. (before ++ piece) ++ l) none ∙ append-nil (before ++ piece)))
 piece_put a b c put.Failed before after piece (flushed, none) next = puts_then a b c put.Failed before piece flushed next
 
--- what was held couldn't be put
-pub piece_failed : (a b : Option (List ℕ)) (before after piece : List ℕ) → Flushes a b before after put.Failed → PutsPiece a b before after put.Failed piece
-piece_failed a b before after piece failed = puts_stop a b before piece failed
-
--- more is left out once a put failed
-pub left_out : (a b : Option (List ℕ)) (r : Put) (held all piece : List ℕ) → r ≡ put.Failed → GathersText a b held all r → GathersText a b held (all ++ piece) r
-left_out a b put.Done held all piece is way = cc
-left_out a b put.Failed held all piece is failed = puts_stop a b all piece failed
-
 -- a piece was written
 pub piece_written : (start : Option (List ℕ)) (faults : ℕ) (before piece : List ℕ) (old new : Page) (r : Put) → answer_of old.text ≡ put.Done
     → PutsPiece old.written new.written (held_of old.text) (held_of new.text) r piece → PutCause old.faults new.faults r → answer_of new.text ≡ r
@@ -67,14 +58,6 @@ piece_written start faults before piece old new r was puts cause now has =
           (gathered_more start old.written new.written r (held_of old.text) (held_of new.text) piece before way puts);
       cause = subst (λ a. PutCause faults new.faults a) (sym now) (subst (λ n. PutCause n new.faults r) same cause);
     }
-
--- one was left out
-pub piece_left_out : (start : Option (List ℕ)) (faults : ℕ) (before piece : List ℕ) (now : Page) → answer_of now.text ≡ put.Failed
-    → HasWritten start faults before now → HasWritten start faults (before ++ piece) now
-piece_left_out start faults before piece now failed has = record {
-  bytes = left_out start now.written (answer_of now.text) (held_of now.text) before piece failed has.bytes;
-  cause = has.cause;
-}
 
 -- a flush puts what is held
 flushed : (b c : Option (List ℕ)) (held after : List ℕ) (r : Put) → Flushes b c held after r → Puts b c r held

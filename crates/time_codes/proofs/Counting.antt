@@ -63,10 +63,6 @@ code_again t day =
     let f : place_of t % 30 ≡ t.f = omega (arith, day.h, day.m, day.s, day.f) in
     rw (h, m, s, f) refl
 
--- the place of the time code at a place
-pub place_again : (drop_frame : Bool) (place : ℕ) → place_of (code_at drop_frame place) ≡ place
-place_again drop_frame place = omega arith
-
 -- the time codes before one of the day, in drop frame and without
 pub drop_frame_count : (h m s f : ℕ) → h < 24 → m < 60 → s < 60 → f < 30
     → is_left_out (record { h = h; m = m; s = s; f = f; drop_frame = true }) ≡ false

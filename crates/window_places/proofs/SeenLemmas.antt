@@ -64,7 +64,6 @@ part_of s = record {
   ps = 0;
 }
 
-pub same_part : (w : WindowState) (own : WinCue) (runs : List Run) → as_shown w ≡ authored_window own runs → seen_part w.definition ≡ cue_part own
 unfolding part_of
 same_part w own runs same = ap part_of same
 
@@ -78,9 +77,6 @@ same_cells w own runs same = ap (λ (s : ShownWindow). s.cells) same
 -- the size of the part
 pub same_rows : (d : Definition) (own : WinCue) → seen_part d ≡ cue_part own → d.rows ≡ own.rows
 same_rows d own same = ap (λ (x : Definition). x.rows) same
-
-pub same_cols : (d : Definition) (own : WinCue) → seen_part d ≡ cue_part own → d.cols ≡ own.cols
-same_cols d own same = ap (λ (x : Definition). x.cols) same
 
 -- a run has no place outside of its window
 no_place : (own : WinCue) (run : Run) (row column : ℕ) → IsWindowRun own run → in_size own.rows own.cols row column ≡ false → has_place run row column ≡ false
@@ -126,10 +122,6 @@ cells_same w own runs rows cols formed within same = fun_ext (λ row. fun_ext (�
 
     at : (row column : ℕ) → w.cells row column ≡ written_cells own.ps runs row column
     at row column = by_size row column (in_size own.rows own.cols row column) refl
-
--- another cell at a place
-pub other_cells : (a b : Cells) (row column : ℕ) → a row column ≢ b row column → a ≢ b
-other_cells a b row column other same = other (ap (λ (x : Cells). x row column) same)
 
 -- what a window that is there gave of itself
 pub given : {A : Type 0} (live : Bool) (w : WindowState) (part : WindowState → A) (x : A) → IsTrue live
