@@ -4,8 +4,8 @@ use Rattle.std.proofs.lemmas.List.{length-map, length-take-le, map-append, take-
 use Rattle.std.proofs.lemmas.List.Elements.{All-drop, All-from_recursion, All-weaker, recursion_from_All}
 use Rattle.std.proofs.lemmas.Grind.{take_at_read}
 use Rattle.std.proofs.Math.Seq.{drop-cons, set-append_seam}
-use Rattle.std.proofs.lemmas.List.Sums.{AllPass-from_list_all, list_all-from_AllPass}
-use Rattle.std.specs.List.{All, AllByRecursion, flat_map}
+use Rattle.std.proofs.lemmas.List.Sums.{AllPass-from_list_all, list_all-from_AllPass, sum_by-cons}
+use Rattle.std.specs.List.{All, AllByRecursion, flat_map, sum}
 use Rattle.std.specs.Simd.{first_chunks}
 use Rattle.anc_words.specs.CaptionPackets.{IsCaptionAhead}
 use Rattle.anc_words.specs.CaptionWords.{AreRight, BeginsWith, low_of, word_of}
@@ -331,3 +331,12 @@ ahead-size bytes size user ahead =
     let long = ap length is.spelled in
     let twice = length-words (take size bytes) ahead.is.words ahead.is.spelled in
     omega (arith, carried, long, twice, length-take-le size bytes ahead.within, length-append packet.user (is.checksum ∷ []))
+
+-- the low bytes of words have their sum, modulo 256
+pub sum-low : (words : List ℕ) → sum (map (λ word. word % 256) words) % 256 ≡ sum words % 256
+sum-low [] = refl
+sum-low (word ∷ words) =
+    let others = sum-low words in
+    let low = sum_by-cons (λ x. x) (word % 256) (map (λ w. w % 256) words) in
+    let whole = sum_by-cons (λ x. x) word words in
+    omega (arith, others, low, whole)

@@ -1,4 +1,5 @@
-ghost use Rattle.std.specs.Prelude.{◌≤◌, length};
+ghost use Rattle.std.specs.Prelude.{◌≡◌, ◌≤◌, ◌%◌, length, map, sum as total};
+ghost use Rattle.anc_words.specs.CaptionWords.{low_of};
 
 use crate::caption_words::CaptionWords;
 use crate::words::low_byte;
@@ -9,7 +10,10 @@ use crate::words::low_byte;
 pub struct CaptionPacket<'a> {
     // The user words, the high byte of each first.
     user: &'a [[u8; 2]],
+    // The sum of the bytes that they carry, modulo 256.
+    sum: u8,
     ghost few: { length user.now ≤ 255 },
+    ghost total: { sum ≡ total (map low_of user.now) % 256 },
 }
 
 impl<'a> CaptionPacket<'a> {
@@ -23,10 +27,18 @@ impl<'a> CaptionPacket<'a> {
         ensures none { (size : ℕ) (user : List ℕ) → IsCaptionAhead bytes.now size user → IsSome result }
     {
         let words = CaptionWords::at_front(bytes)?;
-        if !words.are_right() {
-            return None;
-        }
-        Some(CaptionPacket { user: words.user })
+        let sum = words.right_sum()?;
+        Some(CaptionPacket {
+            user: words.user,
+            sum: (sum % 256) as u8,
+        })
+    }
+
+    /// The sum of the bytes that it carries, modulo 256.
+    pub fn sum(&self) -> u8
+        ensures { result ≡ total (carried_by self.now) % 256 }
+    {
+        self.sum
     }
 
     /// The number of its bytes: two for each word.

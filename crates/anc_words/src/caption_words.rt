@@ -1,4 +1,4 @@
-ghost use Rattle.std.specs.Prelude.{◌≡◌, ◌↔◌, ◌≤◌, ◌%◌, ◌^◌, if◌then◌else◌, ℕ, List, None, Some, IfSome, IsSome, IsTrue, length, map};
+ghost use Rattle.std.specs.Prelude.{◌≡◌, ◌≤◌, ◌%◌, ◌^◌, if◌then◌else◌, ℕ, List, None, Some, IfNone, IfSome, IsSome, length, map};
 ghost use Rattle.std.specs.List.{flat_map, list_all, sum};
 ghost use Rattle.anc_words.specs.CaptionWords.{AreRight, BeginsWith, low_of, word_of};
 ghost use Rattle.anc_words.specs.Reading.{is_eight_bit};
@@ -47,16 +47,21 @@ impl<'a> CaptionWords<'a> {
         })
     }
 
-    /// Whether all are 8-bit words, and the checksum word is that of the others.
+    /// The sum of the user words, modulo 2^16, where all are 8-bit words, and the checksum word is that of the others. `None`
+    /// where they aren't.
     #[inline]
-    pub(crate) fn are_right(&self) -> bool
-        ensures { IsTrue result ↔ AreRight self.now.count (map word_of self.now.user.now) self.now.checksum }
+    pub(crate) fn right_sum(&self) -> Option<u16>
+        ensures right { IfSome result (λ total. AreRight self.now.count (map word_of self.now.user.now) self.now.checksum) }
+        ensures total { IfSome result (λ total. total ≡ sum (map word_of self.now.user.now) % 2 ^ 16) }
+        ensures none { IfNone result (AreRight self.now.count (map word_of self.now.user.now) self.now.checksum → ⊥) }
     {
-        let Some(sum) = sum_of(self.user) else {
-            return false;
-        };
-        let sum = HEAD_SUM + u32::from(self.count) + u32::from(sum);
-        Word::is_eight_bit(self.count) && self.checksum == Word::checksum(sum).value
+        let user = sum_of(self.user)?;
+        let sum = HEAD_SUM + u32::from(self.count) + u32::from(user);
+        if Word::is_eight_bit(self.count) && self.checksum == Word::checksum(sum).value {
+            Some(user)
+        } else {
+            None
+        }
     }
 }
 

@@ -1,4 +1,4 @@
-ghost use Rattle.std.specs.Prelude.{◌≡◌, ◌≤◌, ◌<◌, if◌then◌else◌, ◌++◌, Bool, false, List, [], ◌∷◌, None, IfOk, IsTrue, length, reverse};
+ghost use Rattle.std.specs.Prelude.{◌≡◌, ◌≤◌, ◌<◌, ◌%◌, if◌then◌else◌, ◌++◌, Bool, false, List, [], ◌∷◌, None, IfOk, IsTrue, length, reverse, sum as total};
 ghost use Rattle.cc_base.specs.Feeding.{hand};
 ghost use Rattle.channel_packets.specs.ChannelPackets.{channel_triplets};
 ghost use Rattle.cc_data.specs.declared.triplet.Triplet.{Triplet as TripletOf};
@@ -23,7 +23,7 @@ use crate::services::Served;
 use crate::triplets::Triplets;
 use anc_words::WordPart;
 use cc_base::{Step, Upward, Why};
-use cdp_packets::{CdpPart, CdpReader, WholePacket, read_packet};
+use cdp_packets::{CdpPart, CdpReader, WholePacket, read_summed_packet};
 use line21_codes::Pair;
 use line21_screen::Field;
 use std::alloc::{AllocError, Global};
@@ -194,14 +194,15 @@ impl Captions {
         self.frames = self.frames.wrapping_add(1);
     }
 
-    /// Takes the bytes that a whole packet of captions carries. Says whether they are a distribution packet of which nothing is
-    /// refused: it is a frame then, whose pairs act now, and no packet is open; else nothing has changed.
-    pub(crate) fn whole(&mut self, bytes: &[u8]) -> bool
+    /// Takes the bytes that a whole packet of captions carries, and their sum modulo 256. Says whether they are a distribution
+    /// packet of which nothing is refused: it is a frame then, whose pairs act now, and no packet is open; else nothing has changed.
+    pub(crate) fn whole(&mut self, bytes: &[u8], sum: u8) -> bool
+        requires { sum ≡ total bytes.now % 256 }
         ensures frame { (caught : Caught) → Keeps caught self.old → IsTrue result
             → (frame : FrameOf) × IsCdp frame bytes.now × Keeps (with_frame (packet_parts frame) caught) self.new }
         ensures none { result ≡ false → self.new ≡ self.old }
     {
-        let Some(packet) = read_packet(bytes) else {
+        let Some(packet) = read_summed_packet(bytes, sum) else {
             return false;
         };
         if !self.last.is_of(packet.sections) {

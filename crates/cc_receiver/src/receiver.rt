@@ -135,7 +135,7 @@ impl Receiver {
         let packet = CaptionPacket::at_front(bytes)?;
         let mut user = [0; 255];
         let count = packet.user_bytes(&mut user);
-        if !self.captions.whole(&user[..count]) {
+        if !self.captions.whole(&user[..count], packet.sum()) {
             return None;
         }
         self.words.pass_over(&packet);

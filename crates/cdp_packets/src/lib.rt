@@ -17,7 +17,9 @@ pub use packets::write_cdp;
 pub use parts::CdpPart;
 pub use reader::CdpReader;
 pub use sections::{cc_section, section_len};
-pub use whole_packet::{WholePacket, read_packet, split_section, triplet_bytes};
+pub use whole_packet::{
+    WholePacket, read_packet, read_summed_packet, split_section, triplet_bytes,
+};
 
 #[cfg(test)]
 mod tests;

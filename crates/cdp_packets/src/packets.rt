@@ -1,4 +1,4 @@
-ghost use Rattle.std.specs.Prelude.{◌≡◌, ℕ, ◌≤◌, List, [], length};
+ghost use Rattle.std.specs.Prelude.{◌≡◌, ℕ, ◌≤◌, ◌%◌, List, [], length, sum};
 ghost use Rattle.std.specs.List.{concat};
 ghost use Rattle.cdp_packets.specs.Sections.{AreSections, IsSectionList};
 ghost use Rattle.cdp_packets.specs.Packets.{IsCdp};
@@ -37,11 +37,18 @@ pub fn write_cdp(rate: Rate, flags: u8, counter: u16, sections: &[u8], out: &mut
 pub(crate) fn checksum(bytes: &[u8]) -> u8
     ensures { result ≡ checksum_of bytes.now }
 {
+    0u8.wrapping_sub(total(bytes))
+}
+
+// The sum of these bytes, modulo 256.
+pub(crate) fn total(bytes: &[u8]) -> u8
+    ensures { result ≡ sum bytes.now % 256 }
+{
     let mut total = 0u8;
     for byte in bytes {
         total = total.wrapping_add(*byte);
     }
-    0u8.wrapping_sub(total)
+    total
 }
 
 // The identifier, with which every packet begins.

@@ -1,11 +1,11 @@
-ghost use Rattle.std.specs.Prelude.{◌≡◌, ℕ, ◌≤◌, ◌++◌, List, length, IfNone, IfSome, MatchBool};
+ghost use Rattle.std.specs.Prelude.{◌≡◌, ℕ, ◌%◌, ◌≤◌, ◌++◌, List, length, sum, IfNone, IfSome, MatchBool};
 ghost use Rattle.cc_data.specs.Triplets.{triplets_of};
 ghost use Rattle.cdp_packets.specs.Packets.{Packet, IsCdp};
 ghost use Rattle.cdp_packets.specs.PacketTriplets.{section_triplet_bytes, section_triplets};
 ghost use Rattle.cdp_packets.specs.Sections.{is_id, IsSection, IsSectionList};
 ghost use Rattle.cdp_packets.specs.WholePackets.{SaysPacket};
 
-use crate::packets::{FOOTER, checksum};
+use crate::packets::{FOOTER, total};
 use crate::sections::{
     CC_DATA, FIRST_FUTURE, LAST_FUTURE, SERVICE_INFORMATION, TIME_CODE, rest_len,
 };
@@ -27,6 +27,17 @@ pub struct WholePacket<'a> {
 /// Reads bytes that are a distribution packet from the first to the last: what it says. `None` where they aren't one;
 /// `CdpReader` says at which byte, and why (SMPTE ST 334-2).
 pub fn read_packet(bytes: &[u8]) -> Option<WholePacket<'_>>
+    ensures packet { IfSome result (λ whole. (packet : Packet) × IsCdp packet bytes.now × SaysPacket whole packet) }
+    ensures few { IfSome result (λ whole. length whole.sections.now ≤ 244) }
+    ensures none { IfNone result ((packet : Packet) → IsCdp packet bytes.now → ⊥) }
+{
+    read_summed_packet(bytes, total(bytes))
+}
+
+/// The same of bytes whose sum, modulo 256, is known.
+#[inline]
+pub fn read_summed_packet(bytes: &[u8], total: u8) -> Option<WholePacket<'_>>
+    requires { total ≡ sum bytes.now % 256 }
     ensures packet { IfSome result (λ whole. (packet : Packet) × IsCdp packet bytes.now × SaysPacket whole packet) }
     ensures few { IfSome result (λ whole. length whole.sections.now ≤ 244) }
     ensures none { IfNone result ((packet : Packet) → IsCdp packet bytes.now → ⊥) }
@@ -54,7 +65,7 @@ pub fn read_packet(bytes: &[u8]) -> Option<WholePacket<'_>>
     if *id != FOOTER || high_again != high || low_again != low {
         return None;
     }
-    if checksum(bytes) != 0 || !are_sections(sections) {
+    if total != 0 || !are_sections(sections) {
         return None;
     }
     Some(WholePacket {

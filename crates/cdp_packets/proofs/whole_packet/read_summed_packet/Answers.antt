@@ -1,8 +1,8 @@
 use Rattle.std.proofs.Common.{◌≡◌, ◌+◌, ◌*◌, ◌/◌, ◌%◌, Some, get_or, sum, refl, sym, ◌∙◌, arith}
 use Rattle.cc_base.specs.Rate.{rate_of}
 use Rattle.cdp_packets.proofs.WholeLemmas.{IsFramed, packet_framed, packet_of, framed_packet}
-use Rattle.cdp_packets.proofs.whole_packet.read_packet.Goals as goal
-use Rattle.cdp_packets.proofs.whole_packet.read_packet.Goals.{then-id-ne-FOOTER-via-then-id-ne-FOOTER, then-id-ne-FOOTER-via-else-id-ne-FOOTER+then-high_again-high, then-id-ne-FOOTER-via-else-id-ne-FOOTER+else-high_again-high+then-low_again-low}
+use Rattle.cdp_packets.proofs.whole_packet.read_summed_packet.Goals as goal
+use Rattle.cdp_packets.proofs.whole_packet.read_summed_packet.Goals.{then-id-ne-FOOTER-via-then-id-ne-FOOTER, then-id-ne-FOOTER-via-else-id-ne-FOOTER+then-high_again-high, then-id-ne-FOOTER-via-else-id-ne-FOOTER+else-high_again-high+then-low_again-low}
 
 pub returns-then-id-ne-FOOTER-clause-none : goal.returns-then-id-ne-FOOTER-clause-none
 returns-then-id-ne-FOOTER-clause-none c packet is =
@@ -18,7 +18,7 @@ returns-clause-packet c =
     let bytes = c.args.bytes.now in
     let rate = c.in_ok-from_code.field-0 in
     let code : rate_of (get_or bytes 3 0 / 16) ≡ Some rate = sym c.in_ok-from_code.ensures in
-    let total : sum bytes % 256 ≡ 0 = omega (arith, c.checksum.ensures, c.if-checksum-ne0.false) in
+    let total : sum bytes % 256 ≡ 0 = sym c.requires ∙ c.if-total-ne0.false in
     let framed : IsFramed bytes =
     record {
       enough = omega arith;

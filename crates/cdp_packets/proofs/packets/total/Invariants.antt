@@ -1,5 +1,5 @@
 use Rattle.std.proofs.Common.{◌≡◌, ◌%◌, take, sum}
-use Rattle.cdp_packets.proofs.packets.checksum.Given as goal
+use Rattle.cdp_packets.proofs.packets.total.Given as goal
 
 abbrev pub invariant-loop-byte : goal.invariant-loop-byte
 invariant-loop-byte l = l.total ≡ sum (take l.byte-index l.bytes) % 256
