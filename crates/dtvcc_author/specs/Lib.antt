@@ -5,3 +5,4 @@ pub mod FrameEvents
 pub mod Kept
 pub mod Latest
 pub mod EventBytes
+pub mod Packed

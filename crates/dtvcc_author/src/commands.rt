@@ -6,7 +6,7 @@ ghost use Rattle.cue_types.specs.Windows.{IsWindow, IsWindowRun};
 ghost use Rattle.dtvcc_author.specs.CueUnits.{IsWritable};
 ghost use Rattle.dtvcc_author.specs.WindowCommands.{are_coloured, attribute_commands, character_commands, color_commands, definition_of, pen_of, run_commands, window_commands};
 
-use crate::unit::DUnits;
+use crate::packed::PackedUnits;
 use cue_types::{Pen, Run, WinCue};
 use dtvcc_codes::{Command, Definition, PenAttr, PenColors, WinAttr, write_command};
 use dtvcc_windows::pen_style;
@@ -14,7 +14,7 @@ use std::alloc::AllocError;
 
 /// Appends the units that load runs into a window.
 pub(crate) fn push_window(
-    units: &mut DUnits,
+    units: &mut PackedUnits,
     window: WinCue,
     runs: &[Run],
 ) -> Result<(), AllocError>
@@ -31,7 +31,7 @@ pub(crate) fn push_window(
 
 // Appends the unit of a command: what is written of it.
 #[inline(always)]
-fn push_command(units: &mut DUnits, command: Command) -> Result<(), AllocError>
+fn push_command(units: &mut PackedUnits, command: Command) -> Result<(), AllocError>
     requires { IsWritable command }
     ensures { OnOk result (units.new ≡ units.old ++ written command ∷ []) }
 {
@@ -60,7 +60,7 @@ fn definition_of(window: WinCue) -> Definition
 }
 
 // Appends the unit that sets a window's own attributes, if it has its own.
-fn push_attributes(units: &mut DUnits, attributes: Option<WinAttr>) -> Result<(), AllocError>
+fn push_attributes(units: &mut PackedUnits, attributes: Option<WinAttr>) -> Result<(), AllocError>
     requires { All IsWritable (attribute_commands attributes) }
     ensures { OnOk result (units.new ≡ units.old ++ map written (attribute_commands attributes)) }
 {
@@ -79,7 +79,7 @@ fn are_coloured(runs: &[Run]) -> bool
 
 // Appends the units of runs.
 fn push_runs(
-    units: &mut DUnits,
+    units: &mut PackedUnits,
     coloured: bool,
     pen: PenAttr,
     colors: PenColors,
@@ -97,7 +97,7 @@ fn push_runs(
 
 // Appends the units of a run.
 fn push_run(
-    units: &mut DUnits,
+    units: &mut PackedUnits,
     coloured: bool,
     pen: PenAttr,
     colors: PenColors,
@@ -132,7 +132,7 @@ fn pen_of(style: PenAttr, pen: Pen) -> PenAttr
 
 // Appends the unit that sets a run's colours, in a cue of which some run has its own.
 fn push_colors(
-    units: &mut DUnits,
+    units: &mut PackedUnits,
     coloured: bool,
     style: PenColors,
     own: Option<PenColors>,
@@ -147,7 +147,7 @@ fn push_colors(
 }
 
 // Appends the units of characters.
-fn push_characters(units: &mut DUnits, text: &[char]) -> Result<(), AllocError>
+fn push_characters(units: &mut PackedUnits, text: &[char]) -> Result<(), AllocError>
     requires { All (λ ch. IsWritable (command.Put (Some ch))) text.now }
     ensures { OnOk result (units.new ≡ units.old ++ map written (character_commands text.now)) }
 {

@@ -1,9 +1,10 @@
-ghost use Rattle.std.specs.Prelude.{◌≡◌, IfOk};
+ghost use Rattle.std.specs.Prelude.{◌≡◌, ◌++◌, IfOk, OnOk};
 ghost use Rattle.cue_types.specs.Cues.{IsCueFormed};
 ghost use Rattle.dtvcc_author.specs.CueUnits.{AreSpelled, units_of};
 ghost use Rattle.dtvcc_author.specs.WindowCommands.{commands_of};
 
 use crate::commands::push_window;
+use crate::packed::PackedUnits;
 use crate::unit::DUnits;
 use cue_types::{Cue, Kind};
 use std::alloc::{AllocError, Global};
@@ -16,9 +17,19 @@ pub fn units(alloc: Global, cue: &Cue) -> Result<DUnits, AllocError>
     ensures units { IfOk result (λ units. units ≡ units_of cue.now) }
     ensures spelled { IfOk result (AreSpelled (commands_of cue.now)) }
 {
-    let mut units = DUnits::from_vec(Vec::new(alloc));
-    if let Kind::Win(window) = cue.kind {
-        push_window(&mut units, window, cue.runs.as_slice())?;
-    }
+    let mut packed = PackedUnits::new(alloc);
+    push_units(&mut packed, cue)?;
+    let units = packed.unpack(alloc)?;
     Ok(units)
+}
+
+/// Appends the units of a window cue to others. `AllocError` where there is no memory for them; some of them may be there then.
+pub fn push_units(units: &mut PackedUnits, cue: &Cue) -> Result<(), AllocError>
+    requires { IsCueFormed cue.now }
+    ensures { OnOk result (units.new ≡ units.old ++ units_of cue.now) }
+{
+    if let Kind::Win(window) = cue.kind {
+        push_window(units, window, cue.runs.as_slice())?;
+    }
+    Ok(())
 }

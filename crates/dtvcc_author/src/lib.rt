@@ -3,9 +3,10 @@
 #![tactic(auto)]
 
 pub use crate::caption::{Caption, caption_of, captions};
-pub use crate::cue::units;
+pub use crate::cue::{push_units, units};
 pub use crate::frame_events::{Delay, FrameEvents};
 pub use crate::latest::Latest;
+pub use crate::packed::PackedUnits;
 pub use crate::unit::DUnits;
 
 mod caption;
@@ -13,6 +14,7 @@ mod commands;
 mod cue;
 mod frame_events;
 mod latest;
+mod packed;
 #[cfg(test)]
 mod tests;
 mod unit;
