@@ -1,6 +1,6 @@
 -- The caption that was loaded last in each window tells the events of a frame: those loaded before it are hidden by then, and
 -- those behind have none yet.
-use Rattle.std.proofs.Common.{get_or, ◌≡◌, ◌∙◌, ℕ, suc, zero, ◌+◌, ◌<◌, ◌≤◌, ◌⊎◌, inl, inr, ◌==◌, Bool, true, false, ◌&&◌, ◌||◌, not, List, [], ◌∷◌, ◌++◌, Option, Some, None, refl, sym, ap, subst, arith, length, take, drop, cond, if◌then◌else◌}
+use Rattle.std.proofs.Common.{get_or, min, ◌≡◌, ◌∙◌, ℕ, suc, zero, ◌+◌, ◌<◌, ◌≤◌, ◌⊎◌, inl, inr, ◌==◌, Bool, true, false, ◌&&◌, ◌||◌, not, List, [], ◌∷◌, ◌++◌, Option, Some, None, refl, sym, ap, subst, arith, length, take, drop, cond, if◌then◌else◌}
 use Rattle.std.specs.Prelude.{⊤, IfNone, IfSome, find, option_map, slice_index_or, slice_set}
 use Rattle.std.specs.List.{AllByRecursion, flat_map, list_any}
 use Rattle.std.proofs.lemmas.Bool.{and_parts, eq-eqb, eqb-true, or_parts}
@@ -16,7 +16,7 @@ use Rattle.dtvcc_codes.specs.Writing.{written}
 use Rattle.dtvcc_author.specs.EventBytes.{command_bytes, delay_bytes, events_bytes}
 use Rattle.dtvcc_author.specs.FrameEvents.{delay_commands, delayed_at, event_bytes, has_event_at, is_delayed_at, is_hidden_at, is_shown_at, names, windows_byte, windows_command}
 use Rattle.dtvcc_author.specs.Kept.{AreKept, Follows, IsSoundCaption}
-use Rattle.dtvcc_author.specs.Latest.{AreEventsOf, IsAt, caption_in, delay_of, latest_behind, latest_of}
+use Rattle.dtvcc_author.specs.Latest.{AreEventsOf, IsAt, IsQuietUpTo, caption_in, delay_of, latest_behind, latest_of}
 use Rattle.dtvcc_author.specs.declared.caption.Caption.{Caption}
 use Rattle.dtvcc_author.specs.declared.frame_events.Delay.{Delay}
 use Rattle.dtvcc_author.specs.declared.frame_events.FrameEvents.{FrameEvents}
@@ -414,6 +414,20 @@ pub record IsPassing (cs : List Caption) (frame : ℕ) (latest : Latest) : Type 
   pub within : latest.next ≤ length cs
   pub before : AllByRecursion (λ (c : Caption). c.load < frame) (take latest.next cs)
   pub windows : (id : ℕ) → id < 8 → caption_in latest id ≡ latest_of (take latest.next cs) id
+  pub quiet : IsQuietUpTo latest.windows frame latest.quiet
+
+-- those passed before an earlier frame are passed
+pub passing_start : (cs : List Caption) (from frame : ℕ) (latest : Latest) → from ≤ frame → IsAt cs from latest → IsPassing cs frame latest
+passing_start cs from frame latest low is = record {
+  within = is.within;
+  before = before_later (take latest.next cs) is.before;
+  windows = is.windows;
+  quiet = λ other later to. is.quiet other (omega (arith, low, later)) to;
+}
+  where
+    before_later : (xs : List Caption) → AllByRecursion (λ (c : Caption). c.load < from) xs → AllByRecursion (λ (c : Caption). c.load < frame) xs
+    before_later [] all = tt
+    before_later (x ∷ xs) all = (omega (arith, low, all.0), before_later xs all.1)
 
 -- with one more caption, that is the last in its window
 latest_push : (before : Option Caption) (cs : List Caption) (c : Caption) (id : ℕ)
@@ -425,11 +439,46 @@ all_push : (P : Caption → Type 0) (cs : List Caption) (c : Caption) → AllByR
 all_push P [] c all here = (here, tt)
 all_push P (x ∷ xs) c all here = (all.0, all_push P xs c all.1 here)
 
+-- a caption has no event before what shows it is sent
+no_event_before : (frame : ℕ) (c : Caption) → frame < c.starts → c.starts < c.hide → has_event_at frame c ≡ false
+no_event_before frame c before hidden = grind (arith, nat_tests)
+
+-- a caption without an event takes the place of another
+set_quiet : (frame : ℕ) (windows : List (Option Caption)) (id : ℕ) (c : Caption) → list_any (passes (has_event_at frame)) windows ≡ false
+    → has_event_at frame c ≡ false → list_any (passes (has_event_at frame)) (slice_set windows id (Some c)) ≡ false
+set_quiet frame [] id c none here = refl
+set_quiet frame (w ∷ windows) zero c none here =
+    let parts = or_parts (passes (has_event_at frame) w) (list_any (passes (has_event_at frame)) windows) none in
+    rw here parts.1
+set_quiet frame (w ∷ windows) (suc id) c none here =
+    let parts = or_parts (passes (has_event_at frame) w) (list_any (passes (has_event_at frame)) windows) none in
+    rw parts.0 (set_quiet frame windows id c parts.1 here)
+
+-- one more window without an event
+pub quiet_more : (frame index : ℕ) (windows : List (Option Caption)) → index < length windows
+    → list_any (passes (has_event_at frame)) (take index windows) ≡ false → passes (has_event_at frame) (get_or windows index None) ≡ false
+    → list_any (passes (has_event_at frame)) (take (index + 1) windows) ≡ false
+quiet_more frame index windows within none here =
+    ap (list_any (passes (has_event_at frame))) (take_more windows index None within)
+    ∙ list_any-append (passes (has_event_at frame)) (take index windows) (get_or windows index None ∷ [])
+    ∙ rw (none, here) refl
+
+-- at a frame, with other frames that have no event
+pub at_quiet : (cs : List Caption) (frame quiet : ℕ) (latest : Latest) → IsAt cs frame latest → IsQuietUpTo latest.windows frame quiet
+    → IsAt cs frame (record latest { quiet = quiet })
+at_quiet cs frame quiet latest is none = record {
+  within = is.within;
+  before = is.before;
+  behind = is.behind;
+  windows = is.windows;
+  quiet = none;
+}
+
 -- one more caption is passed
 pub passing_next : (cs : List Caption) (frame : ℕ) (latest : Latest) (c : Caption) → length latest.windows ≡ 8 → IsPassing cs frame latest
-    → latest.next < length cs → c ≡ get_or cs latest.next c → c.load < frame → c.id < 8
-    → IsPassing cs frame (record { next = latest.next + 1; windows = slice_set latest.windows c.id (Some c) })
-passing_next cs frame latest c eight passing within is loaded small =
+    → latest.next < length cs → c ≡ get_or cs latest.next c → c.load < frame → c.id < 8 → c.starts < c.hide
+    → IsPassing cs frame (record { next = latest.next + 1; quiet = min latest.quiet c.starts; windows = slice_set latest.windows c.id (Some c) })
+passing_next cs frame latest c eight passing within is loaded small hidden =
     let more : take (latest.next + 1) cs ≡ take latest.next cs ++ c ∷ [] =
     take_more cs latest.next c within ∙ ap (λ d. take latest.next cs ++ d ∷ []) (sym is) in
     record {
@@ -437,6 +486,8 @@ passing_next cs frame latest c eight passing within is loaded small =
       before = subst (AllByRecursion (λ (d : Caption). d.load < frame)) (sym more)
           (all_push (λ (d : Caption). d.load < frame) (take latest.next cs) c passing.before loaded);
       windows = λ id low. window id low ∙ sym (ap (λ l. latest_of l id) more ∙ latest_push None (take latest.next cs) c id);
+      quiet = λ other from to.
+          set_quiet other latest.windows c.id c (passing.quiet other from (omega arith)) (no_event_before other c (omega arith) hidden);
     }
   where
     here : (id : ℕ) → id < 8 → (b : Bool) → (c.id == id) ≡ b
@@ -465,6 +516,7 @@ passed_all cs frame latest passing end = record {
   before = passing.before;
   behind = subst (AllByRecursion (λ (c : Caption). frame ≤ c.load)) (sym (drop_all latest.next cs end)) tt;
   windows = passing.windows;
+  quiet = passing.quiet;
 }
 
 pub passed_up_to : (rate : Rate) (frames : ℕ) (cs : List Caption) (frame : ℕ) (latest : Latest) (c : Caption) → AreKept rate frames cs
@@ -481,6 +533,7 @@ passed_up_to rate frames cs frame latest c kept passing within is later =
       behind = subst (AllByRecursion (λ (d : Caption). frame ≤ d.load)) (sym rest)
           (later, loads_behind frame c (drop (latest.next + 1) cs) later behind.1);
       windows = passing.windows;
+      quiet = passing.quiet;
     }
 
 all_get : (P : Caption → Type 0) (cs : List Caption) (k : ℕ) (d : Caption) → AllByRecursion P cs → k < length cs → P (get_or cs k d)

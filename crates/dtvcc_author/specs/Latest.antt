@@ -1,7 +1,8 @@
 -- In each window of a service the caption that was loaded last before a frame, and the events of the frame by that.
-use Rattle.std.specs.Prelude.{◌≡◌, ℕ, ◌<◌, ◌≤◌, ◌==◌, if◌then◌else◌, List, [], ◌∷◌, Option, Some, None, length, option_map, take, drop, slice_index_or}
-use Rattle.std.specs.List.{AllByRecursion}
-use Rattle.dtvcc_author.specs.FrameEvents.{delayed_at, is_hidden_at, is_shown_at, names, windows_byte}
+use Rattle.std.specs.Prelude.{◌≡◌, ℕ, ◌<◌, ◌≤◌, ◌==◌, Bool, false, if◌then◌else◌, List, [], ◌∷◌, Option, Some, None, length, option_map, take, drop, slice_index_or}
+use Rattle.std.specs.List.{AllByRecursion, list_any}
+use Rattle.cc_base.specs.Options.{passes}
+use Rattle.dtvcc_author.specs.FrameEvents.{delayed_at, has_event_at, is_hidden_at, is_shown_at, names, windows_byte}
 use Rattle.dtvcc_author.specs.declared.caption.Caption.{Caption}
 use Rattle.dtvcc_author.specs.declared.latest.Latest.{Latest}
 use Rattle.dtvcc_author.specs.declared.frame_events.Delay.{Delay}
@@ -20,12 +21,18 @@ latest_of cs id = latest_behind None cs id
 abbrev pub caption_in : Latest → ℕ → Option Caption
 caption_in latest id = slice_index_or latest.windows id None
 
+-- from one frame on, and before another, no caption of a window has an event
+abbrev pub IsQuietUpTo : List (Option Caption) → ℕ → ℕ → Type 0
+IsQuietUpTo windows from to = (frame : ℕ) → from ≤ frame → frame < to → list_any (passes (has_event_at frame)) windows ≡ false
+
 -- in each window the caption is the last of those whose LOAD is before the frame
 pub record IsAt (cs : List Caption) (frame : ℕ) (latest : Latest) : Type 0 where
   pub within : latest.next ≤ length cs
   pub before : AllByRecursion (λ (c : Caption). c.load < frame) (take latest.next cs)
   pub behind : AllByRecursion (λ (c : Caption). frame ≤ c.load) (drop latest.next cs)
   pub windows : (id : ℕ) → id < 8 → caption_in latest id ≡ latest_of (take latest.next cs) id
+  -- and none of them has an event in the frames before this one
+  pub quiet : IsQuietUpTo latest.windows frame latest.quiet
 
 -- the delay of a caption
 abbrev pub delay_of : Caption → Delay

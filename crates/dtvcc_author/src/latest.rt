@@ -16,12 +16,14 @@ const BITS: [u8; 8] = [0x01, 0x02, 0x04, 0x08, 0x10, 0x20, 0x40, 0x80];
 pub struct Latest {
     // How many captions were loaded.
     next: usize,
+    // No caption of a window has an event before this frame; so most frames are told to have none by one comparison.
+    quiet: u32,
     windows: [Option<Caption>; 8],
 }
 
 impl Latest {
     ghost use Rattle.dtvcc_author.specs.Kept.{AreKept};
-    ghost use Rattle.dtvcc_author.specs.Latest.{AreEventsOf, IsAt, caption_in, delay_of};
+    ghost use Rattle.dtvcc_author.specs.Latest.{AreEventsOf, IsAt, IsQuietUpTo, caption_in, delay_of};
 
     /// At frame 0, before which no caption is loaded.
     pub fn start() -> Latest
@@ -29,6 +31,7 @@ impl Latest {
     {
         Latest {
             next: 0,
+            quiet: u32::MAX,
             windows: [None; 8],
         }
     }
@@ -38,12 +41,35 @@ impl Latest {
         requires { (rate : Rate) × ((frames : ℕ) × AreKept rate frames captions.now) }
         ensures { (from : ℕ) → from ≤ frame → IsAt captions.now from self.old → IsAt captions.now frame self.new }
     {
+        self.load(captions, frame);
+        if self.quiet < frame {
+            self.quiet = self.next_event(frame);
+        }
+    }
+
+    // Loads the captions whose LOAD is before the frame.
+    fn load(&mut self, captions: &[Caption], frame: u32)
+        requires { (rate : Rate) × ((frames : ℕ) × AreKept rate frames captions.now) }
+        ensures { (from : ℕ) → from ≤ frame → IsAt captions.now from self.old → IsAt captions.now frame self.new }
+    {
         while let Some(caption) = captions.get(self.next)
             && caption.load < frame
         {
             self.windows[usize::from(caption.id)] = Some(*caption);
+            self.quiet = self.quiet.min(caption.starts);
             self.next += 1;
         }
+    }
+
+    // A frame, from this one on, before which no caption of a window has an event.
+    fn next_event(&self, frame: u32) -> u32
+        ensures { IsQuietUpTo self.now.windows frame result }
+    {
+        let mut next = u32::MAX;
+        for caption in &self.windows {
+            next = next.min(next_event(caption, frame));
+        }
+        next
     }
 
     /// The events of the frame that this is at.
@@ -51,7 +77,7 @@ impl Latest {
         ensures { (rate : Rate) (frames : ℕ) (captions : List Caption) → AreKept rate frames captions → IsAt captions frame self.now
             → AreEventsOf frame captions result }
     {
-        if !self.has_event(frame) {
+        if frame < self.quiet {
             return FrameEvents {
                 hidden: 0,
                 shown: 0,
@@ -63,13 +89,6 @@ impl Latest {
             shown: self.shown(frame),
             delay: self.delay(frame),
         }
-    }
-
-    // Whether the frame has an event. Few frames have one, so this is asked before the windows are gone through for each kind.
-    fn has_event(&self, frame: u32) -> bool
-        ensures { result ≡ list_any (passes (has_event_at frame)) self.now.windows }
-    {
-        self.windows.iter().any(|caption| has_event(caption, frame))
     }
 
     // The windows that are hidden in the frame, a bit each.
@@ -107,11 +126,21 @@ impl Latest {
     }
 }
 
-// Whether a caption is there and has an event in the frame.
-fn has_event(caption: &Option<Caption>, frame: u32) -> bool
-    ensures { result ≡ passes (has_event_at frame) caption.now }
+// The first frame, from this one on, in which a caption has an event; the last frame of all where there is none.
+fn next_event(caption: &Option<Caption>, frame: u32) -> u32
+    ensures { (other : ℕ) → frame ≤ other → other < result → passes (has_event_at other) caption.now ≡ false }
 {
-    matches!(caption, Some(caption) if caption.hide == frame || caption.starts == frame)
+    match caption {
+        Some(caption) => frame_from(caption.starts, frame).min(frame_from(caption.hide, frame)),
+        None => u32::MAX,
+    }
+}
+
+// The frame of an event, or the last frame of all where it is before this one.
+fn frame_from(event: u32, frame: u32) -> u32
+    ensures { (other : ℕ) → frame ≤ other → other < result → (event == other) ≡ false }
+{
+    if event < frame { u32::MAX } else { event }
 }
 
 // Whether a caption is there and is hidden in the frame.

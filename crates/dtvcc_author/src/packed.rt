@@ -1,4 +1,4 @@
-ghost use Rattle.std.specs.Prelude.{◌≡◌, ◌++◌, ◌<◌, ◌≤◌, [], ◌∷◌, All, IfOk, OnErr, OnOk, length, map, slice_index_or};
+ghost use Rattle.std.specs.Prelude.{◌≡◌, ◌+◌, ◌^◌, ◌++◌, ◌<◌, ◌≤◌, [], ◌∷◌, All, IfOk, OnErr, OnOk, length, map, slice_index_or};
 ghost use Rattle.std.specs.List.{concat};
 ghost use Rattle.dtvcc_author.specs.Packed.{bytes_before};
 
@@ -76,7 +76,10 @@ impl PackedUnits {
     pub fn unit(&self, index: usize, start: usize) -> &[u8]
         requires index { index < length self.now }
         requires start { start ≡ bytes_before index self.now }
-        ensures { result.now ≡ slice_index_or self.now index [] }
+        ensures unit { result.now ≡ slice_index_or self.now index [] }
+        ensures small { length result.now ≤ 7 }
+        ensures counted { index + 1 < 2 ^ 64 }
+        ensures measured { start + length result.now < 2 ^ 64 }
     {
         let size = usize::from(self.lengths[index]);
         &self.bytes[start..start + size]

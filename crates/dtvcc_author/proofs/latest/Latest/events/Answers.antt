@@ -1,4 +1,4 @@
-use Rattle.std.proofs.Common.{◌∙◌, rules, sym}
+use Rattle.std.proofs.Common.{◌∙◌, arith, rules, sym}
 use Rattle.cc_base.specs.Options.{passes}
 use Rattle.dtvcc_author.specs.FrameEvents.{is_hidden_at, is_shown_at, names}
 use Rattle.dtvcc_author.specs.Latest.{caption_in}
@@ -19,6 +19,6 @@ returns c rate frames captions kept at =
       delay = delay_is rate frames frame captions latest kept at c.delay.result c.delay.ensures.some c.delay.ensures.none;
     }
 
-pub returns-then-not-has_event : goal.returns-then-not-has_event
-returns-then-not-has_event c rate frames captions kept at =
-    quiet_events rate frames c.args.frame captions c.args.self.now kept at (search rules) (sym c.if-not-has_event.ensures)
+pub returns-then-frame-self : goal.returns-then-frame-self
+returns-then-frame-self c rate frames captions kept at =
+    quiet_events rate frames c.args.frame captions c.args.self.now kept at (search rules) (at.quiet c.args.frame (omega arith) c.if-frame-self.true)

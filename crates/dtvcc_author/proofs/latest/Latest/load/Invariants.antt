@@ -1,7 +1,7 @@
 use Rattle.std.proofs.Common.{ℕ, length, ◌-◌, ◌≤◌}
 use Rattle.dtvcc_author.specs.Latest.{IsAt}
 use Rattle.dtvcc_author.proofs.LatestLemmas.{IsPassing}
-use Rattle.dtvcc_author.proofs.latest.Latest.pass_to.Given as goal
+use Rattle.dtvcc_author.proofs.latest.Latest.load.Given as goal
 
 abbrev pub invariant-loop-caption : goal.invariant-loop-caption
 invariant-loop-caption l = (from : ℕ) → from ≤ l.frame → IsAt l.captions from l.fn.self → IsPassing l.captions l.frame l.self
