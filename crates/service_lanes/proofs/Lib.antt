@@ -1,7 +1,10 @@
 pub mod ServiceLaneLemmas
 pub mod DelayLemmas
 pub mod FrontLemmas
+pub mod CueChunkLemmas
+pub mod StretchLemmas
 pub mod LoadLemmas
 pub mod PlaceLemmas
+pub mod PlacingSteps
 pub mod CaptionsKept
 pub mod ChunkOrderLemmas

@@ -1,35 +1,25 @@
--- The units of a frame: those behind the ones that stand before it.
-use Rattle.std.proofs.Common.{◌≡◌, ◌∙◌, ℕ, zero, suc, ◌+◌, ◌<◌, ◌≤◌, ◌==◌, true, false, List, [], ◌∷◌, ◌++◌, refl, sym, ap, subst, arith, length, get_or, take, drop, append_assoc, length-append}
-use Rattle.std.specs.List.{AllByRecursion, zip}
+-- The units of a frame: those of the cursor's next stretch, where that is in the frame.
+use Rattle.std.proofs.Common.{◌≡◌, ◌∙◌, ℕ, zero, suc, ◌+◌, ◌-◌, ◌<◌, ◌≤◌, ◌==◌, Bool, true, false, if◌then◌else◌, List, [], ◌∷◌, ◌++◌, refl, sym, ap, subst, arith, length, get_or, take, drop, append_assoc, length-append}
+use Rattle.std.specs.Prelude.{replicate}
+use Rattle.std.specs.List.{flat_map, zip}
+use Rattle.std.proofs.Math.Seq.{take-add}
 use Rattle.std.proofs.lemmas.Bool.{eq-eqb}
 use Rattle.std.proofs.lemmas.Bool.Decides.{nat_tests}
-use Rattle.std.proofs.lemmas.List.{drop_all, drop_more, take_more}
+use Rattle.std.proofs.lemmas.List.{append-nil, drop_all, drop_at, drop_more, drop-drop, length-drop, take_at, take-append-drop}
+use Rattle.std.proofs.lemmas.List.Concat.{flat_map-append}
+use Rattle.service_lanes.specs.CueChunks.{chunk_bytes}
 use Rattle.service_lanes.specs.ServiceBytes.{AreFramesFrom, IsLoading, loads_at}
+use Rattle.service_lanes.specs.Stretches.{AreStretches, bytes_of_first, frames_from, frames_of}
 use Rattle.service_lanes.specs.declared.chunk.Chunk.{Chunk}
-
--- units in no frame have no bytes
-loads_unplaced : (us : List Chunk) (frame : ℕ) → loads_at (zip us []) frame ≡ []
-loads_unplaced [] frame = refl
-loads_unplaced (u ∷ us) frame = refl
-
-other_frame : (f frame : ℕ) → f < frame → (f == frame) ≡ false
-other_frame f frame low = grind (arith, nat_tests)
+use Rattle.service_lanes.specs.declared.cursor.Cursor.{Cursor}
+use Rattle.service_lanes.specs.declared.stretch.Stretch.{Stretch}
+use Rattle.service_lanes.proofs.StretchLemmas.{frames_ascend}
 
 later_frame : (f frame : ℕ) → frame < f → (f == frame) ≡ false
 later_frame f frame high = grind (arith, nat_tests)
 
--- the bytes of a frame are those of the units that don't stand before it
-pub loads_behind : (us : List Chunk) (fs : List ℕ) (n frame : ℕ) → AllByRecursion (λ (f : ℕ). f < frame) (take n fs)
-    → loads_at (zip us fs) frame ≡ loads_at (zip (drop n us) (drop n fs)) frame
-loads_behind us fs zero frame before = refl
-loads_behind [] fs (suc n) frame before = refl
-loads_behind (u ∷ us) [] (suc n) frame before = sym (loads_unplaced (drop n us) frame)
-loads_behind (u ∷ us) (f ∷ fs) (suc n) frame before =
-    let other = other_frame f frame before.0 in
-    rw other (loads_behind us fs n frame before.1)
-
 -- units that stand behind the frame have none in it
-pub loads_none : (us : List Chunk) (fs : List ℕ) (frame : ℕ) → AreFramesFrom (frame + 1) fs → loads_at (zip us fs) frame ≡ []
+loads_none : (us : List Chunk) (fs : List ℕ) (frame : ℕ) → AreFramesFrom (frame + 1) fs → loads_at (zip us fs) frame ≡ []
 loads_none [] fs frame from = refl
 loads_none (u ∷ us) [] frame from = refl
 loads_none (u ∷ us) (f ∷ fs) frame from =
@@ -40,92 +30,185 @@ loads_none (u ∷ us) (f ∷ fs) frame from =
     later [] rest = tt
     later (g ∷ gs) rest = (omega (arith, from.0, rest.0), rest.1)
 
-all_push : (P : ℕ → Type 0) (fs : List ℕ) (f : ℕ) → AllByRecursion P fs → P f → AllByRecursion P (fs ++ f ∷ [])
-all_push P [] f all here = (here, tt)
-all_push P (x ∷ xs) f all here = (all.0, all_push P xs f all.1 here)
-
--- the frames passed are before a later one too
-before_later : (fs : List ℕ) (frame : ℕ) → AllByRecursion (λ (f : ℕ). f < frame) fs → AllByRecursion (λ (f : ℕ). f < frame + 1) fs
-before_later [] frame all = tt
-before_later (f ∷ fs) frame all = (omega (arith, all.0), before_later fs frame all.1)
-
--- the next unit, where it stands in the frame, comes first
-loads_first : (us : List Chunk) (fs : List ℕ) (frame next : ℕ) (d : Chunk) → length us ≡ length fs → next < length fs → frame ≡ get_or fs next frame
-    → loads_at (zip (drop next us) (drop next fs)) frame
-    ≡ (get_or us next d).unit.items ++ loads_at (zip (drop (next + 1) us) (drop (next + 1) fs)) frame
-loads_first us fs frame next d same within is =
-    let here : (frame == frame) ≡ true = eq-eqb frame frame refl in
-    rw (units_are, frames_are, here) refl
+-- the units of a stretch have all of their bytes in its frame, and none in another
+loads_stretch : (count f frame : ℕ) (us : List Chunk) (gs : List ℕ) → count ≤ length us
+    → loads_at (zip us (replicate count f ++ gs)) frame
+    ≡ (if f == frame then flat_map chunk_bytes (take count us) else []) ++ loads_at (zip (drop count us) gs) frame
+loads_stretch zero f frame us gs few = at (f == frame)
   where
-    frames_are : drop next fs ≡ frame ∷ drop (next + 1) fs
-    frames_are = drop_more fs next frame within ∙ ap (λ f. f ∷ drop (next + 1) fs) (sym is)
+    at : (b : Bool) → loads_at (zip us gs) frame ≡ (if b then [] else []) ++ loads_at (zip us gs) frame
+    at true = refl
+    at false = refl
+loads_stretch (suc count) f frame [] gs few = absurd (omega arith)
+loads_stretch (suc count) f frame (u ∷ us) gs few =
+    ap (λ l. (if f == frame then u.unit.items else []) ++ l) (loads_stretch count f frame us gs (omega arith)) ∙ join (f == frame)
+  where
+    join : (b : Bool) → (if b then u.unit.items else []) ++ ((if b then flat_map chunk_bytes (take count us) else []) ++ loads_at (zip (drop count us) gs) frame)
+        ≡ (if b then u.unit.items ++ flat_map chunk_bytes (take count us) else []) ++ loads_at (zip (drop count us) gs) frame
+    join true = sym (append_assoc u.unit.items (flat_map chunk_bytes (take count us)) (loads_at (zip (drop count us) gs) frame))
+    join false = refl
 
-    units_are : drop next us ≡ get_or us next d ∷ drop (next + 1) us
-    units_are = drop_more us next d (omega (arith, same, within))
+-- the bytes of the units from one place to another stand together
+record IsPart (chunks : List Chunk) (from to : ℕ) : Type 0 where
+  pub order : bytes_of_first from chunks ≤ bytes_of_first to chunks
+  pub within : bytes_of_first to chunks ≤ length (flat_map chunk_bytes chunks)
+  pub bytes : take (bytes_of_first to chunks - bytes_of_first from chunks) (drop (bytes_of_first from chunks) (flat_map chunk_bytes chunks))
+      ≡ flat_map chunk_bytes (take (to - from) (drop from chunks))
 
--- what is known while the units of a frame are appended: some of them are passed, and the others give what is left
-pub record IsLoaded (us : List Chunk) (fs : List ℕ) (frame from next : ℕ) (before now : List ℕ) : Type 0 where
-  pub gives : now ++ loads_at (zip (drop next us) (drop next fs)) frame ≡ before ++ loads_at (zip (drop from us) (drop from fs)) frame
-  pub passed : AllByRecursion (λ (f : ℕ). f < frame + 1) (take next fs)
-  pub ahead : AreFramesFrom frame (drop next fs)
+is_part : (chunks : List Chunk) (from to : ℕ) → from ≤ to → IsPart chunks from to
+is_part chunks from to low = record {
+  order = omega (arith, longer);
+  within = omega (arith, longer, ap length whole, length-append before (mine ++ behind), length-append mine behind);
+  bytes = ap (λ n. take n (drop (length before) (flat_map chunk_bytes chunks))) size ∙ ap (take (length mine)) rest ∙ take_at mine behind (length mine) refl;
+}
+  where
+    before : List ℕ
+    before = flat_map chunk_bytes (take from chunks)
 
-pub loaded_start : (us : List Chunk) (fs : List ℕ) (frame from : ℕ) (before : List ℕ) → IsLoading us fs frame from → IsLoaded us fs frame from from before before
-loaded_start us fs frame from before is = record { gives = refl; passed = before_later (take from fs) frame is.passed; ahead = is.ahead }
+    mine : List ℕ
+    mine = flat_map chunk_bytes (take (to - from) (drop from chunks))
 
--- a unit of the frame fits into the room for all of them
-pub loaded_room : (us : List Chunk) (fs : List ℕ) (frame from next room : ℕ) (before now : List ℕ) (d : Chunk) → length us ≡ length fs → next < length fs
-    → frame ≡ get_or fs next frame → IsLoaded us fs frame from next before now
-    → length before + length (loads_at (zip (drop from us) (drop from fs)) frame) ≤ room → length now + length (get_or us next d).unit.items ≤ room
-loaded_room us fs frame from next room before now d same within is loaded most =
-    let unit = (get_or us next d).unit.items in
-    let rest = loads_at (zip (drop (next + 1) us) (drop (next + 1) fs)) frame in
-    let all : now ++ (unit ++ rest) ≡ before ++ loads_at (zip (drop from us) (drop from fs)) frame =
-    ap (λ l. now ++ l) (sym (loads_first us fs frame next d same within is)) ∙ loaded.gives in
-    let left = length-append now (unit ++ rest) in
-    let inner = length-append unit rest in
-    let right = length-append before (loads_at (zip (drop from us) (drop from fs)) frame) in
-    let lengths = ap length all in
-    omega (arith, left, inner, right, lengths, most)
+    behind : List ℕ
+    behind = flat_map chunk_bytes (drop (to - from) (drop from chunks))
 
--- one more unit of the frame
-pub loaded_next : (us : List Chunk) (fs : List ℕ) (frame from next : ℕ) (before now : List ℕ) (d : Chunk) → length us ≡ length fs → next < length fs
-    → frame ≡ get_or fs next frame → IsLoaded us fs frame from next before now
-    → IsLoaded us fs frame from (next + 1) before (now ++ (get_or us next d).unit.items)
-loaded_next us fs frame from next before now d same within is loaded = record {
-  gives = append_assoc now (get_or us next d).unit.items (loads_at (zip (drop (next + 1) us) (drop (next + 1) fs)) frame) ∙ ap (λ l. now ++ l) (sym (loads_first us fs frame next d same within is)) ∙ loaded.gives;
-  passed =
-      subst (AllByRecursion (λ (f : ℕ). f < frame + 1)) (sym (take_more fs next frame within))
-      (all_push (λ (f : ℕ). f < frame + 1) (take next fs) (get_or fs next frame) loaded.passed (omega (arith, is)));
-  ahead =
-      let rest : AreFramesFrom frame (get_or fs next frame ∷ drop (next + 1) fs) = subst (AreFramesFrom frame) (drop_more fs next frame within) loaded.ahead in
-      subst (λ f. AreFramesFrom f (drop (next + 1) fs)) (sym is) rest.1;
+    inner : flat_map chunk_bytes (drop from chunks)
+        ≡ flat_map chunk_bytes (take (to - from) (drop from chunks)) ++ flat_map chunk_bytes (drop (to - from) (drop from chunks))
+    inner = ap (flat_map chunk_bytes) (sym (take-append-drop (to - from) (drop from chunks)))
+        ∙ flat_map-append chunk_bytes (take (to - from) (drop from chunks)) (drop (to - from) (drop from chunks))
+
+    outer : flat_map chunk_bytes chunks ≡ flat_map chunk_bytes (take from chunks) ++ flat_map chunk_bytes (drop from chunks)
+    outer = ap (flat_map chunk_bytes) (sym (take-append-drop from chunks)) ∙ flat_map-append chunk_bytes (take from chunks) (drop from chunks)
+
+    whole : flat_map chunk_bytes chunks
+        ≡ flat_map chunk_bytes (take from chunks)
+        ++ (flat_map chunk_bytes (take (to - from) (drop from chunks)) ++ flat_map chunk_bytes (drop (to - from) (drop from chunks)))
+    whole = outer ∙ ap (λ l. flat_map chunk_bytes (take from chunks) ++ l) inner
+
+    upto : take to chunks ≡ take from chunks ++ take (to - from) (drop from chunks)
+    upto = let sum : to ≡ from + (to - from) = omega (arith, low) in ap (λ n. take n chunks) sum ∙ take-add from (to - from) chunks
+
+    longer : bytes_of_first to chunks ≡ bytes_of_first from chunks + length (flat_map chunk_bytes (take (to - from) (drop from chunks)))
+    longer = ap (λ l. length (flat_map chunk_bytes l)) upto
+        ∙ ap length (flat_map-append chunk_bytes (take from chunks) (take (to - from) (drop from chunks)))
+        ∙ length-append (flat_map chunk_bytes (take from chunks)) (flat_map chunk_bytes (take (to - from) (drop from chunks)))
+
+    size : bytes_of_first to chunks - bytes_of_first from chunks ≡ length (flat_map chunk_bytes (take (to - from) (drop from chunks)))
+    size = omega (arith, longer)
+
+    rest : drop (bytes_of_first from chunks) (flat_map chunk_bytes chunks)
+        ≡ flat_map chunk_bytes (take (to - from) (drop from chunks)) ++ flat_map chunk_bytes (drop (to - from) (drop from chunks))
+    rest = ap (drop (bytes_of_first from chunks)) whole
+        ∙ drop_at (flat_map chunk_bytes (take from chunks))
+        (flat_map chunk_bytes (take (to - from) (drop from chunks)) ++ flat_map chunk_bytes (drop (to - from) (drop from chunks))) (bytes_of_first from chunks) refl
+
+-- the cursor's next stretch is in its frame
+pub record IsLoaded (chunks : List Chunk) (stretches : List Stretch) (cursor : Cursor) (s : Stretch) : Type 0 where
+  pub order : cursor.start ≤ s.bytes
+  pub within : s.bytes ≤ length (flat_map chunk_bytes chunks)
+  pub bytes : take (s.bytes - cursor.start) (drop cursor.start (flat_map chunk_bytes chunks)) ≡ loads_at (zip chunks (frames_of stretches)) cursor.frame
+  pub behind : IsLoading chunks stretches (record cursor { frame = cursor.frame + 1; next = cursor.next + 1; start = s.bytes })
+
+pub is_loaded : (chunks : List Chunk) (stretches : List Stretch) (cursor : Cursor) (s : Stretch) → IsLoading chunks stretches cursor
+    → cursor.next < length stretches → s ≡ get_or stretches cursor.next s → s.frame ≡ cursor.frame → IsLoaded chunks stretches cursor s
+is_loaded chunks stretches cursor s is there read here = record {
+  order = omega (arith, part.order, is.start, bytes_are);
+  within = omega (arith, part.within, bytes_are);
+  bytes =
+      ap (λ n. take (n - cursor.start) (drop cursor.start (flat_map chunk_bytes chunks))) bytes_are
+      ∙ ap (λ n. take (bytes_of_first s.units chunks - n) (drop n (flat_map chunk_bytes chunks))) is.start
+      ∙ part.bytes ∙ sym loads;
+  behind = record {
+    passed = s.units;
+    start = bytes_are;
+    same = λ frame later. is.same frame (omega (arith, later)) ∙ split frame ∙ gone frame (omega (arith, later));
+    ahead = subst (λ f. AreStretches chunks (f + 1) s.units rest) here ahead.4;
+  };
+}
+  where
+    rest : List Stretch
+    rest = drop (cursor.next + 1) stretches
+
+    next : drop cursor.next stretches ≡ s ∷ drop (cursor.next + 1) stretches
+    next = drop_more stretches cursor.next s there ∙ ap (λ d. d ∷ drop (cursor.next + 1) stretches) (sym read)
+
+    ahead : AreStretches chunks cursor.frame is.passed (s ∷ drop (cursor.next + 1) stretches)
+    ahead = subst (AreStretches chunks cursor.frame is.passed) next is.ahead
+
+    part : IsPart chunks is.passed s.units
+    part = is_part chunks is.passed s.units ahead.1
+
+    bytes_are : s.bytes ≡ bytes_of_first s.units chunks
+    bytes_are = ahead.3
+
+    split : (frame : ℕ) → loads_at (zip (drop is.passed chunks) (frames_from is.passed (drop cursor.next stretches))) frame
+        ≡ (if s.frame == frame then flat_map chunk_bytes (take (s.units - is.passed) (drop is.passed chunks)) else [])
+        ++ loads_at (zip (drop s.units chunks) (frames_from s.units (drop (cursor.next + 1) stretches))) frame
+    split frame =
+        let sum : is.passed + (s.units - is.passed) ≡ s.units = omega (arith, ahead.1) in
+        ap (λ l. loads_at (zip (drop is.passed chunks) (frames_from is.passed l)) frame) next
+        ∙ loads_stretch (s.units - is.passed) s.frame frame (drop is.passed chunks) (frames_from s.units (drop (cursor.next + 1) stretches))
+        (omega (arith, ahead.2, length-drop is.passed chunks))
+        ∙ ap (λ l. (if s.frame == frame then flat_map chunk_bytes (take (s.units - is.passed) (drop is.passed chunks)) else [])
+        ++ loads_at (zip l (frames_from s.units (drop (cursor.next + 1) stretches))) frame)
+        (drop-drop (s.units - is.passed) is.passed chunks ∙ ap (λ n. drop n chunks) sum)
+
+    gone : (frame : ℕ) → cursor.frame < frame
+        → (if s.frame == frame then flat_map chunk_bytes (take (s.units - is.passed) (drop is.passed chunks)) else [])
+        ++ loads_at (zip (drop s.units chunks) (frames_from s.units (drop (cursor.next + 1) stretches))) frame
+        ≡ loads_at (zip (drop s.units chunks) (frames_from s.units (drop (cursor.next + 1) stretches))) frame
+    gone frame later = let other : (s.frame == frame) ≡ false = grind (arith, nat_tests) in rw other refl
+
+    none : loads_at (zip (drop s.units chunks) (frames_from s.units (drop (cursor.next + 1) stretches))) cursor.frame ≡ []
+    none = loads_none (drop s.units chunks) (frames_from s.units (drop (cursor.next + 1) stretches)) cursor.frame
+        (frames_ascend chunks (cursor.frame + 1) s.units (drop (cursor.next + 1) stretches)
+        (subst (λ f. AreStretches chunks (f + 1) s.units (drop (cursor.next + 1) stretches)) here ahead.4))
+
+    loads : loads_at (zip chunks (frames_of stretches)) cursor.frame ≡ flat_map chunk_bytes (take (s.units - is.passed) (drop is.passed chunks))
+    loads =
+        let same : (s.frame == cursor.frame) ≡ true = eq-eqb s.frame cursor.frame here in
+        is.same cursor.frame (omega arith) ∙ split cursor.frame
+        ∙ rw (same, none) (append-nil (flat_map chunk_bytes (take (s.units - is.passed) (drop is.passed chunks))))
+
+-- no stretch is left, or the next one is in a later frame
+pub record IsUnloaded (chunks : List Chunk) (stretches : List Stretch) (cursor : Cursor) : Type 0 where
+  pub none : loads_at (zip chunks (frames_of stretches)) cursor.frame ≡ []
+  pub behind : IsLoading chunks stretches (record cursor { frame = cursor.frame + 1 })
+
+unloaded_by : (chunks : List Chunk) (stretches : List Stretch) (cursor : Cursor) (is : IsLoading chunks stretches cursor)
+    → AreStretches chunks (cursor.frame + 1) is.passed (drop cursor.next stretches) → IsUnloaded chunks stretches cursor
+unloaded_by chunks stretches cursor is ahead = record {
+  none = is.same cursor.frame (omega arith)
+      ∙ loads_none (drop is.passed chunks) (frames_from is.passed (drop cursor.next stretches)) cursor.frame
+      (frames_ascend chunks (cursor.frame + 1) is.passed (drop cursor.next stretches) ahead);
+  behind = record {
+    passed = is.passed;
+    start = is.start;
+    same = λ frame later. is.same frame (omega (arith, later));
+    ahead = ahead;
+  };
 }
 
--- no unit is left, or the next one stands behind the frame
-pub loaded_all : (us : List Chunk) (fs : List ℕ) (frame from next : ℕ) (before now : List ℕ) → length us ≡ length fs → IsLoaded us fs frame from next before now
-    → AreFramesFrom (frame + 1) (drop next fs)
-    → (now ≡ before ++ loads_at (zip (drop from us) (drop from fs)) frame) × IsLoading us fs (frame + 1) next
-loaded_all us fs frame from next before now same loaded behind =
-    let none : loads_at (zip (drop next us) (drop next fs)) frame ≡ [] = loads_none (drop next us) (drop next fs) frame behind in (
-      sym (append_nil_right now (loads_at (zip (drop next us) (drop next fs)) frame) none) ∙ loaded.gives,
-      record { same = same; passed = loaded.passed; ahead = behind },
-    )
-  where
-    append_nil_right : (xs ys : List ℕ) → ys ≡ [] → xs ++ ys ≡ xs
-    append_nil_right [] ys e = e
-    append_nil_right (x ∷ xs) ys e = ap (λ l. x ∷ l) (append_nil_right xs ys e)
+pub all_loaded : (chunks : List Chunk) (stretches : List Stretch) (cursor : Cursor) → IsLoading chunks stretches cursor → length stretches ≤ cursor.next
+    → IsUnloaded chunks stretches cursor
+all_loaded chunks stretches cursor is end =
+    unloaded_by chunks stretches cursor is (subst (AreStretches chunks (cursor.frame + 1) is.passed) (sym (drop_all cursor.next stretches end)) tt)
 
-pub behind_end : (fs : List ℕ) (next frame : ℕ) → length fs ≤ next → AreFramesFrom frame (drop next fs)
-behind_end fs next frame end = subst (AreFramesFrom frame) (sym (drop_all next fs end)) tt
+pub not_yet : (chunks : List Chunk) (stretches : List Stretch) (cursor : Cursor) (s : Stretch) → IsLoading chunks stretches cursor
+    → cursor.next < length stretches → s ≡ get_or stretches cursor.next s → (s.frame ≡ cursor.frame → ⊥) → IsUnloaded chunks stretches cursor
+not_yet chunks stretches cursor s is there read other =
+    let next : drop cursor.next stretches ≡ s ∷ drop (cursor.next + 1) stretches =
+    drop_more stretches cursor.next s there ∙ ap (λ d. d ∷ drop (cursor.next + 1) stretches) (sym read) in
+    let ahead : AreStretches chunks cursor.frame is.passed (s ∷ drop (cursor.next + 1) stretches) =
+    subst (AreStretches chunks cursor.frame is.passed) next is.ahead in
+    unloaded_by chunks stretches cursor is
+    (subst (AreStretches chunks (cursor.frame + 1) is.passed) (sym next) (omega (arith, ahead.0, other), ahead.1, ahead.2, ahead.3, ahead.4))
 
-pub behind_next : (fs : List ℕ) (next frame f : ℕ) → next < length fs → f ≡ get_or fs next f → (f ≡ frame → ⊥) → AreFramesFrom frame (drop next fs)
-    → AreFramesFrom (frame + 1) (drop next fs)
-behind_next fs next frame f within is other ahead =
-    let are : drop next fs ≡ f ∷ drop (next + 1) fs = drop_more fs next f within ∙ ap (λ g. g ∷ drop (next + 1) fs) (sym is) in
-    let rest : AreFramesFrom frame (f ∷ drop (next + 1) fs) = subst (AreFramesFrom frame) are ahead in
-    subst (AreFramesFrom (frame + 1)) (sym are) (omega (arith, rest.0, other), rest.1)
-
--- the bytes of the cursor's frame are those of the units behind it
-pub loads_from : (us : List Chunk) (fs : List ℕ) (frame next : ℕ) → IsLoading us fs frame next
-    → loads_at (zip us fs) frame ≡ loads_at (zip (drop next us) (drop next fs)) frame
-loads_from us fs frame next is = loads_behind us fs next frame is.passed
+-- the cursor at the beginning
+pub loading_start : (chunks : List Chunk) (stretches : List Stretch) (cursor : Cursor) → AreStretches chunks 0 0 stretches → cursor.frame ≡ 0 → cursor.next ≡ 0
+    → cursor.start ≡ 0 → IsLoading chunks stretches cursor
+loading_start chunks stretches cursor are frame next start = record {
+  passed = 0;
+  start = start;
+  same = λ other later. ap (λ n. loads_at (zip chunks (frames_from 0 (drop n stretches))) other) (sym next);
+  ahead = subst (λ n. AreStretches chunks n 0 (drop cursor.next stretches)) (sym frame) (subst (λ n. AreStretches chunks 0 0 (drop n stretches)) (sym next) are);
+}

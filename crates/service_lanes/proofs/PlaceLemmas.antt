@@ -18,6 +18,7 @@ use Rattle.placements.proofs.PlacingLemmas.{earliest_none, zip_push}
 use Rattle.service_lanes.specs.ServiceBytes.{AreFramesFrom, loads_at}
 use Rattle.service_lanes.specs.ServiceChunks.{chunk_cue}
 use Rattle.service_lanes.specs.ServiceLane.{AreUpTo, bytes_between, is_between, size_of, used}
+use Rattle.service_lanes.specs.ServicePlacing.{Reaches}
 use Rattle.service_lanes.specs.ServicePlan.{IsWithinShare}
 use Rattle.service_lanes.specs.ServiceRoom.{IsFirstBehind, IsFront, caption_lane, frame_room}
 use Rattle.service_lanes.specs.declared.chunk.Chunk.{Chunk}
@@ -25,11 +26,13 @@ use Rattle.service_lanes.specs.declared.front.Front.{Front}
 use Rattle.service_lanes.proofs.FrontLemmas.{last_is_first}
 use Rattle.service_lanes.proofs.ServiceLaneLemmas.{chunks_fit_earlier, chunks_one_more, placed_within}
 
--- the units in their earliest frames, with the front behind them
-pub record Reaches (share : ℕ) (cs : List Caption) (us : List Chunk) (frames : List ℕ) (front : Front) : Type 0 where
-  pub earliest : IsEarliest (caption_lane share cs) us frames
-  pub front_is : IsFront share cs (zip us frames) front
-  pub first : IsFirstBehind (zip us frames) front.frame
+-- no unit is placed
+pub reaches_start : (share : ℕ) (cs : List Caption) (front : Front) → IsFront share cs [] front → front.frame ≡ 0 → Reaches share cs [] [] front
+reaches_start share cs front is at = record {
+  earliest = earliest_none (caption_lane share cs);
+  front_is = is;
+  first = λ other all. omega (arith, at);
+}
 
 -- one more of the lane's units is placed
 pub reaches_next : (share : ℕ) (cs : List Caption) (us : List Chunk) (k : ℕ) (d : Chunk) (frames : List ℕ) (old new : Front) (f : ℕ) → k < length us

@@ -1,5 +1,8 @@
 pub mod ServiceLane
 pub mod ServiceChunks
 pub mod ServiceRoom
+pub mod CueChunks
+pub mod Stretches
 pub mod ServiceBytes
 pub mod ServicePlan
+pub mod ServicePlacing

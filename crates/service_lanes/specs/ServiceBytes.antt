@@ -1,13 +1,15 @@
 -- The bytes that a service is sent in a frame: those of the frame's events, and behind them the units that stand in the frame.
-use Rattle.std.specs.Prelude.{◌≡◌, ℕ, ◌<◌, ◌≤◌, ◌==◌, if◌then◌else◌, List, [], ◌∷◌, ◌++◌, length, take, drop, ⊤}
-use Rattle.std.specs.List.{AllByRecursion, flat_map}
+use Rattle.std.specs.Prelude.{◌≡◌, ℕ, ◌≤◌, ◌==◌, if◌then◌else◌, List, [], ◌∷◌, ◌++◌, drop, ⊤}
+use Rattle.std.specs.List.{flat_map, zip}
 use Rattle.cc_base.specs.declared.rate.Rate.{Rate}
 use Rattle.dtvcc_author.specs.FrameEvents.{event_bytes}
 use Rattle.dtvcc_author.specs.Kept.{AreKept}
 use Rattle.dtvcc_author.specs.Latest.{IsAt}
 use Rattle.dtvcc_author.specs.declared.caption.Caption.{Caption}
+use Rattle.service_lanes.specs.Stretches.{AreStretches, bytes_of_first, frames_from, frames_of}
 use Rattle.service_lanes.specs.declared.chunk.Chunk.{Chunk}
 use Rattle.service_lanes.specs.declared.cursor.Cursor.{Cursor}
+use Rattle.service_lanes.specs.declared.stretch.Stretch.{Stretch}
 
 -- the bytes of the units that stand in a frame
 abbrev pub loads_at : List (Chunk × ℕ) → ℕ → List ℕ
@@ -22,14 +24,17 @@ abbrev pub AreFramesFrom : ℕ → List ℕ → Type 0
 AreFramesFrom frame [] = ⊤
 AreFramesFrom frame (f ∷ fs) = (frame ≤ f) × AreFramesFrom f fs
 
--- the units before the cursor stand before its frame, and the others don't
-pub record IsLoading (chunks : List Chunk) (frames : List ℕ) (frame next : ℕ) : Type 0 where
-  pub same : length chunks ≡ length frames
-  pub passed : AllByRecursion (λ (f : ℕ). f < frame) (take next frames)
-  pub ahead : AreFramesFrom frame (drop next frames)
+-- the cursor is behind the units that stand before its frame: those of the frames from there on are the ones of its next stretches
+pub record IsLoading (chunks : List Chunk) (stretches : List Stretch) (cursor : Cursor) : Type 0 where
+  -- how many units are passed
+  pub passed : ℕ
+  pub start : cursor.start ≡ bytes_of_first passed chunks
+  pub same : (frame : ℕ) → cursor.frame ≤ frame
+      → loads_at (zip chunks (frames_of stretches)) frame ≡ loads_at (zip (drop passed chunks) (frames_from passed (drop cursor.next stretches))) frame
+  pub ahead : AreStretches chunks cursor.frame passed (drop cursor.next stretches)
 
 -- the cursor is ready to give the bytes of its frame
-pub record IsReady (cs : List Caption) (chunks : List Chunk) (frames : List ℕ) (cursor : Cursor) : Type 0 where
+pub record IsReady (cs : List Caption) (chunks : List Chunk) (stretches : List Stretch) (cursor : Cursor) : Type 0 where
   pub kept : (rate : Rate) × ((all : ℕ) × AreKept rate all cs)
   pub at : IsAt cs cursor.frame cursor.latest
-  pub loading : IsLoading chunks frames cursor.frame cursor.next
+  pub loading : IsLoading chunks stretches cursor

@@ -1,52 +1,53 @@
 ghost use Rattle.std.specs.Prelude.{◌≡◌, ◌≤◌, ◌++◌, All, IfOk, OnOk, length, map};
 ghost use Rattle.cue_lists.specs.Cues.{IsCueFormed};
 ghost use Rattle.dtvcc_author.specs.CueUnits.{units_of};
+ghost use Rattle.service_lanes.specs.CueChunks.{AreCounted, chunks_of};
 ghost use Rattle.service_lanes.specs.ServiceChunks.{chunk_of, service_chunks};
 
-use crate::chunk::Chunk;
+use crate::chunk::CueLoad;
+use crate::chunk_list::ChunkList;
 use cc_base::Rate;
 use cue_lists::Cue;
-use dtvcc_author::{Caption, caption_of, units};
+use dtvcc_author::{Caption, PackedUnits, caption_of, push_units};
 use std::alloc::{AllocError, Global};
 
 /// The units of the cues of a service, in the order of the cues. `AllocError` where there is no memory for them.
-pub fn chunks(
-    alloc: Global,
-    rate: Rate,
-    cues: &[Cue],
-    service: u8,
-) -> Result<Vec<Chunk>, AllocError>
+pub fn chunks(alloc: Global, rate: Rate, cues: &[Cue], service: u8) -> Result<ChunkList, AllocError>
     requires formed { All IsCueFormed cues.now }
     requires few { length cues.now ≤ 20000 }
-    ensures { IfOk result (λ chunks. chunks.items ≡ service_chunks rate service cues.now) }
+    ensures { IfOk result (λ chunks. chunks ≡ service_chunks rate service cues.now) }
 {
-    let mut chunks = Vec::new(alloc);
+    let mut units = PackedUnits::new(alloc);
+    let mut loads = Vec::new(alloc);
     for (index, cue) in cues.iter().enumerate() {
         if let Some(caption) = caption_of(rate, cue, service) {
-            push_cue(alloc, &mut chunks, index as u32 + 1, caption, cue)?;
+            push_cue(&mut units, &mut loads, index as u32 + 1, caption, cue)?;
         }
     }
-    Ok(chunks)
+    Ok(ChunkList::new(units, loads))
 }
 
-// Appends the units of the caption of this number.
+// Appends the units of the caption of this number, and what it asks of their places.
 fn push_cue(
-    alloc: Global,
-    chunks: &mut Vec<Chunk>,
+    units: &mut PackedUnits,
+    loads: &mut Vec<CueLoad>,
     number: u32,
     caption: Caption,
     cue: &Cue,
 ) -> Result<(), AllocError>
-    requires { IsCueFormed cue.now }
-    ensures { OnOk result (chunks.new.items ≡ chunks.old.items ++ map (chunk_of number caption) (units_of cue.now)) }
+    requires formed { IsCueFormed cue.now }
+    requires counted { AreCounted loads.old.items units.old }
+    ensures counted { OnOk result (AreCounted loads.new.items units.new) }
+    ensures chunks { OnOk result (chunks_of loads.new.items units.new
+        ≡ chunks_of loads.old.items units.old ++ map (chunk_of number caption) (units_of cue.now)) }
 {
-    for unit in units(alloc, cue)?.into_vec() {
-        chunks.push(Chunk {
-            unit,
-            load: caption.load,
-            until: caption.starts,
-            cue: number,
-        })?;
-    }
+    let before = units.len();
+    push_units(units, cue)?;
+    loads.push(CueLoad {
+        load: caption.load,
+        until: caption.starts,
+        cue: number,
+        count: units.len() - before,
+    })?;
     Ok(())
 }

@@ -1,10 +1,12 @@
-ghost use Rattle.std.specs.Prelude.{◌≡◌, ℕ, ◌+◌, ◌^◌, ◌<◌, ◌≤◌, ◌++◌, List, length, drop};
+ghost use Rattle.std.specs.Prelude.{◌≡◌, ℕ, ◌+◌, ◌^◌, ◌<◌, ◌≤◌, ◌++◌, List, length};
 ghost use Rattle.std.specs.List.{zip};
 ghost use Rattle.dtvcc_author.specs.Latest.{IsAt};
 ghost use Rattle.dtvcc_author.specs.declared.caption.Caption.{Caption};
 ghost use Rattle.service_lanes.specs.ServiceBytes.{IsLoading, IsReady, bytes_in, loads_at};
+ghost use Rattle.service_lanes.specs.Stretches.{frames_of};
 
-use crate::chunk::Chunk;
+use crate::chunk_list::ChunkList;
+use crate::stretch::Stretch;
 use arrayvec::ArrayVec;
 use dtvcc_author::{Caption, Latest};
 
@@ -12,7 +14,10 @@ use dtvcc_author::{Caption, Latest};
 #[derive(Clone, Copy, Debug)]
 pub(crate) struct Cursor {
     frame: u32,
+    // How many stretches were given.
     next: usize,
+    // Where the bytes of the next one start.
+    start: usize,
     latest: Latest,
 }
 
@@ -21,11 +26,13 @@ impl Cursor {
     pub fn start() -> Self
         ensures frame { result.frame ≡ 0 }
         ensures next { result.next ≡ 0 }
+        ensures start { result.start ≡ 0 }
         ensures latest { (captions : List Caption) → IsAt captions 0 result.latest }
     {
         Cursor {
             frame: 0,
             next: 0,
+            start: 0,
             latest: Latest::start(),
         }
     }
@@ -34,40 +41,41 @@ impl Cursor {
     pub fn step(
         &mut self,
         captions: &[Caption],
-        chunks: &[Chunk],
-        frames: &[u32],
+        chunks: &ChunkList,
+        stretches: &[Stretch],
     ) -> ArrayVec<u8, 31>
         requires small { self.old.frame + 1 < 2 ^ 32 }
-        requires ready { IsReady captions.now chunks.now frames.now self.old }
-        requires within { length (bytes_in captions.now (zip chunks.now frames.now) self.old.frame) ≤ 31 }
-        ensures bytes { result.items ≡ bytes_in captions.now (zip chunks.now frames.now) self.old.frame }
+        requires ready { IsReady captions.now chunks.now stretches.now self.old }
+        requires within { length (bytes_in captions.now (zip chunks.now (frames_of stretches.now)) self.old.frame) ≤ 31 }
+        ensures bytes { result.items ≡ bytes_in captions.now (zip chunks.now (frames_of stretches.now)) self.old.frame }
         ensures frame { self.new.frame ≡ self.old.frame + 1 }
-        ensures ready { IsReady captions.now chunks.now frames.now self.new }
+        ensures ready { IsReady captions.now chunks.now stretches.now self.new }
     {
         let mut bytes = ArrayVec::new();
         let events = self.latest.events(self.frame);
         push(&events.bytes(), &mut bytes);
-        self.load(chunks, frames, &mut bytes);
-        self.frame += 1;
+        self.load(chunks, stretches, &mut bytes);
         self.latest.pass_to(captions, self.frame);
         bytes
     }
 
-    // Appends the units of the cursor's frame, and passes them.
-    fn load(&mut self, chunks: &[Chunk], frames: &[u32], bytes: &mut ArrayVec<u8, 31>)
-        requires loading { IsLoading chunks.now frames.now self.old.frame self.old.next }
-        requires room { length bytes.old.items
-            + length (loads_at (zip (drop self.old.next chunks.now) (drop self.old.next frames.now)) self.old.frame) ≤ 31 }
-        ensures bytes { bytes.new.items ≡ bytes.old.items
-            ++ loads_at (zip (drop self.old.next chunks.now) (drop self.old.next frames.now)) self.old.frame }
-        ensures frame { self.new.frame ≡ self.old.frame }
+    // Appends the units of the cursor's frame, and passes on to the next frame.
+    fn load(&mut self, chunks: &ChunkList, stretches: &[Stretch], bytes: &mut ArrayVec<u8, 31>)
+        requires small { self.old.frame + 1 < 2 ^ 32 }
+        requires loading { IsLoading chunks.now stretches.now self.old }
+        requires room { length bytes.old.items + length (loads_at (zip chunks.now (frames_of stretches.now)) self.old.frame) ≤ 31 }
+        ensures bytes { bytes.new.items ≡ bytes.old.items ++ loads_at (zip chunks.now (frames_of stretches.now)) self.old.frame }
+        ensures frame { self.new.frame ≡ self.old.frame + 1 }
         ensures latest { self.new.latest ≡ self.old.latest }
-        ensures loading { IsLoading chunks.now frames.now (self.old.frame + 1) self.new.next }
+        ensures loading { IsLoading chunks.now stretches.now self.new }
     {
-        while let Some(frame) = frames.get(self.next)
-            && *frame == self.frame
+        let frame = self.frame;
+        self.frame += 1;
+        if let Some(stretch) = stretches.get(self.next)
+            && stretch.frame == frame
         {
-            push(&chunks[self.next].unit, bytes);
+            push(&chunks.bytes()[self.start..stretch.bytes], bytes);
+            self.start = stretch.bytes;
             self.next += 1;
         }
     }

@@ -5,11 +5,11 @@ ghost use Rattle.dtvcc_author.specs.FrameEvents.{delay_end, event_bytes};
 ghost use Rattle.dtvcc_author.specs.Kept.{AreKept};
 ghost use Rattle.dtvcc_author.specs.Latest.{IsAt};
 ghost use Rattle.placements.specs.FirstFit.{IsFirst};
-ghost use Rattle.service_lanes.specs.ServiceLane.{IsAllowed, size_of};
+ghost use Rattle.service_lanes.specs.CueChunks.{chunk_in};
 ghost use Rattle.service_lanes.specs.declared.chunk.Chunk.{Chunk};
 ghost use Rattle.service_lanes.specs.ServiceRoom.{IsFirstBehind, IsFront, behind_taking, budget_in, caption_lane, takes};
 
-use crate::chunk::Chunk;
+use crate::chunk::CueLoad;
 use buffer_bound::Budget;
 use dtvcc_author::{Caption, Delay, Latest};
 
@@ -41,22 +41,29 @@ impl Front {
         front
     }
 
-    /// Places the unit in the first frame that is allowed behind the units before, and stays at it. `None` where no frame is
-    /// allowed; the front is of no use then.
-    pub fn place(&mut self, chunk: &Chunk, captions: &[Caption], share: u8) -> Option<u32>
+    /// Places a unit of a cue in the first frame that is allowed behind the units before, and stays at it. `None` where no frame
+    /// is allowed; the front is of no use then.
+    pub fn place(
+        &mut self,
+        cue: &CueLoad,
+        unit: &[u8],
+        captions: &[Caption],
+        share: u8,
+    ) -> Option<u32>
         requires kept { (rate : Rate) × ((frames : ℕ) × AreKept rate frames captions.now) }
         requires least { 8 ≤ share }
+        requires small { length unit.now ≤ 7 }
         ensures some { IfSome result (λ frame. (before : List (Chunk × ℕ)) → IsFront share captions.now before self.old
-            → IsFirstBehind before self.old.frame → IsFirst (caption_lane share captions.now before chunk.now) frame) }
+            → IsFirstBehind before self.old.frame → IsFirst (caption_lane share captions.now before (chunk_in cue.now unit.now)) frame) }
         ensures front { IfSome result (λ frame. (before : List (Chunk × ℕ)) → IsFront share captions.now before self.old
-            → IsFront share captions.now (before ++ (chunk.now, frame) ∷ []) self.new) }
+            → IsFront share captions.now (before ++ (chunk_in cue.now unit.now, frame) ∷ []) self.new) }
         ensures at { IfSome result (λ frame. self.new.frame ≡ frame) }
         ensures none { IfNone result ((before : List (Chunk × ℕ)) → IsFront share captions.now before self.old
-            → IsFirstBehind before self.old.frame → (frame : ℕ) → caption_lane share captions.now before chunk.now frame → ⊥) }
+            → IsFirstBehind before self.old.frame → (frame : ℕ) → caption_lane share captions.now before (chunk_in cue.now unit.now) frame → ⊥) }
     {
-        let until = chunk.until;
+        let until = cue.until;
         while self.frame < until {
-            if self.admit(chunk) {
+            if self.admit(cue, unit) {
                 return Some(self.frame);
             }
             self.frame += 1;
@@ -83,12 +90,13 @@ impl Front {
     }
 
     // Takes the bytes of a unit that is loaded by the front's frame, where this and its delay have them; else the answer is false.
-    fn admit(&mut self, chunk: &Chunk) -> bool
-        ensures admits { result ≡ (nat_le chunk.now.load self.old.frame && takes self.old (size_of chunk.now)) }
-        ensures taken { OnTrue result (self.new ≡ behind_taking self.old (size_of chunk.now)) }
+    fn admit(&mut self, cue: &CueLoad, unit: &[u8]) -> bool
+        requires { length unit.now ≤ 7 }
+        ensures admits { result ≡ (nat_le cue.now.load self.old.frame && takes self.old (length unit.now)) }
+        ensures taken { OnTrue result (self.new ≡ behind_taking self.old (length unit.now)) }
         ensures kept { OnFalse result (self.new ≡ self.old) }
     {
-        chunk.load <= self.frame && self.take(chunk.unit.len() as u8)
+        cue.load <= self.frame && self.take(unit.len() as u8)
     }
 
     // Takes so many bytes of the frame and of its delay, where both have them; else the answer is false.

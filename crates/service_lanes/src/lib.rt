@@ -3,14 +3,18 @@
 #![tactic(auto)]
 
 pub use crate::chunk::Chunk;
+pub use crate::chunk_list::ChunkList;
 pub use crate::cues::chunks;
 pub use crate::placed::{PlacedService, ServiceLane};
 
 pub mod chunk;
+mod chunk_list;
 mod cues;
 mod cursor;
 mod front;
 pub mod laws;
 pub mod placed;
+mod placing;
+mod stretch;
 #[cfg(test)]
 mod tests;

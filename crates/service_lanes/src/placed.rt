@@ -6,10 +6,12 @@ ghost use Rattle.placements.specs.Placing.{IsEarliest};
 ghost use Rattle.service_lanes.specs.ServiceChunks.{chunk_cue};
 ghost use Rattle.service_lanes.specs.ServicePlan.{IsLaneFault, IsPlanOf, lane_bytes};
 ghost use Rattle.service_lanes.specs.ServiceRoom.{caption_lane};
+ghost use Rattle.service_lanes.specs.Stretches.{AreStretches, frames_of};
 
-use crate::chunk::Chunk;
+use crate::chunk_list::ChunkList;
 use crate::cursor::Cursor;
-use crate::front::Front;
+use crate::placing::Placing;
+use crate::stretch::Stretch;
 use arrayvec::ArrayVec;
 use dtvcc_author::Caption;
 use placements::PlanFault;
@@ -25,7 +27,7 @@ pub struct ServiceLane {
     /// The bytes of each frame that it may use, 8 to 31.
     pub share: u8,
     pub captions: Vec<Caption>,
-    pub chunks: Vec<Chunk>,
+    pub chunks: ChunkList,
 }
 
 impl ServiceLane {
@@ -35,17 +37,17 @@ impl ServiceLane {
         requires kept { (rate : Rate) × ((frames : ℕ) × AreKept rate frames self.captions.items) }
         requires least { 8 ≤ self.share }
         requires most { self.share ≤ 31 }
-        requires order { AreInCueOrder chunk_cue self.chunks.items }
-        ensures planned { IfOk result (IsPlanOf self.service self.share self.captions.items self.chunks.items) }
-        ensures fault { IfErr result (IsLaneFault self.share self.captions.items self.chunks.items) }
+        requires order { AreInCueOrder chunk_cue self.chunks }
+        ensures planned { IfOk result (IsPlanOf self.service self.share self.captions.items self.chunks) }
+        ensures fault { IfErr result (IsLaneFault self.share self.captions.items self.chunks) }
     {
-        match placed_frames(alloc, &self.chunks, &self.captions, self.share) {
-            Ok(frames) => Ok(PlacedService {
+        match placed_stretches(alloc, &self.chunks, &self.captions, self.share) {
+            Ok(stretches) => Ok(PlacedService {
                 service: self.service,
                 share: self.share,
                 captions: self.captions,
                 chunks: self.chunks,
-                frames,
+                stretches,
                 cursor: Cursor::start(),
             }),
             Err(fault) => Err(fault),
@@ -53,30 +55,28 @@ impl ServiceLane {
     }
 }
 
-// The frames of the units in their earliest placement, or the first cue that has no room.
-fn placed_frames(
+// The stretches of the units in their earliest placement, or the first cue that has no room.
+fn placed_stretches(
     alloc: Global,
-    chunks: &[Chunk],
+    chunks: &ChunkList,
     captions: &[Caption],
     share: u8,
-) -> Result<Vec<u32>, PlanFault>
+) -> Result<Vec<Stretch>, PlanFault>
     requires kept { (rate : Rate) × ((frames : ℕ) × AreKept rate frames captions.now) }
     requires least { 8 ≤ share }
     requires order { AreInCueOrder chunk_cue chunks.now }
-    ensures frames { IfOk result (λ frames. IsEarliest (caption_lane share captions.now) chunks.now frames.items) }
+    ensures frames { IfOk result (λ stretches. IsEarliest (caption_lane share captions.now) chunks.now (frames_of stretches.items)) }
+    ensures stretches { IfOk result (λ stretches. AreStretches chunks.now 0 0 stretches.items) }
     ensures fault { IfErr result (IsLaneFault share captions.now chunks.now) }
 {
-    let mut frames = Vec::new(alloc);
-    let mut front = Front::start(captions, share);
-    for chunk in chunks {
-        let Some(frame) = front.place(chunk, captions, share) else {
-            return Err(PlanFault::NoRoom(chunk.cue));
-        };
-        if let Err(error) = frames.push(frame) {
-            return Err(PlanFault::Memory(error.into()));
+    let (units, cues) = chunks.parts();
+    let mut placing = Placing::start(alloc, captions, share);
+    for cue in cues {
+        if let Err(fault) = placing.place_cue(*cue, units, captions, share) {
+            return Err(fault);
         }
     }
-    Ok(frames)
+    placing.finish()
 }
 
 /// A service's lane with its units in their earliest frames, read frame by frame.
@@ -85,8 +85,8 @@ pub struct PlacedService {
     service: u8,
     share: u8,
     captions: Vec<Caption>,
-    chunks: Vec<Chunk>,
-    frames: Vec<u32>,
+    chunks: ChunkList,
+    stretches: Vec<Stretch>,
     cursor: Cursor,
 }
 
@@ -94,6 +94,7 @@ impl Model for PlacedService {
     ghost use Rattle.std.specs.Prelude.{◌≤◌};
     ghost use Rattle.service_lanes.specs.ServiceBytes.{IsReady};
     ghost use Rattle.service_lanes.specs.ServicePlan.{IsWithinShare, PlannedService};
+    ghost use Rattle.service_lanes.specs.Stretches.{frames_of};
 
     ghost Value = { PlannedService };
 
@@ -101,14 +102,14 @@ impl Model for PlacedService {
       service = plan.service;
       share = plan.share;
       captions = plan.captions.items;
-      chunks = plan.chunks.items;
-      frames = plan.frames.items;
+      chunks = plan.chunks;
+      frames = frames_of plan.stretches.items;
       frame = plan.cursor.frame;
     } };
 
     ghost invariant = { λ plan.
-        IsReady plan.captions.items plan.chunks.items plan.frames.items plan.cursor
-        × IsWithinShare plan.share plan.captions.items plan.chunks.items plan.frames.items × (plan.share ≤ 31) };
+        IsReady plan.captions.items plan.chunks plan.stretches.items plan.cursor
+        × IsWithinShare plan.share plan.captions.items plan.chunks (frames_of plan.stretches.items) × (plan.share ≤ 31) };
 }
 
 impl PlacedService {
@@ -126,6 +127,7 @@ impl PlacedService {
         ensures within { length result.items ≤ self.old.share }
         ensures moves { self.new ≡ record self.old { frame = self.old.frame + 1 } }
     {
-        self.cursor.step(&self.captions, &self.chunks, &self.frames)
+        self.cursor
+            .step(&self.captions, &self.chunks, &self.stretches)
     }
 }

@@ -1,56 +1,67 @@
-use Rattle.std.proofs.Common.{◌≡◌, ◌∙◌, ◌+◌, ◌≤◌, ◌++◌, length, get_or, rules, refl, sym, ap, subst}
-use Rattle.service_lanes.proofs.LoadLemmas.{IsLoaded, behind_end, behind_next, loaded_all, loaded_next, loaded_room, loaded_start}
+use Rattle.std.proofs.Common.{◌≡◌, ◌∙◌, ◌-◌, ◌++◌, ap, arith, drop, length, rules, sym, take}
+use Rattle.std.specs.List.{zip}
+use Rattle.std.proofs.lemmas.List.{append-nil}
+use Rattle.service_lanes.specs.ServiceBytes.{loads_at}
+use Rattle.service_lanes.specs.Stretches.{frames_of}
+use Rattle.service_lanes.proofs.LoadLemmas.{IsUnloaded, all_loaded, is_loaded, not_yet}
 use Rattle.service_lanes.proofs.cursor.Cursor.load.Goals as goal
+use Rattle.service_lanes.proofs.cursor.Cursor.load.Goals.{in_default-via-in-None-1, in_default-via-in-Some+else-stretch-frame}
 
-pub loop-frame-init : goal.loop-frame-init
-loop-frame-init c = record {
-  frame = refl;
-  latest = refl;
-  loaded = loaded_start c.args.chunks.now c.args.frames.now c.args.self.now.frame c.args.self.now.next c.args.bytes.now.items c.requires.loading;
-}
+pub slice_bounds-push-count : goal.slice_bounds-push-count
+slice_bounds-push-count c =
+    let found = c.in-Some.ensures.lookup in
+    let loaded = is_loaded c.args.chunks.now c.args.stretches.now c.args.self.now c.in-Some.stretch.now c.requires.loading found.3.0 found.1 c.if-stretch-frame.true in
+    loaded.order
+
+pub slice_bounds-push-start : goal.slice_bounds-push-start
+slice_bounds-push-start c =
+    let found = c.in-Some.ensures.lookup in
+    let loaded = is_loaded c.args.chunks.now c.args.stretches.now c.args.self.now c.in-Some.stretch.now c.requires.loading found.3.0 found.1 c.if-stretch-frame.true in
+    omega (arith, loaded.order, loaded.within, ap length c.bytes.ensures)
+
+pub slice_bounds-push-end : goal.slice_bounds-push-end
+slice_bounds-push-end c =
+    let found = c.in-Some.ensures.lookup in
+    let loaded = is_loaded c.args.chunks.now c.args.stretches.now c.args.self.now c.in-Some.stretch.now c.requires.loading found.3.0 found.1 c.if-stretch-frame.true in
+    omega (arith, loaded.order, loaded.within, ap length c.bytes.ensures)
 
 pub push-requires : goal.push-requires
 push-requires c =
     let found = c.in-Some.ensures.lookup in
-    let frame = c.args.self.now.frame in
-    let is : frame ≡ c.in-Some.frame.now = sym (c.if-frame-self.true ∙ c.loop-frame.invariant.frame) in
-    let read : frame ≡ get_or c.args.frames.now c.loop-frame.self.next frame = is ∙ found.3.1 frame in
-    let unit = c.index-chunks-self.result in
-    let room = loaded_room c.args.chunks.now c.args.frames.now frame c.args.self.now.next c.loop-frame.self.next 31 c.args.bytes.now.items
-    c.loop-frame.bytes.items unit c.requires.loading.same found.3.0 read c.loop-frame.invariant.loaded c.requires.room in
-    rw c.deref.ensures.0 room
+    let loaded = is_loaded c.args.chunks.now c.args.stretches.now c.args.self.now c.in-Some.stretch.now c.requires.loading found.3.0 found.1 c.if-stretch-frame.true in
+    let bytes : take (c.in-Some.stretch.now.bytes - c.args.self.now.start) (drop c.args.self.now.start c.bytes.result.now)
+    ≡ loads_at (zip c.args.chunks.now (frames_of c.args.stretches.now)) c.args.self.now.frame =
+    ap (λ l. take (c.in-Some.stretch.now.bytes - c.args.self.now.start) (drop c.args.self.now.start l)) c.bytes.ensures ∙ loaded.bytes in
+    omega (arith, ap length bytes, c.requires.room)
 
-pub loop-frame-preserved : goal.loop-frame-preserved
-loop-frame-preserved c =
+pub returns-then-stretch-frame-clause-bytes : goal.returns-then-stretch-frame-clause-bytes
+returns-then-stretch-frame-clause-bytes c =
     let found = c.in-Some.ensures.lookup in
-    let frame = c.args.self.now.frame in
-    let is : frame ≡ c.in-Some.frame.now = sym (c.if-frame-self.true ∙ c.loop-frame.invariant.frame) in
-    let read : frame ≡ get_or c.args.frames.now c.loop-frame.self.next frame = is ∙ found.3.1 frame in
-    let unit = c.index-chunks-self.result in
-    let more = loaded_next c.args.chunks.now c.args.frames.now frame c.args.self.now.next c.loop-frame.self.next c.args.bytes.now.items
-    c.loop-frame.bytes.items unit c.requires.loading.same found.3.0 read c.loop-frame.invariant.loaded in
-    let bytes : c.push.new.out.items ≡ c.loop-frame.bytes.items ++ (get_or c.args.chunks.now c.loop-frame.self.next unit).unit.items =
-    c.push.ensures ∙ ap (λ l. c.loop-frame.bytes.items ++ l) c.deref.ensures.0 in
-    record {
-      frame = c.loop-frame.invariant.frame;
-      latest = c.loop-frame.invariant.latest;
-      loaded = subst (λ l. IsLoaded c.args.chunks.now c.args.frames.now frame c.args.self.now.next (c.loop-frame.self.next + 1) c.args.bytes.now.items l) (sym bytes) more;
-    }
+    let loaded = is_loaded c.args.chunks.now c.args.stretches.now c.args.self.now c.in-Some.stretch.now c.requires.loading found.3.0 found.1 c.if-stretch-frame.true in
+    let bytes : take (c.in-Some.stretch.now.bytes - c.args.self.now.start) (drop c.args.self.now.start c.bytes.result.now)
+    ≡ loads_at (zip c.args.chunks.now (frames_of c.args.stretches.now)) c.args.self.now.frame =
+    ap (λ l. take (c.in-Some.stretch.now.bytes - c.args.self.now.start) (drop c.args.self.now.start l)) c.bytes.ensures ∙ loaded.bytes in
+    c.push.ensures ∙ ap (λ l. c.args.bytes.now.items ++ l) bytes
 
-pub returns-in-loop-frame : goal.returns-in-loop-frame
-returns-in-loop-frame c =
-    let past : length c.args.frames.now ≤ c.loop-frame.self.next = search rules in
-    let frame = c.args.self.now.frame in
-    let done = loaded_all c.args.chunks.now c.args.frames.now frame c.args.self.now.next c.loop-frame.self.next c.args.bytes.now.items c.loop-frame.bytes.items
-    c.requires.loading.same c.loop-frame.invariant.loaded (behind_end c.args.frames.now c.loop-frame.self.next (frame + 1) past) in
-    record { bytes = done.0; frame = c.loop-frame.invariant.frame; latest = c.loop-frame.invariant.latest; loading = done.1 }
-
-pub returns-else-frame-self : goal.returns-else-frame-self
-returns-else-frame-self c =
+pub returns-then-stretch-frame-clause-loading : goal.returns-then-stretch-frame-clause-loading
+returns-then-stretch-frame-clause-loading c =
     let found = c.in-Some.ensures.lookup in
-    let frame = c.args.self.now.frame in
-    let behind = behind_next c.args.frames.now c.loop-frame.self.next frame c.in-Some.frame.now found.3.0 found.1
-    (λ e. c.if-frame-self.false (e ∙ sym c.loop-frame.invariant.frame)) c.loop-frame.invariant.loaded.ahead in
-    let done = loaded_all c.args.chunks.now c.args.frames.now frame c.args.self.now.next c.loop-frame.self.next c.args.bytes.now.items c.loop-frame.bytes.items
-    c.requires.loading.same c.loop-frame.invariant.loaded behind in
-    record { bytes = done.0; frame = c.loop-frame.invariant.frame; latest = c.loop-frame.invariant.latest; loading = done.1 }
+    let loaded = is_loaded c.args.chunks.now c.args.stretches.now c.args.self.now c.in-Some.stretch.now c.requires.loading found.3.0 found.1 c.if-stretch-frame.true in
+    loaded.behind
+
+-- no stretch is in the frame
+none_here : (c : goal.In_default) → IsUnloaded c.args.chunks.now c.args.stretches.now c.args.self.now
+none_here c =
+    elim c.in_default.branch [
+      | in_default-via-in-None-1 w ↦ all_loaded c.args.chunks.now c.args.stretches.now c.args.self.now c.requires.loading (search rules)
+      | in_default-via-in-Some+else-stretch-frame w ↦
+          let found = w.in-Some.ensures.lookup in
+          not_yet c.args.chunks.now c.args.stretches.now c.args.self.now w.in-Some.stretch.now c.requires.loading found.3.0 found.1 w.if-stretch-frame.false
+    ]
+
+pub returns-in_default-clause-bytes : goal.returns-in_default-clause-bytes
+returns-in_default-clause-bytes c =
+    let unloaded = none_here c in sym (ap (λ l. c.args.bytes.now.items ++ l) unloaded.none ∙ append-nil c.args.bytes.now.items)
+
+pub returns-in_default-clause-loading : goal.returns-in_default-clause-loading
+returns-in_default-clause-loading c = let unloaded = none_here c in unloaded.behind

@@ -3,7 +3,7 @@ use Rattle.std.specs.List.{zip}
 use Rattle.dtvcc_author.specs.FrameEvents.{event_bytes}
 use Rattle.dtvcc_author.specs.Latest.{IsAt}
 use Rattle.service_lanes.specs.ServiceBytes.{loads_at}
-use Rattle.service_lanes.proofs.LoadLemmas.{loads_from}
+use Rattle.service_lanes.specs.Stretches.{frames_of}
 use Rattle.service_lanes.proofs.cursor.Cursor.step.Goals as goal
 
 pub load-requires-clause-room : goal.load-requires-clause-room
@@ -13,11 +13,9 @@ load-requires-clause-room c =
     let kept = c.requires.ready.kept in
     let exact = c.bytes.ensures.exact kept.0 kept.1.0 frame cs kept.1.1 (c.events-events.ensures kept.0 kept.1.0 cs kept.1.1 c.requires.ready.at) in
     let events : c.push.new.out.items ≡ event_bytes frame cs = c.push.ensures ∙ ap (λ l. l ++ c.deref.result.now) c.new-bytes.ensures ∙ c.deref.ensures.0 ∙ exact in
-    let rest = loads_from c.args.chunks.now c.args.frames.now frame c.args.self.now.next c.requires.ready.loading in
-    let whole = length-append (event_bytes frame cs) (loads_at (zip c.args.chunks.now c.args.frames.now) frame) in
+    let whole = length-append (event_bytes frame cs) (loads_at (zip c.args.chunks.now (frames_of c.args.stretches.now)) frame) in
     let first = ap length events in
-    let second = ap length rest in
-    omega (arith, whole, first, second, c.requires.within)
+    omega (arith, whole, first, c.requires.within)
 
 pub returns-clause-bytes : goal.returns-clause-bytes
 returns-clause-bytes c =
@@ -26,18 +24,20 @@ returns-clause-bytes c =
     let kept = c.requires.ready.kept in
     let exact = c.bytes.ensures.exact kept.0 kept.1.0 frame cs kept.1.1 (c.events-events.ensures kept.0 kept.1.0 cs kept.1.1 c.requires.ready.at) in
     let events : c.push.new.out.items ≡ event_bytes frame cs = c.push.ensures ∙ ap (λ l. l ++ c.deref.result.now) c.new-bytes.ensures ∙ c.deref.ensures.0 ∙ exact in
-    let rest = loads_from c.args.chunks.now c.args.frames.now frame c.args.self.now.next c.requires.ready.loading in
-    c.load.ensures.bytes ∙ ap (λ l. c.push.new.out.items ++ l) (sym rest) ∙ ap (λ l. l ++ loads_at (zip c.args.chunks.now c.args.frames.now) frame) events
+    c.load.ensures.bytes ∙ ap (λ l. l ++ loads_at (zip c.args.chunks.now (frames_of c.args.stretches.now)) frame) events
 
 pub returns-clause-ready : goal.returns-clause-ready
 returns-clause-ready c =
     let cs = c.args.captions.now in
     let frame_is = c.load.ensures.frame in
-    let at : IsAt cs (c.load.new.self.frame + 1) c.pass_to.new.self =
-    c.pass_to.ensures c.args.self.now.frame (omega (arith, frame_is))
-    (subst (λ l. IsAt cs c.args.self.now.frame l) (sym c.load.ensures.latest) c.requires.ready.at) in
     record {
       kept = c.requires.ready.kept;
-      at = at;
-      loading = rw frame_is c.load.ensures.loading;
+      at = c.pass_to.ensures c.args.self.now.frame (omega (arith, frame_is))
+          (subst (λ l. IsAt cs c.args.self.now.frame l) (sym c.load.ensures.latest) c.requires.ready.at);
+      loading = record {
+        passed = c.load.ensures.loading.passed;
+        start = c.load.ensures.loading.start;
+        same = c.load.ensures.loading.same;
+        ahead = c.load.ensures.loading.ahead;
+      };
     }

@@ -4,7 +4,7 @@ use Rattle.std.proofs.lemmas.Bool.{and_parts, cases_lt}
 use Rattle.dtvcc_author.specs.FrameEvents.{delay_end, event_bytes}
 use Rattle.dtvcc_author.specs.Latest.{IsAt}
 use Rattle.placements.specs.FirstFit.{IsFirst}
-use Rattle.service_lanes.specs.ServiceLane.{size_of}
+use Rattle.service_lanes.specs.CueChunks.{chunk_in}
 use Rattle.service_lanes.specs.ServiceRoom.{IsFront, budget_in, caption_lane, takes}
 use Rattle.service_lanes.proofs.FrontLemmas.{allowed_fits, allowed_now, front_next, front_push}
 use Rattle.service_lanes.proofs.front.Front.place.Goals as goal
@@ -17,10 +17,10 @@ returns-then-admit-clause-some c before is first =
     let kept = c.requires.kept in
     let here = c.loop-self.invariant.front before is in
     let same : c.admit.new.self.frame ≡ old.frame = ap (λ f. f.frame) c.if-admit.ensures.taken in
-    let admitted : (nat_le c.args.chunk.now.load old.frame && takes old (size_of c.args.chunk.now)) ≡ true = sym c.if-admit.ensures.admits in
-    let allowed : caption_lane share cs before c.args.chunk.now old.frame =
-    allowed_now kept.0 kept.1.0 share cs before old c.args.chunk.now kept.1.1 here c.loop-self-test.true admitted in
-    subst (λ n. IsFirst (caption_lane share cs before c.args.chunk.now) n) (sym same) (record {
+    let admitted : (nat_le c.args.cue.now.load old.frame && takes old (length c.args.unit.now)) ≡ true = sym c.if-admit.ensures.admits in
+    let allowed : caption_lane share cs before (chunk_in c.args.cue.now c.args.unit.now) old.frame =
+    allowed_now kept.0 kept.1.0 share cs before old (chunk_in c.args.cue.now c.args.unit.now) kept.1.1 here c.loop-self-test.true admitted in
+    subst (λ n. IsFirst (caption_lane share cs before (chunk_in c.args.cue.now c.args.unit.now)) n) (sym same) (record {
       holds = allowed;
       first = λ other also.
           ⊎_elim
@@ -33,10 +33,10 @@ pub returns-then-admit-clause-front : goal.returns-then-admit-clause-front
 returns-then-admit-clause-front c before is =
     let old = c.loop-self.self in
     let here = c.loop-self.invariant.front before is in
-    let admitted : (nat_le c.args.chunk.now.load old.frame && takes old (size_of c.args.chunk.now)) ≡ true = sym c.if-admit.ensures.admits in
-    let taken = (and_parts (nat_le c.args.chunk.now.load old.frame) (takes old (size_of c.args.chunk.now)) admitted).1 in
-    let pushed = front_push c.args.share c.args.captions.now before old c.args.chunk.now here taken in
-    subst (λ f. IsFront c.args.share c.args.captions.now (before ++ (c.args.chunk.now, f.frame) ∷ []) f) (sym c.if-admit.ensures.taken) pushed
+    let admitted : (nat_le c.args.cue.now.load old.frame && takes old (length c.args.unit.now)) ≡ true = sym c.if-admit.ensures.admits in
+    let taken = (and_parts (nat_le c.args.cue.now.load old.frame) (takes old (length c.args.unit.now)) admitted).1 in
+    let pushed = front_push c.args.share c.args.captions.now before old (chunk_in c.args.cue.now c.args.unit.now) here taken in
+    subst (λ f. IsFront c.args.share c.args.captions.now (before ++ ((chunk_in c.args.cue.now c.args.unit.now), f.frame) ∷ []) f) (sym c.if-admit.ensures.taken) pushed
 
 pub overflow_add-self : goal.overflow_add-self
 overflow_add-self c =
@@ -68,8 +68,8 @@ loop-self-preserved c =
           (λ (i : frame < old.frame). c.loop-self.invariant.below before is first frame i allowed)
           (λ (i : old.frame ≤ frame).
           let now : frame ≡ old.frame = omega arith in
-          let fits = allowed_fits share cs before old c.args.chunk.now (c.loop-self.invariant.front before is)
-          (subst (λ n. caption_lane share cs before c.args.chunk.now n) now allowed) in
+          let fits = allowed_fits share cs before old (chunk_in c.args.cue.now c.args.unit.now) (c.loop-self.invariant.front before is)
+          (subst (λ n. caption_lane share cs before (chunk_in c.args.cue.now c.args.unit.now) n) now allowed) in
           let wrong : true ≡ false = sym fits ∙ sym c.if-admit.ensures.admits in
           absurd cc)
           (cases_lt frame old.frame);

@@ -1,4 +1,5 @@
 use Rattle.std.proofs.Common.{◌-◌, ◌<◌, ℕ, List}
+use Rattle.service_lanes.specs.CueChunks.{chunk_in}
 use Rattle.service_lanes.specs.ServiceRoom.{IsFirstBehind, IsFront, caption_lane}
 use Rattle.service_lanes.specs.declared.chunk.Chunk.{Chunk}
 use Rattle.service_lanes.proofs.front.Front.place.Given as goal
@@ -7,7 +8,7 @@ abbrev pub invariant-loop-self : goal.invariant-loop-self
 invariant-loop-self l = record {
   front : (before : List (Chunk × ℕ)) → IsFront l.share l.captions before l.fn.self → IsFront l.share l.captions before l.self;
   below : (before : List (Chunk × ℕ)) → IsFront l.share l.captions before l.fn.self → IsFirstBehind before l.fn.self.frame
-      → (frame : ℕ) → frame < l.self.frame → caption_lane l.share l.captions before l.chunk frame → ⊥;
+      → (frame : ℕ) → frame < l.self.frame → caption_lane l.share l.captions before (chunk_in l.cue l.unit) frame → ⊥;
 }
 
 abbrev pub decreases-loop-self : goal.decreases-loop-self

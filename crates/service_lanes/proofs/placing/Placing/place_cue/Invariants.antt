@@ -1,0 +1,14 @@
+use Rattle.std.proofs.Common.{◌≡◌, ◌+◌, List}
+use Rattle.dtvcc_author.specs.Packed.{bytes_before}
+use Rattle.service_lanes.specs.ServicePlacing.{AreOfCue, IsPlacing}
+use Rattle.service_lanes.specs.declared.chunk.Chunk.{Chunk}
+use Rattle.service_lanes.proofs.placing.Placing.place_cue.Given as goal
+
+-- so many units of the cue are placed
+abbrev pub invariant-loop : goal.invariant-loop
+invariant-loop l = record {
+  units : l.self.last.units ≡ l.fn.self.last.units + l.counter;
+  bytes : l.self.last.bytes ≡ bytes_before l.self.last.units l.units;
+  placed : (chunks : List Chunk) → AreOfCue l.cue l.units chunks l.fn.self.last.units → IsPlacing l.share l.captions chunks l.fn.self
+      → IsPlacing l.share l.captions chunks l.self;
+}

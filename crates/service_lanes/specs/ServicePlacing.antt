@@ -1,0 +1,38 @@
+-- How far the units of a service have been placed.
+use Rattle.std.specs.Prelude.{◌≡◌, ℕ, ◌+◌, ◌<◌, ◌≤◌, List, [], ◌∷◌, ◌++◌, length, slice_index_or, take}
+use Rattle.std.specs.List.{zip}
+use Rattle.dtvcc_author.specs.declared.caption.Caption.{Caption}
+use Rattle.placements.specs.Placing.{IsEarliest}
+use Rattle.service_lanes.specs.CueChunks.{chunk_in}
+use Rattle.service_lanes.specs.ServiceRoom.{IsFirstBehind, IsFront, caption_lane}
+use Rattle.service_lanes.specs.Stretches.{AreStretches, frames_of}
+use Rattle.service_lanes.specs.declared.chunk.Chunk.{Chunk}
+use Rattle.service_lanes.specs.declared.chunk.CueLoad.{CueLoad}
+use Rattle.service_lanes.specs.declared.front.Front.{Front}
+use Rattle.service_lanes.specs.declared.placing.Placing.{Placing}
+use Rattle.service_lanes.specs.declared.stretch.Stretch.{Stretch}
+
+-- the units in their earliest frames, with the front behind them
+pub record Reaches (share : ℕ) (cs : List Caption) (us : List Chunk) (frames : List ℕ) (front : Front) : Type 0 where
+  pub earliest : IsEarliest (caption_lane share cs) us frames
+  pub front_is : IsFront share cs (zip us frames) front
+  pub first : IsFirstBehind (zip us frames) front.frame
+
+-- the stretches of the units placed, the last of which may still grow
+abbrev pub stretches_of : Placing → List Stretch
+stretches_of placing = placing.stretches.items ++ placing.last ∷ []
+
+-- the first units stand in their earliest frames, and the last stretch is in the frame of the front
+pub record IsPlacing (share : ℕ) (cs : List Caption) (chunks : List Chunk) (placing : Placing) : Type 0 where
+  pub reaches : Reaches share cs (take placing.last.units chunks) (frames_of (stretches_of placing)) placing.front
+  pub stretches : AreStretches chunks 0 0 (stretches_of placing)
+  pub frame : placing.last.frame ≡ placing.front.frame
+
+-- the unit of this place is one of the cue
+pub record IsOfCue (cue : CueLoad) (units : List (List ℕ)) (chunks : List Chunk) (index : ℕ) : Type 0 where
+  pub within : index < length chunks
+  pub is : (d : Chunk) → slice_index_or chunks index d ≡ chunk_in cue (slice_index_or units index [])
+
+-- the next units are all those of the cue
+abbrev pub AreOfCue : CueLoad → List (List ℕ) → List Chunk → ℕ → Type 0
+AreOfCue cue units chunks from = (index : ℕ) → from ≤ index → index < from + cue.count → IsOfCue cue units chunks index

@@ -1,0 +1,135 @@
+ghost use Rattle.std.specs.Prelude.{◌≡◌, ℕ, ◌+◌, ◌<◌, ◌≤◌, ◌++◌, [], ◌∷◌, List, IfErr, IfOk, OnOk, length};
+ghost use Rattle.cc_base.specs.declared.rate.Rate.{Rate};
+ghost use Rattle.dtvcc_author.specs.Kept.{AreKept};
+ghost use Rattle.dtvcc_author.specs.Packed.{bytes_before};
+ghost use Rattle.dtvcc_author.specs.declared.caption.Caption.{Caption};
+ghost use Rattle.placements.specs.LaneRoom.{AreInCueOrder};
+ghost use Rattle.service_lanes.specs.ServiceChunks.{chunk_cue};
+ghost use Rattle.service_lanes.specs.ServicePlan.{IsLaneFault};
+ghost use Rattle.service_lanes.specs.declared.chunk.Chunk.{Chunk};
+
+use crate::chunk::CueLoad;
+use crate::front::Front;
+use crate::stretch::Stretch;
+use dtvcc_author::{Caption, PackedUnits};
+use placements::PlanFault;
+use std::alloc::{AllocError, Global};
+
+/// How far the units of a service have been placed: their stretches, of which the last one may still grow, and what is free
+/// behind them.
+#[derive(Drop)]
+pub(crate) struct Placing {
+    stretches: Vec<Stretch>,
+    last: Stretch,
+    front: Front,
+}
+
+impl Placing {
+    ghost use Rattle.service_lanes.specs.ServicePlacing.{AreOfCue, IsOfCue, IsPlacing, stretches_of};
+
+    /// No unit is placed, with the captions of the service and its share of each frame.
+    pub fn start(alloc: Global, captions: &[Caption], share: u8) -> Placing
+        requires kept { (rate : Rate) × ((frames : ℕ) × AreKept rate frames captions.now) }
+        requires least { 8 ≤ share }
+        ensures placing { (chunks : List Chunk) → IsPlacing share captions.now chunks result }
+        ensures units { result.last.units ≡ 0 }
+        ensures bytes { result.last.bytes ≡ 0 }
+    {
+        Placing {
+            stretches: Vec::new(alloc),
+            last: Stretch {
+                frame: 0,
+                units: 0,
+                bytes: 0,
+            },
+            front: Front::start(captions, share),
+        }
+    }
+
+    /// Places the next units, which are those of a cue.
+    pub fn place_cue(
+        &mut self,
+        cue: CueLoad,
+        units: &PackedUnits,
+        captions: &[Caption],
+        share: u8,
+    ) -> Result<(), PlanFault>
+        requires kept { (rate : Rate) × ((frames : ℕ) × AreKept rate frames captions.now) }
+        requires least { 8 ≤ share }
+        requires within { self.old.last.units + cue.count ≤ length units.now }
+        requires bytes { self.old.last.bytes ≡ bytes_before self.old.last.units units.now }
+        ensures placed { (chunks : List Chunk) → AreOfCue cue units.now chunks self.old.last.units → IsPlacing share captions.now chunks self.old
+            → OnOk result (IsPlacing share captions.now chunks self.new) }
+        ensures units { OnOk result (self.new.last.units ≡ self.old.last.units + cue.count) }
+        ensures bytes { OnOk result (self.new.last.bytes ≡ bytes_before self.new.last.units units.now) }
+        ensures fault { (chunks : List Chunk) → AreOfCue cue units.now chunks self.old.last.units → AreInCueOrder chunk_cue chunks
+            → IsPlacing share captions.now chunks self.old → IfErr result (IsLaneFault share captions.now chunks) }
+    {
+        for _ in 0..cue.count {
+            if let Err(fault) = self.place(&cue, units, captions, share) {
+                return Err(fault);
+            }
+        }
+        Ok(())
+    }
+
+    // Places the next unit, which is one of a cue.
+    fn place(
+        &mut self,
+        cue: &CueLoad,
+        units: &PackedUnits,
+        captions: &[Caption],
+        share: u8,
+    ) -> Result<(), PlanFault>
+        requires kept { (rate : Rate) × ((frames : ℕ) × AreKept rate frames captions.now) }
+        requires least { 8 ≤ share }
+        requires within { self.old.last.units < length units.now }
+        requires bytes { self.old.last.bytes ≡ bytes_before self.old.last.units units.now }
+        ensures placed { (chunks : List Chunk) → IsOfCue cue.now units.now chunks self.old.last.units → IsPlacing share captions.now chunks self.old
+            → OnOk result (IsPlacing share captions.now chunks self.new) }
+        ensures units { OnOk result (self.new.last.units ≡ self.old.last.units + 1) }
+        ensures bytes { OnOk result (self.new.last.bytes ≡ bytes_before self.new.last.units units.now) }
+        ensures fault { (chunks : List Chunk) → IsOfCue cue.now units.now chunks self.old.last.units → AreInCueOrder chunk_cue chunks
+            → IsPlacing share captions.now chunks self.old → IfErr result (IsLaneFault share captions.now chunks) }
+    {
+        let unit = units.unit(self.last.units, self.last.bytes);
+        let Some(frame) = self.front.place(cue, unit, captions, share) else {
+            return Err(PlanFault::NoRoom(cue.cue));
+        };
+        let stretch = Stretch {
+            frame,
+            units: self.last.units + 1,
+            bytes: self.last.bytes + unit.len(),
+        };
+        match self.hold(stretch) {
+            Ok(()) => Ok(()),
+            Err(error) => Err(PlanFault::Memory(error)),
+        }
+    }
+
+    // Makes this the last stretch: in place of the last one, where that is in its frame, or else behind it.
+    fn hold(&mut self, stretch: Stretch) -> Result<(), AllocError>
+        ensures grown { stretch.frame ≡ self.old.last.frame → OnOk result (stretches_of self.new ≡ self.old.stretches.items ++ stretch ∷ []) }
+        ensures more { (stretch.frame ≡ self.old.last.frame → ⊥) → OnOk result (stretches_of self.new ≡ stretches_of self.old ++ stretch ∷ []) }
+        ensures last { OnOk result (self.new.last ≡ stretch) }
+        ensures front { self.new.front ≡ self.old.front }
+    {
+        if stretch.frame != self.last.frame {
+            self.stretches.push(self.last)?;
+        }
+        self.last = stretch;
+        Ok(())
+    }
+
+    /// The stretches of the units, when all are placed.
+    pub fn finish(self) -> Result<Vec<Stretch>, PlanFault>
+        ensures stretches { IfOk result (λ stretches. stretches.items ≡ stretches_of self) }
+        ensures fault { (captions : List Caption) (chunks : List Chunk) (share : ℕ) → IfErr result (IsLaneFault share captions chunks) }
+    {
+        let mut stretches = self.stretches;
+        match stretches.push(self.last) {
+            Ok(()) => Ok(stretches),
+            Err(error) => Err(PlanFault::Memory(error.into())),
+        }
+    }
+}
