@@ -28,9 +28,6 @@ pub window_past : (windows : List Window) (id : ℕ) → length windows ≤ id �
 unfolding windows_of
 window_past windows id past = ap window_at (slice_get_past windows id past)
 
-unfolding windows_of
-window_got windows id got is = ap window_at is
-
 -- a place is written
 set_same : (windows : List Window) (id : ℕ) (window : Window) → id < length windows → slice_get (set windows id window) id ≡ Some window
 set_same [] id window within = absurd (omega arith)

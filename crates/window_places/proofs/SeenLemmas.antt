@@ -64,9 +64,6 @@ part_of s = record {
   ps = 0;
 }
 
-unfolding part_of
-same_part w own runs same = ap part_of same
-
 pub same_attributes : (w : WindowState) (own : WinCue) (runs : List Run) → as_shown w ≡ authored_window own runs
     → w.attributes ≡ unwrap_or own.attr (window_style own.ws)
 same_attributes w own runs same = ap (λ (s : ShownWindow). s.attributes) same
