@@ -1,5 +1,6 @@
 ghost use Rattle.std.specs.Prelude.{◌<◌};
 
+mod repeating;
 mod services;
 
 use crate::{Ended, Fed, Receiver};

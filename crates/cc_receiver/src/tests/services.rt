@@ -328,6 +328,24 @@ fn services_show_what_their_bytes_say(rt: HostRuntime) -> Result<(), AllocError>
     Ok(())
 }
 
+// A frame that brings the triplets of the one before it again brings a packet of the same number: the services are reset, and take
+// what it carries.
+#[test]
+fn triplets_that_come_again_act_again(rt: HostRuntime) -> Result<(), AllocError> {
+    let alloc = rt.alloc();
+    for size in SIZES {
+        assert_eq!(rt;
+            rows_behind(alloc, &[SEVEN, SEVEN], size)?.as_str(),
+            "7 HI, "
+        );
+        assert_eq!(rt;
+            rows_behind(alloc, &[SEVEN, NINE, NINE], size)?.as_str(),
+            "9 HO, "
+        );
+    }
+    Ok(())
+}
+
 // Two delays of a tenth begin in frame 0 and hold a letter each; both end in frame 3.
 #[test]
 fn delays_of_two_services_end_in_one_frame(rt: HostRuntime) -> Result<(), AllocError> {

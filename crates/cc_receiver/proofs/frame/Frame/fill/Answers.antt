@@ -32,4 +32,3 @@ kept_bytes c =
 
 pub invariant_of-self : goal.invariant_of-self
 invariant_of-self c = kept_bytes c
-
