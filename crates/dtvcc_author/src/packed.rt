@@ -61,6 +61,8 @@ impl PackedUnits {
     pub fn lengths(&self) -> &[u8]
         ensures lengths { result.now ≡ map length self.now }
         ensures small { All (λ size. size ≤ 7) result.now }
+        ensures counted { length self.now < 2 ^ 64 }
+        ensures measured { length (concat self.now) < 2 ^ 64 }
     {
         self.lengths.as_slice()
     }

@@ -6,5 +6,6 @@ pub mod StretchLemmas
 pub mod LoadLemmas
 pub mod PlaceLemmas
 pub mod PlacingSteps
+pub mod FillLemmas
 pub mod CaptionsKept
 pub mod ChunkOrderLemmas

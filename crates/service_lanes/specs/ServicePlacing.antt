@@ -1,6 +1,8 @@
 -- How far the units of a service have been placed.
 use Rattle.std.specs.Prelude.{◌≡◌, ℕ, ◌+◌, ◌<◌, ◌≤◌, List, [], ◌∷◌, ◌++◌, length, slice_index_or, take}
 use Rattle.std.specs.List.{zip}
+use Rattle.cc_base.specs.declared.rate.Rate.{Rate}
+use Rattle.dtvcc_author.specs.Kept.{AreKept}
 use Rattle.dtvcc_author.specs.declared.caption.Caption.{Caption}
 use Rattle.placements.specs.Placing.{IsEarliest}
 use Rattle.service_lanes.specs.CueChunks.{chunk_in}
@@ -36,3 +38,14 @@ pub record IsOfCue (cue : CueLoad) (units : List (List ℕ)) (chunks : List Chun
 -- the next units are all those of the cue
 abbrev pub AreOfCue : CueLoad → List (List ℕ) → List Chunk → ℕ → Type 0
 AreOfCue cue units chunks from = (index : ℕ) → from ≤ index → index < from + cue.count → IsOfCue cue units chunks index
+
+-- the front is at a frame that the units of a cue may stand in
+pub record MayStand (cue : CueLoad) (front : Front) : Type 0 where
+  pub loaded : cue.load ≤ front.frame
+  pub ended : front.frame < cue.until
+
+-- the next units, up to so many in all, are of a cue whose units may stand in the front's frame
+pub record FillsFrame (cs : List Caption) (cue : CueLoad) (units : List (List ℕ)) (chunks : List Chunk) (placing : Placing) (end : ℕ) : Type 0 where
+  pub kept : (rate : Rate) × ((frames : ℕ) × AreKept rate frames cs)
+  pub stand : MayStand cue placing.front
+  pub of_cue : (index : ℕ) → placing.last.units ≤ index → index < end → IsOfCue cue units chunks index

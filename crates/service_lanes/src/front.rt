@@ -1,4 +1,4 @@
-ghost use Rattle.std.specs.Prelude.{◌≡◌, ℕ, ◌+◌, ◌-◌, ◌≤◌, ◌<◌, ◌++◌, ◌∷◌, [], List, Option, Some, IfSome, IfNone, length, ◌&&◌, nat_le, option_map};
+ghost use Rattle.std.specs.Prelude.{◌≡◌, ℕ, ◌+◌, ◌-◌, ◌≤◌, ◌<◌, ◌++◌, ◌∷◌, [], List, Option, Some, IfSome, IfNone, length, true, ◌&&◌, nat_le, option_map};
 ghost use Rattle.std.specs.Bool.{OnFalse, OnTrue};
 ghost use Rattle.cc_base.specs.declared.rate.Rate.{Rate};
 ghost use Rattle.dtvcc_author.specs.FrameEvents.{delay_end, event_bytes};
@@ -99,8 +99,18 @@ impl Front {
         cue.load <= self.frame && self.take(unit.len() as u8)
     }
 
-    // Takes so many bytes of the frame and of its delay, where both have them; else the answer is false.
-    fn take(&mut self, size: u8) -> bool
+    /// The most bytes that the front's frame and its delay have left.
+    pub fn most(&self) -> u8
+        ensures { (size : ℕ) → size ≤ result → takes self.now size ≡ true }
+    {
+        match &self.budget {
+            Some(budget) => self.room.min(budget.left),
+            None => self.room,
+        }
+    }
+
+    /// Takes so many bytes of the frame and of its delay, where both have them; else the answer is false.
+    pub fn take(&mut self, size: u8) -> bool
         ensures fits { result ≡ takes self.old size }
         ensures taken { OnTrue result (self.new ≡ behind_taking self.old size) }
         ensures kept { OnFalse result (self.new ≡ self.old) }

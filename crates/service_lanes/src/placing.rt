@@ -1,4 +1,5 @@
-ghost use Rattle.std.specs.Prelude.{◌≡◌, ℕ, ◌+◌, ◌<◌, ◌≤◌, ◌++◌, [], ◌∷◌, List, IfErr, IfOk, OnOk, length};
+ghost use Rattle.std.specs.Prelude.{◌≡◌, ℕ, ◌+◌, ◌^◌, ◌<◌, ◌≤◌, ◌++◌, [], ◌∷◌, List, IfErr, IfOk, OnOk, length, map};
+ghost use Rattle.std.specs.List.{concat};
 ghost use Rattle.cc_base.specs.declared.rate.Rate.{Rate};
 ghost use Rattle.dtvcc_author.specs.Kept.{AreKept};
 ghost use Rattle.dtvcc_author.specs.Packed.{bytes_before};
@@ -25,7 +26,7 @@ pub(crate) struct Placing {
 }
 
 impl Placing {
-    ghost use Rattle.service_lanes.specs.ServicePlacing.{AreOfCue, IsOfCue, IsPlacing, stretches_of};
+    ghost use Rattle.service_lanes.specs.ServicePlacing.{AreOfCue, FillsFrame, IsOfCue, IsPlacing, MayStand, stretches_of};
 
     /// No unit is placed, with the captions of the service and its share of each frame.
     pub fn start(alloc: Global, captions: &[Caption], share: u8) -> Placing
@@ -65,10 +66,13 @@ impl Placing {
         ensures fault { (chunks : List Chunk) → AreOfCue cue units.now chunks self.old.last.units → AreInCueOrder chunk_cue chunks
             → IsPlacing share captions.now chunks self.old → IfErr result (IsLaneFault share captions.now chunks) }
     {
-        for _ in 0..cue.count {
+        let lengths = units.lengths();
+        let end = self.last.units + cue.count;
+        while self.last.units < end {
             if let Err(fault) = self.place(&cue, units, captions, share) {
                 return Err(fault);
             }
+            self.fill(lengths, end);
         }
         Ok(())
     }
@@ -87,6 +91,8 @@ impl Placing {
         requires bytes { self.old.last.bytes ≡ bytes_before self.old.last.units units.now }
         ensures placed { (chunks : List Chunk) → IsOfCue cue.now units.now chunks self.old.last.units → IsPlacing share captions.now chunks self.old
             → OnOk result (IsPlacing share captions.now chunks self.new) }
+        ensures stands { (chunks : List Chunk) → IsOfCue cue.now units.now chunks self.old.last.units → IsPlacing share captions.now chunks self.old
+            → OnOk result (MayStand cue.now self.new.front) }
         ensures units { OnOk result (self.new.last.units ≡ self.old.last.units + 1) }
         ensures bytes { OnOk result (self.new.last.bytes ≡ bytes_before self.new.last.units units.now) }
         ensures fault { (chunks : List Chunk) → IsOfCue cue.now units.now chunks self.old.last.units → AreInCueOrder chunk_cue chunks
@@ -105,6 +111,32 @@ impl Placing {
             Ok(()) => Ok(()),
             Err(error) => Err(PlanFault::Memory(error)),
         }
+    }
+
+    // Places more units in the frame of the last one, up to so many in all, as far as the frame and its delay have the bytes.
+    fn fill(&mut self, lengths: &[u8], end: usize)
+        requires few { end ≤ length lengths.now }
+        requires room { (units : List (List ℕ)) × ((lengths.now ≡ map length units) × (length (concat units) < 2 ^ 64)
+            × (self.old.last.bytes ≡ bytes_before self.old.last.units units)) }
+        requires within { self.old.last.units ≤ end }
+        ensures placed { (share : ℕ) (captions : List Caption) (chunks : List Chunk) (units : List (List ℕ)) (cue : CueLoad)
+            → lengths.now ≡ map length units → FillsFrame captions cue units chunks self.old end → IsPlacing share captions chunks self.old
+            → IsPlacing share captions chunks self.new }
+        ensures units { self.old.last.units ≤ self.new.last.units }
+        ensures within { self.new.last.units ≤ end }
+        ensures bytes { (units : List (List ℕ)) → lengths.now ≡ map length units → self.old.last.bytes ≡ bytes_before self.old.last.units units
+            → self.new.last.bytes ≡ bytes_before self.new.last.units units }
+    {
+        let most = self.front.most();
+        let mut size = 0u8;
+        let mut index = self.last.units;
+        while index < end && lengths[index] <= most - size {
+            size += lengths[index];
+            index += 1;
+        }
+        let _taken = self.front.take(size);
+        self.last.units = index;
+        self.last.bytes += usize::from(size);
     }
 
     // Makes this the last stretch: in place of the last one, where that is in its frame, or else behind it.
