@@ -11,6 +11,7 @@ mod cues;
 mod decode;
 mod double_rates;
 mod insert;
+mod limits;
 mod load;
 mod pairs;
 mod scc;
