@@ -28,9 +28,6 @@ divided_push sizes bytes unit is =
     ∙ ap (divided (map length (units ++ unit ∷ []))) (sym bytes_are)
     ∙ divided_joined (units ++ unit ∷ [])
 
-pub packed_none : ArePacked [] []
-packed_none = record { lengths = refl; whole = refl; small = search rules }
-
 pub packed_push : (sizes bytes unit : List ℕ) → ArePacked sizes bytes → length unit ≤ 7 → ArePacked (sizes ++ length unit ∷ []) (bytes ++ unit)
 packed_push sizes bytes unit is small =
     let units = divided sizes bytes in

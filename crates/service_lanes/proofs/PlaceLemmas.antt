@@ -139,14 +139,6 @@ within_share share cs us frames least placed frame =
     let whole = length-append (event_bytes frame cs) (loads_at (zip us frames) frame) in
     omega (arith, most, few, loads, whole, least)
 
--- a placement has a frame for each unit
-pub placed_lengths : (share : ℕ) (cs : List Caption) (before : List (Chunk × ℕ)) (us : List Chunk) (frames : List ℕ) → IsPlaced (caption_lane share cs) before us frames
-    → length us ≡ length frames
-placed_lengths share cs before [] [] placed = refl
-placed_lengths share cs before [] (f ∷ fs) placed = absurd placed
-placed_lengths share cs before (u ∷ us) [] placed = absurd placed
-placed_lengths share cs before (u ∷ us) (f ∷ fs) placed = ap suc (placed_lengths share cs (before ++ (u, f) ∷ []) us fs placed.1)
-
 up_to_last : (frame : ℕ) (before : List (Chunk × ℕ)) (u : Chunk) (f : ℕ) → AreUpTo frame (before ++ (u, f) ∷ []) → f ≤ frame
 up_to_last frame [] u f all = all.0
 up_to_last frame (p ∷ ps) u f all = up_to_last frame ps u f all.1

@@ -122,20 +122,6 @@ placing_next share cs us cue units old new t is of_cue placed more bytes last gr
       frame = ap (λ (s : Stretch). s.frame) last ∙ known.2;
     }
 
--- no unit is placed
-pub placing_start : (share : ℕ) (cs : List Caption) (us : List Chunk) (placing : Placing) → placing.stretches.items ≡ []
-    → placing.last ≡ record { frame = 0; units = 0; bytes = 0 } → IsFront share cs [] placing.front → placing.front.frame ≡ 0 → IsPlacing share cs us placing
-placing_start share cs us placing none last front at =
-    let are : stretches_of placing ≡ record { frame = 0; units = 0; bytes = 0 } ∷ [] =
-    ap (λ l. l ++ placing.last ∷ []) none ∙ ap (λ (s : Stretch). s ∷ []) last in
-    record {
-      reaches =
-          subst (λ (s : Stretch). Reaches share cs (take s.units us) (frames_of (stretches_of placing)) placing.front) (sym last)
-          (subst (λ l. Reaches share cs [] (frames_of l) placing.front) (sym are) (reaches_start share cs placing.front front at));
-      stretches = subst (AreStretches us 0 0) (sym are) (omega arith, omega arith, omega arith, refl, tt);
-      frame = ap (λ (s : Stretch). s.frame) last ∙ sym at;
-    }
-
 -- all units are placed
 pub placing_all : (share : ℕ) (cs : List Caption) (us : List Chunk) (placing : Placing) (ss : List Stretch) → IsPlacing share cs us placing
     → length us ≤ placing.last.units → ss ≡ stretches_of placing → IsEarliest (caption_lane share cs) us (frames_of ss) × AreStretches us 0 0 ss

@@ -46,24 +46,6 @@ pub seen_alike : (w : WindowState) (own : WinCue) (runs : List Run) → seen_par
     → w.attributes ≡ unwrap_or own.attr (window_style own.ws) → w.cells ≡ written_cells own.ps runs → as_shown w ≡ authored_window own runs
 seen_alike w own runs part attributes cells = seen_is w ∙ (rw (part, attributes, cells) refl) ∙ sym (authored_is own runs)
 
--- and such as are seen alike have the same parts
-part_of : ShownWindow → Definition
-part_of s = record {
-  id = 0;
-  visible = true;
-  row_lock = s.row_lock;
-  col_lock = s.col_lock;
-  priority = s.priority;
-  relative = s.relative;
-  av = s.av;
-  ah = s.ah;
-  anchor = s.anchor;
-  rows = s.rows;
-  cols = s.cols;
-  ws = 0;
-  ps = 0;
-}
-
 pub same_attributes : (w : WindowState) (own : WinCue) (runs : List Run) → as_shown w ≡ authored_window own runs
     → w.attributes ≡ unwrap_or own.attr (window_style own.ws)
 same_attributes w own runs same = ap (λ (s : ShownWindow). s.attributes) same
