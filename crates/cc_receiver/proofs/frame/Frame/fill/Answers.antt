@@ -1,11 +1,9 @@
-use Rattle.std.proofs.Common.{rules, ◌≡◌, ◌≤◌, ◌≢◌, List, ℕ, false, true, length, ap, refl, subst, sym, ◌∙◌, arith}
-use Rattle.std.specs.List.{concat, flat_map}
+use Rattle.std.proofs.Common.{rules, ◌≡◌, ◌≤◌, false, true, length, ap, refl, ◌∙◌, arith}
+use Rattle.std.specs.List.{flat_map}
 use Rattle.cdp_packets.specs.PacketTriplets.{section_triplets}
-use Rattle.cdp_packets.specs.Sections.{AreSections}
 use Rattle.cc_receiver.proofs.CountingLemmas.{front_pairs}
 use Rattle.cc_receiver.proofs.FilledLemmas.{sections_few}
 use Rattle.cc_receiver.proofs.SaysLemmas.{behind_kept}
-use Rattle.cc_receiver.specs.Says.{AreOf, AreOfSections}
 use Rattle.cc_receiver.proofs.frame.Frame.fill.Goals as goal
 
 kept_bytes : goal.invariant_of-self
