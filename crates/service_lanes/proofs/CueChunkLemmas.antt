@@ -1,7 +1,7 @@
 -- The units of a service, kept by their cues: one more cue, their bytes, and the units of each cue in turn.
 use Rattle.std.proofs.Common.{◌≡◌, ◌∙◌, ℕ, ◌+◌, ◌-◌, ◌<◌, ◌≤◌, List, [], ◌∷◌, ◌++◌, refl, sym, ap, subst, arith, length, get_or, take, drop, append_assoc, length-append, map}
 use Rattle.std.specs.List.{concat, flat_map}
-use Rattle.std.proofs.lemmas.List.{append-nil, drop_all, drop_at, drop_more, drop-append-le, drop-drop, get_or-drop, get_or-map, get_or-take, get_or_append_left, get_or_default, length-drop, length-map, length-take-le, map-append, take_all, take-append-drop, take-append-le}
+use Rattle.std.proofs.lemmas.List.{append-nil, drop_all, drop_at, drop_more, drop-append-le, drop-drop, get_or-drop, get_or-map, get_or-take, get_or_append_left, get_or_default, length-drop, length-map, length-take-le, take_all, take-append-drop, take-append-le}
 use Rattle.std.proofs.lemmas.List.Concat.{flat_map-append}
 use Rattle.service_lanes.specs.CueChunks.{AreCounted, chunk_bytes, chunk_in, chunks_of}
 use Rattle.service_lanes.specs.ServicePlacing.{AreOfCue, IsOfCue}

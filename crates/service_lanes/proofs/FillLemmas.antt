@@ -8,10 +8,9 @@ use Rattle.std.proofs.lemmas.Bool.Decides.{nat_tests}
 use Rattle.buffer_bound.specs.declared.budget.Budget.{Budget}
 use Rattle.dtvcc_author.specs.Packed.{bytes_before}
 use Rattle.dtvcc_author.specs.declared.caption.Caption.{Caption}
-use Rattle.placements.specs.FirstFit.{IsFirst}
 use Rattle.service_lanes.specs.CueChunks.{chunk_in}
 use Rattle.service_lanes.specs.ServicePlacing.{FillsFrame, IsPlacing}
-use Rattle.service_lanes.specs.ServiceRoom.{IsFirstBehind, IsFront, behind_taking, caption_lane, has_left, spent_of, takes}
+use Rattle.service_lanes.specs.ServiceRoom.{IsFront, behind_taking, has_left, spent_of, takes}
 use Rattle.service_lanes.specs.declared.chunk.Chunk.{Chunk}
 use Rattle.service_lanes.specs.declared.chunk.CueLoad.{CueLoad}
 use Rattle.service_lanes.specs.declared.front.Front.{Front}

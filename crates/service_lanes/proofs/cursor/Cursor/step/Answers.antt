@@ -1,4 +1,4 @@
-use Rattle.std.proofs.Common.{◌≡◌, ◌∙◌, ◌+◌, ◌++◌, length, length-append, sym, ap, subst, arith}
+use Rattle.std.proofs.Common.{◌≡◌, ◌∙◌, ◌++◌, length, length-append, sym, ap, subst, arith}
 use Rattle.std.specs.List.{zip}
 use Rattle.dtvcc_author.specs.FrameEvents.{event_bytes}
 use Rattle.dtvcc_author.specs.Latest.{IsAt}

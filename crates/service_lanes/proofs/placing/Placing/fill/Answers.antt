@@ -1,10 +1,8 @@
-use Rattle.std.proofs.Common.{◌≡◌, ◌∙◌, ◌+◌, ◌≤◌, ◌<◌, Bool, true, ap, arith, get_or, length, subst, sym, [], ℕ}
+use Rattle.std.proofs.Common.{◌≡◌, ◌∙◌, ◌+◌, ◌≤◌, ◌<◌, true, arith, get_or, length, subst, sym, []}
 use Rattle.std.specs.Bool.{OnTrue}
-use Rattle.dtvcc_author.specs.Packed.{bytes_before}
 use Rattle.dtvcc_author.proofs.PackedLemmas.{bytes_before_next}
 use Rattle.service_lanes.specs.ServicePlacing.{IsPlacing}
-use Rattle.service_lanes.specs.ServiceRoom.{behind_taking, takes}
-use Rattle.service_lanes.specs.declared.front.Front.{Front}
+use Rattle.service_lanes.specs.ServiceRoom.{behind_taking}
 use Rattle.service_lanes.proofs.FillLemmas.{before_within, filled, filled_next, filled_start, length_read}
 use Rattle.service_lanes.proofs.placing.Placing.fill.Goals as goal
 

@@ -1,7 +1,6 @@
 use Rattle.std.proofs.Common.{◌≡◌, ◌∙◌, ℕ, ◌+◌, List, ap, length, refl, subst, sym}
 use Rattle.dtvcc_author.specs.Packed.{bytes_before}
 use Rattle.dtvcc_author.proofs.PackedLemmas.{bytes_before_next}
-use Rattle.placements.specs.FirstFit.{IsFirst}
 use Rattle.service_lanes.specs.CueChunks.{chunk_in}
 use Rattle.service_lanes.specs.ServiceRoom.{IsFirstBehind, IsFront, caption_lane}
 use Rattle.service_lanes.specs.ServicePlacing.{stretches_of}

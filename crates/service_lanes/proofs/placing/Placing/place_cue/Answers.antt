@@ -1,4 +1,4 @@
-use Rattle.std.proofs.Common.{◌≡◌, arith}
+use Rattle.std.proofs.Common.{arith}
 use Rattle.service_lanes.proofs.placing.Placing.place_cue.Goals as goal
 
 pub loop-self-preserved : goal.loop-self-preserved
