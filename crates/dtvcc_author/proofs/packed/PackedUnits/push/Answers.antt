@@ -1,5 +1,5 @@
-use Rattle.std.proofs.Common.{◌≡◌, ◌≤◌, ◌∙◌, ◌++◌, ◌∷◌, [], ap, length, subst, sym}
-use Rattle.dtvcc_author.specs.Packed.{ArePacked, divided}
+use Rattle.std.proofs.Common.{◌≡◌, ◌≤◌, ◌∙◌, ◌++◌, ◌∷◌, [], ap, length, subst}
+use Rattle.dtvcc_author.specs.Packed.{divided}
 use Rattle.dtvcc_author.proofs.PackedLemmas.{divided_push, packed_push}
 use Rattle.dtvcc_author.proofs.packed.PackedUnits.push.Goals as goal
 

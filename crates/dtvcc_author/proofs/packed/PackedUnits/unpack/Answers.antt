@@ -1,4 +1,4 @@
-use Rattle.std.proofs.Common.{◌≡◌, ◌<◌, ◌∙◌, ◌+◌, ◌++◌, ◌∷◌, [], ap, arith, get_or, length, sym, take}
+use Rattle.std.proofs.Common.{◌≡◌, ◌<◌, ◌∙◌, ◌++◌, ◌∷◌, [], ap, arith, get_or, length, sym, take}
 use Rattle.std.proofs.lemmas.List.{length-map, take_more}
 use Rattle.dtvcc_author.proofs.PackedLemmas.{is_next}
 use Rattle.dtvcc_author.proofs.packed.PackedUnits.unpack.Goals as goal
