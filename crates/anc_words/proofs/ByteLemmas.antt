@@ -11,7 +11,7 @@ use Rattle.cc_base.specs.Syntax.{AllTaken, Reads, open_behind, parts_from, read_
 use Rattle.cc_base.proofs.SyntaxLemmas.{AllTaken-split, read_under-reads}
 use Rattle.anc_words.specs.declared.parts.WordPart.{WordPart}
 use Rattle.anc_words.specs.Words.{AreWords}
-use Rattle.anc_words.specs.Packets.{Packet}
+use Rattle.anc_words.specs.Packets.{AncillaryPacket}
 use Rattle.anc_words.specs.WordsFiles.{ArePackets, IsWordsFile}
 use Rattle.anc_words.specs.Writing.{word_bytes}
 use Rattle.anc_words.specs.Reading.{word_syntax, anc_syntax, Open, judge_byte, judge_ten_bits, judge_word, nothing_open, open_after, packet_parts, words_after}
@@ -82,7 +82,7 @@ last_high-words (high ∷ low ∷ bytes) [] are = absurd are
 last_high-words (high ∷ low ∷ bytes) (word ∷ words) (_, are) = last_high-words bytes words are
 
 -- a file is read, and leaves nothing open
-pub file_is_read : (packets : List Packet) (bytes : List ℕ) → IsWordsFile packets bytes
+pub file_is_read : (packets : List AncillaryPacket) (bytes : List ℕ) → IsWordsFile packets bytes
     → Reads anc_syntax nothing_open bytes (flat_map packet_parts packets) nothing_open
 file_is_read packets bytes is =
     let words : words_of bytes ≡ is.words = AreWords-words bytes is.words is.spelled in
@@ -95,7 +95,7 @@ file_is_read packets bytes is =
 
 -- what is read and leaves nothing open is a file
 pub what_is_read_is_file : (bytes : List ℕ) → All IsByte bytes → AllTaken anc_syntax nothing_open bytes
-    → open_behind anc_syntax bytes ≡ nothing_open → (packets : List Packet) × IsWordsFile packets bytes
+    → open_behind anc_syntax bytes ≡ nothing_open → (packets : List AncillaryPacket) × IsWordsFile packets bytes
 what_is_read_is_file bytes are taken nothing =
     let open_is = sym (open-words_of [] bytes) ∙ nothing in
     let none : last_high bytes ≡ None = ap (λ (o : Open). o.high) open_is in
@@ -111,7 +111,7 @@ what_is_read_is_file bytes are taken nothing =
     )
 
 -- the words of packets have ten bits
-ten_bits : (packets : List Packet) (words : List ℕ) → ArePackets packets words → AllByRecursion (λ word. word < 1024) words
+ten_bits : (packets : List AncillaryPacket) (words : List ℕ) → ArePackets packets words → AllByRecursion (λ word. word < 1024) words
 ten_bits [] words are = subst (AllByRecursion (λ word. word < 1024)) (sym are) tt
 ten_bits (p ∷ packets) words (front, rest, spelled, is, are) =
     subst (AllByRecursion (λ word. word < 1024)) (sym spelled)
@@ -126,7 +126,7 @@ all_behind P (word ∷ front) behind (_, all) = all_behind P front behind all
 
 -- words that aren't refused begin a file
 pub begins_file : (bytes words : List ℕ) → AreWords bytes words → AllTaken anc_syntax nothing_open bytes
-    → (more : List ℕ) × ((packets : List Packet) × IsWordsFile packets (bytes ++ more))
+    → (more : List ℕ) × ((packets : List AncillaryPacket) × IsWordsFile packets (bytes ++ more))
 begins_file bytes words are taken =
     let same = AreWords-words bytes words are in
     let splits = sound words (subst (AllTaken word_syntax []) same (words_of-taken [] bytes taken)) in
@@ -148,7 +148,7 @@ begins_file bytes words are taken =
     )
 
 -- words that are refused begin none
-pub begins_no_file : (bytes : List ℕ) (byte : ℕ) (reason : Why) (more : List ℕ) (packets : List Packet)
+pub begins_no_file : (bytes : List ℕ) (byte : ℕ) (reason : Why) (more : List ℕ) (packets : List AncillaryPacket)
     → judge_byte (open_behind anc_syntax bytes) byte ≡ Refuse reason → IsWordsFile packets (bytes ++ byte ∷ more) → ⊥
 begins_no_file bytes byte reason more packets refused is =
     let reads = file_is_read packets (bytes ++ byte ∷ more) is in
@@ -156,7 +156,7 @@ begins_no_file bytes byte reason more packets refused is =
     subst IsTaken refused taken
 
 -- a file is read and handed upward, where the layer above takes its parts
-pub file_is_handed : (verdict : Verdict WordPart) (packets : List Packet) (bytes : List ℕ) → IsWordsFile packets bytes
+pub file_is_handed : (verdict : Verdict WordPart) (packets : List AncillaryPacket) (bytes : List ℕ) → IsWordsFile packets bytes
     → AreAccepted verdict [] (flat_map packet_parts packets)
     → read_under anc_syntax 2 verdict bytes ≡ record { parts = flat_map packet_parts packets; refusal = None }
 file_is_handed verdict packets bytes is accepted =

@@ -8,10 +8,10 @@ use Rattle.std.proofs.lemmas.List.Sums.{AllPass-from_list_all, list_all-from_All
 use Rattle.std.specs.List.{All, AllByRecursion, flat_map, sum}
 use Rattle.std.specs.Simd.{first_chunks}
 use Rattle.anc_words.specs.CaptionPackets.{IsCaptionAhead}
-use Rattle.anc_words.specs.CaptionWords.{AreRight, BeginsWith, low_of, word_of}
+use Rattle.anc_words.specs.CaptionWords.{AreRight, BeginsWithCaptions, low_of, word_of}
 use Rattle.anc_words.specs.Checksums.{IsChecksum}
 use Rattle.anc_words.specs.EightBitWords.{IsEightBit}
-use Rattle.anc_words.specs.Packets.{Packet, IsPacket, IsUserWord, user_bytes}
+use Rattle.anc_words.specs.Packets.{AncillaryPacket, IsPacket, IsUserWord, user_bytes}
 use Rattle.anc_words.specs.Reading.{is_eight_bit}
 use Rattle.anc_words.specs.Words.{AreWords, words_of}
 use Rattle.anc_words.specs.WordsFiles.{IsPacketBytes}
@@ -84,7 +84,7 @@ bytes_of-words (word ∷ words) (one ∷ two ∷ bytes) rest (_, (byte, are)) sp
     (behind, cc)
 
 -- then the bytes of the flag and the identifiers stand there
-pub begins-head : (bytes : List ℕ) (count : ℕ) (user : List ℕ) (checksum : ℕ) → All IsByte bytes → BeginsWith bytes count user checksum → take 10 bytes ≡ head_bytes
+pub begins-head : (bytes : List ℕ) (count : ℕ) (user : List ℕ) (checksum : ℕ) → All IsByte bytes → BeginsWithCaptions bytes count user checksum → take 10 bytes ≡ head_bytes
 begins-head bytes count user checksum are begins =
     let (behind, same) = bytes_of-words head_words bytes (count ∷ (user ++ checksum ∷ begins.rest)) (recursion_from_All IsByte bytes are) begins.spelled in
     ap (take 10) same
@@ -101,7 +101,7 @@ pairs-words bytes pairs are = ap (map word_of) are ∙ words_of-chunks (length (
 pub begins-pairs : (bytes : List ℕ) (pairs words user behind others : List (List ℕ)) (count checksum : List ℕ)
     → take 10 bytes ≡ head_bytes → ArePairs bytes pairs → pairs ≡ count ∷ words
     → user ≡ take (word_of count % 256) words → behind ≡ drop (word_of count % 256) words → length user ≡ word_of count % 256
-    → behind ≡ checksum ∷ others → BeginsWith bytes (word_of count) (map word_of user) (word_of checksum)
+    → behind ≡ checksum ∷ others → BeginsWithCaptions bytes (word_of count) (map word_of user) (word_of checksum)
 begins-pairs bytes pairs words user behind others count checksum head are first front back long last =
     let whole : words ≡ user ++ checksum ∷ others = cc (sym (take-append-drop (word_of count % 256) words), front, back, last) in
     let spelled : map word_of pairs ≡ word_of count ∷ (map word_of user ++ word_of checksum ∷ map word_of others) =
@@ -112,7 +112,7 @@ begins-pairs bytes pairs words user behind others count checksum head are first 
     }
 
 -- and the other way round
-pub pairs-begin : (bytes : List ℕ) (pairs : List (List ℕ)) (count : ℕ) (user : List ℕ) (checksum : ℕ) (begins : BeginsWith bytes count user checksum)
+pub pairs-begin : (bytes : List ℕ) (pairs : List (List ℕ)) (count : ℕ) (user : List ℕ) (checksum : ℕ) (begins : BeginsWithCaptions bytes count user checksum)
     → take 10 bytes ≡ head_bytes → ArePairs bytes pairs → map word_of pairs ≡ count ∷ (user ++ checksum ∷ begins.rest)
 pairs-begin bytes pairs count user checksum begins head are =
     let same : head_words ++ words_of (drop 10 bytes) ≡ head_words ++ (count ∷ (user ++ checksum ∷ begins.rest)) = sym (words_of-head bytes head) ∙ begins.spelled in
@@ -135,14 +135,14 @@ pairs-low_bytes bytes pairs words user count many bounded are first front =
     subst (λ ps. map low_of ps ≡ map (λ word. word % 256) (map word_of ps)) (sym front) some
 
 -- so there is a pair for the count
-pub pairs-count : (bytes : List ℕ) (pairs : List (List ℕ)) (count : ℕ) (user : List ℕ) (checksum : ℕ) → BeginsWith bytes count user checksum
+pub pairs-count : (bytes : List ℕ) (pairs : List (List ℕ)) (count : ℕ) (user : List ℕ) (checksum : ℕ) → BeginsWithCaptions bytes count user checksum
     → take 10 bytes ≡ head_bytes → ArePairs bytes pairs → length pairs ≡ 0 → ⊥
 pairs-count bytes pairs count user checksum begins head are none =
     let words = ap length (pairs-begin bytes pairs count user checksum begins head are) in
     omega (arith, words, length-map pairs word_of)
 
 -- and behind it there are more pairs than the count says
-pub pairs-more : (bytes : List ℕ) (pairs words : List (List ℕ)) (first : List ℕ) (count : ℕ) (user : List ℕ) (checksum : ℕ) → BeginsWith bytes count user checksum
+pub pairs-more : (bytes : List ℕ) (pairs words : List (List ℕ)) (first : List ℕ) (count : ℕ) (user : List ℕ) (checksum : ℕ) → BeginsWithCaptions bytes count user checksum
     → take 10 bytes ≡ head_bytes → ArePairs bytes pairs → pairs ≡ first ∷ words → length words ≤ word_of first % 256 → ⊥
 pairs-more bytes pairs words first count user checksum begins head are spelled few =
     let same : word_of first ∷ map word_of words ≡ count ∷ (user ++ checksum ∷ begins.rest) =
@@ -154,8 +154,8 @@ pairs-more bytes pairs words first count user checksum begins head are spelled f
     omega (arith, many, low, few, length-append user (checksum ∷ begins.rest))
 
 -- bytes begin with at most one count, as many user words and a checksum word
-pub begins-one_way : (bytes : List ℕ) (count other : ℕ) (user others : List ℕ) (checksum last : ℕ) → BeginsWith bytes count user checksum
-    → BeginsWith bytes other others last → (count ≡ other) × (user ≡ others) × (checksum ≡ last)
+pub begins-one_way : (bytes : List ℕ) (count other : ℕ) (user others : List ℕ) (checksum last : ℕ) → BeginsWithCaptions bytes count user checksum
+    → BeginsWithCaptions bytes other others last → (count ≡ other) × (user ≡ others) × (checksum ≡ last)
 begins-one_way bytes count other user others checksum last begins again =
     let same : head_words ++ (count ∷ (user ++ checksum ∷ begins.rest)) ≡ head_words ++ (other ∷ (others ++ last ∷ again.rest)) = sym begins.spelled ∙ again.spelled in
     let counted : count ≡ other = cc in
@@ -188,7 +188,7 @@ unfolding lib.Count.ones
 sdid_word = refl
 
 -- the packet of captions with these user words
-abbrev captions_of : List ℕ → Packet
+abbrev captions_of : List ℕ → AncillaryPacket
 captions_of user = record { did = 0x61; sdid = 0x01; user = user }
 
 -- its words, where they are right
@@ -211,7 +211,7 @@ caption-is count user checksum many right =
     }
 
 -- bytes that begin with right words begin with a packet of captions
-pub right-ahead : (bytes : List ℕ) (count : ℕ) (user : List ℕ) (checksum : ℕ) → All IsByte bytes → BeginsWith bytes count user checksum → AreRight count user checksum
+pub right-ahead : (bytes : List ℕ) (count : ℕ) (user : List ℕ) (checksum : ℕ) → All IsByte bytes → BeginsWithCaptions bytes count user checksum → AreRight count user checksum
     → IsCaptionAhead bytes (2 * (length user + 7)) (map (λ word. word % 256) user)
 right-ahead bytes count user checksum are begins right =
     let packet = captions_of user in
@@ -241,7 +241,7 @@ pub record HasRight (bytes : List ℕ) : Type 0 where
   pub count : ℕ
   pub user : List ℕ
   pub checksum : ℕ
-  pub begins : BeginsWith bytes count user checksum
+  pub begins : BeginsWithCaptions bytes count user checksum
   pub right : AreRight count user checksum
 
 -- bytes that begin with a packet of captions begin with right words
@@ -299,7 +299,7 @@ words-are_bytes (high ∷ low ∷ bytes) [] are = absurd are
 words-are_bytes (high ∷ low ∷ bytes) (word ∷ words) (is, are) = (omega (arith, is.zeros), (is.byte, words-are_bytes bytes words are))
 
 -- and so is a packet
-pub packet-are_bytes : (packet : Packet) (bytes : List ℕ) → IsPacketBytes packet bytes → All IsByte bytes
+pub packet-are_bytes : (packet : AncillaryPacket) (bytes : List ℕ) → IsPacketBytes packet bytes → All IsByte bytes
 packet-are_bytes packet bytes is = All-from_recursion IsByte bytes (words-are_bytes bytes is.words is.spelled)
 
 -- bytes begin with at most one packet of captions

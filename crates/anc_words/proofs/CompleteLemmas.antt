@@ -3,7 +3,7 @@ use Rattle.std.proofs.Common.{◌≡◌, ℕ, ◌-◌, ◌%◌, List, [], ◌∷
 use Rattle.std.proofs.lemmas.List.{length-replicate}
 use Rattle.std.proofs.lemmas.List.Elements.{All-append, All-nil, All-replicate}
 use Rattle.std.specs.List.{All}
-use Rattle.anc_words.specs.Packets.{Packet, IsPacket}
+use Rattle.anc_words.specs.Packets.{AncillaryPacket, IsPacket}
 use Rattle.anc_words.specs.WordsFiles.{ArePackets}
 use Rattle.anc_words.specs.Writing.{checksum_word}
 use Rattle.anc_words.proofs.EightBitLemmas.{eight_bit_word-is}
@@ -13,11 +13,11 @@ use Rattle.anc_words.proofs.SoundLemmas.{IsBegun, IsBody, IsByteWord, IsPacket-e
 -- these words begin packets
 pub record Completes (front : List ℕ) : Type 0 where
   pub more : List ℕ
-  pub packets : List Packet
+  pub packets : List AncillaryPacket
   pub are : ArePackets packets (front ++ more)
 
 -- a packet completes its first words
-Completes-by : (front more : List ℕ) (p : Packet) → IsPacket p (front ++ more) → Completes front
+Completes-by : (front more : List ℕ) (p : AncillaryPacket) → IsPacket p (front ++ more) → Completes front
 Completes-by front more p is = record {
   more = more;
   packets = p ∷ [];

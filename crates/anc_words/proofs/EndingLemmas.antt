@@ -4,7 +4,7 @@ use Rattle.std.proofs.lemmas.Bool.Decides.{nat_tests}
 use Rattle.cc_base.specs.Steps.{front_from}
 use Rattle.cc_base.specs.Syntax.{open_behind}
 use Rattle.cc_base.proofs.StepLemmas.{front_from-append}
-use Rattle.anc_words.specs.Packets.{Packet}
+use Rattle.anc_words.specs.Packets.{AncillaryPacket}
 use Rattle.anc_words.specs.WordsFiles.{IsWordsFile}
 use Rattle.anc_words.specs.Ending.{bytes_to_end, words_to_end}
 use Rattle.anc_words.specs.Reading.{anc_syntax, Open, nothing_open, open_after, words_after}
@@ -64,7 +64,7 @@ stays_open front (byte ∷ next ∷ rest) some few =
     stays_open (open_after front byte) (next ∷ rest) (omega arith) (omega (arith, few, fall))
 
 -- so they end no packet
-pub ends_no_sooner : (bytes more : List ℕ) (packets : List Packet) → 0 < length more → length more < bytes_to_end (open_behind anc_syntax bytes)
+pub ends_no_sooner : (bytes more : List ℕ) (packets : List AncillaryPacket) → 0 < length more → length more < bytes_to_end (open_behind anc_syntax bytes)
     → IsWordsFile packets (bytes ++ more) → ⊥
 ends_no_sooner bytes more packets some few is =
     let closed = (file_is_read packets (bytes ++ more) is).leads in

@@ -4,7 +4,7 @@ use Rattle.std.proofs.lemmas.List.{length-map, length-append}
 use Rattle.std.proofs.lemmas.List.Elements.{All-head, All-tail, All-cons, All-append, All-nil, All-map, All-weaker, All-from_recursion, recursion_from_All}
 use Rattle.std.specs.List.{All, AllByRecursion, flat_map}
 use Rattle.anc_words.specs.EightBitWords.{IsEightBit}
-use Rattle.anc_words.specs.Packets.{Packet, IsCaption, IsUserWord, IsPacket, user_bytes}
+use Rattle.anc_words.specs.Packets.{AncillaryPacket, IsCaption, IsUserWord, IsPacket, user_bytes}
 use Rattle.anc_words.specs.WordsFiles.{IsPacketBytes}
 use Rattle.anc_words.specs.Writing.{eight_bit_word, checksum_word, packet_words, packet_bytes, packet_of, word_bytes}
 use Rattle.anc_words.proofs.EightBitLemmas.{eight_bit_word-is, IsEightBit-word}
@@ -22,14 +22,14 @@ same_heads (x ∷ xs) (y ∷ ys) rest after long same =
     (cc, behind)
 
 -- packets of equal parts are equal
-same_packet : (p q : Packet) → p.did ≡ q.did → p.sdid ≡ q.sdid → p.user ≡ q.user → p ≡ q
+same_packet : (p q : AncillaryPacket) → p.did ≡ q.did → p.sdid ≡ q.sdid → p.user ≡ q.user → p ≡ q
 same_packet p q did sdid user =
-    ap (λ (d : ℕ). let made : Packet = record { did = d; sdid = p.sdid; user = p.user } in made) did
-    ∙ ap (λ (s : ℕ). let made : Packet = record { did = q.did; sdid = s; user = p.user } in made) sdid
-    ∙ ap (λ (u : List ℕ). let made : Packet = record { did = q.did; sdid = q.sdid; user = u } in made) user
+    ap (λ (d : ℕ). let made : AncillaryPacket = record { did = d; sdid = p.sdid; user = p.user } in made) did
+    ∙ ap (λ (s : ℕ). let made : AncillaryPacket = record { did = q.did; sdid = s; user = p.user } in made) sdid
+    ∙ ap (λ (u : List ℕ). let made : AncillaryPacket = record { did = q.did; sdid = q.sdid; user = u } in made) user
 
 -- words are at most one packet, whatever follows
-pub IsPacket-unique : (p q : Packet) (front back rest after : List ℕ) → IsPacket p front → IsPacket q back → front ++ rest ≡ back ++ after
+pub IsPacket-unique : (p q : AncillaryPacket) (front back rest after : List ℕ) → IsPacket p front → IsPacket q back → front ++ rest ≡ back ++ after
     → (p ≡ q) × (front ≡ back) × (rest ≡ after)
 IsPacket-unique p q front back rest after is other same =
     let first = p.user ++ is.checksum ∷ [] in
@@ -50,13 +50,13 @@ IsPacket-unique p q front back rest after is other same =
     (same_packet p q same_did same_sdid user, fronts, behind)
 
 -- the words of a packet
-abbrev words_of_packet : Packet → List ℕ
+abbrev words_of_packet : AncillaryPacket → List ℕ
 words_of_packet p =
     let summed = eight_bit_word p.did ∷ eight_bit_word p.sdid ∷ eight_bit_word (length p.user) ∷ p.user in
     0x000 ∷ 0x3FF ∷ 0x3FF ∷ (summed ++ checksum_word summed ∷ [])
 
 -- a packet has no other words
-IsPacket-words : (p : Packet) (words : List ℕ) → IsPacket p words → words ≡ words_of_packet p
+IsPacket-words : (p : AncillaryPacket) (words : List ℕ) → IsPacket p words → words ≡ words_of_packet p
 IsPacket-words p words is =
     let did = IsEightBit-word p.did is.did is.has_did in
     let sdid = IsEightBit-word p.sdid is.sdid is.has_sdid in
@@ -65,11 +65,11 @@ IsPacket-words p words is =
     is.spelled ∙ rw (checksum, did, sdid, count) refl
 
 -- a packet is spelled one way
-pub IsPacket-same_words : (p : Packet) (words others : List ℕ) → IsPacket p words → IsPacket p others → words ≡ others
+pub IsPacket-same_words : (p : AncillaryPacket) (words others : List ℕ) → IsPacket p words → IsPacket p others → words ≡ others
 IsPacket-same_words p words others is other = IsPacket-words p words is ∙ sym (IsPacket-words p others other)
 
 -- the words of a packet have ten bits
-pub IsPacket-ten_bits : (p : Packet) (words : List ℕ) → IsPacket p words → All (λ word. word < 1024) words
+pub IsPacket-ten_bits : (p : AncillaryPacket) (words : List ℕ) → IsPacket p words → All (λ word. word < 1024) words
 IsPacket-ten_bits p words is =
     let P : ℕ → Type 0 = λ word. word < 1024 in
     let user = All-weaker (IsUserWord p) P (λ word has. has.ten_bits) p.user is.has_user in
@@ -80,7 +80,7 @@ IsPacket-ten_bits p words is =
     subst (All P) (sym is.spelled) all
 
 -- the words of a packet are it
-pub words_of_packet-is : (p : Packet) → p.did < 256 → p.sdid < 256 → length p.user ≤ 255 → All (IsUserWord p) p.user
+pub words_of_packet-is : (p : AncillaryPacket) → p.did < 256 → p.sdid < 256 → length p.user ≤ 255 → All (IsUserWord p) p.user
     → IsPacket p (words_of_packet p)
 words_of_packet-is p did sdid few user = record {
   did = eight_bit_word p.did;
@@ -96,7 +96,7 @@ words_of_packet-is p did sdid few user = record {
 }
 
 -- a byte's word may be a user word of any packet
-eight_bit_word-user : (p : Packet) (byte : ℕ) → byte < 256 → IsUserWord p (eight_bit_word byte)
+eight_bit_word-user : (p : AncillaryPacket) (byte : ℕ) → byte < 256 → IsUserWord p (eight_bit_word byte)
 eight_bit_word-user p byte below =
     let is = eight_bit_word-is byte below in record {
       ten_bits = is.ten_bits;
@@ -137,7 +137,7 @@ user_bytes-packet_of did sdid (byte ∷ user) bytes =
     cc
 
 -- bytes are at most one packet, whatever follows
-pub IsPacketBytes-unique : (p q : Packet) (front back rest after : List ℕ) → IsPacketBytes p front → IsPacketBytes q back → front ++ rest ≡ back ++ after
+pub IsPacketBytes-unique : (p q : AncillaryPacket) (front back rest after : List ℕ) → IsPacketBytes p front → IsPacketBytes q back → front ++ rest ≡ back ++ after
     → (p ≡ q) × (front ≡ back) × (rest ≡ after)
 IsPacketBytes-unique p q front back rest after is other same =
     let words : is.words ++ words_of rest ≡ other.words ++ words_of after =
@@ -148,27 +148,27 @@ IsPacketBytes-unique p q front back rest after is other same =
     (packets, spelled, tails)
 
 -- a packet is spelled one way in bytes
-pub IsPacketBytes-same_bytes : (p : Packet) (bytes others : List ℕ) → IsPacketBytes p bytes → IsPacketBytes p others → bytes ≡ others
+pub IsPacketBytes-same_bytes : (p : AncillaryPacket) (bytes others : List ℕ) → IsPacketBytes p bytes → IsPacketBytes p others → bytes ≡ others
 IsPacketBytes-same_bytes p bytes others is other =
     AreWords-bytes bytes is.words is.spelled ∙ ap (flat_map word_bytes) (IsPacket-same_words p is.words other.words is.is_packet other.is_packet)
     ∙ sym (AreWords-bytes others other.words other.spelled)
 
 -- what was written is read back, whatever follows
-pub packet_bytes-read : (did sdid : ℕ) (user : List ℕ) (p : Packet) (front rest after : List ℕ)
+pub packet_bytes-read : (did sdid : ℕ) (user : List ℕ) (p : AncillaryPacket) (front rest after : List ℕ)
     → did < 256 → sdid < 256 → length user ≤ 255 → All IsByte user
     → IsPacketBytes p front → packet_bytes did sdid user ++ rest ≡ front ++ after
     → (p.did ≡ did) × (p.sdid ≡ sdid) × (user_bytes p ≡ user) × (after ≡ rest)
 packet_bytes-read did sdid user p front rest after did_is sdid_is few bytes is same =
     let written = packet_bytes-is did sdid user did_is sdid_is few bytes in
     let (packets, fronts, behind) = IsPacketBytes-unique (packet_of did sdid user) p (packet_bytes did sdid user) front rest after written is same in (
-      sym (ap (λ (r : Packet). r.did) packets),
-      sym (ap (λ (r : Packet). r.sdid) packets),
+      sym (ap (λ (r : AncillaryPacket). r.did) packets),
+      sym (ap (λ (r : AncillaryPacket). r.sdid) packets),
       sym (ap user_bytes packets) ∙ user_bytes-packet_of did sdid user bytes,
       sym behind,
     )
 
 -- each packet that can be sent has bytes
-pub packet-bytes : (p : Packet) → p.did < 256 → p.sdid < 256 → length p.user ≤ 255 → All (IsUserWord p) p.user
+pub packet-bytes : (p : AncillaryPacket) → p.did < 256 → p.sdid < 256 → length p.user ≤ 255 → All (IsUserWord p) p.user
     → (bytes : List ℕ) × IsPacketBytes p bytes
 packet-bytes p did sdid few user =
     let is = words_of_packet-is p did sdid few user in (
@@ -190,7 +190,7 @@ bytes_of_words : (words : List ℕ) → All IsByte (map (λ word. word % 256) wo
 bytes_of_words words = All-map IsByte (λ word. word % 256) words (λ k d below. omega arith)
 
 -- captions are only those that are written
-pub IsPacketBytes-caption : (p : Packet) (bytes : List ℕ) → IsCaption p → IsPacketBytes p bytes → bytes ≡ packet_bytes p.did p.sdid (user_bytes p)
+pub IsPacketBytes-caption : (p : AncillaryPacket) (bytes : List ℕ) → IsCaption p → IsPacketBytes p bytes → bytes ≡ packet_bytes p.did p.sdid (user_bytes p)
 IsPacketBytes-caption p bytes caption is =
     let Eight : ℕ → Type 0 = λ word. IsEightBit (word % 256) word in
     let packet = is.is_packet in

@@ -12,7 +12,7 @@ use Rattle.cc_base.proofs.SyntaxLemmas.{Reads-append, Reads-item, Reads-nothing}
 use Rattle.anc_words.specs.declared.parts.WordPart.{WordPart}
 use Rattle.anc_words.specs.declared.parts.WordPart.TheVariants as part
 use Rattle.anc_words.specs.EightBitWords.{IsEightBit}
-use Rattle.anc_words.specs.Packets.{Packet, IsUserWord, IsPacket}
+use Rattle.anc_words.specs.Packets.{AncillaryPacket, IsUserWord, IsPacket}
 use Rattle.anc_words.specs.WordsFiles.{ArePackets}
 use Rattle.anc_words.specs.Writing.{eight_bit_word, checksum_word}
 use Rattle.anc_words.specs.Reading.{word_syntax, is_caption, is_eight_bit, judge_ten_bits, judge_word, packet_parts, words_after}
@@ -46,7 +46,7 @@ is_caption-is did sdid is =
     (grind (arith, nat_tests), grind (arith, nat_tests))
 
 -- the user words of a packet pass
-FitsUser-from : (p : Packet) (did sdid word : ℕ) → did % 256 ≡ p.did → sdid % 256 ≡ p.sdid → IsUserWord p word → FitsUser did sdid word
+FitsUser-from : (p : AncillaryPacket) (did sdid word : ℕ) → did % 256 ≡ p.did → sdid % 256 ≡ p.sdid → IsUserWord p word → FitsUser did sdid word
 FitsUser-from p did sdid word did_is sdid_is is = (
   is.ten_bits,
   or_not (is_eight_bit word) (is_caption did sdid) (λ caption.
@@ -113,7 +113,7 @@ Reads-checksum first second third did sdid count user checksum many below is =
     Reads-item word_syntax front checksum [] (One part.End) [] [] [] judged tt after (Reads-nothing word_syntax [])
 
 -- a packet
-pub Reads-packet : (p : Packet) (words : List ℕ) → IsPacket p words → Reads word_syntax [] words (packet_parts p) []
+pub Reads-packet : (p : AncillaryPacket) (words : List ℕ) → IsPacket p words → Reads word_syntax [] words (packet_parts p) []
 Reads-packet p words is =
     let did_is = subst (λ v. IsEightBit v is.did) (sym is.has_did.low_bits) is.has_did in
     let sdid_is = subst (λ v. IsEightBit v is.sdid) (sym is.has_sdid.low_bits) is.has_sdid in
@@ -131,7 +131,7 @@ Reads-packet p words is =
     (rw (← is.has_did.low_bits, ← is.has_sdid.low_bits, ← is.has_count.low_bits) whole)
 
 -- packets
-pub Reads-packets : (ps : List Packet) (words : List ℕ) → ArePackets ps words → Reads word_syntax [] words (flat_map packet_parts ps) []
+pub Reads-packets : (ps : List AncillaryPacket) (words : List ℕ) → ArePackets ps words → Reads word_syntax [] words (flat_map packet_parts ps) []
 Reads-packets [] words are = subst (λ ws. Reads word_syntax [] ws [] []) (sym are) (Reads-nothing word_syntax [])
 Reads-packets (p ∷ ps) words (front, rest, spelled, is, are) =
     subst (λ ws. Reads word_syntax [] ws (flat_map packet_parts (p ∷ ps)) []) (sym spelled)

@@ -14,7 +14,7 @@ use Rattle.anc_words.specs.declared.parts.WordPart.{WordPart}
 use Rattle.anc_words.specs.declared.parts.WordPart.TheVariants as part
 use Rattle.anc_words.specs.EightBitWords.{IsEightBit}
 use Rattle.anc_words.specs.Checksums.{IsChecksum}
-use Rattle.anc_words.specs.Packets.{Packet, IsUserWord, IsPacket}
+use Rattle.anc_words.specs.Packets.{AncillaryPacket, IsUserWord, IsPacket}
 use Rattle.anc_words.specs.WordsFiles.{ArePackets}
 use Rattle.anc_words.specs.Writing.{eight_bit_word, checksum_word}
 use Rattle.anc_words.specs.Reading.{word_syntax, is_caption, is_eight_bit, judge_ten_bits, judge_word, words_after}
@@ -86,7 +86,7 @@ IsBegun (first ∷ second ∷ third ∷ did ∷ sdid ∷ []) = (first ≡ 0x000)
 IsBegun (first ∷ second ∷ third ∷ did ∷ sdid ∷ count ∷ user) = IsBody first second third did sdid count user
 
 -- what these words say so far
-abbrev pub packet_behind : ℕ → ℕ → List ℕ → Packet
+abbrev pub packet_behind : ℕ → ℕ → List ℕ → AncillaryPacket
 packet_behind did sdid user = record { did = did % 256; sdid = sdid % 256; user = user }
 
 -- a body with as many user words as its count says, and its checksum word, is a packet
@@ -110,7 +110,7 @@ IsPacket-ended first second third did sdid count user checksum body many is = re
 -- behind one more word a packet is begun, or it has ended
 abbrev pub Goes : List ℕ → ℕ → Type 0
 Goes front word = ((words_after front word ≡ front ++ word ∷ []) × IsBegun (front ++ word ∷ []))
-    ⊎ ((words_after front word ≡ []) × ((p : Packet) × IsPacket p (front ++ word ∷ [])))
+    ⊎ ((words_after front word ≡ []) × ((p : AncillaryPacket) × IsPacket p (front ++ word ∷ [])))
 
 -- a user word comes next, and passes
 goes-user : (first second third did sdid count : ℕ) (user : List ℕ) (word : ℕ) → IsBody first second third did sdid count user → word < 1024
@@ -202,14 +202,14 @@ goes (first ∷ second ∷ third ∷ did ∷ sdid ∷ count ∷ user) word begun
 
 -- words as packets, and the begin of one more
 pub record Splits (words behind : List ℕ) : Type 0 where
-  pub packets : List Packet
+  pub packets : List AncillaryPacket
   pub whole : List ℕ
   pub spelled : words ≡ whole ++ behind
   pub are : ArePackets packets whole
   pub begun : IsBegun behind
 
 -- a packet, and what follows it
-Splits-packet : (p : Packet) (front words behind : List ℕ) → IsPacket p front → Splits words behind → Splits (front ++ words) behind
+Splits-packet : (p : AncillaryPacket) (front words behind : List ℕ) → IsPacket p front → Splits words behind → Splits (front ++ words) behind
 Splits-packet p front words behind is splits = record {
   packets = p ∷ splits.packets;
   whole = front ++ splits.whole;

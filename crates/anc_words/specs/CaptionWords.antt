@@ -15,7 +15,7 @@ low_of pair = get_or pair 1 0
 
 -- the bytes begin with the flag, the identifiers of captions, this count, these user words, as many as it says, and this
 -- checksum word
-pub record BeginsWith (bytes : List ℕ) (count : ℕ) (user : List ℕ) (checksum : ℕ) : Type 0 where
+pub record BeginsWithCaptions (bytes : List ℕ) (count : ℕ) (user : List ℕ) (checksum : ℕ) : Type 0 where
   pub rest : List ℕ
   pub spelled : words_of bytes ≡ 0x000 ∷ 0x3FF ∷ 0x3FF ∷ 0x161 ∷ 0x101 ∷ count ∷ (user ++ checksum ∷ rest)
   pub many : length user ≡ count % 256

@@ -8,23 +8,23 @@ use Rattle.anc_words.specs.EightBitWords.{IsEightBit}
 use Rattle.anc_words.specs.Checksums.{IsChecksum}
 
 -- what a packet says: its identifiers, a byte each, and its user words
-pub record Packet : Type 0 where
+pub record AncillaryPacket : Type 0 where
   pub did : ℕ
   pub sdid : ℕ
   pub user : List ℕ
 
 -- the packet is one of captions
-abbrev pub IsCaption : Packet → Type 0
+abbrev pub IsCaption : AncillaryPacket → Type 0
 IsCaption packet = (packet.did ≡ 0x61) × (packet.sdid ≡ 0x01)
 
 -- the word may be a user word of the packet
-pub record IsUserWord (packet : Packet) (word : ℕ) : Type 0 where
+pub record IsUserWord (packet : AncillaryPacket) (word : ℕ) : Type 0 where
   pub ten_bits : word < 1024
   pub caption : IsCaption packet → IsEightBit (word % 256) word
 
 -- the words are the packet, from the flag to the checksum word: DID, SDID and count are 8-bit words, and the
 -- checksum goes over them and the user words
-pub record IsPacket (packet : Packet) (words : List ℕ) : Type 0 where
+pub record IsPacket (packet : AncillaryPacket) (words : List ℕ) : Type 0 where
   pub did : ℕ
   pub sdid : ℕ
   pub count : ℕ
@@ -37,5 +37,5 @@ pub record IsPacket (packet : Packet) (words : List ℕ) : Type 0 where
   pub has_checksum : IsChecksum (did ∷ sdid ∷ count ∷ packet.user) checksum
 
 -- the bytes in bits 7 to 0 of the user words
-abbrev pub user_bytes : Packet → List ℕ
+abbrev pub user_bytes : AncillaryPacket → List ℕ
 user_bytes packet = map (λ word. word % 256) packet.user

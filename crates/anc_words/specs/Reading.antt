@@ -10,7 +10,7 @@ use Rattle.cc_base.specs.Feeding.{Verdict, hand}
 use Rattle.cc_base.specs.Syntax.{AllRead, Syntax, open_behind, parts_of}
 use Rattle.anc_words.specs.declared.parts.WordPart.{WordPart}
 use Rattle.anc_words.specs.declared.parts.WordPart.TheVariants as part
-use Rattle.anc_words.specs.Packets.{Packet}
+use Rattle.anc_words.specs.Packets.{AncillaryPacket}
 use Rattle.anc_words.specs.Writing.{eight_bit_word, checksum_word}
 
 -- the word is the 8-bit word of its bits 7 to 0
@@ -79,7 +79,7 @@ abbrev pub word_syntax : Syntax (List ℕ) ℕ WordPart
 word_syntax = record { start = []; judge = judge_word; after = words_after }
 
 -- the parts of a packet
-abbrev pub packet_parts : Packet → List WordPart
+abbrev pub packet_parts : AncillaryPacket → List WordPart
 packet_parts packet = part.Start packet.did packet.sdid (length packet.user) ∷ (map part.User packet.user ++ part.End ∷ [])
 
 -- the bytes have a first refused word: no word before it is refused, nor is their last byte half of one, the refusal's place is

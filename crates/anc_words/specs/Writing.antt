@@ -2,7 +2,7 @@
 -- identifiers, and each word as two bytes (SMPTE ST 291-1).
 use Rattle.std.specs.Prelude.{ℕ, ◌+◌, ◌/◌, ◌%◌, ◌==◌, nat_lt, if◌then◌else◌, List, [], ◌∷◌, ◌++◌, map, length, count_ones}
 use Rattle.std.specs.List.{flat_map, sum}
-use Rattle.anc_words.specs.Packets.{Packet}
+use Rattle.anc_words.specs.Packets.{AncillaryPacket}
 
 -- the 8-bit word of a byte: bit 8 where the byte has an odd number of ones, else bit 9
 abbrev pub eight_bit_word : ℕ → ℕ
@@ -35,5 +35,5 @@ abbrev pub packet_bytes : ℕ → ℕ → List ℕ → List ℕ
 packet_bytes did sdid user = flat_map word_bytes (packet_words did sdid user)
 
 -- what it says
-abbrev pub packet_of : ℕ → ℕ → List ℕ → Packet
+abbrev pub packet_of : ℕ → ℕ → List ℕ → AncillaryPacket
 packet_of did sdid user = record { did = did; sdid = sdid; user = map eight_bit_word user }

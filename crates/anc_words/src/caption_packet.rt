@@ -18,12 +18,12 @@ pub struct CaptionPacket<'a> {
 
 impl<'a> CaptionPacket<'a> {
     ghost use Rattle.std.specs.Prelude.{◌≡◌, ◌++◌, ℕ, List, IfSome, IsSome, drop};
-    ghost use Rattle.anc_words.specs.CaptionPackets.{IsCaptionAhead, carried_by, size_of};
+    ghost use Rattle.anc_words.specs.CaptionPackets.{IsCaptionAhead, caption_packet_size, carried_by};
 
     /// The packet of captions with which `bytes` begin, whatever follows it. `None` where they don't begin with a whole one:
     /// where it is cut, another packet, or a word of it would be refused.
     pub fn at_front(bytes: &'a [u8]) -> Option<CaptionPacket<'a>>
-        ensures packet { IfSome result (λ packet. IsCaptionAhead bytes.now (size_of packet) (carried_by packet)) }
+        ensures packet { IfSome result (λ packet. IsCaptionAhead bytes.now (caption_packet_size packet) (carried_by packet)) }
         ensures none { (size : ℕ) (user : List ℕ) → IsCaptionAhead bytes.now size user → IsSome result }
     {
         let words = CaptionWords::at_front(bytes)?;
@@ -43,7 +43,7 @@ impl<'a> CaptionPacket<'a> {
 
     /// The number of its bytes: two for each word.
     pub fn size(&self) -> usize
-        ensures { result ≡ size_of self.now }
+        ensures { result ≡ caption_packet_size self.now }
     {
         2 * (self.user.len() + 7)
     }

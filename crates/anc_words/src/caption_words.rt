@@ -1,6 +1,6 @@
 ghost use Rattle.std.specs.Prelude.{◌≡◌, ◌≤◌, ◌%◌, ◌^◌, if◌then◌else◌, ℕ, List, None, Some, IfNone, IfSome, IsSome, length, map};
 ghost use Rattle.std.specs.List.{flat_map, list_all, sum};
-ghost use Rattle.anc_words.specs.CaptionWords.{AreRight, BeginsWith, low_of, word_of};
+ghost use Rattle.anc_words.specs.CaptionWords.{AreRight, BeginsWithCaptions, low_of, word_of};
 ghost use Rattle.anc_words.specs.Reading.{is_eight_bit};
 
 use crate::word_lanes::{are_eight_bit, lanes};
@@ -26,10 +26,10 @@ impl<'a> CaptionWords<'a> {
     /// end before the checksum word.
     #[inline]
     pub(crate) fn at_front(bytes: &'a [u8]) -> Option<CaptionWords<'a>>
-        ensures words { IfSome result (λ words. BeginsWith bytes.now words.count (map word_of words.user.now) words.checksum) }
+        ensures words { IfSome result (λ words. BeginsWithCaptions bytes.now words.count (map word_of words.user.now) words.checksum) }
         ensures bytes { IfSome result (λ words. map low_of words.user.now ≡ map (λ word. word % 256) (map word_of words.user.now)) }
         ensures few { IfSome result (λ words. length words.user.now ≤ 255) }
-        ensures none { (count : ℕ) (user : List ℕ) (checksum : ℕ) → BeginsWith bytes.now count user checksum → IsSome result }
+        ensures none { (count : ℕ) (user : List ℕ) (checksum : ℕ) → BeginsWithCaptions bytes.now count user checksum → IsSome result }
     {
         let (head, rest) = bytes.split_first_chunk::<10>()?;
         if *head != HEAD {

@@ -16,7 +16,7 @@ ghost use Rattle.anc_words.specs.Reading.{HasRefusedWord, anc_syntax, is_caption
 ghost use Rattle.anc_words.specs.Refusals.{WordOffends};
 ghost use Rattle.anc_words.specs.Ending.{bytes_to_end};
 ghost use Rattle.anc_words.specs.Words.{AreWords};
-ghost use Rattle.anc_words.specs.Packets.{Packet, IsCaption, IsUserWord, IsPacket, user_bytes};
+ghost use Rattle.anc_words.specs.Packets.{AncillaryPacket, IsCaption, IsUserWord, IsPacket, user_bytes};
 ghost use Rattle.anc_words.specs.CaptionPackets.{IsCaptionAhead};
 ghost use Rattle.anc_words.specs.WordsFiles.{ArePackets, IsPacketBytes, IsWordsFile};
 ghost use Rattle.anc_words.specs.Writing.{checksum_word, packet_bytes};
@@ -29,34 +29,34 @@ pub fn words_are_spelled_one_way()
 
 /// Words are at most one packet, whatever follows them, and a packet has one list of words.
 pub fn packets_are_spelled_one_way()
-    ensures packet { (packet other : Packet) (front back rest after : List ℕ)
+    ensures packet { (packet other : AncillaryPacket) (front back rest after : List ℕ)
         → IsPacket packet front → IsPacket other back → front ++ rest ≡ back ++ after
         → (packet ≡ other) × (front ≡ back) × (rest ≡ after) }
-    ensures words { (packet : Packet) (words others : List ℕ)
+    ensures words { (packet : AncillaryPacket) (words others : List ℕ)
         → IsPacket packet words → IsPacket packet others → words ≡ others }
 {}
 
 /// Bytes are at most one packet, whatever bytes follow them, and a packet has one list of bytes.
 pub fn packet_bytes_are_spelled_one_way()
-    ensures packet { (packet other : Packet) (front back rest after : List ℕ)
+    ensures packet { (packet other : AncillaryPacket) (front back rest after : List ℕ)
         → IsPacketBytes packet front → IsPacketBytes other back → front ++ rest ≡ back ++ after
         → (packet ≡ other) × (front ≡ back) × (rest ≡ after) }
-    ensures bytes { (packet : Packet) (bytes others : List ℕ)
+    ensures bytes { (packet : AncillaryPacket) (bytes others : List ℕ)
         → IsPacketBytes packet bytes → IsPacketBytes packet others → bytes ≡ others }
 {}
 
 /// Each packet whose identifiers are bytes and that has at most 255 user words, as they may be there, can be sent: it has
 /// bytes. Those of a packet that isn't of captions may be any words of ten bits.
 pub fn packets_have_bytes()
-    ensures bytes { (packet : Packet) → packet.did < 256 → packet.sdid < 256 → length packet.user ≤ 255
+    ensures bytes { (packet : AncillaryPacket) → packet.did < 256 → packet.sdid < 256 → length packet.user ≤ 255
         → All (IsUserWord packet) packet.user → (bytes : List ℕ) × IsPacketBytes packet bytes }
-    ensures free { (packet : Packet) (word : ℕ) → word < 1024 → (IsCaption packet → ⊥) → IsUserWord packet word }
+    ensures free { (packet : AncillaryPacket) (word : ℕ) → word < 1024 → (IsCaption packet → ⊥) → IsUserWord packet word }
 {}
 
 /// The packets of captions are exactly those that are written: their bytes are the ones written of the bytes that they
 /// carry.
 pub fn captions_are_written()
-    ensures { (packet : Packet) (bytes : List ℕ) → IsCaption packet → IsPacketBytes packet bytes
+    ensures { (packet : AncillaryPacket) (bytes : List ℕ) → IsCaption packet → IsPacketBytes packet bytes
         → bytes ≡ packet_bytes packet.did packet.sdid (user_bytes packet) }
 {}
 
@@ -71,7 +71,7 @@ pub fn captions_ahead_are_found_one_way()
 /// What was written is read back: where a packet stands at the front of the bytes written and of any bytes behind
 /// them, it has the identifiers and carries the user bytes that were given, and those bytes are left behind it.
 pub fn written_is_read()
-    ensures { (did sdid : ℕ) (user : List ℕ) (packet : Packet) (front rest after : List ℕ)
+    ensures { (did sdid : ℕ) (user : List ℕ) (packet : AncillaryPacket) (front rest after : List ℕ)
         → did < 256 → sdid < 256 → length user ≤ 255 → All (λ byte. byte < 256) user
         → IsPacketBytes packet front → packet_bytes did sdid user ++ rest ≡ front ++ after
         → (packet.did ≡ did) × (packet.sdid ≡ sdid) × (user_bytes packet ≡ user) × (after ≡ rest) }
@@ -79,9 +79,9 @@ pub fn written_is_read()
 
 /// Words, and the bytes of a file, are at most one list of packets.
 pub fn files_are_read_one_way()
-    ensures words { (packets others : List Packet) (words : List ℕ)
+    ensures words { (packets others : List AncillaryPacket) (words : List ℕ)
         → ArePackets packets words → ArePackets others words → packets ≡ others }
-    ensures bytes { (packets others : List Packet) (bytes : List ℕ)
+    ensures bytes { (packets others : List AncillaryPacket) (bytes : List ℕ)
         → IsWordsFile packets bytes → IsWordsFile others bytes → packets ≡ others }
 {}
 
@@ -89,12 +89,12 @@ pub fn files_are_read_one_way()
 /// packet and the file of the others.
 pub fn files_are_joined()
     ensures none { IsWordsFile [] [] }
-    ensures one { (packet : Packet) (bytes : List ℕ)
+    ensures one { (packet : AncillaryPacket) (bytes : List ℕ)
         → IsPacketBytes packet bytes → IsWordsFile (packet ∷ []) bytes }
-    ensures joined { (packets others : List Packet) (bytes more : List ℕ)
+    ensures joined { (packets others : List AncillaryPacket) (bytes more : List ℕ)
         → IsWordsFile packets bytes → IsWordsFile others more
         → IsWordsFile (packets ++ others) (bytes ++ more) }
-    ensures first { (packet : Packet) (packets : List Packet) (bytes : List ℕ)
+    ensures first { (packet : AncillaryPacket) (packets : List AncillaryPacket) (bytes : List ℕ)
         → IsWordsFile (packet ∷ packets) bytes
         → (front : List ℕ) × (rest : List ℕ) × (bytes ≡ front ++ rest)
         × IsPacketBytes packet front × IsWordsFile packets rest }
@@ -103,9 +103,9 @@ pub fn files_are_joined()
 /// A file is read: none of its words is refused, they make the parts of its packets, and nothing is open behind them. Under a
 /// layer that takes these parts they are handed upward, and there is no refusal.
 pub fn files_are_read()
-    ensures read { (packets : List Packet) (bytes : List ℕ) → IsWordsFile packets bytes
+    ensures read { (packets : List AncillaryPacket) (bytes : List ℕ) → IsWordsFile packets bytes
         → Reads anc_syntax nothing_open bytes (flat_map packet_parts packets) nothing_open }
-    ensures handed { (verdict : Verdict Part) (packets : List Packet) (bytes : List ℕ) → IsWordsFile packets bytes
+    ensures handed { (verdict : Verdict Part) (packets : List AncillaryPacket) (bytes : List ℕ) → IsWordsFile packets bytes
         → AreAccepted verdict [] (flat_map packet_parts packets)
         → read_under anc_syntax 2 verdict bytes ≡ record { parts = flat_map packet_parts packets; refusal = None } }
 {}
@@ -114,7 +114,7 @@ pub fn files_are_read()
 /// refusal, no word was refused, and the layer above took all parts.
 pub fn what_is_read_is_a_file()
     ensures file { (bytes : List ℕ) → All (λ byte. byte < 256) bytes → AllRead anc_syntax bytes → open_behind anc_syntax bytes ≡ nothing_open
-        → (packets : List Packet) × IsWordsFile packets bytes }
+        → (packets : List AncillaryPacket) × IsWordsFile packets bytes }
     ensures unrefused { (verdict : Verdict Part) (bytes : List ℕ) → (read_under anc_syntax 2 verdict bytes).refusal ≡ None
         → AllRead anc_syntax bytes × AreAccepted verdict [] (parts_of anc_syntax bytes) }
 {}
@@ -122,14 +122,14 @@ pub fn what_is_read_is_a_file()
 /// Words none of which is refused begin some file, and no file begins with words whose last one is refused.
 pub fn a_word_is_refused_where_no_file_goes_on()
     ensures begun { (bytes words : List ℕ) → AreWords bytes words → AllRead anc_syntax bytes
-        → (more : List ℕ) × ((packets : List Packet) × IsWordsFile packets (bytes ++ more)) }
-    ensures refused { (bytes : List ℕ) (byte : ℕ) (reason : Reason) (more : List ℕ) (packets : List Packet)
+        → (more : List ℕ) × ((packets : List AncillaryPacket) × IsWordsFile packets (bytes ++ more)) }
+    ensures refused { (bytes : List ℕ) (byte : ℕ) (reason : Reason) (more : List ℕ) (packets : List AncillaryPacket)
         → judge_byte (open_behind anc_syntax bytes) byte ≡ Refuse reason → IsWordsFile packets (bytes ++ byte ∷ more) → ⊥ }
 {}
 
 /// A packet ends no sooner than its count says: fewer bytes than come at least, down to the last one of a packet, end none.
 pub fn a_packet_ends_no_sooner()
-    ensures { (bytes more : List ℕ) (packets : List Packet) → 0 < length more → length more < bytes_to_end (open_behind anc_syntax bytes)
+    ensures { (bytes more : List ℕ) (packets : List AncillaryPacket) → 0 < length more → length more < bytes_to_end (open_behind anc_syntax bytes)
         → IsWordsFile packets (bytes ++ more) → ⊥ }
 {}
 

@@ -4,7 +4,7 @@ ghost use Rattle.cc_base.specs.declared.refusal.Refusal.{Refusal as Refused};
 ghost use Rattle.cc_base.specs.declared.why.Why.TheVariants as why;
 ghost use Rattle.cc_base.specs.Feeding.{place_by};
 ghost use Rattle.cc_base.specs.Syntax.{judge_by, open_behind};
-ghost use Rattle.anc_words.specs.Packets.{Packet};
+ghost use Rattle.anc_words.specs.Packets.{AncillaryPacket};
 ghost use Rattle.anc_words.specs.Reading.{anc_syntax, nothing_open};
 ghost use Rattle.anc_words.specs.WordsFiles.{IsPacketBytes, IsWordsFile};
 
@@ -27,7 +27,7 @@ pub struct WordReader {
 
 impl WordReader {
     ghost use Rattle.anc_words.specs.Ending.{bytes_to_end};
-    ghost use Rattle.anc_words.specs.CaptionPackets.{size_of};
+    ghost use Rattle.anc_words.specs.CaptionPackets.{caption_packet_size};
     ghost use Rattle.anc_words.specs.Readers.{HasRead, kept_refusal};
 
     /// A reader that was fed nothing.
@@ -59,8 +59,8 @@ impl WordReader {
     /// Passes over the bytes of a whole packet of captions, as if they were fed, where nothing is open: their number is
     /// counted, and nothing is handed upward.
     pub fn pass_over(&mut self, packet: &CaptionPacket<'_>)
-        ensures passed { (before piece : List ℕ) (said : Packet) → HasRead before self.old → open_behind anc_syntax before ≡ nothing_open
-            → IsPacketBytes said piece → length piece ≡ size_of packet.now → HasRead (before ++ piece) self.new }
+        ensures passed { (before piece : List ℕ) (said : AncillaryPacket) → HasRead before self.old → open_behind anc_syntax before ≡ nothing_open
+            → IsPacketBytes said piece → length piece ≡ caption_packet_size packet.now → HasRead (before ++ piece) self.new }
         ensures refusal { kept_refusal self.new ≡ kept_refusal self.old }
     {
         self.fed.taken = self.fed.taken.wrapping_add(packet.size() as u64);
@@ -77,8 +77,8 @@ impl WordReader {
     /// fed, where bytes were fed and the last of them doesn't end a packet.
     pub fn finish(&self) -> Result<(), Refusal>
         ensures kept { (refused : Refused) → kept_refusal self.now ≡ Some refused → result_err result ≡ Some refused }
-        ensures whole { (bytes : List ℕ) → HasRead bytes self.now → IsOk result → (packets : List Packet) × IsWordsFile packets bytes }
-        ensures file { (bytes : List ℕ) (packets : List Packet) → HasRead bytes self.now → IsWordsFile packets bytes → IsOk result }
+        ensures whole { (bytes : List ℕ) → HasRead bytes self.now → IsOk result → (packets : List AncillaryPacket) × IsWordsFile packets bytes }
+        ensures file { (bytes : List ℕ) (packets : List AncillaryPacket) → HasRead bytes self.now → IsWordsFile packets bytes → IsOk result }
         ensures cut { (bytes : List ℕ) → HasRead bytes self.now
             → IfErr result (λ refused. (refused.why ≡ why.Truncated) × (refused.place ≡ length bytes % 2 ^ 64)) }
     {

@@ -74,15 +74,15 @@ abbrev pub shows_in : ℕ → ℕ → ℕ → Cue → Bool
 shows_in service id frame cue = uses_window service id cue.kind && (nat_le cue.show frame && is_before frame cue.hide)
 
 -- the window of a cue, which a line 21 cue hasn't
-abbrev pub window_of : Kind → List Run → Option ShownWindow
-window_of (kind.Pop channel) runs = None
-window_of (kind.Paint channel) runs = None
-window_of (kind.Roll channel rows) runs = None
-window_of (kind.Win window) runs = Some (authored_window window runs)
+abbrev pub cue_window : Kind → List Run → Option ShownWindow
+cue_window (kind.Pop channel) runs = None
+cue_window (kind.Paint channel) runs = None
+cue_window (kind.Roll channel rows) runs = None
+cue_window (kind.Win window) runs = Some (authored_window window runs)
 
 -- what a service is to show at a frame: in each window the one cue that is shown there, if there is one
 abbrev pub authored_windows : ℕ → List Cue → ℕ → ℕ → Option ShownWindow
-authored_windows service cues frame id = option_and_then (λ cue. window_of cue.kind cue.runs) (find (shows_in service id frame) cues)
+authored_windows service cues frame id = option_and_then (λ cue. cue_window cue.kind cue.runs) (find (shows_in service id frame) cues)
 
 -- the cues are shown one at a time in the window: where one of them is, none of the later ones is
 abbrev pub AreOneAtATime : ℕ → ℕ → ℕ → List Cue → Type 0
@@ -93,7 +93,7 @@ AreOneAtATime service id frame (cue ∷ later) =
 
 -- a window is that of each cue that is shown in it, and none where no cue is
 pub record IsWindowAt (service id frame : ℕ) (cues : List Cue) (window : Option ShownWindow) : Type 0 where
-  pub has : AllByRecursion (λ (cue : Cue). shows_in service id frame cue ≡ true → window ≡ window_of cue.kind cue.runs) cues
+  pub has : AllByRecursion (λ (cue : Cue). shows_in service id frame cue ≡ true → window ≡ cue_window cue.kind cue.runs) cues
   pub none : AllByRecursion (λ (cue : Cue). shows_in service id frame cue ≡ false) cues → window ≡ None
 
 -- what a service is to show at a frame has the window of each cue that is shown, and no other

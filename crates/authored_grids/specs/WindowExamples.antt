@@ -87,12 +87,12 @@ abbrev pub cell : ℕ → Bool → PenColors → Option DCell
 cell ch italic colors = Some (record { ch = ch; pen = standard italic; colors = colors })
 
 -- white on black, as pen style 1 has it
-abbrev pub white : PenColors
-white = record { fg = digits 0 2 2 2; bg = digits 0 0 0 0; edge = record { r = 0; g = 0; b = 0 } }
+abbrev pub example_white : PenColors
+example_white = record { fg = digits 0 2 2 2; bg = digits 0 0 0 0; edge = record { r = 0; g = 0; b = 0 } }
 
 -- the place of a window, its size and its priority
-abbrev pub place_of : ShownWindow → ℕ × ℕ × ℕ × ℕ × ℕ
-place_of w = (w.av, w.ah, w.rows, w.cols, w.priority)
+abbrev pub seen_place : ShownWindow → ℕ × ℕ × ℕ × ℕ × ℕ
+seen_place w = (w.av, w.ah, w.rows, w.cols, w.priority)
 
 -- whether its place is relative, its locks and its attributes
 abbrev pub ways_of : ShownWindow → Bool × Bool × Bool × WinAttr

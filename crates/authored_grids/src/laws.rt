@@ -6,7 +6,7 @@ ghost use Rattle.line21_codes.specs.declared.channels.Chan.TheVariants as chan;
 ghost use Rattle.authored_grids.specs.AuthoredGrid.{authored_grid};
 ghost use Rattle.authored_grids.specs.AuthoredServiceGrid.{ShowsEachCue, authored_windows};
 ghost use Rattle.authored_grids.specs.Examples.{red, red_hi};
-ghost use Rattle.authored_grids.specs.WindowExamples.{cell, centred, place_of, two_windows, ways_of, white, yellow};
+ghost use Rattle.authored_grids.specs.WindowExamples.{cell, centred, example_white, seen_place, two_windows, ways_of, yellow};
 ghost use Rattle.dtvcc_windows.specs.Styles.{window_style};
 
 /// A caption shows from its SHOW up to its HIDE, and on its channel alone.
@@ -36,8 +36,8 @@ pub fn a_service_shows_the_windows_of_its_cues()
 /// size and priority.
 pub fn a_window_shows_from_its_show_to_its_hide()
     ensures before { authored_windows 1 two_windows 59 0 ≡ None }
-    ensures first { option_map place_of (authored_windows 1 two_windows 60 0) ≡ Some (60, 50, 1, 10, 0) }
-    ensures both { option_map place_of (authored_windows 1 two_windows 99 1) ≡ Some (10, 50, 2, 10, 7) }
+    ensures first { option_map seen_place (authored_windows 1 two_windows 60 0) ≡ Some (60, 50, 1, 10, 0) }
+    ensures both { option_map seen_place (authored_windows 1 two_windows 99 1) ≡ Some (10, 50, 2, 10, 7) }
     ensures hidden { authored_windows 1 two_windows 100 0 ≡ None }
     ensures elsewhere { authored_windows 2 two_windows 60 0 ≡ None }
 {}
@@ -52,7 +52,7 @@ pub fn a_window_has_its_attributes()
 pub fn a_window_has_the_cells_of_its_runs()
     ensures coloured { option_and_then (λ w. w.cells 0 1) (authored_windows 1 two_windows 60 0) ≡ cell 73 false yellow }
     ensures between { option_and_then (λ w. w.cells 0 3) (authored_windows 1 two_windows 60 0) ≡ None }
-    ensures italic { option_and_then (λ w. w.cells 0 4) (authored_windows 1 two_windows 60 0) ≡ cell 88 true white }
+    ensures italic { option_and_then (λ w. w.cells 0 4) (authored_windows 1 two_windows 60 0) ≡ cell 88 true example_white }
     ensures below { option_and_then (λ w. w.cells 1 0) (authored_windows 1 two_windows 60 0) ≡ None }
-    ensures second_row { option_and_then (λ w. w.cells 1 0) (authored_windows 1 two_windows 90 1) ≡ cell 65 false white }
+    ensures second_row { option_and_then (λ w. w.cells 1 0) (authored_windows 1 two_windows 90 1) ≡ cell 65 false example_white }
 {}

@@ -11,9 +11,9 @@ use Rattle.cue_types.specs.Channels.{cues_on, is_on}
 use Rattle.cue_types.specs.Lane.{is_pop}
 use Rattle.cue_types.specs.declared.cue.Cue.{Cue}
 use Rattle.authored_grids.specs.AuthoredGrid.{IsSettled, IsSettledFor, shown_by}
-use Rattle.authored_places.specs.Cursors.{HasCome, IsToCome, Stands}
+use Rattle.authored_places.specs.Cursors.{HasCome, IsToCome, StandsAtFrame}
 use Rattle.authored_places.specs.Newest.{newest}
-use Rattle.authored_places.specs.Timed.{AreTimed}
+use Rattle.authored_places.specs.Timed.{AreCuesTimed}
 use Rattle.authored_places.specs.declared.cursor.ChannelCursor.{ChannelCursor}
 
 -- the SHOW has come
@@ -32,7 +32,7 @@ reverse_front : (cue : Cue) (later earlier : List Cue) → reverse (cue ∷ late
 reverse_front cue later earlier =
     ap (λ xs. xs ++ earlier) (reverse-append (cue ∷ []) later) ∙ append_assoc (reverse later) (cue ∷ []) earlier
 
-pub skip_later : (frame from : ℕ) (later earlier : List Cue) → frame ≤ from → AreTimed from later
+pub skip_later : (frame from : ℕ) (later earlier : List Cue) → frame ≤ from → AreCuesTimed from later
     → shown_by frame (reverse later ++ earlier) ≡ shown_by frame earlier
 skip_later frame from [] earlier le timed = refl
 skip_later frame from (cue ∷ later) earlier le timed =
@@ -59,9 +59,9 @@ come_later former frame (cue ∷ earlier) le come =
 -- times behind some cues
 pub record TimedFrom (cues : List Cue) : Type 0 where
   pub from : ℕ
-  pub timed : AreTimed from cues
+  pub timed : AreCuesTimed from cues
 
-timed_behind : (from : ℕ) (front cues : List Cue) → AreTimed from (front ++ cues) → TimedFrom cues
+timed_behind : (from : ℕ) (front cues : List Cue) → AreCuesTimed from (front ++ cues) → TimedFrom cues
 timed_behind from [] cues timed = record { from = from; timed = timed }
 timed_behind from (cue ∷ front) cues timed = timed_behind cue.show front cues timed.2
 
@@ -70,9 +70,9 @@ split_on : (channel : Chan) (cues : List Cue) (n : ℕ) → cues_on channel cues
 split_on channel cues n =
     ap (cues_on channel) (sym (take-append-drop n cues)) ∙ filter-append (λ (c : Cue). is_on channel c.kind) (take n cues) (drop n cues)
 
-timed_rest : (channel : Chan) (cues : List Cue) (n : ℕ) → AreTimed 0 (cues_on channel cues) → TimedFrom (cues_on channel (drop n cues))
+timed_rest : (channel : Chan) (cues : List Cue) (n : ℕ) → AreCuesTimed 0 (cues_on channel cues) → TimedFrom (cues_on channel (drop n cues))
 timed_rest channel cues n timed =
-    timed_behind 0 (cues_on channel (take n cues)) (cues_on channel (drop n cues)) (subst (AreTimed 0) (split_on channel cues n) timed)
+    timed_behind 0 (cues_on channel (take n cues)) (cues_on channel (drop n cues)) (subst (AreCuesTimed 0) (split_on channel cues n) timed)
 
 -- the next cue is the first of the rest
 next_of : (n : ℕ) (cues : List Cue) → slice_get cues n ≡ slice_get (drop n cues) 0
@@ -90,7 +90,7 @@ rest_to_come : (channel : Chan) (frame : ℕ) (rest earlier : List Cue) → Time
 rest_to_come channel frame [] earlier timed next = refl
 rest_to_come channel frame (cue ∷ later) earlier timed next =
     let on = first_on channel cue later next.on in
-    let times = subst (AreTimed timed.from) on timed.timed in
+    let times = subst (AreCuesTimed timed.from) on timed.timed in
     let after : frame < cue.show = next.later in
     ap (λ (xs : List Cue). shown_by frame (reverse xs ++ earlier)) on
     ∙ ap (shown_by frame) (reverse_front cue (cues_on channel later) earlier)
@@ -98,7 +98,7 @@ rest_to_come channel frame (cue ∷ later) earlier timed next =
     ∙ skip_one frame cue earlier after
 
 -- the cues whose SHOW has come are those before the cursor
-pub shown_is : (cues : List Cue) (frame : ℕ) (cursor : ChannelCursor) → AreTimed 0 (cues_on cursor.channel cues) → Stands cues frame cursor
+pub shown_is : (cues : List Cue) (frame : ℕ) (cursor : ChannelCursor) → AreCuesTimed 0 (cues_on cursor.channel cues) → StandsAtFrame cues frame cursor
     → shown_by frame (reverse (cues_on cursor.channel cues)) ≡ newest cursor.channel cues cursor.next
 shown_is cues frame cursor timed stands =
     let channel = cursor.channel in
@@ -119,7 +119,7 @@ settled_back frame (cue ∷ cues) earlier come =
     (All-cons (IsSettledFor frame) cue cues (λ written load. now) rest.0, rest.1.1)
 
 -- and so are cues that load later
-settled_later : (frame from : ℕ) (cues : List Cue) → frame < from → AreTimed from cues → All (IsSettledFor frame) cues
+settled_later : (frame from : ℕ) (cues : List Cue) → frame < from → AreCuesTimed from cues → All (IsSettledFor frame) cues
 settled_later frame from [] lt timed = All-nil (IsSettledFor frame)
 settled_later frame from (cue ∷ cues) lt timed =
     let loaded : from ≤ cue.load = timed.0 in
@@ -152,7 +152,7 @@ settled_rest : (channel : Chan) (frame : ℕ) (rest : List Cue) → TimedFrom (c
 settled_rest channel frame [] timed next holds = All-nil (IsSettledFor frame)
 settled_rest channel frame (cue ∷ later) timed next holds =
     let on = first_on channel cue later next.on in
-    let times = subst (AreTimed timed.from) on timed.timed in
+    let times = subst (AreCuesTimed timed.from) on timed.timed in
     let after : frame < cue.show = next.later in
     subst (All (IsSettledFor frame)) (sym on)
     (All-cons (IsSettledFor frame) cue (cues_on channel later)
@@ -173,7 +173,7 @@ unsettled_rest channel frame front (cue ∷ later) next holds all =
     (All-contains (IsSettledFor frame) (front ++ cue ∷ cues_on channel later) cue all'
     (Contains-append_right front (cue ∷ cues_on channel later) cue (contains_head cue (cues_on channel later))))
 
-pub is_settled_at : (cues : List Cue) (frame : ℕ) (cursor : ChannelCursor) → AreTimed 0 (cues_on cursor.channel cues) → Stands cues frame cursor
+pub is_settled_at : (cues : List Cue) (frame : ℕ) (cursor : ChannelCursor) → AreCuesTimed 0 (cues_on cursor.channel cues) → StandsAtFrame cues frame cursor
     → settles frame (slice_get cues cursor.next) ≡ true → IsSettled cursor.channel cues frame
 is_settled_at cues frame cursor timed stands holds =
     let channel = cursor.channel in
@@ -186,7 +186,7 @@ is_settled_at cues frame cursor timed stands holds =
     (All-append (IsSettledFor frame) (cues_on channel (take n cues)) (cues_on channel (drop n cues)) front.0
     (settled_rest channel frame (drop n cues) (timed_rest channel cues n timed) next holds'))
 
-pub is_unsettled_at : (cues : List Cue) (frame : ℕ) (cursor : ChannelCursor) → Stands cues frame cursor
+pub is_unsettled_at : (cues : List Cue) (frame : ℕ) (cursor : ChannelCursor) → StandsAtFrame cues frame cursor
     → settles frame (slice_get cues cursor.next) ≡ false → IsSettled cursor.channel cues frame → ⊥
 is_unsettled_at cues frame cursor stands holds settled =
     let channel = cursor.channel in

@@ -9,14 +9,14 @@ use Rattle.cue_types.specs.declared.cue.Cue.{Cue}
 use Rattle.cue_types.specs.declared.cue.Kind.{Kind}
 use Rattle.cue_types.specs.declared.cue.Kind.TheVariants as kind
 use Rattle.authored_grids.specs.AuthoredGrid.{authored_grid, blank, cells_of, cells_of_cue, chain_of, chain_rows, is_past, shown_from, shown_of_newest}
-use Rattle.authored_places.specs.Cursors.{Stands}
+use Rattle.authored_places.specs.Cursors.{StandsAtFrame}
 use Rattle.authored_places.specs.Newest.{IsLastOn, IsNewest, newest}
-use Rattle.authored_places.specs.Timed.{AreTimed}
+use Rattle.authored_places.specs.Timed.{AreCuesTimed}
 use Rattle.authored_places.specs.declared.cursor.ChannelCursor.{ChannelCursor}
 use Rattle.authored_places.proofs.CursorLemmas.{shown_is}
 
 -- an authored grid is what the newest cue shows
-pub authored_is : (cues : List Cue) (frame : ℕ) (cursor : ChannelCursor) → AreTimed 0 (cues_on cursor.channel cues) → Stands cues frame cursor
+pub authored_is : (cues : List Cue) (frame : ℕ) (cursor : ChannelCursor) → AreCuesTimed 0 (cues_on cursor.channel cues) → StandsAtFrame cues frame cursor
     → authored_grid cursor.channel cues frame ≡ shown_of_newest frame (newest cursor.channel cues cursor.next)
 authored_is cues frame cursor timed stands = ap (shown_of_newest frame) (shown_is cues frame cursor timed stands)
 
@@ -104,8 +104,8 @@ pub record Up (cues : List Cue) (frame : ℕ) (cursor : ChannelCursor) (number :
   pub shown : is_past cue.hide frame ≡ false
       → authored_grid cursor.channel cues frame ≡ shown_from cue.kind cue (newest cursor.channel cues number)
 
-pub up_of : (cues : List Cue) (frame : ℕ) (cursor : ChannelCursor) (number : ℕ) (cue : Cue) → AreTimed 0 (cues_on cursor.channel cues)
-    → Stands cues frame cursor → cursor.last ≡ Some number → cue ≡ get_or cues number cue → Up cues frame cursor number cue
+pub up_of : (cues : List Cue) (frame : ℕ) (cursor : ChannelCursor) (number : ℕ) (cue : Cue) → AreCuesTimed 0 (cues_on cursor.channel cues)
+    → StandsAtFrame cues frame cursor → cursor.last ≡ Some number → cue ≡ get_or cues number cue → Up cues frame cursor number cue
 up_of cues frame cursor number cue timed stands last read =
     let channel = cursor.channel in
     let newest_is = last_is channel cues cursor.next cursor.last number stands.passed.last last in

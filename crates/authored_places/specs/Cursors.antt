@@ -7,8 +7,8 @@ use Rattle.cue_types.specs.Channels.{is_on}
 use Rattle.cue_types.specs.declared.cue.Cue.{Cue}
 
 -- its channel
-abbrev pub channel_of : ChannelCursor → Chan
-channel_of cursor = cursor.channel
+abbrev pub cursor_channel : ChannelCursor → Chan
+cursor_channel cursor = cursor.channel
 
 -- the SHOW of each of the cues has come
 abbrev pub HasCome : ℕ → List Cue → Type 0
@@ -21,12 +21,12 @@ pub record IsToCome (channel : Chan) (frame : ℕ) (cue : Cue) : Type 0 where
   pub later : frame < cue.show
 
 -- it has passed cues of the channel whose SHOW has come by a frame, and no others
-pub record HasPassed (cues : List Cue) (frame : ℕ) (cursor : ChannelCursor) : Type 0 where
+pub record HasPassedShown (cues : List Cue) (frame : ℕ) (cursor : ChannelCursor) : Type 0 where
   pub within : cursor.next ≤ length cues
   pub last : IsLastOn cursor.channel cues cursor.next cursor.last
   pub come : HasCome frame (newest cursor.channel cues cursor.next)
 
 -- it stands at a frame: it has passed all of them
-pub record Stands (cues : List Cue) (frame : ℕ) (cursor : ChannelCursor) : Type 0 where
-  pub passed : HasPassed cues frame cursor
+pub record StandsAtFrame (cues : List Cue) (frame : ℕ) (cursor : ChannelCursor) : Type 0 where
+  pub passed : HasPassedShown cues frame cursor
   pub next : IfSome (slice_get cues cursor.next) (IsToCome cursor.channel frame)

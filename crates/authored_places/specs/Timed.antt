@@ -3,6 +3,6 @@ use Rattle.std.specs.Prelude.{ℕ, ◌<◌, ◌≤◌, List, [], ◌∷◌, ⊤}
 use Rattle.cue_types.specs.declared.cue.Cue.{Cue}
 
 -- from a frame on
-abbrev pub AreTimed : ℕ → List Cue → Type 0
-AreTimed from [] = ⊤
-AreTimed from (cue ∷ later) = (from ≤ cue.load) × (cue.load < cue.show) × AreTimed cue.show later
+abbrev pub AreCuesTimed : ℕ → List Cue → Type 0
+AreCuesTimed from [] = ⊤
+AreCuesTimed from (cue ∷ later) = (from ≤ cue.load) × (cue.load < cue.show) × AreCuesTimed cue.show later

@@ -1,9 +1,9 @@
 ghost use Rattle.std.specs.Prelude.{◌≡◌, ◌<◌, ◌≤◌, ◌+◌, false, true, ℕ, length};
 ghost use Rattle.authored_grids.specs.AuthoredGrid.{IsSettled, authored_grid, is_past, shown_of_newest};
-ghost use Rattle.authored_places.specs.Cursors.{HasPassed, Stands, channel_of};
+ghost use Rattle.authored_places.specs.Cursors.{HasPassedShown, StandsAtFrame, cursor_channel};
 ghost use Rattle.authored_places.specs.Lines.{line_cell};
 ghost use Rattle.authored_places.specs.Newest.{newest};
-ghost use Rattle.authored_places.specs.Timed.{AreTimed};
+ghost use Rattle.authored_places.specs.Timed.{AreCuesTimed};
 ghost use Rattle.cue_types.specs.Channels.{cues_on};
 
 use crate::chain::{base_row, chain_cue, is_on, last_on};
@@ -25,9 +25,9 @@ pub struct ChannelCursor {
 impl ChannelCursor {
     /// The cursor of a channel at frame 0.
     pub fn new(channel: Chan, cues: &[Cue]) -> ChannelCursor
-        requires { AreTimed 0 (cues_on channel cues.now) }
-        ensures channel { channel_of result ≡ channel }
-        ensures stands { Stands cues.now 0 result }
+        requires { AreCuesTimed 0 (cues_on channel cues.now) }
+        ensures channel { cursor_channel result ≡ channel }
+        ensures stands { StandsAtFrame cues.now 0 result }
     {
         let mut cursor = ChannelCursor {
             channel,
@@ -40,19 +40,19 @@ impl ChannelCursor {
 
     /// The channel.
     pub fn channel(&self) -> Chan
-        ensures { result ≡ channel_of self.now }
+        ensures { result ≡ cursor_channel self.now }
     {
         self.channel
     }
 
     /// Goes on to the next frame, of this number, and says whether what the channel is to show may have changed.
     pub fn advance(&mut self, cues: &[Cue], frame: u32) -> bool
-        requires timed { AreTimed 0 (cues_on (channel_of self.now) cues.now) }
-        requires stands { (former : ℕ) × (frame ≡ former + 1) × Stands cues.now former self.now }
-        ensures channel { channel_of self.new ≡ channel_of self.old }
-        ensures stands { Stands cues.now frame self.new }
+        requires timed { AreCuesTimed 0 (cues_on (cursor_channel self.now) cues.now) }
+        requires stands { (former : ℕ) × (frame ≡ former + 1) × StandsAtFrame cues.now former self.now }
+        ensures channel { cursor_channel self.new ≡ cursor_channel self.old }
+        ensures stands { StandsAtFrame cues.now frame self.new }
         ensures same { (former : ℕ) → frame ≡ former + 1 → result ≡ false
-            → authored_grid (channel_of self.old) cues.now frame ≡ authored_grid (channel_of self.old) cues.now former }
+            → authored_grid (cursor_channel self.old) cues.now frame ≡ authored_grid (cursor_channel self.old) cues.now former }
     {
         let next = self.next;
         self.pass(cues, frame);
@@ -61,9 +61,9 @@ impl ChannelCursor {
 
     /// Passes the cues of the channel whose SHOW has come at a frame.
     fn pass(&mut self, cues: &[Cue], frame: u32)
-        requires { HasPassed cues.now frame self.now }
-        ensures channel { channel_of self.new ≡ channel_of self.old }
-        ensures stands { Stands cues.now frame self.new }
+        requires { HasPassedShown cues.now frame self.now }
+        ensures channel { cursor_channel self.new ≡ cursor_channel self.old }
+        ensures stands { StandsAtFrame cues.now frame self.new }
         ensures same { self.new.next ≡ self.old.next → self.new ≡ self.old }
     {
         let start = self.next;
@@ -81,7 +81,7 @@ impl ChannelCursor {
 
     /// Whether the last cue whose SHOW has come is hidden in this frame.
     fn hides_at(&self, cues: &[Cue], frame: u32) -> bool
-        requires { HasPassed cues.now frame self.now }
+        requires { HasPassedShown cues.now frame self.now }
         ensures { result ≡ false → (former : ℕ) → frame ≡ former + 1
             → shown_of_newest frame (newest self.now.channel cues.now self.now.next)
             ≡ shown_of_newest former (newest self.now.channel cues.now self.now.next) }
@@ -94,10 +94,10 @@ impl ChannelCursor {
 
     /// Whether a frame is settled for the channel: no paint-on or roll-up cue is being written onto its screen.
     pub fn is_settled(&self, cues: &[Cue], frame: u32) -> bool
-        requires timed { AreTimed 0 (cues_on (channel_of self.now) cues.now) }
-        requires stands { Stands cues.now frame self.now }
-        ensures settled { result ≡ true → IsSettled (channel_of self.now) cues.now frame }
-        ensures unsettled { result ≡ false → IsSettled (channel_of self.now) cues.now frame → ⊥ }
+        requires timed { AreCuesTimed 0 (cues_on (cursor_channel self.now) cues.now) }
+        requires stands { StandsAtFrame cues.now frame self.now }
+        ensures settled { result ≡ true → IsSettled (cursor_channel self.now) cues.now frame }
+        ensures unsettled { result ≡ false → IsSettled (cursor_channel self.now) cues.now frame → ⊥ }
     {
         match cues.get(self.next) {
             Some(cue) => is_pop(cue.kind) || frame < cue.load,
@@ -107,9 +107,9 @@ impl ChannelCursor {
 
     /// What the channel is to show in a row, 1 to 15, at a frame.
     pub fn line(&self, cues: &[Cue], frame: u32, row: u8) -> Option<Line>
-        requires timed { AreTimed 0 (cues_on (channel_of self.now) cues.now) }
-        requires stands { Stands cues.now frame self.now }
-        ensures { (column : ℕ) → authored_grid (channel_of self.now) cues.now frame row column ≡ line_cell cues.now result column }
+        requires timed { AreCuesTimed 0 (cues_on (cursor_channel self.now) cues.now) }
+        requires stands { StandsAtFrame cues.now frame self.now }
+        ensures { (column : ℕ) → authored_grid (cursor_channel self.now) cues.now frame row column ≡ line_cell cues.now result column }
     {
         let number = self.last?;
         let cue = &cues[number];

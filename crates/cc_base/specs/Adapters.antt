@@ -24,8 +24,8 @@ abbrev pub writer_faults : {W : Type 0} → WriterSink W → ℕ
 writer_faults s = s.faults
 
 -- a fault more, up to the last value of a 64-bit counter
-abbrev pub one_more : ℕ → ℕ
-one_more faults = min (faults + 1) (2 ^ 64 - 1)
+abbrev pub one_more_fault : ℕ → ℕ
+one_more_fault faults = min (faults + 1) (2 ^ 64 - 1)
 
 -- a read that gave so many bytes, or failed: 0 bytes are the end
 abbrev pub read_answer : Option ℕ → Took
@@ -34,7 +34,7 @@ read_answer (Some zero) = took.End
 read_answer (Some (suc n)) = took.Got (suc n)
 
 abbrev pub read_count : Option ℕ → ℕ → ℕ
-read_count None faults = one_more faults
+read_count None faults = one_more_fault faults
 read_count (Some n) faults = faults
 
 -- a write that took so many bytes, or failed: one that took 0 bytes is a fault too
@@ -44,8 +44,8 @@ write_answer (Some zero) = None
 write_answer (Some (suc n)) = Some (suc n)
 
 abbrev pub write_count : Option ℕ → ℕ → ℕ
-write_count None faults = one_more faults
-write_count (Some zero) faults = one_more faults
+write_count None faults = one_more_fault faults
+write_count (Some zero) faults = one_more_fault faults
 write_count (Some (suc n)) faults = faults
 
 -- a flush that went well, or failed
@@ -55,4 +55,4 @@ flush_answer false = put.Failed
 
 abbrev pub flush_count : Bool → ℕ → ℕ
 flush_count true faults = faults
-flush_count false faults = one_more faults
+flush_count false faults = one_more_fault faults

@@ -4,15 +4,15 @@ use Rattle.cc_base.specs.declared.rate.Rate.{Rate}
 use Rattle.cc_base.specs.declared.rate.Rate.TheVariants as rate
 
 -- the code of a rate
-abbrev pub code_of : Rate → ℕ
-code_of rate.F23976 = 1
-code_of rate.F24 = 2
-code_of rate.F25 = 3
-code_of rate.F2997 = 4
-code_of rate.F30 = 5
-code_of rate.F50 = 6
-code_of rate.F5994 = 7
-code_of rate.F60 = 8
+abbrev pub rate_code : Rate → ℕ
+rate_code rate.F23976 = 1
+rate_code rate.F24 = 2
+rate_code rate.F25 = 3
+rate_code rate.F2997 = 4
+rate_code rate.F30 = 5
+rate_code rate.F50 = 6
+rate_code rate.F5994 = 7
+rate_code rate.F60 = 8
 
 -- the rate of a code, if there is one
 abbrev pub rate_of : ℕ → Option Rate
@@ -50,15 +50,15 @@ den_of rate.F5994 = 1001
 den_of rate.F60 = 1
 
 -- triplets of cc_data in a frame
-abbrev pub triplets_of : Rate → ℕ
-triplets_of rate.F23976 = 25
-triplets_of rate.F24 = 25
-triplets_of rate.F25 = 24
-triplets_of rate.F2997 = 20
-triplets_of rate.F30 = 20
-triplets_of rate.F50 = 12
-triplets_of rate.F5994 = 10
-triplets_of rate.F60 = 10
+abbrev pub triplets_in_frame : Rate → ℕ
+triplets_in_frame rate.F23976 = 25
+triplets_in_frame rate.F24 = 25
+triplets_in_frame rate.F25 = 24
+triplets_in_frame rate.F2997 = 20
+triplets_in_frame rate.F30 = 20
+triplets_in_frame rate.F50 = 12
+triplets_in_frame rate.F5994 = 10
+triplets_in_frame rate.F60 = 10
 
 -- a quotient, rounded up
 abbrev pub ceil_quotient : ℕ → ℕ → ℕ

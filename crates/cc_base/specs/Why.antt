@@ -4,41 +4,41 @@ use Rattle.cc_base.specs.declared.why.Why.{Why}
 use Rattle.cc_base.specs.declared.why.Why.TheVariants as why
 
 -- the number of a reason
-abbrev pub number_of : Why → ℕ
-number_of why.Overrun = 1
-number_of why.Identifier = 2
-number_of why.Length = 3
-number_of why.Rate = 4
-number_of why.Section = 5
-number_of why.Count = 6
-number_of why.Counter = 7
-number_of why.Sum = 8
-number_of why.HighBits = 9
-number_of why.WordParity = 10
-number_of why.Flag = 11
-number_of why.AncSum = 12
-number_of why.Truncated = 13
-number_of why.NoSuchTime = 14
-number_of why.Header = 15
-number_of why.SccSyntax = 16
-number_of why.Backwards = 17
-number_of why.Field = 20
-number_of why.NoCode = 21
-number_of why.Order = 22
-number_of why.Overlap = 23
-number_of why.Clash = 24
-number_of why.Unhidden = 25
-number_of why.WindowBusy = 26
-number_of why.DelayCovers = 27
-number_of why.Share = 28
-number_of why.PastEnd = 29
-number_of why.OffSlot = 31
-number_of why.CounterJump = 40
-number_of why.WrongCount = 41
-number_of why.BufferFull = 42
-number_of why.GridDiffers = 43
-number_of why.WrongRate = 44
-number_of why.TwoPairs = 45
+abbrev pub reason_number : Why → ℕ
+reason_number why.Overrun = 1
+reason_number why.Identifier = 2
+reason_number why.Length = 3
+reason_number why.Rate = 4
+reason_number why.Section = 5
+reason_number why.Count = 6
+reason_number why.Counter = 7
+reason_number why.Sum = 8
+reason_number why.HighBits = 9
+reason_number why.WordParity = 10
+reason_number why.Flag = 11
+reason_number why.AncSum = 12
+reason_number why.Truncated = 13
+reason_number why.NoSuchTime = 14
+reason_number why.Header = 15
+reason_number why.SccSyntax = 16
+reason_number why.Backwards = 17
+reason_number why.Field = 20
+reason_number why.NoCode = 21
+reason_number why.Order = 22
+reason_number why.Overlap = 23
+reason_number why.Clash = 24
+reason_number why.Unhidden = 25
+reason_number why.WindowBusy = 26
+reason_number why.DelayCovers = 27
+reason_number why.Share = 28
+reason_number why.PastEnd = 29
+reason_number why.OffSlot = 31
+reason_number why.CounterJump = 40
+reason_number why.WrongCount = 41
+reason_number why.BufferFull = 42
+reason_number why.GridDiffers = 43
+reason_number why.WrongRate = 44
+reason_number why.TwoPairs = 45
 
 -- the name of a reason, as it is printed
 abbrev pub name_of : Why → List ℕ

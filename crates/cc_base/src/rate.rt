@@ -1,5 +1,5 @@
 ghost use Rattle.std.specs.Prelude.{◌≡◌, ℕ, ◌*◌, ◌≤◌};
-ghost use Rattle.cc_base.specs.Rate.{code_of, rate_of, num_of, den_of, triplets_of, delay_frames_of};
+ghost use Rattle.cc_base.specs.Rate.{rate_code, rate_of, num_of, den_of, triplets_in_frame, delay_frames_of};
 
 /// A frame rate of caption distribution packets (SMPTE ST 334-2, cdp_header), in the order of its codes 1 to 8.
 #[derive(Clone, Copy, Debug, PartialEq, Eq)]
@@ -25,7 +25,7 @@ pub enum Rate {
 impl Rate {
     /// The code of the rate in a distribution packet, 1 to 8.
     pub fn code(self) -> u8
-        ensures { result ≡ code_of self }
+        ensures { result ≡ rate_code self }
     {
         match self {
             Rate::F23976 => 1,
@@ -90,7 +90,7 @@ impl Rate {
 
     /// Triplets of cc_data in each frame, which carry 9,600 bits a second (CTA-708-E, 4.4).
     pub fn triplets(self) -> u8
-        ensures { result ≡ triplets_of self }
+        ensures { result ≡ triplets_in_frame self }
     {
         match self {
             Rate::F23976 => 25,

@@ -1,5 +1,5 @@
 ghost use Rattle.std.specs.Prelude.{◌≡◌};
-ghost use Rattle.cc_base.specs.Why.{number_of, name_of};
+ghost use Rattle.cc_base.specs.Why.{reason_number, name_of};
 
 /// The reason of a refusal, of a broken rule or of a finding.
 #[derive(Clone, Copy, Debug, PartialEq, Eq)]
@@ -79,7 +79,7 @@ impl Why {
     /// The reason's number: 1 to 13 for words and packets, 14 to 17 for SCC files, 20 to 29 and 31 for cue lists and
     /// their rules, 40 to 45 for findings.
     pub fn number(self) -> u8
-        ensures { result ≡ number_of self }
+        ensures { result ≡ reason_number self }
     {
         match self {
             Why::Overrun => 1,

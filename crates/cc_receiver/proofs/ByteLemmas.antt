@@ -11,12 +11,12 @@ use Rattle.cdp_packets.specs.declared.reader.CdpReader.{CdpReader}
 use Rattle.cdp_packets.specs.Readers.{HasRead}
 use Rattle.cdp_packets.specs.Reading.{cdp_syntax, judge_cdp}
 use Rattle.line21_screen.specs.Objects.{Leads}
-use Rattle.words_files.specs.Catching.{Caught, OpenCaption, goes_on, taken_in, verdict_behind}
+use Rattle.words_files.specs.Catching.{Caught, OpenCaption, packet_gone_on, taken_in, verdict_behind}
 use Rattle.services_files.specs.Services.{services_say}
 use Rattle.cc_receiver.specs.declared.captions.Captions.{Captions}
 use Rattle.cc_receiver.specs.declared.channel.Channel.{Channel}
 use Rattle.cc_receiver.specs.declared.frame.Frame.{Frame}
-use Rattle.cc_receiver.specs.Catchers.{Judges, Keeps, KeepsLast, KeepsOpen}
+use Rattle.cc_receiver.specs.Catchers.{JudgesParts, Keeps, KeepsLast, KeepsOpen}
 use Rattle.cc_receiver.specs.Channels.{HasTried, frames_parts}
 use Rattle.cc_receiver.specs.Gatherers.{HasGathered}
 use Rattle.cc_receiver.specs.Hearing.{heard}
@@ -41,21 +41,21 @@ pub record FeedsByte (byte : ℕ) (answer : Option Why) (reader next : CdpReader
 -- what is caught behind a step
 abbrev caught_behind : Caught → OpenCaption → ℕ → Reading CdpPart → Caught
 caught_behind caught o byte read =
-    goes_on (why_of read.refusal) (record { size = o.size; bytes = o.bytes ++ byte ∷ []; parts = o.parts ++ read.parts }) caught
+    packet_gone_on (why_of read.refusal) (record { size = o.size; bytes = o.bytes ++ byte ∷ []; parts = o.parts ++ read.parts }) caught
 
 abbrev read_of : ℕ → Option Why → List CdpPart → Reading CdpPart
 read_of place why parts = read_first (refused_at place why) parts (record { parts = []; refusal = None })
 
 read_is : (caught : Caught) (o : OpenCaption) (byte place : ℕ) (why : Option Why) (parts : List CdpPart)
-    → caught_behind caught o byte (read_of place why parts) ≡ goes_on why (record { size = o.size; bytes = o.bytes ++ byte ∷ []; parts = o.parts ++ parts }) caught
+    → caught_behind caught o byte (read_of place why parts) ≡ packet_gone_on why (record { size = o.size; bytes = o.bytes ++ byte ∷ []; parts = o.parts ++ parts }) caught
 read_is caught o byte place None parts =
-    ap (λ ps. goes_on None (record { size = o.size; bytes = o.bytes ++ byte ∷ []; parts = o.parts ++ ps }) caught) (append-nil parts)
+    ap (λ ps. packet_gone_on None (record { size = o.size; bytes = o.bytes ++ byte ∷ []; parts = o.parts ++ ps }) caught) (append-nil parts)
 read_is caught o byte place (Some why) parts = refl
 
 -- what is caught behind a byte of which this step is made
 taken_is : (o : OpenCaption) (caught : Caught) (byte : ℕ) (step : Step CdpPart) → step ≡ judge_cdp o.size (open_behind (cdp_syntax o.size) o.bytes) byte
     → taken_in services_say (Some o) byte caught
-    ≡ goes_on (handed_of caught.frames o.parts step).why
+    ≡ packet_gone_on (handed_of caught.frames o.parts step).why
     (record { size = o.size; bytes = o.bytes ++ byte ∷ []; parts = o.parts ++ (handed_of caught.frames o.parts step).parts }) caught
 taken_is o caught byte step is =
     let read : Step CdpPart → Reading CdpPart = λ step.
@@ -67,18 +67,18 @@ taken_is o caught byte step is =
 pub record Goes (caught more : Caught) (answer : Option Why) (next : CdpReader) (now : Frame) (new : Channel) : Type 0 where
   pub refused : more.refused ≡ answer
   pub is_open : more.refused ≡ None → KeepsOpen more.open_caption (Some next) now
-  pub judges : more.refused ≡ None → Judges more.frames more.open_caption new
+  pub judges : more.refused ≡ None → JudgesParts more.frames more.open_caption new
   pub same : more.frames ≡ caught.frames
 
 pub goes : (o : Option OpenCaption) (caught : Caught) (byte : ℕ) (answer : Option Why) (reader next : CdpReader) (was now : Frame) (old new : Channel)
-    → KeepsOpen o (Some reader) was → Judges caught.frames o old → FeedsByte byte answer reader next was now old new → caught.refused ≡ None
+    → KeepsOpen o (Some reader) was → JudgesParts caught.frames o old → FeedsByte byte answer reader next was now old new → caught.refused ≡ None
     → Goes caught (taken_in services_say o byte caught) answer next now new
 goes None caught byte answer reader next was now old new kept judged fed none = absurd kept
 goes (Some o) caught byte answer reader next was now old new kept judged fed none =
     let handed = handed_of caught.frames o.parts fed.step in
     let more : OpenCaption = record { size = o.size; bytes = o.bytes ++ byte ∷ []; parts = o.parts ++ handed.parts } in
     let why : answer ≡ handed.why = fed.why caught.frames o.parts judged in
-    let cases : (w : Option Why) → handed.why ≡ w → Goes caught (goes_on w more caught) w next now new = elim [
+    let cases : (w : Option Why) → handed.why ≡ w → Goes caught (packet_gone_on w more caught) w next now new = elim [
       | None ↦ λ fine. record {
         refused = none;
         is_open = λ _. (
@@ -91,7 +91,7 @@ goes (Some o) caught byte answer reader next was now old new kept judged fed non
       | Some w ↦ λ _. record { refused = refl; is_open = λ no. absurd cc; judges = λ no. absurd cc; same = refl }
     ] in
     subst (λ (m : Caught). Goes caught m answer next now new) (sym (taken_is o caught byte fed.step (fed.says o.size o.bytes kept.0)))
-    (subst (λ w. Goes caught (goes_on handed.why more caught) w next now new) (sym why) (cases handed.why refl))
+    (subst (λ w. Goes caught (packet_gone_on handed.why more caught) w next now new) (sym why) (cases handed.why refl))
 
 -- captions that keep what was caught keep it behind a byte
 pub kept_going : (caught more : Caught) (captions : Captions) (answer : Option Why) (next : CdpReader) (now : Frame) (new : Channel) → Keeps caught captions

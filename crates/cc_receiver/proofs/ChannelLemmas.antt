@@ -10,7 +10,7 @@ use Rattle.cc_base.proofs.SyntaxLemmas.{parts_from-append}
 use Rattle.cc_data.specs.declared.triplet.Triplet.{Triplet}
 use Rattle.channel_packets.specs.declared.parts.PacketPart.{PacketPart}
 use Rattle.channel_packets.specs.declared.parts.PacketPart.TheVariants as part
-use Rattle.channel_packets.specs.ChannelPackets.{channel_triplets, continues, is_gap, number_of, size_of, starts}
+use Rattle.channel_packets.specs.ChannelPackets.{channel_triplets, continues_packet, is_gap, number_of, size_of, starts}
 use Rattle.channel_packets.specs.Readers as packets
 use Rattle.channel_packets.specs.Reading.{Open, judge_bytes, judge_triplet, nothing_open, open_after, packet_syntax}
 use Rattle.service_blocks.specs.Readers as blocks
@@ -25,23 +25,23 @@ neither : (one two : Bool) → (one || two) ≡ false → (one ≡ false) × (tw
 neither true two is = absurd cc
 neither false two is = (refl, is)
 
-pub passed_over : (front : Open) (triplet : Triplet) → (starts triplet || continues triplet) ≡ false
+pub passed_over : (front : Open) (triplet : Triplet) → (starts triplet || continues_packet triplet) ≡ false
     → (judge_triplet front triplet ≡ Nothing) × (open_after front triplet ≡ front)
 passed_over front triplet is =
-    let (one, two) = neither (starts triplet) (continues triplet) is in
+    let (one, two) = neither (starts triplet) (continues_packet triplet) is in
     let begun : Step PacketPart = Two (part.Header (is_gap front.last (number_of triplet.a)) (size_of triplet.a)) (part.Byte triplet.b (size_of triplet.a - 1)) in
     let first : Open = record { last = Some (number_of triplet.a); left = size_of triplet.a - 1 } in
     let more : Open = record { last = front.last; left = front.left - 2 } in (
-      ap (λ (t : Bool). if t then begun else if continues triplet then judge_bytes front.left triplet.a triplet.b else Nothing) one
+      ap (λ (t : Bool). if t then begun else if continues_packet triplet then judge_bytes front.left triplet.a triplet.b else Nothing) one
           ∙ ap (λ (t : Bool). if t then judge_bytes front.left triplet.a triplet.b else Nothing) two,
-      ap (λ (t : Bool). if t then first else if continues triplet then more else front) one ∙ ap (λ (t : Bool). if t then more else front) two,
+      ap (λ (t : Bool). if t then first else if continues_packet triplet then more else front) one ∙ ap (λ (t : Bool). if t then more else front) two,
     )
 
 behind_channel : (front : Open) (triplets : List Triplet) → front_from open_after front (channel_triplets triplets) ≡ front_from open_after front triplets
 behind_channel front [] = refl
 behind_channel front (triplet ∷ triplets) =
     let own = channel_triplets triplets in
-    let cases : (b : Bool) → (starts triplet || continues triplet) ≡ b
+    let cases : (b : Bool) → (starts triplet || continues_packet triplet) ≡ b
     → front_from open_after front (channel_triplets (triplet ∷ triplets)) ≡ front_from open_after front (triplet ∷ triplets) = elim [
       | true ↦ λ is. ap (λ (b : Bool). front_from open_after front (if b then triplet ∷ own else own)) is ∙ behind_channel (open_after front triplet) triplets
       | false ↦ λ is.
@@ -59,11 +59,11 @@ kept_more true triplet all own more is = ap (λ ts. triplet ∷ ts) is
 kept_more false triplet all own more is = is
 
 -- the triplets of channel packets, of one more triplet
-pub channel_more : (triplets : List Triplet) (triplet : Triplet) (own : Bool) → (starts triplet || continues triplet) ≡ own
+pub channel_more : (triplets : List Triplet) (triplet : Triplet) (own : Bool) → (starts triplet || continues_packet triplet) ≡ own
     → channel_triplets (triplets ++ triplet ∷ []) ≡ channel_triplets triplets ++ (if own then triplet ∷ [] else [])
 channel_more [] triplet own is = ap (λ (b : Bool). if b then triplet ∷ [] else []) is
 channel_more (first ∷ triplets) triplet own is =
-    kept_more (starts first || continues first) first (channel_triplets (triplets ++ triplet ∷ [])) (channel_triplets triplets) (if own then triplet ∷ [] else [])
+    kept_more (starts first || continues_packet first) first (channel_triplets (triplets ++ triplet ∷ [])) (channel_triplets triplets) (if own then triplet ∷ [] else [])
     (channel_more triplets triplet own is)
 
 -- what they make
@@ -82,7 +82,7 @@ reason_is : (triplets : List Triplet) (triplet : Triplet)
 reason_is triplets triplet = ap (why_pieces triplets) (append-nil (step_parts (judge_triplet (open_behind packet_syntax triplets) triplet)))
 
 -- one that is passed over
-pub passes_over : (triplets : List Triplet) (triplet : Triplet) (channel : Channel) → (starts triplet || continues triplet) ≡ false → HasHeard triplets channel
+pub passes_over : (triplets : List Triplet) (triplet : Triplet) (channel : Channel) → (starts triplet || continues_packet triplet) ≡ false → HasHeard triplets channel
     → HasHeard (triplets ++ triplet ∷ []) channel
 passes_over triplets triplet channel other heard =
     let none = ap step_parts (passed_over (open_behind packet_syntax triplets) triplet other).0 in
@@ -107,7 +107,7 @@ pub why_of_pieces : (triplets : List Triplet) (triplet : Triplet) (step : Step P
     → step ≡ judge_triplet (open_behind packet_syntax (channel_triplets triplets)) triplet → why_pieces triplets (step_parts step) ≡ why_unheard triplets (triplet ∷ [])
 why_of_pieces triplets triplet step is = sym (reason_is triplets triplet ∙ ap (why_pieces triplets) (pieces_of triplets triplet step is))
 
-pub takes_pieces : (triplets : List Triplet) (triplet : Triplet) (step : Step PacketPart) (channel : Channel) → (starts triplet || continues triplet) ≡ true
+pub takes_pieces : (triplets : List Triplet) (triplet : Triplet) (step : Step PacketPart) (channel : Channel) → (starts triplet || continues_packet triplet) ≡ true
     → step ≡ judge_triplet (open_behind packet_syntax (channel_triplets triplets)) triplet
     → packets.HasRead (channel_triplets triplets ++ triplet ∷ []) channel.packets
     → blocks.HasRead (parts_of packet_syntax triplets ++ step_parts step) channel.blocks → HasHeard (triplets ++ triplet ∷ []) channel

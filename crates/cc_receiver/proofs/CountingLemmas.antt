@@ -6,7 +6,7 @@ use Rattle.std.proofs.Math.Seq.{take-length, take-suc-set}
 use Rattle.std.proofs.lemmas.List.Concat.{flat_map-append}
 use Rattle.cc_base.proofs.StepLemmas.{front_from-append}
 use Rattle.cc_data.specs.declared.triplet.Triplet.{Triplet}
-use Rattle.channel_packets.specs.ChannelPackets.{channel_triplets, continues, starts}
+use Rattle.channel_packets.specs.ChannelPackets.{channel_triplets, continues_packet, starts}
 use Rattle.line21_codes.specs.declared.pairs.Pair.{Pair}
 use Rattle.words_files.specs.Received.{field_kind, field_pair, field_pairs}
 use Rattle.cc_receiver.specs.declared.triplets.Triplets.{Triplets}
@@ -42,7 +42,7 @@ pub none_channel : (triplets : List Triplet) → NoneCounts triplets → channel
 none_channel [] none = refl
 none_channel (t ∷ triplets) (not, none) =
     let own = channel_triplets triplets in
-    let is : (starts t || continues t) ≡ false = ap (λ (v : Bool). (v && (t.kind == 3)) || (v && (t.kind == 2))) not in
+    let is : (starts t || continues_packet t) ≡ false = ap (λ (v : Bool). (v && (t.kind == 3)) || (v && (t.kind == 2))) not in
     ap (λ (b : Bool). if b then t ∷ own else own) is ∙ none_channel triplets none
 
 -- and have no pairs

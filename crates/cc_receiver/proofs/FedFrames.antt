@@ -2,7 +2,7 @@
 use Rattle.std.proofs.Common.{◌≡◌, ◌≢◌, ◌∙◌, ◌≤◌, ◌<◌, ◌+◌, ◌++◌, ap, append-nil, arith, length, length-append, refl, subst, ℕ, List, [], ◌∷◌}
 use Rattle.std.proofs.Math.Path.{fun_ext}
 use Rattle.cc_receiver.specs.Feeds.{Counts}
-use Rattle.cc_receiver.specs.Receivers.{HasReceived, frame_count, shown}
+use Rattle.cc_receiver.specs.Receivers.{HasReceived, displayed_grid, frame_count}
 use Rattle.cc_receiver.specs.declared.receiver.Ended.{Ended}
 use Rattle.cc_receiver.specs.declared.receiver.Ended.TheVariants as ended
 use Rattle.cc_receiver.specs.declared.receiver.Receiver.{Receiver}
@@ -85,7 +85,7 @@ counted_nothing receiver received = frames_count [] [] receiver received (file_f
 
 -- a receiver shows what the pairs of the frames leave
 pub frames_shown : (bytes : List ℕ) (frames : List Frame) (receiver : Receiver) → HasReceived bytes receiver → AreFramesOf services_say frames bytes
-    → shown receiver ≡ received_grids frames
+    → displayed_grid receiver ≡ received_grids frames
 frames_shown bytes frames receiver had are = fun_ext (λ chan. shown_received frames bytes receiver chan had are)
 
 -- at most one frame is counted

@@ -8,7 +8,7 @@ use Rattle.std.proofs.lemmas.Grind.{common_steps}
 use Rattle.std.specs.List.{All}
 use Rattle.cc_base.specs.Syntax.{open_behind}
 use Rattle.anc_words.specs.Ending.{bytes_to_end}
-use Rattle.anc_words.specs.Packets.{Packet}
+use Rattle.anc_words.specs.Packets.{AncillaryPacket}
 use Rattle.anc_words.specs.Reading.{anc_syntax}
 use Rattle.anc_words.specs.WordsFiles.{IsWordsFile}
 use Rattle.anc_words.proofs.EndingLemmas.{ends_no_sooner}
@@ -24,7 +24,7 @@ use Rattle.cc_receiver.specs.Receivers.{HasReceived}
 pub record Underway (before bytes : List ℕ) (count : ℕ) (receiver : Receiver) : Type 0 where
   pub received : HasReceived (before ++ take count bytes) receiver
   pub none : refusal_of services_say (before ++ take count bytes) ≡ None
-  pub within : (packets : List Packet) (fewer : ℕ) → 0 < fewer → fewer ≤ count → IsWordsFile packets (before ++ take fewer bytes) → ⊥
+  pub within : (packets : List AncillaryPacket) (fewer : ℕ) → 0 < fewer → fewer ≤ count → IsWordsFile packets (before ++ take fewer bytes) → ⊥
 
 -- a piece behind the bytes that were read
 pub with_piece : (before bytes : List ℕ) (count more : ℕ) → (before ++ take count bytes) ++ take more (drop count bytes) ≡ before ++ take (count + more) bytes
@@ -33,8 +33,8 @@ with_piece before bytes count more =
 
 -- no fewer bytes than these end a packet
 pub within_piece : (before bytes : List ℕ) (count more : ℕ) → count + more ≤ length bytes → more ≤ bytes_to_end (open_behind anc_syntax (before ++ take count bytes))
-    → ((packets : List Packet) (fewer : ℕ) → 0 < fewer → fewer ≤ count → IsWordsFile packets (before ++ take fewer bytes) → ⊥)
-    → (packets : List Packet) (fewer : ℕ) → 0 < fewer → fewer < count + more → IsWordsFile packets (before ++ take fewer bytes) → ⊥
+    → ((packets : List AncillaryPacket) (fewer : ℕ) → 0 < fewer → fewer ≤ count → IsWordsFile packets (before ++ take fewer bytes) → ⊥)
+    → (packets : List AncillaryPacket) (fewer : ℕ) → 0 < fewer → fewer < count + more → IsWordsFile packets (before ++ take fewer bytes) → ⊥
 within_piece before bytes count more within_bytes few none_before packets fewer some less is =
     let cases : (test : Bool) → nat_le fewer count ≡ test → ⊥ = elim [
       | true ↦ λ at. none_before packets fewer some (grind (arith, nat_tests)) is
@@ -80,9 +80,9 @@ piece_most more least most rest is same = omega (arith, is, same)
 
 -- nor do these, where they end none
 pub up_to : (before bytes : List ℕ) (count : ℕ)
-    → ((packets : List Packet) (fewer : ℕ) → 0 < fewer → fewer < count → IsWordsFile packets (before ++ take fewer bytes) → ⊥)
-    → ((packets : List Packet) → IsWordsFile packets (before ++ take count bytes) → ⊥)
-    → (packets : List Packet) (fewer : ℕ) → 0 < fewer → fewer ≤ count → IsWordsFile packets (before ++ take fewer bytes) → ⊥
+    → ((packets : List AncillaryPacket) (fewer : ℕ) → 0 < fewer → fewer < count → IsWordsFile packets (before ++ take fewer bytes) → ⊥)
+    → ((packets : List AncillaryPacket) → IsWordsFile packets (before ++ take count bytes) → ⊥)
+    → (packets : List AncillaryPacket) (fewer : ℕ) → 0 < fewer → fewer ≤ count → IsWordsFile packets (before ++ take fewer bytes) → ⊥
 up_to before bytes count none_before none_there packets fewer some most is =
     let cases : (test : Bool) → nat_le count fewer ≡ test → ⊥ = elim [
       | true ↦ λ at.

@@ -5,7 +5,7 @@ use Rattle.std.specs.Result.{result_err}
 use Rattle.cc_base.specs.Syntax.{open_behind}
 use Rattle.cc_base.specs.declared.refusal.Refusal.{Refusal}
 use Rattle.cc_base.specs.declared.why.Why.TheVariants as why
-use Rattle.anc_words.specs.Packets.{Packet}
+use Rattle.anc_words.specs.Packets.{AncillaryPacket}
 use Rattle.anc_words.specs.Readers.{HasRead}
 use Rattle.anc_words.specs.Reading.{anc_syntax, nothing_open}
 use Rattle.anc_words.specs.WordsFiles.{IsWordsFile}
@@ -24,8 +24,8 @@ use Rattle.cc_receiver.specs.Receivers.{HasReceived, receiver_refusal}
 -- what the reader of words answers where the bytes may end
 pub record Finishes (bytes : List ℕ) (receiver : Receiver) (answer : Result (Unit {0}) Refusal) : Type 0 where
   pub kept : (refused : Refusal) → receiver_refusal receiver ≡ Some refused → result_err answer ≡ Some refused
-  pub whole : HasRead bytes receiver.words → IsOk answer → (packets : List Packet) × IsWordsFile packets bytes
-  pub file : (packets : List Packet) → HasRead bytes receiver.words → IsWordsFile packets bytes → IsOk answer
+  pub whole : HasRead bytes receiver.words → IsOk answer → (packets : List AncillaryPacket) × IsWordsFile packets bytes
+  pub file : (packets : List AncillaryPacket) → HasRead bytes receiver.words → IsWordsFile packets bytes → IsOk answer
   pub cut : HasRead bytes receiver.words → IfErr answer (λ refused. (refused.why ≡ why.Truncated) × (refused.place ≡ length bytes % 2 ^ 64))
 
 -- where it is Ok the bytes are a file

@@ -3,7 +3,7 @@ use Rattle.std.proofs.Common.{arith, ◌≡◌, ℕ, ◌%◌, ◌<◌, ◌≤◌
 use Rattle.std.proofs.lemmas.List.{length-map, reverse-append}
 use Rattle.std.specs.List.{concat}
 use Rattle.cc_base.specs.Feeding.{Verdict}
-use Rattle.anc_words.specs.Packets.{IsPacket, Packet, user_bytes}
+use Rattle.anc_words.specs.Packets.{AncillaryPacket, IsPacket, user_bytes}
 use Rattle.anc_words.specs.WordsFiles.{ArePackets}
 use Rattle.cdp_packets.specs.declared.parts.CdpPart.{CdpPart}
 use Rattle.cdp_packets.specs.PacketParts.{packet_parts}
@@ -35,14 +35,14 @@ cdp_fits frame bytes is few =
     record { are = is.sections; few = omega (arith, e, long, few) }
 
 -- an ancillary packet has at most 255 user words
-users_few : (p : Packet) (words : List ℕ) → IsPacket p words → length (user_bytes p) < 256
+users_few : (p : AncillaryPacket) (words : List ℕ) → IsPacket p words → length (user_bytes p) < 256
 users_few p words is =
     let count : is.count % 256 ≡ length p.user = is.has_count.low_bits in
     let same = length-map p.user (λ word. word % 256) in
     omega (arith, count, same)
 
 -- the frames of packets
-frames_fit : (packets : List Packet) (frames : List Frame) → CarryFrames packets frames → (words : List ℕ) → ArePackets packets words → AllFit frames
+frames_fit : (packets : List AncillaryPacket) (frames : List Frame) → CarryFrames packets frames → (words : List ℕ) → ArePackets packets words → AllFit frames
 frames_fit _ _ none words are = tt
 frames_fit _ _ (caption packet packets frame frames is_caption carries carried) words are =
     (cdp_fits frame (user_bytes packet) carries (users_few packet are.0 are.3), frames_fit packets frames carried are.1 are.4)

@@ -22,7 +22,7 @@ use Rattle.cc_receiver.specs.Gathering.{Gathered}
 use Rattle.cc_receiver.specs.Gatherers.{Holds}
 use Rattle.cc_receiver.specs.Catchers.{KeepsLast}
 use Rattle.cc_receiver.specs.Hearing.{heard}
-use Rattle.cc_receiver.specs.Receivers.{HasReceived, field_in, receiver_refusal, shown}
+use Rattle.cc_receiver.specs.Receivers.{HasReceived, displayed_grid, field_in, receiver_refusal}
 use Rattle.cc_receiver.proofs.GatheredLemmas.{packet_gathered}
 use Rattle.cc_receiver.proofs.HeardLemmas.{AllFit, Fits, frames_of_fit, heard_frames}
 
@@ -48,7 +48,7 @@ field_received true frames bytes receiver had are = had.reached.took.second.stat
 
 -- a receiver shows what its frames leave on the screens
 pub shown_received : (frames : List Frame) (bytes : List ℕ) (receiver : Receiver) (chan : Chan) → HasReceived bytes receiver → AreFramesOf services_say frames bytes
-    → shown receiver chan ≡ received_grids frames chan
+    → displayed_grid receiver chan ≡ received_grids frames chan
 shown_received frames bytes receiver chan had are =
     ap (λ (s : FieldState). (channel (is_second_channel chan) s).displayed) (field_received (is_in_second_field chan) frames bytes receiver had are)
 

@@ -13,7 +13,7 @@ use Rattle.words_files.specs.FramesOf.{AreFramesOf}
 use Rattle.cc_receiver.specs.declared.receiver.Receiver.{Receiver}
 use Rattle.cc_receiver.specs.ReceivedServices.{received_windows}
 use Rattle.cc_receiver.specs.Receivers.{HasReceived}
-use Rattle.cc_receiver.specs.SeenServices.{seen_of, seen_windows}
+use Rattle.cc_receiver.specs.SeenServices.{seen_of_member, seen_windows}
 use Rattle.cc_receiver.proofs.ServedLemmas.{IsServed, received_events}
 
 -- each service has its place
@@ -31,7 +31,7 @@ windows_received frames bytes receiver service id had are numbered = at (slice_g
     served : IsServed frames receiver
     served = received_events frames bytes receiver had are
 
-    at : (o : Option Member) → slice_get receiver.captions.served.services.members.items (service - 1) ≡ o → seen_of o id ≡ received_windows frames service id
+    at : (o : Option Member) → slice_get receiver.captions.served.services.members.items (service - 1) ≡ o → seen_of_member o id ≡ received_windows frames service id
     at None none =
         let count = receiver.captions.served.services.count in
         absurd (there receiver.captions.served.services.members.items (service - 1) (omega (arith, count, numbered.from, numbered.to)) none)

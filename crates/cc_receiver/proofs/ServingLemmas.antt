@@ -10,10 +10,10 @@ use Rattle.cc_base.proofs.StepLemmas.{front_from-append}
 use Rattle.cc_data.specs.declared.triplet.Triplet.{Triplet}
 use Rattle.cdp_packets.specs.declared.parts.CdpPart.{CdpPart}
 use Rattle.channel_packets.specs.declared.parts.PacketPart.{PacketPart}
-use Rattle.channel_packets.specs.ChannelPackets.{channel_triplets, continues, starts}
+use Rattle.channel_packets.specs.ChannelPackets.{channel_triplets, continues_packet, starts}
 use Rattle.channel_packets.specs.Reading.{judge_triplet, packet_syntax}
 use Rattle.dtvcc_screen.specs.Meaning.{Tick}
-use Rattle.dtvcc_services.specs.Objects.{Events, Leads, frames_of}
+use Rattle.dtvcc_services.specs.Objects.{Events, Leads, all_ticks}
 use Rattle.dtvcc_services.specs.declared.services.Services.{Services}
 use Rattle.service_blocks.specs.declared.parts.BlockPart.{BlockPart}
 use Rattle.service_blocks.specs.Channels.{IsHeard, IsHeardBehind, heard_behind}
@@ -72,7 +72,7 @@ taken_pieces before triplet step is heard =
     (append-nil (step_parts (judge_triplet (open_behind packet_syntax before) triplet)) ∙ pieces_of before triplet step is) heard
 
 -- a triplet that is passed over says nothing
-pub heard_other : (before : List Triplet) (triplet : Triplet) → (starts triplet || continues triplet) ≡ false → heard_behind before (triplet ∷ []) ≡ []
+pub heard_other : (before : List Triplet) (triplet : Triplet) → (starts triplet || continues_packet triplet) ≡ false → heard_behind before (triplet ∷ []) ≡ []
 heard_other before triplet other =
     ap (λ ps. parts_from block_syntax (open_behind block_syntax (parts_of packet_syntax before)) ps)
     (append-nil (step_parts (judge_triplet (open_behind packet_syntax before) triplet)) ∙ ap step_parts (passed_over (open_behind packet_syntax before) triplet other).0)
@@ -166,14 +166,14 @@ next_heard before triplets rest all triplet is heard =
 pub serves_frame : (frames : List (List CdpPart)) (parts : List CdpPart) (rate : Rate) (triplets : List Triplet) (old new : Served)
     → rate ≡ (gathered parts).rate → triplets ≡ (gathered parts).triplets
     → (length frames < 2 ^ 32 → IsHeard (said_triplets frames) → ServesFrames frames old)
-    → ((before : List Triplet) (earlier last : Events) → HasServed before earlier last old → frames_of old.services < 4294967295 → IsHeard (before ++ triplets)
+    → ((before : List Triplet) (earlier last : Events) → HasServed before earlier last old → all_ticks old.services < 4294967295 → IsHeard (before ++ triplets)
     → HasServed (before ++ triplets) (followed_by earlier last) (given_by rate before triplets) new)
-    → (frames_of old.services < 4294967295 → frames_of new.services ≡ frames_of old.services + 1)
+    → (all_ticks old.services < 4294967295 → all_ticks new.services ≡ all_ticks old.services + 1)
     → length (parts ∷ frames) < 2 ^ 32 → IsHeard (said_triplets (parts ∷ frames)) → ServesFrames (parts ∷ frames) new
 serves_frame frames parts rate triplets old new rate_is triplets_are serves frame counts few heard =
     let was = serves (omega (arith, few)) (heard_first (said_triplets frames) (gathered parts).triplets heard) in
     let count = was.count in
-    let fewer : frames_of old.services < 4294967295 = omega (arith, count, few) in
+    let fewer : all_ticks old.services < 4294967295 = omega (arith, count, few) in
     let more = counts fewer in
     let both : followed_by (earlier_events frames) (last_events frames) ≡ said_events frames = fun_ext (λ service. both_are frames service) in
     record {

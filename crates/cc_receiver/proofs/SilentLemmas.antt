@@ -8,11 +8,11 @@ use Rattle.cc_base.specs.Steps.{step_parts}
 use Rattle.cc_base.specs.Syntax.{open_behind, parts_from, parts_of}
 use Rattle.cc_base.proofs.SyntaxLemmas.{parts_from-append}
 use Rattle.cc_data.specs.declared.triplet.Triplet.{Triplet}
-use Rattle.channel_packets.specs.ChannelPackets.{channel_triplets, continues, starts}
+use Rattle.channel_packets.specs.ChannelPackets.{channel_triplets, continues_packet, starts}
 use Rattle.channel_packets.specs.Readers as packets
 use Rattle.channel_packets.specs.Reading.{Open, nothing_open, open_after, packet_syntax}
 use Rattle.dtvcc_screen.specs.Meaning.{Tick}
-use Rattle.dtvcc_services.specs.Objects.{Events, frames_of}
+use Rattle.dtvcc_services.specs.Objects.{Events, all_ticks}
 use Rattle.service_blocks.specs.Channels.{IsHeard, heard_behind}
 use Rattle.service_blocks.specs.Readers as blocks
 use Rattle.service_blocks.specs.Reading.{block_syntax}
@@ -30,19 +30,19 @@ use Rattle.cc_receiver.proofs.SaysLemmas.{not_is}
 use Rattle.cc_receiver.proofs.ServingLemmas.{leads_by}
 
 -- none of them is one of channel packets
-pub none_of_channel : (triplets : List Triplet) → list_all (λ triplet. not (starts triplet || continues triplet)) triplets ≡ true → channel_triplets triplets ≡ []
+pub none_of_channel : (triplets : List Triplet) → list_all (λ triplet. not (starts triplet || continues_packet triplet)) triplets ≡ true → channel_triplets triplets ≡ []
 none_of_channel [] none = refl
 none_of_channel (t ∷ triplets) none =
     let own = channel_triplets triplets in
-    let (first, others) = and_parts (not (starts t || continues t)) (list_all (λ triplet. not (starts triplet || continues triplet)) triplets) none in
-    ap (λ (b : Bool). if b then t ∷ own else own) (not_is (starts t || continues t) first) ∙ none_of_channel triplets others
+    let (first, others) = and_parts (not (starts t || continues_packet t)) (list_all (λ triplet. not (starts triplet || continues_packet triplet)) triplets) none in
+    ap (λ (b : Bool). if b then t ∷ own else own) (not_is (starts t || continues_packet t) first) ∙ none_of_channel triplets others
 
 -- they make no pieces
 no_pieces_from : (front : Open) (triplets : List Triplet) → channel_triplets triplets ≡ [] → parts_from packet_syntax front triplets ≡ []
 no_pieces_from front [] none = refl
 no_pieces_from front (triplet ∷ triplets) none =
     let own = channel_triplets triplets in
-    let cases : (b : Bool) → (starts triplet || continues triplet) ≡ b → parts_from packet_syntax front (triplet ∷ triplets) ≡ [] = elim [
+    let cases : (b : Bool) → (starts triplet || continues_packet triplet) ≡ b → parts_from packet_syntax front (triplet ∷ triplets) ≡ [] = elim [
       | true ↦ λ is.
           let some : triplet ∷ own ≡ [] = ap (λ (b : Bool). if b then triplet ∷ own else own) (sym is) ∙ none in
           absurd cc
@@ -57,7 +57,7 @@ no_pieces_from front (triplet ∷ triplets) none =
 pub silent_heard : (before triplets : List Triplet) (channel : Channel) → channel_triplets triplets ≡ [] → HasHeard before channel
     → HasHeard (before ++ triplets) channel
 silent_heard before triplets channel none heard =
-    let same = filter-append (λ triplet. starts triplet || continues triplet) before triplets
+    let same = filter-append (λ triplet. starts triplet || continues_packet triplet) before triplets
     ∙ ap (λ ts. channel_triplets before ++ ts) none ∙ append-nil (channel_triplets before) in
     let parts = parts_from-append packet_syntax nothing_open before triplets
     ∙ ap (λ ps. parts_of packet_syntax before ++ ps) (no_pieces_from (open_behind packet_syntax before) triplets none) ∙ append-nil (parts_of packet_syntax before) in
@@ -69,7 +69,7 @@ silent_heard before triplets channel none heard =
 -- triplets are silent where a front is that they have
 pub silent_whole : (front triplets : List Triplet) → HasFront front triplets → channel_triplets front ≡ [] → channel_triplets triplets ≡ []
 silent_whole front triplets has none =
-    ap channel_triplets has.joined ∙ filter-append (λ triplet. starts triplet || continues triplet) front has.others
+    ap channel_triplets has.joined ∙ filter-append (λ triplet. starts triplet || continues_packet triplet) front has.others
     ∙ ap (λ ts. ts ++ channel_triplets has.others) none ∙ none_channel has.others has.none
 
 -- readers behind triplets that end with some none of which counts
@@ -91,9 +91,9 @@ heard_of_front before front triplets has =
 
 -- services to which a frame gave the front took the whole frame
 pub served_whole : (rate : Rate) (front triplets : List Triplet) (old new : Served) → HasFront front triplets
-    → ((before : List Triplet) (earlier last : Events) → HasServed before earlier last old → frames_of old.services < 4294967295 → IsHeard (before ++ front)
+    → ((before : List Triplet) (earlier last : Events) → HasServed before earlier last old → all_ticks old.services < 4294967295 → IsHeard (before ++ front)
     → HasServed (before ++ front) (followed_by earlier last) (given_by rate before front) new)
-    → (before : List Triplet) (earlier last : Events) → HasServed before earlier last old → frames_of old.services < 4294967295 → IsHeard (before ++ triplets)
+    → (before : List Triplet) (earlier last : Events) → HasServed before earlier last old → all_ticks old.services < 4294967295 → IsHeard (before ++ triplets)
     → HasServed (before ++ triplets) (followed_by earlier last) (given_by rate before triplets) new
 served_whole rate front triplets old new has frame before earlier last served few heard =
     let all : before ++ triplets ≡ (before ++ front) ++ has.others = ap (λ ts. before ++ ts) has.joined ∙ sym (append_assoc before front has.others) in

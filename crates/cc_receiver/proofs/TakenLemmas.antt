@@ -8,7 +8,7 @@ use Rattle.cc_base.specs.Feeding.{place_by}
 use Rattle.cc_base.specs.Syntax.{judge_by, open_behind}
 use Rattle.cc_base.proofs.ReachedLemmas.{Feeds, Reached-more}
 use Rattle.anc_words.specs.Ending.{bytes_to_end}
-use Rattle.anc_words.specs.Packets.{IsCaption, Packet}
+use Rattle.anc_words.specs.Packets.{AncillaryPacket, IsCaption}
 use Rattle.anc_words.specs.WordsFiles.{IsWordsFile}
 use Rattle.anc_words.specs.Readers.{HasRead, kept_refusal}
 use Rattle.anc_words.specs.Reading.{anc_syntax}
@@ -29,7 +29,7 @@ use Rattle.words_files.proofs.LastPacketLemmas.{at_most_one, ends_bringing, no_e
 use Rattle.cc_receiver.specs.declared.receiver.Receiver.{Receiver}
 use Rattle.cc_receiver.specs.declared.receiver.Ended.TheVariants as ended
 use Rattle.cc_receiver.specs.Catchers.{HasCaught}
-use Rattle.cc_receiver.specs.Receivers.{HasReceived, frame_count, shown}
+use Rattle.cc_receiver.specs.Receivers.{HasReceived, displayed_grid, frame_count}
 use Rattle.cc_receiver.proofs.ReceivedLemmas.{shown_received}
 use Rattle.cc_receiver.specs.Receiving.{EndsBy}
 
@@ -93,7 +93,7 @@ takes before piece answer old new few some most bytes had fed =
 -- how a piece ended, by the counts of frames
 pub record PieceEnds (bytes : List ℕ) (old new : ℕ) : Type 0 where
   pub caption : new ≢ old → EndsBy ended.Caption bytes
-  pub foreign : new ≡ old → (packets : List Packet) → IsWordsFile packets bytes → refusal_of services_say bytes ≡ None → EndsBy ended.Foreign bytes
+  pub foreign : new ≡ old → (packets : List AncillaryPacket) → IsWordsFile packets bytes → refusal_of services_say bytes ≡ None → EndsBy ended.Foreign bytes
   pub one : new ≢ old → new ≡ old + 1
 
 -- the count of frames
@@ -102,7 +102,7 @@ pub frames_count : (frames : List Frame) (bytes : List ℕ) (receiver : Receiver
 frames_count frames bytes receiver had are = had.counted ∙ caught_count frames bytes had.bytes_are are
 
 -- one more frame, or none
-ends_by : (frames more : List Frame) (bytes : List ℕ) (earlier : List Packet) (packet : Packet) (old new : ℕ) → old ≡ length frames → new ≡ length more
+ends_by : (frames more : List Frame) (bytes : List ℕ) (earlier : List AncillaryPacket) (packet : AncillaryPacket) (old new : ℕ) → old ≡ length frames → new ≡ length more
     → IsWordsFile (earlier ++ packet ∷ []) bytes
     → (IsCaption packet × ((frame : Frame) × (more ≡ frames ++ frame ∷ []))) ⊎ ((IsCaption packet → ⊥) × (more ≡ frames))
     → PieceEnds bytes old new
@@ -155,7 +155,7 @@ refused_counts before piece refusal old new few some had has =
 
 -- more bytes that bring no frame leave the screens
 pub screens_stay : (before more : List ℕ) (old new : Receiver) (chan : Chan) → HasReceived before old → HasReceived (before ++ more) new
-    → frame_count new ≡ frame_count old → shown new chan ≡ shown old chan
+    → frame_count new ≡ frame_count old → displayed_grid new chan ≡ displayed_grid old chan
 screens_stay before more old new chan had has same =
     let first = got services_say before had.bytes_are in
     let next = got services_say (before ++ more) has.bytes_are in

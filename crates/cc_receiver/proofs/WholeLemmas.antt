@@ -5,7 +5,7 @@ use Rattle.std.proofs.lemmas.List.{length-take, map-append, reverse-append}
 use Rattle.std.proofs.lemmas.List.Elements.{All-append, All-take}
 use Rattle.std.specs.List.{All}
 use Rattle.cc_base.specs.Syntax.{open_behind}
-use Rattle.anc_words.specs.Packets.{IsCaption, Packet, user_bytes}
+use Rattle.anc_words.specs.Packets.{AncillaryPacket, IsCaption, user_bytes}
 use Rattle.anc_words.specs.Readers.{HasRead}
 use Rattle.anc_words.specs.Reading.{anc_syntax, nothing_open}
 use Rattle.anc_words.specs.WordsFiles.{IsPacketBytes, IsWordsFile}
@@ -37,7 +37,7 @@ use Rattle.cc_receiver.proofs.ReceivedLemmas.{kept_is}
 use Rattle.cc_receiver.proofs.TakenLemmas.{OneMore, same_count}
 
 -- the bytes before, and a packet of captions with its frame
-pub record IsWhole (before piece : List ℕ) (packet : Packet) (frame : Frame) : Type 0 where
+pub record IsWhole (before piece : List ℕ) (packet : AncillaryPacket) (frame : Frame) : Type 0 where
   pub bytes_are : All (λ b. b < 256) before
   pub unrefused : refusal_of services_say before ≡ None
   pub closed : open_behind anc_syntax before ≡ nothing_open
@@ -47,14 +47,14 @@ pub record IsWhole (before piece : List ℕ) (packet : Packet) (frame : Frame) :
   pub is_heard : IsHeard (whole_triplets (frames_parts (packet_parts frame ∷ (caught_in services_say before).frames)))
 
 -- what is caught of them
-pub record CatchesWhole (before piece : List ℕ) (packet : Packet) (frame : Frame) : Type 0 where
+pub record CatchesWhole (before piece : List ℕ) (packet : AncillaryPacket) (frame : Frame) : Type 0 where
   pub caught : caught_in services_say (before ++ piece) ≡ with_frame (packet_parts frame) (caught_in services_say before)
   pub unrefused : refusal_of services_say (before ++ piece) ≡ None
-  pub earlier : List Packet
+  pub earlier : List AncillaryPacket
   pub first : IsWordsFile earlier before
   pub are : IsWordsFile (earlier ++ packet ∷ []) (before ++ piece)
 
-pub catches_whole : (before piece : List ℕ) (packet : Packet) (frame : Frame) → IsWhole before piece packet frame → CatchesWhole before piece packet frame
+pub catches_whole : (before piece : List ℕ) (packet : AncillaryPacket) (frame : Frame) → IsWhole before piece packet frame → CatchesWhole before piece packet frame
 catches_whole before piece packet frame is =
     let (frames, file) = caught_file services_say before is.bytes_are is.unrefused is.closed in
     let one : IsFileOf (frame ∷ []) piece =
@@ -80,7 +80,7 @@ catches_whole before piece packet frame is =
     }
 
 -- the receiver
-pub whole_received : (before piece : List ℕ) (packet : Packet) (frame : Frame) (old new : Receiver) → IsWhole before piece packet frame
+pub whole_received : (before piece : List ℕ) (packet : AncillaryPacket) (frame : Frame) (old new : Receiver) → IsWhole before piece packet frame
     → frame_count old < 4294967295 → All (λ b. b < 256) piece → HasReceived before old → HasRead (before ++ piece) new.words
     → Keeps (with_frame (packet_parts frame) (caught_in services_say before)) new.captions → HasReceived (before ++ piece) new
 whole_received before piece packet frame old new is few bytes had read keeps =
@@ -101,7 +101,7 @@ whole_received before piece packet frame old new is few bytes had read keeps =
     }
 
 -- it counts one frame more
-pub whole_counts : (before piece : List ℕ) (packet : Packet) (frame : Frame) (old new : Receiver) → IsWhole before piece packet frame
+pub whole_counts : (before piece : List ℕ) (packet : AncillaryPacket) (frame : Frame) (old new : Receiver) → IsWhole before piece packet frame
     → HasReceived before old → HasReceived (before ++ piece) new → frame_count new ≡ frame_count old + 1
 whole_counts before piece packet frame old new is had has =
     let frames = ap (λ (c : Caught). length c.frames) (catches_whole before piece packet frame is).caught in
@@ -110,13 +110,13 @@ whole_counts before piece packet frame old new is had has =
     omega (arith, frames, was, now)
 
 -- the packet ends the bytes
-pub whole_ends : (before piece : List ℕ) (packet : Packet) (frame : Frame) → IsWhole before piece packet frame → EndsBy ended.Caption (before ++ piece)
+pub whole_ends : (before piece : List ℕ) (packet : AncillaryPacket) (frame : Frame) → IsWhole before piece packet frame → EndsBy ended.Caption (before ++ piece)
 whole_ends before piece packet frame is =
     let catches = catches_whole before piece packet frame is in
     (packet, record { earlier = catches.earlier; are = catches.are }, is.is_caption)
 
 -- and none ends them sooner
-front_of_packet : (packet : Packet) (front more : List ℕ) (packets : List Packet) → IsPacketBytes packet (front ++ more) → 0 < length front → 0 < length more
+front_of_packet : (packet : AncillaryPacket) (front more : List ℕ) (packets : List AncillaryPacket) → IsPacketBytes packet (front ++ more) → 0 < length front → 0 < length more
     → IsWordsFile packets front → ⊥
 front_of_packet packet front more [] is some rest file = let none = ap length (empty_file front file) in absurd (omega (arith, none, some))
 front_of_packet packet front more (p ∷ packets) is some rest file =
@@ -129,7 +129,7 @@ front_of_packet packet front more (p ∷ packets) is some rest file =
     let longer = length-append own behind in
     absurd (omega (arith, e, f, long, longer, rest))
 
-pub whole_first : (before bytes : List ℕ) (size fewer : ℕ) (packet : Packet) (frame : Frame) (packets : List Packet)
+pub whole_first : (before bytes : List ℕ) (size fewer : ℕ) (packet : AncillaryPacket) (frame : Frame) (packets : List AncillaryPacket)
     → IsWhole before (take size bytes) packet frame → size ≤ length bytes → 0 < fewer → fewer < size → IsWordsFile packets (before ++ take fewer bytes) → ⊥
 whole_first before bytes size fewer packet frame packets is within some less file =
     let catches = catches_whole before (take size bytes) packet frame is in
@@ -149,7 +149,7 @@ pub record TakesFrame (bytes : List ℕ) (caught : Caught) (captions : Captions)
   pub is_cdp : IsCdp frame bytes
   pub keeps : Keeps (with_frame (packet_parts frame) caught) captions
 
-pub reads_whole : (before bytes : List ℕ) (size : ℕ) (packet : Packet) (old new : Receiver) → frame_count old < 4294967295 → All (λ b. b < 256) bytes
+pub reads_whole : (before bytes : List ℕ) (size : ℕ) (packet : AncillaryPacket) (old new : Receiver) → frame_count old < 4294967295 → All (λ b. b < 256) bytes
     → HasReceived before old → receiver_refusal old ≡ None → (HasRead before old.words → open_behind anc_syntax before ≡ nothing_open)
     → IsCaption packet → size ≤ length bytes → IsPacketBytes packet (take size bytes)
     → ((caught : Caught) → Keeps caught old.captions → TakesFrame (user_bytes packet) caught new.captions)

@@ -30,15 +30,15 @@ KeepsLast [] frame = Unit {0}
 KeepsLast (parts ∷ frames) frame = HasGathered parts frame
 
 -- what judges is behind the parts of the frames and of the open packet
-abbrev pub Judges : List (List CdpPart) → Option OpenCaption → Channel → Type 0
-Judges frames None judging = Unit {0}
-Judges frames (Some o) judging = HasTried (frames_parts frames ++ o.parts) judging
+abbrev pub JudgesParts : List (List CdpPart) → Option OpenCaption → Channel → Type 0
+JudgesParts frames None judging = Unit {0}
+JudgesParts frames (Some o) judging = HasTried (frames_parts frames ++ o.parts) judging
 
 -- it keeps what was caught
 pub record Keeps (caught : Caught) (captions : Captions) : Type 0 where
   pub refused : captions.refused ≡ caught.refused
   pub is_open : caught.refused ≡ None → KeepsOpen caught.open_caption captions.open captions.gathered
-  pub judges : caught.refused ≡ None → Judges caught.frames caught.open_caption captions.judging
+  pub judges : caught.refused ≡ None → JudgesParts caught.frames caught.open_caption captions.judging
   pub last : KeepsLast caught.frames captions.last
   pub channel : HasTried (frames_parts caught.frames) captions.channel
   pub first : Leads false (heard false caught.frames) captions.first

@@ -1,7 +1,7 @@
 -- What a receiver makes of the next bytes behind those that it was fed: it reads a front of them, or refuses a word.
 use Rattle.std.specs.Prelude.{◌≡◌, ℕ, ◌+◌, ◌<◌, ◌++◌, List, take, Result, Ok, Err}
 use Rattle.cc_base.specs.declared.refusal.Refusal.{Refusal}
-use Rattle.anc_words.specs.Packets.{Packet}
+use Rattle.anc_words.specs.Packets.{AncillaryPacket}
 use Rattle.anc_words.specs.WordsFiles.{IsWordsFile}
 use Rattle.services_files.specs.Services.{services_say}
 use Rattle.words_files.specs.Offences.{FirstOffendingWord, IsUnoffending}
@@ -23,7 +23,7 @@ pub record HasFed (before bytes : List ℕ) (old new : Receiver) (fed : Fed) : T
   pub received : HasReceived (before ++ take fed.used bytes) new
   pub unoffending : IsUnoffending services_say (before ++ take fed.used bytes)
   pub ends : 0 < fed.used → EndsBy fed.ended (before ++ take fed.used bytes)
-  pub first : (packets : List Packet) (fewer : ℕ) → 0 < fewer → fewer < fed.used → IsWordsFile packets (before ++ take fewer bytes) → ⊥
+  pub first : (packets : List AncillaryPacket) (fewer : ℕ) → 0 < fewer → fewer < fed.used → IsWordsFile packets (before ++ take fewer bytes) → ⊥
   pub counts : Counts (frame_count old) (frame_count new) fed.ended
 
 -- it was fed all of the bytes, of which this word is the first that offends, and counts the frames that it counted

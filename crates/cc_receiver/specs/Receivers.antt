@@ -30,8 +30,8 @@ abbrev pub field_in : Bool → Receiver → Field
 field_in second_field receiver = if second_field then receiver.captions.second else receiver.captions.first
 
 -- the displayed cells of a channel
-abbrev pub shown : Receiver → Chan → Grid
-shown receiver chan = (channel (is_second_channel chan) (field_of (field_in (is_in_second_field chan) receiver))).displayed
+abbrev pub displayed_grid : Receiver → Chan → Grid
+displayed_grid receiver chan = (channel (is_second_channel chan) (field_of (field_in (is_in_second_field chan) receiver))).displayed
 
 -- it was fed these bytes, those too behind a refused word, and counts their frames
 pub record HasReceived (bytes : List ℕ) (receiver : Receiver) : Type 0 where

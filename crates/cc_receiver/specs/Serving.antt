@@ -5,7 +5,7 @@ use Rattle.cc_base.specs.declared.rate.Rate.{Rate}
 use Rattle.cc_data.specs.declared.triplet.Triplet.{Triplet}
 use Rattle.cdp_packets.specs.declared.parts.CdpPart.{CdpPart}
 use Rattle.dtvcc_screen.specs.Meaning.{Tick}
-use Rattle.dtvcc_services.specs.Objects.{Events, Leads, frames_of}
+use Rattle.dtvcc_services.specs.Objects.{Events, Leads, all_ticks}
 use Rattle.service_blocks.specs.Channels.{heard_behind}
 use Rattle.services_files.specs.Events.{events_of}
 use Rattle.cc_receiver.specs.Channels.{HasHeard}
@@ -52,4 +52,4 @@ earlier_events (parts ∷ frames) = said_events frames
 -- the services took frames
 pub record ServesFrames (frames : List (List CdpPart)) (served : Served) : Type 0 where
   pub led : HasServed (said_triplets frames) (earlier_events frames) (last_events frames) served
-  pub count : frames_of served.services ≡ length frames
+  pub count : all_ticks served.services ≡ length frames

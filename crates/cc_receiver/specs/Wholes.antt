@@ -1,6 +1,6 @@
 -- What a receiver is behind a whole packet of captions that it read in one pass.
 use Rattle.std.specs.Prelude.{◌≡◌, ℕ, ◌+◌, ◌<◌, ◌++◌, List, None, take}
-use Rattle.anc_words.specs.Packets.{Packet}
+use Rattle.anc_words.specs.Packets.{AncillaryPacket}
 use Rattle.anc_words.specs.WordsFiles.{IsWordsFile}
 use Rattle.words_files.specs.Catching.{refusal_of}
 use Rattle.services_files.specs.Services.{services_say}
@@ -14,5 +14,5 @@ pub record ReadsWhole (before bytes : List ℕ) (size : ℕ) (old new : Receiver
   pub received : HasReceived (before ++ take size bytes) new
   pub unrefused : refusal_of services_say (before ++ take size bytes) ≡ None
   pub ends : EndsBy ended.Caption (before ++ take size bytes)
-  pub first : (packets : List Packet) (fewer : ℕ) → 0 < fewer → fewer < size → IsWordsFile packets (before ++ take fewer bytes) → ⊥
+  pub first : (packets : List AncillaryPacket) (fewer : ℕ) → 0 < fewer → fewer < size → IsWordsFile packets (before ++ take fewer bytes) → ⊥
   pub counts : frame_count new ≡ frame_count old + 1

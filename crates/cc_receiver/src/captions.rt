@@ -9,7 +9,7 @@ ghost use Rattle.cdp_packets.specs.Sections.{AreSections};
 ghost use Rattle.cdp_packets.specs.WholePackets.{SaysPacket};
 ghost use Rattle.line21_codes.specs.declared.pairs.Pair.{Pair as PairOf};
 ghost use Rattle.line21_screen.specs.Objects.{Leads};
-ghost use Rattle.words_files.specs.Catching.{Caught, begun, caught_after, ended, nothing_caught, taken, verdict_behind};
+ghost use Rattle.words_files.specs.Catching.{Caught, caught_after, nothing_caught, packet_begun, packet_ended, taken, verdict_behind};
 ghost use Rattle.services_files.specs.Services.{services_say};
 ghost use Rattle.cc_receiver.specs.Channels.{HasTried, frames_parts};
 ghost use Rattle.cc_receiver.specs.Gatherers.{HasGathered};
@@ -140,7 +140,7 @@ impl Captions {
     // Begins a packet with these identifiers and this count.
     fn begin(&mut self, did: u8, sdid: u8, count: u8)
         ensures { (caught : Caught) → Keeps caught self.old → self.old.refused ≡ None
-            → Keeps (begun did sdid count caught) self.new }
+            → Keeps (packet_begun did sdid count caught) self.new }
     {
         self.open = None;
         if did != CAPTION_DID || sdid != CAPTION_SDID {
@@ -169,7 +169,7 @@ impl Captions {
 
     // Ends the open packet. One of captions is a frame, whose pairs act now.
     fn end(&mut self)
-        ensures { (caught : Caught) → Keeps caught self.old → self.old.refused ≡ None → Keeps (ended caught) self.new }
+        ensures { (caught : Caught) → Keeps caught self.old → self.old.refused ≡ None → Keeps (packet_ended caught) self.new }
     {
         if self.open.is_some() {
             mem::swap(&mut self.gathered, &mut self.last);

@@ -4,7 +4,7 @@ ghost use Rattle.cc_base.specs.Steps.{step_why};
 ghost use Rattle.cc_base.specs.Syntax.{open_behind};
 ghost use Rattle.cc_data.specs.declared.triplet.Triplet.{Triplet as TripletOf};
 ghost use Rattle.cdp_packets.specs.declared.parts.CdpPart.{CdpPart as Part};
-ghost use Rattle.channel_packets.specs.ChannelPackets.{continues, starts};
+ghost use Rattle.channel_packets.specs.ChannelPackets.{continues_packet, starts};
 ghost use Rattle.channel_packets.specs.declared.parts.PacketPart.{PacketPart as Piece};
 ghost use Rattle.service_blocks.specs.Readers.{HasRead};
 ghost use Rattle.service_blocks.specs.Reading.{block_syntax, judge_part};
@@ -23,14 +23,14 @@ const PACKET_START: u8 = 3;
 
 /// Whether a triplet counts and is one of channel packets, and not of line 21.
 pub(crate) fn is_of_channel(triplet: Triplet) -> bool
-    ensures { result ≡ (starts triplet || continues triplet) }
+    ensures { result ≡ (starts triplet || continues_packet triplet) }
 {
     triplet.valid && (triplet.kind == PACKET_START || triplet.kind == PACKET_DATA)
 }
 
 /// Whether none of the triplets counts and is one of channel packets.
 pub(crate) fn are_silent(triplets: &[Triplet]) -> bool
-    ensures { result ≡ list_all (λ triplet. not (starts triplet || continues triplet)) triplets.now }
+    ensures { result ≡ list_all (λ triplet. not (starts triplet || continues_packet triplet)) triplets.now }
 {
     triplets.iter().all(|triplet| !is_of_channel(*triplet))
 }

@@ -10,7 +10,7 @@ ghost use Rattle.dtvcc_services.specs.Numbers.{IsService};
 ghost use Rattle.cc_receiver.specs.ReceivedServices.{received_windows};
 ghost use Rattle.cc_receiver.specs.SeenServices.{seen_windows};
 ghost use Rattle.cc_receiver.specs.declared.receiver.Receiver.{Receiver as ReceiverOf};
-ghost use Rattle.cc_receiver.specs.Receivers.{HasReceived, frame_count, shown};
+ghost use Rattle.cc_receiver.specs.Receivers.{HasReceived, displayed_grid, frame_count};
 
 /// A receiver counts the frames of the bytes that it was fed, in whatever pieces, and shows what they leave on the screens of a
 /// receiver that was reset before the first one, and of the windows of its services.
@@ -19,7 +19,7 @@ pub fn receiver_equals_meaning()
         → AreFramesOf services_say frames bytes → frame_count receiver ≡ length frames }
     ensures shown { (bytes : List ℕ) (frames : List FrameOf) (receiver : ReceiverOf) (chan : Chan) → HasReceived bytes receiver
         → AreFramesOf services_say frames bytes
-        → shown receiver chan ≡ received_grids frames chan }
+        → displayed_grid receiver chan ≡ received_grids frames chan }
     ensures windows { (bytes : List ℕ) (frames : List FrameOf) (receiver : ReceiverOf) (service id : ℕ) → HasReceived bytes receiver
         → AreFramesOf services_say frames bytes → IsService service
         → seen_windows receiver service id ≡ received_windows frames service id }
@@ -29,5 +29,5 @@ pub fn receiver_equals_meaning()
 /// whole frame.
 pub fn refusal_stays()
     ensures { (before more : List ℕ) (old new : ReceiverOf) (chan : Chan) → HasReceived before old → HasReceived (before ++ more) new
-        → frame_count new ≡ frame_count old → shown new chan ≡ shown old chan }
+        → frame_count new ≡ frame_count old → displayed_grid new chan ≡ displayed_grid old chan }
 {}

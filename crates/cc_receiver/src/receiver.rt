@@ -4,7 +4,7 @@ ghost use Rattle.std.specs.Result.{result_err};
 ghost use Rattle.cc_base.specs.Syntax.{Reads, open_behind};
 ghost use Rattle.cc_base.specs.declared.refusal.Refusal.{Refusal as Refused};
 ghost use Rattle.anc_words.specs.Ending.{bytes_to_end};
-ghost use Rattle.anc_words.specs.Packets.{Packet};
+ghost use Rattle.anc_words.specs.Packets.{AncillaryPacket};
 ghost use Rattle.anc_words.specs.Reading.{anc_syntax};
 ghost use Rattle.anc_words.specs.WordsFiles.{IsWordsFile};
 ghost use Rattle.cdp_packets.specs.Packets.{Packet as FrameOf};
@@ -62,7 +62,7 @@ pub struct Receiver {
 
 impl Receiver {
     ghost use Rattle.line21_screen.specs.Objects.{grid_in};
-    ghost use Rattle.cc_receiver.specs.Receivers.{HasReceived, frame_count, receiver_refusal, shown};
+    ghost use Rattle.cc_receiver.specs.Receivers.{HasReceived, displayed_grid, frame_count, receiver_refusal};
     ghost use Rattle.cc_receiver.specs.Wholes.{ReadsWhole};
     ghost use Rattle.cc_receiver.specs.ReceivedServices.{fills_in, received_service, received_windows};
     ghost use Rattle.dtvcc_services.specs.Numbers.{IsLowest, IsService};
@@ -209,7 +209,7 @@ impl Receiver {
         requires row_from { 1 ≤ row }
         requires row_to { row ≤ 15 }
         requires col { col < 32 }
-        ensures shown { result ≡ shown self.now chan row col }
+        ensures shown { result ≡ displayed_grid self.now chan row col }
         ensures received { (bytes : List ℕ) (frames : List FrameOf) → HasReceived bytes self.now → AreFramesOf services_say frames bytes
             → result ≡ received_grids frames chan row col }
     {
@@ -220,7 +220,7 @@ impl Receiver {
 
     /// The displayed memory of a channel behind the last whole frame (CTA-608-E; 47 CFR 79.101).
     pub fn displayed(&self, chan: Chan) -> &Memory
-        ensures { grid_in result.now ≡ shown self.now chan }
+        ensures { grid_in result.now ≡ displayed_grid self.now chan }
     {
         self.captions
             .field(chan.is_in_second_field())
@@ -235,7 +235,7 @@ impl Receiver {
             → AreFramesOf services_say (earlier ++ last ∷ []) bytes → result ≡ is_idle last }
         ensures still { (bytes : List ℕ) (earlier : List FrameOf) (last : FrameOf) → HasReceived bytes self.now
             → AreFramesOf services_say (earlier ++ last ∷ []) bytes → IsTrue result → (chan : Channel)
-            → shown self.now chan ≡ received_grids earlier chan }
+            → displayed_grid self.now chan ≡ received_grids earlier chan }
     {
         self.captions.last.is_idle()
     }

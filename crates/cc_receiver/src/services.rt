@@ -3,7 +3,7 @@ ghost use Rattle.cc_base.specs.Steps.{IsTaken, step_parts};
 ghost use Rattle.cc_base.specs.Syntax.{open_behind};
 ghost use Rattle.cc_data.specs.declared.triplet.Triplet.{Triplet as TripletOf};
 ghost use Rattle.channel_packets.specs.declared.parts.PacketPart.{PacketPart as Piece};
-ghost use Rattle.dtvcc_services.specs.Objects.{Events, Leads, frames_of};
+ghost use Rattle.dtvcc_services.specs.Objects.{Events, Leads, all_ticks};
 ghost use Rattle.service_blocks.specs.Channels.{IsHeard, IsHeardBehind, heard_behind};
 ghost use Rattle.service_blocks.specs.Readers.{HasRead};
 ghost use Rattle.service_blocks.specs.Reading.{block_syntax, judge_part};
@@ -30,10 +30,10 @@ pub(crate) struct Served {
 
 // A service takes its byte, or all are reset.
 fn give(services: &mut Services, part: BlockPart)
-    requires { frames_of services.old < 2 ^ 32 }
+    requires { all_ticks services.old < 2 ^ 32 }
     ensures leads { (earlier last : Events) → Leads earlier last services.old
         → Leads earlier (λ service. last service ++ event_of service part) services.new }
-    ensures frames { frames_of services.new ≡ frames_of services.old }
+    ensures frames { all_ticks services.new ≡ all_ticks services.old }
 {
     match part {
         BlockPart::Reset => services.reset(),
@@ -57,9 +57,9 @@ impl Served {
     /// A frame of a rate brings its triplets. Fewer than 4,294,967,295 frames came before; a further one changes nothing.
     pub(crate) fn frame(&mut self, rate: Rate, triplets: &[Triplet])
         ensures served { (before : List TripletOf) (earlier last : Events) → HasServed before earlier last self.old
-            → frames_of self.old.services < 4294967295 → IsHeard (before ++ triplets.now)
+            → all_ticks self.old.services < 4294967295 → IsHeard (before ++ triplets.now)
             → HasServed (before ++ triplets.now) (followed_by earlier last) (given_by rate before triplets.now) self.new }
-        ensures frames { frames_of self.old.services < 4294967295 → frames_of self.new.services ≡ frames_of self.old.services + 1 }
+        ensures frames { all_ticks self.old.services < 4294967295 → all_ticks self.new.services ≡ all_ticks self.old.services + 1 }
     {
         if self.services.frames() >= MOST_FRAMES {
             return;
@@ -72,10 +72,10 @@ impl Served {
 
     // Takes the next triplet of the last frame.
     fn triplet(&mut self, triplet: Triplet)
-        requires { frames_of self.old.services < 2 ^ 32 }
+        requires { all_ticks self.old.services < 2 ^ 32 }
         ensures served { (before : List TripletOf) (earlier last : Events) → HasServed before earlier last self.old → IsHeardBehind before (triplet ∷ [])
             → HasServed (before ++ triplet ∷ []) earlier (λ service. last service ++ events_of service (heard_behind before (triplet ∷ []))) self.new }
-        ensures frames { frames_of self.new.services ≡ frames_of self.old.services }
+        ensures frames { all_ticks self.new.services ≡ all_ticks self.old.services }
     {
         if !is_of_channel(triplet) {
             return;
@@ -92,13 +92,13 @@ impl Served {
 
     // Takes the next part of a channel packet.
     fn piece(&mut self, piece: PacketPart)
-        requires { frames_of self.old.services < 2 ^ 32 }
+        requires { all_ticks self.old.services < 2 ^ 32 }
         ensures read { (pieces : List Piece) → HasRead pieces self.old.channel.blocks → IsTaken (judge_part (open_behind block_syntax pieces) piece)
             → HasRead (pieces ++ piece ∷ []) self.new.channel.blocks }
         ensures leads { (pieces : List Piece) (earlier last : Events) → HasRead pieces self.old.channel.blocks → Leads earlier last self.old.services
             → Leads earlier (λ service. last service ++ events_of service (step_parts (judge_part (open_behind block_syntax pieces) piece))) self.new.services }
         ensures packets { self.new.channel.packets ≡ self.old.channel.packets }
-        ensures frames { frames_of self.new.services ≡ frames_of self.old.services }
+        ensures frames { all_ticks self.new.services ≡ all_ticks self.old.services }
     {
         match self.channel.blocks.step(piece) {
             Step::Nothing | Step::Refuse(_) => {}

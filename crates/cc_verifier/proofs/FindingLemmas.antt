@@ -3,7 +3,7 @@ use Rattle.std.proofs.Common.{◌≡◌, ◌≢◌, ◌∙◌, ℕ, ◌+◌, ◌
 use Rattle.std.proofs.lemmas.Bool.{cases_lt}
 use Rattle.std.specs.Prelude.{◌⊎◌, None, Option, Some}
 use Rattle.std.specs.Bool.{Decides}
-use Rattle.cc_base.specs.Rate.{triplets_of}
+use Rattle.cc_base.specs.Rate.{triplets_in_frame}
 use Rattle.cc_base.specs.contracts.rate.Rate.{the_type}
 use Rattle.cc_base.specs.declared.rate.Rate.{Rate}
 use denote.Enum.Bare.{sameb, same_true, true_same}
@@ -126,7 +126,7 @@ pub count_first : (list : Listing) (earlier : List Frame) (last : Frame) (expect
     → Miscounts last expected seen → IsFirstFound list earlier last (kind.WrongCount expected seen)
 count_first list earlier last expected seen tried counts = record { is = counts; first = tried }
 
-pub tried_two : (list : Listing) (earlier : List Frame) (last : Frame) → Tried 1 list earlier last None → length (packet_triplets last) ≡ triplets_of last.rate
+pub tried_two : (list : Listing) (earlier : List Frame) (last : Frame) → Tried 1 list earlier last None → length (packet_triplets last) ≡ triplets_in_frame last.rate
     → Tried 2 list earlier last None
 tried_two list earlier last tried same (kind.CounterJump e s) found = let h : 1 ≤ 0 = tried (kind.CounterJump e s) found in absurd (omega arith)
 tried_two list earlier last tried same (kind.WrongCount e s) found = absurd (found.others (found.seen_is ∙ same ∙ sym found.expected_is))

@@ -1,7 +1,7 @@
 -- The cues of each channel of a list that keeps the rules are timed.
 use Rattle.std.proofs.Common.{ℕ, ◌≤◌, List, [], ◌∷◌, arith}
 use Rattle.std.specs.Prelude.{⊤}
-use Rattle.authored_places.specs.Timed.{AreTimed}
+use Rattle.authored_places.specs.Timed.{AreCuesTimed}
 use Rattle.cue_rules.specs.Rules.{IsRuled}
 use Rattle.cue_rules.specs.Rules.Sentences.{AreInSequence}
 use Rattle.cue_types.specs.Channels.{cues_on}
@@ -15,7 +15,7 @@ abbrev BeginFrom : ℕ → List Cue → Type 0
 BeginFrom from [] = ⊤
 BeginFrom from (cue ∷ later) = from ≤ cue.load
 
-timed_from : (step frames from : ℕ) (cues : List Cue) → BeginFrom from cues → AreInSequence step frames cues → AreTimed from cues
+timed_from : (step frames from : ℕ) (cues : List Cue) → BeginFrom from cues → AreInSequence step frames cues → AreCuesTimed from cues
 timed_from step frames from [] begin sequence = tt
 timed_from step frames from (cue ∷ []) begin sequence = (begin, sequence.loaded, tt)
 timed_from step frames from (cue ∷ (next ∷ later)) begin sequence =

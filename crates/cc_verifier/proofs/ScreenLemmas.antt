@@ -5,7 +5,7 @@ use Rattle.cue_types.specs.declared.cue.Cue.{Cue}
 use Rattle.line21_codes.specs.declared.channels.Chan.{Chan}
 use Rattle.line21_screen.specs.Grid.{Grid}
 use Rattle.screen_checks.specs.Channels.{IsFirstOther, KnowAll, LeaveGrids}
-use Rattle.screen_checks.specs.Differing.{Windows}
+use Rattle.screen_checks.specs.Differing.{AllSeenWindows}
 use Rattle.screen_checks.specs.Services.{IsFirstOtherService, KnowServices, StandAt}
 use Rattle.screen_checks.specs.declared.channel_checks.ChannelChecks.{ChannelChecks}
 use Rattle.screen_checks.specs.declared.service_checks.ServiceChecks.{ServiceChecks}
@@ -32,17 +32,17 @@ channels_know cues own frame at now screens checks same is shows knows =
     subst (λ (g : Chan → Grid). KnowAll cues at g checks) shows
     (subst (λ n. KnowAll cues n now checks) is (subst (λ (cs : List Cue). KnowAll cs frame now checks) same knows))
 
-pub services_before : (cues own : List Cue) (frame at : ℕ) (windows : Windows) (checks : ServiceChecks) → own ≡ cues → frame ≡ at
+pub services_before : (cues own : List Cue) (frame at : ℕ) (windows : AllSeenWindows) (checks : ServiceChecks) → own ≡ cues → frame ≡ at
     → KnowServices cues at windows checks → KnowServices own frame windows checks
 services_before cues own frame at windows checks same is knows =
     subst (λ (cs : List Cue). KnowServices cs frame windows checks) (sym same) (subst (λ n. KnowServices cues n windows checks) (sym is) knows)
 
-pub services_found : (cues own : List Cue) (frame at : ℕ) (windows : Windows) (first : Option ℕ) → own ≡ cues → frame ≡ at
+pub services_found : (cues own : List Cue) (frame at : ℕ) (windows : AllSeenWindows) (first : Option ℕ) → own ≡ cues → frame ≡ at
     → IsFirstOtherService own frame windows first → IsFirstOtherService cues at windows first
 services_found cues own frame at windows first same is found =
     subst (λ n. IsFirstOtherService cues n windows first) is (subst (λ (cs : List Cue). IsFirstOtherService cs frame windows first) same found)
 
-pub services_know : (cues own : List Cue) (frame at : ℕ) (windows : Windows) (checks : ServiceChecks) → own ≡ cues → frame ≡ at
+pub services_know : (cues own : List Cue) (frame at : ℕ) (windows : AllSeenWindows) (checks : ServiceChecks) → own ≡ cues → frame ≡ at
     → KnowServices own frame windows checks → KnowServices cues at windows checks
 services_know cues own frame at windows checks same is knows =
     subst (λ n. KnowServices cues n windows checks) is (subst (λ (cs : List Cue). KnowServices cs frame windows checks) same knows)

@@ -1,7 +1,7 @@
 -- What is found at the frames of a words file against a cue list, and what is found first (SMPTE ST 334-2, cdp_header; CTA-708-E,
 -- cc_data() and Delay; CTA-608-E).
 use Rattle.std.specs.Prelude.{◌≡◌, ◌≢◌, ℕ, ◌+◌, ◌%◌, ◌≤◌, true, List, [], ◌∷◌, ◌++◌, length, Option, Some, None}
-use Rattle.cc_base.specs.Rate.{triplets_of}
+use Rattle.cc_base.specs.Rate.{triplets_in_frame}
 use Rattle.cc_receiver.specs.ReceivedServices.{fills_in, received_windows}
 use Rattle.cdp_packets.specs.Packets.{Packet as Frame}
 use Rattle.cdp_packets.specs.PacketTriplets.{packet_triplets}
@@ -26,7 +26,7 @@ pub record Jumps (earlier : List Frame) (last : Frame) (expected seen : ℕ) : T
 
 -- the number of triplets, those too that don't count, isn't that of the packet's rate
 pub record Miscounts (last : Frame) (expected seen : ℕ) : Type 0 where
-  pub expected_is : expected ≡ triplets_of last.rate
+  pub expected_is : expected ≡ triplets_in_frame last.rate
   pub seen_is : seen ≡ length (packet_triplets last)
   pub others : seen ≢ expected
 

@@ -12,7 +12,7 @@ use Rattle.findings.specs.declared.finding.Kind45.{Kind45}
 use Rattle.line21_codes.specs.declared.channels.Chan.{Chan}
 use Rattle.line21_screen.specs.Grid.{Grid}
 use Rattle.screen_checks.specs.Channels.{AreReady, KnowAll}
-use Rattle.screen_checks.specs.Differing.{Windows}
+use Rattle.screen_checks.specs.Differing.{AllSeenWindows}
 use Rattle.screen_checks.specs.Services.{KnowServices, StandAt}
 use Rattle.services_files.specs.Services.{services_say}
 use Rattle.window_places.specs.Turns.{AreAllInTurn}
@@ -31,8 +31,8 @@ list_of verifier = verifier.list
 abbrev pub finding_of : Verifier → Option Finding
 finding_of verifier = verifier.finding
 
-abbrev pub frames_of : Verifier → ℕ
-frames_of verifier = frame_count verifier.receiver
+abbrev pub verified_frames : Verifier → ℕ
+verified_frames verifier = frame_count verifier.receiver
 
 -- the counter of the last of frames, if there is one
 abbrev pub IsLastCounter : List Frame → Option ℕ → Type 0
@@ -51,7 +51,7 @@ pub record IsReadyAt (frame : ℕ) (verifier : Verifier) : Type 0 where
   pub services : StandAt verifier.list.cues frame verifier.services
 
 -- and know what was shown at the frame before it
-pub record KnowsAt (frame : ℕ) (screens : Chan → Grid) (windows : Windows) (verifier : Verifier) : Type 0 where
+pub record KnowsAt (frame : ℕ) (screens : Chan → Grid) (windows : AllSeenWindows) (verifier : Verifier) : Type 0 where
   pub channels : KnowAll verifier.list.cues frame screens verifier.channels
   pub services : KnowServices verifier.list.cues frame windows verifier.services
 
@@ -96,7 +96,7 @@ Finds list earlier last verifier None =
 Finds list earlier last verifier (Some found) = IsFirstFound list earlier last found
 
 -- a frame more was judged
-pub record HasJudged (list : Listing) (earlier : List Frame) (last : Frame) (verifier : Verifier) : Type 0 where
+pub record HasJudgedFrame (list : Listing) (earlier : List Frame) (last : Frame) (verifier : Verifier) : Type 0 where
   pub found : Found list (earlier ++ last ∷ []) verifier.finding
   pub goes_on : verifier.finding ≡ None → GoesOn (earlier ++ last ∷ []) verifier
 
@@ -108,6 +108,6 @@ JudgedAs list bytes (verdict.Short count) =
     (frames : List Frame) × IsFileUnder services_say frames bytes × AreClean list frames × (count ≡ length frames) × (length frames < list.frames)
 
 -- or the words may not end here, and nothing is found before
-abbrev pub Judges : Listing → List ℕ → Result Verdict Refusal → Type 0
-Judges list bytes (Ok answer) = JudgedAs list bytes answer
-Judges list bytes (Err refusal) = (frames : List Frame) × AreFramesOf services_say frames bytes × AreClean list frames × IsMalformed services_say bytes refusal
+abbrev pub JudgesFile : Listing → List ℕ → Result Verdict Refusal → Type 0
+JudgesFile list bytes (Ok answer) = JudgedAs list bytes answer
+JudgesFile list bytes (Err refusal) = (frames : List Frame) × AreFramesOf services_say frames bytes × AreClean list frames × IsMalformed services_say bytes refusal

@@ -2,7 +2,7 @@ ghost use Rattle.std.specs.Prelude.{◌≡◌, ◌<◌, ◌≤◌, ◌+◌, ◌+
 ghost use Rattle.cc_receiver.specs.Receivers.{HasReceived};
 ghost use Rattle.cdp_packets.specs.Packets.{Packet as Frame};
 ghost use Rattle.cue_rules.specs.Rules.{IsRuled};
-ghost use Rattle.screen_checks.specs.Differing.{Windows};
+ghost use Rattle.screen_checks.specs.Differing.{AllSeenWindows};
 ghost use Rattle.cc_verifier.specs.Findings.{AreClean, Tried};
 ghost use Rattle.line21_screen.specs.Grid.{Grid as GridOf};
 ghost use Rattle.services_files.specs.Services.{services_say};
@@ -47,7 +47,7 @@ pub struct Verifier {
 }
 
 impl Verifier {
-    ghost use Rattle.cc_verifier.specs.Verifiers.{FeedsOn, Finds, FindsOn, GoesOn, HasJudged, HasVerified, IsLastCounter, IsReadyAt, IsSameBeside, JudgedAs, Judges, KnowsAt, Verifies, finding_of, frames_of, list_of};
+    ghost use Rattle.cc_verifier.specs.Verifiers.{FeedsOn, Finds, FindsOn, GoesOn, HasJudgedFrame, HasVerified, IsLastCounter, IsReadyAt, IsSameBeside, JudgedAs, JudgesFile, KnowsAt, Verifies, finding_of, list_of, verified_frames};
 
     /// A verifier against a list that keeps the rules, which was fed nothing. The error comes where memory for its receiver and
     /// for what it keeps of four screens isn't found, and the list is dropped then.
@@ -72,7 +72,7 @@ impl Verifier {
     /// Reads the next bytes, up to the end of an ancillary packet, as a receiver does, and refuses what it refuses. Nothing was
     /// found before; where the packet ends a frame at which something is found, that is then the finding.
     pub fn feed(&mut self, bytes: &[u8]) -> Result<Fed, Refusal>
-        requires few { frames_of self.now < 4294967295 }
+        requires few { verified_frames self.now < 4294967295 }
         requires on { FindsOn self.now }
         ensures list { list_of self.new ≡ list_of self.old }
         ensures feeds { (before : List ℕ) → HasVerified before self.old → FeedsOn before bytes.now self.old self.new result }
@@ -95,12 +95,12 @@ impl Verifier {
 
     /// Judges the frame that ended last, at which the checks stand.
     fn judge(&mut self)
-        requires { (frame : ℕ) × (frames_of self.now ≡ frame + 1) × IsReadyAt frame self.now }
+        requires { (frame : ℕ) × (verified_frames self.now ≡ frame + 1) × IsReadyAt frame self.now }
         ensures receiver { self.new.receiver ≡ self.old.receiver }
         ensures list { list_of self.new ≡ list_of self.old }
         ensures judged { (bytes : List ℕ) (earlier : List Frame) (last : Frame) → HasReceived bytes self.old.receiver
             → AreFramesOf services_say (earlier ++ last ∷ []) bytes → self.old.finding ≡ None → AreClean self.old.list earlier → GoesOn earlier self.old
-            → HasJudged self.old.list earlier last self.new }
+            → HasJudgedFrame self.old.list earlier last self.new }
     {
         let frame = self.receiver.frames() - 1;
         match self.find(frame) {
@@ -111,7 +111,7 @@ impl Verifier {
 
     /// The first finding at the frame that ended last, of this number.
     fn find(&mut self, frame: u32) -> Option<Kind45>
-        requires some { 0 < frames_of self.now }
+        requires some { 0 < verified_frames self.now }
         requires ready { IsReadyAt frame self.now }
         ensures same { IsSameBeside self.old self.new }
         ensures ready { IsReadyAt frame self.new }
@@ -130,7 +130,7 @@ impl Verifier {
 
     /// The first finding of what the packet of the last frame says.
     fn find_in_packet(&self) -> Option<Kind45>
-        requires { 0 < frames_of self.now }
+        requires { 0 < verified_frames self.now }
         ensures { (bytes : List ℕ) (earlier : List Frame) (last : Frame) → HasReceived bytes self.now.receiver
             → AreFramesOf services_say (earlier ++ last ∷ []) bytes → IsLastCounter earlier self.now.counter
             → Tried 3 self.now.list earlier last result }
@@ -156,7 +156,7 @@ impl Verifier {
 
     /// The finding of a counter that doesn't go on.
     fn find_jump(&self) -> Option<Kind45>
-        requires { 0 < frames_of self.now }
+        requires { 0 < verified_frames self.now }
         ensures { (bytes : List ℕ) (earlier : List Frame) (last : Frame) → HasReceived bytes self.now.receiver
             → AreFramesOf services_say (earlier ++ last ∷ []) bytes → IsLastCounter earlier self.now.counter
             → Tried 1 self.now.list earlier last result }
@@ -177,7 +177,7 @@ impl Verifier {
 
     /// The first channel or service that shows at the last frame something else than it is to show.
     fn find_on_screens(&mut self, frame: u32) -> Option<Kind45>
-        requires some { 0 < frames_of self.now }
+        requires some { 0 < verified_frames self.now }
         requires ready { IsReadyAt frame self.now }
         ensures same { IsSameBeside self.old self.new }
         ensures ready { IsReadyAt frame self.new }
@@ -198,13 +198,13 @@ impl Verifier {
 
     /// Goes on behind the frame that ended last, to that of this number.
     fn advance(&mut self, frame: u32)
-        requires some { 0 < frames_of self.now }
+        requires some { 0 < verified_frames self.now }
         requires ready { (former : ℕ) × (frame ≡ former + 1) × IsReadyAt former self.now }
         ensures same { IsSameBeside self.old self.new }
         ensures ready { IsReadyAt frame self.new }
         ensures counter { (bytes : List ℕ) (earlier : List Frame) (last : Frame) → HasReceived bytes self.old.receiver
             → AreFramesOf services_say (earlier ++ last ∷ []) bytes → IsLastCounter (earlier ++ last ∷ []) self.new.counter }
-        ensures knows { (former : ℕ) (screens : Chan → GridOf) (windows : Windows) → frame ≡ former + 1 → IsReadyAt former self.old
+        ensures knows { (former : ℕ) (screens : Chan → GridOf) (windows : AllSeenWindows) → frame ≡ former + 1 → IsReadyAt former self.old
             → KnowsAt former screens windows self.old → KnowsAt frame screens windows self.new }
     {
         let cues = self.list.cues();
@@ -222,7 +222,7 @@ impl Verifier {
 
     /// The number of whole frames.
     pub fn frames(&self) -> u32
-        ensures { result ≡ frames_of self.now }
+        ensures { result ≡ verified_frames self.now }
     {
         self.receiver.frames()
     }
@@ -230,7 +230,7 @@ impl Verifier {
     /// How the words are judged, if they end here: the finding, where there is one; else the refusal of words that are malformed
     /// or may not end here, as the receiver's; else that there are too few frames; else Ok.
     pub fn verdict(&self) -> Result<Verdict, Refusal>
-        ensures { (bytes : List ℕ) → HasVerified bytes self.now → Judges (list_of self.now) bytes result }
+        ensures { (bytes : List ℕ) → HasVerified bytes self.now → JudgesFile (list_of self.now) bytes result }
     {
         if let Some(finding) = self.finding {
             return Ok(Verdict::Differs(finding));

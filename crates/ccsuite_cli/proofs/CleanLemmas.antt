@@ -1,7 +1,7 @@
 -- At no frame of the words that are built of a list is anything found.
 use Rattle.std.proofs.Common.{◌≡◌, ◌≢◌, ◌∙◌, ℕ, zero, suc, ◌+◌, ◌%◌, ◌<◌, Bool, true, false, Option, List, [], ◌∷◌, ◌++◌, All, length, take, ap, sym, subst, refl, arith, append_assoc, length-append}
 use Rattle.std.proofs.lemmas.List.Elements.{All-head, All-tail}
-use Rattle.cc_base.specs.Rate.{triplets_of}
+use Rattle.cc_base.specs.Rate.{triplets_in_frame}
 use Rattle.cc_base.specs.declared.rate.Rate.{Rate}
 use Rattle.cc_receiver.specs.ReceivedServices.{fills_in, received_windows}
 use Rattle.cc_verifier.specs.Findings.{AreClean, IsClean, Jumps, Miscounts}
@@ -21,7 +21,7 @@ use Rattle.dtvcc_services.specs.Numbers.{IsService}
 use Rattle.findings.specs.declared.finding.Kind45.TheVariants as kind
 use Rattle.findings.specs.declared.finding.Which.TheVariants as which
 use Rattle.frame_carrier.specs.Carried.{AreCarried}
-use Rattle.frame_carrier.specs.Carrying.{channel_of, column_packets, frame_packet}
+use Rattle.frame_carrier.specs.Carrying.{channel_packet_of, column_packets, frame_packet}
 use Rattle.frame_scheduler.specs.Columns.{Columns}
 use Rattle.frame_scheduler.specs.Planned.{Placement, columns_of}
 use Rattle.line21_codes.specs.declared.channels.Chan.{Chan}
@@ -42,13 +42,13 @@ use Rattle.ccsuite_cli.proofs.SeenLemmas.{front_is}
 -- the packet behind so many is that of its frame
 packet_at : (rate : Rate) (columns : Columns) (frame n : ℕ) (earlier : List Frame) (last : Frame) (later : List Frame) (number : ℕ)
     → column_packets rate columns frame n ≡ earlier ++ last ∷ later → number ≡ frame + length earlier
-    → last ≡ frame_packet rate number (columns number) (channel_of columns number)
+    → last ≡ frame_packet rate number (columns number) (channel_packet_of columns number)
 packet_at rate columns frame zero [] last later number is at = cc
 packet_at rate columns frame zero (former ∷ earlier) last later number is at = cc
 packet_at rate columns frame (suc n) [] last later number is at =
-    let own : frame_packet rate frame (columns frame) (channel_of columns frame) ≡ last = cc in
+    let own : frame_packet rate frame (columns frame) (channel_packet_of columns frame) ≡ last = cc in
     let same : frame ≡ number = omega (arith, at) in
-    sym own ∙ ap (λ f. frame_packet rate f (columns f) (channel_of columns f)) same
+    sym own ∙ ap (λ f. frame_packet rate f (columns f) (channel_packet_of columns f)) same
 packet_at rate columns frame (suc n) (former ∷ earlier) last later number is at =
     let rest : column_packets rate columns (suc frame) n ≡ earlier ++ last ∷ later = cc in
     packet_at rate columns (suc frame) n earlier last later number rest (omega (arith, at))
@@ -92,7 +92,7 @@ module _ (list : Listing) (placed : Placement) (formed : IsFormed list) (carried
   packets = column_packets list.rate columns 0 list.frames
 
   abbrev own : Frame
-  own = frame_packet list.rate (length earlier) (columns (length earlier)) (channel_of columns (length earlier))
+  own = frame_packet list.rate (length earlier) (columns (length earlier)) (channel_packet_of columns (length earlier))
 
   last_is : last ≡ own
   last_is = packet_at list.rate columns 0 list.frames earlier last later (length earlier) split (omega arith)
@@ -123,8 +123,8 @@ module _ (list : Listing) (placed : Placement) (formed : IsFormed list) (carried
 
   no_miscount : (expected seen : ℕ) → Miscounts last expected seen → ⊥
   no_miscount expected seen miscount =
-      let number : length (packet_triplets last) ≡ triplets_of last.rate =
-      subst (λ (f : Frame). length (packet_triplets f) ≡ triplets_of f.rate) (sym last_is) (carried.room (length earlier)).number in
+      let number : length (packet_triplets last) ≡ triplets_in_frame last.rate =
+      subst (λ (f : Frame). length (packet_triplets f) ≡ triplets_in_frame f.rate) (sym last_is) (carried.room (length earlier)).number in
       miscount.others (miscount.seen_is ∙ number ∙ sym miscount.expected_is)
 
   no_other_rate : (expected seen : Rate) → (expected ≡ list.rate) × (seen ≡ last.rate) × (seen ≢ expected) → ⊥

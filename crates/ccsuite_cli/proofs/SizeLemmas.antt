@@ -3,7 +3,7 @@ use Rattle.std.proofs.Common.{◌≡◌, ℕ, zero, suc, ◌+◌, ◌*◌, ◌/�
 use Rattle.std.specs.List.{flat_map}
 use Rattle.std.proofs.lemmas.List.{length-map}
 use Rattle.anc_words.specs.Writing.{checksum_word, eight_bit_word, packet_words, summed_words, word_bytes}
-use Rattle.cc_base.specs.Rate.{triplets_of}
+use Rattle.cc_base.specs.Rate.{triplets_in_frame}
 use Rattle.cc_base.specs.declared.rate.Rate.{Rate}
 use Rattle.cc_data.specs.Triplets.{all_written}
 use Rattle.cc_data.specs.declared.triplet.Triplet.{Triplet}
@@ -11,7 +11,7 @@ use Rattle.cc_data.proofs.TripletLemmas.{length-all_written}
 use Rattle.cdp_packets.specs.Written.{cc_data_section, checksum_of, unsummed_packet, written_packet}
 use Rattle.frame_carrier.specs.Carried.{AreRoomy}
 use Rattle.frame_carrier.specs.CarriedBytes.{caption_flags, carried_bytes}
-use Rattle.frame_carrier.specs.Carrying.{channel_of, column_bytes, counter_of, frame_bytes}
+use Rattle.frame_carrier.specs.Carrying.{channel_packet_of, column_bytes, counter_of, frame_bytes}
 use Rattle.frame_carrier.specs.FrameTriplets.{frame_triplets}
 use Rattle.frame_carrier.proofs.CarryingLemmas.{frame_number, triplets_many}
 use Rattle.frame_scheduler.specs.Columns.{Columns}
@@ -41,8 +41,8 @@ packet_size rate counter triplets few =
 pub columns_size : (rate : Rate) (columns : Columns) (frame n : ℕ) → AreRoomy rate columns → length (column_bytes rate columns frame n) ≤ 190 * n
 columns_size rate columns frame zero roomy = omega arith
 columns_size rate columns frame (suc n) roomy =
-    let packet = channel_of columns frame in
-    let number : length (frame_triplets rate (columns frame) packet) ≡ triplets_of rate = frame_number rate (columns frame) packet (roomy frame) in
+    let packet = channel_packet_of columns frame in
+    let number : length (frame_triplets rate (columns frame) packet) ≡ triplets_in_frame rate = frame_number rate (columns frame) packet (roomy frame) in
     let many = (triplets_many rate).1 in
     let here : length (frame_bytes rate frame (columns frame) packet) ≤ 190 =
     packet_size rate (counter_of frame) (frame_triplets rate (columns frame) packet) (omega (arith, number, many)) in

@@ -3,7 +3,7 @@
 use Rattle.std.specs.Prelude.{◌≡◌, ◌++◌, ◌+◌, ◌<◌, ℕ, false, List, ◌∷◌}
 use Rattle.authored_grids.specs.AuthoredServiceGrid.{authored_windows}
 use Rattle.cc_receiver.specs.ReceivedServices.{fills_in}
-use Rattle.cc_receiver.specs.Receivers.{HasReceived, frame_count, shown}
+use Rattle.cc_receiver.specs.Receivers.{HasReceived, displayed_grid, frame_count}
 use Rattle.cc_receiver.specs.SeenServices.{seen_windows}
 use Rattle.cc_receiver.specs.declared.receiver.Receiver.{Receiver}
 use Rattle.cdp_packets.specs.Packets.{Packet as Frame}
@@ -21,10 +21,10 @@ use Rattle.cue_list_commands.specs.Output.{build_output}
 -- settled for the channel, nothing on CC2 and CC4, and of each service the authored windows; and in no frame of the words the
 -- buffer of a service was filled
 pub record IsSeenAsAuthored (list : Listing) (frame : ℕ) (words : List ℕ) (receiver : Receiver) : Type 0 where
-  pub cc1 : IsSettled Cc1 list.cues frame → shown receiver Cc1 ≡ authored_grid Cc1 list.cues frame
-  pub cc2 : shown receiver Cc2 ≡ blank
-  pub cc3 : IsSettled Cc3 list.cues frame → shown receiver Cc3 ≡ authored_grid Cc3 list.cues frame
-  pub cc4 : shown receiver Cc4 ≡ blank
+  pub cc1 : IsSettled Cc1 list.cues frame → displayed_grid receiver Cc1 ≡ authored_grid Cc1 list.cues frame
+  pub cc2 : displayed_grid receiver Cc2 ≡ blank
+  pub cc3 : IsSettled Cc3 list.cues frame → displayed_grid receiver Cc3 ≡ authored_grid Cc3 list.cues frame
+  pub cc4 : displayed_grid receiver Cc4 ≡ blank
   pub windows : (service id : ℕ) → IsService service → id < 8
       → seen_windows receiver service id ≡ authored_windows service list.cues frame id
   pub unfilled : (service : ℕ) (earlier : List Frame) (last : Frame) (later : List Frame) → IsService service

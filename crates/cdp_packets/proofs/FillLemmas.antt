@@ -15,7 +15,7 @@ use Rattle.cdp_packets.specs.Packets.{IsCdp, Packet}
 use Rattle.cc_data.specs.Triplets.{triplet_of}
 use Rattle.cdp_packets.specs.declared.parts.CdpPart.{CdpPart}
 use Rattle.cdp_packets.specs.declared.parts.CdpPart.TheVariants as part
-use Rattle.cdp_packets.specs.Reading.{cdp_syntax, GoesOn, IsFilling, IsPacketLength, Open, count_fits, id_fits, is_in_sections, judge_cdp, judge_triplet, nothing_open, triplet_behind}
+use Rattle.cdp_packets.specs.Reading.{cdp_syntax, GoesOnWithFilling, IsFilling, IsPacketLength, Open, count_fits, id_fits, is_in_sections, judge_cdp, judge_triplet, nothing_open, triplet_behind}
 use Rattle.cdp_packets.specs.Sections.{rest_of}
 use Rattle.cdp_packets.specs.Written.{checksum_of}
 use Rattle.cdp_packets.proofs.BegunLemmas.{CanGoOn, InFooter, InSections, IsBegun, IsFoot}
@@ -298,7 +298,7 @@ completes size (mark ∷ second ∷ long ∷ rate ∷ flags ∷ high ∷ low ∷
     (All-head IsByte low body (All-tail IsByte high (low ∷ body) bytes_are))
 
 -- bytes that are read go on to a packet
-pub goes_on : (size : ℕ) (bytes : List ℕ) → IsPacketLength size → size < 256 → All IsByte bytes → length bytes ≤ size → AllRead (cdp_syntax size) bytes → GoesOn size bytes
+pub goes_on : (size : ℕ) (bytes : List ℕ) → IsPacketLength size → size < 256 → All IsByte bytes → length bytes ≤ size → AllRead (cdp_syntax size) bytes → GoesOnWithFilling size bytes
 goes_on size bytes can small are room read =
     let behind = open_behind (cdp_syntax size) bytes in
     let is = read_open size bytes can read in

@@ -4,7 +4,7 @@ use Rattle.std.proofs.lemmas.Grind.{common_steps}
 use Rattle.std.specs.List.{concat}
 use Rattle.cc_base.specs.declared.rate.Rate.{Rate}
 use Rattle.cc_base.specs.declared.rate.Rate.TheVariants as rate
-use Rattle.cc_base.specs.Rate.{code_of, rate_of}
+use Rattle.cc_base.specs.Rate.{rate_code, rate_of}
 use Rattle.cdp_packets.specs.Sections.{AreSections}
 use Rattle.cdp_packets.specs.Packets.{Packet, IsCdp}
 use Rattle.cdp_packets.specs.Written.{checksum_of, unsummed_packet, written_packet}
@@ -35,13 +35,13 @@ written-is_packet rate flags counter cut are =
       four_bits = lit< tt;
       counter = omega arith;
       sections = are;
-      spelled = ap (λ n. 0x96 ∷ 0x69 ∷ n ∷ (16 * code_of rate + 15) ∷ flags ∷ high ∷ low ∷ ((sections ++ 0x74 ∷ high ∷ low ∷ []) ++ last ∷ [])) long
-          ∙ ap (λ rest. 0x96 ∷ 0x69 ∷ length bytes ∷ (16 * code_of rate + 15) ∷ flags ∷ high ∷ low ∷ rest) behind;
+      spelled = ap (λ n. 0x96 ∷ 0x69 ∷ n ∷ (16 * rate_code rate + 15) ∷ flags ∷ high ∷ low ∷ ((sections ++ 0x74 ∷ high ∷ low ∷ []) ++ last ∷ [])) long
+          ∙ ap (λ rest. 0x96 ∷ 0x69 ∷ length bytes ∷ (16 * rate_code rate + 15) ∷ flags ∷ high ∷ low ∷ rest) behind;
       total = checksum-sum unsummed;
     }
 
 -- the code of a rate is its alone
-pub rate_of-code : (r : Rate) → rate_of (code_of r) ≡ Some r
+pub rate_of-code : (r : Rate) → rate_of (rate_code r) ≡ Some r
 rate_of-code rate.F23976 = refl
 rate_of-code rate.F24 = refl
 rate_of-code rate.F25 = refl
@@ -51,7 +51,7 @@ rate_of-code rate.F50 = refl
 rate_of-code rate.F5994 = refl
 rate_of-code rate.F60 = refl
 
-same_rate : (r s : Rate) → code_of r ≡ code_of s → r ≡ s
+same_rate : (r s : Rate) → rate_code r ≡ rate_code s → r ≡ s
 same_rate r s same = cc (rate_of-code r, rate_of-code s, ap rate_of same)
 
 -- a packet by its parts
@@ -82,7 +82,7 @@ parts_same p q bs cs same is are =
     let whole = sym is.spelled ∙ same ∙ are.spelled in
     let high : is.high ≡ are.high = cc in
     let low : is.low ≡ are.low = cc in
-    let coded : 16 * code_of p.rate + is.marker ≡ 16 * code_of q.rate + are.marker = cc in
+    let coded : 16 * rate_code p.rate + is.marker ≡ 16 * rate_code q.rate + are.marker = cc in
     let tails : concat p.sections ++ 0x74 ∷ is.high ∷ is.low ∷ is.last ∷ [] ≡ concat q.sections ++ 0x74 ∷ are.high ∷ are.low ∷ are.last ∷ [] = cc in
     let long : length (concat p.sections) ≡ length (concat q.sections) =
     omega (arith, ap length tails, length-append (concat p.sections) (0x74 ∷ is.high ∷ is.low ∷ is.last ∷ []), length-append (concat q.sections) (0x74 ∷ are.high ∷ are.low ∷ are.last ∷ [])) in

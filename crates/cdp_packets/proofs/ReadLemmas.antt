@@ -6,7 +6,7 @@ use Rattle.cc_base.specs.declared.rate.Rate.{Rate}
 use Rattle.cc_base.specs.declared.step.Step.{Step}
 use Rattle.cc_base.specs.declared.step.Step.TheVariants.{Nothing, One, Refuse}
 use Rattle.cc_base.specs.declared.why.Why.TheVariants as why
-use Rattle.cc_base.specs.Rate.{code_of, rate_of}
+use Rattle.cc_base.specs.Rate.{rate_code, rate_of}
 use Rattle.cc_base.specs.Feeding.{Verdict}
 use Rattle.cc_base.specs.Steps.{AreAccepted, IsTaken, step_parts}
 use Rattle.cc_base.specs.Syntax.{Reads, read_under}
@@ -303,13 +303,13 @@ packet_length packet bytes is =
 pub packet_read : (packet : Packet) (bytes : List ℕ) → IsCdp packet bytes → Reads (cdp_syntax (length bytes)) nothing_open bytes (packet_parts packet) (front_of bytes [] [])
 packet_read packet bytes is =
     let size = length bytes in
-    let rate = 16 * code_of packet.rate + is.marker in
+    let rate = 16 * rate_code packet.rate + is.marker in
     let foot = 0x74 ∷ is.high ∷ is.low ∷ is.last ∷ [] in
     let head : Seven = record { mark = 0x96; second = 0x69; long = size; rate = rate; flags = packet.flags; high = is.high; low = is.low } in
     let whole = ap length is.spelled in
     let long : length (concat packet.sections) + 11 ≡ size = omega (arith, whole, length-append (concat packet.sections) foot) in
     let small = is.four_bits in
-    let high_bits : rate / 16 ≡ code_of packet.rate = omega arith in
+    let high_bits : rate / 16 ≡ rate_code packet.rate = omega arith in
     let code : rate_of (rate / 16) ≡ Some packet.rate = ap rate_of high_bits ∙ rate_of-code packet.rate in
     let zero = subst (λ bs. sum bs % 256 ≡ 0) is.spelled is.total in
     let begins = head_read size rate packet.flags is.high is.low packet.rate (packet_length packet bytes is).0 code in

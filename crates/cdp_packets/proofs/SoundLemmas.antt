@@ -6,7 +6,7 @@ use Rattle.std.specs.List.{concat}
 use Rattle.cc_base.specs.declared.rate.Rate.{Rate}
 use Rattle.cc_base.specs.declared.step.Step.TheVariants.{One}
 use Rattle.cc_base.specs.declared.why.Why.TheVariants as why
-use Rattle.cc_base.specs.Rate.{code_of, rate_of}
+use Rattle.cc_base.specs.Rate.{rate_code, rate_of}
 use Rattle.cc_base.specs.Steps.{IsTaken, front_from}
 use Rattle.cc_base.specs.Syntax.{AllRead, AllTaken, open_behind}
 use Rattle.cdp_packets.specs.declared.parts.CdpPart.TheVariants as part
@@ -118,7 +118,7 @@ bytes_behind-is size (byte ∷ items) front room =
     ∙ ap (λ bs. bs ++ items) kept ∙ append_assoc front.bytes (byte ∷ []) items
 
 -- a rate's code
-code_of-rate : (n : ℕ) (r : Rate) → rate_of n ≡ Some r → code_of r ≡ n
+code_of-rate : (n : ℕ) (r : Rate) → rate_of n ≡ Some r → rate_code r ≡ n
 code_of-rate n r is = grind (arith, nat_tests)
 
 -- bytes with the head, the sections and the footer of a packet are this packet
@@ -129,7 +129,7 @@ pub is_packet : (size : ℕ) (mark second long rate flags high low : ℕ) (cut :
     (mark ∷ second ∷ long ∷ rate ∷ flags ∷ high ∷ low ∷ (concat cut ++ 0x74 ∷ high ∷ low ∷ last ∷ []))
 is_packet size mark second long rate flags high low cut last head are whole zero =
     let code = code_of-rate (rate / 16) head.code head.rate_is in
-    let spelled_rate : rate ≡ 16 * code_of head.code + rate % 16 = omega arith in
+    let spelled_rate : rate ≡ 16 * rate_code head.code + rate % 16 = omega arith in
     let rest = concat cut ++ 0x74 ∷ high ∷ low ∷ last ∷ [] in
     let size_is : long ≡ length (mark ∷ second ∷ long ∷ rate ∷ flags ∷ high ∷ low ∷ rest) = omega (arith, head.long_is, length-append (concat cut) (0x74 ∷ high ∷ low ∷ last ∷ [])) in
     record {

@@ -4,7 +4,7 @@ use Rattle.std.proofs.lemmas.List.{get_or-append-add}
 use Rattle.std.proofs.Math.Seq.{take-append_seam}
 use Rattle.std.specs.List.{concat}
 use Rattle.cc_base.specs.declared.rate.Rate.{Rate}
-use Rattle.cc_base.specs.Rate.{code_of, rate_of}
+use Rattle.cc_base.specs.Rate.{rate_code, rate_of}
 use Rattle.cdp_packets.specs.Packets.{Packet, IsCdp}
 use Rattle.cdp_packets.specs.Sections.{IsSection, IsSectionList}
 use Rattle.cdp_packets.proofs.BegunLemmas.{IsHead, test-same}
@@ -69,7 +69,7 @@ pub packet_framed : (packet : Packet) (bytes : List ℕ) → IsCdp packet bytes 
 packet_framed packet bytes is =
     let sections = concat packet.sections in
     let foot = 0x74 ∷ is.high ∷ is.low ∷ is.last ∷ [] in
-    let head = 0x96 ∷ 0x69 ∷ length bytes ∷ (16 * code_of packet.rate + is.marker) ∷ packet.flags ∷ is.high ∷ is.low ∷ [] in
+    let head = 0x96 ∷ 0x69 ∷ length bytes ∷ (16 * rate_code packet.rate + is.marker) ∷ packet.flags ∷ is.high ∷ is.low ∷ [] in
     let size : length bytes ≡ length head + (length sections + 4) = omega (arith, ap length is.spelled, length-append sections foot) in
     let at : (n : ℕ) → get_or bytes (length head + (length sections + n)) 0 ≡ get_or foot n 0 =
     λ n. ap (λ bs. get_or bs (length head + (length sections + n)) 0) is.spelled

@@ -3,7 +3,7 @@
 use Rattle.std.specs.Prelude.{◌≡◌, ℕ, ◌+◌, ◌*◌, ◌%◌, ◌<◌, List, [], ◌∷◌, ◌++◌, length, sum}
 use Rattle.std.specs.List.{concat}
 use Rattle.cc_base.specs.declared.rate.Rate.{Rate}
-use Rattle.cc_base.specs.Rate.{code_of}
+use Rattle.cc_base.specs.Rate.{rate_code}
 use Rattle.cdp_packets.specs.Sections.{AreSections}
 
 -- what a packet says: the frame rate, the flags, the packet's number, and the bytes of each section
@@ -22,6 +22,6 @@ pub record IsCdp (packet : Packet) (bytes : List ℕ) : Type 0 where
   pub four_bits : marker < 16
   pub counter : packet.counter ≡ 256 * high + low
   pub sections : AreSections packet.sections
-  pub spelled : bytes ≡ 0x96 ∷ 0x69 ∷ length bytes ∷ (16 * code_of packet.rate + marker) ∷ packet.flags ∷ high ∷ low
+  pub spelled : bytes ≡ 0x96 ∷ 0x69 ∷ length bytes ∷ (16 * rate_code packet.rate + marker) ∷ packet.flags ∷ high ∷ low
       ∷ (concat packet.sections ++ 0x74 ∷ high ∷ low ∷ last ∷ [])
   pub total : sum bytes % 256 ≡ 0

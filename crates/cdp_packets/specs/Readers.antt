@@ -52,13 +52,13 @@ next_of size (mark ∷ second ∷ long ∷ rate ∷ flags ∷ high ∷ low ∷ b
     else next_of_footer (size - 7 - length body)
 
 -- the bytes of the counter, once they have come
-abbrev pub high_of : List ℕ → ℕ
-high_of (mark ∷ second ∷ long ∷ rate ∷ flags ∷ high ∷ rest) = high
-high_of bytes = 0
+abbrev pub high_counter_byte : List ℕ → ℕ
+high_counter_byte (mark ∷ second ∷ long ∷ rate ∷ flags ∷ high ∷ rest) = high
+high_counter_byte bytes = 0
 
-abbrev pub low_of : List ℕ → ℕ
-low_of (mark ∷ second ∷ long ∷ rate ∷ flags ∷ high ∷ low ∷ rest) = low
-low_of bytes = 0
+abbrev pub low_counter_byte : List ℕ → ℕ
+low_counter_byte (mark ∷ second ∷ long ∷ rate ∷ flags ∷ high ∷ low ∷ rest) = low
+low_counter_byte bytes = 0
 
 -- it keeps what is open of a packet of this length
 pub record Keeps (size : ℕ) (front : Open) (packet : OpenPacket) : Type 0 where
@@ -66,8 +66,8 @@ pub record Keeps (size : ℕ) (front : Open) (packet : OpenPacket) : Type 0 wher
   pub long : packet.length ≡ size
   pub next : packet.next ≡ next_of size front.bytes front.section front.triplet
   pub left : packet.left ≡ size - length front.bytes
-  pub high : packet.high ≡ high_of front.bytes
-  pub low : packet.low ≡ low_of front.bytes
+  pub high : packet.high ≡ high_counter_byte front.bytes
+  pub low : packet.low ≡ low_counter_byte front.bytes
   pub total : packet.total ≡ front.total % 256
 
 -- the reader of a packet of this length was fed these bytes, and refused none of them

@@ -72,8 +72,8 @@ abbrev pub nothing_open : Open
 nothing_open = record { bytes = []; total = 0; section = []; triplet = [] }
 
 -- all these bytes have come, and no section is open
-abbrev pub ended : List ℕ → Open
-ended bytes = record { bytes = bytes; total = sum bytes; section = []; triplet = [] }
+abbrev pub no_section_open : List ℕ → Open
+no_section_open bytes = record { bytes = bytes; total = sum bytes; section = []; triplet = [] }
 
 -- what is made of a byte of a packet of this length, after these bytes, their sum, and the open section and triplet
 abbrev pub judge_behind : ℕ → List ℕ → ℕ → List ℕ → List ℕ → ℕ → Step CdpPart
@@ -136,7 +136,7 @@ IsFilling (part.Triplet triplet) = triplet.b ≡ 0
 IsFilling _ = ⊤
 
 -- bytes begin a packet of this length, whose other bytes fill it
-pub record GoesOn (size : ℕ) (bytes : List ℕ) : Type 0 where
+pub record GoesOnWithFilling (size : ℕ) (bytes : List ℕ) : Type 0 where
   pub more : List ℕ
   pub bytes_are : All (λ byte. byte < 256) more
   pub long : length (bytes ++ more) ≡ size

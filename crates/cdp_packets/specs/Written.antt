@@ -1,7 +1,7 @@
 -- What is written of a caption distribution packet, byte for byte: marker bits are ones (SMPTE ST 334-2).
 use Rattle.std.specs.Prelude.{ℕ, ◌+◌, ◌-◌, ◌*◌, ◌/◌, ◌%◌, List, [], ◌∷◌, ◌++◌, length, sum}
 use Rattle.cc_base.specs.declared.rate.Rate.{Rate}
-use Rattle.cc_base.specs.Rate.{code_of}
+use Rattle.cc_base.specs.Rate.{rate_code}
 use Rattle.cc_data.specs.declared.triplet.Triplet.{Triplet}
 use Rattle.cc_data.specs.Triplets.{all_written}
 
@@ -16,7 +16,7 @@ checksum_of bytes = (256 - sum bytes % 256) % 256
 -- a packet without its last byte
 abbrev pub unsummed_packet : Rate → ℕ → ℕ → List ℕ → List ℕ
 unsummed_packet rate flags counter sections =
-    0x96 ∷ 0x69 ∷ (length sections + 11) ∷ (16 * code_of rate + 15) ∷ flags ∷ (counter / 256) ∷ (counter % 256)
+    0x96 ∷ 0x69 ∷ (length sections + 11) ∷ (16 * rate_code rate + 15) ∷ flags ∷ (counter / 256) ∷ (counter % 256)
     ∷ (sections ++ 0x74 ∷ (counter / 256) ∷ (counter % 256) ∷ [])
 
 -- a packet of this rate, flags, counter and sections

@@ -14,7 +14,7 @@ ghost use Rattle.cdp_packets.specs.Sections.{IsSection, AreSections, is_id};
 ghost use Rattle.cdp_packets.specs.Packets.{Packet, IsCdp};
 ghost use Rattle.cdp_packets.specs.PacketParts.{packet_parts};
 ghost use Rattle.cdp_packets.specs.PacketTriplets.{section_triplets, packet_triplets};
-ghost use Rattle.cdp_packets.specs.Reading.{GoesOn, IsPacketLength, cdp_syntax, count_fits, ended, id_fits, judge_cdp, nothing_open};
+ghost use Rattle.cdp_packets.specs.Reading.{GoesOnWithFilling, IsPacketLength, cdp_syntax, count_fits, id_fits, judge_cdp, no_section_open, nothing_open};
 ghost use Rattle.cdp_packets.specs.Refusals.{CanBegin, StandsAt};
 ghost use Rattle.cdp_packets.specs.Written.{cc_data_section, written_packet};
 
@@ -65,7 +65,7 @@ pub fn written_triplets_are_read_back()
 pub fn packets_are_read()
     ensures length { (packet : Packet) (bytes : List ℕ) → IsCdp packet bytes → IsPacketLength (length bytes) }
     ensures read { (packet : Packet) (bytes : List ℕ) → IsCdp packet bytes
-        → Reads (cdp_syntax (length bytes)) nothing_open bytes (packet_parts packet) (ended bytes) }
+        → Reads (cdp_syntax (length bytes)) nothing_open bytes (packet_parts packet) (no_section_open bytes) }
     ensures handed { (verdict : Verdict Part) (packet : Packet) (bytes : List ℕ) → IsCdp packet bytes
         → AreAccepted verdict [] (packet_parts packet)
         → read_under (cdp_syntax (length bytes)) 1 verdict bytes ≡ record { parts = packet_parts packet; refusal = None } }
@@ -86,7 +86,7 @@ pub fn what_is_read_is_a_packet()
 /// the length begins with bytes whose last one is refused.
 pub fn a_byte_is_refused_where_no_packet_goes_on()
     ensures begun { (size : ℕ) (bytes : List ℕ) → IsPacketLength size → size < 256 → All (λ byte. byte < 256) bytes
-        → length bytes ≤ size → AllRead (cdp_syntax size) bytes → GoesOn size bytes }
+        → length bytes ≤ size → AllRead (cdp_syntax size) bytes → GoesOnWithFilling size bytes }
     ensures refused { (size : ℕ) (bytes : List ℕ) (byte : ℕ) (reason : Reason) (more : List ℕ) (packet : Packet)
         → judge_cdp size (open_behind (cdp_syntax size) bytes) byte ≡ Refuse reason → IsCdp packet (bytes ++ byte ∷ more)
         → length (bytes ++ byte ∷ more) ≡ size → ⊥ }

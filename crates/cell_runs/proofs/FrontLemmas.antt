@@ -4,7 +4,7 @@ use Rattle.std.proofs.Common.{◌≡◌, ℕ, zero, suc, ◌+◌, ◌<◌, ◌++
 use Rattle.std.proofs.lemmas.Bool.{cases_Bool}
 use Rattle.std.proofs.lemmas.List.{append-nil, at_drop_more}
 use Rattle.std.specs.List.{prefix_len}
-use Rattle.text_output.specs.Pages.{HasWritten, Page}
+use Rattle.text_output.specs.Pages.{HasWrittenText, Page}
 use Rattle.text_output.proofs.PageLemmas.{written_same}
 use Rattle.cell_runs.specs.Runs.{front_text, is_alike}
 use Rattle.cell_runs.specs.Writing.{Writing}
@@ -38,8 +38,8 @@ front_more w first cells i cell within is same =
 -- what is added is all that there is, where nothing is to come
 pub front_done : {C : Type 0} (w : Writing C) (start : Option (List ℕ)) (faults : ℕ) (first : C) (cells : List (Option C)) (i : ℕ) (before done : List ℕ) (now : Page)
     → front_text w first (drop i cells) ≡ []
-    → HasWritten start faults (before ++ done) now → done ++ encode_utf8_all (front_text w first (drop i cells)) ≡ encode_utf8_all (front_text w first cells)
-    → HasWritten start faults (before ++ encode_utf8_all (front_text w first cells)) now
+    → HasWrittenText start faults (before ++ done) now → done ++ encode_utf8_all (front_text w first (drop i cells)) ≡ encode_utf8_all (front_text w first cells)
+    → HasWrittenText start faults (before ++ encode_utf8_all (front_text w first cells)) now
 front_done w start faults first cells i before done now none holds is =
     written_same start faults _ _ now (ap (λ t. before ++ t) (sym (append-nil done) ∙ ap (λ t. done ++ encode_utf8_all t) (sym none) ∙ is)) holds
 

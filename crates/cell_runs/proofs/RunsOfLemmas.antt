@@ -6,7 +6,7 @@ use Rattle.std.proofs.lemmas.List.Elements.{All-append, All-cons, All-head, All-
 use Rattle.std.specs.List.{cons_option, filter_map, range_with_len}
 use Rattle.std.specs.Option.{option_map}
 use Rattle.cell_runs.specs.Runs.{Run, begun, front_text, is_alike, left_of, row_runs, rows_runs, run_at, run_from}
-use Rattle.cell_runs.specs.RunsOf.{AreInOrder, AreRunsOf, IsBefore, IsRun, Places, StandsIn}
+use Rattle.cell_runs.specs.RunsOf.{AreInOrder, AreRunsOf, IsBefore, IsPlaceOfRun, IsRun, Places}
 use Rattle.cell_runs.specs.Writing.{Writing}
 use Rattle.cell_runs.proofs.FrontLemmas.{front_cells, front_ends, front_more}
 use Rattle.cell_runs.proofs.RunLemmas.{left_next}
@@ -190,7 +190,7 @@ among_rows w cells a (suc n) row run from to among = elim (cases_lt a row) [
 
 -- each cell of the places is in a run
 in_a_run : {C : Type 0} (w : Writing C) (laws : IsWriting w) (p : Places C) (cells : ℕ → List (Option C)) (start count cols : ℕ) (rows : AreRows p cells start count cols)
-    (row col : ℕ) (here : Option C) → p.inside row col ≡ true → p.cell row col ≡ here → IsSome here → (run : Run C) × Contains (rows_runs w cells start count) run × StandsIn row col run
+    (row col : ℕ) (here : Option C) → p.inside row col ≡ true → p.cell row col ≡ here → IsSome here → (run : Run C) × Contains (rows_runs w cells start count) run × IsPlaceOfRun row col run
 unfolding row_runs
 in_a_run w laws p cells start count cols rows row col None inside is some = absurd (true≢false (sym some))
 in_a_run w laws p cells start count cols rows row col (Some cell) inside is some =

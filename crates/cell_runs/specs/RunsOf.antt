@@ -21,7 +21,7 @@ pub record IsRun {C : Type 0} (w : Writing C) (p : Places C) (run : Run C) : Typ
   pub ends : p.inside run.row (run.col + length run.text) ≡ true → is_alike w run.first (p.cell run.row (run.col + length run.text)) ≡ false
 
 -- a place is one of a run
-pub record StandsIn {C : Type 0} (row col : ℕ) (run : Run C) : Type 0 where
+pub record IsPlaceOfRun {C : Type 0} (row col : ℕ) (run : Run C) : Type 0 where
   pub in_row : run.row ≡ row
   pub from : run.col ≤ col
   pub to : col < run.col + length run.text
@@ -38,5 +38,5 @@ AreInOrder (run ∷ runs) = All (IsBefore run) runs × AreInOrder runs
 -- the runs of places: each is one, each cell is in one, and they stand by row, then column
 pub record AreRunsOf {C : Type 0} (w : Writing C) (p : Places C) (runs : List (Run C)) : Type 0 where
   pub each : All (IsRun w p) runs
-  pub all : (row col : ℕ) → p.inside row col ≡ true → IsSome (p.cell row col) → (run : Run C) × Contains runs run × StandsIn row col run
+  pub all : (row col : ℕ) → p.inside row col ≡ true → IsSome (p.cell row col) → (run : Run C) × Contains runs run × IsPlaceOfRun row col run
   pub order : AreInOrder runs

@@ -4,7 +4,7 @@ use Rattle.std.proofs.lemmas.Bool.Decides.{nat_tests}
 use Rattle.std.proofs.Common.{arith}
 use Rattle.std.specs.List.{flat_map, list_all}
 use Rattle.cc_data.specs.declared.triplet.Triplet.{Triplet}
-use Rattle.channel_packets.specs.ChannelPackets.{AreChannelPackets, ChannelPacket, Stretch, channel_triplets, continues, is_stretch, packet_of, starts, stretch_triplets}
+use Rattle.channel_packets.specs.ChannelPackets.{AreChannelPackets, ChannelPacket, TripletStretch, channel_triplets, continues_packet, is_stretch, starts, stretch_packet, stretch_triplets}
 
 -- both are true
 pub and_true : (one two : Bool) → one ≡ true → two ≡ true → (one && two) ≡ true
@@ -28,13 +28,13 @@ kinds_differ : (valid : Bool) (kind : ℕ) → (valid && (kind == 2)) ≡ true �
 kinds_differ true kind is = grind (arith, nat_tests)
 kinds_differ false kind is = refl
 
-pub starts-continuing : (triplet : Triplet) → continues triplet ≡ true → starts triplet ≡ false
+pub starts-continuing : (triplet : Triplet) → continues_packet triplet ≡ true → starts triplet ≡ false
 starts-continuing triplet is = kinds_differ triplet.valid triplet.kind is
 
 -- triplets behind the last start, and the stretches
 pub record Cut : Type 0 where
   pub strays : List Triplet
-  pub stretches : List Stretch
+  pub stretches : List TripletStretch
 
 -- a triplet, which starts a packet or doesn't, before others that are cut
 abbrev pub cut_before : Bool → Triplet → Cut → Cut
@@ -48,45 +48,45 @@ cut_of (triplet ∷ triplets) = cut_before (starts triplet) triplet (cut_of trip
 -- the cut is one
 pub record IsCut (triplets : List Triplet) (cut : Cut) : Type 0 where
   pub spelled : triplets ≡ cut.strays ++ flat_map stretch_triplets cut.stretches
-  pub strays_are : list_all continues cut.strays ≡ true
+  pub strays_are : list_all continues_packet cut.strays ≡ true
   pub stretches_are : list_all is_stretch cut.stretches ≡ true
 
-IsCut-before : (is : Bool) (triplet : Triplet) (triplets : List Triplet) (cut : Cut) → starts triplet ≡ is → (is || continues triplet) ≡ true
+IsCut-before : (is : Bool) (triplet : Triplet) (triplets : List Triplet) (cut : Cut) → starts triplet ≡ is → (is || continues_packet triplet) ≡ true
     → IsCut triplets cut → IsCut (triplet ∷ triplets) (cut_before is triplet cut)
 IsCut-before true triplet triplets cut starts_is either is = record {
   spelled = ap (λ ts. triplet ∷ ts) is.spelled;
   strays_are = refl;
-  stretches_are = and_true (starts triplet && list_all continues cut.strays) (list_all is_stretch cut.stretches)
-      (and_true (starts triplet) (list_all continues cut.strays) starts_is is.strays_are) is.stretches_are;
+  stretches_are = and_true (starts triplet && list_all continues_packet cut.strays) (list_all is_stretch cut.stretches)
+      (and_true (starts triplet) (list_all continues_packet cut.strays) starts_is is.strays_are) is.stretches_are;
 }
 IsCut-before false triplet triplets cut starts_is either is = record {
   spelled = ap (λ ts. triplet ∷ ts) is.spelled;
-  strays_are = and_true (continues triplet) (list_all continues cut.strays) either is.strays_are;
+  strays_are = and_true (continues_packet triplet) (list_all continues_packet cut.strays) either is.strays_are;
   stretches_are = is.stretches_are;
 }
 
-pub cut_is : (triplets : List Triplet) → list_all (λ triplet. starts triplet || continues triplet) triplets ≡ true → IsCut triplets (cut_of triplets)
+pub cut_is : (triplets : List Triplet) → list_all (λ triplet. starts triplet || continues_packet triplet) triplets ≡ true → IsCut triplets (cut_of triplets)
 cut_is [] all = record { spelled = refl; strays_are = refl; stretches_are = refl }
 cut_is (triplet ∷ triplets) all =
-    let (one, others) = true_and (starts triplet || continues triplet) (list_all (λ t. starts t || continues t) triplets) all in
+    let (one, others) = true_and (starts triplet || continues_packet triplet) (list_all (λ t. starts t || continues_packet t) triplets) all in
     IsCut-before (starts triplet) triplet triplets (cut_of triplets) refl one (cut_is triplets others)
 
 -- triplets that start no packet, before others
-cut_of-strays : (strays triplets : List Triplet) → list_all continues strays ≡ true
+cut_of-strays : (strays triplets : List Triplet) → list_all continues_packet strays ≡ true
     → cut_of (strays ++ triplets) ≡ record { strays = strays ++ (cut_of triplets).strays; stretches = (cut_of triplets).stretches }
 cut_of-strays [] triplets all = refl
 cut_of-strays (stray ∷ strays) triplets all =
-    let (one, others) = true_and (continues stray) (list_all continues strays) all in
+    let (one, others) = true_and (continues_packet stray) (list_all continues_packet strays) all in
     ap (λ is. cut_before is stray (cut_of (strays ++ triplets))) (starts-continuing stray one)
     ∙ ap (λ (cut : Cut). let c : Cut = record { strays = stray ∷ cut.strays; stretches = cut.stretches } in c) (cut_of-strays strays triplets others)
 
 -- stretches
-cut_of-stretches : (stretches : List Stretch) → list_all is_stretch stretches ≡ true
+cut_of-stretches : (stretches : List TripletStretch) → list_all is_stretch stretches ≡ true
     → cut_of (flat_map stretch_triplets stretches) ≡ record { strays = []; stretches = stretches }
 cut_of-stretches [] all = refl
 cut_of-stretches (stretch ∷ stretches) all =
     let (one, others) = true_and (is_stretch stretch) (list_all is_stretch stretches) all in
-    let (is, more) = true_and (starts stretch.first) (list_all continues stretch.more) one in
+    let (is, more) = true_and (starts stretch.first) (list_all continues_packet stretch.more) one in
     let rest = flat_map stretch_triplets stretches in
     let behind : cut_of (stretch.more ++ rest) ≡ record { strays = stretch.more; stretches = stretches } =
     cut_of-strays stretch.more rest more
@@ -103,11 +103,11 @@ cut_of-is triplets cut is =
 
 -- the cut of a file's triplets
 pub cut_of_file : (triplets : List Triplet) → IsCut (channel_triplets triplets) (cut_of (channel_triplets triplets))
-cut_of_file triplets = cut_is (channel_triplets triplets) (filter-passes (λ t. starts t || continues t) triplets)
+cut_of_file triplets = cut_is (channel_triplets triplets) (filter-passes (λ t. starts t || continues_packet t) triplets)
 
 -- any triplets have packets
 abbrev pub packets_of : List Triplet → List ChannelPacket
-packets_of triplets = map packet_of (cut_of (channel_triplets triplets)).stretches
+packets_of triplets = map stretch_packet (cut_of (channel_triplets triplets)).stretches
 
 pub packets_of-are : (triplets : List Triplet) → AreChannelPackets (packets_of triplets) triplets
 packets_of-are triplets =
@@ -126,7 +126,7 @@ IsCut-by packets triplets are = record { spelled = are.spelled; strays_are = are
 pub packets-are_of : (packets : List ChannelPacket) (triplets : List Triplet) → AreChannelPackets packets triplets → packets ≡ packets_of triplets
 packets-are_of packets triplets are =
     are.packets_are
-    ∙ ap (λ (cut : Cut). map packet_of cut.stretches) (sym (cut_of-is (channel_triplets triplets) (cut_by are) (IsCut-by packets triplets are)))
+    ∙ ap (λ (cut : Cut). map stretch_packet cut.stretches) (sym (cut_of-is (channel_triplets triplets) (cut_by are) (IsCut-by packets triplets are)))
 
 pub packets-unique : (packets others : List ChannelPacket) (triplets : List Triplet) → AreChannelPackets packets triplets
     → AreChannelPackets others triplets → packets ≡ others

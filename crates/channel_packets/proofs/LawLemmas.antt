@@ -8,8 +8,8 @@ use Rattle.std.proofs.lemmas.List.Concat.{flat_map-append}
 use Rattle.std.proofs.lemmas.List.Folds.{list_all-append}
 use Rattle.std.specs.List.{flat_map, list_all}
 use Rattle.cc_data.specs.declared.triplet.Triplet.{Triplet}
-use Rattle.channel_packets.specs.ChannelPackets.{AreChannelPackets, ChannelPacket, Stretch, begins_anew, bytes_of, channel_triplets, continues, is_stretch, number_of, packet_of, size_of, starts, stretch_triplets}
-use Rattle.channel_packets.specs.Written.{bytes_written, completed, continuing, header_for, packet_for, packet_written, starting}
+use Rattle.channel_packets.specs.ChannelPackets.{AreChannelPackets, ChannelPacket, TripletStretch, begins_anew, bytes_of, channel_triplets, continues_packet, is_stretch, number_of, size_of, starts, stretch_packet, stretch_triplets}
+use Rattle.channel_packets.specs.Written.{bytes_written, completed_bytes, continuing, header_for, packet_for, packet_written, starting}
 use Rattle.channel_packets.proofs.CutLemmas.{and_true, packets-unique, packets_of, packets_of-are, starts-continuing, true_and}
 
 -- the sizes of packets are odd, and from 1 to 127
@@ -23,28 +23,28 @@ pub sizes_are_odd : (header : ℕ) → (size_of header % 2 ≡ 1) × (size_of he
 sizes_are_odd header = odd_size (header % 64) (omega arith)
 
 -- the first triplet of a channel, if it starts a packet
-no_strays : (triplets strays : List Triplet) (stretches : List Stretch) → begins_anew triplets ≡ true
-    → channel_triplets triplets ≡ strays ++ flat_map stretch_triplets stretches → list_all continues strays ≡ true → strays ≡ []
+no_strays : (triplets strays : List Triplet) (stretches : List TripletStretch) → begins_anew triplets ≡ true
+    → channel_triplets triplets ≡ strays ++ flat_map stretch_triplets stretches → list_all continues_packet strays ≡ true → strays ≡ []
 no_strays triplets [] stretches anew spelled all = refl
 no_strays [] (stray ∷ strays) stretches anew spelled all = absurd cc
 no_strays (triplet ∷ triplets) (stray ∷ strays) stretches anew spelled all =
-    let (one, others) = true_and (continues stray) (list_all continues strays) all in
-    let cases : (b c : Bool) → starts triplet ≡ b → continues triplet ≡ c → (b || (not c && begins_anew triplets)) ≡ true
+    let (one, others) = true_and (continues_packet stray) (list_all continues_packet strays) all in
+    let cases : (b c : Bool) → starts triplet ≡ b → continues_packet triplet ≡ c → (b || (not c && begins_anew triplets)) ≡ true
     → (if b || c then triplet ∷ channel_triplets triplets else channel_triplets triplets) ≡ stray ∷ (strays ++ flat_map stretch_triplets stretches)
-    → stray ∷ strays ≡ [] = λ b c. elim b as (λ b. starts triplet ≡ b → continues triplet ≡ c → (b || (not c && begins_anew triplets)) ≡ true
+    → stray ∷ strays ≡ [] = λ b c. elim b as (λ b. starts triplet ≡ b → continues_packet triplet ≡ c → (b || (not c && begins_anew triplets)) ≡ true
     → (if b || c then triplet ∷ channel_triplets triplets else channel_triplets triplets) ≡ stray ∷ (strays ++ flat_map stretch_triplets stretches)
     → stray ∷ strays ≡ []) [
       | true ↦ λ is goes either same.
           let first : triplet ≡ stray = cc in
           let not_start = starts-continuing stray one in
           absurd (let wrong : true ≡ false = sym is ∙ ap starts first ∙ not_start in cc)
-      | false ↦ elim c as (λ c. starts triplet ≡ false → continues triplet ≡ c → (not c && begins_anew triplets) ≡ true
+      | false ↦ elim c as (λ c. starts triplet ≡ false → continues_packet triplet ≡ c → (not c && begins_anew triplets) ≡ true
           → (if c then triplet ∷ channel_triplets triplets else channel_triplets triplets) ≡ stray ∷ (strays ++ flat_map stretch_triplets stretches)
           → stray ∷ strays ≡ []) [
             | true ↦ λ is goes either same. absurd cc
             | false ↦ λ is goes either same. no_strays triplets (stray ∷ strays) stretches either same all
           ]
-    ] in cases (starts triplet) (continues triplet) refl refl anew spelled
+    ] in cases (starts triplet) (continues_packet triplet) refl refl anew spelled
 
 -- packets behind packets
 pub packets-append : (packets others : List ChannelPacket) (triplets more : List Triplet) → AreChannelPackets packets triplets
@@ -54,7 +54,7 @@ packets-append packets others triplets more are other anew =
     record {
       strays = are.strays;
       stretches = are.stretches ++ other.stretches;
-      spelled = filter-append (λ t. starts t || continues t) triplets more
+      spelled = filter-append (λ t. starts t || continues_packet t) triplets more
           ∙ ap (λ ts. ts ++ channel_triplets more) are.spelled
           ∙ ap (λ ts. (are.strays ++ flat_map stretch_triplets are.stretches) ++ ts)
           (other.spelled ∙ ap (λ strays. strays ++ flat_map stretch_triplets other.stretches) none)
@@ -63,8 +63,8 @@ packets-append packets others triplets more are other anew =
       strays_are = are.strays_are;
       stretches_are = list_all-append is_stretch are.stretches other.stretches
           ∙ and_true (list_all is_stretch are.stretches) (list_all is_stretch other.stretches) are.stretches_are other.stretches_are;
-      packets_are = ap (λ ps. ps ++ others) are.packets_are ∙ ap (λ ps. map packet_of are.stretches ++ ps) other.packets_are
-          ∙ sym (map-append packet_of are.stretches other.stretches);
+      packets_are = ap (λ ps. ps ++ others) are.packets_are ∙ ap (λ ps. map stretch_packet are.stretches ++ ps) other.packets_are
+          ∙ sym (map-append stretch_packet are.stretches other.stretches);
     }
 
 -- the same triplets of channel packets have the same packets
@@ -80,7 +80,7 @@ packets-same packets triplets others same are = record {
 }
 
 -- what is written of further bytes goes on with a packet
-written_continues : (bytes : List ℕ) → list_all continues (bytes_written bytes) ≡ true
+written_continues : (bytes : List ℕ) → list_all continues_packet (bytes_written bytes) ≡ true
 written_continues [] = refl
 written_continues (first ∷ []) = refl
 written_continues (first ∷ second ∷ bytes) = written_continues bytes
@@ -103,7 +103,7 @@ written_odd (first ∷ []) odd = refl
 written_odd (first ∷ second ∷ bytes) odd =
     ap (λ bs. first ∷ second ∷ bs) (written_odd bytes (omega arith))
 
-written_bytes : (first : ℕ) (bytes : List ℕ) → completed (first ∷ bytes) ≡ first ∷ bytes_of (bytes_written bytes)
+written_bytes : (first : ℕ) (bytes : List ℕ) → completed_bytes (first ∷ bytes) ≡ first ∷ bytes_of (bytes_written bytes)
 written_bytes first bytes =
     let cases : (b : Bool) → (length (first ∷ bytes) % 2 == 0) ≡ b
     → (if b then first ∷ (bytes ++ 0 ∷ []) else first ∷ bytes) ≡ first ∷ bytes_of (bytes_written bytes) = elim [
@@ -116,7 +116,7 @@ written_bytes first bytes =
     ] in cases _ refl
 
 -- as many as the header says
-completed-length : (bytes : List ℕ) → length (completed bytes) ≡ 2 * (length bytes / 2) + 1
+completed-length : (bytes : List ℕ) → length (completed_bytes bytes) ≡ 2 * (length bytes / 2) + 1
 completed-length bytes =
     let cases : (b : Bool) → (length bytes % 2 == 0) ≡ b → length (if b then bytes ++ 0 ∷ [] else bytes) ≡ 2 * (length bytes / 2) + 1 = elim [
       | true ↦ λ is. let even : length bytes % 2 ≡ 0 = grind (arith, nat_tests) in omega (arith, length-append bytes (0 ∷ []))
@@ -131,7 +131,7 @@ size-low number half below =
       | false ↦ λ is. let some : 0 < (64 * number + (half + 1) % 64) % 64 = grind (arith, nat_tests) in omega arith
     ] in cases _ refl
 
-pub header_for-size : (number : ℕ) (bytes : List ℕ) → length bytes ≤ 127 → size_of (header_for number (length bytes)) ≡ length (completed bytes)
+pub header_for-size : (number : ℕ) (bytes : List ℕ) → length bytes ≤ 127 → size_of (header_for number (length bytes)) ≡ length (completed_bytes bytes)
 header_for-size number bytes few = size-low number (length bytes / 2) (omega arith) ∙ sym (completed-length bytes)
 
 pub header_for-number : (number size : ℕ) → number_of (header_for number size) ≡ number
@@ -143,8 +143,8 @@ written_before : (number first : ℕ) (bytes : List ℕ) (rest : List Triplet) (
     → AreChannelPackets (packet_for number (first ∷ bytes) ∷ others) (packet_written number (first ∷ bytes) ++ rest)
 written_before number first bytes rest others few are =
     let header = header_for number (length (first ∷ bytes)) in
-    let whole = completed (first ∷ bytes) in
-    let stretch : Stretch = record { first = starting header first; more = bytes_written bytes ++ are.strays } in
+    let whole = completed_bytes (first ∷ bytes) in
+    let stretch : TripletStretch = record { first = starting header first; more = bytes_written bytes ++ are.strays } in
     let same : take (size_of header) (first ∷ bytes_of (bytes_written bytes ++ are.strays)) ≡ whole =
     ap (λ n. take n (first ∷ bytes_of (bytes_written bytes ++ are.strays))) (header_for-size number (first ∷ bytes) few)
     ∙ ap (λ bs. take (length whole) (first ∷ bs)) (flat_map-append (λ (t : Triplet). t.a ∷ t.b ∷ []) (bytes_written bytes) are.strays)
@@ -156,11 +156,11 @@ written_before number first bytes rest others few are =
       spelled = ap (λ ts. starting header first ∷ ts) (written_channel bytes rest ∙ ap (λ ts. bytes_written bytes ++ ts) are.spelled
           ∙ sym (append_assoc (bytes_written bytes) are.strays (flat_map stretch_triplets are.stretches)));
       strays_are = refl;
-      stretches_are = and_true (list_all continues (bytes_written bytes ++ are.strays)) (list_all is_stretch are.stretches)
-          (list_all-append continues (bytes_written bytes) are.strays
-          ∙ and_true (list_all continues (bytes_written bytes)) (list_all continues are.strays) (written_continues bytes) are.strays_are) are.stretches_are;
+      stretches_are = and_true (list_all continues_packet (bytes_written bytes ++ are.strays)) (list_all is_stretch are.stretches)
+          (list_all-append continues_packet (bytes_written bytes) are.strays
+          ∙ and_true (list_all continues_packet (bytes_written bytes)) (list_all continues_packet are.strays) (written_continues bytes) are.strays_are) are.stretches_are;
       packets_are = ap (λ (bs : List ℕ). let p : ChannelPacket = record { header = header; bytes = bs } in p ∷ others) (sym same)
-          ∙ ap (λ ps. packet_of stretch ∷ ps) are.packets_are;
+          ∙ ap (λ ps. stretch_packet stretch ∷ ps) are.packets_are;
     }
 
 -- what is written is read back, whatever follows it

@@ -12,7 +12,7 @@ use Rattle.cc_base.proofs.SyntaxLemmas.{parts_from-append}
 use Rattle.cc_data.specs.declared.triplet.Triplet.{Triplet}
 use Rattle.channel_packets.specs.declared.parts.PacketPart.{PacketPart}
 use Rattle.channel_packets.specs.declared.parts.PacketPart.TheVariants as part
-use Rattle.channel_packets.specs.ChannelPackets.{AreChannelPackets, ChannelPacket, Stretch, bytes_of, channel_triplets, continues, is_gap, is_stretch, number_of, packet_of, size_of, starts, stretch_triplets}
+use Rattle.channel_packets.specs.ChannelPackets.{AreChannelPackets, ChannelPacket, TripletStretch, bytes_of, channel_triplets, continues_packet, is_gap, is_stretch, number_of, size_of, starts, stretch_packet, stretch_triplets}
 use Rattle.channel_packets.specs.PacketParts.{byte_parts, packet_parts}
 use Rattle.channel_packets.specs.Reading.{Open, judge_bytes, judge_triplet, nothing_open, open_after, packet_syntax}
 use Rattle.channel_packets.proofs.CutLemmas.{starts-continuing, true_and}
@@ -24,7 +24,7 @@ IsTaken-if false one two first second = second
 
 pub taken : (front : Open) (triplet : Triplet) → IsTaken (judge_triplet front triplet)
 taken front triplet =
-    IsTaken-if (starts triplet) _ _ tt (IsTaken-if (continues triplet) _ _ (IsTaken-if (front.left == 0) _ _ tt (IsTaken-if (front.left == 1) _ _ tt tt)) tt)
+    IsTaken-if (starts triplet) _ _ tt (IsTaken-if (continues_packet triplet) _ _ (IsTaken-if (front.left == 0) _ _ tt (IsTaken-if (front.left == 1) _ _ tt tt)) tt)
 
 pub all_taken : (front : Open) (triplets : List Triplet) → AllTaken packet_syntax front triplets
 all_taken front [] = tt
@@ -39,29 +39,29 @@ judge-starting : (front : Open) (triplet : Triplet) → starts triplet ≡ true
     ≡ Two (part.Header (is_gap front.last (number_of triplet.a)) (size_of triplet.a)) (part.Byte triplet.b (size_of triplet.a - 1))
 judge-starting front triplet is =
     ap (λ (t : Bool). if t then Two (part.Header (is_gap front.last (number_of triplet.a)) (size_of triplet.a)) (part.Byte triplet.b (size_of triplet.a - 1))
-    else if continues triplet then judge_bytes front.left triplet.a triplet.b else Nothing) is
+    else if continues_packet triplet then judge_bytes front.left triplet.a triplet.b else Nothing) is
 
 after-starting : (front : Open) (triplet : Triplet) → starts triplet ≡ true
     → open_after front triplet ≡ record { last = Some (number_of triplet.a); left = size_of triplet.a - 1 }
 after-starting front triplet is =
     let begun : Open = record { last = Some (number_of triplet.a); left = size_of triplet.a - 1 } in
     let more : Open = record { last = front.last; left = front.left - 2 } in
-    ap (λ (t : Bool). if t then begun else if continues triplet then more else front) is
+    ap (λ (t : Bool). if t then begun else if continues_packet triplet then more else front) is
 
 -- one that goes on with a packet
-judge-continuing : (front : Open) (triplet : Triplet) → continues triplet ≡ true
+judge-continuing : (front : Open) (triplet : Triplet) → continues_packet triplet ≡ true
     → judge_triplet front triplet ≡ judge_bytes front.left triplet.a triplet.b
 judge-continuing front triplet is =
     let begun : Step PacketPart = Two (part.Header (is_gap front.last (number_of triplet.a)) (size_of triplet.a)) (part.Byte triplet.b (size_of triplet.a - 1)) in
-    ap (λ (t : Bool). if t then begun else if continues triplet then judge_bytes front.left triplet.a triplet.b else Nothing) (starts-continuing triplet is)
+    ap (λ (t : Bool). if t then begun else if continues_packet triplet then judge_bytes front.left triplet.a triplet.b else Nothing) (starts-continuing triplet is)
     ∙ ap (λ (t : Bool). if t then judge_bytes front.left triplet.a triplet.b else Nothing) is
 
-after-continuing : (front : Open) (triplet : Triplet) → continues triplet ≡ true
+after-continuing : (front : Open) (triplet : Triplet) → continues_packet triplet ≡ true
     → open_after front triplet ≡ record { last = front.last; left = front.left - 2 }
 after-continuing front triplet is =
     let begun : Open = record { last = Some (number_of triplet.a); left = size_of triplet.a - 1 } in
     let more : Open = record { last = front.last; left = front.left - 2 } in
-    ap (λ (t : Bool). if t then begun else if continues triplet then more else front) (starts-continuing triplet is)
+    ap (λ (t : Bool). if t then begun else if continues_packet triplet then more else front) (starts-continuing triplet is)
     ∙ ap (λ (t : Bool). if t then more else front) is
 
 -- one that does neither
@@ -69,16 +69,16 @@ neither : (one two : Bool) → (one || two) ≡ false → (one ≡ false) × (tw
 neither true two is = absurd cc
 neither false two is = (refl, is)
 
-judge-other : (front : Open) (triplet : Triplet) → (starts triplet || continues triplet) ≡ false
+judge-other : (front : Open) (triplet : Triplet) → (starts triplet || continues_packet triplet) ≡ false
     → (judge_triplet front triplet ≡ Nothing) × (open_after front triplet ≡ front)
 judge-other front triplet is =
-    let (one, two) = neither (starts triplet) (continues triplet) is in
+    let (one, two) = neither (starts triplet) (continues_packet triplet) is in
     let begun : Step PacketPart = Two (part.Header (is_gap front.last (number_of triplet.a)) (size_of triplet.a)) (part.Byte triplet.b (size_of triplet.a - 1)) in
     let first : Open = record { last = Some (number_of triplet.a); left = size_of triplet.a - 1 } in
     let more : Open = record { last = front.last; left = front.left - 2 } in (
-      ap (λ (t : Bool). if t then begun else if continues triplet then judge_bytes front.left triplet.a triplet.b else Nothing) one
+      ap (λ (t : Bool). if t then begun else if continues_packet triplet then judge_bytes front.left triplet.a triplet.b else Nothing) one
           ∙ ap (λ (t : Bool). if t then judge_bytes front.left triplet.a triplet.b else Nothing) two,
-      ap (λ (t : Bool). if t then first else if continues triplet then more else front) one ∙ ap (λ (t : Bool). if t then more else front) two,
+      ap (λ (t : Bool). if t then first else if continues_packet triplet then more else front) one ∙ ap (λ (t : Bool). if t then more else front) two,
     )
 
 -- triplets of line 21, and those that don't count, make no part
@@ -87,7 +87,7 @@ parts_from-channel : (front : Open) (triplets : List Triplet)
 parts_from-channel front [] = refl
 parts_from-channel front (triplet ∷ triplets) =
     let rest = parts_from-channel (open_after front triplet) triplets in
-    let cases : (b : Bool) → (starts triplet || continues triplet) ≡ b
+    let cases : (b : Bool) → (starts triplet || continues_packet triplet) ≡ b
     → parts_from packet_syntax front (triplet ∷ triplets) ≡ parts_from packet_syntax front (channel_triplets (triplet ∷ triplets)) = elim [
       | true ↦ λ is.
           ap (λ parts. step_parts (judge_triplet front triplet) ++ parts) rest
@@ -100,7 +100,7 @@ parts_from-channel front (triplet ∷ triplets) =
     ] in cases _ refl
 
 -- a triplet that goes on with a packet, and others
-parts_from-continuing : (front : Open) (triplet : Triplet) (more : List Triplet) → continues triplet ≡ true
+parts_from-continuing : (front : Open) (triplet : Triplet) (more : List Triplet) → continues_packet triplet ≡ true
     → parts_from packet_syntax front (triplet ∷ more)
     ≡ step_parts (judge_bytes front.left triplet.a triplet.b) ++ parts_from packet_syntax (record { last = front.last; left = front.left - 2 }) more
 parts_from-continuing front triplet more is =
@@ -118,19 +118,19 @@ two_parts left first second =
     ap (λ (t : Bool). if t then Nothing else if suc (suc left) == 1 then one else two) some ∙ ap (λ (t : Bool). if t then one else two) more
 
 -- the bytes of triplets that go on with a packet, as many as are left of it
-parts_from-more : (last : Option ℕ) (left : ℕ) (more : List Triplet) → list_all continues more ≡ true
+parts_from-more : (last : Option ℕ) (left : ℕ) (more : List Triplet) → list_all continues_packet more ≡ true
     → parts_from packet_syntax (record { last = last; left = left }) more ≡ byte_parts left (take left (bytes_of more))
 parts_from-more last zero [] all = refl
 parts_from-more last (suc left) [] all = refl
 parts_from-more last zero (triplet ∷ more) all =
-    let (one, others) = true_and (continues triplet) (list_all continues more) all in
+    let (one, others) = true_and (continues_packet triplet) (list_all continues_packet more) all in
     parts_from-continuing (record { last = last; left = 0 }) triplet more one ∙ parts_from-more last zero more others
 parts_from-more last (suc zero) (triplet ∷ more) all =
-    let (one, others) = true_and (continues triplet) (list_all continues more) all in
+    let (one, others) = true_and (continues_packet triplet) (list_all continues_packet more) all in
     parts_from-continuing (record { last = last; left = 1 }) triplet more one
     ∙ ap (λ parts. part.Byte triplet.a 0 ∷ parts) (parts_from-more last zero more others)
 parts_from-more last (suc (suc left)) (triplet ∷ more) all =
-    let (one, others) = true_and (continues triplet) (list_all continues more) all in
+    let (one, others) = true_and (continues_packet triplet) (list_all continues_packet more) all in
     let front : Open = record { last = last; left = suc (suc left) } in
     let two : List PacketPart = part.Byte triplet.a (suc (suc left) - 1) ∷ part.Byte triplet.b (suc (suc left) - 2) ∷ [] in
     let less : suc (suc left) - 2 ≡ left = omega arith in
@@ -142,11 +142,11 @@ parts_from-more last (suc (suc left)) (triplet ∷ more) all =
     ∙ ap (λ n. part.Byte triplet.a (suc (suc left) - 1) ∷ part.Byte triplet.b (suc (suc left) - 2) ∷ byte_parts n (take left (bytes_of more))) (sym less ∙ sym same)
     ∙ ap (λ n. part.Byte triplet.a (suc (suc left) - 1) ∷ part.Byte triplet.b n ∷ byte_parts (suc (suc left) - 1 - 1) (take left (bytes_of more))) (sym same)
 
-last-more : (last : Option ℕ) (left : ℕ) (more : List Triplet) → list_all continues more ≡ true
+last-more : (last : Option ℕ) (left : ℕ) (more : List Triplet) → list_all continues_packet more ≡ true
     → (front_from open_after (record { last = last; left = left }) more).last ≡ last
 last-more last left [] all = refl
 last-more last left (triplet ∷ more) all =
-    let (one, others) = true_and (continues triplet) (list_all continues more) all in
+    let (one, others) = true_and (continues_packet triplet) (list_all continues_packet more) all in
     ap (λ f. (front_from open_after f more).last) (after-continuing (record { last = last; left = left }) triplet one)
     ∙ last-more last (left - 2) more others
 
@@ -163,12 +163,12 @@ first_byte (suc size) byte bytes some =
     ap (λ n. part.Byte byte (suc size - 1) ∷ byte_parts (suc size - 1) (take n bytes)) same
 
 -- stretches make the parts of their packets
-parts_from-stretches : (front : Open) (stretches : List Stretch) → list_all is_stretch stretches ≡ true
-    → parts_from packet_syntax front (flat_map stretch_triplets stretches) ≡ packet_parts front.last (map packet_of stretches)
+parts_from-stretches : (front : Open) (stretches : List TripletStretch) → list_all is_stretch stretches ≡ true
+    → parts_from packet_syntax front (flat_map stretch_triplets stretches) ≡ packet_parts front.last (map stretch_packet stretches)
 parts_from-stretches front [] all = refl
 parts_from-stretches front (stretch ∷ stretches) all =
     let (one, others) = true_and (is_stretch stretch) (list_all is_stretch stretches) all in
-    let (is, goes) = true_and (starts stretch.first) (list_all continues stretch.more) one in
+    let (is, goes) = true_and (starts stretch.first) (list_all continues_packet stretch.more) one in
     let header = stretch.first.a in
     let size = size_of header in
     let last = Some (number_of header) in
@@ -182,14 +182,14 @@ parts_from-stretches front (stretch ∷ stretches) all =
     ∙ ap (λ parts. two ++ parts) (parts_from-append packet_syntax begun stretch.more rest)
     ∙ ap (λ parts. two ++ (parts ++ parts_from packet_syntax behind rest)) (parts_from-more last (size - 1) stretch.more goes)
     ∙ ap (λ parts. two ++ (byte_parts (size - 1) (take (size - 1) (bytes_of stretch.more)) ++ parts)) (parts_from-stretches behind stretches others
-    ∙ ap (λ number. packet_parts number (map packet_of stretches)) (last-more last (size - 1) stretch.more goes))
-    ∙ ap (λ parts. part.Header (is_gap front.last (number_of header)) size ∷ (parts ++ packet_parts last (map packet_of stretches))) (first_byte size stretch.first.b (bytes_of stretch.more) some)
+    ∙ ap (λ number. packet_parts number (map stretch_packet stretches)) (last-more last (size - 1) stretch.more goes))
+    ∙ ap (λ parts. part.Header (is_gap front.last (number_of header)) size ∷ (parts ++ packet_parts last (map stretch_packet stretches))) (first_byte size stretch.first.b (bytes_of stretch.more) some)
 
 -- triplets before the first start make no part, and leave nothing open
-strays_pass : (strays : List Triplet) → list_all continues strays ≡ true → front_from open_after nothing_open strays ≡ nothing_open
+strays_pass : (strays : List Triplet) → list_all continues_packet strays ≡ true → front_from open_after nothing_open strays ≡ nothing_open
 strays_pass [] all = refl
 strays_pass (stray ∷ strays) all =
-    let (one, others) = true_and (continues stray) (list_all continues strays) all in
+    let (one, others) = true_and (continues_packet stray) (list_all continues_packet strays) all in
     ap (λ f. front_from open_after f strays) (after-continuing nothing_open stray one) ∙ strays_pass strays others
 
 -- the parts of a file's triplets are those of its packets
@@ -209,10 +209,10 @@ parts_of-packets packets triplets are =
 fits-take : (size : ℕ) (bytes : List ℕ) → length (take size bytes) ≤ size
 fits-take size bytes = omega (arith, length-take size bytes)
 
-each_fits : (stretches : List Stretch) → All (λ packet. length packet.bytes ≤ size_of packet.header) (map packet_of stretches)
+each_fits : (stretches : List TripletStretch) → All (λ packet. length packet.bytes ≤ size_of packet.header) (map stretch_packet stretches)
 each_fits [] = All-nil (λ (packet : ChannelPacket). length packet.bytes ≤ size_of packet.header)
 each_fits (stretch ∷ stretches) =
-    All-cons (λ (packet : ChannelPacket). length packet.bytes ≤ size_of packet.header) (packet_of stretch) (map packet_of stretches)
+    All-cons (λ (packet : ChannelPacket). length packet.bytes ≤ size_of packet.header) (stretch_packet stretch) (map stretch_packet stretches)
     (fits-take (size_of stretch.first.a) (stretch.first.b ∷ bytes_of stretch.more)) (each_fits stretches)
 
 pub packets_fit : (packets : List ChannelPacket) (triplets : List Triplet) → AreChannelPackets packets triplets

@@ -10,12 +10,12 @@ abbrev pub starts : Triplet → Bool
 starts triplet = triplet.valid && (triplet.kind == 3)
 
 -- the triplet goes on with a packet
-abbrev pub continues : Triplet → Bool
-continues triplet = triplet.valid && (triplet.kind == 2)
+abbrev pub continues_packet : Triplet → Bool
+continues_packet triplet = triplet.valid && (triplet.kind == 2)
 
 -- the triplets of channel packets: those of line 21 and those that don't count are left out
 abbrev pub channel_triplets : List Triplet → List Triplet
-channel_triplets triplets = filter (λ triplet. starts triplet || continues triplet) triplets
+channel_triplets triplets = filter (λ triplet. starts triplet || continues_packet triplet) triplets
 
 -- the number of a packet, the top two bits of its header
 abbrev pub number_of : ℕ → ℕ
@@ -31,16 +31,16 @@ pub record ChannelPacket : Type 0 where
   pub bytes : List ℕ
 
 -- the triplets from one that starts a packet up to the next such one, or to the end
-pub record Stretch : Type 0 where
+pub record TripletStretch : Type 0 where
   pub first : Triplet
   pub more : List Triplet
 
 -- its first triplet starts a packet, and the others go on with it
-abbrev pub is_stretch : Stretch → Bool
-is_stretch stretch = starts stretch.first && list_all continues stretch.more
+abbrev pub is_stretch : TripletStretch → Bool
+is_stretch stretch = starts stretch.first && list_all continues_packet stretch.more
 
 -- its triplets
-abbrev pub stretch_triplets : Stretch → List Triplet
+abbrev pub stretch_triplets : TripletStretch → List Triplet
 stretch_triplets stretch = stretch.first ∷ stretch.more
 
 -- the bytes of triplets, two each
@@ -48,8 +48,8 @@ abbrev pub bytes_of : List Triplet → List ℕ
 bytes_of triplets = flat_map (λ triplet. triplet.a ∷ triplet.b ∷ []) triplets
 
 -- the packet of a stretch: the bytes behind its header, as many as its size at most; those behind them belong to no packet
-abbrev pub packet_of : Stretch → ChannelPacket
-packet_of stretch = record {
+abbrev pub stretch_packet : TripletStretch → ChannelPacket
+stretch_packet stretch = record {
   header = stretch.first.a;
   bytes = take (size_of stretch.first.a) (stretch.first.b ∷ bytes_of stretch.more);
 }
@@ -58,11 +58,11 @@ packet_of stretch = record {
 -- the first of these belongs to no packet
 pub record AreChannelPackets (packets : List ChannelPacket) (triplets : List Triplet) : Type 0 where
   pub strays : List Triplet
-  pub stretches : List Stretch
+  pub stretches : List TripletStretch
   pub spelled : channel_triplets triplets ≡ strays ++ flat_map stretch_triplets stretches
-  pub strays_are : list_all continues strays ≡ true
+  pub strays_are : list_all continues_packet strays ≡ true
   pub stretches_are : list_all is_stretch stretches ≡ true
-  pub packets_are : packets ≡ map packet_of stretches
+  pub packets_are : packets ≡ map stretch_packet stretches
 
 -- a packet is missing before the one of this number, behind the one of the last number: it isn't the next, counted modulo 4.
 -- None is missing before the first packet
@@ -73,4 +73,4 @@ is_gap (Some last) number = not (number == (last + 1) % 4)
 -- none of the triplets goes on with a packet before the first one that starts a packet
 abbrev pub begins_anew : List Triplet → Bool
 begins_anew [] = true
-begins_anew (triplet ∷ triplets) = starts triplet || (not (continues triplet) && begins_anew triplets)
+begins_anew (triplet ∷ triplets) = starts triplet || (not (continues_packet triplet) && begins_anew triplets)

@@ -7,7 +7,7 @@ use Rattle.cc_base.specs.Syntax.{Syntax}
 use Rattle.cc_data.specs.declared.triplet.Triplet.{Triplet}
 use Rattle.channel_packets.specs.declared.parts.PacketPart.{PacketPart}
 use Rattle.channel_packets.specs.declared.parts.PacketPart.TheVariants as part
-use Rattle.channel_packets.specs.ChannelPackets.{continues, is_gap, number_of, size_of, starts}
+use Rattle.channel_packets.specs.ChannelPackets.{continues_packet, is_gap, number_of, size_of, starts}
 
 -- what is open between two triplets: the number of the last packet, if there was one, and how many of its bytes are left
 pub record Open : Type 0 where
@@ -30,14 +30,14 @@ abbrev pub judge_triplet : Open → Triplet → Step PacketPart
 judge_triplet front triplet =
     if starts triplet
     then Two (part.Header (is_gap front.last (number_of triplet.a)) (size_of triplet.a)) (part.Byte triplet.b (size_of triplet.a - 1))
-    else if continues triplet then judge_bytes front.left triplet.a triplet.b
+    else if continues_packet triplet then judge_bytes front.left triplet.a triplet.b
     else Nothing
 
 -- what is open behind one more triplet
 abbrev pub open_after : Open → Triplet → Open
 open_after front triplet =
     if starts triplet then (record { last = Some (number_of triplet.a); left = size_of triplet.a - 1 })
-    else if continues triplet then (record { last = front.last; left = front.left - 2 })
+    else if continues_packet triplet then (record { last = front.last; left = front.left - 2 })
     else front
 
 -- how triplets are read: what is made of each, and what is open behind it

@@ -28,9 +28,9 @@ packet_written number [] = []
 packet_written number (first ∷ bytes) = starting (header_for number (length (first ∷ bytes))) first ∷ bytes_written bytes
 
 -- the bytes of a packet: an even number of them is completed
-abbrev pub completed : List ℕ → List ℕ
-completed bytes = if length bytes % 2 == 0 then bytes ++ 0x00 ∷ [] else bytes
+abbrev pub completed_bytes : List ℕ → List ℕ
+completed_bytes bytes = if length bytes % 2 == 0 then bytes ++ 0x00 ∷ [] else bytes
 
 -- the packet that is written
 abbrev pub packet_for : ℕ → List ℕ → ChannelPacket
-packet_for number bytes = record { header = header_for number (length bytes); bytes = completed bytes }
+packet_for number bytes = record { header = header_for number (length bytes); bytes = completed_bytes bytes }

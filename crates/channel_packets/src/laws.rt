@@ -10,7 +10,7 @@ ghost use Rattle.channel_packets.specs.declared.parts.PacketPart.{PacketPart as 
 ghost use Rattle.channel_packets.specs.ChannelPackets.{AreChannelPackets, ChannelPacket, begins_anew, channel_triplets, number_of, size_of};
 ghost use Rattle.channel_packets.specs.PacketParts.{packet_parts};
 ghost use Rattle.channel_packets.specs.Reading.{packet_syntax};
-ghost use Rattle.channel_packets.specs.Written.{completed, header_for, packet_for, packet_written};
+ghost use Rattle.channel_packets.specs.Written.{completed_bytes, header_for, packet_for, packet_written};
 
 /// Any triplets of a file have channel packets, and in one way only. Triplets of line 21 and those that don't count change
 /// nothing, wherever they stand.
@@ -58,5 +58,5 @@ pub fn written_is_read_back()
         → (others : List ChannelPacket) × (packets ≡ packet_for number bytes ∷ others) × AreChannelPackets others rest }
     ensures number { (number size : ℕ) → number_of (header_for number size) ≡ number }
     ensures size { (number : ℕ) (bytes : List ℕ) → length bytes ≤ 127
-        → size_of (header_for number (length bytes)) ≡ length (completed bytes) }
+        → size_of (header_for number (length bytes)) ≡ length (completed_bytes bytes) }
 {}

@@ -6,7 +6,7 @@ use Rattle.cc_base.specs.declared.limit_of.LimitOf.TheVariants as limit
 use Rattle.command_base.proofs.CountLemmas.{read_told, steady_told, write_told}
 use Rattle.command_base.specs.Counts.{IsReadOf, TellsFaults}
 use Rattle.command_base.specs.Ends.{Ends, ends}
-use Rattle.command_base.specs.WholeInput.{IsRefusal, IsTooLong, Judges, Putting, Reads, WholeAnswer, whole_limit}
+use Rattle.command_base.specs.WholeInput.{IsRefusal, IsTooLong, JudgesInput, Putting, ReadsInput, WholeAnswer, whole_limit}
 use Rattle.command_base.specs.declared.status.Status.{Status}
 use Rattle.command_base.specs.declared.status.Status.TheVariants as status
 
@@ -18,7 +18,7 @@ keeps_same (Some xs) = refl
 -- what isn't read is answered so, and nothing was put
 pub read_refused : {A : Type 0} (Whole Front : Putting) (Is : List ℕ → A → Type 0) (Refused : List ℕ → Status → Type 0)
     (left now_left written : Option (List ℕ)) (before now faults : ℕ) (s : Status)
-    → Reads Is Refused left now_left before now (Err s) → WholeAnswer Whole Front Refused (ends left before written faults) (ends now_left now written faults) s
+    → ReadsInput Is Refused left now_left before now (Err s) → WholeAnswer Whole Front Refused (ends left before written faults) (ends now_left now written faults) s
 read_refused Whole Front Is Refused left now_left written before now faults status.Ok h = absurd h
 read_refused Whole Front Is Refused left now_left written before now faults status.Usage h = absurd h
 read_refused Whole Front Is Refused left now_left written before now faults status.ReadFault h = (h.0, h.1, (refl, keeps_same written))
@@ -48,7 +48,7 @@ AreRefusals Refused = (bytes : List ℕ) (answer : Status) → Refused bytes ans
 -- the judgement of the bytes that were read to their end
 pub judged : {A : Type 0} (Is : List ℕ → A → Type 0) (Refused : List ℕ → Status → Type 0) → AreRefusals Refused → (left now_left : Option (List ℕ))
     (before now : ℕ) (bytes : List ℕ) (r : Result A Status)
-    → IfSome left (λ all. bytes ≡ all) → now ≡ before → Judges Is Refused bytes r → Reads Is Refused left now_left before now r
+    → IfSome left (λ all. bytes ≡ all) → now ≡ before → JudgesInput Is Refused bytes r → ReadsInput Is Refused left now_left before now r
 judged Is Refused are left now_left before now bytes (Ok value) is same fact = (same, of_left (λ all. Is all value) left bytes is fact)
 judged Is Refused are left now_left before now bytes (Err status.Ok) is same fact = absurd (are bytes status.Ok fact)
 judged Is Refused are left now_left before now bytes (Err status.Usage) is same fact = absurd (are bytes status.Usage fact)
@@ -76,7 +76,7 @@ too_long Refused long left s h = if_left (λ bytes. IsTooLong bytes s) (λ bytes
 -- bytes that weren't read to their end
 pub unread : {A : Type 0} (Is : List ℕ → A → Type 0) (Refused : List ℕ → Status → Type 0)
     → ((bytes : List ℕ) → whole_limit < length bytes → Refused bytes (status.Limit limit.Bytes)) → (left now_left : Option (List ℕ)) (before now : ℕ) (s : Status)
-    → Reads (λ (bytes : List ℕ) (value : List ℕ). value ≡ bytes) IsTooLong left now_left before now (Err s) → Reads Is Refused left now_left before now (Err s)
+    → ReadsInput (λ (bytes : List ℕ) (value : List ℕ). value ≡ bytes) IsTooLong left now_left before now (Err s) → ReadsInput Is Refused left now_left before now (Err s)
 unread Is Refused long left now_left before now status.Ok h = absurd h
 unread Is Refused long left now_left before now status.Usage h = absurd h
 unread Is Refused long left now_left before now status.WriteFault h = absurd h

@@ -8,7 +8,7 @@ use Rattle.cc_base.specs.Why.{name_of}
 use Rattle.cc_base.specs.declared.streams.Put.TheVariants as put
 use Rattle.cc_base.specs.declared.why.Why.{Why}
 use Rattle.cc_base.specs.declared.why.Why.TheVariants as why
-use Rattle.cc_base.specs.Rate.{code_of}
+use Rattle.cc_base.specs.Rate.{rate_code}
 use Rattle.findings.specs.declared.finding.Finding.{Finding}
 use Rattle.findings.specs.declared.finding.Kind45.{Kind45}
 use Rattle.findings.specs.declared.finding.Kind45.TheVariants as kind
@@ -79,7 +79,7 @@ grid_line frame (which.Service service) = service_line frame why.GridDiffers ser
 abbrev pub line_of_kind : ℕ → Kind45 → List ℕ
 line_of_kind frame (kind.CounterJump expected seen) = seen_line frame why.CounterJump expected seen
 line_of_kind frame (kind.WrongCount expected seen) = seen_line frame why.WrongCount expected seen
-line_of_kind frame (kind.WrongRate expected seen) = seen_line frame why.WrongRate (code_of expected) (code_of seen)
+line_of_kind frame (kind.WrongRate expected seen) = seen_line frame why.WrongRate (rate_code expected) (rate_code seen)
 line_of_kind frame (kind.BufferFull service) = service_line frame why.BufferFull service
 line_of_kind frame (kind.GridDiffers which) = grid_line frame which
 line_of_kind frame (kind.TwoPairs seen) = seen_line frame why.TwoPairs 1 seen

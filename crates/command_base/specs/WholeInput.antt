@@ -12,20 +12,20 @@ abbrev pub whole_limit : ℕ
 whole_limit = 67108864
 
 -- bytes are judged to be this value, or refused
-abbrev pub Judges : {A : Type 0} → (List ℕ → A → Type 0) → (List ℕ → Status → Type 0) → List ℕ → Result A Status → Type 0
-Judges Is Refused bytes (Ok value) = Is bytes value
-Judges Is Refused bytes (Err status.Memory) = ⊤
-Judges Is Refused bytes (Err refusal) = Refused bytes refusal
+abbrev pub JudgesInput : {A : Type 0} → (List ℕ → A → Type 0) → (List ℕ → Status → Type 0) → List ℕ → Result A Status → Type 0
+JudgesInput Is Refused bytes (Ok value) = Is bytes value
+JudgesInput Is Refused bytes (Err status.Memory) = ⊤
+JudgesInput Is Refused bytes (Err refusal) = Refused bytes refusal
 
 -- an input is read to its end, and its bytes as this value, or they are refused
-abbrev pub Reads : {A : Type 0} → (List ℕ → A → Type 0) → (List ℕ → Status → Type 0) → Option (List ℕ) → Option (List ℕ) → ℕ → ℕ → Result A Status → Type 0
-Reads Is Refused old new before now (Ok value) = (now ≡ before) × IfSome old (λ bytes. Is bytes value)
-Reads Is Refused old new before now (Err status.Ok) = ⊥
-Reads Is Refused old new before now (Err status.Usage) = ⊥
-Reads Is Refused old new before now (Err status.WriteFault) = ⊥
-Reads Is Refused old new before now (Err status.ReadFault) = Rose before now × TakesWithin whole_limit old new
-Reads Is Refused old new before now (Err status.Memory) = now ≡ before
-Reads Is Refused old new before now (Err refusal) = (now ≡ before) × IfSome old (λ bytes. Refused bytes refusal)
+abbrev pub ReadsInput : {A : Type 0} → (List ℕ → A → Type 0) → (List ℕ → Status → Type 0) → Option (List ℕ) → Option (List ℕ) → ℕ → ℕ → Result A Status → Type 0
+ReadsInput Is Refused old new before now (Ok value) = (now ≡ before) × IfSome old (λ bytes. Is bytes value)
+ReadsInput Is Refused old new before now (Err status.Ok) = ⊥
+ReadsInput Is Refused old new before now (Err status.Usage) = ⊥
+ReadsInput Is Refused old new before now (Err status.WriteFault) = ⊥
+ReadsInput Is Refused old new before now (Err status.ReadFault) = Rose before now × TakesWithin whole_limit old new
+ReadsInput Is Refused old new before now (Err status.Memory) = now ≡ before
+ReadsInput Is Refused old new before now (Err refusal) = (now ≡ before) × IfSome old (λ bytes. Refused bytes refusal)
 
 -- the bytes are too many, and that is the answer
 abbrev pub IsTooLong : List ℕ → Status → Type 0

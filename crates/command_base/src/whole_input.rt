@@ -1,5 +1,5 @@
 ghost use Rattle.std.specs.Prelude.{◌≡◌, ◌≤◌, IfOk, length};
-ghost use Rattle.command_base.specs.WholeInput.{IsTooLong, Reads, whole_limit};
+ghost use Rattle.command_base.specs.WholeInput.{IsTooLong, ReadsInput, whole_limit};
 
 use crate::status::Status;
 use cc_base::{LimitOf, ReadError, Source, read_whole};
@@ -11,7 +11,7 @@ const WHOLE_LIMIT: usize = 67_108_864;
 /// Reads an input to its end: the bytes of a cue list or an SCC file. Gives them, or the status with which it isn't read:
 /// ReadFault, Memory, or Limit (Bytes) where it has more than 67,108,864 bytes.
 pub fn read_input<M: Source>(alloc: Global, input: &mut M) -> Result<Vec<u8>, Status>
-    ensures bytes { Reads (λ bytes value. value.items ≡ bytes) IsTooLong
+    ensures bytes { ReadsInput (λ bytes value. value.items ≡ bytes) IsTooLong
         (M.left input.old) (M.left input.new) (M.faults input.old) (M.faults input.new) result }
     ensures within { IfOk result (λ bytes. length bytes.items ≤ whole_limit) }
 {

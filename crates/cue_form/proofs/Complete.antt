@@ -16,10 +16,10 @@ use Rattle.dtvcc_codes.specs.declared.windows.WinAttr.{WinAttr}
 use Rattle.line21_codes.specs.declared.channels.Chan.{Chan}
 use Rattle.cue_form.specs.Begun.{AreOfVersion, Begun, IsCueBegun, IsPlain, IsPlainKind, awaits_run, cue_with_run, no_runs, nothing}
 use Rattle.cue_form.specs.Fields.{fill_field, is_two_bits, named, number_within, pen_field, plain_words, rgb_field}
-use Rattle.cue_form.specs.Form.{columns_of, first_row, is_coded, is_second, is_window, last_is_plain, last_row, run_pen_field, suits_row, version_words}
-use Rattle.cue_form.specs.Reading.{attributes_of, colours_of, list_of, next, read_from, run_of}
+use Rattle.cue_form.specs.Form.{cue_columns, first_row, is_coded, is_second, is_window, last_is_plain, last_row, run_pen_field, suits_row, version_words}
+use Rattle.cue_form.specs.Reading.{attributes_of, colours_of, next, read_from, run_of, spelled_list}
 use Rattle.cue_form.specs.Records.{Record}
-use Rattle.cue_form.specs.Spelling.{Spells, attribute_record, attribute_records, colour_record, colour_records, cue_record, cue_records, fill_word, head_record, pen_word, rgb_word, run_record, run_records, share_record, version_word, window_attribute_records, wrap_number}
+use Rattle.cue_form.specs.Spelling.{SpellsList, attribute_record, attribute_records, colour_record, colour_records, cue_record, cue_records, fill_word, head_record, pen_word, rgb_word, run_record, run_records, share_record, version_word, window_attribute_records, wrap_number}
 use Rattle.cue_types.specs.Coloured.{coloured}
 use Rattle.cue_types.specs.Cues.{IsCueFormed, IsOfKind}
 use Rattle.cue_types.specs.Line21Cues.{IsLine21Pen, IsLine21Run, base_row}
@@ -127,10 +127,10 @@ shares_read head done (share ∷ more) are =
 -- a text's field is read
 pub record IsReadable (k : Kind) (run : Run) : Type 0 where
   pub row : (first_row k ≤ run.row) × (run.row ≤ last_row k) × (run.row < 100)
-  pub col : (run.col ≤ columns_of k - 1) × (run.col < 100)
+  pub col : (run.col ≤ cue_columns k - 1) × (run.col < 100)
   pub pen : run_pen_field k (pen_word run.pen) ≡ Some run.pen
   pub some : 1 ≤ length run.text
-  pub fits : run.col + length run.text ≤ columns_of k
+  pub fits : run.col + length run.text ≤ cue_columns k
   pub scalars : all_scalars run.text ≡ true
   pub coded : list_all (is_coded k) run.text ≡ true
 
@@ -143,13 +143,13 @@ run_read k runs run at suits =
     rw (
       number_within-decimal (first_row k) (last_row k) run.row at.row.0 at.row.1 (let small = at.row.2 in omega arith),
       suits,
-      number_within-decimal 0 (columns_of k - 1) run.col (omega arith) at.col.0 (let small = at.col.1 in omega arith),
+      number_within-decimal 0 (cue_columns k - 1) run.col (omega arith) at.col.0 (let small = at.col.1 in omega arith),
       at.pen,
       is_utf8-from_IsUtf8 (encode_utf8_all run.text) utf8,
       bytes,
       chars-encodes run.text at.scalars,
       at.coded,
-      le-leb (run.col + length run.text) (columns_of k) at.fits,
+      le-leb (run.col + length run.text) (cue_columns k) at.fits,
     ) refl
 
 line21_pen_read : (p : Pen) → IsLine21Pen p → option_map (λ style. pen.Line21 style) (pen_field (pen_word p)) ≡ Some p
@@ -479,7 +479,7 @@ front_read head shares rated some frames are =
     (head_read head rated some frames) (shares_read head [] shares are)
 
 -- records that spell a list are read as it
-pub list_of-spelled : (rs : List Record) (l : Listing) → Spells rs l → list_of rs ≡ Ok l
+pub list_of-spelled : (rs : List Record) (l : Listing) → SpellsList rs l → spelled_list rs ≡ Ok l
 list_of-spelled rs l spelled =
     let formed = spelled.formed in
     let head : Head = record { version = spelled.version; rate = l.rate; frames = l.frames } in
@@ -487,5 +487,5 @@ list_of-spelled rs l spelled =
     let cues = cues_read head l.shares [] None l.cues refl formed.cues spelled.allowed (let few = formed.few in omega arith) in
     let whole = leads_on nothing (begun_of (Some head) l.shares [] None) (begun_of (Some head) l.shares cues.earlier cues.last) (head_record head ∷ map share_record l.shares) (flat_map cue_records l.cues) front cues.leads in
     let records : rs ≡ (head_record head ∷ map share_record l.shares) ++ flat_map cue_records l.cues = spelled.are in
-    ap list_of (records ∙ sym (append-nil ((head_record head ∷ map share_record l.shares) ++ flat_map cue_records l.cues)))
+    ap spelled_list (records ∙ sym (append-nil ((head_record head ∷ map share_record l.shares) ++ flat_map cue_records l.cues)))
     ∙ whole.read 1 [] ∙ rw (cues.full, cues.all) refl

@@ -1,8 +1,8 @@
 -- Judgements that are all good, and the first offence where one isn't.
 use Rattle.std.proofs.Common.{◌≡◌, true, List, [], ◌∷◌, Option, Some, None, Result, Ok, Err, refl}
-use Rattle.cue_form.specs.Answers.{Refuses}
+use Rattle.cue_form.specs.Answers.{AnswersOffence}
 use Rattle.cue_form.specs.Judgements.{Judgement, first_offence}
-use Rattle.cue_form.specs.Reading.{judged, on_ok, unless}
+use Rattle.cue_form.specs.Reading.{judged_value, on_ok, unless}
 use Rattle.cue_form.specs.declared.offence.Offence.{Offence}
 use Rattle.cue_form.specs.declared.offence.Offence.TheVariants as offence
 use Rattle.cue_form.proofs.Passing.{on_test}
@@ -13,7 +13,7 @@ AllGood [] = Unit {0}
 AllGood (j ∷ js) = (j.good ≡ true) × AllGood js
 
 -- what was read has good judgements alone, and its value
-pub good_of : {A : Type 0} (js : List Judgement) (value read : A) → judged js value ≡ Ok read → AllGood js × (value ≡ read)
+pub good_of : {A : Type 0} (js : List Judgement) (value read : A) → judged_value js value ≡ Ok read → AllGood js × (value ≡ read)
 good_of [] value read e = (tt, let same : value ≡ read = cc in same)
 good_of (j ∷ js) value read e =
     on_test _ j.good (λ f. let q = rw f at e in cc) (λ t. let more = good_of js value read (rw t at e) in ((t, more.0), more.1))
@@ -28,7 +28,7 @@ offence_unless : {A : Type 0} (o : Option Offence) (value : A) → offence_of (u
 offence_unless None value = refl
 offence_unless (Some offence) value = refl
 
-pub judged_offence : {A : Type 0} (js : List Judgement) (value : A) → offence_of (judged js value) ≡ first_offence js
+pub judged_offence : {A : Type 0} (js : List Judgement) (value : A) → offence_of (judged_value js value) ≡ first_offence js
 judged_offence js value = offence_unless (first_offence js) value
 
 -- a part whose value is only carried on
@@ -38,16 +38,16 @@ carried (Err offence) rest = refl
 
 -- one judgement before others
 pub behind : {A B : Type 0} (j : Judgement) (value : A) (rest : A → Result B Offence) (js : List Judgement)
-    → offence_of (rest value) ≡ first_offence js → offence_of (on_ok (judged (j ∷ []) value) rest) ≡ first_offence (j ∷ js)
+    → offence_of (rest value) ≡ first_offence js → offence_of (on_ok (judged_value (j ∷ []) value) rest) ≡ first_offence (j ∷ js)
 behind j value rest js same = on_test _ j.good (λ f. rw f refl) (λ t. rw t same)
 
 -- what one good judgement lets go on
 pub passed_on : {A B : Type 0} (j : Judgement) (value : A) (rest : A → Result B Offence) (read : B)
-    → on_ok (judged (j ∷ []) value) rest ≡ Ok read → (j.good ≡ true) × (rest value ≡ Ok read)
+    → on_ok (judged_value (j ∷ []) value) rest ≡ Ok read → (j.good ≡ true) × (rest value ≡ Ok read)
 passed_on j value rest read e = on_test _ j.good (λ f. let q = rw f at e in cc) (λ t. (t, rw t at e))
 
 -- a part that is refused, and nothing goes on from it
-pub refused_part : {A B : Type 0} (part : Result A Offence) (rest : A → Result B Offence) (o : Offence) → Err o ≡ part → Refuses (on_ok part rest) o
+pub refused_part : {A B : Type 0} (part : Result A Offence) (rest : A → Result B Offence) (o : Offence) → Err o ≡ part → AnswersOffence (on_ok part rest) o
 refused_part part rest (offence.Memory error) is = tt
 refused_part part rest (offence.Limit which) is = rw (← is) refl
 refused_part part rest (offence.At place why) is = rw (← is) refl

@@ -3,10 +3,10 @@ use Rattle.std.proofs.Common.{◌≡◌, ℕ, ◌+◌, List, [], ◌∷◌, ◌+
 use Rattle.std.proofs.lemmas.List.{append-nil}
 use Rattle.cc_base.specs.declared.why.Why.TheVariants as why
 use Rattle.cue_form.specs.Begun.{Begun, awaits_run, nothing}
-use Rattle.cue_form.specs.FirstFault.{EndsEarly, IsFirstFault}
+use Rattle.cue_form.specs.FirstFault.{IsFirstFault, RecordsEndEarly}
 use Rattle.cue_form.specs.Judgements.{Judgement, attribute_judgements, colour_judgements, field_judgements, first_offence, head_judgements, judgements, last_judgements, rolled_judgements, room_at, room_judgement, run_judgements, share_judgements, shown_judgements, standing_judgement, window_judgements}
 use Rattle.cue_form.specs.Form.{record_kind_of}
-use Rattle.cue_form.specs.Reading.{adds, attributes_of, colours_of, cue_of, head_of, in_record, list_ended, list_of, next, opens, read_from, run_of, runs_on, share_record_of}
+use Rattle.cue_form.specs.Reading.{adds, attributes_of, colours_of, cue_of, head_of, in_record, list_ended, next, opens, read_from, run_of, runs_on, share_record_of, spelled_list}
 use Rattle.cue_form.specs.Records.{Record, field}
 use Rattle.cue_types.specs.declared.cue.Cue.{Cue}
 use Rattle.cue_form.specs.declared.fault.CueFault.{CueFault}
@@ -45,7 +45,7 @@ length-more : (before : List Record) (r : Record) (number : ℕ) → number ≡ 
 length-more before r number e = rw length-append (omega arith)
 
 -- a list that ended too early
-ended_early : (before : List Record) (b : Begun) (head : Option Head) (number : ℕ) (f : CueFault) → Read before b → b.head ≡ head → number ≡ length before + 1 → list_ended b head number ≡ Err f → EndsEarly before f
+ended_early : (before : List Record) (b : Begun) (head : Option Head) (number : ℕ) (f : CueFault) → Read before b → b.head ≡ head → number ≡ length before + 1 → list_ended b head number ≡ Err f → RecordsEndEarly before f
 ended_early before b None number f so_far headed place taken =
     record { begun = b; begins = so_far.begins; lacks = inl headed; place = rw (← place) (let same : malformed.Malformed number 1 why.Field ≡ f = cc in sym same) }
 ended_early before b (Some head) number f so_far headed place taken =
@@ -77,5 +77,5 @@ fault_from before (r ∷ rs) b number f so_far place taken =
     rw (← append_assoc before (r ∷ []) rs) (fault_from (before ++ r ∷ []) rs more (number + 1) f (read_more before b more r so_far is_more) (length-more before r number place) t1))
 
 -- records that weren't read as a list have their first fault where the reading stopped
-pub list_of_fault : (rs : List Record) (f : CueFault) → list_of rs ≡ Err f → IsFirstFault rs f
+pub list_of_fault : (rs : List Record) (f : CueFault) → spelled_list rs ≡ Err f → IsFirstFault rs f
 list_of_fault rs f taken = fault_from [] rs nothing 1 f read_nothing (omega arith) taken

@@ -7,7 +7,7 @@ use Rattle.cc_base.specs.declared.limit_of.LimitOf.TheVariants as limit
 use Rattle.cue_form.specs.Begun.{Begun, awaits_run, nothing}
 use Rattle.cue_form.specs.Form.{record_kind_of}
 use Rattle.cue_form.specs.Judgements.{Judgement, attribute_judgements, colour_judgements, head_judgements, rolled_judgements, room_at, room_judgement, run_judgements, share_judgements, shown_judgements, standing_judgement, window_judgements}
-use Rattle.cue_form.specs.Reading.{adds, attributes_of, colours_of, cue_of, head_of, judged, list_ended, next, next_of_kind, on_ok, opens, read_from, read_list, read_on, run_of, runs_on, share_record_of}
+use Rattle.cue_form.specs.Reading.{adds, attributes_of, colours_of, cue_of, head_of, judged_value, list_ended, next, next_of_kind, on_ok, opens, read_from, read_list, read_on, run_of, runs_on, share_record_of}
 use Rattle.cue_form.specs.Records.{Record, field, records_of}
 use Rattle.cue_types.specs.Listing.{Listing}
 use Rattle.cue_types.specs.declared.cue.Cue.{Cue}
@@ -58,7 +58,7 @@ abbrev all_within : List Judgement → Bool
 all_within [] = true
 all_within (j ∷ js) = within_limits j.offence && all_within js
 
-judged_limits : {A : Type 0} (js : List Judgement) (value : A) → all_within js ≡ true → Limits (judged js value)
+judged_limits : {A : Type 0} (js : List Judgement) (value : A) → all_within js ≡ true → Limits (judged_value js value)
 judged_limits [] value each = tt
 judged_limits (j ∷ js) value each =
     let (here, rest) = both_of (within_limits j.offence) (all_within js) each in
@@ -82,7 +82,7 @@ cue_limits record_kind.Colour r = judged_limits (window_judgements r) _ refl
 
 opens_limits : (b : Begun) (kind : RecordKind) (r : Record) → Limits (opens b kind r)
 opens_limits b kind r =
-    on_limits (judged (room_judgement b ∷ []) b) _ (judged_limits (room_judgement b ∷ []) b refl) (λ b. on_limits (cue_of kind r) _ (cue_limits kind r) (λ cue. tt))
+    on_limits (judged_value (room_judgement b ∷ []) b) _ (judged_limits (room_judgement b ∷ []) b refl) (λ b. on_limits (cue_of kind r) _ (cue_limits kind r) (λ cue. tt))
 
 runs_limits : (b : Begun) (last : Option Cue) (r : Record) → Limits (runs_on b last r)
 runs_limits b None r = tt
@@ -103,7 +103,7 @@ adds_limits b record_kind.Colour r = on_limits (colours_of r) _ (judged_limits (
 kind_limits : (b : Begun) (k : Option RecordKind) (r : Record) → Limits (next_of_kind b k r)
 kind_limits b None r = tt
 kind_limits b (Some kind) r =
-    on_limits (judged (standing_judgement b kind ∷ []) b) _ (judged_limits (standing_judgement b kind ∷ []) b refl) (λ b. adds_limits b kind r)
+    on_limits (judged_value (standing_judgement b kind ∷ []) b) _ (judged_limits (standing_judgement b kind ∷ []) b refl) (λ b. adds_limits b kind r)
 
 next_limits : (b : Begun) (r : Record) → Limits (next b r)
 next_limits b r = kind_limits b (record_kind_of (field r 0)) r

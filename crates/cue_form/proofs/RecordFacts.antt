@@ -21,9 +21,9 @@ use Rattle.cue_types.specs.Line21Cues.{IsAuthoredChannel, IsLine21Pen, IsLine21R
 use Rattle.cue_types.specs.Shares.{IsShare, shares_taken}
 use Rattle.cue_types.specs.Windows.{AreWindowAttributes, IsWindow, IsWindowRun}
 use Rattle.cue_form.specs.Fields.{channel_field, fill_field, frame_field, is_two_bits, named, number_field, number_within, pen_field, rate_field, rgb_field}
-use Rattle.cue_form.specs.Form.{columns_of, first_row, frame_or_none_field, is_coded, last_row, run_pen_field, suits_row, version_words}
+use Rattle.cue_form.specs.Form.{cue_columns, first_row, frame_or_none_field, is_coded, last_row, run_pen_field, suits_row, version_words}
 use Rattle.cue_form.specs.Judgements.{attribute_judgements, colour_judgements, head_judgements, rolled_judgements, run_judgements, share_judgements, shown_judgements, window_judgements}
-use Rattle.cue_form.specs.Reading.{attributes_of, channel, colours_of, cue_of, fill, head_of, number, rgb, rolled_cue_of, run_of, share_record_of, shown_cue_of, window_cue_of}
+use Rattle.cue_form.specs.Reading.{attributes_of, colours_of, cue_of, head_of, number, record_channel, record_fill, rgb, rolled_cue_of, run_of, share_record_of, shown_cue_of, window_cue_of}
 use Rattle.cue_form.specs.Records.{Field, Record, field}
 use Rattle.cue_form.specs.Spelling.{attribute_record, channel_word, colour_record, cue_record, fill_word, head_record, hide_word, pen_word, rgb_word, run_record, share_record, wrap_number}
 use Rattle.cue_types.specs.declared.cue.Cue.{Cue}
@@ -135,7 +135,7 @@ fill_passed (o ∷ (r ∷ (g ∷ (b ∷ [])))) value e =
 pub rgb_good : (r : Record) (place : ℕ) → is_some (rgb_field (field r place)) ≡ true → (field r place ≡ rgb_word (rgb r place)) × IsRgb (rgb r place)
 rgb_good r place good = with_value _ (rgb_field (field r place)) (λ none. let q = rw none at good in cc) (λ value is. rw is (rgb_passed (field r place) value is))
 
-pub fill_good : (r : Record) (place : ℕ) → is_some (fill_field (field r place)) ≡ true → (field r place ≡ fill_word (fill r place)) × IsFill (fill r place)
+pub fill_good : (r : Record) (place : ℕ) → is_some (fill_field (field r place)) ≡ true → (field r place ≡ fill_word (record_fill r place)) × IsFill (record_fill r place)
 fill_good r place good = with_value _ (fill_field (field r place)) (λ none. let q = rw none at good in cc) (λ value is. rw is (fill_passed (field r place) value is))
 
 -- what a head has
@@ -441,7 +441,7 @@ pub record RunPassed (k : Kind) (runs : List Run) (r : Record) (run : Run) : Typ
 record PartsPassed (k : Kind) (runs : List Run) (r : Record) (row col : ℕ) (p : Pen) (text : List ℕ) : Type 0 where
   in_row : (field r 1 ≡ decimal row) × (first_row k ≤ row) × (row ≤ last_row k)
   suits : suits_row k runs row ≡ true
-  in_col : (field r 2 ≡ decimal col) × (0 ≤ col) × (col ≤ columns_of k - 1)
+  in_col : (field r 2 ≡ decimal col) × (0 ≤ col) × (col ≤ cue_columns k - 1)
   pen : run_pen_field k (field r 3) ≡ Some p
   written : TextPassed k col (field r 4) text
   all : r ≡ field r 0 ∷ field r 1 ∷ field r 2 ∷ field r 3 ∷ field r 4 ∷ []
@@ -458,14 +458,14 @@ run_parts P k runs r run e rest =
     let g4 = g2.1.1 in
     let g5 = g4.1 in
     with_value P (number_within (first_row k) (last_row k) (field r 1)) (λ none. let q = rw none at good.1.0 in cc) (λ row is_row.
-    with_value P (number_within 0 (columns_of k - 1) (field r 2)) (λ none. let q = rw none at g2.1.0 in cc) (λ col is_col.
+    with_value P (number_within 0 (cue_columns k - 1) (field r 2)) (λ none. let q = rw none at g2.1.0 in cc) (λ col is_col.
     with_value P (run_pen_field k (field r 3)) (λ none. let q = rw none at g4.0 in cc) (λ p is_pen.
     rest row col p (chars (field r 4)) (record {
       in_row = within_passed (first_row k) (last_row k) (field r 1) row is_row;
       suits = let suits : suits_row k runs row ≡ true = rw is_row at g2.0 in suits;
-      in_col = within_passed 0 (columns_of k - 1) (field r 2) col is_col;
+      in_col = within_passed 0 (cue_columns k - 1) (field r 2) col is_col;
       pen = is_pen;
-      written = text_passed k col (field r 4) g5.0 g5.1.0 (let fits : nat_le (col + length (chars (field r 4))) (columns_of k) ≡ true = rw is_col at g5.1.1.0 in fits);
+      written = text_passed k col (field r 4) g5.0 g5.1.0 (let fits : nat_le (col + length (chars (field r 4))) (cue_columns k) ≡ true = rw is_col at g5.1.1.0 in fits);
       all = fields_listed 5 r good.0;
     }) (rw (is_row, is_col, is_pen) at same))))
 

@@ -11,9 +11,9 @@ use Rattle.cue_types.specs.Coloured.{coloured}
 use Rattle.cue_types.specs.Listing.{Listing}
 use Rattle.cue_form.specs.Form.{awaits_attributes, awaits_colours, is_bare_window, is_second, is_window, last_is_plain, may_stand, record_kind_of}
 use Rattle.cue_form.specs.Judgements.{room_at}
-use Rattle.cue_form.specs.Reading.{adds, attributes_of, colours_of, head_of, list_of, next, opens, read_from, run_of, share_record_of}
+use Rattle.cue_form.specs.Reading.{adds, attributes_of, colours_of, head_of, next, opens, read_from, run_of, share_record_of, spelled_list}
 use Rattle.cue_form.specs.Records.{Record, field}
-use Rattle.cue_form.specs.Spelling.{BeginsList, Spells, attribute_record, attribute_records, begun_records, colour_record, cue_record, cue_records, head_record, head_records, run_record, run_records, share_record}
+use Rattle.cue_form.specs.Spelling.{BeginsList, SpellsList, attribute_record, attribute_records, begun_records, colour_record, cue_record, cue_records, head_record, head_records, run_record, run_records, share_record}
 use Rattle.cue_types.specs.declared.cue.Cue.{Cue}
 use Rattle.cue_types.specs.declared.cue.Kind.{Kind}
 use Rattle.cue_types.specs.declared.cue.Kind.TheVariants as kind
@@ -205,7 +205,7 @@ read_nothing = record { begins = (refl, IsBegun-nothing) }
 
 -- a list that ended well
 ended_spells : (before : List Record) (b : Begun) (head : Head) → Read before b → b.head ≡ Some head → awaits_run b.last ≡ false
-    → Spells before (record { rate = head.rate; frames = head.frames; shares = b.shares; cues = cues_of b })
+    → SpellsList before (record { rate = head.rate; frames = head.frames; shares = b.shares; cues = cues_of b })
 ended_spells before b head so_far is full =
     record {
       version = head.version;
@@ -214,7 +214,7 @@ ended_spells before b head so_far is full =
       allowed = (headed b head so_far.begins.1 is).version;
     }
 
-pub spelled_from : (before rs : List Record) (b : Begun) (number : ℕ) (l : Listing) → Read before b → read_from b number rs ≡ Ok l → Spells (before ++ rs) l
+pub spelled_from : (before rs : List Record) (b : Begun) (number : ℕ) (l : Listing) → Read before b → read_from b number rs ≡ Ok l → SpellsList (before ++ rs) l
 spelled_from before [] b number l so_far taken =
     with_value _ b.head (λ none. let q = rw none at taken in cc) (λ head is.
     let t1 = rw is at taken in
@@ -228,5 +228,5 @@ spelled_from before (r ∷ rs) b number l so_far taken =
     rw (← append_assoc before (r ∷ []) rs) (spelled_from (before ++ r ∷ []) rs more (number + 1) l (read_more before b more r so_far is_more) t1))
 
 -- records that were read as a list spell it
-pub list_of_spelled : (rs : List Record) (l : Listing) → list_of rs ≡ Ok l → Spells rs l
+pub list_of_spelled : (rs : List Record) (l : Listing) → spelled_list rs ≡ Ok l → SpellsList rs l
 list_of_spelled rs l taken = spelled_from [] rs nothing 1 l read_nothing taken

@@ -6,7 +6,7 @@ use Rattle.std.proofs.lemmas.List.{append-nil}
 use Rattle.std.proofs.lemmas.List.Elements.{All-cons, All-nil, All-pop}
 use Rattle.cue_form.specs.Begun.{AreOfVersion, Begun, IsBegun, IsPlain, awaits_run, nothing}
 use Rattle.cue_form.specs.FirstFault.{IsFirstFault}
-use Rattle.cue_form.specs.Reading.{list_ended, list_of, next, read_from}
+use Rattle.cue_form.specs.Reading.{list_ended, next, read_from, spelled_list}
 use Rattle.cue_form.specs.Records.{Record}
 use Rattle.cue_form.specs.Spelling.{BeginsList, begun_records, cue_records, head_record, share_record}
 use Rattle.cue_types.specs.declared.cue.Cue.{Cue}
@@ -64,22 +64,22 @@ lacking b None number awaits = refl
 lacking b (Some head) number awaits = rw awaits refl
 
 -- the records before, and what is read behind them
-after_begun : (before rest : List Record) (b : Begun) → BeginsList before b → list_of (before ++ rest) ≡ read_from b (length before + 1) rest
+after_begun : (before rest : List Record) (b : Begun) → BeginsList before b → spelled_list (before ++ rest) ≡ read_from b (length before + 1) rest
 after_begun before rest b begins =
     let read = (read_back b begins.1).read 1 rest in
     let count : 1 + length before ≡ length before + 1 = omega arith in
-    subst (λ (rs : List Record). list_of (rs ++ rest) ≡ read_from b (length before + 1) rest) (sym begins.0)
+    subst (λ (rs : List Record). spelled_list (rs ++ rest) ≡ read_from b (length before + 1) rest) (sym begins.0)
     (read ∙ ap (λ (n : ℕ). read_from b n rest) (ap (λ (rs : List Record). 1 + length rs) (sym begins.0) ∙ count))
 
 -- records that have a first fault are answered with it
-pub first_fault_read : (rs : List Record) (f : CueFault) → IsFirstFault rs f → list_of rs ≡ Err f
+pub first_fault_read : (rs : List Record) (f : CueFault) → IsFirstFault rs f → spelled_list rs ≡ Err f
 first_fault_read rs f (inl stops) =
     let read = after_begun stops.before (stops.offender ∷ stops.after) stops.begun stops.begins in
     let refused = refused_from (next stops.begun stops.offender) stops.offence (next_judged stops.begun stops.offender ∙ stops.offends) in
-    ap list_of stops.split ∙ (read ∙ rw (refused, stops.place) refl)
+    ap spelled_list stops.split ∙ (read ∙ rw (refused, stops.place) refl)
 first_fault_read rs f (inr early) =
     let read = after_begun rs [] early.begun early.begins in
-    let whole : list_of rs ≡ list_of (rs ++ []) = ap list_of (sym (append-nil rs)) in
+    let whole : spelled_list rs ≡ spelled_list (rs ++ []) = ap spelled_list (sym (append-nil rs)) in
     elim early.lacks [
       | inl none ↦ whole ∙ (read ∙ rw (none, early.place) refl)
       | inr awaits ↦ whole ∙ (read ∙ (lacking early.begun early.begun.head (length rs + 1) awaits ∙ rw early.place refl))

@@ -8,20 +8,20 @@ use Rattle.cue_form.specs.declared.offence.Offence.{Offence}
 use Rattle.cue_form.specs.declared.offence.Offence.TheVariants as offence
 
 -- the offence that is due; want of memory may come in its place
-abbrev pub Refuses : {A : Type 0} → Result A Offence → Offence → Type 0
-Refuses due (offence.Memory error) = ⊤
-Refuses due (offence.Limit which) = due ≡ Err (offence.Limit which)
-Refuses due (offence.At place why) = due ≡ Err (offence.At place why)
+abbrev pub AnswersOffence : {A : Type 0} → Result A Offence → Offence → Type 0
+AnswersOffence due (offence.Memory error) = ⊤
+AnswersOffence due (offence.Limit which) = due ≡ Err (offence.Limit which)
+AnswersOffence due (offence.At place why) = due ≡ Err (offence.At place why)
 
 -- the value that is due, or the offence
 abbrev pub Gives : {A : Type 0} → Result A Offence → Result A Offence → Type 0
 Gives due (Ok value) = due ≡ Ok value
-Gives due (Err offence) = Refuses due offence
+Gives due (Err offence) = AnswersOffence due offence
 
 -- the begun list that is due, or the offence
 abbrev pub GivesBegun : {A : Type 0} → Result Begun Offence → Result A Offence → Begun → Type 0
 GivesBegun due (Ok _) new = due ≡ Ok new
-GivesBegun due (Err offence) new = Refuses due offence
+GivesBegun due (Err offence) new = AnswersOffence due offence
 
 -- the cue list that is due, or the fault; want of memory may come in their place
 abbrev pub Answers : Result Listing CueFault → Result Listing CueFault → Type 0

@@ -24,7 +24,7 @@ pub record OffendsIn (records : List Record) (fault : CueFault) : Type 0 where
   pub place : fault ≡ in_record (length before + 1) offence
 
 -- all records begin a list, which can't end there: it has no head, or a cue without a run
-pub record EndsEarly (records : List Record) (fault : CueFault) : Type 0 where
+pub record RecordsEndEarly (records : List Record) (fault : CueFault) : Type 0 where
   pub begun : Begun
   pub begins : BeginsList records begun
   pub lacks : (begun.head ≡ None) ⊎ (awaits_run begun.last ≡ true)
@@ -32,7 +32,7 @@ pub record EndsEarly (records : List Record) (fault : CueFault) : Type 0 where
 
 -- the first fault of these records
 abbrev pub IsFirstFault : List Record → CueFault → Type 0
-IsFirstFault records fault = OffendsIn records fault ⊎ EndsEarly records fault
+IsFirstFault records fault = OffendsIn records fault ⊎ RecordsEndEarly records fault
 
 -- a fault, unless memory ran out, is the first one
 abbrev pub FaultsFirst : List Record → CueFault → Type 0

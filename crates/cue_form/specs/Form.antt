@@ -112,11 +112,11 @@ last_row (kind.Roll channel rows) = 15
 last_row (kind.Win window) = window.rows - 1
 
 -- the columns of a cue's rows
-abbrev pub columns_of : Kind → ℕ
-columns_of (kind.Pop channel) = 32
-columns_of (kind.Paint channel) = 32
-columns_of (kind.Roll channel rows) = 32
-columns_of (kind.Win window) = window.cols
+abbrev pub cue_columns : Kind → ℕ
+cue_columns (kind.Pop channel) = 32
+cue_columns (kind.Paint channel) = 32
+cue_columns (kind.Roll channel rows) = 32
+cue_columns (kind.Win window) = window.cols
 
 -- the row of a run suits its cue: a roll-up cue's runs stand on the row of the first, with room for its rows
 abbrev pub suits_row : Kind → List Run → ℕ → Bool

@@ -10,7 +10,7 @@ use Rattle.cc_base.specs.declared.why.Why.TheVariants as why
 use Rattle.cc_base.specs.Options.{passes}
 use Rattle.cue_form.specs.Begun.{Begun, cues_of}
 use Rattle.cue_form.specs.Fields.{channel_field, fill_field, frame_field, named, number_field, number_within, rate_field, rgb_field}
-use Rattle.cue_form.specs.Form.{columns_of, count_place, first_row, frame_or_none_field, is_coded, last_row, may_stand, record_kind_of, run_pen_field, suits_row, version_words}
+use Rattle.cue_form.specs.Form.{count_place, cue_columns, first_row, frame_or_none_field, is_coded, last_row, may_stand, record_kind_of, run_pen_field, suits_row, version_words}
 use Rattle.cue_form.specs.Records.{Record, field}
 use Rattle.cue_types.specs.Listing.{most_cues, most_frames}
 use Rattle.cue_types.specs.Shares.{share_room, shares_taken}
@@ -138,11 +138,11 @@ run_judgements kind runs r =
     count_judgement r 5
     ∷ within r 1 (first_row kind) (last_row kind)
     ∷ judge (passes (suits_row kind runs) (number_within (first_row kind) (last_row kind) (field r 1))) 2 why.Field
-    ∷ within r 2 0 (columns_of kind - 1)
+    ∷ within r 2 0 (cue_columns kind - 1)
     ∷ judge (is_some (run_pen_field kind (field r 3))) 4 why.Field
     ∷ judge (is_utf8 (field r 4) && nat_lt 0 (length (field r 4))) 5 why.Field
     ∷ judge (list_all (is_coded kind) (chars (field r 4))) 5 why.NoCode
-    ∷ judge (passes (λ col. nat_le (col + length (chars (field r 4))) (columns_of kind)) (number_within 0 (columns_of kind - 1) (field r 2))) 5 why.Field
+    ∷ judge (passes (λ col. nat_le (col + length (chars (field r 4))) (cue_columns kind)) (number_within 0 (cue_columns kind - 1) (field r 2))) 5 why.Field
     ∷ []
 
 -- colour,FG,BG,EDGE

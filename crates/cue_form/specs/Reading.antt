@@ -11,7 +11,7 @@ use Rattle.dtvcc_codes.specs.declared.pens.Rgb.{Rgb}
 use Rattle.dtvcc_codes.specs.declared.windows.WinAttr.{WinAttr}
 use Rattle.cue_form.specs.Begun.{Begun, nothing, cues_of, with_cue, cue_with_run, cue_with_attributes, cue_with_colours, awaits_run}
 use Rattle.cue_form.specs.Fields.{channel_field, fill_field, frame_field, named, number_field, number_within, rate_field, rgb_field}
-use Rattle.cue_form.specs.Form.{columns_of, first_row, frame_or_none_field, last_row, record_kind_of, run_pen_field, version_words}
+use Rattle.cue_form.specs.Form.{cue_columns, first_row, frame_or_none_field, last_row, record_kind_of, run_pen_field, version_words}
 use Rattle.cue_form.specs.Judgements.{Judgement, attribute_judgements, colour_judgements, first_offence, head_judgements, rolled_judgements, room_at, room_judgement, run_judgements, share_judgements, shown_judgements, standing_judgement, window_judgements}
 use Rattle.cue_form.specs.Records.{Record, field, records_of}
 use Rattle.cue_types.specs.Listing.{Listing}
@@ -41,8 +41,8 @@ unless None value = Ok value
 unless (Some offence) value = Err offence
 
 -- the value of a record, unless one of its judgements isn't good
-abbrev pub judged : {A : Type 0} → List Judgement → A → Result A Offence
-judged js value = unless (first_offence js) value
+abbrev pub judged_value : {A : Type 0} → List Judgement → A → Result A Offence
+judged_value js value = unless (first_offence js) value
 
 -- a number in its range
 abbrev pub number : Record → ℕ → ℕ → ℕ → ℕ
@@ -53,15 +53,15 @@ abbrev pub frame : Record → ℕ → ℕ
 frame r place = unwrap_or (frame_field (field r place)) 0
 
 -- colours of their digits
-abbrev pub fill : Record → ℕ → Fill
-fill r place = unwrap_or (fill_field (field r place)) (record { opacity = 0; r = 0; g = 0; b = 0 })
+abbrev pub record_fill : Record → ℕ → Fill
+record_fill r place = unwrap_or (fill_field (field r place)) (record { opacity = 0; r = 0; g = 0; b = 0 })
 
 abbrev pub rgb : Record → ℕ → Rgb
 rgb r place = unwrap_or (rgb_field (field r place)) (record { r = 0; g = 0; b = 0 })
 
 -- ccsuite,VERSION,RATE,FRAMES
 abbrev pub head_of : Record → Result Head Offence
-head_of r = judged (head_judgements r) (record {
+head_of r = judged_value (head_judgements r) (record {
   version = unwrap_or (named version_words (field r 1)) version.One;
   rate = unwrap_or (rate_field (field r 2)) rate.F2997;
   frames = unwrap_or (number_field (field r 3)) 0;
@@ -70,35 +70,35 @@ head_of r = judged (head_judgements r) (record {
 -- share,SERVICE,BYTES
 abbrev pub share_record_of : ℕ → List Share → Record → Result Share Offence
 share_record_of room shares r =
-    judged (share_judgements room shares r) (record { service = number r 1 1 6; bytes = number r 2 8 31 })
+    judged_value (share_judgements room shares r) (record { service = number r 1 1 6; bytes = number r 2 8 31 })
 
 -- the channel of a cue
-abbrev pub channel : Record → Chan
-channel r = unwrap_or (channel_field (field r 1)) chan.Cc1
+abbrev pub record_channel : Record → Chan
+record_channel r = unwrap_or (channel_field (field r 1)) chan.Cc1
 
 -- pop,CH,LOAD,SHOW,HIDE and paint,CH,LOAD,SHOW,HIDE, as a cue which has no run yet
 abbrev pub shown_cue_of : (Chan → Kind) → Record → Result Cue Offence
-shown_cue_of kind r = judged (shown_judgements r) (record {
+shown_cue_of kind r = judged_value (shown_judgements r) (record {
   load = frame r 2;
   show = frame r 3;
   hide = Some (frame r 4);
-  kind = kind (channel r);
+  kind = kind (record_channel r);
   runs = [];
 })
 
 -- roll,CH,N,LOAD,SHOW,HIDE
 abbrev pub rolled_cue_of : Record → Result Cue Offence
-rolled_cue_of r = judged (rolled_judgements r) (record {
+rolled_cue_of r = judged_value (rolled_judgements r) (record {
   load = frame r 3;
   show = frame r 4;
   hide = unwrap_or (frame_or_none_field (field r 5)) None;
-  kind = kind.Roll (channel r) (number r 2 2 4);
+  kind = kind.Roll (record_channel r) (number r 2 2 4);
   runs = [];
 })
 
 -- win,SERVICE,ID,LOAD,SHOW,HIDE,DELAY,ANCHOR,AV,AH,ROWS,COLS,PRIORITY,WS,PS
 abbrev pub window_cue_of : Record → Result Cue Offence
-window_cue_of r = judged (window_judgements r) (record {
+window_cue_of r = judged_value (window_judgements r) (record {
   load = frame r 3;
   show = frame r 4;
   hide = Some (frame r 5);
@@ -121,7 +121,7 @@ window_cue_of r = judged (window_judgements r) (record {
 
 -- attr,JUSTIFY,PRINT,SCROLL,WRAP,EFFECT,DIR,SPEED,FILL,KIND,BORDER
 abbrev pub attributes_of : Record → Result WinAttr Offence
-attributes_of r = judged (attribute_judgements r) (record {
+attributes_of r = judged_value (attribute_judgements r) (record {
   justify = number r 1 0 3;
   print = number r 2 0 3;
   scroll = number r 3 0 3;
@@ -129,16 +129,16 @@ attributes_of r = judged (attribute_judgements r) (record {
   effect = number r 5 0 2;
   effect_dir = number r 6 0 3;
   effect_speed = number r 7 0 15;
-  fill = fill r 8;
+  fill = record_fill r 8;
   border_kind = number r 9 0 5;
   border = rgb r 10;
 })
 
 -- run,ROW,COL,PEN,TEXT of a cue of a kind, after these runs
 abbrev pub run_of : Kind → List Run → Record → Result Run Offence
-run_of kind runs r = judged (run_judgements kind runs r) (record {
+run_of kind runs r = judged_value (run_judgements kind runs r) (record {
   row = number r 1 (first_row kind) (last_row kind);
-  col = number r 2 0 (columns_of kind - 1);
+  col = number r 2 0 (cue_columns kind - 1);
   pen = unwrap_or (run_pen_field kind (field r 3)) (pen.Dtv false false);
   text = chars (field r 4);
   colors = None;
@@ -146,7 +146,7 @@ run_of kind runs r = judged (run_judgements kind runs r) (record {
 
 -- colour,FG,BG,EDGE
 abbrev pub colours_of : Record → Result PenColors Offence
-colours_of r = judged (colour_judgements r) (record { fg = fill r 1; bg = fill r 2; edge = rgb r 3 })
+colours_of r = judged_value (colour_judgements r) (record { fg = record_fill r 1; bg = record_fill r 2; edge = rgb r 3 })
 
 -- the cue of a record of its kind
 abbrev pub cue_of : RecordKind → Record → Result Cue Offence
@@ -157,7 +157,7 @@ cue_of _ r = window_cue_of r
 
 -- the list with one cue more, of which there are 20,000 at most
 abbrev pub opens : Begun → RecordKind → Record → Result Begun Offence
-opens b kind r = on_ok (judged (room_judgement b ∷ []) b) (λ b. on_ok (cue_of kind r) (λ cue. Ok (with_cue b cue)))
+opens b kind r = on_ok (judged_value (room_judgement b ∷ []) b) (λ b. on_ok (cue_of kind r) (λ cue. Ok (with_cue b cue)))
 
 -- the list with one run more
 abbrev pub runs_on : Begun → Option Cue → Record → Result Begun Offence
@@ -176,7 +176,7 @@ adds b kind r = opens b kind r
 -- the list with a record more of a kind that is known, where it may stand
 abbrev pub next_of_kind : Begun → Option RecordKind → Record → Result Begun Offence
 next_of_kind b None r = Err (offence.At 1 why.Field)
-next_of_kind b (Some kind) r = on_ok (judged (standing_judgement b kind ∷ []) b) (λ b. adds b kind r)
+next_of_kind b (Some kind) r = on_ok (judged_value (standing_judgement b kind ∷ []) b) (λ b. adds b kind r)
 
 -- the list with a record more: its kind word is judged first, then the number of its fields, then its fields from the left
 abbrev pub next : Begun → Record → Result Begun Offence
@@ -207,9 +207,9 @@ read_from b number [] = list_ended b b.head number
 read_from b number (r ∷ rs) = read_on number (next b r) (λ more. read_from more (number + 1) rs)
 
 -- the cue list that records spell, or their first fault
-abbrev pub list_of : List Record → Result Listing CueFault
-list_of records = read_from nothing 1 records
+abbrev pub spelled_list : List Record → Result Listing CueFault
+spelled_list records = read_from nothing 1 records
 
 -- the cue list that bytes spell, or the first fault of their records
 abbrev pub read_list : List ℕ → Result Listing CueFault
-read_list bytes = list_of (records_of bytes)
+read_list bytes = spelled_list (records_of bytes)

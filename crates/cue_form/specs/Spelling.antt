@@ -133,7 +133,7 @@ list_records version l =
     ∷ (map share_record l.shares ++ flat_map cue_records l.cues)
 
 -- these records spell this cue list, in a version that has what it has
-pub record Spells (records : List Record) (l : Listing) : Type 0 where
+pub record SpellsList (records : List Record) (l : Listing) : Type 0 where
   pub version : Version
   pub are : records ≡ list_records version l
   pub formed : IsFormed l

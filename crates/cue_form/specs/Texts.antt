@@ -4,7 +4,7 @@ use Rattle.std.specs.List.{list_all}
 use Rattle.std.specs.Str.{is_utf8}
 use Rattle.cc_base.specs.declared.why.Why.{Why}
 use Rattle.cc_base.specs.declared.why.Why.TheVariants as why
-use Rattle.cue_form.specs.Form.{columns_of, is_coded}
+use Rattle.cue_form.specs.Form.{cue_columns, is_coded}
 use Rattle.cue_form.specs.Records.{Field}
 use Rattle.cue_types.specs.declared.cue.Kind.{Kind}
 use Rattle.cue_form.specs.declared.offence.Offence.{Offence}
@@ -15,9 +15,9 @@ abbrev pub must : {A : Type 0} → Bool → Why → Result A Offence → Result 
 must good why rest = if good then rest else Err (offence.At 5 why)
 
 -- the text of a run that begins at a column
-abbrev pub text_of : Kind → ℕ → Field → Result (List ℕ) Offence
-text_of kind col text =
+abbrev pub run_text_of : Kind → ℕ → Field → Result (List ℕ) Offence
+run_text_of kind col text =
     must (is_utf8 text && nat_lt 0 (length text)) why.Field
     (must (list_all (is_coded kind) (chars text)) why.NoCode
-    (must (nat_le (col + length (chars text)) (columns_of kind)) why.Field
+    (must (nat_le (col + length (chars text)) (cue_columns kind)) why.Field
     (Ok (chars text))))

@@ -3,7 +3,7 @@ ghost use Rattle.cue_form.specs.Answers.{Answers};
 ghost use Rattle.cue_form.specs.FirstFault.{FaultsFirst};
 ghost use Rattle.cue_form.specs.Reading.{read_list};
 ghost use Rattle.cue_form.specs.Records.{list_limit, records_of};
-ghost use Rattle.cue_form.specs.Spelling.{Spells};
+ghost use Rattle.cue_form.specs.Spelling.{SpellsList};
 
 use crate::draft::Draft;
 use crate::fault::CueFault;
@@ -23,7 +23,7 @@ pub fn parse(alloc: Global, bytes: &[u8]) -> Result<CueList, CueFault>
     ensures answer { Answers (read_list bytes.now) result }
 
     // The records spell the list that they gave.
-    ensures spelled { IfOk result (λ list. Spells (records_of bytes.now) list) }
+    ensures spelled { IfOk result (λ list. SpellsList (records_of bytes.now) list) }
 
     // Where memory lasts, the fault is the first one.
     ensures fault { IfErr result (λ fault. FaultsFirst (records_of bytes.now) fault) }

@@ -1,8 +1,8 @@
 ghost use Rattle.std.specs.Prelude.{◌≡◌, ◌≤◌, length, chars};
 ghost use Rattle.std.specs.List.{list_all};
 ghost use Rattle.cue_form.specs.Answers.{Gives};
-ghost use Rattle.cue_form.specs.Form.{columns_of, is_coded};
-ghost use Rattle.cue_form.specs.Texts.{text_of};
+ghost use Rattle.cue_form.specs.Form.{cue_columns, is_coded};
+ghost use Rattle.cue_form.specs.Texts.{run_text_of};
 
 use crate::offence::{Offence, out_of_form};
 use cc_base::Why;
@@ -15,7 +15,7 @@ use std::str;
 /// The text of a run that begins at a column, in a cue of the kind. It is judged for its bytes, then for its characters, then
 /// for its length.
 pub fn read_text(alloc: Global, kind: Kind, col: u8, text: &[u8]) -> Result<Text, Offence>
-    ensures { Gives (text_of kind col text.now) result }
+    ensures { Gives (run_text_of kind col text.now) result }
 {
     let Ok(text) = str::from_utf8(text) else {
         return Err(out_of_form(5));
@@ -40,7 +40,7 @@ pub fn read_text(alloc: Global, kind: Kind, col: u8, text: &[u8]) -> Result<Text
 
 /// The columns of the rows of a cue of the kind: 32, or those of its window.
 pub fn columns_of(kind: Kind) -> u8
-    ensures { result ≡ columns_of kind }
+    ensures { result ≡ cue_columns kind }
 {
     match kind {
         Kind::Win(window) => window.cols,

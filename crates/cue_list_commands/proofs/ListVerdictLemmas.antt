@@ -6,7 +6,7 @@ use Rattle.cue_lists.specs.Listing.{Listing}
 use Rattle.cue_lists.specs.Reading.{read_list}
 use Rattle.cue_lists.specs.Records.{records_of}
 use Rattle.cue_lists.specs.Rules.{HasFault, IsRuled}
-use Rattle.cue_lists.specs.Spelling.{Spells}
+use Rattle.cue_lists.specs.Spelling.{SpellsList}
 use Rattle.cue_lists.specs.declared.fault.CueFault.{CueFault}
 use Rattle.cue_lists.specs.declared.fault.CueFault.TheVariants as fault
 use Rattle.cue_lists.specs.declared.rules.RuleFault.{RuleFault}
@@ -28,16 +28,16 @@ use Rattle.cue_lists.proofs.ListLimits.{no_want_of_memory}
 use Rattle.cue_list_commands.proofs.Refusals.{form_refused, ok_is_no_fault, refused_list}
 
 -- bytes that spell a list are read as it
-spelled_read : (bytes : List ℕ) (list : Listing) → Spells (records_of bytes) list → read_list bytes ≡ Ok list
+spelled_read : (bytes : List ℕ) (list : Listing) → SpellsList (records_of bytes) list → read_list bytes ≡ Ok list
 spelled_read bytes list spelled = list_of-spelled (records_of bytes) list spelled
 
 -- so they have no fault
-spelled_faultless : (bytes : List ℕ) (list : Listing) (f : CueFault) → Spells (records_of bytes) list → IsFaulty bytes f → ⊥
+spelled_faultless : (bytes : List ℕ) (list : Listing) (f : CueFault) → SpellsList (records_of bytes) list → IsFaulty bytes f → ⊥
 spelled_faultless bytes list f spelled faulty =
     ok_is_no_fault list f (sym (spelled_read bytes list spelled) ∙ first_fault_read (records_of bytes) f faulty.first)
 
 -- and they spell one list
-spelled_one : (bytes : List ℕ) (a b : Listing) → Spells (records_of bytes) a → Spells (records_of bytes) b → a ≡ b
+spelled_one : (bytes : List ℕ) (a b : Listing) → SpellsList (records_of bytes) a → SpellsList (records_of bytes) b → a ≡ b
 spelled_one bytes a b spelled_a spelled_b =
     let one : read_list bytes ≡ Ok a = spelled_read bytes a spelled_a in
     let two : read_list bytes ≡ Ok b = spelled_read bytes b spelled_b in
@@ -47,7 +47,7 @@ pub good_once : (bytes : List ℕ) (a b : Listing) → IsGoodList bytes a → Is
 good_once bytes a b good_a good_b = spelled_one bytes a b good_a.spelled good_b.spelled
 
 -- a list that keeps the rules breaks none
-spelled_unbroken : (bytes : List ℕ) (list : Listing) (fault : RuleFault) → Spells (records_of bytes) list → IsRuled list → BreaksRule bytes fault → ⊥
+spelled_unbroken : (bytes : List ℕ) (list : Listing) (fault : RuleFault) → SpellsList (records_of bytes) list → IsRuled list → BreaksRule bytes fault → ⊥
 spelled_unbroken bytes list fault spelled ruled breaks =
     let same = spelled_one bytes breaks.list list breaks.spelled spelled in
     ruled_has_none list fault spelled.formed ruled (subst (λ l. HasFault l fault) same breaks.broken)
@@ -166,7 +166,7 @@ fault_refused bytes (fault.Malformed rec field why) within is =
 abbrev Judged : List ℕ → Type 0
 Judged bytes = ((list : Listing) × (placed : Placement) × IsAccepted bytes list placed) ⊎ ((answer : Status) × IsRefused bytes answer)
 
-list_judged : (bytes : List ℕ) (list : Listing) → length bytes ≤ list_limit → Spells (records_of bytes) list → Judged bytes
+list_judged : (bytes : List ℕ) (list : Listing) → length bytes ≤ list_limit → SpellsList (records_of bytes) list → Judged bytes
 list_judged bytes list within spelled =
     elim (ruled_or_broken list) [
       | inl ruled ↦ elim (list_decided list spelled.formed ruled) [

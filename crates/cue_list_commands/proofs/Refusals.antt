@@ -13,14 +13,14 @@ use Rattle.cue_lists.specs.declared.fault.CueFault.TheVariants as fault
 use Rattle.cue_lists.proofs.ListLimits.{limit_of_records}
 use Rattle.cue_list_commands.specs.Accepted.{IsGoodList, IsRefused, IsRefusedList, list_limit}
 use Rattle.command_base.proofs.WholeInputLemmas.{AreRefusals}
-use Rattle.command_base.specs.WholeInput.{Judges}
+use Rattle.command_base.specs.WholeInput.{JudgesInput}
 use Rattle.cue_list_commands.specs.Reads.{IsProgrammeOf, form_status}
 use Rattle.command_base.specs.declared.status.Status.{Status}
 use Rattle.command_base.specs.declared.status.Status.TheVariants as status
 
 -- a list whose form is at fault is refused with the fault's status
 pub form_refused : (bytes : List ℕ) (f : CueFault) → length bytes ≤ list_limit → Answers (read_list bytes) (Err f) → FaultsFirst (records_of bytes) f
-    → Judges IsGoodList IsRefusedList bytes (Err (form_status f))
+    → JudgesInput IsGoodList IsRefusedList bytes (Err (form_status f))
 form_refused bytes (fault.Memory error) within due first = tt
 form_refused bytes (fault.Limit limit.Bytes) within due first = absurd (limit_of_records bytes limit.Bytes due)
 form_refused bytes (fault.Limit limit.Frames) within due first = record { within = within; first = first }
@@ -35,7 +35,7 @@ refused_list bytes (status.NoRoom cue) refused = absurd refused
 refused_list bytes _ refused = refused
 
 -- a list that isn't good has no programme
-pub no_programme : (bytes : List ℕ) (s : Status) → Judges IsGoodList IsRefusedList bytes (Err s) → Judges IsProgrammeOf IsRefused bytes (Err s)
+pub no_programme : (bytes : List ℕ) (s : Status) → JudgesInput IsGoodList IsRefusedList bytes (Err s) → JudgesInput IsProgrammeOf IsRefused bytes (Err s)
 no_programme bytes status.Memory judged = tt
 no_programme bytes (status.NoRoom cue) judged = absurd judged
 no_programme bytes _ judged = judged
@@ -56,6 +56,6 @@ pub ok_is_no_fault : {A E : Type 0} (value : A) (error : E) → Ok value ≢ Err
 ok_is_no_fault value error same = cc
 
 -- a list that is judged to be good keeps the rules
-pub ruled_of : (bytes : List ℕ) (answer : Result Listing Status) → Judges IsGoodList IsRefusedList bytes answer → IfOk answer (λ list. IsRuled list)
+pub ruled_of : (bytes : List ℕ) (answer : Result Listing Status) → JudgesInput IsGoodList IsRefusedList bytes answer → IfOk answer (λ list. IsRuled list)
 ruled_of bytes (Ok list) good = good.ruled
 ruled_of bytes (Err refusal) good = tt

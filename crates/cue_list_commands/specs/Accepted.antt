@@ -6,7 +6,7 @@ use Rattle.cue_lists.specs.Listing.{Listing}
 pub use Rattle.cue_lists.specs.Records.{list_limit}
 use Rattle.cue_lists.specs.Records.{records_of}
 use Rattle.cue_lists.specs.Rules.{HasFault, IsRuled}
-use Rattle.cue_lists.specs.Spelling.{Spells}
+use Rattle.cue_lists.specs.Spelling.{SpellsList}
 use Rattle.cue_lists.specs.declared.fault.CueFault.{CueFault}
 use Rattle.cue_lists.specs.declared.fault.CueFault.TheVariants as fault
 use Rattle.cue_lists.specs.declared.rules.RuleFault.{RuleFault}
@@ -19,7 +19,7 @@ use Rattle.command_base.specs.declared.status.Status.TheVariants as status
 -- frames
 pub record IsAccepted (bytes : List ℕ) (list : Listing) (placed : Placement) : Type 0 where
   pub within : length bytes ≤ list_limit
-  pub spelled : Spells (records_of bytes) list
+  pub spelled : SpellsList (records_of bytes) list
   pub ruled : IsRuled list
   pub placement : IsListPlaced list placed
 
@@ -32,21 +32,21 @@ pub record IsFaulty (bytes : List ℕ) (fault : CueFault) : Type 0 where
 pub record BreaksRule (bytes : List ℕ) (fault : RuleFault) : Type 0 where
   pub list : Listing
   pub within : length bytes ≤ list_limit
-  pub spelled : Spells (records_of bytes) list
+  pub spelled : SpellsList (records_of bytes) list
   pub broken : HasFault list fault
 
 -- the records of the bytes spell a list that keeps the rules, and this cue is the first without a placement
 pub record LacksRoom (bytes : List ℕ) (cue : ℕ) : Type 0 where
   pub list : Listing
   pub within : length bytes ≤ list_limit
-  pub spelled : Spells (records_of bytes) list
+  pub spelled : SpellsList (records_of bytes) list
   pub ruled : IsRuled list
   pub first : IsFirstWithoutRoom list cue
 
 -- the records of the bytes spell a cue list that keeps the rules; whether it can be placed isn't asked
 pub record IsGoodList (bytes : List ℕ) (list : Listing) : Type 0 where
   pub within : length bytes ≤ list_limit
-  pub spelled : Spells (records_of bytes) list
+  pub spelled : SpellsList (records_of bytes) list
   pub ruled : IsRuled list
 
 -- the bytes are refused with this status, and with no other

@@ -4,14 +4,14 @@ use Rattle.line21_codes.specs.declared.pairs.Pair.{Pair}
 use Rattle.frame_scheduler.specs.Columns.{Columns}
 
 -- the upper-case hex digit of a number below 16
-abbrev pub hex_digit : ℕ → ℕ
-hex_digit n = slice_index (codes "0123456789ABCDEF") n
+abbrev pub upper_hex_digit : ℕ → ℕ
+upper_hex_digit n = slice_index (codes "0123456789ABCDEF") n
 
 -- a pair as four upper-case hex digits, or `----` where the frame has no slot of the field
 abbrev pub pair_text : Option Pair → List ℕ
 pair_text None = codes "----"
 pair_text (Some pair) =
-    hex_digit (pair.a / 16) ∷ hex_digit (pair.a % 16) ∷ hex_digit (pair.b / 16) ∷ hex_digit (pair.b % 16) ∷ []
+    upper_hex_digit (pair.a / 16) ∷ upper_hex_digit (pair.a % 16) ∷ upper_hex_digit (pair.b / 16) ∷ upper_hex_digit (pair.b % 16) ∷ []
 
 -- the line of a frame: `AAAA BBBB` and a line feed
 abbrev pub pair_line : Option Pair → Option Pair → List ℕ

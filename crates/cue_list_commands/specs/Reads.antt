@@ -7,7 +7,7 @@ use Rattle.frame_scheduler.specs.Frames.{GivesFrom, frames_left}
 use Rattle.frame_scheduler.specs.Planned.{Placement, columns_of}
 use Rattle.cue_list_commands.specs.declared.programme.Programme.{Programme}
 use Rattle.cue_list_commands.specs.Accepted.{IsAccepted, IsGoodList, IsRefused, IsRefusedList}
-use Rattle.command_base.specs.WholeInput.{Reads}
+use Rattle.command_base.specs.WholeInput.{ReadsInput}
 use Rattle.command_base.specs.declared.status.Place.TheVariants.{Field}
 use Rattle.command_base.specs.declared.status.Status.{Status}
 use Rattle.command_base.specs.declared.status.Status.TheVariants as status
@@ -29,8 +29,8 @@ pub record IsProgrammeOf (bytes : List ℕ) (programme : Programme) : Type 0 whe
 
 -- an input gives the programme of its list, or is refused
 abbrev pub ReadsProgramme : Option (List ℕ) → Option (List ℕ) → ℕ → ℕ → Result Programme Status → Type 0
-ReadsProgramme old new before now result = Reads IsProgrammeOf IsRefused old new before now result
+ReadsProgramme old new before now result = ReadsInput IsProgrammeOf IsRefused old new before now result
 
 -- an input gives its list, or is refused
 abbrev pub ReadsList : Option (List ℕ) → Option (List ℕ) → ℕ → ℕ → Result Listing Status → Type 0
-ReadsList old new before now result = Reads IsGoodList IsRefusedList old new before now result
+ReadsList old new before now result = ReadsInput IsGoodList IsRefusedList old new before now result

@@ -1,6 +1,6 @@
 ghost use Rattle.std.specs.Prelude.{◌≡◌, ◌≤◌, IfOk, length};
 ghost use Rattle.cue_list_commands.specs.Accepted.{IsGoodList, IsRefused, IsRefusedList, list_limit};
-ghost use Rattle.command_base.specs.WholeInput.{Judges};
+ghost use Rattle.command_base.specs.WholeInput.{JudgesInput};
 ghost use Rattle.cue_lists.specs.Rules.{IsRuled};
 ghost use Rattle.cue_list_commands.specs.Reads.{IsProgrammeOf, ReadsList, ReadsProgramme, form_status};
 
@@ -35,7 +35,7 @@ pub fn read_list<M: Source>(alloc: Global, input: &mut M) -> Result<CueList, Sta
 /// Judges the bytes of a cue list.
 fn judge(alloc: Global, bytes: &[u8]) -> Result<Programme, Status>
     requires { length bytes.now ≤ list_limit }
-    ensures { Judges IsProgrammeOf IsRefused bytes.now result }
+    ensures { JudgesInput IsProgrammeOf IsRefused bytes.now result }
 {
     let list = match judge_list(alloc, bytes) {
         Ok(list) => list,
@@ -54,7 +54,7 @@ fn judge(alloc: Global, bytes: &[u8]) -> Result<Programme, Status>
 /// Judges all but the placement of a cue list.
 fn judge_list(alloc: Global, bytes: &[u8]) -> Result<CueList, Status>
     requires { length bytes.now ≤ list_limit }
-    ensures { Judges IsGoodList IsRefusedList bytes.now result }
+    ensures { JudgesInput IsGoodList IsRefusedList bytes.now result }
 {
     let list = match parse(alloc, bytes) {
         Ok(list) => list,

@@ -1,12 +1,12 @@
 ghost use Rattle.std.specs.Prelude.{◌≡◌, ◌<◌};
-ghost use Rattle.cue_list_commands.specs.Lines.{hex_digit, pair_line, pair_text};
+ghost use Rattle.cue_list_commands.specs.Lines.{pair_line, pair_text, upper_hex_digit};
 
 use line21_codes::Pair;
 
 /// The upper-case hex digit of a number below 16.
 fn hex_digit_at(n: u8) -> u8
     requires { n < 16 }
-    ensures { result ≡ hex_digit n }
+    ensures { result ≡ upper_hex_digit n }
 {
     b"0123456789ABCDEF"[usize::from(n)]
 }

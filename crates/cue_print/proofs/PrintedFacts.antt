@@ -10,8 +10,8 @@ use Rattle.csv.proofs.RoundTrip.{read-write, rows_text}
 use Rattle.dtvcc_codes.specs.declared.pens.PenColors.{PenColors}
 use Rattle.dtvcc_codes.specs.declared.windows.WinAttr.{WinAttr}
 use Rattle.cue_types.specs.Listing.{IsFormed, Listing}
-use Rattle.cue_print.specs.Printing.{bytes_of, flexible_writer, in_order, list_bytes}
-use Rattle.cue_form.specs.Reading.{list_of, read_list}
+use Rattle.cue_print.specs.Printing.{flexible_writer, in_order, list_bytes, record_bytes}
+use Rattle.cue_form.specs.Reading.{read_list, spelled_list}
 use Rattle.cue_form.specs.Records.{Field, Record, records_of}
 use Rattle.cue_form.specs.Spelling.{attribute_records, colour_records, cue_record, cue_records, list_records, run_record, run_records, share_record, window_attribute_records}
 use Rattle.cue_types.specs.declared.cue.Cue.{Cue}
@@ -45,7 +45,7 @@ row_same : (fields : Record) → row_text flexible_writer fields ≡ row_text de
 row_same [] = rw (blank_same []) refl
 row_same (f ∷ fs) = rw (escaped_same f, fields_same fs, blank_same (f ∷ fs)) refl
 
-rows_same : (rows : List Record) → bytes_of rows ≡ rows_text rows
+rows_same : (rows : List Record) → record_bytes rows ≡ rows_text rows
 unfolding rows_text
 rows_same [] = refl
 rows_same (row ∷ rows) = rw (row_same row, rows_same rows) refl
@@ -123,15 +123,15 @@ list_kept : (v : Version) (l : Listing) → map read_back (list_records v l) ≡
 list_kept v l = rw (map-append read_back (map share_record l.shares) (flat_map cue_records l.cues), shares_kept l.shares, cues_kept l.cues) refl
 
 -- the bytes of a list are read back as its records
-pub records_of-bytes : (v : Version) (l : Listing) → records_of (bytes_of (list_records v l)) ≡ list_records v l
+pub records_of-bytes : (v : Version) (l : Listing) → records_of (record_bytes (list_records v l)) ≡ list_records v l
 records_of-bytes v l =
     let rows = list_records v l in
-    let plain : strip_bom (bytes_of rows) ≡ rows_text rows = no_mark _ _ ∙ rows_same rows in
+    let plain : strip_bom (record_bytes rows) ≡ rows_text rows = no_mark _ _ ∙ rows_same rows in
     let long = rows_long rows in
     rw plain (all_read rows (length (rows_text rows) + 1) (omega arith) ∙ list_kept v l)
 
 -- a list with its shares in order is in form
 pub read_list-list_bytes : (l : Listing) → IsFormed l → read_list (list_bytes l) ≡ Ok (in_order l)
 read_list-list_bytes l formed =
-    ap list_of (records_of-bytes version.Two (in_order l))
+    ap spelled_list (records_of-bytes version.Two (in_order l))
     ∙ list_of-spelled (list_records version.Two (in_order l)) (in_order l) (record { version = version.Two; are = refl; formed = in_order_formed l formed; allowed = tt })

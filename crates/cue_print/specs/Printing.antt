@@ -15,8 +15,8 @@ abbrev pub flexible_writer : WriterBuilder
 flexible_writer = with_flexible default_writer true
 
 -- the bytes of records
-abbrev pub bytes_of : List Record → List ℕ
-bytes_of records = flat_map (row_text flexible_writer) records
+abbrev pub record_bytes : List Record → List ℕ
+record_bytes records = flat_map (row_text flexible_writer) records
 
 -- the share of a service, if the list has one
 abbrev pub share_list : Listing → ℕ → List Share
@@ -28,7 +28,7 @@ in_order l = record l { shares = flat_map (share_list l) (1 ∷ 2 ∷ 3 ∷ 4 �
 
 -- the bytes of a cue list, which is always written in version 2
 abbrev pub list_bytes : Listing → List ℕ
-list_bytes l = bytes_of (list_records version.Two (in_order l))
+list_bytes l = record_bytes (list_records version.Two (in_order l))
 
 -- a writer between two records
 pub record IsBetweenRecords {W : Type 0} (writer : Writer W) : Type 0 where
@@ -43,4 +43,4 @@ bytes_given items writer = items (writer_under writer) ++ writer_pending writer
 -- the writer wrote these records, and stands between two
 pub record Wrote {W : Type 0} (items : W → List ℕ) (old new : Writer W) (records : List Record) : Type 0 where
   pub between : IsBetweenRecords new
-  pub bytes : bytes_given items new ≡ bytes_given items old ++ bytes_of records
+  pub bytes : bytes_given items new ≡ bytes_given items old ++ record_bytes records

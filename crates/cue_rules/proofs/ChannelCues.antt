@@ -8,7 +8,7 @@ use Rattle.line21_codes.specs.declared.channels.Chan.TheVariants as chan
 use Rattle.cue_types.specs.Channels.{same_channel, is_on, cues_on}
 use Rattle.cue_types.specs.Cues.{IsCueFormed, IsOfKind}
 use Rattle.cue_rules.specs.Rules.Former.{nearest, former_cue}
-use Rattle.cue_types.specs.Lane.{lane_of, channel_number, same_lane, on_lane, is_line21, is_pop, is_roll}
+use Rattle.cue_types.specs.Lane.{kind_lane, channel_number, same_lane, on_lane, is_line21, is_pop, is_roll}
 use Rattle.cue_types.specs.declared.cue.Cue.{Cue}
 use Rattle.cue_types.specs.declared.cue.Kind.{Kind}
 use Rattle.cue_types.specs.declared.cue.Kind.TheVariants as kind
@@ -37,7 +37,7 @@ same_number chan.Cc4 chan.Cc4 = refl
 same_number _ _ = refl
 
 -- a cue on a channel has the channel for its lane
-pub lane_of_on : (channel : Chan) (k : Kind) → is_on channel k ≡ true → lane_of k ≡ lane.Channel channel
+pub lane_of_on : (channel : Chan) (k : Kind) → is_on channel k ≡ true → kind_lane k ≡ lane.Channel channel
 lane_of_on channel (kind.Pop own) on = ap lane.Channel (same_channel_is channel own on)
 lane_of_on channel (kind.Paint own) on = ap lane.Channel (same_channel_is channel own on)
 lane_of_on channel (kind.Roll own rows) on = ap lane.Channel (same_channel_is channel own on)
@@ -51,7 +51,7 @@ line21_on channel (kind.Roll own rows) on = refl
 line21_on channel (kind.Win window) on = cc
 
 -- a channel's lane has the cues on the channel
-pub on_lane_is : (channel : Chan) (k : Kind) → same_lane (lane.Channel channel) (lane_of k) ≡ is_on channel k
+pub on_lane_is : (channel : Chan) (k : Kind) → same_lane (lane.Channel channel) (kind_lane k) ≡ is_on channel k
 on_lane_is channel (kind.Pop own) = same_number channel own
 on_lane_is channel (kind.Paint own) = same_number channel own
 on_lane_is channel (kind.Roll own rows) = same_number channel own

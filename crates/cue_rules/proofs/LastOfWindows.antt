@@ -24,7 +24,7 @@ use Rattle.cue_rules.specs.Rules.Alternatives.{first_broken, hide_is}
 use Rattle.cue_rules.specs.Rules.Delay.{delay_of, delay_start, event_frames}
 use Rattle.cue_rules.specs.Rules.DelayCovers.{delays_cross, same_service}
 use Rattle.cue_rules.specs.Rules.Former.{former_cue, nearest, nearest_number}
-use Rattle.cue_rules.specs.Rules.Formers.{Remembers, cue_at, is_in_window, last_below, last_in, later, number_if}
+use Rattle.cue_rules.specs.Rules.Formers.{Remembers, is_in_window, last_below, last_in, later, number_if, numbered_cue}
 use Rattle.cue_rules.specs.declared.rules.formers.Formers.{Formers}
 use Rattle.cue_rules.specs.Rules.Order.{loads_before_it_loads, order}
 use Rattle.cue_rules.specs.Rules.Sentences.{KeepsClear}
@@ -135,12 +135,12 @@ nearest_below k cues last w zero are faded = sym (none_passes (λ c. false) cues
     each [] = tt
     each (c ∷ cs) = (refl, each cs)
 nearest_below k cues last w (suc n) are faded =
-    ap (λ o. later o (number_if k (last n) (cue_at (reverse cues) (last n)))) (nearest_below k cues last w n (λ i below. are i (omega arith)) faded)
+    ap (λ o. later o (number_if k (last n) (numbered_cue (reverse cues) (last n)))) (nearest_below k cues last w n (λ i below. are i (omega arith)) faded)
     ∙ ap (later (nearest_number (λ c. passes_below n w c && k c) cues)) here
     ∙ nearest_either (λ c. passes_below n w c && k c) (λ c. w n c && k c) cues
     ∙ nearest_same (λ c. (passes_below n w c && k c) || (w n c && k c)) (λ c. (passes_below n w c || w n c) && k c) cues (each cues)
   where
-    here : number_if k (last n) (cue_at (reverse cues) (last n)) ≡ nearest_number (λ c. w n c && k c) cues
+    here : number_if k (last n) (numbered_cue (reverse cues) (last n)) ≡ nearest_number (λ c. w n c && k c) cues
     here = rw (are n (omega arith), ← nearest_at (w n) cues) (last_stands (w n) k cues (faded n))
 
     shared : (a b d : Bool) → ((a && d) || (b && d)) ≡ ((a || b) && d)
@@ -241,7 +241,7 @@ in_window_is w (kind.Win v) = refl
 pub window_tells : (list : Listing) (w : WinCue) (cue : Cue) (cues : List Cue) (last : Option ℕ) → cue.kind ≡ kind.Win w
     → is_in_window w.service w.id cue.kind ≡ true
     → AllByRecursion IsCueFormed cues → AreFaultless list cues → last ≡ nearest_number (λ c. is_in_window w.service w.id c.kind) cues
-    → number_if (keeps_window cue) last (cue_at (reverse cues) last) ≡ nearest_number (keeps_window cue) cues
+    → number_if (keeps_window cue) last (numbered_cue (reverse cues) last) ≡ nearest_number (keeps_window cue) cues
 window_tells list w cue cues last is on formed kept remembered =
     rw (remembered, ← nearest_at (λ c. is_in_window w.service w.id c.kind) cues)
     (last_stands (λ c. is_in_window w.service w.id c.kind) (keeps_window cue) cues (windows_faded list w.service w.id cue cues on formed kept))
@@ -282,7 +282,7 @@ formed_back cues formed = recursion_from_All IsCueFormed (reverse cues) (All-rev
 -- the number that is found is that of the nearest that is busy
 pub busy_number : (list : Listing) (w : WinCue) (cue : Cue) (cues : List Cue) (formers : Formers) (last found : Option ℕ) → IsCueFormed cue
     → cue.kind ≡ kind.Win w → All IsCueFormed cues → Remembers formers (reverse cues) → AreFaultless list (reverse cues)
-    → last ≡ last_in formers w.service w.id → found ≡ number_if (keeps_window cue) last (cue_at cues last)
+    → last ≡ last_in formers w.service w.id → found ≡ number_if (keeps_window cue) last (numbered_cue cues last)
     → found ≡ nearest_number (keeps_window cue) (reverse cues)
 busy_number list w cue cues formers last found formed is all remembers kept at finds =
     let window : IsWindow w = window_formed cue w formed is in

@@ -11,7 +11,7 @@ use Rattle.cue_rules.specs.Rules.Alternatives.{first_broken}
 use Rattle.cue_rules.specs.Rules.Clash.{clash}
 use Rattle.cue_rules.specs.Rules.DelayCovers.{delay_covers}
 use Rattle.cue_rules.specs.Rules.Former.{nearest, nearest_number, former_cue, former_number}
-use Rattle.cue_types.specs.Lane.{lane_of, on_lane}
+use Rattle.cue_types.specs.Lane.{kind_lane, on_lane}
 use Rattle.cue_rules.specs.Rules.Order.{order}
 use Rattle.cue_rules.specs.Rules.Overlap.{overlap}
 use Rattle.cue_rules.specs.Rules.OffSlot.{off_slot}
@@ -107,7 +107,7 @@ former_is : (earlier : List Cue) (cue : Cue) (number : Option ℕ) (former : Opt
     → number ≡ former_number cue (reverse earlier) → former ≡ option_and_then (λ n. slice_get earlier (n - 1)) number
     → former ≡ former_cue cue (reverse earlier)
 former_is earlier cue number former en ef =
-    ef ∙ rw en (sym (nearest_at (on_lane (lane_of cue.kind)) (reverse earlier)
+    ef ∙ rw en (sym (nearest_at (on_lane (kind_lane cue.kind)) (reverse earlier)
     ∙ rw reverse-reverse refl))
 
 -- a cue that breaks the rule Order has its fault

@@ -7,7 +7,7 @@ use Rattle.std.proofs.lemmas.List.{append-nil, reverse-reverse}
 use Rattle.std.proofs.lemmas.List.Elements.{filter-append, filter_passes, recursion_from_All}
 use Rattle.cue_types.specs.Channels.{cues_of_service, is_of_service}
 use Rattle.cue_rules.specs.Rules.Former.{former_cue, nearest}
-use Rattle.cue_types.specs.Lane.{is_win, lane_of, on_lane, same_lane}
+use Rattle.cue_types.specs.Lane.{is_win, kind_lane, on_lane, same_lane}
 use Rattle.cue_types.specs.declared.cue.Cue.{Cue}
 use Rattle.cue_types.specs.declared.cue.Kind.{Kind}
 use Rattle.cue_types.specs.declared.cue.Kind.TheVariants as kind
@@ -16,7 +16,7 @@ use Rattle.cue_types.specs.declared.lane.Lane.TheVariants as lane
 use Rattle.cue_rules.proofs.ChannelCues.{newest, reverse-cons}
 
 -- a cue of a service has the service for its lane
-lane_of_service : (service : ℕ) (k : Kind) → is_of_service service k ≡ true → lane_of k ≡ lane.Service service
+lane_of_service : (service : ℕ) (k : Kind) → is_of_service service k ≡ true → kind_lane k ≡ lane.Service service
 lane_of_service service (kind.Pop channel) on = cc
 lane_of_service service (kind.Paint channel) on = cc
 lane_of_service service (kind.Roll channel rows) on = cc
@@ -30,7 +30,7 @@ window_of_service service (kind.Roll channel rows) on = cc
 window_of_service service (kind.Win window) on = refl
 
 -- a service's lane has the cues of the service
-of_service_is : (service : ℕ) (k : Kind) → same_lane (lane.Service service) (lane_of k) ≡ is_of_service service k
+of_service_is : (service : ℕ) (k : Kind) → same_lane (lane.Service service) (kind_lane k) ≡ is_of_service service k
 of_service_is service (kind.Pop channel) = refl
 of_service_is service (kind.Paint channel) = refl
 of_service_is service (kind.Roll channel rows) = refl

@@ -9,11 +9,11 @@ use Rattle.cue_types.specs.declared.lane.Lane.{Lane}
 use Rattle.cue_types.specs.declared.lane.Lane.TheVariants as lane
 
 -- the lane of a kind of cue
-abbrev pub lane_of : Kind → Lane
-lane_of (kind.Pop channel) = lane.Channel channel
-lane_of (kind.Paint channel) = lane.Channel channel
-lane_of (kind.Roll channel rows) = lane.Channel channel
-lane_of (kind.Win window) = lane.Service window.service
+abbrev pub kind_lane : Kind → Lane
+kind_lane (kind.Pop channel) = lane.Channel channel
+kind_lane (kind.Paint channel) = lane.Channel channel
+kind_lane (kind.Roll channel rows) = lane.Channel channel
+kind_lane (kind.Win window) = lane.Service window.service
 
 -- the number of a channel's name, CC1 to CC4
 abbrev pub channel_number : Chan → ℕ
@@ -31,7 +31,7 @@ same_lane (lane.Service a) (lane.Service b) = a == b
 
 -- the cue is sent on this lane
 abbrev pub on_lane : Lane → Cue → Bool
-on_lane lane cue = same_lane lane (lane_of cue.kind)
+on_lane lane cue = same_lane lane (kind_lane cue.kind)
 
 -- a line 21 cue, on a channel
 abbrev pub is_line21 : Kind → Bool

@@ -1,5 +1,5 @@
 ghost use Rattle.std.specs.Prelude.{◌≡◌};
-ghost use Rattle.cue_types.specs.Lane.{lane_of, is_line21, is_win, is_pop, is_paint, is_roll};
+ghost use Rattle.cue_types.specs.Lane.{kind_lane, is_line21, is_win, is_pop, is_paint, is_roll};
 
 use crate::cue::Kind;
 use line21_codes::Chan;
@@ -15,7 +15,7 @@ pub enum Lane {
 
 /// The lane of a kind of cue.
 pub fn lane_of(kind: Kind) -> Lane
-    ensures { result ≡ lane_of kind }
+    ensures { result ≡ kind_lane kind }
 {
     match kind {
         Kind::Pop(channel) | Kind::Paint(channel) | Kind::Roll(channel, _) => Lane::Channel(

@@ -16,7 +16,7 @@ use Rattle.dtvcc_codes.specs.Writing.{written}
 use Rattle.dtvcc_author.specs.EventBytes.{command_bytes, delay_bytes, events_bytes}
 use Rattle.dtvcc_author.specs.FrameEvents.{delay_commands, delayed_at, event_bytes, has_event_at, is_delayed_at, is_hidden_at, is_shown_at, names, windows_byte, windows_command}
 use Rattle.dtvcc_author.specs.Kept.{AreKept, Follows, IsSoundCaption}
-use Rattle.dtvcc_author.specs.Latest.{AreEventsOf, IsAt, IsQuietUpTo, caption_in, delay_of, latest_behind, latest_of}
+use Rattle.dtvcc_author.specs.Latest.{AreEventsOf, IsLatestAt, IsQuietUpTo, caption_delay, caption_in, latest_behind, latest_of}
 use Rattle.dtvcc_author.specs.declared.caption.Caption.{Caption}
 use Rattle.dtvcc_author.specs.declared.frame_events.Delay.{Delay}
 use Rattle.dtvcc_author.specs.declared.frame_events.FrameEvents.{FrameEvents}
@@ -152,7 +152,7 @@ module _ (rate : Rate) (frames frame : ℕ) (test : Caption → Bool)
       at true holds rest = absurd (let when = timely c kept.0 holds in omega (arith, when.0, behind.0))
 
   -- so a window is named exactly where the test holds of its last caption
-  pub window_named : (cs : List Caption) (latest : Latest) (id : ℕ) → AreKept rate frames cs → IsAt cs frame latest → id < 8
+  pub window_named : (cs : List Caption) (latest : Latest) (id : ℕ) → AreKept rate frames cs → IsLatestAt cs frame latest → id < 8
       → names test cs id ≡ passes test (caption_in latest id)
   window_named cs latest id kept at small =
       let front = take latest.next cs in
@@ -226,7 +226,7 @@ starts_timely rate frames frame c sound test =
     (omega (arith, sound.loaded), omega (arith, sound.after, sound.hidden))
 
 -- so the windows of each test are named by the last captions
-module _ (rate : Rate) (frames frame : ℕ) (cs : List Caption) (latest : Latest) (kept : AreKept rate frames cs) (is : IsAt cs frame latest) where
+module _ (rate : Rate) (frames frame : ℕ) (cs : List Caption) (latest : Latest) (kept : AreKept rate frames cs) (is : IsLatestAt cs frame latest) where
   pub hidden_named : (id : ℕ) → id < 8 → names (is_hidden_at frame) cs id ≡ passes (is_hidden_at frame) (caption_in latest id)
   hidden_named id small = window_named rate frames frame (is_hidden_at frame) (hidden_timely rate frames frame) cs latest id kept is small
 
@@ -272,7 +272,7 @@ command_is rate frames test cs kept command code spells = at (list_any test cs) 
         rw zeros refl
 
 -- the bytes of a delay
-pub delays_written : (found : Option Caption) → flat_map written (delay_commands found) ≡ delay_bytes (option_map delay_of found)
+pub delays_written : (found : Option Caption) → flat_map written (delay_commands found) ≡ delay_bytes (option_map caption_delay found)
 unfolding written
 delays_written None = refl
 delays_written (Some c) = refl
@@ -334,10 +334,10 @@ find_none test (c ∷ cs) none = at (test c) refl (λ rest. find_none test cs re
     at true holds rest = let e = rw holds at none in cc
     at false holds rest = rest (rw holds at none)
 
-module _ (rate : Rate) (frames frame : ℕ) (cs : List Caption) (latest : Latest) (kept : AreKept rate frames cs) (is : IsAt cs frame latest) where
+module _ (rate : Rate) (frames frame : ℕ) (cs : List Caption) (latest : Latest) (kept : AreKept rate frames cs) (is : IsLatestAt cs frame latest) where
   -- the delay of a window's last caption, where it starts in the frame, is the one that starts there
   pub delay_found : (delay : Delay) (id : ℕ) (c : Caption) → caption_in latest id ≡ Some c → is_delayed_at frame c ≡ true → id < 8
-      → (c.id ≡ id → delay ≡ delay_of c) → Some delay ≡ option_map delay_of (delayed_at frame cs)
+      → (c.id ≡ id → delay ≡ caption_delay c) → Some delay ≡ option_map caption_delay (delayed_at frame cs)
   delay_found delay id c there holds small same = from (latest_is None (take latest.next cs) id c (sym (is.windows id small) ∙ there))
     where
       more : (xs ys : List Caption) → Has c xs → Has c (xs ++ ys)
@@ -345,7 +345,7 @@ module _ (rate : Rate) (frames frame : ℕ) (cs : List Caption) (latest : Latest
       more (x ∷ xs) ys (inl one) = inl one
       more (x ∷ xs) ys (inr has) = inr (more xs ys has)
 
-      from : (None ≡ Some c) ⊎ (Has c (take latest.next cs) × (c.id ≡ id)) → Some delay ≡ option_map delay_of (delayed_at frame cs)
+      from : (None ≡ Some c) ⊎ (Has c (take latest.next cs) × (c.id ≡ id)) → Some delay ≡ option_map caption_delay (delayed_at frame cs)
       from (inl none) = cc
       from (inr (has, in_it)) =
           let whole : take latest.next cs ++ drop latest.next cs ≡ cs = take-append-drop latest.next cs in
@@ -355,10 +355,10 @@ module _ (rate : Rate) (frames frame : ℕ) (cs : List Caption) (latest : Latest
 
   -- where no last caption's delay starts in the frame, none does
   pub delay_none : ((id : ℕ) → id < 8 → passes (is_delayed_at frame) (caption_in latest id) ≡ false)
-      → None ≡ option_map delay_of (delayed_at frame cs)
+      → None ≡ option_map caption_delay (delayed_at frame cs)
   delay_none fails = at (list_any (is_delayed_at frame) cs) refl
     where
-      at : (b : Bool) → list_any (is_delayed_at frame) cs ≡ b → None ≡ option_map delay_of (delayed_at frame cs)
+      at : (b : Bool) → list_any (is_delayed_at frame) cs ≡ b → None ≡ option_map caption_delay (delayed_at frame cs)
       at false none = let found = find_none (is_delayed_at frame) cs none in rw found refl
       at true some =
           let found = some_named rate frames (is_delayed_at frame) cs kept some in
@@ -387,7 +387,7 @@ quiet_is frame (Some c) none =
     fails false = refl
 
 -- where the last caption of no window has an event in the frame, the frame has none
-pub quiet_events : (rate : Rate) (frames frame : ℕ) (cs : List Caption) (latest : Latest) → AreKept rate frames cs → IsAt cs frame latest
+pub quiet_events : (rate : Rate) (frames frame : ℕ) (cs : List Caption) (latest : Latest) → AreKept rate frames cs → IsLatestAt cs frame latest
     → length latest.windows ≡ 8 → list_any (passes (has_event_at frame)) latest.windows ≡ false
     → AreEventsOf frame cs (record { hidden = 0; shown = 0; delay = None })
 quiet_events rate frames frame cs latest kept is eight none = record {
@@ -417,7 +417,7 @@ pub record IsPassing (cs : List Caption) (frame : ℕ) (latest : Latest) : Type 
   pub quiet : IsQuietUpTo latest.windows frame latest.quiet
 
 -- those passed before an earlier frame are passed
-pub passing_start : (cs : List Caption) (from frame : ℕ) (latest : Latest) → from ≤ frame → IsAt cs from latest → IsPassing cs frame latest
+pub passing_start : (cs : List Caption) (from frame : ℕ) (latest : Latest) → from ≤ frame → IsLatestAt cs from latest → IsPassing cs frame latest
 passing_start cs from frame latest low is = record {
   within = is.within;
   before = before_later (take latest.next cs) is.before;
@@ -464,8 +464,8 @@ quiet_more frame index windows within none here =
     ∙ rw (none, here) refl
 
 -- at a frame, with other frames that have no event
-pub at_quiet : (cs : List Caption) (frame quiet : ℕ) (latest : Latest) → IsAt cs frame latest → IsQuietUpTo latest.windows frame quiet
-    → IsAt cs frame (record latest { quiet = quiet })
+pub at_quiet : (cs : List Caption) (frame quiet : ℕ) (latest : Latest) → IsLatestAt cs frame latest → IsQuietUpTo latest.windows frame quiet
+    → IsLatestAt cs frame (record latest { quiet = quiet })
 at_quiet cs frame quiet latest is none = record {
   within = is.within;
   before = is.before;
@@ -510,7 +510,7 @@ loads_behind frame c [] low follow = tt
 loads_behind frame c (x ∷ xs) low follow = (omega (arith, low, follow.0.in_order), loads_behind frame c xs low follow.1)
 
 -- all that are loaded before the frame are passed where none is left, or the next one isn't loaded before it
-pub passed_all : (cs : List Caption) (frame : ℕ) (latest : Latest) → IsPassing cs frame latest → length cs ≤ latest.next → IsAt cs frame latest
+pub passed_all : (cs : List Caption) (frame : ℕ) (latest : Latest) → IsPassing cs frame latest → length cs ≤ latest.next → IsLatestAt cs frame latest
 passed_all cs frame latest passing end = record {
   within = passing.within;
   before = passing.before;
@@ -520,7 +520,7 @@ passed_all cs frame latest passing end = record {
 }
 
 pub passed_up_to : (rate : Rate) (frames : ℕ) (cs : List Caption) (frame : ℕ) (latest : Latest) (c : Caption) → AreKept rate frames cs
-    → IsPassing cs frame latest → latest.next < length cs → c ≡ get_or cs latest.next c → frame ≤ c.load → IsAt cs frame latest
+    → IsPassing cs frame latest → latest.next < length cs → c ≡ get_or cs latest.next c → frame ≤ c.load → IsLatestAt cs frame latest
 passed_up_to rate frames cs frame latest c kept passing within is later =
     let rest : drop latest.next cs ≡ c ∷ drop (latest.next + 1) cs =
     drop_more cs latest.next c within ∙ ap (λ d. d ∷ drop (latest.next + 1) cs) (sym is) in
@@ -552,10 +552,10 @@ kept_at rate frames cs k c kept within is =
     subst (IsSoundCaption rate frames) (sym is) (all_get (IsSoundCaption rate frames) cs k c (kept_all rate frames cs kept) within)
 
 -- what is found of a delay in the windows is the delay that starts in the frame
-pub delay_is : (rate : Rate) (frames frame : ℕ) (cs : List Caption) (latest : Latest) → AreKept rate frames cs → IsAt cs frame latest → (result : Option Delay)
-    → IfSome result (λ delay. (id : ℕ) × ((c : Caption) × (caption_in latest id ≡ Some c) × (is_delayed_at frame c ≡ true) × (id < 8) × (c.id ≡ id → delay ≡ delay_of c)))
+pub delay_is : (rate : Rate) (frames frame : ℕ) (cs : List Caption) (latest : Latest) → AreKept rate frames cs → IsLatestAt cs frame latest → (result : Option Delay)
+    → IfSome result (λ delay. (id : ℕ) × ((c : Caption) × (caption_in latest id ≡ Some c) × (is_delayed_at frame c ≡ true) × (id < 8) × (c.id ≡ id → delay ≡ caption_delay c)))
     → IfNone result ((id : ℕ) → id < 8 → passes (is_delayed_at frame) (caption_in latest id) ≡ false)
-    → result ≡ option_map delay_of (delayed_at frame cs)
+    → result ≡ option_map caption_delay (delayed_at frame cs)
 delay_is rate frames frame cs latest kept is None some none = delay_none rate frames frame cs latest kept is none
 delay_is rate frames frame cs latest kept is (Some delay) (id, (c, there, holds, small, same)) none =
     delay_found rate frames frame cs latest kept is delay id c there holds small same

@@ -21,7 +21,7 @@ use Rattle.cue_types.specs.declared.cue.WinCue.{WinCue}
 use Rattle.cue_types.specs.Cues.{IsCueFormed, IsOfKind}
 use Rattle.cue_types.specs.Windows.{AreWindowAttributes, IsWindow, IsWindowRun}
 use Rattle.dtvcc_author.specs.CueUnits.{IsWritable}
-use Rattle.dtvcc_author.specs.WindowCommands.{are_coloured, attribute_commands, character_commands, color_commands, commands_of, commands_with, definition_of, pen_of, run_commands, window_commands}
+use Rattle.dtvcc_author.specs.WindowCommands.{are_coloured, attribute_commands, character_commands, color_commands, commands_of, commands_with, definition_of, run_commands, run_pen, window_commands}
 
 -- a fact of each command
 abbrev AreWritable : List Command → Type 0
@@ -96,7 +96,7 @@ attributes_writable None formed = tt
 attributes_writable (Some attributes) formed = (record { spellable = formed.spellable; unskipped = refl }, tt)
 
 -- the pen of a run
-pen_writable : (style : PenAttr) (pen : Pen) → IsPenAttr style → IsPenAttr (pen_of style pen)
+pen_writable : (style : PenAttr) (pen : Pen) → IsPenAttr style → IsPenAttr (run_pen style pen)
 pen_writable style (Line21 _) is = is
 pen_writable style (Dtv italic underline) is =
     record { size = is.size; font = is.font; tag = is.tag; offset = is.offset; edge = is.edge }
@@ -171,7 +171,7 @@ window_parts w runs coloured formed placed = record {
 -- what is written of a run: its place, its pen, its colours, and each of its characters
 pub record IsRunWritable (coloured : Bool) (pen : PenAttr) (colors : PenColors) (run : Run) : Type 0 where
   pub to_place : IsWritable (Spl run.row run.col)
-  pub to_pen : IsWritable (Spa (pen_of pen run.pen))
+  pub to_pen : IsWritable (Spa (run_pen pen run.pen))
   pub to_colors : All IsWritable (color_commands coloured colors run.colors)
   pub characters : All (λ ch. IsWritable (Put (Some ch))) run.text
 

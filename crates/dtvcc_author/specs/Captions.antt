@@ -32,5 +32,5 @@ abbrev pub caption_of : Rate → ℕ → Cue → Option Caption
 caption_of rate service cue = caption_with rate service cue.kind cue
 
 -- the captions of a service, in the order of the cues
-abbrev pub captions_of : Rate → ℕ → List Cue → List Caption
-captions_of rate service cues = filter_map (caption_of rate service) cues
+abbrev pub service_captions : Rate → ℕ → List Cue → List Caption
+service_captions rate service cues = filter_map (caption_of rate service) cues

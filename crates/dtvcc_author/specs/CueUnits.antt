@@ -20,5 +20,5 @@ AreSpelled (command ∷ commands) [] = ⊥
 AreSpelled (command ∷ commands) (unit ∷ units) = Spells command unit × AreSpelled commands units
 
 -- the units of a cue
-abbrev pub units_of : Cue → List (List ℕ)
-units_of cue = map written (commands_of cue)
+abbrev pub window_cue_units : Cue → List (List ℕ)
+window_cue_units cue = map written (commands_of cue)

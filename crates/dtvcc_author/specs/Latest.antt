@@ -26,7 +26,7 @@ abbrev pub IsQuietUpTo : List (Option Caption) → ℕ → ℕ → Type 0
 IsQuietUpTo windows from to = (frame : ℕ) → from ≤ frame → frame < to → list_any (passes (has_event_at frame)) windows ≡ false
 
 -- in each window the caption is the last of those whose LOAD is before the frame
-pub record IsAt (cs : List Caption) (frame : ℕ) (latest : Latest) : Type 0 where
+pub record IsLatestAt (cs : List Caption) (frame : ℕ) (latest : Latest) : Type 0 where
   pub within : latest.next ≤ length cs
   pub before : AllByRecursion (λ (c : Caption). c.load < frame) (take latest.next cs)
   pub behind : AllByRecursion (λ (c : Caption). frame ≤ c.load) (drop latest.next cs)
@@ -35,11 +35,11 @@ pub record IsAt (cs : List Caption) (frame : ℕ) (latest : Latest) : Type 0 whe
   pub quiet : IsQuietUpTo latest.windows frame latest.quiet
 
 -- the delay of a caption
-abbrev pub delay_of : Caption → Delay
-delay_of c = record { tenths = c.tenths; windows = windows_byte (λ id. c.id == id); ends = c.show }
+abbrev pub caption_delay : Caption → Delay
+caption_delay c = record { tenths = c.tenths; windows = windows_byte (λ id. c.id == id); ends = c.show }
 
 -- the events are those of the captions in the frame
 pub record AreEventsOf (frame : ℕ) (cs : List Caption) (events : FrameEvents) : Type 0 where
   pub hidden : events.hidden ≡ windows_byte (names (is_hidden_at frame) cs)
   pub shown : events.shown ≡ windows_byte (names (is_shown_at frame) cs)
-  pub delay : events.delay ≡ option_map delay_of (delayed_at frame cs)
+  pub delay : events.delay ≡ option_map caption_delay (delayed_at frame cs)

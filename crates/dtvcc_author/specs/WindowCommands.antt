@@ -44,9 +44,9 @@ abbrev pub are_coloured : List Run → Bool
 are_coloured runs = list_any (λ run. is_some run.colors) runs
 
 -- the pen of a run: that of the window's pen style, with the run's italics and underline
-abbrev pub pen_of : PenAttr → Pen → PenAttr
-pen_of style (Line21 _) = style
-pen_of style (Dtv italic underline) = record style { italic = italic; underline = underline }
+abbrev pub run_pen : PenAttr → Pen → PenAttr
+run_pen style (Line21 _) = style
+run_pen style (Dtv italic underline) = record style { italic = italic; underline = underline }
 
 -- the colours of a run, its own or those of the pen style, in a cue of which some run has its own
 abbrev pub color_commands : Bool → PenColors → Option PenColors → List Command
@@ -59,7 +59,7 @@ character_commands text = map (λ ch. Put (Some ch)) text
 -- a run: its place, its pen, its colours, its characters
 abbrev pub run_commands : Bool → PenAttr → PenColors → Run → List Command
 run_commands coloured pen colors run =
-    Spl run.row run.col ∷ Spa (pen_of pen run.pen) ∷ (color_commands coloured colors run.colors ++ character_commands run.text)
+    Spl run.row run.col ∷ Spa (run_pen pen run.pen) ∷ (color_commands coloured colors run.colors ++ character_commands run.text)
 
 -- the window, its attributes, and its runs in order
 abbrev pub window_commands : WinCue → List Run → List Command

@@ -1,5 +1,5 @@
 ghost use Rattle.std.specs.Prelude.{◌≡◌, IfOk};
-ghost use Rattle.dtvcc_author.specs.Captions.{caption_of, captions_of, window_caption};
+ghost use Rattle.dtvcc_author.specs.Captions.{caption_of, service_captions, window_caption};
 
 use cc_base::Rate;
 use cue_types::{Cue, Kind, WinCue};
@@ -30,7 +30,7 @@ pub fn captions(
     cues: &[Cue],
     service: u8,
 ) -> Result<Vec<Caption>, AllocError>
-    ensures { IfOk result (λ captions. captions.items ≡ captions_of rate service cues.now) }
+    ensures { IfOk result (λ captions. captions.items ≡ service_captions rate service cues.now) }
 {
     let mut captions = Vec::new(alloc);
     for cue in cues {

@@ -4,7 +4,7 @@ ghost use Rattle.dtvcc_codes.specs.declared.commands.Command.TheVariants as comm
 ghost use Rattle.dtvcc_codes.specs.Writing.{written};
 ghost use Rattle.cue_types.specs.Windows.{IsWindow, IsWindowRun};
 ghost use Rattle.dtvcc_author.specs.CueUnits.{IsWritable};
-ghost use Rattle.dtvcc_author.specs.WindowCommands.{are_coloured, attribute_commands, character_commands, color_commands, definition_of, pen_of, run_commands, window_commands};
+ghost use Rattle.dtvcc_author.specs.WindowCommands.{are_coloured, attribute_commands, character_commands, color_commands, definition_of, run_commands, run_pen, window_commands};
 
 use crate::packed::PackedUnits;
 use cue_types::{Pen, Run, WinCue};
@@ -118,7 +118,7 @@ fn push_run(
 
 // The pen of a run: that of the window's style, with the run's italics and underline.
 fn pen_of(style: PenAttr, pen: Pen) -> PenAttr
-    ensures { result ≡ pen_of style pen }
+    ensures { result ≡ run_pen style pen }
 {
     match pen {
         Pen::Line21(_) => style,

@@ -1,6 +1,6 @@
 ghost use Rattle.std.specs.Prelude.{◌≡◌, ◌++◌, IfOk, OnOk};
 ghost use Rattle.cue_types.specs.Cues.{IsCueFormed};
-ghost use Rattle.dtvcc_author.specs.CueUnits.{AreSpelled, units_of};
+ghost use Rattle.dtvcc_author.specs.CueUnits.{AreSpelled, window_cue_units};
 ghost use Rattle.dtvcc_author.specs.WindowCommands.{commands_of};
 
 use crate::commands::push_window;
@@ -14,7 +14,7 @@ use std::alloc::{AllocError, Global};
 /// its characters (CTA-708-E, DF, SWA, SPL, SPA, SPC). A line 21 cue has none. `AllocError` where there is no memory for them.
 pub fn units(alloc: Global, cue: &Cue) -> Result<DUnits, AllocError>
     requires { IsCueFormed cue.now }
-    ensures units { IfOk result (λ units. units ≡ units_of cue.now) }
+    ensures units { IfOk result (λ units. units ≡ window_cue_units cue.now) }
     ensures spelled { IfOk result (AreSpelled (commands_of cue.now)) }
 {
     let mut packed = PackedUnits::new(alloc);
@@ -26,7 +26,7 @@ pub fn units(alloc: Global, cue: &Cue) -> Result<DUnits, AllocError>
 /// Appends the units of a window cue to others. `AllocError` where there is no memory for them; some of them may be there then.
 pub fn push_units(units: &mut PackedUnits, cue: &Cue) -> Result<(), AllocError>
     requires { IsCueFormed cue.now }
-    ensures { OnOk result (units.new ≡ units.old ++ units_of cue.now) }
+    ensures { OnOk result (units.new ≡ units.old ++ window_cue_units cue.now) }
 {
     if let Kind::Win(window) = cue.kind {
         push_window(units, window, cue.runs.as_slice())?;

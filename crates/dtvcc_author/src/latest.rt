@@ -23,11 +23,11 @@ pub struct Latest {
 
 impl Latest {
     ghost use Rattle.dtvcc_author.specs.Kept.{AreKept};
-    ghost use Rattle.dtvcc_author.specs.Latest.{AreEventsOf, IsAt, IsQuietUpTo, caption_in, delay_of};
+    ghost use Rattle.dtvcc_author.specs.Latest.{AreEventsOf, IsLatestAt, IsQuietUpTo, caption_delay, caption_in};
 
     /// At frame 0, before which no caption is loaded.
     pub fn start() -> Latest
-        ensures { (captions : List Caption) → IsAt captions 0 result }
+        ensures { (captions : List Caption) → IsLatestAt captions 0 result }
     {
         Latest {
             next: 0,
@@ -39,7 +39,7 @@ impl Latest {
     /// Passes on to a later frame, with the captions of the service.
     pub fn pass_to(&mut self, captions: &[Caption], frame: u32)
         requires { (rate : Rate) × ((frames : ℕ) × AreKept rate frames captions.now) }
-        ensures { (from : ℕ) → from ≤ frame → IsAt captions.now from self.old → IsAt captions.now frame self.new }
+        ensures { (from : ℕ) → from ≤ frame → IsLatestAt captions.now from self.old → IsLatestAt captions.now frame self.new }
     {
         self.load(captions, frame);
         if self.quiet < frame {
@@ -50,7 +50,7 @@ impl Latest {
     // Loads the captions whose LOAD is before the frame.
     fn load(&mut self, captions: &[Caption], frame: u32)
         requires { (rate : Rate) × ((frames : ℕ) × AreKept rate frames captions.now) }
-        ensures { (from : ℕ) → from ≤ frame → IsAt captions.now from self.old → IsAt captions.now frame self.new }
+        ensures { (from : ℕ) → from ≤ frame → IsLatestAt captions.now from self.old → IsLatestAt captions.now frame self.new }
     {
         while let Some(caption) = captions.get(self.next)
             && caption.load < frame
@@ -74,7 +74,7 @@ impl Latest {
 
     /// The events of the frame that this is at.
     pub fn events(&self, frame: u32) -> FrameEvents
-        ensures { (rate : Rate) (frames : ℕ) (captions : List Caption) → AreKept rate frames captions → IsAt captions frame self.now
+        ensures { (rate : Rate) (frames : ℕ) (captions : List Caption) → AreKept rate frames captions → IsLatestAt captions frame self.now
             → AreEventsOf frame captions result }
     {
         if frame < self.quiet {
@@ -108,7 +108,7 @@ impl Latest {
     // The delay that starts in the frame.
     fn delay(&self, frame: u32) -> Option<Delay>
         ensures some { IfSome result (λ delay. (id : ℕ) × ((c : Caption) × (caption_in self.now id ≡ Some c)
-            × (is_delayed_at frame c ≡ true) × (id < 8) × (c.id ≡ id → delay ≡ delay_of c))) }
+            × (is_delayed_at frame c ≡ true) × (id < 8) × (c.id ≡ id → delay ≡ caption_delay c))) }
         ensures none { IfNone result ((id : ℕ) → id < 8 → passes (is_delayed_at frame) (caption_in self.now id) ≡ false) }
     {
         for (window, caption) in self.windows.iter().enumerate() {

@@ -12,7 +12,7 @@ use Rattle.cc_base.proofs.SyntaxLemmas.{reading-accepted}
 use Rattle.dtvcc_codes.specs.declared.commands.Command.{Command}
 use Rattle.dtvcc_codes.specs.CodeTables.{is_counted}
 use Rattle.dtvcc_codes.specs.Cut.{IsCut, IsUnfinished}
-use Rattle.dtvcc_codes.specs.Reading.{command_of, command_syntax, completed, completions, is_whole, open_after, step_of, told_size}
+use Rattle.dtvcc_codes.specs.Reading.{command_step, command_syntax, completed, completions, is_whole, open_after, spelled_command, told_size}
 use Rattle.dtvcc_codes.specs.Spelling.{Spells}
 use Rattle.dtvcc_codes.proofs.SizeLemmas.{extended_size-counted, extended_size-row, from_test, told_size-base, told_size-ext1, told_size-fixed, told_size-grows, told_size-some, told_size_empty}
 use Rattle.dtvcc_codes.proofs.SpellingLemmas.{IsByte, spelled_is_finished, spelled_is_whole, spelled_one_way, whole_is_spelled}
@@ -29,7 +29,7 @@ told_of_front command bytes more spells some = by_test (nat_le (told_size bytes)
 -- bytes that tell more than they are begin a spelling: what makes them whole
 filled : (bytes more : List ℕ) → All IsByte bytes → All IsByte more → 0 < length more → told_size (bytes ++ more) ≡ length (bytes ++ more) → IsUnfinished bytes
 filled bytes more are others some size = record {
-  command = command_of (bytes ++ more);
+  command = spelled_command (bytes ++ more);
   more = more;
   some = some;
   spells = whole_is_spelled (bytes ++ more) (All-append IsByte bytes more are others) size;
@@ -94,7 +94,7 @@ more_bytes : (front : List ℕ) (byte : ℕ) → All IsByte front → byte < 256
 more_bytes front byte are is = All-append IsByte front (byte ∷ []) are (All-cons IsByte byte [] is (All-nil IsByte))
 
 whole_spells : (front : List ℕ) (byte : ℕ) → IsOpen front → byte < 256 → is_whole (front ++ byte ∷ []) ≡ true
-    → Spells (command_of (front ++ byte ∷ [])) (front ++ byte ∷ [])
+    → Spells (spelled_command (front ++ byte ∷ [])) (front ++ byte ∷ [])
 whole_spells front byte is fits whole =
     whole_is_spelled (front ++ byte ∷ []) (more_bytes front byte is.are fits) (whole_size front byte is whole)
 
@@ -144,7 +144,7 @@ bytes_are_cut bytes are = cut_from [] bytes nothing_is_open are
 none_refused : (front bytes : List ℕ) → AllTaken command_syntax front bytes
 none_refused front [] = tt
 none_refused front (byte ∷ bytes) = (step_is_taken (completed front byte), none_refused (open_after front byte) bytes) where
-  step_is_taken : (completes : Option Command) → IsTaken (step_of completes)
+  step_is_taken : (completes : Option Command) → IsTaken (command_step completes)
   step_is_taken None = tt
   step_is_taken (Some command) = tt
 
@@ -172,10 +172,10 @@ cut_one_way (command ∷ commands) (other ∷ others) rest after bytes (front, m
 pub completed_is_spelled : (front : List ℕ) (byte : ℕ) (command : Command) → IsOpen front → byte < 256 → completed front byte ≡ Some command
     → Spells command (front ++ byte ∷ [])
 completed_is_spelled front byte command is fits says = by_test (is_whole (front ++ byte ∷ [])) refl says where
-  by_test : (t : Bool) → is_whole (front ++ byte ∷ []) ≡ t → (if t then Some (command_of (front ++ byte ∷ [])) else None) ≡ Some command
+  by_test : (t : Bool) → is_whole (front ++ byte ∷ []) ≡ t → (if t then Some (spelled_command (front ++ byte ∷ [])) else None) ≡ Some command
       → Spells command (front ++ byte ∷ [])
   by_test true whole is_command =
-      let same : command_of (front ++ byte ∷ []) ≡ command = cc in
+      let same : spelled_command (front ++ byte ∷ []) ≡ command = cc in
       subst (λ c. Spells c (front ++ byte ∷ [])) same (whole_spells front byte is fits whole)
   by_test false whole is_command = absurd cc
 

@@ -3,7 +3,7 @@ use Rattle.std.proofs.Common.{◌≡◌, ℕ, ◌+◌, ◌-◌, ◌==◌, ◌<�
 use Rattle.std.proofs.lemmas.Bool.Decides.{nat_tests}
 use Rattle.std.specs.Bool.{then_some}
 use Rattle.dtvcc_codes.specs.declared.commands.Command.TheVariants.{Skipped}
-use Rattle.dtvcc_codes.specs.Reading.{command_of, completed, is_whole, open_after, told_size}
+use Rattle.dtvcc_codes.specs.Reading.{completed, is_whole, open_after, spelled_command, told_size}
 use Rattle.dtvcc_codes.specs.Readers.{kept_of, to_come}
 use Rattle.dtvcc_codes.proofs.SizeLemmas.{passed_over, told_size_empty}
 
@@ -12,7 +12,7 @@ pub record IsLong (front : List ℕ) (byte to_skip : ℕ) : Type 0 where
   pub long : 7 < told_size front
   pub left : to_skip + length front ≡ told_size front
   pub size : told_size (front ++ byte ∷ []) ≡ told_size front
-  pub says : command_of (front ++ byte ∷ []) ≡ Skipped
+  pub says : spelled_command (front ++ byte ∷ []) ≡ Skipped
   pub length_is : length (front ++ byte ∷ []) ≡ length front + 1
 
 is_long : (front : List ℕ) (byte to_skip : ℕ) → 0 < to_skip → to_skip ≡ to_come front → length front < told_size front → IsLong front byte to_skip

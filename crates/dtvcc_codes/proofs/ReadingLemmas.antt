@@ -4,7 +4,7 @@ use Rattle.std.proofs.lemmas.Bool.Decides.{nat_tests}
 use Rattle.std.proofs.lemmas.List.{take_all}
 use Rattle.dtvcc_codes.specs.declared.commands.Command.{Command}
 use Rattle.dtvcc_codes.specs.CodeTables.{base_codes}
-use Rattle.dtvcc_codes.specs.Reading.{command_of, extended_command, said_at}
+use Rattle.dtvcc_codes.specs.Reading.{extended_command, said_at, spelled_command}
 
 -- a list without its first element
 rest_is : (code : ℕ) (rest : List ℕ) → take (length (code ∷ rest) - 1) rest ≡ rest
@@ -12,8 +12,8 @@ rest_is code rest = take_all (length (code ∷ rest) - 1) rest (omega arith)
 
 -- behind EXT1
 pub command_of-extended : (bytes : List ℕ) (command : Command) → 1 ≤ length bytes → get_or bytes 0 0 ≡ 16
-    → command ≡ extended_command (take (length bytes - 1) (drop 1 bytes)) → command ≡ command_of bytes
-unfolding command_of
+    → command ≡ extended_command (take (length bytes - 1) (drop 1 bytes)) → command ≡ spelled_command bytes
+unfolding spelled_command
 command_of-extended [] command some first says = absurd (omega arith)
 command_of-extended (code ∷ rest) command some is says =
     let test : (code == 16) ≡ true = grind (arith, nat_tests) in
@@ -21,8 +21,8 @@ command_of-extended (code ∷ rest) command some is says =
 
 -- without it
 pub command_of-base : (bytes : List ℕ) (command : Command) → 1 ≤ length bytes → get_or bytes 0 0 ≢ 16
-    → command ≡ said_at base_codes (get_or bytes 0 0) (take (length bytes - 1) (drop 1 bytes)) → command ≡ command_of bytes
-unfolding command_of
+    → command ≡ said_at base_codes (get_or bytes 0 0) (take (length bytes - 1) (drop 1 bytes)) → command ≡ spelled_command bytes
+unfolding spelled_command
 command_of-base [] command some other says = absurd (omega arith)
 command_of-base (code ∷ rest) command some other says =
     let test : (code == 16) ≡ false = grind (arith, nat_tests) in

@@ -3,8 +3,8 @@ use Rattle.std.proofs.Common.{◌≡◌, ◌≢◌, ℕ, ◌+◌, ◌%◌, ◌<�
 use Rattle.std.proofs.lemmas.Bool.{and_parts}
 use Rattle.std.proofs.lemmas.Bool.Decides.{nat_tests}
 use Rattle.dtvcc_codes.specs.declared.commands.Command.TheVariants.{Skipped}
-use Rattle.dtvcc_codes.specs.CodeTables.{Row, base_codes, covers, extended_codes, is_counted, row_at}
-use Rattle.dtvcc_codes.specs.Reading.{command_of, count_at, extended_size, said_at, told_size}
+use Rattle.dtvcc_codes.specs.CodeTables.{Row, base_codes, extended_codes, holds_code, is_counted, row_at}
+use Rattle.dtvcc_codes.specs.Reading.{count_at, extended_size, said_at, spelled_command, told_size}
 use Rattle.dtvcc_codes.proofs.CharacterLemmas.{all_below, at_each}
 
 -- no row has more parameters
@@ -20,7 +20,7 @@ unfolding at_most
 count_at-small [] n all code = omega arith
 count_at-small (row ∷ rows) n all code =
     let parts = and_parts (nat_le row.count n) (at_most n rows) all in
-    elim (covers row code) as (λ t. (if t then row.count else count_at rows code) ≤ n) [
+    elim (holds_code row code) as (λ t. (if t then row.count else count_at rows code) ≤ n) [
       | true ↦ le_of row.count n parts.0
       | false ↦ count_at-small rows n parts.1 code
     ]
@@ -36,7 +36,7 @@ extended_count-small code = count_at-small extended_codes 5 refl code
 -- a row's number of parameters, and what it says
 pub count_at-row : (rows : List Row) (code : ℕ) (row : Row) → row_at rows code ≡ Some row → count_at rows code ≡ row.count
 count_at-row [] code row at = absurd cc
-count_at-row (first ∷ rows) code row at = by_test (covers first code) at (count_at-row rows code row) where
+count_at-row (first ∷ rows) code row at = by_test (holds_code first code) at (count_at-row rows code row) where
   by_test : (t : Bool) → (if t then Some first else row_at rows code) ≡ Some row
       → (row_at rows code ≡ Some row → count_at rows code ≡ row.count)
       → (if t then first.count else count_at rows code) ≡ row.count
@@ -46,7 +46,7 @@ count_at-row (first ∷ rows) code row at = by_test (covers first code) at (coun
 pub said_at-row : (rows : List Row) (code : ℕ) (parameters : List ℕ) (row : Row) → row_at rows code ≡ Some row
     → said_at rows code parameters ≡ row.says code parameters
 said_at-row [] code parameters row at = absurd cc
-said_at-row (first ∷ rows) code parameters row at = by_test (covers first code) at (said_at-row rows code parameters row) where
+said_at-row (first ∷ rows) code parameters row at = by_test (holds_code first code) at (said_at-row rows code parameters row) where
   by_test : (t : Bool) → (if t then Some first else row_at rows code) ≡ Some row
       → (row_at rows code ≡ Some row → said_at rows code parameters ≡ row.says code parameters)
       → (if t then first.says code parameters else said_at rows code parameters) ≡ row.says code parameters
@@ -56,7 +56,7 @@ said_at-row (first ∷ rows) code parameters row at = by_test (covers first code
 -- a code in no row is skipped
 pub said_at-none : (rows : List Row) (code : ℕ) (parameters : List ℕ) → row_at rows code ≡ None → said_at rows code parameters ≡ Skipped
 said_at-none [] code parameters at = refl
-said_at-none (first ∷ rows) code parameters at = by_test (covers first code) at (said_at-none rows code parameters) where
+said_at-none (first ∷ rows) code parameters at = by_test (holds_code first code) at (said_at-none rows code parameters) where
   by_test : (t : Bool) → (if t then Some first else row_at rows code) ≡ None
       → (row_at rows code ≡ None → said_at rows code parameters ≡ Skipped)
       → (if t then first.says code parameters else said_at rows code parameters) ≡ Skipped
@@ -220,10 +220,10 @@ extended_size-long (code ∷ count ∷ skipped) long = by_test (is_counted code)
 -- such a command behind one more byte
 pub record IsPassedOver (front : List ℕ) (byte : ℕ) : Type 0 where
   pub size : told_size (front ++ byte ∷ []) ≡ told_size front
-  pub says : command_of (front ++ byte ∷ []) ≡ Skipped
+  pub says : spelled_command (front ++ byte ∷ []) ≡ Skipped
 
-pub command_of-counted : (code count : ℕ) (rest : List ℕ) → is_counted code ≡ true → command_of (16 ∷ code ∷ count ∷ rest) ≡ Skipped
-unfolding command_of
+pub command_of-counted : (code count : ℕ) (rest : List ℕ) → is_counted code ≡ true → spelled_command (16 ∷ code ∷ count ∷ rest) ≡ Skipped
+unfolding spelled_command
 command_of-counted code count rest is = said_at-none extended_codes code (count ∷ rest) (counted_row code is)
 
 pub passed_over : (front : List ℕ) (byte : ℕ) → 7 < told_size front → IsPassedOver front byte
@@ -238,6 +238,6 @@ passed_over (first ∷ rest) byte long = by_test (first == 16) refl where
       let told : extended_size (rest ++ byte ∷ []) ≡ extended_size rest = ap (λ xs. extended_size xs) more ∙ sym (ap (λ xs. extended_size xs) spelled) in
       record {
         size = told_size-ext1 first (rest ++ byte ∷ []) is ∙ ap (λ n. 1 + n) told ∙ sym (told_size-ext1 first rest is);
-        says = ap (λ xs. command_of (first ∷ xs)) more ∙ ap (λ c. command_of (c ∷ code ∷ count ∷ (skipped ++ byte ∷ []))) (from_test first is)
+        says = ap (λ xs. spelled_command (first ∷ xs)) more ∙ ap (λ c. spelled_command (c ∷ code ∷ count ∷ (skipped ++ byte ∷ []))) (from_test first is)
             ∙ command_of-counted code count (skipped ++ byte ∷ []) counted;
       }

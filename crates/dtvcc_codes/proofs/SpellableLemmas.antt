@@ -7,7 +7,7 @@ use Rattle.std.proofs.lemmas.List.{get_or_past}
 use Rattle.std.proofs.lemmas.List.Elements.{All-get_or, All-tail}
 use Rattle.dtvcc_codes.specs.declared.commands.Command.{Command}
 use Rattle.dtvcc_codes.specs.declared.commands.Command.TheVariants.{Put, Dlc, Rst, Skipped}
-use Rattle.dtvcc_codes.specs.CodeTables.{Row, base_codes, covers, extended_codes, row_at}
+use Rattle.dtvcc_codes.specs.CodeTables.{Row, base_codes, extended_codes, holds_code, row_at}
 use Rattle.dtvcc_codes.specs.CharacterSpellings.{spelling_of}
 use Rattle.dtvcc_codes.specs.Parameters.{definition, fill_of, pen_attributes, pen_colors, rgb_of, window_attributes}
 use Rattle.dtvcc_codes.specs.Spellable.{IsDefinition, IsFill, IsPenAttr, IsPenColors, IsRgb, IsSpellable, IsWinAttr}
@@ -28,7 +28,7 @@ AllKeepTo P [] = Unit {0}
 AllKeepTo P (row ∷ rows) = KeepsTo P row × AllKeepTo P rows
 
 -- what the code's row says keeps to it too
-covered : (row : Row) (code : ℕ) → covers row code ≡ true → (row.first ≤ code) × (code ≤ row.last)
+covered : (row : Row) (code : ℕ) → holds_code row code ≡ true → (row.first ≤ code) × (code ≤ row.last)
 covered row code is =
     let (from, to) = and_parts (nat_le row.first code) (nat_le code row.last) is in
     (at_most row.first code from, at_most code row.last to) where
@@ -39,8 +39,8 @@ row_keeps_to : (P : ℕ → List ℕ → Command → Type 0) (rows : List Row) �
     → row_at rows code ≡ Some row → P code parameters (row.says code parameters)
 row_keeps_to P [] all code parameters row at = absurd cc
 row_keeps_to P (first ∷ rows) (keeps, others) code parameters row at =
-    by_test (covers first code) refl at (λ is. row_keeps_to P rows others code parameters row is) where
-      by_test : (t : Bool) → covers first code ≡ t → (if t then Some first else row_at rows code) ≡ Some row
+    by_test (holds_code first code) refl at (λ is. row_keeps_to P rows others code parameters row is) where
+      by_test : (t : Bool) → holds_code first code ≡ t → (if t then Some first else row_at rows code) ≡ Some row
           → (row_at rows code ≡ Some row → P code parameters (row.says code parameters)) → P code parameters (row.says code parameters)
       by_test true test is rest =
           let same : first ≡ row = cc in

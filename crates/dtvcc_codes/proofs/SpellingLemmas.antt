@@ -9,7 +9,7 @@ use Rattle.dtvcc_codes.specs.declared.commands.Command.{Command}
 use Rattle.dtvcc_codes.specs.declared.commands.Command.TheVariants.{Skipped}
 use Rattle.dtvcc_codes.specs.CodeTables.{Row, base_codes, extended_codes, is_counted, row_at}
 use Rattle.dtvcc_codes.specs.Cut.{IsUnfinished}
-use Rattle.dtvcc_codes.specs.Reading.{command_of, extended_command, said_at, told_size}
+use Rattle.dtvcc_codes.specs.Reading.{extended_command, said_at, spelled_command, told_size}
 use Rattle.dtvcc_codes.specs.Spelling.{Spells}
 use Rattle.dtvcc_codes.specs.Spelling.Spells.{base, extended, counted}
 use Rattle.dtvcc_codes.proofs.SizeLemmas.{base_row, command_of-counted, count_at-row, counted_row, ext1_row, extended_row, extended_size-counted, extended_size-one, extended_size-row, from_test, is_ext1, isnt_ext1, said_at-row, told_size-base, told_size-ext1, told_size-fixed, told_size_empty}
@@ -21,15 +21,15 @@ IsByte byte = byte < 256
 -- bytes as many as they tell, that say this
 pub record IsWhole (command : Command) (bytes : List ℕ) : Type 0 where
   pub size : told_size bytes ≡ length bytes
-  pub says : command_of bytes ≡ command
+  pub says : spelled_command bytes ≡ command
 
--- command_of, by cases
-pub command_of-base_code : (code : ℕ) (rest : List ℕ) → (code == 16) ≡ false → command_of (code ∷ rest) ≡ said_at base_codes code rest
-unfolding command_of
+-- spelled_command, by cases
+pub command_of-base_code : (code : ℕ) (rest : List ℕ) → (code == 16) ≡ false → spelled_command (code ∷ rest) ≡ said_at base_codes code rest
+unfolding spelled_command
 command_of-base_code code rest test = rw test refl
 
-pub command_of-ext1 : (code : ℕ) (rest : List ℕ) → (code == 16) ≡ true → command_of (code ∷ rest) ≡ extended_command rest
-unfolding command_of
+pub command_of-ext1 : (code : ℕ) (rest : List ℕ) → (code == 16) ≡ true → spelled_command (code ∷ rest) ≡ extended_command rest
+unfolding spelled_command
 command_of-ext1 code rest test = rw test refl
 
 -- a code with a row isn't EXT1, and one behind EXT1 isn't counted
@@ -78,7 +78,7 @@ spelled_is_whole command bytes (counted code count skipped is test many says) =
 
 -- what is whole spells what it says
 spelled_base : (code : ℕ) (rest : List ℕ) → code < 256 → (code == 16) ≡ false → told_size (code ∷ rest) ≡ length (code ∷ rest)
-    → Spells (command_of (code ∷ rest)) (code ∷ rest)
+    → Spells (spelled_command (code ∷ rest)) (code ∷ rest)
 spelled_base code rest byte test size =
     let other : code ≢ 16 = λ is. true≢false (sym (is_ext1 code is) ∙ test) in
     let (row, at) = base_row code byte other in
@@ -87,7 +87,7 @@ spelled_base code rest byte test size =
     (command_of-base_code code rest test ∙ said_at-row base_codes code rest row at)
 
 spelled_extended : (code : ℕ) (rest : List ℕ) → code < 256 → is_counted code ≡ false → told_size (16 ∷ code ∷ rest) ≡ length (16 ∷ code ∷ rest)
-    → Spells (command_of (16 ∷ code ∷ rest)) (16 ∷ code ∷ rest)
+    → Spells (spelled_command (16 ∷ code ∷ rest)) (16 ∷ code ∷ rest)
 spelled_extended code rest byte test size =
     let (row, at) = extended_row code byte test in
     extended code rest row refl at
@@ -95,27 +95,27 @@ spelled_extended code rest byte test size =
     (command_of-ext1 16 (code ∷ rest) refl ∙ said_at-row extended_codes code rest row at)
 
 spelled_counted : (code : ℕ) (rest : List ℕ) → is_counted code ≡ true → told_size (16 ∷ code ∷ rest) ≡ length (16 ∷ code ∷ rest)
-    → Spells (command_of (16 ∷ code ∷ rest)) (16 ∷ code ∷ rest)
+    → Spells (spelled_command (16 ∷ code ∷ rest)) (16 ∷ code ∷ rest)
 spelled_counted code [] is size = absurd (omega (arith, told_size-ext1 16 (code ∷ []) refl, extended_size-one code is))
 spelled_counted code (count ∷ skipped) is size =
     counted code count skipped refl is
     (omega (arith, told_size-ext1 16 (code ∷ count ∷ skipped) refl, extended_size-counted code count skipped is))
     (command_of-counted code count skipped is)
 
-spelled_ext1 : (rest : List ℕ) → All IsByte rest → told_size (16 ∷ rest) ≡ length (16 ∷ rest) → Spells (command_of (16 ∷ rest)) (16 ∷ rest)
+spelled_ext1 : (rest : List ℕ) → All IsByte rest → told_size (16 ∷ rest) ≡ length (16 ∷ rest) → Spells (spelled_command (16 ∷ rest)) (16 ∷ rest)
 spelled_ext1 [] are size = absurd (omega (arith, told_size-ext1 16 [] refl))
 spelled_ext1 (code ∷ rest) are size = by_test (is_counted code) refl where
-  by_test : (t : Bool) → is_counted code ≡ t → Spells (command_of (16 ∷ code ∷ rest)) (16 ∷ code ∷ rest)
+  by_test : (t : Bool) → is_counted code ≡ t → Spells (spelled_command (16 ∷ code ∷ rest)) (16 ∷ code ∷ rest)
   by_test true is = spelled_counted code rest is size
   by_test false is = spelled_extended code rest (All-head IsByte code rest are) is size
 
-pub whole_is_spelled : (bytes : List ℕ) → All IsByte bytes → told_size bytes ≡ length bytes → Spells (command_of bytes) bytes
+pub whole_is_spelled : (bytes : List ℕ) → All IsByte bytes → told_size bytes ≡ length bytes → Spells (spelled_command bytes) bytes
 whole_is_spelled [] are size = absurd (omega (arith, told_size_empty))
 whole_is_spelled (code ∷ rest) are size = by_test (code == 16) refl where
-  by_test : (t : Bool) → (code == 16) ≡ t → Spells (command_of (code ∷ rest)) (code ∷ rest)
+  by_test : (t : Bool) → (code == 16) ≡ t → Spells (spelled_command (code ∷ rest)) (code ∷ rest)
   by_test true is =
       let same : 16 ≡ code = sym (from_test code is) in
-      subst (λ c. Spells (command_of (c ∷ rest)) (c ∷ rest)) same
+      subst (λ c. Spells (spelled_command (c ∷ rest)) (c ∷ rest)) same
       (spelled_ext1 rest (All-tail IsByte code rest are) (ap (λ c. told_size (c ∷ rest)) same ∙ size))
   by_test false is = spelled_base code rest (All-head IsByte code rest are) is size
 
@@ -140,7 +140,7 @@ spelled_one_way command other front back rest after spells says same =
     let size : length front ≡ length back =
     sym (told_behind command front rest spells) ∙ ap (λ xs. told_size xs) same ∙ told_behind other back after says in
     let (fronts, rests) = front_is front back rest after same size in (
-      sym (spelled_is_whole command front spells).says ∙ ap (λ xs. command_of xs) fronts ∙ (spelled_is_whole other back says).says,
+      sym (spelled_is_whole command front spells).says ∙ ap (λ xs. spelled_command xs) fronts ∙ (spelled_is_whole other back says).says,
       fronts,
       rests,
     )

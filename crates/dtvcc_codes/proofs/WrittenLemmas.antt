@@ -16,7 +16,7 @@ use Rattle.dtvcc_codes.specs.declared.windows.Definition.{Definition}
 use Rattle.dtvcc_codes.specs.declared.windows.WinAttr.{WinAttr}
 use Rattle.dtvcc_codes.specs.Characters.{g0_of, g2_characters, g2_of}
 use Rattle.dtvcc_codes.specs.CharacterSpellings.{g1_spelling, g2_spelling, spelling_of}
-use Rattle.dtvcc_codes.specs.CodeTables.{Row, base_codes, covers, extended_codes, row_at}
+use Rattle.dtvcc_codes.specs.CodeTables.{Row, base_codes, extended_codes, holds_code, row_at}
 use Rattle.dtvcc_codes.specs.Parameters.{definition, fill_of, is_set, pen_attributes, pen_colors, rgb_of, window_attributes}
 use Rattle.dtvcc_codes.specs.Spellable.{IsDefinition, IsFill, IsPenAttr, IsPenColors, IsRgb, IsSpellable, IsWinAttr, is_skipped}
 use Rattle.dtvcc_codes.specs.Spelling.{IsSpelled, Spells}
@@ -29,7 +29,7 @@ use Rattle.dtvcc_codes.proofs.SpellingLemmas.{IsByte}
 -- the number of a code's row in a table
 index_at : List Row → ℕ → ℕ
 index_at [] code = 0
-index_at (row ∷ rows) code = if covers row code then 0 else suc (index_at rows code)
+index_at (row ∷ rows) code = if holds_code row code then 0 else suc (index_at rows code)
 
 row_numbered : List Row → ℕ → Option Row
 row_numbered [] n = None
@@ -39,7 +39,7 @@ row_numbered (row ∷ rows) (suc n) = row_numbered rows n
 row_at-numbered : (rows : List Row) (code : ℕ) → row_at rows code ≡ row_numbered rows (index_at rows code)
 unfolding index_at row_numbered
 row_at-numbered [] code = refl
-row_at-numbered (row ∷ rows) code = by_test (covers row code) (row_at-numbered rows code) where
+row_at-numbered (row ∷ rows) code = by_test (holds_code row code) (row_at-numbered rows code) where
   by_test : (t : Bool) → row_at rows code ≡ row_numbered rows (index_at rows code)
       → (if t then Some row else row_at rows code) ≡ row_numbered (row ∷ rows) (if t then 0 else suc (index_at rows code))
   by_test true rest = refl

@@ -107,10 +107,10 @@ abbrev pub is_counted : ℕ → Bool
 is_counted code = nat_le 0x90 code && nat_le code 0x9F
 
 -- the code is in the row
-abbrev pub covers : Row → ℕ → Bool
-covers row code = nat_le row.first code && nat_le code row.last
+abbrev pub holds_code : Row → ℕ → Bool
+holds_code row code = nat_le row.first code && nat_le code row.last
 
 -- the code's row in a table
 abbrev pub row_at : List Row → ℕ → Option Row
 row_at [] code = None
-row_at (row ∷ rows) code = if covers row code then Some row else row_at rows code
+row_at (row ∷ rows) code = if holds_code row code then Some row else row_at rows code

@@ -6,17 +6,17 @@ use Rattle.cc_base.specs.declared.step.Step.TheVariants.{Nothing, One}
 use Rattle.cc_base.specs.Syntax.{Syntax}
 use Rattle.dtvcc_codes.specs.declared.commands.Command.{Command}
 use Rattle.dtvcc_codes.specs.declared.commands.Command.TheVariants.{Skipped}
-use Rattle.dtvcc_codes.specs.CodeTables.{Row, base_codes, covers, ext1, extended_codes, is_counted}
+use Rattle.dtvcc_codes.specs.CodeTables.{Row, base_codes, ext1, extended_codes, holds_code, is_counted}
 
 -- how many parameter bytes follow a code
 abbrev pub count_at : List Row → ℕ → ℕ
 count_at [] code = 0
-count_at (row ∷ rows) code = if covers row code then row.count else count_at rows code
+count_at (row ∷ rows) code = if holds_code row code then row.count else count_at rows code
 
 -- what a code says with its parameters
 abbrev pub said_at : List Row → ℕ → List ℕ → Command
 said_at [] code parameters = Skipped
-said_at (row ∷ rows) code parameters = if covers row code then row.says code parameters else said_at rows code parameters
+said_at (row ∷ rows) code parameters = if holds_code row code then row.says code parameters else said_at rows code parameters
 
 -- the number of bytes from the byte on that counts
 abbrev pub counted_size : List ℕ → ℕ
@@ -40,9 +40,9 @@ extended_command [] = Skipped
 extended_command (code ∷ parameters) = said_at extended_codes code parameters
 
 -- what a whole spelling says
-unfoldable pub command_of : List ℕ → Command
-command_of [] = Skipped
-command_of (code ∷ rest) = if code == ext1 then extended_command rest else said_at base_codes code rest
+unfoldable pub spelled_command : List ℕ → Command
+spelled_command [] = Skipped
+spelled_command (code ∷ rest) = if code == ext1 then extended_command rest else said_at base_codes code rest
 
 -- the bytes are a whole spelling
 abbrev pub is_whole : List ℕ → Bool
@@ -50,7 +50,7 @@ is_whole bytes = nat_le (told_size bytes) (length bytes)
 
 -- the command that a byte completes behind these open bytes, if it completes one
 abbrev pub completed : List ℕ → ℕ → Option Command
-completed front byte = if is_whole (front ++ byte ∷ []) then Some (command_of (front ++ byte ∷ [])) else None
+completed front byte = if is_whole (front ++ byte ∷ []) then Some (spelled_command (front ++ byte ∷ [])) else None
 
 -- the bytes that are open behind one more
 abbrev pub open_after : List ℕ → ℕ → List ℕ
@@ -62,13 +62,13 @@ completions front [] = []
 completions front (byte ∷ bytes) = completed front byte ∷ completions (open_after front byte) bytes
 
 -- a completed command is a part
-abbrev pub step_of : Option Command → Step Command
-step_of None = Nothing
-step_of (Some command) = One command
+abbrev pub command_step : Option Command → Step Command
+command_step None = Nothing
+command_step (Some command) = One command
 
 -- what is made of a byte behind these open bytes
 abbrev pub judge_byte : List ℕ → ℕ → Step Command
-judge_byte front byte = step_of (completed front byte)
+judge_byte front byte = command_step (completed front byte)
 
 -- how the bytes of a service are read
 abbrev pub command_syntax : Syntax (List ℕ) ℕ Command

@@ -1,7 +1,7 @@
 ghost use Rattle.std.specs.Prelude.{◌≡◌, ◌≤◌, ℕ, List, [], ◌∷◌, length, Some, IfSome};
 ghost use Rattle.dtvcc_codes.specs.declared.commands.Command.TheVariants.{Put};
 ghost use Rattle.dtvcc_codes.specs.CodeTables.{base_codes, extended_codes};
-ghost use Rattle.dtvcc_codes.specs.Reading.{command_of, count_at, extended_command, extended_size, said_at, told_size};
+ghost use Rattle.dtvcc_codes.specs.Reading.{count_at, extended_command, extended_size, said_at, spelled_command, told_size};
 ghost use Rattle.dtvcc_codes.specs.Spellable.{IsSpellable};
 
 use crate::characters::{LOW_LINE, g0_char, g2_char};
@@ -42,10 +42,10 @@ fn extended_count(code: u8) -> usize
 }
 
 // The character of G0 that a byte puts by itself, where it begins a command.
-#[tactic(auto, unfolding(crate::specs::Reading::told_size, crate::specs::Reading::command_of), using(crate::proofs::CharacterLemmas::g0_spelled))]
+#[tactic(auto, unfolding(crate::specs::Reading::told_size, crate::specs::Reading::spelled_command), using(crate::proofs::CharacterLemmas::g0_spelled))]
 pub(crate) fn character_of(byte: u8) -> Option<char>
     ensures whole { IfSome result (λ ch. told_size (byte ∷ []) ≡ 1) }
-    ensures says { IfSome result (λ ch. command_of (byte ∷ []) ≡ Put (Some ch)) }
+    ensures says { IfSome result (λ ch. spelled_command (byte ∷ []) ≡ Put (Some ch)) }
     ensures fits { IfSome result (λ ch. IsSpellable (Put (Some ch))) }
 {
     match byte {
@@ -83,7 +83,7 @@ fn extended_size(bytes: &[u8]) -> usize
 #[tactic(auto, unfolding(crate::specs::Reading::told_size))]
 pub(crate) fn command_of(bytes: &[u8]) -> Command
     requires { told_size bytes.now ≤ length bytes.now }
-    ensures says { result ≡ command_of bytes.now }
+    ensures says { result ≡ spelled_command bytes.now }
     ensures fits { IsSpellable result }
 {
     match bytes {

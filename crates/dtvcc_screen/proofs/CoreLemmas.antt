@@ -2,7 +2,7 @@
 use Rattle.std.proofs.Common.{◌≡◌, ℕ, ◌+◌, ◌<◌, ◌≤◌, Bool, true, false, if◌then◌else◌, List, [], ◌∷◌, ◌++◌, Option, Some, None, get_or, length, take, drop, refl, sym, ap, subst, ◌∙◌, arith, add-one, zero, suc}
 use Rattle.cc_base.specs.Steps.{front_from}
 use Rattle.dtvcc_codes.specs.declared.commands.Command.{Command}
-use Rattle.dtvcc_codes.specs.Reading.{command_of, completed, completions, is_whole, open_after}
+use Rattle.dtvcc_codes.specs.Reading.{completed, completions, is_whole, open_after, spelled_command}
 use Rattle.dtvcc_screen.specs.declared.clock.Clock.{Clock}
 use Rattle.dtvcc_screen.specs.Commands.{on_screen}
 use Rattle.dtvcc_screen.specs.Cores.{CoreState, acted, acted_if, after_byte, all_acted, arrived, arrived_in, clean, fill_in, go_on, held_more, is_cancel, is_reset, released, tenths_of, until_of}
@@ -33,7 +33,7 @@ closed_at false said command open_bytes is = cc
 
 pub closed : (open_bytes : List ℕ) (byte : ℕ) (command : Command) → completed open_bytes byte ≡ Some command → open_after open_bytes byte ≡ []
 closed open_bytes byte command is =
-    closed_at (is_whole (open_bytes ++ byte ∷ [])) (command_of (open_bytes ++ byte ∷ [])) command (open_bytes ++ byte ∷ []) is
+    closed_at (is_whole (open_bytes ++ byte ∷ [])) (spelled_command (open_bytes ++ byte ∷ [])) command (open_bytes ++ byte ∷ []) is
 
 -- what the first bytes leave open
 abbrev pub front : List ℕ → ℕ → List ℕ

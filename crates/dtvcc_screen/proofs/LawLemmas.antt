@@ -6,7 +6,7 @@ use Rattle.dtvcc_codes.specs.Reading.{completed, completions, open_after}
 use Rattle.dtvcc_screen.specs.declared.clock.Clock.{Clock}
 use Rattle.dtvcc_screen.specs.Commands.{on_screen}
 use Rattle.dtvcc_screen.specs.Cores.{CoreState, acted_if, after_byte, after_tick, all_acted, arrived_in, clean, fill, fill_in, go_on, held_more, is_cancel, is_due, is_reset, released, tenths_of, until_of}
-use Rattle.dtvcc_screen.specs.Laws.{HasNoReset, bytes_of, on_screen_all, on_screen_if}
+use Rattle.dtvcc_screen.specs.Laws.{HasNoReset, bytes_among, on_screen_all, on_screen_if}
 use Rattle.dtvcc_screen.specs.Meaning.{Event, Tick, Byte, Reset, Served, after, on_event, start, ticked}
 use Rattle.dtvcc_screen.specs.Objects.{acting_on}
 use Rattle.dtvcc_screen.specs.Screens.{ScreenState, empty_screen}
@@ -146,17 +146,17 @@ byte_steps byte clock core no_reset few =
 
 -- any events without a reset
 led_after : (events : List Event) (s : Served) (open_bytes : List ℕ) → s.core.open_bytes ≡ open_bytes → IsFew s.core → HasNoReset open_bytes events
-    → led (after s events).core ≡ on_screen_all (completions open_bytes (bytes_of events)) (led s.core)
+    → led (after s events).core ≡ on_screen_all (completions open_bytes (bytes_among events)) (led s.core)
 led_after [] s open_bytes is few none = refl
 led_after (Tick rate ∷ events) s open_bytes is few none =
     let steps = tick_steps (ticked rate s.clock) s.core few in
     led_after events (on_event (Tick rate) s) open_bytes (steps.cut ∙ is) steps.few none
-    ∙ ap (on_screen_all (completions open_bytes (bytes_of events))) steps.leads
+    ∙ ap (on_screen_all (completions open_bytes (bytes_among events))) steps.leads
 led_after (Byte byte ∷ events) s open_bytes is few none =
     let no_reset = subst (λ (open_now : List ℕ). is_reset (completed open_now byte) ≡ false) (sym is) none.0 in
     let steps = byte_steps byte s.clock s.core no_reset few in
     led_after events (on_event (Byte byte) s) (open_after open_bytes byte) (steps.cut ∙ ap (λ (open_now : List ℕ). open_after open_now byte) is) steps.few none.1
-    ∙ ap (on_screen_all (completions (open_after open_bytes byte) (bytes_of events)))
+    ∙ ap (on_screen_all (completions (open_after open_bytes byte) (bytes_among events)))
     (steps.leads ∙ ap (λ (open_now : List ℕ). on_screen_if (completed open_now byte) (led s.core)) is)
 led_after (Reset ∷ events) s open_bytes is few none = absurd none
 
@@ -164,7 +164,7 @@ clean_few : IsFew clean
 clean_few = record { calm = λ none. refl; few = omega arith }
 
 pub put_off : (events : List Event) → HasNoReset [] events
-    → on_screen_all (after start events).core.held (after start events).core.screen ≡ on_screen_all (completions [] (bytes_of events)) empty_screen
+    → on_screen_all (after start events).core.held (after start events).core.screen ≡ on_screen_all (completions [] (bytes_among events)) empty_screen
 put_off events none = led_after events start [] refl clean_few none
 
 -- few are held, whatever comes

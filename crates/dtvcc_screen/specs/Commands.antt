@@ -4,7 +4,7 @@ use Rattle.dtvcc_codes.specs.declared.commands.Command.{Command}
 use Rattle.dtvcc_codes.specs.declared.commands.Command.TheVariants.{Put, Etx, Bs, Ff, Cr, Hcr, Cw, Clw, Dsw, Hdw, Tgw, Dlw, Dly, Dlc, Rst, Spa, Spc, Spl, Swa, Df, Skipped}
 use Rattle.dtvcc_codes.specs.declared.windows.Definition.{Definition}
 use Rattle.dtvcc_windows.specs.Defining.{defined}
-use Rattle.dtvcc_windows.specs.Text.{backspaced, carriage_returned, cleared, form_fed, located, row_returned, written}
+use Rattle.dtvcc_windows.specs.Text.{backspaced, carriage_returned, cleared, form_fed, located, row_returned, with_character}
 use Rattle.dtvcc_windows.specs.Windows.{WindowState, with_attributes, with_colors, with_pen, with_visibility}
 use Rattle.dtvcc_screen.specs.Screens.{ScreenState, on_current, on_windows, with_window}
 
@@ -39,7 +39,7 @@ current_without bits (Some id) = if is_named bits id then None else Some id
 
 -- what a command of text does to the current window
 abbrev pub edited_by : Command → WindowState → WindowState
-edited_by (Put ch) = written ch
+edited_by (Put ch) = with_character ch
 edited_by Bs = backspaced
 edited_by Ff = form_fed
 edited_by Cr = carriage_returned
@@ -60,7 +60,7 @@ on_screen (Dsw bits) s = on_named bits (option_map (with_visibility true)) s
 on_screen (Hdw bits) s = on_named bits (option_map (with_visibility false)) s
 on_screen (Tgw bits) s = on_named bits (option_map toggled) s
 on_screen (Dlw bits) s = record (on_named bits deleted s) { current = current_without bits s.current }
-on_screen (Put ch) s = on_current (written ch) s
+on_screen (Put ch) s = on_current (with_character ch) s
 on_screen Bs s = on_current backspaced s
 on_screen Ff s = on_current form_fed s
 on_screen Cr s = on_current carriage_returned s

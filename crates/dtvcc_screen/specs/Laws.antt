@@ -20,11 +20,11 @@ on_screen_all [] s = s
 on_screen_all (first ∷ rest) s = on_screen_all rest (on_screen_if first s)
 
 -- the bytes among events
-abbrev pub bytes_of : List Event → List ℕ
-bytes_of [] = []
-bytes_of (Tick rate ∷ events) = bytes_of events
-bytes_of (Byte byte ∷ events) = byte ∷ bytes_of events
-bytes_of (Reset ∷ events) = bytes_of events
+abbrev pub bytes_among : List Event → List ℕ
+bytes_among [] = []
+bytes_among (Tick rate ∷ events) = bytes_among events
+bytes_among (Byte byte ∷ events) = byte ∷ bytes_among events
+bytes_among (Reset ∷ events) = bytes_among events
 
 -- behind these open bytes, nothing among the events resets the service
 abbrev pub HasNoReset : List ℕ → List Event → Type 0

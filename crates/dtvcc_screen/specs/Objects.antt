@@ -46,8 +46,8 @@ abbrev pub screen_in : Core → ScreenState
 screen_in core = screen_of core.screen
 
 -- in a delay, the frame that ends it
-abbrev pub delay_end : Core → Option ℕ
-delay_end core = core.until
+abbrev pub core_delay_end : Core → Option ℕ
+core_delay_end core = core.until
 
 -- a change was noted since it was last asked for
 abbrev pub has_changed : Core → Bool
@@ -71,5 +71,5 @@ pub record Leads (events : List Event) (service : Service) : Type 0 where
   pub core : Stands (after start events).core service.core
 
 -- the frames that a service was told of
-abbrev pub frames_of : Service → ℕ
-frames_of service = service.clock.ticks
+abbrev pub service_ticks : Service → ℕ
+service_ticks service = service.clock.ticks

@@ -32,7 +32,7 @@ impl Core {
     ghost use Rattle.dtvcc_windows.specs.Objects.{is_live, window_of};
     ghost use Rattle.dtvcc_screen.specs.Commands.{on_screen};
     ghost use Rattle.dtvcc_screen.specs.Cores.{CoreState, after_byte, after_tick, all_acted, clean, fill, released, tenths_of, until_of};
-    ghost use Rattle.dtvcc_screen.specs.Objects.{Carries, Notes, Stands, acting_on, delay_end, has_changed, screen_in, screen_of};
+    ghost use Rattle.dtvcc_screen.specs.Objects.{Carries, Notes, Stands, acting_on, core_delay_end, has_changed, screen_in, screen_of};
 
     /// A service before its first byte. All memory that it ever takes is taken here.
     pub fn new(alloc: Global) -> Result<Core, AllocError>
@@ -113,7 +113,7 @@ impl Core {
     /// In a delay, the frame that ends it, counted as the clock counts.
     pub fn until(&self) -> Option<u64>
         ensures state { (state : CoreState) → Stands state self.now → result ≡ state.until }
-        ensures end { result ≡ delay_end self.now }
+        ensures end { result ≡ core_delay_end self.now }
     {
         self.until
     }
@@ -133,7 +133,7 @@ impl Core {
         ensures told { result ≡ has_changed self.old }
         ensures asked { has_changed self.new ≡ false }
         ensures stands { (state : CoreState) → Stands state self.old → Stands state self.new }
-        ensures end { delay_end self.new ≡ delay_end self.old }
+        ensures end { core_delay_end self.new ≡ core_delay_end self.old }
         ensures screen { screen_in self.new ≡ screen_in self.old }
     {
         mem::replace(&mut self.changed, false)

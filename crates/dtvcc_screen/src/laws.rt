@@ -6,7 +6,7 @@ ghost use Rattle.dtvcc_codes.specs.Reading.{completed, completions};
 ghost use Rattle.dtvcc_screen.specs.declared.clock.Clock.{Clock};
 ghost use Rattle.dtvcc_screen.specs.Commands.{on_screen};
 ghost use Rattle.dtvcc_screen.specs.Cores.{CoreState, after_byte, clean, fill, is_reset};
-ghost use Rattle.dtvcc_screen.specs.Laws.{HasNoReset, IsCurrentHidden, bytes_of, is_text, on_screen_all};
+ghost use Rattle.dtvcc_screen.specs.Laws.{HasNoReset, IsCurrentHidden, bytes_among, is_text, on_screen_all};
 ghost use Rattle.dtvcc_screen.specs.Meaning.{Event, Reset, Served, after, on_event, start};
 ghost use Rattle.dtvcc_screen.specs.Screens.{ScreenState, empty_screen};
 ghost use Rattle.dtvcc_screen.specs.Shown.{grids};
@@ -15,7 +15,7 @@ ghost use Rattle.dtvcc_screen.specs.Shown.{grids};
 /// order in which they came, as if there were no delays.
 pub fn delays_only_put_off()
     ensures { (events : List Event) → HasNoReset [] events → let core = (after start events).core in
-        on_screen_all core.held core.screen ≡ on_screen_all (completions [] (bytes_of events)) empty_screen }
+        on_screen_all core.held core.screen ≡ on_screen_all (completions [] (bytes_among events)) empty_screen }
 {}
 
 /// Fewer than 128 bytes are held, and at most 128 for a moment.

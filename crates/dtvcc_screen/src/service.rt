@@ -16,12 +16,12 @@ impl Service {
     ghost use Rattle.dtvcc_windows.specs.Objects.{is_live, window_of};
     ghost use Rattle.dtvcc_screen.specs.Cores.{fill};
     ghost use Rattle.dtvcc_screen.specs.Meaning.{Event, Byte, Reset, Tick, after, start};
-    ghost use Rattle.dtvcc_screen.specs.Objects.{Leads, frames_of};
+    ghost use Rattle.dtvcc_screen.specs.Objects.{Leads, service_ticks};
 
     /// A service before its first frame. All memory that it ever takes is taken here.
     pub fn new(alloc: Global) -> Result<Service, AllocError>
         ensures leads { IfOk result (Leads []) }
-        ensures frames { IfOk result (λ service. frames_of service ≡ 0) }
+        ensures frames { IfOk result (λ service. service_ticks service ≡ 0) }
     {
         Ok(Service {
             core: Core::new(alloc)?,
@@ -34,9 +34,9 @@ impl Service {
 
     /// The next frame begins, of a rate: a delay that ends in it ends (CTA-708-E, Delay).
     pub fn tick(&mut self, rate: Rate)
-        requires { frames_of self.old < 2 ^ 32 - 1 }
+        requires { service_ticks self.old < 2 ^ 32 - 1 }
         ensures leads { (events : List Event) → Leads events self.old → Leads (events ++ Tick rate ∷ []) self.new }
-        ensures frames { frames_of self.new ≡ frames_of self.old + 1 }
+        ensures frames { service_ticks self.new ≡ service_ticks self.old + 1 }
     {
         self.clock = Clock {
             ticks: self.clock.ticks + 1,
@@ -47,11 +47,11 @@ impl Service {
 
     /// Takes the next byte of the present frame, and says whether it brought the held bytes to 128, which ends the delay.
     pub fn byte(&mut self, byte: u8) -> bool
-        requires some_frame { 1 ≤ frames_of self.old }
-        requires frames { frames_of self.old < 2 ^ 32 }
+        requires some_frame { 1 ≤ service_ticks self.old }
+        requires frames { service_ticks self.old < 2 ^ 32 }
         ensures leads { (events : List Event) → Leads events self.old → Leads (events ++ Byte byte ∷ []) self.new }
         ensures full { (events : List Event) → Leads events self.old → result ≡ (fill byte (after start events).core == 128) }
-        ensures frames { frames_of self.new ≡ frames_of self.old }
+        ensures frames { service_ticks self.new ≡ service_ticks self.old }
     {
         self.core.byte(self.clock, byte)
     }
@@ -59,7 +59,7 @@ impl Service {
     /// Resets the service (CTA-708-E, Reset); the frames and the rate stay.
     pub fn reset(&mut self)
         ensures leads { (events : List Event) → Leads events self.old → Leads (events ++ Reset ∷ []) self.new }
-        ensures frames { frames_of self.new ≡ frames_of self.old }
+        ensures frames { service_ticks self.new ≡ service_ticks self.old }
     {
         self.core.reset();
     }

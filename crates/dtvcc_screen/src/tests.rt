@@ -1,5 +1,5 @@
 ghost use Rattle.std.specs.Prelude.{◌≡◌, ◌≤◌, ◌<◌, ◌^◌};
-ghost use Rattle.dtvcc_screen.specs.Objects.{frames_of};
+ghost use Rattle.dtvcc_screen.specs.Objects.{service_ticks};
 
 use crate::{Clock, Core, Service};
 use cc_base::Rate;
@@ -332,9 +332,9 @@ fn delays_hold_and_end(rt: HostRuntime) -> Result<(), AllocError> {
 
 // Feeds a service, and says whether one of the bytes filled the buffer.
 fn feed(service: &mut Service, bytes: &[u8]) -> bool
-    requires some_frame { 1 ≤ frames_of service.old }
-    requires frames { frames_of service.old < 2 ^ 32 }
-    ensures { frames_of service.new ≡ frames_of service.old }
+    requires some_frame { 1 ≤ service_ticks service.old }
+    requires frames { service_ticks service.old < 2 ^ 32 }
+    ensures { service_ticks service.new ≡ service_ticks service.old }
 {
     let mut filled = false;
     for byte in bytes {

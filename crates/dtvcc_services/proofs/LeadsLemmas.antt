@@ -10,15 +10,15 @@ use Rattle.dtvcc_screen.specs.declared.clock.Clock.{Clock}
 use Rattle.dtvcc_screen.specs.declared.cores.Core.{Core}
 use Rattle.dtvcc_screen.specs.Cores.{CoreState, after_byte, after_tick, clean, fill}
 use Rattle.dtvcc_screen.specs.Meaning.{Event, Tick, Byte, Reset, Served, after, on_event, start, ticked}
-use Rattle.dtvcc_screen.specs.Objects.{Stands, delay_end, screen_in}
+use Rattle.dtvcc_screen.specs.Objects.{Stands, core_delay_end, screen_in}
 use Rattle.dtvcc_screen.specs.Screens.{ScreenState}
 use Rattle.dtvcc_screen.specs.Shown.{LooksSame, grids}
 use Rattle.dtvcc_screen.proofs.MeaningLemmas.{after_more}
 use Rattle.dtvcc_services.specs.declared.members.Member.{Member}
 use Rattle.dtvcc_services.specs.declared.services.Services.{Services}
 use Rattle.dtvcc_services.specs.Filling.{is_filled, is_filled_by}
-use Rattle.dtvcc_services.specs.Numbers.{IsFirst, IsLowest, IsService}
-use Rattle.dtvcc_services.specs.Objects.{Events, LeadTo, Leads, Serves, screen_at, served, served_now}
+use Rattle.dtvcc_services.specs.Numbers.{IsLowest, IsLowestService, IsService}
+use Rattle.dtvcc_services.specs.Objects.{Events, LeadTo, Leads, Serves, screen_at, served_now, service_behind}
 use Rattle.dtvcc_services.specs.Passing.{HaveStepped, least_with}
 use Rattle.dtvcc_services.proofs.PassLemmas.{clean_waits, least_first, least_second}
 use Rattle.dtvcc_services.proofs.PlaceLemmas.{set_other, set_same, some_at}
@@ -58,29 +58,29 @@ lowest_more test other None service is apart holds lowest = record {
       apart s (λ same. omega (arith, same, less)) ∙ lowest s (record { from = from; to = let most = is.to in omega (arith, less, most) });
 }
 lowest_more test other (Some found) service is apart holds lowest = at (nat_lt found service) refl where
-  lower : found < service → IsFirst other found
+  lower : found < service → IsLowestService other found
   lower less = record {
     is = lowest.is;
     holds = apart found (λ same. omega (arith, same, less)) ∙ lowest.holds;
     below = λ s from below. apart s (λ same. omega (arith, same, less, below)) ∙ lowest.below s from below;
   }
 
-  upper : service ≤ found → IsFirst other service
+  upper : service ≤ found → IsLowestService other service
   upper most = record {
     is = is;
     holds = holds;
     below = λ s from below. apart s (λ same. omega (arith, same, below)) ∙ lowest.below s from (omega (arith, below, most));
   }
 
-  at : (test_lower : Bool) → nat_lt found service ≡ test_lower → IsFirst other (min service found)
+  at : (test_lower : Bool) → nat_lt found service ≡ test_lower → IsLowestService other (min service found)
   at true is_lower =
       let less : found < service = grind (arith, nat_tests) in
       let least : found ≡ min service found = grind arith in
-      subst (λ (n : ℕ). IsFirst other n) least (lower less)
+      subst (λ (n : ℕ). IsLowestService other n) least (lower less)
   at false is_lower =
       let most : service ≤ found = grind (arith, nat_tests) in
       let least : service ≡ min service found = grind arith in
-      subst (λ (n : ℕ). IsFirst other n) least (upper most)
+      subst (λ (n : ℕ). IsLowestService other n) least (upper most)
 
 -- one event more leads on
 serves_more : (events : List Event) (event : Event) (now : Clock) (core : Core) → now ≡ (on_event event (after start events)).clock
@@ -163,8 +163,8 @@ reset_leads before frame was now clock next later touched seen more filled leads
   same = λ none service is_service id.
       by_place (λ s. LooksSame (screen_at (served_now before frame s)) (screen_at (served_now before next_frame s))) (looks_at (new_none none)) service is_service id
       ∙ leads.same (old_none none) service is_service id;
-  lowest = lowest_same (λ s. is_filled (served before s) (frame s)) (λ s. is_filled (served before s) (next_frame s)) filled
-      (λ s. filled_more (served before s) (frame s) Reset ∙ or_false (is_filled (served before s) (frame s))) leads.lowest;
+  lowest = lowest_same (λ s. is_filled (service_behind before s) (frame s)) (λ s. is_filled (service_behind before s) (next_frame s)) filled
+      (λ s. filled_more (service_behind before s) (frame s) Reset ∙ or_false (is_filled (service_behind before s) (frame s))) leads.lowest;
 } where
   next_frame : ℕ → List Event
   next_frame service = frame service ++ Reset ∷ []
@@ -219,7 +219,7 @@ pub record IsTaken (byte : ℕ) (clock : Clock) (full seen : Bool) (one other : 
 pub byte_leads : (before frame : Events) (was : List Member) (clock : Clock) (next later : ℕ) (end : Option ℕ) (touched more full seen : Bool) (filled found : Option ℕ)
     (service byte place : ℕ) (one other : Member) → LeadTo before frame was clock next touched filled → length was ≡ 63 → IsService service
     → place + 1 ≡ service → one ≡ get_or was place one → IsTaken byte clock full seen one other → later ≡ least_with next end
-    → end ≡ delay_end other.core → (more ≡ false → touched ≡ false) → (more ≡ false → seen ≡ false)
+    → end ≡ core_delay_end other.core → (more ≡ false → touched ≡ false) → (more ≡ false → seen ≡ false)
     → found ≡ (if full then Some (least_with service filled) else filled)
     → LeadTo before (with_byte service byte frame) (set was place other) clock later more found
 byte_leads before frame was clock next later end touched more full seen filled found service byte place one other leads count is_service at_place read taken
@@ -271,11 +271,11 @@ byte_leads before frame was clock next later end touched more full seen filled f
           (leads.serves i member (sym (set_other was place other i apart) ∙ here))
 
       waits_if : (test : Bool) (i : ℕ) (member : Member) → (i == place) ≡ test → slice_get (set was place other) i ≡ Some member
-          → (last : ℕ) → delay_end member.core ≡ Some last → later ≤ last
+          → (last : ℕ) → core_delay_end member.core ≡ Some last → later ≤ last
       waits_if true i member is here last ends =
           let same : i ≡ place = grind (arith, nat_tests) in
           least_second next last later end later_is
-          (end_is ∙ ap (λ (m : Member). delay_end m.core) (is_other i member same here) ∙ ends)
+          (end_is ∙ ap (λ (m : Member). core_delay_end m.core) (is_other i member same here) ∙ ends)
       waits_if false i member is here last ends =
           let apart : (i ≡ place → ⊥) = λ same. grind (arith, nat_tests) in
           let first = least_first next later end later_is in
@@ -283,30 +283,30 @@ byte_leads before frame was clock next later end touched more full seen filled f
           omega (arith, first, from)
 
       same_if : (test : Bool) → more ≡ false → (s : ℕ) → (service == s) ≡ test → IsService s
-          → LooksSame (screen_at (served before s)) (screen_at (served_now before next_frame s))
+          → LooksSame (screen_at (service_behind before s)) (screen_at (served_now before next_frame s))
       same_if true none s is is_s id =
           let same : service ≡ s = grind (arith, nat_tests) in
-          subst (λ (n : ℕ). grids (screen_at (served_now before next_frame n)) id ≡ grids (screen_at (served before n)) id) same
+          subst (λ (n : ℕ). grids (screen_at (served_now before next_frame n)) id ≡ grids (screen_at (service_behind before n)) id) same
           (looks (served_now before frame service).core (served_now before next_frame service).core one.core other.core served_one.stands served_other.stands
           (taken.same (new_none none)) id
           ∙ leads.same (old_none none) service is_service id)
       same_if false none s is is_s id =
           let apart : (service ≡ s → ⊥) = λ same. grind (arith, nat_tests) in
-          subst (λ (events : List Event). grids (screen_at (after start (before s ++ events))) id ≡ grids (screen_at (served before s)) id)
+          subst (λ (events : List Event). grids (screen_at (after start (before s ++ events))) id ≡ grids (screen_at (service_behind before s)) id)
           (sym (byte_other service byte frame s apart)) (leads.same (old_none none) s is_s id)
 
       test : ℕ → Bool
-      test s = is_filled (served before s) (frame s)
+      test s = is_filled (service_behind before s) (frame s)
 
       next_test : ℕ → Bool
-      next_test s = is_filled (served before s) (next_frame s)
+      next_test s = is_filled (service_behind before s) (next_frame s)
 
       test_apart : (s : ℕ) → (service ≡ s → ⊥) → next_test s ≡ test s
-      test_apart s apart = ap (is_filled (served before s)) (byte_other service byte frame s apart)
+      test_apart s apart = ap (is_filled (service_behind before s)) (byte_other service byte frame s apart)
 
       test_here : next_test service ≡ (test service || full)
-      test_here = ap (is_filled (served before service)) (byte_here service byte frame)
-          ∙ filled_more (served before service) (frame service) (Byte byte)
+      test_here = ap (is_filled (service_behind before service)) (byte_here service byte frame)
+          ∙ filled_more (service_behind before service) (frame service) (Byte byte)
           ∙ ap (λ (t : Served). test service || (fill byte t.core == 128)) (sym (after_append start (before service) (frame service)))
           ∙ ap (λ (b : Bool). test service || b) (sym (taken.full_is (after start (before service ++ frame service)).core served_one.stands))
 
@@ -396,10 +396,10 @@ leads_same before frame before_too frame_too members now next touched filled cou
       ap (λ (events : List Event). grids (screen_at (after start events)) id) (both service is)
       ∙ leads.same none service is id
       ∙ sym (ap (λ (events : List Event). grids (screen_at (after start events)) id) (before_is service is));
-  lowest = lowest_alike (λ service. is_filled (served before service) (frame service))
-      (λ service. is_filled (served before_too service) (frame_too service)) filled
+  lowest = lowest_alike (λ service. is_filled (service_behind before service) (frame service))
+      (λ service. is_filled (service_behind before_too service) (frame_too service)) filled
       (λ service is. ap (λ (events : List Event). is_filled (after start events) (frame_too service)) (before_is service is)
-      ∙ ap (is_filled (served before service)) (frame_is service is)) leads.lowest;
+      ∙ ap (is_filled (service_behind before service)) (frame_is service is)) leads.lowest;
 } where
   both : (service : ℕ) → IsService service → before_too service ++ frame_too service ≡ before service ++ frame service
   both service is =

@@ -7,7 +7,7 @@ use Rattle.std.specs.List.{slice_get}
 use Rattle.dtvcc_screen.specs.declared.clock.Clock.{Clock}
 use Rattle.dtvcc_screen.specs.declared.cores.Core.{Core}
 use Rattle.dtvcc_screen.specs.Cores.{CoreState, after_tick, clean, is_due, released}
-use Rattle.dtvcc_screen.specs.Objects.{Notes, Stands, delay_end, has_changed, screen_in}
+use Rattle.dtvcc_screen.specs.Objects.{Notes, Stands, core_delay_end, has_changed, screen_in}
 use Rattle.dtvcc_screen.specs.Screens.{ScreenState}
 use Rattle.dtvcc_screen.specs.Shown.{LooksSame, grids}
 use Rattle.dtvcc_services.specs.declared.members.Member.{Member}
@@ -106,7 +106,7 @@ not_due : (until : Option ℕ) (next now : ℕ) → ((end : ℕ) → until ≡ S
 not_due None next now waits before = refl
 not_due (Some end) next now waits before = let from = waits end refl in grind (arith, nat_tests)
 
-pub ticks_pass : (clock : Clock) (next : ℕ) (state : CoreState) (member : Member) → ((end : ℕ) → delay_end member.core ≡ Some end → next ≤ end)
+pub ticks_pass : (clock : Clock) (next : ℕ) (state : CoreState) (member : Member) → ((end : ℕ) → core_delay_end member.core ≡ Some end → next ≤ end)
     → clock.ticks < next → Stands state member.core → after_tick clock state ≡ state
 ticks_pass clock next state member waits before stands =
     ap (λ (b : Bool). if b then released clock state else state)
@@ -129,7 +129,7 @@ nothing_ends clock next members waits before = record {
   at place one other from same = subst (λ (m : Member). HasStepped (after_tick clock) next false one m) same (still place one from)
 
 -- a service that is clean has no delay
-pub clean_waits : (member : Member) (next : ℕ) → Stands clean member.core → (end : ℕ) → delay_end member.core ≡ Some end → next ≤ end
+pub clean_waits : (member : Member) (next : ℕ) → Stands clean member.core → (end : ℕ) → core_delay_end member.core ≡ Some end → next ≤ end
 clean_waits member next stands end is = absurd (none_some (sym stands.carries.until ∙ is)) where
   none_some : None ≡ Some end → ⊥
   none_some impossible = cc

@@ -7,7 +7,7 @@ pub record IsService (service : ℕ) : Type 0 where
   pub to : service ≤ 63
 
 -- of this service a test holds, and of none below it
-pub record IsFirst (test : ℕ → Bool) (lowest : ℕ) : Type 0 where
+pub record IsLowestService (test : ℕ → Bool) (lowest : ℕ) : Type 0 where
   pub is : IsService lowest
   pub holds : test lowest ≡ true
   pub below : (service : ℕ) → 1 ≤ service → service < lowest → test service ≡ false
@@ -15,4 +15,4 @@ pub record IsFirst (test : ℕ → Bool) (lowest : ℕ) : Type 0 where
 -- the lowest service of which a test holds, if it holds of any
 abbrev pub IsLowest : (ℕ → Bool) → Option ℕ → Type 0
 IsLowest test None = (service : ℕ) → IsService service → test service ≡ false
-IsLowest test (Some lowest) = IsFirst test lowest
+IsLowest test (Some lowest) = IsLowestService test lowest

@@ -17,8 +17,8 @@ abbrev pub Events : Type 0
 Events = ℕ → List Event
 
 -- a service behind its events
-abbrev pub served : Events → ℕ → Served
-served events service = after start (events service)
+abbrev pub service_behind : Events → ℕ → Served
+service_behind events service = after start (events service)
 
 -- behind its events of the frames before, and those of the present frame
 abbrev pub served_now : Events → Events → ℕ → Served
@@ -39,13 +39,13 @@ pub record LeadTo (before frame : Events) (members : List Member) (now : Clock) 
       → Serves (before (place + 1) ++ frame (place + 1)) now member.core
   pub waits : NoneEndsBefore next members
   pub same : touched ≡ false → (service : ℕ) → IsService service
-      → LooksSame (screen_at (served before service)) (screen_at (served_now before frame service))
-  pub lowest : IsLowest (λ service. is_filled (served before service) (frame service)) filled
+      → LooksSame (screen_at (service_behind before service)) (screen_at (served_now before frame service))
+  pub lowest : IsLowest (λ service. is_filled (service_behind before service) (frame service)) filled
 
 abbrev pub Leads : Events → Events → Services → Type 0
 Leads before frame services =
     LeadTo before frame services.members.items services.clock services.next services.touched services.filled
 
 -- the frames that all services were told of
-abbrev pub frames_of : Services → ℕ
-frames_of services = services.clock.ticks
+abbrev pub all_ticks : Services → ℕ
+all_ticks services = services.clock.ticks

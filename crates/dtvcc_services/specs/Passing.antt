@@ -1,7 +1,7 @@
 -- A pass over all services, in which each takes the same step.
 use Rattle.std.specs.Prelude.{◌≡◌, ℕ, ◌≤◌, min, Bool, false, List, Option, Some, None, length, slice_get}
 use Rattle.dtvcc_screen.specs.Cores.{CoreState}
-use Rattle.dtvcc_screen.specs.Objects.{Stands, delay_end, screen_in}
+use Rattle.dtvcc_screen.specs.Objects.{Stands, core_delay_end, screen_in}
 use Rattle.dtvcc_screen.specs.Shown.{LooksSame}
 use Rattle.dtvcc_services.specs.declared.members.Member.{Member}
 
@@ -9,7 +9,7 @@ use Rattle.dtvcc_services.specs.declared.members.Member.{Member}
 -- noted the same is shown
 pub record HasStepped (step : CoreState → CoreState) (next : ℕ) (noted : Bool) (was now : Member) : Type 0 where
   pub stands : (state : CoreState) → Stands state was.core → Stands (step state) now.core
-  pub ends : (end : ℕ) → delay_end now.core ≡ Some end → next ≤ end
+  pub ends : (end : ℕ) → core_delay_end now.core ≡ Some end → next ≤ end
   pub same : noted ≡ false → LooksSame (screen_in was.core) (screen_in now.core)
 
 -- each of them did
@@ -21,7 +21,7 @@ pub record HaveStepped (step : CoreState → CoreState) (next : ℕ) (noted : Bo
 -- no delay ends before a frame
 abbrev pub NoneEndsBefore : ℕ → List Member → Type 0
 NoneEndsBefore next members =
-    (place : ℕ) (member : Member) → slice_get members place ≡ Some member → (end : ℕ) → delay_end member.core ≡ Some end → next ≤ end
+    (place : ℕ) (member : Member) → slice_get members place ≡ Some member → (end : ℕ) → core_delay_end member.core ≡ Some end → next ≤ end
 
 -- the lesser one of a number and of another, if there is one
 abbrev pub least_with : ℕ → Option ℕ → ℕ

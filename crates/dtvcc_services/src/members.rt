@@ -1,6 +1,6 @@
 ghost use Rattle.std.specs.Prelude.{◌≡◌, ◌≤◌, ◌<◌, ◌^◌, ◌==◌, ℕ, Some, false, IfOk};
 ghost use Rattle.dtvcc_screen.specs.Cores.{CoreState, after_byte, after_tick, clean, fill};
-ghost use Rattle.dtvcc_screen.specs.Objects.{Stands, delay_end, screen_in};
+ghost use Rattle.dtvcc_screen.specs.Objects.{Stands, core_delay_end, screen_in};
 ghost use Rattle.dtvcc_screen.specs.Shown.{LooksSame};
 
 use dtvcc_screen::{Clock, Core};

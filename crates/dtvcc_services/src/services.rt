@@ -32,12 +32,12 @@ impl Services {
     ghost use Rattle.dtvcc_screen.specs.Shown.{LooksSame};
     ghost use Rattle.dtvcc_services.specs.Filling.{is_filled};
     ghost use Rattle.dtvcc_services.specs.Numbers.{IsLowest, IsService};
-    ghost use Rattle.dtvcc_services.specs.Objects.{Events, Leads, frames_of, screen_at, served, served_now};
+    ghost use Rattle.dtvcc_services.specs.Objects.{Events, Leads, all_ticks, screen_at, served_now, service_behind};
 
     /// All services before their first frame. All memory that they ever take is taken here, and none of it written.
     pub fn new(alloc: Global) -> Result<Services, AllocError>
         ensures leads { IfOk result (Leads (λ service. []) (λ service. [])) }
-        ensures frames { IfOk result (λ services. frames_of services ≡ 0) }
+        ensures frames { IfOk result (λ services. all_ticks services ≡ 0) }
     {
         let mut members = Vec::new(alloc);
         for _place in 0..SERVICES {
@@ -57,10 +57,10 @@ impl Services {
 
     /// The next frame begins, of a rate: delays that end in it end (CTA-708-E, Delay).
     pub fn tick(&mut self, rate: Rate)
-        requires { frames_of self.old < 2 ^ 32 - 1 }
+        requires { all_ticks self.old < 2 ^ 32 - 1 }
         ensures leads { (before frame : Events) → Leads before frame self.old
             → Leads (λ service. before service ++ frame service) (λ service. Tick rate ∷ []) self.new }
-        ensures frames { frames_of self.new ≡ frames_of self.old + 1 }
+        ensures frames { all_ticks self.new ≡ all_ticks self.old + 1 }
     {
         self.clock = Clock {
             ticks: self.clock.ticks + 1,
@@ -74,10 +74,10 @@ impl Services {
 
     /// A service takes its next byte of the present frame. A byte of a service that isn't one of 1 to 63 changes nothing.
     pub fn byte(&mut self, service: u8, byte: u8)
-        requires { frames_of self.old < 2 ^ 32 }
+        requires { all_ticks self.old < 2 ^ 32 }
         ensures leads { (before frame : Events) → Leads before frame self.old
             → Leads before (λ other. frame other ++ (if service == other then Byte byte ∷ [] else [])) self.new }
-        ensures frames { frames_of self.new ≡ frames_of self.old }
+        ensures frames { all_ticks self.new ≡ all_ticks self.old }
     {
         if is_service(service) {
             self.take(service, byte);
@@ -87,10 +87,10 @@ impl Services {
     // One of the services takes a byte.
     fn take(&mut self, service: u8, byte: u8)
         requires service { IsService service }
-        requires frames { frames_of self.old < 2 ^ 32 }
+        requires frames { all_ticks self.old < 2 ^ 32 }
         ensures leads { (before frame : Events) → Leads before frame self.old
             → Leads before (λ other. frame other ++ (if service == other then Byte byte ∷ [] else [])) self.new }
-        ensures frames { frames_of self.new ≡ frames_of self.old }
+        ensures frames { all_ticks self.new ≡ all_ticks self.old }
     {
         let clock = self.clock;
         let member = &mut self.members[place(service)];
@@ -105,7 +105,7 @@ impl Services {
     pub fn reset(&mut self)
         ensures leads { (before frame : Events) → Leads before frame self.old
             → Leads before (λ service. frame service ++ Reset ∷ []) self.new }
-        ensures frames { frames_of self.new ≡ frames_of self.old }
+        ensures frames { all_ticks self.new ≡ all_ticks self.old }
     {
         let seen = reset_all(&mut self.members);
         self.next = u64::MAX;
@@ -114,7 +114,7 @@ impl Services {
 
     /// The number of frames that the services were told of.
     pub fn frames(&self) -> u64
-        ensures { result ≡ frames_of self.now }
+        ensures { result ≡ all_ticks self.now }
     {
         self.clock.ticks
     }
@@ -153,7 +153,7 @@ impl Services {
     /// shown as they were before it.
     pub fn is_touched(&self) -> bool
         ensures { (before frame : Events) → Leads before frame self.now → result ≡ false → (service : ℕ) → IsService service
-            → LooksSame (screen_at (served before service)) (screen_at (served_now before frame service)) }
+            → LooksSame (screen_at (service_behind before service)) (screen_at (served_now before frame service)) }
     {
         self.touched
     }
@@ -161,7 +161,7 @@ impl Services {
     /// The lowest service of which a byte of the present frame brought the held bytes to 128, which ended its delay.
     pub fn filled(&self) -> Option<u8>
         ensures { (before frame : Events) → Leads before frame self.now
-            → IsLowest (λ service. is_filled (served before service) (frame service)) result }
+            → IsLowest (λ service. is_filled (service_behind before service) (frame service)) result }
     {
         self.filled
     }

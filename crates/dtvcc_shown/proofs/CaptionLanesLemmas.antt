@@ -14,11 +14,11 @@ use Rattle.dtvcc_codes.specs.declared.commands.Command.TheVariants.{Dlw, Dsw}
 use Rattle.dtvcc_codes.specs.Writing.{written}
 use Rattle.dtvcc_author.specs.declared.caption.Caption.{Caption}
 use Rattle.dtvcc_author.specs.declared.frame_events.Delay.{Delay}
-use Rattle.dtvcc_author.specs.Captions.{captions_of}
+use Rattle.dtvcc_author.specs.Captions.{service_captions}
 use Rattle.dtvcc_author.specs.EventBytes.{delay_bytes}
 use Rattle.dtvcc_author.specs.FrameEvents.{delay_commands, delay_end, delayed_at, is_delayed_at, is_hidden_at, is_shown_at, names, windows_byte, windows_command}
 use Rattle.dtvcc_author.specs.Kept.{AreKept, IsUncovered}
-use Rattle.dtvcc_author.specs.Latest.{delay_of}
+use Rattle.dtvcc_author.specs.Latest.{caption_delay}
 use Rattle.dtvcc_author.proofs.LatestLemmas.{Has, delays_written, kept_sound}
 use Rattle.placements.specs.Placing.{IsPlaced}
 use Rattle.service_lanes.specs.declared.chunk.Chunk.{Chunk}
@@ -29,8 +29,8 @@ use Rattle.service_lanes.specs.ServiceRoom.{caption_lane, frame_room}
 use Rattle.service_lanes.proofs.DelayLemmas.{all_uncovered, delay_some, delay_test}
 use Rattle.dtvcc_shown.specs.CaptionLanes.{lane_of, plain_events}
 use Rattle.dtvcc_shown.specs.PlacedLanes.{IsPlacedLane, delay_ends, unloaded}
-use Rattle.dtvcc_shown.specs.ServiceLanes.{Lane, frame_bytes, spent}
-use Rattle.dtvcc_shown.specs.Soundness.{ArePlain, IsLasting, IsQuiet, IsSoundLane}
+use Rattle.dtvcc_shown.specs.ServiceLanes.{Lane, lane_frame_bytes, spent}
+use Rattle.dtvcc_shown.specs.Soundness.{ArePlain, HasOnlyLoads, IsLasting, IsSoundLane}
 use Rattle.dtvcc_shown.proofs.PlacedLanesLemmas.{placed_sound}
 use Rattle.dtvcc_shown.proofs.PlainLemmas.{nothing_plain, plain_both}
 use Rattle.dtvcc_shown.proofs.UnitLemmas.{units_plain}
@@ -38,10 +38,10 @@ use Rattle.dtvcc_shown.proofs.WrittenLemmas.{dlw_plain, dsw_plain}
 
 -- the bytes of the lane are those of the service
 pub lane_bytes_are : (rate : Rate) (cs : List Caption) (placed : List (Chunk × ℕ)) (frame : ℕ)
-    → frame_bytes (lane_of rate cs placed) frame ≡ bytes_in cs placed frame
+    → lane_frame_bytes (lane_of rate cs placed) frame ≡ bytes_in cs placed frame
 lane_bytes_are rate cs placed frame =
     let plain : List ℕ = plain_events frame cs in
-    let delays : List ℕ = delay_bytes (option_map delay_of (delayed_at frame cs)) in
+    let delays : List ℕ = delay_bytes (option_map caption_delay (delayed_at frame cs)) in
     let windows : List Command = windows_command Dlw (is_hidden_at frame) cs ++ windows_command Dsw (is_shown_at frame) cs in
     sym (append_assoc plain delays (loads_at placed frame))
     ∙ ap (λ (bytes : List ℕ). (plain ++ bytes) ++ loads_at placed frame) (sym (delays_written (delayed_at frame cs)))
@@ -69,19 +69,19 @@ pub record Starting (cs : List Caption) (start : ℕ) (delay : Delay) : Type 0 w
   pub has : Has caption cs
   pub tenths : 0 < caption.tenths
   pub starts : caption.starts ≡ start
-  pub is : delay ≡ delay_of caption
+  pub is : delay ≡ caption_delay caption
 
-pub starting : (cs : List Caption) (start : ℕ) (delay : Delay) → option_map delay_of (delayed_at start cs) ≡ Some delay → Starting cs start delay
+pub starting : (cs : List Caption) (start : ℕ) (delay : Delay) → option_map caption_delay (delayed_at start cs) ≡ Some delay → Starting cs start delay
 starting [] start delay is = cc
 starting (c ∷ cs) start delay is = at (is_delayed_at start c) refl (λ rest. starting cs start delay rest)
   where
     later : Starting cs start delay → Starting (c ∷ cs) start delay
     later s = record { caption = s.caption; has = inr s.has; tenths = s.tenths; starts = s.starts; is = s.is }
 
-    at : (b : Bool) → is_delayed_at start c ≡ b → (option_map delay_of (delayed_at start cs) ≡ Some delay → Starting cs start delay)
+    at : (b : Bool) → is_delayed_at start c ≡ b → (option_map caption_delay (delayed_at start cs) ≡ Some delay → Starting cs start delay)
         → Starting (c ∷ cs) start delay
     at true holds rest =
-        let here : Some (delay_of c) ≡ Some delay = rw holds at is in
+        let here : Some (caption_delay c) ≡ Some delay = rw holds at is in
         let told = delay_test start c holds in
         record { caption = c; has = inl refl; tenths = told.0; starts = told.1; is = cc }
     at false fails rest = later (rest (rw fails at is))
@@ -141,13 +141,13 @@ module _ (rate : Rate) (frames : ℕ) (cs : List Caption) (kept : AreKept rate f
       at true false is = refl
       at false b is = refl
 
-  delay_quiet : (placed : List (Chunk × ℕ)) → IsQuiet (unloaded (lane_of rate cs placed)) frame
+  delay_quiet : (placed : List (Chunk × ℕ)) → HasOnlyLoads (unloaded (lane_of rate cs placed)) frame
   delay_quiet placed = record {
     events = ap (λ (b : Bool). flat_map written (cond b (Dlw (windows_byte (names (is_hidden_at frame) cs)) ∷ []) [] ++ windows_command Dsw (is_shown_at frame) cs))
         (none_passes (is_hidden_at frame) cs not_hidden)
         ∙ ap (λ (b : Bool). flat_map written (cond b (Dsw (windows_byte (names (is_shown_at frame) cs)) ∷ []) []))
         (none_passes (is_shown_at frame) cs (λ other. not_started (other.tenths == 0) other));
-    delay = ap (option_map delay_of) (none_found (is_delayed_at frame) cs (λ other. not_started (not (other.tenths == 0)) other));
+    delay = ap (option_map caption_delay) (none_found (is_delayed_at frame) cs (λ other. not_started (not (other.tenths == 0)) other));
   }
 
 -- a delay of the lane lasts its tenths
@@ -167,9 +167,9 @@ delay_lasting rate frames cs placed start delay kept is =
       after = later;
     }
   where
-    end_is : (found : Option Caption) → option_map delay_of found ≡ Some delay → option_map (λ c. c.show) found ≡ Some delay.ends
+    end_is : (found : Option Caption) → option_map caption_delay found ≡ Some delay → option_map (λ c. c.show) found ≡ Some delay.ends
     end_is None none = cc
-    end_is (Some c) some = let same : delay_of c ≡ delay = cc in ap (λ (d : Delay). Some d.ends) same
+    end_is (Some c) some = let same : caption_delay c ≡ delay = cc in ap (λ (d : Delay). Some d.ends) same
 
 -- a lane without loads spends nothing
 none_spent : (lane : Lane) (from count : ℕ) → spent (unloaded lane) from count ≡ 0
@@ -191,17 +191,17 @@ captions_sound rate frames cs placed kept = record {
 ends_are : (rate : Rate) (cs : List Caption) → delay_end cs ≡ delay_ends (lane_of rate cs [])
 ends_are rate cs = fun_ext (λ start. at (delayed_at start cs))
   where
-    at : (found : Option Caption) → option_map (λ c. c.show) found ≡ option_map (λ (delay : Delay). delay.ends) (option_map delay_of found)
+    at : (found : Option Caption) → option_map (λ c. c.show) found ≡ option_map (λ (delay : Delay). delay.ends) (option_map caption_delay found)
     at None = refl
     at (Some c) = refl
 
 -- and it is with its units, wherever they stand that it allows
 pub captions_placed : (rate : Rate) (share service frames : ℕ) (cues : List Cue) (placed : List ℕ) → All IsCueFormed cues
-    → AreKept rate frames (captions_of rate service cues)
-    → IsPlaced (caption_lane share (captions_of rate service cues)) [] (service_chunks rate service cues) placed
-    → IsPlacedLane (lane_of rate (captions_of rate service cues) []) (frame_room share (captions_of rate service cues)) (service_chunks rate service cues) placed
+    → AreKept rate frames (service_captions rate service cues)
+    → IsPlaced (caption_lane share (service_captions rate service cues)) [] (service_chunks rate service cues) placed
+    → IsPlacedLane (lane_of rate (service_captions rate service cues) []) (frame_room share (service_captions rate service cues)) (service_chunks rate service cues) placed
 captions_placed rate share service frames cues placed formed kept is =
-    let cs : List Caption = captions_of rate service cues in
+    let cs : List Caption = service_captions rate service cues in
     record {
       sound = captions_sound rate frames cs [] kept;
       plain = units_plain rate service cues formed;
@@ -209,9 +209,9 @@ captions_placed rate share service frames cues placed formed kept is =
     }
 
 pub lane_sound : (rate : Rate) (share service frames : ℕ) (cues : List Cue) (placed : List ℕ) → All IsCueFormed cues
-    → AreKept rate frames (captions_of rate service cues)
-    → IsPlaced (caption_lane share (captions_of rate service cues)) [] (service_chunks rate service cues) placed
-    → IsSoundLane (lane_of rate (captions_of rate service cues) (zip (service_chunks rate service cues) placed))
+    → AreKept rate frames (service_captions rate service cues)
+    → IsPlaced (caption_lane share (service_captions rate service cues)) [] (service_chunks rate service cues) placed
+    → IsSoundLane (lane_of rate (service_captions rate service cues) (zip (service_chunks rate service cues) placed))
 lane_sound rate share service frames cues placed formed kept is =
-    placed_sound (lane_of rate (captions_of rate service cues) []) (frame_room share (captions_of rate service cues)) (service_chunks rate service cues) placed
+    placed_sound (lane_of rate (service_captions rate service cues) []) (frame_room share (service_captions rate service cues)) (service_chunks rate service cues) placed
     (captions_placed rate share service frames cues placed formed kept is)

@@ -11,7 +11,7 @@ use Rattle.cc_base.specs.Rate.{delay_frames_of}
 use Rattle.cc_base.specs.Steps.{front_from}
 use Rattle.dtvcc_codes.specs.declared.commands.Command.{Command}
 use Rattle.dtvcc_codes.specs.declared.commands.Command.TheVariants.{Dly}
-use Rattle.dtvcc_codes.specs.Reading.{command_of, completed, completions, open_after, told_size}
+use Rattle.dtvcc_codes.specs.Reading.{completed, completions, open_after, spelled_command, told_size}
 use Rattle.dtvcc_screen.specs.declared.clock.Clock.{Clock}
 use Rattle.dtvcc_screen.specs.Cores.{CoreState, arrived, fill, released}
 use Rattle.dtvcc_screen.specs.Laws.{on_screen_all, on_screen_if}
@@ -22,7 +22,7 @@ use Rattle.dtvcc_screen.proofs.CoreLemmas.{by_byte, completions_length}
 use Rattle.dtvcc_shown.specs.Filling.{AllFill}
 use Rattle.dtvcc_author.specs.declared.frame_events.Delay.{Delay}
 use Rattle.dtvcc_author.specs.EventBytes.{delay_bytes}
-use Rattle.dtvcc_shown.specs.ServiceLanes.{IsInDelay, IsOutside, Lane, frame_bytes, frame_events, opening_events, served, spent}
+use Rattle.dtvcc_shown.specs.ServiceLanes.{IsInDelay, IsOutside, Lane, lane_frame_bytes, lane_frame_events, opening_events, served, spent}
 use Rattle.dtvcc_shown.specs.Soundness.{ArePlain, IsSoundLane}
 use Rattle.dtvcc_shown.specs.Undelayed.{acted_on, opened, shows_bytes, undelayed}
 use Rattle.dtvcc_shown.proofs.PlainLemmas.{AllPlain, later, later_fill, now, now_fill, releases, served_at}
@@ -90,7 +90,7 @@ unfolding told_size
 delay_open = refl
 
 delay_second : (tenths : ℕ) → completed (0x8D ∷ []) tenths ≡ Some (Dly tenths)
-unfolding told_size command_of
+unfolding told_size spelled_command
 delay_second tenths = refl
 
 delay_closed : (tenths : ℕ) → open_after (0x8D ∷ []) tenths ≡ []
@@ -125,7 +125,7 @@ begins_fill tenths clock screen = (
 
 -- DisplayWindows behind it, and the loads, are plain and whole
 shows_plain : (windows : ℕ) (loads : List ℕ) → ArePlain loads → AllPlain (completions [] (0x89 ∷ windows ∷ loads))
-unfolding told_size command_of
+unfolding told_size spelled_command
 shows_plain windows loads are = (tt, (refl, are.plain))
 
 shows_whole : (windows : ℕ) (loads : List ℕ) → ArePlain loads → front_from open_after [] (0x89 ∷ windows ∷ loads) ≡ []
@@ -145,7 +145,7 @@ acts_both (first ∷ said) more s = acts_both said more (on_screen_if first s)
 -- DisplayWindows acts before the loads
 shows_first : (windows : ℕ) (loads : List ℕ) (s : ScreenState)
     → acted_on (0x89 ∷ windows ∷ loads) s ≡ acted_on loads (acted_on (0x89 ∷ windows ∷ []) s)
-unfolding told_size command_of
+unfolding told_size spelled_command
 shows_first windows loads s = refl
 
 module _ (lane : Lane) (sound : IsSoundLane lane) where
@@ -198,7 +198,7 @@ module _ (lane : Lane) (sound : IsSoundLane lane) where
   -- what a frame does
   record Step (frame : ℕ) : Type 0 where
     stands : Stands (suc frame)
-    fills : AllFill 127 (served lane frame) (frame_events lane frame)
+    fills : AllFill 127 (served lane frame) (lane_frame_events lane frame)
 
   -- in the frame, behind its tick, no delay is on
   record Ready (frame : ℕ) : Type 0 where
@@ -267,7 +267,7 @@ module _ (lane : Lane) (sound : IsSoundLane lane) where
       let begun : begun_at ≡ served_at clock within.screen [] (Some within.until) within.held =
       ap (on_event (Tick lane.rate)) within.is
       ∙ ap (λ (ends : Bool). record { clock = clock; core = if ends then released clock core else core }) early in
-      let bytes : frame_bytes lane frame ≡ lane.loads frame =
+      let bytes : lane_frame_bytes lane frame ≡ lane.loads frame =
       ap (λ (events : List ℕ). events ++ (delay_bytes (lane.delay frame) ++ lane.loads frame)) quiet.events
       ∙ ap (λ (o : Option Delay). delay_bytes o ++ lane.loads frame) quiet.delay in
       let count = within.count in
@@ -319,7 +319,7 @@ module _ (lane : Lane) (sound : IsSoundLane lane) where
       let first : ScreenState = on_screen_all (completions [] (lane.events frame)) ready.screen in
       let behind : after begun_at (map Byte (lane.events frame)) ≡ served_at ready.clock first [] None [] =
       ap (λ (s : Served). after s (map Byte (lane.events frame))) ready.is ∙ plain_now (lane.events frame) ready.clock ready.screen events in
-      let bytes : frame_bytes lane frame ≡ lane.events frame ++ lane.loads frame =
+      let bytes : lane_frame_bytes lane frame ≡ lane.events frame ++ lane.loads frame =
       ap (λ (o : Option Delay). lane.events frame ++ (delay_bytes o ++ lane.loads frame)) is in
       let came : served lane (suc frame) ≡ served_at ready.clock (on_screen_all (completions [] (lane.loads frame)) first) [] None [] =
       ap (λ (b : List ℕ). after begun_at (map Byte b)) bytes
@@ -360,7 +360,7 @@ module _ (lane : Lane) (sound : IsSoundLane lane) where
       ap (λ (s : Served). after s (map Byte (lane.events frame))) ready.is ∙ plain_now (lane.events frame) ready.clock ready.screen events in
       let shown : first ≡ opened lane frame = ap (acted_on (lane.events frame)) ready.shows in
       let begun = delay_begins delay.tenths ready.clock first lasting.some in
-      let bytes : frame_bytes lane frame ≡ lane.events frame ++ (begins ++ rest) =
+      let bytes : lane_frame_bytes lane frame ≡ lane.events frame ++ (begins ++ rest) =
       ap (λ (o : Option Delay). lane.events frame ++ (delay_bytes o ++ lane.loads frame)) is in
       let one : suc frame - frame ≡ 1 = omega arith in
       let here : spent lane frame (suc frame - frame) ≡ length (lane.loads frame) = ap (spent lane frame) one ∙ spent_one lane frame in
@@ -430,7 +430,7 @@ module _ (lane : Lane) (sound : IsSoundLane lane) where
   stands_at (suc frame) = (step frame (stands_at frame)).stands
 
   -- at most 127 bytes are held
-  pub buffer_keeps : (frame : ℕ) → AllFill 127 (served lane frame) (frame_events lane frame)
+  pub buffer_keeps : (frame : ℕ) → AllFill 127 (served lane frame) (lane_frame_events lane frame)
   buffer_keeps frame = (step frame (stands_at frame)).fills
 
   -- within a delay the screen stays

@@ -7,7 +7,7 @@ use Rattle.std.proofs.lemmas.List.Elements.{All-head, All-tail}
 use Rattle.std.proofs.lemmas.List.Sums.{sum_by-cons}
 use Rattle.service_lanes.specs.declared.chunk.Chunk.{Chunk}
 use Rattle.service_lanes.specs.ServiceBytes.{loads_at}
-use Rattle.service_lanes.specs.ServiceLane.{bytes_between, is_between, size_of, used}
+use Rattle.service_lanes.specs.ServiceLane.{bytes_between, chunk_size, is_between, used}
 use Rattle.service_lanes.proofs.ServiceLaneLemmas.{placed_within}
 use Rattle.dtvcc_shown.specs.PlacedLanes.{IsPlacedLane, delay_ends, loaded}
 use Rattle.dtvcc_author.specs.declared.frame_events.Delay.{Delay}
@@ -48,16 +48,16 @@ piece_more : (from count : ℕ) (u : Chunk) (f : ℕ)
 piece_more from count u f = at (f == from + count) (is_between from (from + count) f) refl refl
   where
     at : (here before : Bool) → (f == from + count) ≡ here → is_between from (from + count) f ≡ before
-        → bytes_between from (from + suc count) (u, f) ≡ (if before then size_of u else 0) + length (if here then u.unit.items else [])
+        → bytes_between from (from + suc count) (u, f) ≡ (if before then chunk_size u else 0) + length (if here then u.unit.items else [])
     at true true is was = absurd (let none = between_not_yet from count f is in let both : true ≡ false = sym was ∙ none in cc)
     at true false is was =
-        ap (λ (b : Bool). if b then size_of u else 0) (between_last from count f is)
-        ∙ (let sum : size_of u ≡ 0 + size_of u = omega arith in sum)
+        ap (λ (b : Bool). if b then chunk_size u else 0) (between_last from count f is)
+        ∙ (let sum : chunk_size u ≡ 0 + chunk_size u = omega arith in sum)
     at false true is was =
-        ap (λ (b : Bool). if b then size_of u else 0) (between_still from count f was)
-        ∙ (let sum : size_of u ≡ size_of u + 0 = omega arith in sum)
+        ap (λ (b : Bool). if b then chunk_size u else 0) (between_still from count f was)
+        ∙ (let sum : chunk_size u ≡ chunk_size u + 0 = omega arith in sum)
     at false false is was =
-        ap (λ (b : Bool). if b then size_of u else 0) (between_never from count f is was)
+        ap (λ (b : Bool). if b then chunk_size u else 0) (between_never from count f is was)
 
 used_more : (from count : ℕ) (chunks : List Chunk) (frames : List ℕ)
     → used from (from + suc count) (zip chunks frames) ≡ used from (from + count) (zip chunks frames) + length (loads_at (zip chunks frames) (from + count))
@@ -78,7 +78,7 @@ used_none from to (u ∷ us) (f ∷ fs) below =
     let rest = used_none from to us fs below in
     let all = sum_by-cons (bytes_between from to) (u, f) (zip us fs) in
     let out : is_between from to f ≡ false = grind (arith, nat_tests) in
-    let none : bytes_between from to (u, f) ≡ 0 = ap (λ (b : Bool). if b then size_of u else 0) out in
+    let none : bytes_between from to (u, f) ≡ 0 = ap (λ (b : Bool). if b then chunk_size u else 0) out in
     rw all (omega (arith, rest, none))
 
 -- what a placed lane spends is what its units use

@@ -16,10 +16,10 @@ use Rattle.dtvcc_screen.specs.Objects.{acting_on}
 use Rattle.dtvcc_screen.specs.Screens.{ScreenState}
 use Rattle.dtvcc_screen.proofs.CoreLemmas.{arrived_held, arrived_now, by_byte, fill_held}
 use Rattle.dtvcc_shown.specs.Filling.{AllFill}
-use Rattle.dtvcc_shown.specs.Soundness.{ArePlain, IsPlain, is_plain}
+use Rattle.dtvcc_shown.specs.Soundness.{ArePlain, IsPlainOrNone, is_plain}
 
 abbrev pub AllPlain : List (Option Command) → Type 0
-AllPlain said = AllByRecursion IsPlain said
+AllPlain said = AllByRecursion IsPlainOrNone said
 
 -- no bytes are plain
 pub nothing_plain : ArePlain []
@@ -59,16 +59,16 @@ calm_is Dlc plain = cc
 calm_is Rst plain = cc
 calm_is _ plain = record { reset = refl; cancel = refl; tenths = refl }
 
-no_reset : (said : Option Command) → IsPlain said → is_reset said ≡ false
+no_reset : (said : Option Command) → IsPlainOrNone said → is_reset said ≡ false
 no_reset None plain = refl
 no_reset (Some command) plain = (calm_is command plain).reset
 
-no_cancel : (said : Option Command) → IsPlain said → is_cancel said ≡ false
+no_cancel : (said : Option Command) → IsPlainOrNone said → is_cancel said ≡ false
 no_cancel None plain = refl
 no_cancel (Some command) plain = (calm_is command plain).cancel
 
 -- outside of a delay what a plain byte completed acts
-acts_now : (said : Option Command) (clock : Clock) (screen : ScreenState) (open_bytes : List ℕ) → IsPlain said
+acts_now : (said : Option Command) (clock : Clock) (screen : ScreenState) (open_bytes : List ℕ) → IsPlainOrNone said
     → acted_if said clock (acting_on open_bytes screen) ≡ acting_on open_bytes (on_screen_if said screen)
 acts_now None clock screen open_bytes plain = refl
 acts_now (Some command) clock screen open_bytes plain =
@@ -79,7 +79,7 @@ acts_now (Some command) clock screen open_bytes plain =
       held = [];
     }) (calm_is command plain).tenths
 
-now_one : (byte : ℕ) (clock : Clock) (screen : ScreenState) (open_bytes : List ℕ) → IsPlain (completed open_bytes byte)
+now_one : (byte : ℕ) (clock : Clock) (screen : ScreenState) (open_bytes : List ℕ) → IsPlainOrNone (completed open_bytes byte)
     → on_event (Byte byte) (served_at clock screen open_bytes None [])
     ≡ served_at clock (on_screen_if (completed open_bytes byte) screen) (open_after open_bytes byte) None []
 now_one byte clock screen open_bytes plain =
@@ -120,7 +120,7 @@ holds_later said clock screen open_bytes end held few =
     ap (λ (full : Bool). if full then released clock next else next) short
 
 later_one : (byte : ℕ) (clock : Clock) (screen : ScreenState) (open_bytes : List ℕ) (end : ℕ) (held : List (Option Command))
-    → length held < 127 → IsPlain (completed open_bytes byte)
+    → length held < 127 → IsPlainOrNone (completed open_bytes byte)
     → on_event (Byte byte) (served_at clock screen open_bytes (Some end) held)
     ≡ served_at clock screen (open_after open_bytes byte) (Some end) (held ++ completed open_bytes byte ∷ [])
 later_one byte clock screen open_bytes end held few plain =

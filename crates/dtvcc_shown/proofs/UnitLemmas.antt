@@ -19,7 +19,7 @@ use Rattle.dtvcc_codes.specs.Writing.{written}
 use Rattle.dtvcc_windows.specs.Styles.{pen_style}
 use Rattle.dtvcc_author.specs.declared.caption.Caption.{Caption}
 use Rattle.dtvcc_author.specs.Captions.{caption_of}
-use Rattle.dtvcc_author.specs.CueUnits.{IsWritable, units_of}
+use Rattle.dtvcc_author.specs.CueUnits.{IsWritable, window_cue_units}
 use Rattle.dtvcc_author.specs.WindowCommands.{are_coloured, attribute_commands, character_commands, color_commands, commands_of, commands_with, run_commands, window_commands}
 use Rattle.dtvcc_author.proofs.WritableLemmas.{commands_writable}
 use Rattle.service_lanes.specs.declared.chunk.Chunk.{Chunk}
@@ -102,11 +102,11 @@ module _ (P : List ℕ → Type 0) (holds : (command : Command) → IsWritable c
   hold_from : (rate : Rate) (service number : ℕ) (cues : List Cue) → All IsCueFormed cues → All IsUnit (chunks_from rate service number cues)
   hold_from rate service number [] formed = All-nil IsUnit
   hold_from rate service number (cue ∷ cues) formed =
-      All-append IsUnit (chunks_with number (caption_of rate service cue) (units_of cue)) (chunks_from rate service (suc number) cues)
+      All-append IsUnit (chunks_with number (caption_of rate service cue) (window_cue_units cue)) (chunks_from rate service (suc number) cues)
       (at (caption_of rate service cue))
       (hold_from rate service (suc number) cues (All-tail IsCueFormed cue cues formed))
     where
-      at : (c : Option Caption) → All IsUnit (chunks_with number c (units_of cue))
+      at : (c : Option Caption) → All IsUnit (chunks_with number c (window_cue_units cue))
       at None = All-nil IsUnit
       at (Some c) = own_hold number c (commands_of cue) (commands_writable cue (All-head IsCueFormed cue cues formed)) (cue_loading cue)
 

@@ -4,7 +4,7 @@ use Rattle.std.specs.Prelude.{replicate}
 use Rattle.cc_base.specs.Steps.{front_from}
 use Rattle.dtvcc_codes.specs.declared.commands.Command.{Command}
 use Rattle.dtvcc_codes.specs.declared.commands.Command.TheVariants.{Dlw, Dsw}
-use Rattle.dtvcc_codes.specs.Reading.{command_of, completed, completions, open_after, told_size}
+use Rattle.dtvcc_codes.specs.Reading.{completed, completions, open_after, spelled_command, told_size}
 use Rattle.dtvcc_codes.specs.Spelling.{Spells}
 use Rattle.dtvcc_codes.specs.Writing.{written}
 use Rattle.dtvcc_codes.proofs.CutLemmas.{spelling_completes}
@@ -56,17 +56,17 @@ acted_append bytes more s are = acts_behind [] bytes more s are.whole
 
 -- the commands for windows, whatever windows they name
 pub dlw_acts : (windows : ℕ) (s : ScreenState) → acted_on (written (Dlw windows)) s ≡ on_screen (Dlw windows) s
-unfolding written told_size command_of
+unfolding written told_size spelled_command
 dlw_acts windows s = refl
 
 pub dsw_acts : (windows : ℕ) (s : ScreenState) → acted_on (written (Dsw windows)) s ≡ on_screen (Dsw windows) s
-unfolding written told_size command_of
+unfolding written told_size spelled_command
 dsw_acts windows s = refl
 
 pub dlw_plain : (windows : ℕ) → ArePlain (written (Dlw windows))
-unfolding written told_size command_of
+unfolding written told_size spelled_command
 dlw_plain windows = record { plain = (tt, (refl, tt)); whole = refl }
 
 pub dsw_plain : (windows : ℕ) → ArePlain (written (Dsw windows))
-unfolding written told_size command_of
+unfolding written told_size spelled_command
 dsw_plain windows = record { plain = (tt, (refl, tt)); whole = refl }

@@ -7,7 +7,7 @@ use Rattle.dtvcc_codes.specs.declared.commands.Command.TheVariants.{Dlw, Dsw}
 use Rattle.dtvcc_codes.specs.Writing.{written}
 use Rattle.dtvcc_author.specs.declared.caption.Caption.{Caption}
 use Rattle.dtvcc_author.specs.FrameEvents.{delayed_at, is_hidden_at, is_shown_at, windows_command}
-use Rattle.dtvcc_author.specs.Latest.{delay_of}
+use Rattle.dtvcc_author.specs.Latest.{caption_delay}
 use Rattle.service_lanes.specs.declared.chunk.Chunk.{Chunk}
 use Rattle.service_lanes.specs.ServiceBytes.{loads_at}
 use Rattle.dtvcc_shown.specs.ServiceLanes.{Lane}
@@ -21,6 +21,6 @@ abbrev pub lane_of : Rate → List Caption → List (Chunk × ℕ) → Lane
 lane_of rate cs placed = record {
   rate = rate;
   events = λ frame. plain_events frame cs;
-  delay = λ frame. option_map delay_of (delayed_at frame cs);
+  delay = λ frame. option_map caption_delay (delayed_at frame cs);
   loads = loads_at placed;
 }

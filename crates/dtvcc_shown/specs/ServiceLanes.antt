@@ -14,12 +14,12 @@ pub record Lane : Type 0 where
   pub loads : ℕ → List ℕ
 
 -- the bytes of a frame
-abbrev pub frame_bytes : Lane → ℕ → List ℕ
-frame_bytes lane frame = lane.events frame ++ (delay_bytes (lane.delay frame) ++ lane.loads frame)
+abbrev pub lane_frame_bytes : Lane → ℕ → List ℕ
+lane_frame_bytes lane frame = lane.events frame ++ (delay_bytes (lane.delay frame) ++ lane.loads frame)
 
 -- what the service is told in a frame, and as much of it as stands before a delay
-abbrev pub frame_events : Lane → ℕ → List Event
-frame_events lane frame = Tick lane.rate ∷ map Byte (frame_bytes lane frame)
+abbrev pub lane_frame_events : Lane → ℕ → List Event
+lane_frame_events lane frame = Tick lane.rate ∷ map Byte (lane_frame_bytes lane frame)
 
 abbrev pub opening_events : Lane → ℕ → List Event
 opening_events lane frame = Tick lane.rate ∷ map Byte (lane.events frame)
@@ -27,7 +27,7 @@ opening_events lane frame = Tick lane.rate ∷ map Byte (lane.events frame)
 -- the service before a frame, when all frames before it have come
 abbrev pub served : Lane → ℕ → Served
 served lane zero = start
-served lane (suc frame) = after (served lane frame) (frame_events lane frame)
+served lane (suc frame) = after (served lane frame) (lane_frame_events lane frame)
 
 -- the bytes of the loads of so many frames from one on
 abbrev pub spent : Lane → ℕ → ℕ → ℕ

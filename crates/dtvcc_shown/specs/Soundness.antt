@@ -18,13 +18,13 @@ is_plain Rst = false
 is_plain _ = true
 
 -- nor does what a byte completed
-abbrev pub IsPlain : Option Command → Type 0
-IsPlain None = Unit {0}
-IsPlain (Some command) = is_plain command ≡ true
+abbrev pub IsPlainOrNone : Option Command → Type 0
+IsPlainOrNone None = Unit {0}
+IsPlainOrNone (Some command) = is_plain command ≡ true
 
 -- the bytes are whole commands, all of them plain
 pub record ArePlain (bytes : List ℕ) : Type 0 where
-  pub plain : AllByRecursion IsPlain (completions [] bytes)
+  pub plain : AllByRecursion IsPlainOrNone (completions [] bytes)
   pub whole : front_from open_after [] bytes ≡ []
 
 -- a delay lasts its tenths of a second, and some frame
@@ -34,7 +34,7 @@ pub record IsLasting (lane : Lane) (start : ℕ) (delay : Delay) : Type 0 where
   pub after : start < delay.ends
 
 -- nothing but loads comes in a frame
-pub record IsQuiet (lane : Lane) (frame : ℕ) : Type 0 where
+pub record HasOnlyLoads (lane : Lane) (frame : ℕ) : Type 0 where
   pub events : lane.events frame ≡ []
   pub delay : lane.delay frame ≡ None
 
@@ -43,6 +43,6 @@ pub record IsSoundLane (lane : Lane) : Type 0 where
   pub loads : (frame : ℕ) → ArePlain (lane.loads frame)
   pub lasting : (start : ℕ) (delay : Delay) → lane.delay start ≡ Some delay → IsLasting lane start delay
   -- strictly within a delay nothing but loads comes
-  pub quiet : (start frame : ℕ) (delay : Delay) → lane.delay start ≡ Some delay → start < frame → frame < delay.ends → IsQuiet lane frame
+  pub quiet : (start frame : ℕ) (delay : Delay) → lane.delay start ≡ Some delay → start < frame → frame < delay.ends → HasOnlyLoads lane frame
   -- the loads from a delay's start up to its end have at most 125 bytes
   pub budget : (start : ℕ) (delay : Delay) → lane.delay start ≡ Some delay → spent lane start (delay.ends - start) ≤ 125

@@ -7,7 +7,7 @@ ghost use Rattle.cue_types.specs.Cues.{IsCueFormed};
 ghost use Rattle.cue_types.specs.declared.cue.Cue.{Cue};
 ghost use Rattle.dtvcc_screen.specs.Meaning.{after};
 ghost use Rattle.dtvcc_author.specs.declared.caption.Caption.{Caption};
-ghost use Rattle.dtvcc_author.specs.Captions.{captions_of};
+ghost use Rattle.dtvcc_author.specs.Captions.{service_captions};
 ghost use Rattle.dtvcc_author.specs.Kept.{AreKept};
 ghost use Rattle.placements.specs.Placing.{IsPlaced};
 ghost use Rattle.service_lanes.specs.declared.chunk.Chunk.{Chunk};
@@ -19,12 +19,12 @@ ghost use Rattle.dtvcc_shown.specs.Undelayed.{opened, undelayed};
 ghost use Rattle.dtvcc_shown.specs.PlacedLanes.{IsPlacedLane, loaded, unloaded};
 ghost use Rattle.dtvcc_shown.specs.Filling.{AllFill};
 ghost use Rattle.dtvcc_author.specs.declared.frame_events.Delay.{Delay};
-ghost use Rattle.dtvcc_shown.specs.ServiceLanes.{IsInDelay, IsOutside, Lane, frame_bytes, frame_events, opening_events, served};
+ghost use Rattle.dtvcc_shown.specs.ServiceLanes.{IsInDelay, IsOutside, Lane, lane_frame_bytes, lane_frame_events, opening_events, served};
 ghost use Rattle.dtvcc_shown.specs.Soundness.{ArePlain, IsSoundLane};
 
 /// At every byte of every frame at most 127 bytes are held: no byte ever fills the buffer, with any number of delays.
 pub fn law_of_the_buffer()
-    ensures { (lane : Lane) → IsSoundLane lane → (frame : ℕ) → AllFill 127 (served lane frame) (frame_events lane frame) }
+    ensures { (lane : Lane) → IsSoundLane lane → (frame : ℕ) → AllFill 127 (served lane frame) (lane_frame_events lane frame) }
 {}
 
 /// From the frame in which a delay starts up to the one in which it ends, the screen stays as the events of its first frame
@@ -45,7 +45,7 @@ pub fn law_of_placed_lanes()
     ensures sound { (lane : Lane) (room : ℕ → ℕ) (chunks : List Chunk) (frames : List ℕ) → IsPlacedLane lane room chunks frames
         → IsSoundLane (loaded lane (zip chunks frames)) }
     ensures fills { (lane : Lane) (room : ℕ → ℕ) (chunks : List Chunk) (frames : List ℕ) → IsPlacedLane lane room chunks frames
-        → (frame : ℕ) → let all = loaded lane (zip chunks frames) in AllFill 127 (served all frame) (frame_events all frame) }
+        → (frame : ℕ) → let all = loaded lane (zip chunks frames) in AllFill 127 (served all frame) (lane_frame_events all frame) }
 {}
 
 /// The lane of a service's captions gives each frame the bytes of the service; where the captions keep the rules and the cues
@@ -53,13 +53,13 @@ pub fn law_of_placed_lanes()
 /// that it allows.
 pub fn law_of_caption_lanes()
     ensures bytes { (rate : Rate) (cs : List Caption) (placed : List (Chunk × ℕ)) (frame : ℕ)
-        → frame_bytes (lane_of rate cs placed) frame ≡ bytes_in cs placed frame }
+        → lane_frame_bytes (lane_of rate cs placed) frame ≡ bytes_in cs placed frame }
     ensures captions { (rate : Rate) (frames : ℕ) (cs : List Caption) (placed : List (Chunk × ℕ)) → AreKept rate frames cs
         → IsSoundLane (unloaded (lane_of rate cs placed)) }
     ensures units { (rate : Rate) (service : ℕ) (cues : List Cue) → All IsCueFormed cues
         → All (λ chunk. ArePlain chunk.unit.items) (service_chunks rate service cues) }
     ensures placed { (rate : Rate) (share service frames : ℕ) (cues : List Cue) (placed : List ℕ)
-        → All IsCueFormed cues → let cs = captions_of rate service cues in let chunks = service_chunks rate service cues in
+        → All IsCueFormed cues → let cs = service_captions rate service cues in let chunks = service_chunks rate service cues in
         AreKept rate frames cs → IsPlaced (caption_lane share cs) [] chunks placed → IsSoundLane (lane_of rate cs (zip chunks placed)) }
 {}
 

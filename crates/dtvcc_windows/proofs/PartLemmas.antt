@@ -6,28 +6,28 @@ use Rattle.std.proofs.lemmas.List.FromFn.{fill_by_all}
 use Rattle.std.specs.Bool.{Decides}
 use Rattle.std.specs.List.{AllWithin, CopiedTo, SameBelow, SameFrom}
 use Rattle.dtvcc_windows.specs.declared.cells.DCell.{DCell}
-use Rattle.dtvcc_windows.specs.Lists.{cells_of, place}
+use Rattle.dtvcc_windows.specs.Lists.{listed_cells, place}
 use Rattle.dtvcc_windows.specs.Places.{row_cells}
 use Rattle.dtvcc_windows.specs.Sizes.{in_size}
 use Rattle.dtvcc_windows.proofs.CellLemmas.{cell_at, chosen, col_to, row_to}
 
 -- a place has no cell where the list has none there
-none_at : (places : List (Option DCell)) (r c : ℕ) → (in_size 16 64 r c ≡ true → get_or places (place r c) None ≡ None) → cells_of places r c ≡ None
-unfolding cells_of
+none_at : (places : List (Option DCell)) (r c : ℕ) → (in_size 16 64 r c ≡ true → get_or places (place r c) None ≡ None) → listed_cells places r c ≡ None
+unfolding listed_cells
 none_at places r c none = chosen (in_size 16 64 r c) (get_or places (place r c) None) None none (λ outside. refl)
 
 -- no row that ends at the first place or before it has a cell
-pub none_before : (places : List (Option DCell)) (first r c : ℕ) → AllWithin (λ cell. cell ≡ None) places 0 first → (r + 1) * 64 ≤ first → cells_of places r c ≡ None
+pub none_before : (places : List (Option DCell)) (first r c : ℕ) → AllWithin (λ cell. cell ≡ None) places 0 first → (r + 1) * 64 ≤ first → listed_cells places r c ≡ None
 none_before places first r c none above =
     none_at places r c (λ inside. none (place r c) None (omega arith) (omega (arith, col_to r c inside)))
 
 -- and no row that begins at the place behind the last one or after it
-pub none_behind : (places : List (Option DCell)) (behind r c : ℕ) → AllWithin (λ cell. cell ≡ None) places behind 1024 → behind ≤ r * 64 → cells_of places r c ≡ None
+pub none_behind : (places : List (Option DCell)) (behind r c : ℕ) → AllWithin (λ cell. cell ≡ None) places behind 1024 → behind ≤ r * 64 → listed_cells places r c ≡ None
 none_behind places behind r c none below =
     none_at places r c (λ inside. none (place r c) None (omega arith) (omega (arith, row_to r c inside, col_to r c inside)))
 
 -- no place has a cell where the first one isn't before the one behind the last
-pub none_at_all : (places : List (Option DCell)) (first behind r c : ℕ) → AllWithin (λ cell. cell ≡ None) places 0 first → AllWithin (λ cell. cell ≡ None) places behind 1024 → behind ≤ first → cells_of places r c ≡ None
+pub none_at_all : (places : List (Option DCell)) (first behind r c : ℕ) → AllWithin (λ cell. cell ≡ None) places 0 first → AllWithin (λ cell. cell ≡ None) places behind 1024 → behind ≤ first → listed_cells places r c ≡ None
 none_at_all places first behind r c none_above none_below empty =
     none_at places r c (λ inside. elim (cases_lt (place r c) first) [
       | inl before ↦ none_above (place r c) None (omega arith) before
@@ -35,10 +35,10 @@ none_at_all places first behind r c none_above none_below empty =
     ])
 
 -- the part of the list at a row is what stands in its first columns
-pub row_is : (places : List (Option DCell)) (r cols from to : ℕ) → length places ≡ 1024 → r < 16 → cols ≤ 64 → from ≡ r * 64 → to ≡ from + cols → take (to - from) (drop from places) ≡ row_cells (cells_of places) cols r
+pub row_is : (places : List (Option DCell)) (r cols from to : ℕ) → length places ≡ 1024 → r < 16 → cols ≤ 64 → from ≡ r * 64 → to ≡ from + cols → take (to - from) (drop from places) ≡ row_cells (listed_cells places) cols r
 unfolding row_cells
 row_is places r cols from to long row_to cols_to is_from is_to =
-    fill_by_all (λ col. cells_of places r col) (take (to - from) (drop from places)) cols None
+    fill_by_all (λ col. listed_cells places r col) (take (to - from) (drop from places)) cols None
     (simp (length-take, length-drop) (omega arith))
     (λ k within. get_or-take (to - from) (drop from places) k None (omega arith) ∙ get_or-drop from places k None
     ∙ ap (λ at. get_or places at None) (omega arith) ∙ sym (cell_at places r k row_to (omega arith)))
@@ -74,7 +74,7 @@ copied_is was other places from to as_long long above other_above below other_be
     (λ k d past within. copied k d past (omega arith) ∙ ap (λ at. get_or other at d) (omega arith))
 
 -- lists of the same cells are one
-pub same_list : (xs ys : List (Option DCell)) → length xs ≡ 1024 → length ys ≡ 1024 → cells_of xs ≡ cells_of ys → xs ≡ ys
+pub same_list : (xs ys : List (Option DCell)) → length xs ≡ 1024 → length ys ≡ 1024 → listed_cells xs ≡ listed_cells ys → xs ≡ ys
 same_list xs ys long as_long same =
     ext_get_or None xs ys (long ∙ sym as_long) (λ k within.
     let col : k % 64 < 64 = omega arith in
@@ -87,9 +87,9 @@ same_list xs ys long as_long same =
 pub parts_same : (xs ys : List (Option DCell)) (from to : ℕ) (r : Bool) → length xs ≡ 1024 → length ys ≡ 1024
     → AllWithin (λ cell. cell ≡ None) xs 0 from → AllWithin (λ cell. cell ≡ None) ys 0 from
     → AllWithin (λ cell. cell ≡ None) xs to 1024 → AllWithin (λ cell. cell ≡ None) ys to 1024
-    → Decides r (take (to - from) (drop from xs) ≡ take (to - from) (drop from ys)) → Decides r (cells_of xs ≡ cells_of ys)
+    → Decides r (take (to - from) (drop from xs) ≡ take (to - from) (drop from ys)) → Decides r (listed_cells xs ≡ listed_cells ys)
 parts_same xs ys from to r long as_long above other_above below other_below (same, one) = (
-  λ equal. ap cells_of (same_places xs ys from to long as_long above other_above below other_below
+  λ equal. ap listed_cells (same_places xs ys from to long as_long above other_above below other_below
       (λ k d past within. sym (part_at xs from to k d past within) ∙ ap (λ zs. get_or zs (k - from) d) (same equal) ∙ part_at ys from to k d past within)),
   λ cells. one (ap (λ zs. take (to - from) (drop from zs)) (same_list xs ys long as_long cells)),
 )
@@ -107,6 +107,6 @@ told_other false (same, one) told p = let e = one p in cc
 pub same_where_none : (xs ys : List (Option DCell)) (from to : ℕ) → length xs ≡ 1024 → length ys ≡ 1024
     → AllWithin (λ cell. cell ≡ None) xs 0 from → AllWithin (λ cell. cell ≡ None) ys 0 from
     → AllWithin (λ cell. cell ≡ None) xs to 1024 → AllWithin (λ cell. cell ≡ None) ys to 1024
-    → to ≤ from → cells_of xs ≡ cells_of ys
+    → to ≤ from → listed_cells xs ≡ listed_cells ys
 same_where_none xs ys from to long as_long above other_above below other_below empty =
-    ap cells_of (same_places xs ys from to long as_long above other_above below other_below (λ k d past within. absurd (omega arith)))
+    ap listed_cells (same_places xs ys from to long as_long above other_above below other_below (λ k d past within. absurd (omega arith)))

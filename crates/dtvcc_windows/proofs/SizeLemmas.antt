@@ -5,7 +5,7 @@ use Rattle.std.proofs.lemmas.Bool.Decides.{nat_tests}
 use Rattle.dtvcc_windows.specs.declared.cells.DCell.{DCell}
 use Rattle.dtvcc_windows.specs.Places.{Cells, no_cells, raised, rolled, with_cell, without_cells, without_row}
 use Rattle.dtvcc_windows.specs.Sizes.{IsWithin, cells_in, in_size}
-use Rattle.dtvcc_windows.specs.Lists.{cells_of}
+use Rattle.dtvcc_windows.specs.Lists.{listed_cells}
 use Rattle.dtvcc_windows.proofs.CellLemmas.{cells_outside}
 
 -- a choice whose test fails
@@ -86,7 +86,7 @@ kept_at : (b : Bool) (x y : Option DCell) → (b ≡ false → x ≡ y) → (b �
 kept_at true x y kept none = none refl
 kept_at false x y kept none = kept refl
 
-pub kept_above-all : (rows cols : ℕ) (places : List (Option DCell)) → kept_above 16 rows cols (cells_of places) ≡ cells_in rows cols (cells_of places)
-kept_above-all rows cols places = fun_ext (λ r. fun_ext (λ c. sym (kept_at (nat_lt r 16 && not (in_size rows cols r c)) (cells_in rows cols (cells_of places) r c) (cells_of places r c)
-    (λ kept. at_size (in_size rows cols r c) (cells_of places r c) (λ out. cells_outside places r c (grind (arith, nat_tests))))
-    (λ lost. chosen_not (in_size rows cols r c) (cells_of places r c) None (grind (arith, nat_tests))))))
+pub kept_above-all : (rows cols : ℕ) (places : List (Option DCell)) → kept_above 16 rows cols (listed_cells places) ≡ cells_in rows cols (listed_cells places)
+kept_above-all rows cols places = fun_ext (λ r. fun_ext (λ c. sym (kept_at (nat_lt r 16 && not (in_size rows cols r c)) (cells_in rows cols (listed_cells places) r c) (listed_cells places r c)
+    (λ kept. at_size (in_size rows cols r c) (listed_cells places r c) (λ out. cells_outside places r c (grind (arith, nat_tests))))
+    (λ lost. chosen_not (in_size rows cols r c) (listed_cells places r c) None (grind (arith, nat_tests))))))

@@ -9,5 +9,5 @@ abbrev pub place : ℕ → ℕ → ℕ
 place row col = row * 64 + col
 
 -- the cells of such a list
-unfoldable pub cells_of : List (Option DCell) → Cells
-cells_of places row col = if in_size 16 64 row col then slice_index_or places (place row col) None else None
+unfoldable pub listed_cells : List (Option DCell) → Cells
+listed_cells places row col = if in_size 16 64 row col then slice_index_or places (place row col) None else None

@@ -1,7 +1,7 @@
 -- What the objects of the program stand for.
 use Rattle.std.specs.Prelude.{Bool, if◌then◌else◌, Option, Some, None}
 use Rattle.dtvcc_windows.specs.declared.window.Window.{Window}
-use Rattle.dtvcc_windows.specs.Lists.{cells_of}
+use Rattle.dtvcc_windows.specs.Lists.{listed_cells}
 use Rattle.dtvcc_windows.specs.Windows.{WindowState}
 
 -- there is a window
@@ -14,7 +14,7 @@ state_of window = record {
   definition = window.definition;
   visible = window.visible;
   attributes = window.attributes;
-  cells = cells_of window.cells.places.items;
+  cells = listed_cells window.cells.places.items;
   row = window.row;
   col = window.col;
   pen = window.pen;

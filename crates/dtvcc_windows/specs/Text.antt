@@ -12,8 +12,8 @@ inked None w = None
 
 -- a character is written at the pen, or the transparent space removes the cell there, and the pen moves one
 -- column right; behind the last column it is dropped (for the last, this project's own choice)
-abbrev pub written : Option ℕ → WindowState → WindowState
-written ch w =
+abbrev pub with_character : Option ℕ → WindowState → WindowState
+with_character ch w =
     if w.col == w.definition.cols then w
     else record w { cells = with_cell w.cells w.row w.col (inked ch w); col = w.col + 1 }
 

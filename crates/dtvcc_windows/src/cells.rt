@@ -46,11 +46,11 @@ impl Cells {
     ghost use Rattle.std.specs.Prelude.{◌≢◌, ℕ, true, false, IfOk};
     ghost use Rattle.dtvcc_windows.specs.Places.{no_cells, raised, row_cells, with_cell, without_cells};
     ghost use Rattle.dtvcc_windows.specs.Sizes.{IsWithin, cells_in};
-    ghost use Rattle.dtvcc_windows.specs.Lists.{cells_of};
+    ghost use Rattle.dtvcc_windows.specs.Lists.{listed_cells};
 
     // Takes the memory, and fills none of it.
     pub(crate) fn new(alloc: Global) -> Result<Cells, AllocError>
-        ensures { IfOk result (λ cells. cells_of cells.places.items ≡ no_cells) }
+        ensures { IfOk result (λ cells. listed_cells cells.places.items ≡ no_cells) }
     {
         Ok(Cells {
             places: Vec::with_capacity(alloc, PLACES)?,
@@ -64,7 +64,7 @@ impl Cells {
         requires filled { vec_len self.now.places ≡ 1024 }
         requires row { row < 16 }
         requires col { col < 64 }
-        ensures { result ≡ cells_of self.now.places.items row col }
+        ensures { result ≡ listed_cells self.now.places.items row col }
     {
         self.places[place(row, col)]
     }
@@ -73,8 +73,8 @@ impl Cells {
     pub(crate) fn rows(&self) -> Range<u8>
         requires { vec_len self.now.places ≡ 1024 }
         ensures order { result.start ≤ result.end }
-        ensures above { (row col : ℕ) → row < result.start → cells_of self.now.places.items row col ≡ None }
-        ensures below { (row col : ℕ) → result.end ≤ row → cells_of self.now.places.items row col ≡ None }
+        ensures above { (row col : ℕ) → row < result.start → listed_cells self.now.places.items row col ≡ None }
+        ensures below { (row col : ℕ) → result.end ≤ row → listed_cells self.now.places.items row col ≡ None }
     {
         if self.first >= self.behind {
             return 0..0;
@@ -89,7 +89,7 @@ impl Cells {
         requires filled { vec_len self.now.places ≡ 1024 }
         requires row { row < 16 }
         requires cols { cols ≤ 64 }
-        ensures { result.now ≡ row_cells (cells_of self.now.places.items) cols row }
+        ensures { result.now ≡ row_cells (listed_cells self.now.places.items) cols row }
     {
         let from = usize::from(row) * COLUMNS;
         &self.places[from..from + usize::from(cols)]
@@ -99,8 +99,8 @@ impl Cells {
     pub(crate) fn differs(&self, other: &Cells) -> bool
         requires filled { vec_len self.now.places ≡ 1024 }
         requires other_filled { vec_len other.now.places ≡ 1024 }
-        ensures same { result ≡ false → cells_of self.now.places.items ≡ cells_of other.now.places.items }
-        ensures other { result ≡ true → cells_of self.now.places.items ≢ cells_of other.now.places.items }
+        ensures same { result ≡ false → listed_cells self.now.places.items ≡ listed_cells other.now.places.items }
+        ensures other { result ≡ true → listed_cells self.now.places.items ≢ listed_cells other.now.places.items }
     {
         let from = self.first.min(other.first);
         let to = self.behind.max(other.behind);
@@ -110,7 +110,7 @@ impl Cells {
     // Takes over other cells.
     pub(crate) fn copy_from(&mut self, other: &Cells)
         requires { vec_len other.now.places ≡ 1024 }
-        ensures cells { cells_of self.new.places.items ≡ cells_of other.now.places.items }
+        ensures cells { listed_cells self.new.places.items ≡ listed_cells other.now.places.items }
         ensures filled { vec_len self.new.places ≡ 1024 }
     {
         self.fill_up();
@@ -135,7 +135,7 @@ impl Cells {
         requires filled { vec_len self.old.places ≡ 1024 }
         requires row { row < 16 }
         requires col { col < 64 }
-        ensures cells { cells_of self.new.places.items ≡ with_cell (cells_of self.old.places.items) row col cell }
+        ensures cells { listed_cells self.new.places.items ≡ with_cell (listed_cells self.old.places.items) row col cell }
         ensures filled { vec_len self.new.places ≡ 1024 }
     {
         let at = place(row, col);
@@ -146,7 +146,7 @@ impl Cells {
 
     // Removes all cells, and fills the memory where it isn't filled yet.
     pub(crate) fn clear(&mut self)
-        ensures cells { cells_of self.new.places.items ≡ no_cells }
+        ensures cells { listed_cells self.new.places.items ≡ no_cells }
         ensures filled { vec_len self.new.places ≡ 1024 }
     {
         empty(&mut self.places, self.first, self.behind);
@@ -159,7 +159,7 @@ impl Cells {
         requires filled { vec_len self.old.places ≡ 1024 }
         requires row { row < 16 }
         requires col { col ≤ 64 }
-        ensures cells { cells_of self.new.places.items ≡ without_cells (cells_of self.old.places.items) row col }
+        ensures cells { listed_cells self.new.places.items ≡ without_cells (listed_cells self.old.places.items) row col }
         ensures filled { vec_len self.new.places ≡ 1024 }
     {
         let from = usize::from(row) * COLUMNS;
@@ -171,7 +171,7 @@ impl Cells {
         requires filled { vec_len self.old.places ≡ 1024 }
         requires rows { rows ≤ 16 }
         requires cols { cols ≤ 64 }
-        ensures cells { cells_of self.new.places.items ≡ cells_in rows cols (cells_of self.old.places.items) }
+        ensures cells { listed_cells self.new.places.items ≡ cells_in rows cols (listed_cells self.old.places.items) }
         ensures filled { vec_len self.new.places ≡ 1024 }
     {
         for row in 0..ROWS {
@@ -184,8 +184,8 @@ impl Cells {
         requires filled { vec_len self.old.places ≡ 1024 }
         requires rows { new.now.rows ≤ 16 }
         requires cols { new.now.cols ≤ 64 }
-        requires within { IsWithin old.now.rows old.now.cols (cells_of self.old.places.items) }
-        ensures cells { cells_of self.new.places.items ≡ cells_in new.now.rows new.now.cols (cells_in old.now.rows old.now.cols (cells_of self.old.places.items)) }
+        requires within { IsWithin old.now.rows old.now.cols (listed_cells self.old.places.items) }
+        ensures cells { listed_cells self.new.places.items ≡ cells_in new.now.rows new.now.cols (cells_in old.now.rows old.now.cols (listed_cells self.old.places.items)) }
         ensures filled { vec_len self.new.places ≡ 1024 }
     {
         if new.rows < old.rows || new.cols < old.cols {
@@ -196,7 +196,7 @@ impl Cells {
     // All rows move up by one; the top one is lost.
     pub(crate) fn raise(&mut self)
         requires filled { vec_len self.old.places ≡ 1024 }
-        ensures cells { cells_of self.new.places.items ≡ raised (cells_of self.old.places.items) }
+        ensures cells { listed_cells self.new.places.items ≡ raised (listed_cells self.old.places.items) }
         ensures filled { vec_len self.new.places ≡ 1024 }
     {
         raise_places(&mut self.places, self.first, self.behind);

@@ -9,7 +9,7 @@ ghost use Rattle.dtvcc_codes.specs.Spellable.{IsDefinition};
 ghost use Rattle.dtvcc_windows.specs.Defining.{redefined};
 ghost use Rattle.dtvcc_windows.specs.Laws.{IsInside, IsUnseen, KeepsInside, ShowsNothing};
 ghost use Rattle.dtvcc_windows.specs.Sizes.{in_size};
-ghost use Rattle.dtvcc_windows.specs.Text.{backspaced, carriage_returned, cleared, form_fed, located, row_returned, written};
+ghost use Rattle.dtvcc_windows.specs.Text.{backspaced, carriage_returned, cleared, form_fed, located, row_returned, with_character};
 ghost use Rattle.dtvcc_windows.specs.Windows.{WindowState, with_attributes, with_colors, with_pen};
 
 /// A redefinition with the same size keeps all cells, and a pen that isn't behind the last column.
@@ -37,12 +37,12 @@ pub fn carriage_return_rolls_on_the_last_row()
 /// A backspace takes back what was just written: where its place had no cell, the window is as it was.
 pub fn backspace_takes_back()
     ensures { (ch : Option ℕ) (w : WindowState) → w.col < w.definition.cols → w.cells w.row w.col ≡ None
-        → backspaced (written ch w) ≡ w }
+        → backspaced (with_character ch w) ≡ w }
 {}
 
 /// What comes behind the last column is dropped, the transparent space too.
 pub fn text_behind_the_last_column_is_dropped()
-    ensures { (ch : Option ℕ) (w : WindowState) → w.col ≡ w.definition.cols → written ch w ≡ w }
+    ensures { (ch : Option ℕ) (w : WindowState) → w.col ≡ w.definition.cols → with_character ch w ≡ w }
 {}
 
 /// A form feed clears the window and puts the pen at its beginning.
@@ -52,7 +52,7 @@ pub fn form_feed_clears_and_returns()
 
 /// Text in a window that is hidden shows nothing, and neither do its codes and commands.
 pub fn hidden_windows_show_nothing()
-    ensures text { (ch : Option ℕ) → ShowsNothing (written ch) }
+    ensures text { (ch : Option ℕ) → ShowsNothing (with_character ch) }
     ensures codes { ShowsNothing backspaced × ShowsNothing form_fed × ShowsNothing carriage_returned × ShowsNothing row_returned }
     ensures commands { ShowsNothing cleared × ((attributes : WinAttr) → ShowsNothing (with_attributes attributes)) }
 {}
@@ -66,7 +66,7 @@ pub fn pens_are_unseen()
 
 /// The pen never leaves its window.
 pub fn pen_stays_in_its_window()
-    ensures text { (ch : Option ℕ) → KeepsInside (written ch) }
+    ensures text { (ch : Option ℕ) → KeepsInside (with_character ch) }
     ensures codes { KeepsInside backspaced × KeepsInside form_fed × KeepsInside carriage_returned × KeepsInside row_returned }
     ensures place { (row col : ℕ) → KeepsInside (located row col) }
     ensures size { (d : Definition) → IsDefinition d → KeepsInside (redefined d) }

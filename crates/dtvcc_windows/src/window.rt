@@ -1,6 +1,6 @@
 ghost use Rattle.std.specs.Prelude.{◌≡◌, ◌==◌, ◌≤◌, ◌<◌, if◌then◌else◌, vec_len, true};
 ghost use Rattle.dtvcc_windows.specs.Defining.{style_or_first};
-ghost use Rattle.dtvcc_windows.specs.Lists.{cells_of};
+ghost use Rattle.dtvcc_windows.specs.Lists.{listed_cells};
 ghost use Rattle.dtvcc_windows.specs.Sizes.{IsWithin};
 ghost use Rattle.dtvcc_windows.specs.Styles.{pen_style, window_style};
 
@@ -32,7 +32,7 @@ pub struct Window {
     pub ghost cols_to: { definition.cols ≤ 64 },
     pub ghost row_in: { row < definition.rows },
     pub ghost col_in: { col ≤ definition.cols },
-    pub ghost within: { IsWithin definition.rows definition.cols (cells_of cells.places.items) },
+    pub ghost within: { IsWithin definition.rows definition.cols (listed_cells cells.places.items) },
 }
 
 impl Window {
@@ -41,7 +41,7 @@ impl Window {
     ghost use Rattle.dtvcc_windows.specs.Defining.{defined, made, redefined};
     ghost use Rattle.dtvcc_windows.specs.Places.{row_cells};
     ghost use Rattle.dtvcc_windows.specs.Showing.{StandsIn, as_shown, shown};
-    ghost use Rattle.dtvcc_windows.specs.Text.{backspaced, carriage_returned, cleared, form_fed, located, row_returned, written};
+    ghost use Rattle.dtvcc_windows.specs.Text.{backspaced, carriage_returned, cleared, form_fed, located, row_returned, with_character};
     ghost use Rattle.dtvcc_windows.specs.Windows.{with_attributes, with_colors, with_pen, with_visibility};
     ghost use Rattle.dtvcc_windows.specs.Objects.{is_live, state_of, window_of};
 
@@ -112,7 +112,7 @@ impl Window {
     /// right (CTA-708-E, G0 to G3). Behind the last column it is dropped.
     pub fn put(&mut self, ch: Option<char>)
         requires { IsTrue (is_live self.old) }
-        ensures window { window_of self.new ≡ option_map (written ch) (window_of self.old) }
+        ensures window { window_of self.new ≡ option_map (with_character ch) (window_of self.old) }
     {
         if self.col < self.definition.cols {
             match ch {

@@ -5,10 +5,10 @@ use Rattle.findings.specs.declared.finding.Kind45.{Kind45}
 use Rattle.findings.specs.declared.finding.Kind45.TheVariants as kind
 
 -- the reason of the same name
-abbrev pub why_of : Kind45 → Why
-why_of (kind.CounterJump expected seen) = why.CounterJump
-why_of (kind.WrongCount expected seen) = why.WrongCount
-why_of (kind.WrongRate expected seen) = why.WrongRate
-why_of (kind.BufferFull service) = why.BufferFull
-why_of (kind.GridDiffers which) = why.GridDiffers
-why_of (kind.TwoPairs seen) = why.TwoPairs
+abbrev pub finding_why : Kind45 → Why
+finding_why (kind.CounterJump expected seen) = why.CounterJump
+finding_why (kind.WrongCount expected seen) = why.WrongCount
+finding_why (kind.WrongRate expected seen) = why.WrongRate
+finding_why (kind.BufferFull service) = why.BufferFull
+finding_why (kind.GridDiffers which) = why.GridDiffers
+finding_why (kind.TwoPairs seen) = why.TwoPairs

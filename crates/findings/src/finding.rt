@@ -1,5 +1,5 @@
 ghost use Rattle.std.specs.Prelude.{◌≡◌};
-ghost use Rattle.findings.specs.Findings.{why_of};
+ghost use Rattle.findings.specs.Findings.{finding_why};
 
 use cc_base::{Rate, Why};
 use line21_codes::Chan;
@@ -57,7 +57,7 @@ pub struct Finding {
 impl Kind45 {
     /// The reason of the same name.
     pub fn why(self) -> Why
-        ensures { result ≡ why_of self }
+        ensures { result ≡ finding_why self }
     {
         match self {
             Kind45::CounterJump { .. } => Why::CounterJump,

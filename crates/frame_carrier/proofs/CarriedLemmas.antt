@@ -6,7 +6,7 @@ use Rattle.std.specs.List.{filter}
 use Rattle.std.proofs.lemmas.Bool.Decides.{nat_tests}
 use Rattle.std.proofs.lemmas.List.Concat.{flat_map-append}
 use Rattle.std.proofs.lemmas.List.Elements.{All-append, All-cons, All-from_recursion, All-head, All-nil, All-tail, All-weaker, filter-append}
-use Rattle.cc_base.specs.Rate.{code_of, triplets_of}
+use Rattle.cc_base.specs.Rate.{rate_code, triplets_in_frame}
 use Rattle.cc_base.specs.declared.rate.Rate.{Rate}
 use Rattle.cc_base.specs.declared.rate.Rate.TheVariants as rates
 use Rattle.line21_codes.specs.declared.pairs.Pair.{Pair}
@@ -26,11 +26,11 @@ use Rattle.words_files.specs.Received.{field_kind, field_pair, field_pairs, rece
 use Rattle.words_files.proofs.FrameLemmas.{joined}
 use Rattle.frame_scheduler.specs.Columns.{Columns, first_pairs, pair_in}
 use Rattle.frame_scheduler.specs.declared.frames.FrameBytes.{FrameBytes}
-use Rattle.channel_packets.specs.ChannelPackets.{channel_triplets, continues, starts}
+use Rattle.channel_packets.specs.ChannelPackets.{channel_triplets, continues_packet, starts}
 use Rattle.channel_packets.specs.Written.{bytes_written, continuing, header_for, packet_written, starting}
-use Rattle.frame_carrier.specs.Carried.{AreByteBlocks, AreBytePairs, AreRoomy, FramesAreCarried, IsBytePair, IsWithinRoom}
+use Rattle.frame_carrier.specs.Carried.{AreByteBlocks, AreBytePairs, AreRoomy, FramesAreCarried, IsBytePair, IsCarriedInRoom}
 use Rattle.frame_carrier.specs.CarriedBytes.{caption_flags}
-use Rattle.frame_carrier.specs.Carrying.{channel_of, channel_packet, packets_before, column_bytes, column_packets, counter_of, frame_bytes, frame_packet}
+use Rattle.frame_carrier.specs.Carrying.{channel_packet_of, channel_packet, packets_before, column_bytes, column_packets, counter_of, frame_bytes, frame_packet}
 use Rattle.frame_carrier.specs.FrameTriplets.{field_triplets, frame_triplets, front_triplets, pair_triplet}
 use Rattle.frame_carrier.proofs.CarryingLemmas.{IsKind, frame_kinds, frame_number, packet_kinds, packet_many, triplets_many}
 
@@ -39,7 +39,7 @@ abbrev IsByte : ℕ → Type 0
 IsByte byte = byte < 256
 
 -- codes of rates have four bits
-four_bits : (rate : Rate) → code_of rate < 16
+four_bits : (rate : Rate) → rate_code rate < 16
 four_bits rates.F23976 = omega arith
 four_bits rates.F24 = omega arith
 four_bits rates.F25 = omega arith
@@ -82,10 +82,10 @@ field_bytes kind (Some pair) low bytes = All-cons IsByteTriplet (pair_triplet ki
 frame_triplets_bytes : (rate : Rate) (frame : FrameBytes) (packet : List Triplet) → IfSome frame.one IsBytePair → IfSome frame.two IsBytePair
     → All IsByteTriplet packet → All IsByteTriplet (frame_triplets rate frame packet)
 frame_triplets_bytes rate frame packet one two bytes =
-    All-append IsByteTriplet (front_triplets frame packet) (replicate (triplets_of rate - length (front_triplets frame packet)) filler)
+    All-append IsByteTriplet (front_triplets frame packet) (replicate (triplets_in_frame rate - length (front_triplets frame packet)) filler)
     (All-append IsByteTriplet (field_triplets 0 frame.one) (field_triplets 1 frame.two ++ packet) (field_bytes 0 frame.one (omega arith) one)
     (All-append IsByteTriplet (field_triplets 1 frame.two) packet (field_bytes 1 frame.two (omega arith) two) bytes))
-    (fillers_bytes (triplets_of rate - length (front_triplets frame packet)))
+    (fillers_bytes (triplets_in_frame rate - length (front_triplets frame packet)))
 
 -- so are those of a channel packet
 further_bytes : (bytes : List ℕ) → All IsByte bytes → All IsByteTriplet (bytes_written bytes)
@@ -106,7 +106,7 @@ packet_bytes_are count (byte ∷ blocks) few all =
     (further_bytes blocks (All-tail IsByte byte blocks all))
 
 module _ (rate : Rate) (frame : ℕ) (carried : FrameBytes) (packet : List Triplet) (one : IfSome carried.one IsBytePair) (two : IfSome carried.two IsBytePair)
-    (channel : All IsByteTriplet packet) (roomy : length (front_triplets carried packet) ≤ triplets_of rate) where
+    (channel : All IsByteTriplet packet) (roomy : length (front_triplets carried packet) ≤ triplets_in_frame rate) where
   abbrev triplets : List Triplet
   triplets = frame_triplets rate carried packet
 
@@ -119,7 +119,7 @@ module _ (rate : Rate) (frame : ℕ) (carried : FrameBytes) (packet : List Tripl
   -- from ten to twenty-five
   many : (10 ≤ length triplets) × (length triplets ≤ 25)
   many =
-      let is : length triplets ≡ triplets_of rate = frame_number rate carried packet roomy in
+      let is : length triplets ≡ triplets_in_frame rate = frame_number rate carried packet roomy in
       let few = triplets_many rate in
       (omega (arith, is, few.0), omega (arith, is, few.1))
 
@@ -144,7 +144,7 @@ module _ (rate : Rate) (frame : ℕ) (carried : FrameBytes) (packet : List Tripl
       (All-cons IsByte (counter_of frame / 256) ((counter_of frame % 256) ∷ []) counter_bytes.0 (All-cons IsByte (counter_of frame % 256) [] counter_bytes.1 (All-nil IsByte)))
 
   abbrev front : List ℕ
-  front = 0x96 ∷ 0x69 ∷ (length section + 11) ∷ (16 * code_of rate + 15) ∷ caption_flags ∷ (counter_of frame / 256) ∷ (counter_of frame % 256) ∷ []
+  front = 0x96 ∷ 0x69 ∷ (length section + 11) ∷ (16 * rate_code rate + 15) ∷ caption_flags ∷ (counter_of frame / 256) ∷ (counter_of frame % 256) ∷ []
 
   front_bytes : All IsByte front
   front_bytes =
@@ -252,11 +252,11 @@ both_is true carried = refl
 field_is : (rate : Rate) (carried : FrameBytes) (packet : List Triplet) (second_field : Bool) → All IsChannelTriplet packet
     → field_pairs second_field (frame_triplets rate carried packet) ≡ option_to_list (pair_in second_field carried)
 field_is rate carried packet second_field channel =
-    let fill = replicate (triplets_of rate - length (front_triplets carried packet)) filler in
+    let fill = replicate (triplets_in_frame rate - length (front_triplets carried packet)) filler in
     let all = flat_map-append (field_pair second_field) (front_triplets carried packet) fill in
     let front = flat_map-append (field_pair second_field) (field_triplets 0 carried.one) (field_triplets 1 carried.two ++ packet) in
     let back = flat_map-append (field_pair second_field) (field_triplets 1 carried.two) packet in
-    let none = fillers_empty second_field (triplets_of rate - length (front_triplets carried packet)) in
+    let none = fillers_empty second_field (triplets_in_frame rate - length (front_triplets carried packet)) in
     let service = channel_empty second_field packet channel in
     let one = one_is second_field carried.one in
     let two = two_is second_field carried.two in
@@ -293,12 +293,12 @@ service_is : (rate : Rate) (carried : FrameBytes) (count : ℕ) (blocks : List �
     → channel_triplets (frame_triplets rate carried (channel_packet count blocks)) ≡ channel_packet count blocks
 service_is rate carried count blocks =
     let packet = channel_packet count blocks in
-    filter-append (λ t. starts t || continues t) (front_triplets carried packet) (replicate (triplets_of rate - length (front_triplets carried packet)) filler)
-    ∙ ap (λ l. channel_triplets (front_triplets carried packet) ++ l) (fillers_none (triplets_of rate - length (front_triplets carried packet)))
+    filter-append (λ t. starts t || continues_packet t) (front_triplets carried packet) (replicate (triplets_in_frame rate - length (front_triplets carried packet)) filler)
+    ∙ ap (λ l. channel_triplets (front_triplets carried packet) ++ l) (fillers_none (triplets_in_frame rate - length (front_triplets carried packet)))
     ∙ append-nil (channel_triplets (front_triplets carried packet))
-    ∙ filter-append (λ t. starts t || continues t) (field_triplets 0 carried.one) (field_triplets 1 carried.two ++ packet)
+    ∙ filter-append (λ t. starts t || continues_packet t) (field_triplets 0 carried.one) (field_triplets 1 carried.two ++ packet)
     ∙ ap (λ l. l ++ channel_triplets (field_triplets 1 carried.two ++ packet)) (first_none carried.one)
-    ∙ filter-append (λ t. starts t || continues t) (field_triplets 1 carried.two) packet
+    ∙ filter-append (λ t. starts t || continues_packet t) (field_triplets 1 carried.two) packet
     ∙ ap (λ l. l ++ channel_triplets packet) (second_none carried.two)
     ∙ channel_all count blocks
 
@@ -310,8 +310,8 @@ packet_channel_is rate frame carried count =
     ∙ service_is rate carried count carried.blocks.items
 
 -- a frame keeps to its room
-within_room : (rate : Rate) (frame : ℕ) (carried : FrameBytes) (count : ℕ) → length (front_triplets carried (channel_packet count carried.blocks.items)) ≤ triplets_of rate
-    → IsWithinRoom rate carried (channel_packet count carried.blocks.items) (frame_packet rate frame carried (channel_packet count carried.blocks.items))
+within_room : (rate : Rate) (frame : ℕ) (carried : FrameBytes) (count : ℕ) → length (front_triplets carried (channel_packet count carried.blocks.items)) ≤ triplets_in_frame rate
+    → IsCarriedInRoom rate carried (channel_packet count carried.blocks.items) (frame_packet rate frame carried (channel_packet count carried.blocks.items))
 within_room rate frame carried count roomy =
     let packet = channel_packet count carried.blocks.items in
     let same = packet_triplets_are rate frame carried packet (packet_kinds count carried.blocks.items) in
@@ -323,7 +323,7 @@ within_room rate frame carried count roomy =
     }
 
 -- the blocks of a frame are few
-blocks_few : (rate : Rate) (carried : FrameBytes) (count : ℕ) → length (front_triplets carried (channel_packet count carried.blocks.items)) ≤ triplets_of rate
+blocks_few : (rate : Rate) (carried : FrameBytes) (count : ℕ) → length (front_triplets carried (channel_packet count carried.blocks.items)) ≤ triplets_in_frame rate
     → length carried.blocks.items ≤ 125
 blocks_few rate carried count roomy =
     let many = (triplets_many rate).1 in
@@ -337,9 +337,9 @@ module _ (rate : Rate) (columns : Columns) (are : AreBytePairs columns) (bytes :
   columns_file : (frame n : ℕ) → IsFileOf (column_packets rate columns frame n) (column_bytes rate columns frame n)
   columns_file frame zero = record { packets = []; file = IsWordsFile-nil; carried = none }
   columns_file frame (suc n) =
-      joined (frame_packet rate frame (columns frame) (channel_of columns frame) ∷ []) (column_packets rate columns (suc frame) n)
-      (frame_bytes rate frame (columns frame) (channel_of columns frame)) (column_bytes rate columns (suc frame) n)
-      (frame_file rate frame (columns frame) (channel_of columns frame) (are false frame) (are true frame)
+      joined (frame_packet rate frame (columns frame) (channel_packet_of columns frame) ∷ []) (column_packets rate columns (suc frame) n)
+      (frame_bytes rate frame (columns frame) (channel_packet_of columns frame)) (column_bytes rate columns (suc frame) n)
+      (frame_file rate frame (columns frame) (channel_packet_of columns frame) (are false frame) (are true frame)
       (packet_bytes_are (packets_before columns frame) (columns frame).blocks.items (blocks_few rate (columns frame) (packets_before columns frame) (roomy frame)) (bytes frame))
       (roomy frame))
       (columns_file (suc frame) n)
@@ -382,8 +382,8 @@ received_are second_field rate columns frame zero (suc k) below = absurd (omega 
 received_are second_field rate columns frame (suc n) (suc k) below =
     ap (λ pairs. pairs ++ received_pairs second_field (take k (column_packets rate columns (suc frame) n)))
     (ap (field_pairs second_field)
-    (packet_triplets_are rate frame (columns frame) (channel_of columns frame) (packet_kinds (packets_before columns frame) (columns frame).blocks.items))
-    ∙ field_is rate (columns frame) (channel_of columns frame) second_field (packet_channel (packets_before columns frame) (columns frame).blocks.items))
+    (packet_triplets_are rate frame (columns frame) (channel_packet_of columns frame) (packet_kinds (packets_before columns frame) (columns frame).blocks.items))
+    ∙ field_is rate (columns frame) (channel_packet_of columns frame) second_field (packet_channel (packets_before columns frame) (columns frame).blocks.items))
     ∙ ap (λ rest. option_to_list (pair_in second_field (columns frame)) ++ rest) (received_are second_field rate columns (suc frame) n k (omega arith))
 
 -- the frames of a programme are carried

@@ -3,13 +3,13 @@ use Rattle.std.proofs.Common.{true, ◌==◌, ◌≡◌, ℕ, zero, suc, ◌+◌
 use Rattle.std.proofs.lemmas.Bool.{eqb-true}
 use Rattle.std.proofs.lemmas.List.{length-append, length-replicate}
 use Rattle.std.proofs.lemmas.List.Elements.{All-append, All-cons, All-nil}
-use Rattle.cc_base.specs.Rate.{triplets_of}
+use Rattle.cc_base.specs.Rate.{triplets_in_frame}
 use Rattle.cc_base.specs.declared.rate.Rate.{Rate}
 use Rattle.cc_base.specs.declared.rate.Rate.TheVariants as rates
 use Rattle.cc_data.specs.declared.triplet.Triplet.{Triplet}
 use Rattle.cc_data.specs.Triplets.{filler}
 use Rattle.channel_packets.specs.Written.{bytes_written, continuing, header_for, packet_written, starting}
-use Rattle.frame_carrier.specs.Carrying.{IsAt, channel_of, channel_packet, packets_before, counter_of, frame_bytes, packet_count}
+use Rattle.frame_carrier.specs.Carrying.{IsAt, channel_packet_of, channel_packet, packets_before, counter_of, frame_bytes, packet_count}
 use Rattle.frame_scheduler.specs.Columns.{Columns}
 use Rattle.frame_carrier.specs.Carried.{AreByteBlocks, AreRoomy}
 use Rattle.frame_carrier.specs.CarriedBytes.{carried_bytes}
@@ -20,7 +20,7 @@ use Rattle.frame_scheduler.specs.declared.frames.FrameBytes.{FrameBytes}
 use Rattle.frame_carrier.specs.FrameTriplets.{field_triplets, frame_triplets, front_triplets, pair_triplet}
 
 -- a rate has from ten to twenty-five triplets a frame
-pub triplets_many : (rate : Rate) → (10 ≤ triplets_of rate) × (triplets_of rate ≤ 25)
+pub triplets_many : (rate : Rate) → (10 ≤ triplets_in_frame rate) × (triplets_in_frame rate ≤ 25)
 triplets_many rates.F23976 = (omega arith, omega arith)
 triplets_many rates.F24 = (omega arith, omega arith)
 triplets_many rates.F25 = (omega arith, omega arith)
@@ -61,24 +61,24 @@ field_kind kind (Some pair) low = All-cons IsKind (pair_triplet kind pair) [] lo
 -- the triplets of a frame have kinds
 pub frame_kinds : (rate : Rate) (frame : FrameBytes) (packet : List Triplet) → All IsKind packet → All IsKind (frame_triplets rate frame packet)
 frame_kinds rate frame packet kinds =
-    All-append IsKind (front_triplets frame packet) (replicate (triplets_of rate - length (front_triplets frame packet)) filler)
+    All-append IsKind (front_triplets frame packet) (replicate (triplets_in_frame rate - length (front_triplets frame packet)) filler)
     (All-append IsKind (field_triplets 0 frame.one) (field_triplets 1 frame.two ++ packet) (field_kind 0 frame.one (omega arith))
     (All-append IsKind (field_triplets 1 frame.two) packet (field_kind 1 frame.two (omega arith)) kinds))
-    (fillers_kind (triplets_of rate - length (front_triplets frame packet)))
+    (fillers_kind (triplets_in_frame rate - length (front_triplets frame packet)))
 
 -- there are as many as the rate has
-pub frame_number : (rate : Rate) (frame : FrameBytes) (packet : List Triplet) → length (front_triplets frame packet) ≤ triplets_of rate
-    → length (frame_triplets rate frame packet) ≡ triplets_of rate
+pub frame_number : (rate : Rate) (frame : FrameBytes) (packet : List Triplet) → length (front_triplets frame packet) ≤ triplets_in_frame rate
+    → length (frame_triplets rate frame packet) ≡ triplets_in_frame rate
 frame_number rate frame packet few =
     let many = (triplets_many rate).0 in
-    let joined : length (frame_triplets rate frame packet) ≡ length (front_triplets frame packet) + length (replicate (triplets_of rate - length (front_triplets frame packet)) filler) =
-    length-append (front_triplets frame packet) (replicate (triplets_of rate - length (front_triplets frame packet)) filler) in
-    let fillers : length (replicate (triplets_of rate - length (front_triplets frame packet)) filler) ≡ triplets_of rate - length (front_triplets frame packet) =
-    length-replicate (triplets_of rate - length (front_triplets frame packet)) filler in
+    let joined : length (frame_triplets rate frame packet) ≡ length (front_triplets frame packet) + length (replicate (triplets_in_frame rate - length (front_triplets frame packet)) filler) =
+    length-append (front_triplets frame packet) (replicate (triplets_in_frame rate - length (front_triplets frame packet)) filler) in
+    let fillers : length (replicate (triplets_in_frame rate - length (front_triplets frame packet)) filler) ≡ triplets_in_frame rate - length (front_triplets frame packet) =
+    length-replicate (triplets_in_frame rate - length (front_triplets frame packet)) filler in
     omega (arith, joined, fillers, few, many)
 
 -- those of a frame with a pair in each field, where the rate has twenty
-pub twenty_are : (rate : Rate) (frame : FrameBytes) (one two : Pair) → triplets_of rate ≡ 20 → frame.one ≡ Some one → frame.two ≡ Some two
+pub twenty_are : (rate : Rate) (frame : FrameBytes) (one two : Pair) → triplets_in_frame rate ≡ 20 → frame.one ≡ Some one → frame.two ≡ Some two
     → frame_triplets rate frame [] ≡ pair_triplet 0 one ∷ pair_triplet 1 two ∷ replicate 18 filler
 twenty_are rate frame one two number first second = rw (number, first, second) refl
 
@@ -154,8 +154,8 @@ packet_many count (byte ∷ blocks) = let rest = bytes_many blocks in omega (ari
 -- columns without service blocks have room, and nothing that isn't a byte
 pub quiet_roomy : (rate : Rate) (columns : Columns) → ((frame : ℕ) → (columns frame).blocks.items ≡ []) → AreRoomy rate columns
 quiet_roomy rate columns none frame =
-    let few = front_few (columns frame) (channel_of columns frame) in
-    let quiet : length (channel_of columns frame) ≡ 0 = ap (λ blocks. length (channel_packet (packets_before columns frame) blocks)) (none frame) in
+    let few = front_few (columns frame) (channel_packet_of columns frame) in
+    let quiet : length (channel_packet_of columns frame) ≡ 0 = ap (λ blocks. length (channel_packet (packets_before columns frame) blocks)) (none frame) in
     let many = (triplets_many rate).0 in
     omega (arith, few, quiet, many)
 

@@ -2,7 +2,7 @@
 -- its rate asks, with the pair of each field in which it has a slot, and a receiver gets just these pairs.
 use Rattle.std.specs.Prelude.{◌≡◌, ℕ, ◌<◌, ◌≤◌, Bool, List, length, take, All, IfSome, option_to_list}
 use Rattle.cc_data.specs.declared.triplet.Triplet.{Triplet}
-use Rattle.cc_base.specs.Rate.{triplets_of}
+use Rattle.cc_base.specs.Rate.{triplets_in_frame}
 use Rattle.cc_base.specs.declared.rate.Rate.{Rate}
 use Rattle.line21_codes.specs.declared.pairs.Pair.{Pair}
 use Rattle.cdp_packets.specs.Packets.{Packet as Frame}
@@ -12,7 +12,7 @@ use Rattle.words_files.specs.Frames.{IsFileOf}
 use Rattle.words_files.specs.Received.{field_pairs, received_pairs}
 use Rattle.frame_scheduler.specs.Columns.{Columns, first_pairs, pair_in}
 use Rattle.frame_scheduler.specs.declared.frames.FrameBytes.{FrameBytes}
-use Rattle.frame_carrier.specs.Carrying.{channel_of, column_bytes, column_packets, frame_packet}
+use Rattle.frame_carrier.specs.Carrying.{channel_packet_of, column_bytes, column_packets, frame_packet}
 use Rattle.frame_carrier.specs.FrameTriplets.{front_triplets}
 
 -- both of the pair are bytes
@@ -26,7 +26,7 @@ AreBytePairs columns = (second_field : Bool) (frame : ℕ) → IfSome (pair_in s
 
 -- the pairs of a frame and its channel packet have as many triplets as the rate asks, at most
 abbrev pub AreRoomy : Rate → Columns → Type 0
-AreRoomy rate columns = (frame : ℕ) → length (front_triplets (columns frame) (channel_of columns frame)) ≤ triplets_of rate
+AreRoomy rate columns = (frame : ℕ) → length (front_triplets (columns frame) (channel_packet_of columns frame)) ≤ triplets_in_frame rate
 
 -- the service blocks of columns are bytes
 abbrev pub AreByteBlocks : Columns → Type 0
@@ -34,15 +34,15 @@ AreByteBlocks columns = (frame : ℕ) → All (λ byte. byte < 256) (columns fra
 
 -- a frame's packet has as many triplets as the rate asks; of those that count each field's have the pair that the frame has in
 -- the field, and the others are those of the frame's channel packet
-pub record IsWithinRoom (rate : Rate) (bytes : FrameBytes) (packet : List Triplet) (frame : Frame) : Type 0 where
-  pub number : length (packet_triplets frame) ≡ triplets_of rate
+pub record IsCarriedInRoom (rate : Rate) (bytes : FrameBytes) (packet : List Triplet) (frame : Frame) : Type 0 where
+  pub number : length (packet_triplets frame) ≡ triplets_in_frame rate
   pub pairs : (second_field : Bool) → field_pairs second_field (packet_triplets frame) ≡ option_to_list (pair_in second_field bytes)
   pub service : channel_triplets (packet_triplets frame) ≡ packet
 
 -- so many frames of columns are carried
 pub record AreCarried (rate : Rate) (columns : Columns) (n : ℕ) : Type 0 where
   pub file : IsFileOf (column_packets rate columns 0 n) (column_bytes rate columns 0 n)
-  pub room : (frame : ℕ) → IsWithinRoom rate (columns frame) (channel_of columns frame) (frame_packet rate frame (columns frame) (channel_of columns frame))
+  pub room : (frame : ℕ) → IsCarriedInRoom rate (columns frame) (channel_packet_of columns frame) (frame_packet rate frame (columns frame) (channel_packet_of columns frame))
   pub received : (second_field : Bool) (k : ℕ) → k ≤ n
       → received_pairs second_field (take k (column_packets rate columns 0 n)) ≡ first_pairs second_field columns k
 

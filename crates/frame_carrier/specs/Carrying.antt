@@ -47,20 +47,20 @@ packets_before columns zero = 0
 packets_before columns (suc n) = packets_before columns n + packet_count (columns n).blocks.items
 
 -- the triplets of the channel packet of a frame of columns: packets are numbered in the order of their frames
-abbrev pub channel_of : Columns → ℕ → List Triplet
-channel_of columns frame = channel_packet (packets_before columns frame) (columns frame).blocks.items
+abbrev pub channel_packet_of : Columns → ℕ → List Triplet
+channel_packet_of columns frame = channel_packet (packets_before columns frame) (columns frame).blocks.items
 
 -- the distribution packets of so many frames of columns, from a frame on
 abbrev pub column_packets : Rate → Columns → ℕ → ℕ → List Frame
 column_packets rate columns frame zero = []
 column_packets rate columns frame (suc n) =
-    frame_packet rate frame (columns frame) (channel_of columns frame) ∷ column_packets rate columns (suc frame) n
+    frame_packet rate frame (columns frame) (channel_packet_of columns frame) ∷ column_packets rate columns (suc frame) n
 
 -- the bytes of their ancillary packets
 abbrev pub column_bytes : Rate → Columns → ℕ → ℕ → List ℕ
 column_bytes rate columns frame zero = []
 column_bytes rate columns frame (suc n) =
-    frame_bytes rate frame (columns frame) (channel_of columns frame) ++ column_bytes rate columns (suc frame) n
+    frame_bytes rate frame (columns frame) (channel_packet_of columns frame) ++ column_bytes rate columns (suc frame) n
 
 -- the carrier is for this rate, this frame is its next, and it has carried so many channel packets
 pub record IsAt (rate : Rate) (frame count : ℕ) (carrier : Carrier) : Type 0 where

@@ -1,7 +1,7 @@
 -- The triplets of a frame (CTA-708-E, cc_data()): the pair of field 1, that of field 2, the triplets of the frame's caption
 -- channel packet, and behind them triplets that don't count up to the rate's number.
 use Rattle.std.specs.Prelude.{ℕ, ◌-◌, true, Option, Some, None, List, [], ◌∷◌, ◌++◌, length, replicate}
-use Rattle.cc_base.specs.Rate.{triplets_of}
+use Rattle.cc_base.specs.Rate.{triplets_in_frame}
 use Rattle.cc_base.specs.declared.rate.Rate.{Rate}
 use Rattle.line21_codes.specs.declared.pairs.Pair.{Pair}
 use Rattle.cc_data.specs.declared.triplet.Triplet.{Triplet}
@@ -24,4 +24,4 @@ front_triplets frame packet = field_triplets 0 frame.one ++ (field_triplets 1 fr
 -- the triplets of a frame with its pairs and the triplets of its packet
 abbrev pub frame_triplets : Rate → FrameBytes → List Triplet → List Triplet
 frame_triplets rate frame packet =
-    front_triplets frame packet ++ replicate (triplets_of rate - length (front_triplets frame packet)) filler
+    front_triplets frame packet ++ replicate (triplets_in_frame rate - length (front_triplets frame packet)) filler

@@ -1,5 +1,5 @@
 ghost use Rattle.std.specs.Prelude.{◌≡◌, All, ◌+◌, ◌-◌, ◌<◌, ◌≤◌, ◌++◌, [], ◌∷◌, Some, length, replicate};
-ghost use Rattle.cc_base.specs.Rate.{triplets_of};
+ghost use Rattle.cc_base.specs.Rate.{triplets_in_frame};
 ghost use Rattle.cc_data.specs.Triplets.{filler};
 ghost use Rattle.frame_carrier.specs.FrameTriplets.{field_triplets, frame_triplets, pair_triplet};
 

@@ -11,7 +11,7 @@ use Rattle.frame_scheduler.specs.declared.lane.placed_unit.PlacedUnit.{PlacedUni
 use Rattle.frame_scheduler.specs.Timeline.{IsSpaced, Timeline, first_of, repeat_of, repeat_at, slot}
 use Rattle.frame_scheduler.specs.LaneEvents.{event_at}
 use Rattle.frame_scheduler.specs.LaneTimeline.{unit_at}
-use Rattle.frame_scheduler.specs.LaneCursor.{AreUnitsFrom, AreRising, IsAhead, IsReady, GivesSlot, IsNext}
+use Rattle.frame_scheduler.specs.LaneCursor.{AreUnitsFrom, AreUnitsRising, IsAhead, IsReady, GivesSlot, IsNext}
 use Rattle.frame_scheduler.proofs.EventLemmas.{from_earlier, from_first, event_none}
 use Rattle.frame_scheduler.proofs.NextLemmas.{next_from_drop}
 
@@ -25,7 +25,7 @@ units_earlier m n [] h a = tt
 units_earlier m n (u ∷ us) h a = (omega (arith, a.0), units_earlier m n us h a.1)
 
 -- the units are from a slot on where the first one is
-units_first : (n : ℕ) (us : List PlacedUnit) → AreRising us → ((u : PlacedUnit) (rest : List PlacedUnit) → us ≡ u ∷ rest → n ≤ u.slot) → AreUnitsFrom n us
+units_first : (n : ℕ) (us : List PlacedUnit) → AreUnitsRising us → ((u : PlacedUnit) (rest : List PlacedUnit) → us ≡ u ∷ rest → n ≤ u.slot) → AreUnitsFrom n us
 units_first n [] rising h = tt
 units_first n (u ∷ us) rising h = let here : n ≤ u.slot = h u us refl in (here, units_earlier n (u.slot + 1) us (omega arith) rising.0)
 
@@ -63,7 +63,7 @@ events_behind es n from apart none = from_first (n + 1) es apart (behind es from
         subst (λ (x : Event). n + 1 ≤ x.slot) same (omega (arith, other, from.0))
 
 -- so do units
-units_behind : (us : List PlacedUnit) (n : ℕ) → AreUnitsFrom n us → AreRising us → unit_at us n ≡ None → AreUnitsFrom (n + 1) us
+units_behind : (us : List PlacedUnit) (n : ℕ) → AreUnitsFrom n us → AreUnitsRising us → unit_at us n ≡ None → AreUnitsFrom (n + 1) us
 units_behind us n from rising none = units_first (n + 1) us rising (behind us from none)
   where
     behind : (vs : List PlacedUnit) → AreUnitsFrom n vs → unit_at vs n ≡ None → (u : PlacedUnit) (rest : List PlacedUnit) → vs ≡ u ∷ rest → n + 1 ≤ u.slot

@@ -13,7 +13,7 @@ use Rattle.cue_lists.specs.declared.cue.Cue.{Cue}
 use Rattle.cue_lists.proofs.ChannelCues.{cues_on_formed, hides_unless_roll, pop_is_not_roll}
 use Rattle.line21_codes.specs.Channels.{is_in_second_field}
 use Rattle.line21_author.specs.Channels.{cues_on}
-use Rattle.line21_author.specs.CueEvents.{event_of, is_replaced_at, show_events, hide_events, events_of, channel_events}
+use Rattle.line21_author.specs.CueEvents.{control_event, is_replaced_at, show_events, hide_events, cue_events, channel_events}
 use Rattle.line21_author.specs.EventOrder.{AreApart}
 use Rattle.line21_author.specs.declared.event.Event.{Event}
 use Rattle.line21_author.proofs.CueEventsLemmas.{events_of_apart}
@@ -43,13 +43,13 @@ show_ended_at frames show None some hidden ended = cc
 show_ended_at frames show (Some frame) some hidden ended = omega arith
 
 show_ended : (second_field pop_on : Bool) (frames show : ℕ) → (pop_on ≡ true → show + 2 ≤ frames)
-    → AllByRecursion (HasEnded frames) (if pop_on then event_of second_field show Eoc ∷ [] else [])
+    → AllByRecursion (HasEnded frames) (if pop_on then control_event second_field show Eoc ∷ [] else [])
 show_ended second_field true frames show ended = (ended refl, tt)
 show_ended second_field false frames show ended = tt
 
 -- what hides a cue has ended
 hide_ended_at : (second_field replaced : Bool) (frames hide : ℕ) → hide + 2 ≤ frames
-    → AllByRecursion (HasEnded frames) (if replaced then [] else event_of second_field hide Edm ∷ [])
+    → AllByRecursion (HasEnded frames) (if replaced then [] else control_event second_field hide Edm ∷ [])
 hide_ended_at second_field true frames hide ended = tt
 hide_ended_at second_field false frames hide ended = (ended, tt)
 
@@ -62,11 +62,11 @@ hide_ended second_field frames show (Some hide) later ended =
 
 -- the events of sound cues have ended when the list has
 events_ended : (second_field : Bool) (frames : ℕ) (cues : List Cue) → AllByRecursion IsCueFormed cues
-    → AllByRecursion (IsSoundInSlots frames) cues → AllByRecursion (HasEnded frames) (events_of second_field cues)
+    → AllByRecursion (IsSoundInSlots frames) cues → AllByRecursion (HasEnded frames) (cue_events second_field cues)
 events_ended second_field frames [] formed sound = tt
 events_ended second_field frames (cue ∷ later) formed sound =
     ended-append frames (show_events second_field cue ++ hide_events second_field cue.hide later)
-    (events_of second_field later)
+    (cue_events second_field later)
     (ended-append frames (show_events second_field cue) (hide_events second_field cue.hide later)
     (show_ended second_field (is_pop cue.kind) frames cue.show
     (λ pop. show_ended_at frames cue.show cue.hide (hides_unless_roll cue formed.0 (pop_is_not_roll cue.kind pop))

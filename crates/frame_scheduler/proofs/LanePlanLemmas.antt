@@ -8,7 +8,7 @@ use Rattle.line21_author.specs.EventOrder.{AreFrom, AreApart}
 use Rattle.line21_author.specs.declared.event.Event.{Event}
 use Rattle.frame_scheduler.specs.FieldLane.{IsAllowed, end_of, lane, slots_of}
 use Rattle.placements.specs.FirstFit.{IsFirst}
-use Rattle.frame_scheduler.specs.LaneCursor.{AreRising, AreUnitsFrom, GivesSlot, IsReady}
+use Rattle.frame_scheduler.specs.LaneCursor.{AreUnitsFrom, AreUnitsRising, GivesSlot, IsReady}
 use Rattle.frame_scheduler.specs.LaneEvents.{event_at}
 use Rattle.frame_scheduler.specs.LanePlan.{AreInEarliest, piece_cue}
 use Rattle.placements.specs.LaneRoom.{AreInCueOrder, IsFirstCrowded}
@@ -89,7 +89,7 @@ timeline_is events ps fs = ap (λ t. over (event_at events) t) (fun_ext (unit_st
 
 -- placed units are in the order of their slots
 rising : (events : List Event) (before : List (Piece × ℕ)) (ps : List Piece) (fs : List ℕ) → IsPlaced (lane events) before ps fs
-    → AreUnitsFrom (end_of before) (in_slots ps fs) × AreRising (in_slots ps fs)
+    → AreUnitsFrom (end_of before) (in_slots ps fs) × AreUnitsRising (in_slots ps fs)
 rising events before [] fs placed = (tt, tt)
 rising events before (p ∷ ps) [] placed = (tt, tt)
 rising events before (p ∷ ps) (f ∷ fs) placed =

@@ -26,7 +26,7 @@ use Rattle.line21_author.proofs.CueSlotLemmas.{cues_formed_in_slots}
 use Rattle.line21_author.specs.declared.event.Event.{Event}
 use Rattle.frame_scheduler.specs.ChannelLane.{IsChannelPlaced, channel_pieces, channel_slot, pieces_from}
 use Rattle.frame_scheduler.specs.FieldLane.{lane}
-use Rattle.frame_scheduler.specs.LanePlan.{IsPlanOf, LaneFault, Planned, lane_pair, pair_at, piece_cue, fault_beside}
+use Rattle.frame_scheduler.specs.LanePlan.{IsPlanOf, LaneFault, Planned, lane_pair, slot_pair, piece_cue, fault_beside}
 use Rattle.frame_scheduler.specs.LaneTimeline.{placed_timeline}
 use Rattle.placements.specs.Placing.{IsEarliest, IsPlaced}
 use Rattle.frame_scheduler.specs.SlotLists.{slot_cues}
@@ -217,7 +217,7 @@ module _ (l : Listing) (formed : IsFormed l) where
 
   -- a planned lane has its channel's pairs
   lane_gives : (channel : Chan) (planned : Planned) (is : IsPlanOf (events channel) (pieces channel) planned) (n : ℕ)
-      → channel_slot channel (slot_cues l channel) is.0.0 n ≡ pair_at planned n
+      → channel_slot channel (slot_cues l channel) is.0.0 n ≡ slot_pair planned n
   lane_gives channel planned is n =
       ap (λ t. slot t n) (sym (timeline_is (events channel) (pieces channel) is.0.0))
       ∙ ap (λ (us : List PlacedUnit). slot (placed_timeline (events channel) us) n) (sym is.0.2)
@@ -228,7 +228,7 @@ module _ (l : Listing) (formed : IsFormed l) where
       → channel_pair l channel is.0.0 n ≡ lane_pair (cadence_of l.rate channel) planned n
   frame_gives channel planned is n = of_slot (slot_in (cadence_of l.rate channel) n)
     where
-      of_slot : (o : Option ℕ) → option_map (channel_slot channel (slot_cues l channel) is.0.0) o ≡ option_map (pair_at planned) o
+      of_slot : (o : Option ℕ) → option_map (channel_slot channel (slot_cues l channel) is.0.0) o ≡ option_map (slot_pair planned) o
       of_slot None = refl
       of_slot (Some k) = ap (λ (pair : Pair). Some pair) (lane_gives channel planned is k)
 

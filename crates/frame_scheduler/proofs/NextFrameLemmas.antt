@@ -15,7 +15,7 @@ use Rattle.frame_scheduler.specs.Blocks.{blocks_of, blocks_room, lane_block, mov
 use Rattle.frame_scheduler.specs.ServicesLeft.{HasLeft, IsNumbered}
 use Rattle.frame_scheduler.specs.Columns.{Columns}
 use Rattle.frame_scheduler.specs.Frames.{GivesFrom}
-use Rattle.frame_scheduler.specs.LanePlan.{Planned, behind_frame, given_in, lane_pair, pair_at}
+use Rattle.frame_scheduler.specs.LanePlan.{Planned, behind_frame, given_in, lane_pair, slot_pair}
 use Rattle.frame_scheduler.specs.declared.frames.FrameBytes.{FrameBytes}
 use Rattle.frame_scheduler.specs.declared.frames.Plan.{Plan}
 
@@ -27,9 +27,9 @@ Steps cadence frame lanes index pair new = (lane : Planned) → slice_get lanes 
 -- a lane that is at the first slot that isn't before a frame gives the frame's pair
 given_is : (c : Cadence) (one : Planned) (f : ℕ) → one.slot ≡ slot_from c f → given_in c f one ≡ lane_pair c one f
 given_is c one f at =
-    subst (λ k. given_in c f one ≡ option_map (pair_at one) (if has_slot_in c f then Some k else None)) at (by_test (has_slot_in c f))
+    subst (λ k. given_in c f one ≡ option_map (slot_pair one) (if has_slot_in c f then Some k else None)) at (by_test (has_slot_in c f))
   where
-    by_test : (b : Bool) → (if b then Some (pair_at one one.slot) else None) ≡ option_map (pair_at one) (if b then Some one.slot else None)
+    by_test : (b : Bool) → (if b then Some (slot_pair one one.slot) else None) ≡ option_map (slot_pair one) (if b then Some one.slot else None)
     by_test true = refl
     by_test false = refl
 

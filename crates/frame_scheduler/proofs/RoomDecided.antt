@@ -25,7 +25,7 @@ use Rattle.cue_lists.specs.declared.lane.Lane.{Lane}
 use Rattle.dtvcc_author.specs.FrameEvents.{delay_end}
 use Rattle.placements.specs.declared.planning.PlanFault.TheVariants.{NoRoom}
 use Rattle.service_lanes.specs.ServiceChunks.{chunk_cue}
-use Rattle.service_lanes.specs.ServiceLane.{AreUpTo, most_in_delay, service_lane, size_of, used}
+use Rattle.service_lanes.specs.ServiceLane.{AreUpTo, chunk_size, most_in_delay, service_lane, used}
 use Rattle.service_lanes.specs.ServiceRoom.{frame_room}
 use Rattle.service_lanes.specs.declared.chunk.Chunk.{Chunk}
 use Rattle.service_lanes.proofs.ChunkOrderLemmas.{chunks_in_order}
@@ -186,17 +186,17 @@ up_to_decided frame (p ∷ ps) =
 -- what a delay asks of a unit in a frame, of those that start before a number
 abbrev DelaysAllow : (ℕ → Option ℕ) → List (Chunk × ℕ) → Chunk → ℕ → ℕ → Type 0
 DelaysAllow ends before chunk frame number =
-    (start end : ℕ) → ends start ≡ Some end → start < number → frame < end → used start end before + size_of chunk ≤ most_in_delay
+    (start end : ℕ) → ends start ≡ Some end → start < number → frame < end → used start end before + chunk_size chunk ≤ most_in_delay
 
 delays_decided : (ends : ℕ → Option ℕ) (before : List (Chunk × ℕ)) (chunk : Chunk) (frame number : ℕ) → Decided (DelaysAllow ends before chunk frame number)
 delays_decided ends before chunk frame zero = inl (λ start end is low on. absurd (omega arith))
 delays_decided ends before chunk frame (suc n) = at (ends n) refl (delays_decided ends before chunk frame n)
   where
-    with_last : ((end : ℕ) → ends n ≡ Some end → frame < end → used n end before + size_of chunk ≤ most_in_delay) → DelaysAllow ends before chunk frame n
+    with_last : ((end : ℕ) → ends n ≡ Some end → frame < end → used n end before + chunk_size chunk ≤ most_in_delay) → DelaysAllow ends before chunk frame n
         → DelaysAllow ends before chunk frame (suc n)
     with_last last rest start end is low on =
         elim (cases_eq start n) [
-          | inl same ↦ subst (λ s. used s end before + size_of chunk ≤ most_in_delay) (sym same) (last end (sym (ap ends same) ∙ is) on)
+          | inl same ↦ subst (λ s. used s end before + chunk_size chunk ≤ most_in_delay) (sym same) (last end (sym (ap ends same) ∙ is) on)
           | inr other ↦ rest start end is (omega arith) on
         ]
 
@@ -206,10 +206,10 @@ delays_decided ends before chunk frame (suc n) = at (ends n) refl (delays_decide
     at (Some end) is (inl rest) =
         elim (cases_lt frame end) [
           | inr over ↦ inl (with_last (λ other found on. let same : end ≡ other = (let e : Some end ≡ Some other = sym is ∙ found in cc) in absurd (omega arith)) rest)
-          | inl on ↦ elim (cases_lt most_in_delay (used n end before + size_of chunk)) [
+          | inl on ↦ elim (cases_lt most_in_delay (used n end before + chunk_size chunk)) [
             | inl full ↦ inr (λ all. let most = all n end is (omega arith) on in omega (arith, most, full))
             | inr fits ↦ inl (with_last (λ other found _. let same : end ≡ other = (let e : Some end ≡ Some other = sym is ∙ found in cc) in
-                subst (λ k. used n k before + size_of chunk ≤ most_in_delay) same fits) rest)
+                subst (λ k. used n k before + chunk_size chunk ≤ most_in_delay) same fits) rest)
           ]
         ]
 
@@ -223,7 +223,7 @@ chunk_decided room ends before chunk frame =
         | inl early ↦ inr (λ allowed. let loaded = allowed.loaded in omega arith)
         | inr loaded ↦ elim (cases_lt frame chunk.until) [
           | inr late ↦ inr (λ allowed. let ended = allowed.ended in omega arith)
-          | inl ended ↦ elim (cases_lt (room frame) (used frame (frame + 1) before + size_of chunk)) [
+          | inl ended ↦ elim (cases_lt (room frame) (used frame (frame + 1) before + chunk_size chunk)) [
             | inl full ↦ inr (λ allowed. let fits = allowed.fits in omega arith)
             | inr fits ↦ elim (delays_decided ends before chunk frame (frame + 1)) [
               | inr denied ↦ inr (λ allowed. denied (λ start end is low on. allowed.delayed start end is (omega arith) on))

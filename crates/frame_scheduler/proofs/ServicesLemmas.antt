@@ -6,7 +6,7 @@ use Rattle.std.proofs.lemmas.Bool.{cases_eq, cases_lt, eqb-true}
 use Rattle.std.proofs.lemmas.List.Elements.{All-head, All-tail}
 use Rattle.std.proofs.lemmas.Result.{IfErr-weaker}
 use Rattle.cc_base.specs.declared.rate.Rate.{Rate}
-use Rattle.dtvcc_author.specs.Captions.{captions_of}
+use Rattle.dtvcc_author.specs.Captions.{service_captions}
 use Rattle.service_lanes.specs.ServiceChunks.{service_chunks}
 use Rattle.cue_lists.specs.declared.cue.Cue.{Cue}
 use Rattle.cue_lists.specs.Listing.{IsFormed, Listing, share_of}
@@ -190,18 +190,18 @@ module _ (l : Listing) (formed : IsFormed l) (ruled : IsRuled l) where
   -- the lane that is placed is that of the list
   pub one_planned : (service share : ℕ) (rate : Rate) (cues : List Cue) (result : Result PlannedService PlanFault) → rate ≡ l.rate → cues ≡ l.cues
       → share_of l service ≡ Some share
-      → IfOk result (IsPlanOf service share (captions_of rate service cues) (service_chunks rate service cues)) → IfOk result (IsServicePlanned l service)
+      → IfOk result (IsPlanOf service share (service_captions rate service cues) (service_chunks rate service cues)) → IfOk result (IsServicePlanned l service)
   one_planned service share rate cues result rate_is cues_are some is =
       subst (λ n. IfOk result (IsPlanOf service n (captions_in l service) (chunks_in l service))) (sym (ap (λ o. unwrap_or o 0) some))
-      (subst (λ cs. IfOk result (IsPlanOf service share (captions_of l.rate service cs) (service_chunks l.rate service cs))) cues_are
-      (subst (λ r. IfOk result (IsPlanOf service share (captions_of r service cues) (service_chunks r service cues))) rate_is is))
+      (subst (λ cs. IfOk result (IsPlanOf service share (service_captions l.rate service cs) (service_chunks l.rate service cs))) cues_are
+      (subst (λ r. IfOk result (IsPlanOf service share (service_captions r service cues) (service_chunks r service cues))) rate_is is))
 
   pub one_faulty : (service share : ℕ) (rate : Rate) (cues : List Cue) (result : Result PlannedService PlanFault) → rate ≡ l.rate → cues ≡ l.cues
       → share_of l service ≡ Some share
-      → IfErr result (IsLaneFault share (captions_of rate service cues) (service_chunks rate service cues)) → IfErr result (IsFaultIn (IsOnly (Service service)) l)
+      → IfErr result (IsLaneFault share (service_captions rate service cues) (service_chunks rate service cues)) → IfErr result (IsFaultIn (IsOnly (Service service)) l)
   one_faulty service share rate cues result rate_is cues_are some is =
       IfErr-weaker result (IsLaneFault (share_in l service) (captions_in l service) (chunks_in l service)) (IsFaultIn (IsOnly (Service service)) l)
       (λ fault lane. service_fault l service fault lane)
       (subst (λ n. IfErr result (IsLaneFault n (captions_in l service) (chunks_in l service))) (sym (ap (λ o. unwrap_or o 0) some))
-      (subst (λ cs. IfErr result (IsLaneFault share (captions_of l.rate service cs) (service_chunks l.rate service cs))) cues_are
-      (subst (λ r. IfErr result (IsLaneFault share (captions_of r service cues) (service_chunks r service cues))) rate_is is)))
+      (subst (λ cs. IfErr result (IsLaneFault share (service_captions l.rate service cs) (service_chunks l.rate service cs))) cues_are
+      (subst (λ r. IfErr result (IsLaneFault share (service_captions r service cues) (service_chunks r service cues))) rate_is is)))

@@ -2,13 +2,13 @@
 use Rattle.std.proofs.Common.{◌≡◌, ◌<◌, ◌≤◌, ℕ, List, [], ◌∷◌, ◌++◌, map, refl, sym, ap, ◌∙◌, subst, arith, ⊎_elim}
 use Rattle.std.proofs.lemmas.Bool.{cases_lt}
 use Rattle.std.proofs.lemmas.List.{map-append}
-use Rattle.line21_slots.specs.Cadences.{frame_of}
+use Rattle.line21_slots.specs.Cadences.{slot_frame}
 use Rattle.line21_slots.specs.declared.cadence.Cadence.{Cadence}
 use Rattle.line21_slots.specs.declared.cadence.Cadence.TheVariants.{EveryFrame, EvenFrames, OddFrames}
 use Rattle.placements.specs.Placing.{IsEarliest, IsPlaced, NoLater}
 use Rattle.frame_scheduler.specs.SlotPlacing.{EarliestInFrames, IsRising, all_in_frames, allowed_in_frames}
 
-frames_rise : (c : Cadence) → IsRising (frame_of c)
+frames_rise : (c : Cadence) → IsRising (slot_frame c)
 frames_rise EveryFrame j k less = less
 frames_rise EvenFrames j k less = omega arith
 frames_rise OddFrames j k less = omega arith
@@ -92,4 +92,4 @@ module _ {U : Type 0} (frame : ℕ → ℕ) (rising : IsRising frame) (allowed :
 
 -- with every cadence
 pub every_earliest : {U : Type 0} (allowed : List (U × ℕ) → U → ℕ → Type 0) → EarliestInFrames allowed
-every_earliest allowed cadence us ks earliest = earliest_in_frames (frame_of cadence) (frames_rise cadence) allowed us ks earliest
+every_earliest allowed cadence us ks earliest = earliest_in_frames (slot_frame cadence) (frames_rise cadence) allowed us ks earliest

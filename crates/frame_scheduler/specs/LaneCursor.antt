@@ -16,9 +16,9 @@ AreUnitsFrom n [] = ⊤
 AreUnitsFrom n (placed ∷ units) = (n ≤ placed.slot) × AreUnitsFrom n units
 
 -- the units are in the order of their slots
-abbrev pub AreRising : List PlacedUnit → Type 0
-AreRising [] = ⊤
-AreRising (placed ∷ units) = AreUnitsFrom (placed.slot + 1) units × AreRising units
+abbrev pub AreUnitsRising : List PlacedUnit → Type 0
+AreUnitsRising [] = ⊤
+AreUnitsRising (placed ∷ units) = AreUnitsFrom (placed.slot + 1) units × AreUnitsRising units
 
 -- from the slot on, the timeline has just these events and units, none of which begins in one slot with another; and nothing
 -- begins in a repeat
@@ -29,7 +29,7 @@ pub record IsAhead (timeline : Timeline) (events : List Event) (units : List Pla
   pub events_from : AreFrom from events
   pub events_apart : AreApart events
   pub units_from : AreUnitsFrom from units
-  pub units_rising : AreRising units
+  pub units_rising : AreUnitsRising units
   pub beside : (n : ℕ) (unit : Unit) → event_at events n ≡ Some unit → unit_at units n ≡ None
 
 -- the cursor is ready to give the timeline's slots from its own on

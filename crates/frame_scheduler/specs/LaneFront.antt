@@ -5,7 +5,7 @@ use Rattle.frame_scheduler.specs.declared.lane.front.Front.{Front}
 use Rattle.frame_scheduler.specs.LaneEvents.{IsFree, AreOver}
 
 -- the events that the front has passed are over by its end
-pub record IsFront (events : List Event) (front : Front) : Type 0 where
+pub record IsFrontOfEvents (events : List Event) (front : Front) : Type 0 where
   pub within : front.passed ≤ length events
   pub passed : AreOver front.end (take front.passed events)
 

@@ -22,16 +22,16 @@ pub record Planned : Type 0 where
   pub slot : ℕ
 
 -- the pair of a lane in a slot
-abbrev pub pair_at : Planned → ℕ → Pair
-pair_at planned n = slot (placed_timeline planned.events planned.units) n
+abbrev pub slot_pair : Planned → ℕ → Pair
+slot_pair planned n = slot (placed_timeline planned.events planned.units) n
 
 -- the pair of a lane in a frame, where the frame has a slot
 abbrev pub lane_pair : Cadence → Planned → ℕ → Option Pair
-lane_pair cadence planned frame = option_map (pair_at planned) (slot_in cadence frame)
+lane_pair cadence planned frame = option_map (slot_pair planned) (slot_in cadence frame)
 
 -- what a lane gives in a frame: the pair of its next slot, where the frame has one
 abbrev pub given_in : Cadence → ℕ → Planned → Option Pair
-given_in cadence frame planned = if has_slot_in cadence frame then Some (pair_at planned planned.slot) else None
+given_in cadence frame planned = if has_slot_in cadence frame then Some (slot_pair planned planned.slot) else None
 
 -- the lane behind the frame
 abbrev pub behind_frame : Cadence → ℕ → Planned → Planned

@@ -10,7 +10,7 @@ use Rattle.cue_lists.specs.declared.lane.Lane.{Lane}
 use Rattle.cue_lists.specs.declared.lane.Lane.TheVariants.{Channel, Service}
 use Rattle.line21_slots.specs.Cadences.{cadence_of, slot_in}
 use Rattle.line21_author.specs.CueEvents.{channel_events}
-use Rattle.dtvcc_author.specs.Captions.{captions_of}
+use Rattle.dtvcc_author.specs.Captions.{service_captions}
 use Rattle.dtvcc_author.specs.declared.caption.Caption.{Caption}
 use Rattle.frame_scheduler.specs.ChannelLane.{IsChannelPlaced, channel_pieces, channel_slot}
 use Rattle.frame_scheduler.specs.Columns.{Columns}
@@ -35,7 +35,7 @@ share_in list service = unwrap_or (share_of list service) 0
 
 -- the captions of a service, and its units
 abbrev pub captions_in : Listing → ℕ → List Caption
-captions_in list service = captions_of list.rate service list.cues
+captions_in list service = service_captions list.rate service list.cues
 
 abbrev pub chunks_in : Listing → ℕ → List Chunk
 chunks_in list service = service_chunks list.rate service list.cues

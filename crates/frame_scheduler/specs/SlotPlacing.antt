@@ -1,7 +1,7 @@
 -- Placements in slots and in frames. Each slot of a field lies in a frame, a later one in a later frame: the earliest placement
 -- in slots is the earliest in the frames of these slots.
 use Rattle.std.specs.Prelude.{◌≡◌, ℕ, ◌<◌, List, map}
-use Rattle.line21_slots.specs.Cadences.{frame_of}
+use Rattle.line21_slots.specs.Cadences.{slot_frame}
 use Rattle.line21_slots.specs.declared.cadence.Cadence.{Cadence}
 use Rattle.placements.specs.Placing.{IsEarliest}
 
@@ -22,4 +22,4 @@ IsRising frame = (j k : ℕ) → j < k → frame j < frame k
 -- the earliest placement in slots is the earliest in their frames, with every cadence
 abbrev pub EarliestInFrames : {U : Type 0} → (List (U × ℕ) → U → ℕ → Type 0) → Type 0
 EarliestInFrames {U} allowed = (cadence : Cadence) (units : List U) (slots : List ℕ) → IsEarliest allowed units slots
-    → IsEarliest (allowed_in_frames (frame_of cadence) allowed) units (map (frame_of cadence) slots)
+    → IsEarliest (allowed_in_frames (slot_frame cadence) allowed) units (map (slot_frame cadence) slots)

@@ -2,7 +2,7 @@ ghost use Rattle.std.specs.Prelude.{◌≡◌, ℕ, ◌≤◌, All, IfErr, IfOk,
 ghost use Rattle.cue_lists.specs.Cues.{IsCueFormed};
 ghost use Rattle.cue_lists.specs.Listing.{IsFormed};
 ghost use Rattle.cue_lists.specs.Rules.{IsRuled};
-ghost use Rattle.dtvcc_author.specs.Captions.{captions_of};
+ghost use Rattle.dtvcc_author.specs.Captions.{service_captions};
 ghost use Rattle.dtvcc_author.specs.Kept.{AreKept};
 ghost use Rattle.service_lanes.specs.ServiceChunks.{service_chunks};
 ghost use Rattle.service_lanes.specs.ServicePlan.{IsLaneFault, IsPlanOf as IsServicePlan};
@@ -93,11 +93,11 @@ fn placed_service(
 ) -> Result<PlacedService, PlanFault>
     requires formed { All IsCueFormed cues.now }
     requires few { length cues.now ≤ 20000 }
-    requires kept { (frames : ℕ) × AreKept rate frames (captions_of rate service cues.now) }
+    requires kept { (frames : ℕ) × AreKept rate frames (service_captions rate service cues.now) }
     requires least { 8 ≤ share }
     requires most { share ≤ 31 }
-    ensures placed { IfOk result (IsServicePlan service share (captions_of rate service cues.now) (service_chunks rate service cues.now)) }
-    ensures fault { IfErr result (IsLaneFault share (captions_of rate service cues.now) (service_chunks rate service cues.now)) }
+    ensures placed { IfOk result (IsServicePlan service share (service_captions rate service cues.now) (service_chunks rate service cues.now)) }
+    ensures fault { IfErr result (IsLaneFault share (service_captions rate service cues.now) (service_chunks rate service cues.now)) }
 {
     let captions = match captions(alloc, rate, cues, service) {
         Ok(captions) => captions,

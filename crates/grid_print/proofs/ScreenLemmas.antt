@@ -5,14 +5,14 @@ use Rattle.std.proofs.lemmas.Bool.{true≢false}
 use Rattle.std.proofs.lemmas.Bool.Decides.{nat_tests}
 use Rattle.std.proofs.lemmas.List.{take-append-le, take_all}
 use Rattle.std.specs.List.{flat_map, list_any}
-use Rattle.cc_receiver.specs.Receivers.{shown}
+use Rattle.cc_receiver.specs.Receivers.{displayed_grid}
 use Rattle.cc_receiver.specs.declared.receiver.Receiver.{Receiver}
 use Rattle.cc_receiver.proofs.ReceivedLemmas.{shown_received}
 use Rattle.cdp_packets.specs.Packets.{Packet as Frame}
 use Rattle.dtvcc_windows.specs.Showing.{ShownWindow}
 use Rattle.line21_codes.specs.declared.channels.Chan.{Chan}
 use Rattle.line21_codes.specs.declared.channels.Chan.TheVariants.{Cc1, Cc2, Cc3, Cc4}
-use Rattle.line21_screen.specs.Differences.{differs}
+use Rattle.line21_screen.specs.Differences.{grid_differs}
 use Rattle.line21_screen.specs.Grid.{Grid}
 use Rattle.line21_screen.proofs.DifferenceLemmas.{differs-itself as grid_differs-itself}
 use Rattle.window_texts.specs.Differences.{differs as window_differs}
@@ -20,7 +20,7 @@ use Rattle.window_texts.specs.WindowTexts.{service_text, shown_ids}
 use Rattle.window_texts.proofs.DifferenceLemmas.{differs-itself}
 use Rattle.words_files.specs.Received.{received_grids}
 use Rattle.grid_print.specs.declared.kept.Kept.{Kept}
-use Rattle.grid_print.specs.GridTexts.{all_text, changed_channel, changed_service, changed_services, changes_text, channels, channels_differ, frame_line, grid_text, screens_differ, service_differs, services, services_differ, shown_channel, shown_service, shown_services}
+use Rattle.grid_print.specs.GridTexts.{all_services, all_text, changed_channel, changed_service, changed_services, changes_text, channels, channels_differ, frame_line, grid_text, screens_differ, service_differs, services_differ, shown_channel, shown_service, shown_services}
 use Rattle.grid_print.specs.Kept.{KeepsServices, changed_at, changed_places, seen_at}
 use Rattle.grid_print.specs.Runs.{runs}
 use Rattle.grid_print.specs.Screens.{HaveSameWindows, IsBehind, LookAlike, Screens}
@@ -75,7 +75,7 @@ quiet test f [] none = refl
 quiet test f (x ∷ xs) none = quiet_next test f x xs (test x) refl none (quiet test f xs (quiet_behind (test x) (list_any test xs) none))
 
 -- what a receiver shows on its channels
-pub grids_behind : (frames : List Frame) (receiver : Receiver) → IsBehind frames receiver → shown receiver ≡ received_grids frames
+pub grids_behind : (frames : List Frame) (receiver : Receiver) → IsBehind frames receiver → displayed_grid receiver ≡ received_grids frames
 grids_behind frames receiver behind = fun_ext (λ chan. shown_received frames behind.bytes receiver chan behind.received behind.frames_are)
 
 -- a service of which the same is seen doesn't differ
@@ -136,7 +136,7 @@ changed_texts are was now true some each =
     (each refl place (omega (arith, to)) ∙ ap (λ s. service_differs s (are (place + 1))) (sym (number_at was place))))
     ∙ texts_shift (changed_service (numbered was) are) 0 63
 changed_texts are was now false some each =
-    sym (quiet (λ service. service_differs (numbered was service) (are service)) (λ service. service_text service (are service)) services (sym some))
+    sym (quiet (λ service. service_differs (numbered was service) (are service)) (λ service. service_text service (are service)) all_services (sym some))
 
 -- the text of what changed, of its parts
 pub changes_joined : (frame : ℕ) (old new : Screens) (one other : Bool) (texts : List ℕ)
@@ -173,11 +173,11 @@ any_of_four false false false true = refl
 any_of_four false false false false = refl
 
 -- some channel changes just where one of the four tests says so
-pub changes_told : (old new : Chan → Grid) (one two three four : Bool) → one ≡ differs (old Cc1) (new Cc1) → two ≡ differs (old Cc2) (new Cc2)
-    → three ≡ differs (old Cc3) (new Cc3) → four ≡ differs (old Cc4) (new Cc4) → (((one || two) || three) || four) ≡ channels_differ old new
+pub changes_told : (old new : Chan → Grid) (one two three four : Bool) → one ≡ grid_differs (old Cc1) (new Cc1) → two ≡ grid_differs (old Cc2) (new Cc2)
+    → three ≡ grid_differs (old Cc3) (new Cc3) → four ≡ grid_differs (old Cc4) (new Cc4) → (((one || two) || three) || four) ≡ channels_differ old new
 unfolding channels_differ
 changes_told old new one two three four is_one is_two is_three is_four =
-    rw (is_one, is_two, is_three, is_four) (any_of_four (differs (old Cc1) (new Cc1)) (differs (old Cc2) (new Cc2)) (differs (old Cc3) (new Cc3)) (differs (old Cc4) (new Cc4)))
+    rw (is_one, is_two, is_three, is_four) (any_of_four (grid_differs (old Cc1) (new Cc1)) (grid_differs (old Cc2) (new Cc2)) (grid_differs (old Cc3) (new Cc3)) (grid_differs (old Cc4) (new Cc4)))
 
 -- the text of all screens, of its parts
 pub all_joined : (frame : ℕ) (screens : Screens)

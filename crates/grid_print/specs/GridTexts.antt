@@ -7,7 +7,7 @@ use Rattle.line21_codes.specs.declared.channels.Chan.TheVariants.{Cc1, Cc2, Cc3,
 use Rattle.line21_codes.specs.declared.styles.Cell.{Cell}
 use Rattle.line21_codes.specs.declared.styles.Style.{Style}
 use Rattle.line21_codes.specs.PenWords.{colour_word, italic_mark, underline_mark}
-use Rattle.line21_screen.specs.Differences.{differs}
+use Rattle.line21_screen.specs.Differences.{grid_differs}
 use Rattle.line21_screen.specs.Grid.{Grid}
 use Rattle.dtvcc_windows.specs.Showing.{ShownWindow}
 use Rattle.window_texts.specs.Differences.{differs as window_differs}
@@ -45,8 +45,8 @@ abbrev pub channels : List Chan
 channels = Cc1 ∷ Cc2 ∷ Cc3 ∷ Cc4 ∷ []
 
 -- the services in their order, and the windows of a service in theirs
-abbrev pub services : List ℕ
-services = range_with_len 1 63
+abbrev pub all_services : List ℕ
+all_services = range_with_len 1 63
 
 abbrev pub ids : List ℕ
 ids = range_with_len 0 8
@@ -64,25 +64,25 @@ shown_service windows service = if length (shown_ids (windows service)) == 0 the
 
 -- a channel's text where its grid differs, and a service's where its windows do
 abbrev pub changed_channel : (Chan → Grid) → (Chan → Grid) → Chan → List ℕ
-changed_channel old new chan = if differs (old chan) (new chan) then grid_text chan (new chan) else []
+changed_channel old new chan = if grid_differs (old chan) (new chan) then grid_text chan (new chan) else []
 
 abbrev pub changed_service : (ℕ → ℕ → Option ShownWindow) → (ℕ → ℕ → Option ShownWindow) → ℕ → List ℕ
 changed_service old new service = if service_differs (old service) (new service) then service_text service (new service) else []
 
 -- the texts of all services that are shown, and of those that changed
 unfoldable pub shown_services : (ℕ → ℕ → Option ShownWindow) → List ℕ
-shown_services windows = flat_map (shown_service windows) services
+shown_services windows = flat_map (shown_service windows) all_services
 
 unfoldable pub changed_services : (ℕ → ℕ → Option ShownWindow) → (ℕ → ℕ → Option ShownWindow) → List ℕ
-changed_services old new = flat_map (changed_service old new) services
+changed_services old new = flat_map (changed_service old new) all_services
 
 -- the windows of some service differ
 unfoldable pub services_differ : (ℕ → ℕ → Option ShownWindow) → (ℕ → ℕ → Option ShownWindow) → Bool
-services_differ old new = list_any (λ service. service_differs (old service) (new service)) services
+services_differ old new = list_any (λ service. service_differs (old service) (new service)) all_services
 
 -- the grid of some channel differs
 unfoldable pub channels_differ : (Chan → Grid) → (Chan → Grid) → Bool
-channels_differ old new = list_any (λ chan. differs (old chan) (new chan)) channels
+channels_differ old new = list_any (λ chan. grid_differs (old chan) (new chan)) channels
 
 -- a frame's screens: its line, the grid of each channel that has a run, and the windows of each service of which one is shown
 unfoldable pub all_text : ℕ → Screens → List ℕ

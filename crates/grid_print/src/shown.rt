@@ -1,9 +1,9 @@
 ghost use Rattle.std.specs.Prelude.{◌≡◌, ℕ, List, if◌then◌else◌, [], None, false, IfOk, vec_len, length};
 ghost use Rattle.std.specs.List.{flat_map};
 ghost use Rattle.cc_receiver.specs.ReceivedServices.{received_windows};
-ghost use Rattle.cc_receiver.specs.Receivers.{shown};
+ghost use Rattle.cc_receiver.specs.Receivers.{displayed_grid};
 ghost use Rattle.cdp_packets.specs.Packets.{Packet as Frame};
-ghost use Rattle.line21_screen.specs.Differences.{differs};
+ghost use Rattle.line21_screen.specs.Differences.{grid_differs};
 ghost use Rattle.line21_screen.specs.Objects.{grid_in};
 ghost use Rattle.text_output.specs.Pages.{Writes, WritesSome, page};
 ghost use Rattle.window_texts.specs.WindowTexts.{service_text};
@@ -101,7 +101,7 @@ impl Shown {
 
     // Keeps the grid of each channel.
     fn keep_channels(&mut self, r: &Receiver)
-        ensures now { last_grid self.new ≡ shown r.now }
+        ensures now { last_grid self.new ≡ displayed_grid r.now }
         ensures services { self.new.services ≡ self.old.services }
     {
         self.cc1.copy_from(r.displayed(Chan::Cc1));
@@ -138,9 +138,9 @@ impl Shown {
         ensures some { WritesSome (page text.old (O.written out.old) (O.faults out.old)) (page text.new (O.written out.new) (O.faults out.new)) }
         ensures text { (frames : List Frame) → IsBehind frames r.now
             → Writes (page text.old (O.written out.old) (O.faults out.old)) (page text.new (O.written out.new) (O.faults out.new))
-            (frame_line frame ++ flat_map (changed_channel (last_grid self.old) (shown r.now)) channels
+            (frame_line frame ++ flat_map (changed_channel (last_grid self.old) (displayed_grid r.now)) channels
             ++ (if services then changed_places self.old.services.items (received_windows frames) else [])) }
-        ensures now { last_grid self.new ≡ shown r.now }
+        ensures now { last_grid self.new ≡ displayed_grid r.now }
         ensures services { self.new.services ≡ self.old.services }
     {
         write_frame(frame, text, out);
@@ -152,8 +152,8 @@ impl Shown {
 
     // Whether the grid of some channel differs from the one that was shown last.
     fn channels_differ(&self, r: &Receiver) -> bool
-        ensures some { result ≡ channels_differ (last_grid self.now) (shown r.now) }
-        ensures same { result ≡ false → last_grid self.now ≡ shown r.now }
+        ensures some { result ≡ channels_differ (last_grid self.now) (displayed_grid r.now) }
+        ensures same { result ≡ false → last_grid self.now ≡ displayed_grid r.now }
     {
         let one = self.cc1.differs(r.displayed(Chan::Cc1));
         let two = self.cc2.differs(r.displayed(Chan::Cc2));
@@ -164,8 +164,8 @@ impl Shown {
 
     // Writes the grid of each channel whose grid differs from the one that was shown last, and keeps it.
     fn write_channels<O: Sink>(&mut self, r: &Receiver, text: &mut Gathered, out: &mut O)
-        ensures text { Writes (page text.old (O.written out.old) (O.faults out.old)) (page text.new (O.written out.new) (O.faults out.new)) (flat_map (changed_channel (last_grid self.old) (shown r.now)) channels) }
-        ensures now { last_grid self.new ≡ shown r.now }
+        ensures text { Writes (page text.old (O.written out.old) (O.faults out.old)) (page text.new (O.written out.new) (O.faults out.new)) (flat_map (changed_channel (last_grid self.old) (displayed_grid r.now)) channels) }
+        ensures now { last_grid self.new ≡ displayed_grid r.now }
         ensures services { self.new.services ≡ self.old.services }
     {
         write_channel(&mut self.cc1, Chan::Cc1, r, text, out);
@@ -210,8 +210,8 @@ fn write_channel<O: Sink>(
     out: &mut O,
 )
     ensures text { Writes (page text.old (O.written out.old) (O.faults out.old)) (page text.new (O.written out.new) (O.faults out.new))
-        (if differs (grid_in kept.old) (shown r.now chan) then grid_text chan (shown r.now chan) else []) }
-    ensures kept { grid_in kept.new ≡ shown r.now chan }
+        (if grid_differs (grid_in kept.old) (displayed_grid r.now chan) then grid_text chan (displayed_grid r.now chan) else []) }
+    ensures kept { grid_in kept.new ≡ displayed_grid r.now chan }
 {
     let now = r.displayed(chan);
     if kept.differs(now) {

@@ -4,7 +4,7 @@ use Rattle.std.proofs.lemmas.Bool.Decides.{nat_tests}
 use Rattle.std.proofs.Math.Seq.{take-append_seam}
 use Rattle.cc_base.specs.Syntax.{AllRead, open_behind}
 use Rattle.cc_base.proofs.SyntaxLemmas.{AllRead-front}
-use Rattle.anc_words.specs.Packets.{IsCaption, Packet, user_bytes}
+use Rattle.anc_words.specs.Packets.{AncillaryPacket, IsCaption, user_bytes}
 use Rattle.anc_words.specs.Reading.{anc_syntax, nothing_open}
 use Rattle.anc_words.specs.WordsFiles.{IsPacketBytes, IsWordsFile}
 use Rattle.anc_words.proofs.ByteLemmas.{file_is_read, what_is_read_is_file}
@@ -23,7 +23,7 @@ use Rattle.insert_commands.specs.OpenPackets.{NoPacketEnds}
 
 -- bytes with which others begin, of which no word offends, and behind which nothing is open, are a file
 pub closed_file : (bytes front rest : List ℕ) → bytes ≡ front ++ rest → 0 < length rest → IsUnoffending services_say bytes → All (λ b. b < 256) front
-    → open_behind anc_syntax front ≡ nothing_open → (packets : List Packet) × IsWordsFile packets front
+    → open_behind anc_syntax front ≡ nothing_open → (packets : List AncillaryPacket) × IsWordsFile packets front
 closed_file bytes front rest spelled some is are closed =
     let begins = is.begins in
     let read = file_is_read begins.is_file.file.packets (is.words ++ begins.more) begins.is_file.file.file in
@@ -36,13 +36,13 @@ closed_file bytes front rest spelled some is are closed =
     what_is_read_is_file front are front_read closed
 
 -- a file of which no word offends has frames
-pub file_under : (packets : List Packet) (bytes : List ℕ) → IsWordsFile packets bytes → IsUnoffending services_say bytes → All (λ b. b < 256) bytes
+pub file_under : (packets : List AncillaryPacket) (bytes : List ℕ) → IsWordsFile packets bytes → IsUnoffending services_say bytes → All (λ b. b < 256) bytes
     → (frames : List Frame) × IsFileUnder services_say frames bytes
 file_under packets bytes file is are =
     caught_file services_say bytes are (unoffending_is_unrefused services_say bytes is) (file_is_read packets bytes file).leads
 
 -- the last of packets
-last_same : (front : List Packet) (earlier : List Packet) (p q : Packet) → earlier ++ p ∷ [] ≡ front ++ q ∷ [] → p ≡ q
+last_same : (front : List AncillaryPacket) (earlier : List AncillaryPacket) (p q : AncillaryPacket) → earlier ++ p ∷ [] ≡ front ++ q ∷ [] → p ≡ q
 last_same [] [] p q same = cc
 last_same [] (e ∷ []) p q same = cc
 last_same [] (e ∷ d ∷ earlier) p q same = cc
@@ -51,20 +51,20 @@ last_same (f ∷ g ∷ front) [] p q same = cc
 last_same (f ∷ front) (e ∷ earlier) p q same = last_same front earlier p q cc
 
 -- a packet has bytes
-pub has_bytes : (bytes : List ℕ) (r : Packet) → IsPacketBytes r bytes → 0 < length bytes
+pub has_bytes : (bytes : List ℕ) (r : AncillaryPacket) → IsPacketBytes r bytes → 0 < length bytes
 has_bytes [] r is = absurd (some_packet r [] is refl)
 has_bytes (b ∷ bytes) r is = omega arith
 
 -- a packet at the end of a file, where none ends before it
-pub one_packet : (packets earlier : List Packet) (packet : Packet) (file behind : List ℕ) → IsWordsFile packets file
+pub one_packet : (packets earlier : List AncillaryPacket) (packet : AncillaryPacket) (file behind : List ℕ) → IsWordsFile packets file
     → IsWordsFile (earlier ++ packet ∷ []) (file ++ behind) → 0 < length behind
-    → ((others : List Packet) (n : ℕ) → 0 < n → n < length behind → IsWordsFile others (file ++ take n behind) → ⊥)
+    → ((others : List AncillaryPacket) (n : ℕ) → 0 < n → n < length behind → IsWordsFile others (file ++ take n behind) → ⊥)
     → IsPacketBytes packet behind
 one_packet packets earlier packet file behind is whole some no_other =
     let next = file_front packets (earlier ++ packet ∷ []) file behind is whole in
     by_rest next.rest next.spelled next.file
   where
-    by_rest : (rest : List Packet) → earlier ++ packet ∷ [] ≡ packets ++ rest → IsWordsFile rest behind → IsPacketBytes packet behind
+    by_rest : (rest : List AncillaryPacket) → earlier ++ packet ∷ [] ≡ packets ++ rest → IsWordsFile rest behind → IsPacketBytes packet behind
     by_rest [] same left = absurd (omega (arith, some, ap length (empty_file behind left)))
     by_rest (p ∷ []) same left =
         let (front, rest, spelled, is_packet, others) = IsWordsFile-first p [] behind left in
@@ -83,11 +83,11 @@ one_packet packets earlier packet file behind is whole some no_other =
         (IsWordsFile-append packets (p ∷ []) file front is (IsWordsFile-one p front is_packet))))
 
 -- what one packet behind a file brings
-pub record Brings (packet : Packet) (frames more : List Frame) : Type 0 where
+pub record Brings (packet : AncillaryPacket) (frames more : List Frame) : Type 0 where
   pub foreign_brings : (IsCaption packet → ⊥) → more ≡ frames
   pub caption_brings : IsCaption packet → (frame : Frame) × IsCdp frame (user_bytes packet) × (more ≡ frames ++ frame ∷ [])
 
-pub brings : (packet : Packet) (frames more : List Frame) (file behind : List ℕ) → IsFileUnder services_say frames file
+pub brings : (packet : AncillaryPacket) (frames more : List Frame) (file behind : List ℕ) → IsFileUnder services_say frames file
     → IsFileUnder services_say more (file ++ behind) → IsPacketBytes packet behind → Brings packet frames more
 brings packet frames more file behind was now is =
     let whole = IsWordsFile-append was.file.packets (packet ∷ []) file behind was.file.file (IsWordsFile-one packet behind is) in
@@ -130,7 +130,7 @@ frames_here frames file behind under quiet = record {
   longest = λ others other rest spelled is. no_longer other rest spelled is.file.packets is.file.file;
 }
   where
-    no_longer : (other rest : List ℕ) → file ++ behind ≡ other ++ rest → (packets : List Packet) → IsWordsFile packets other → length other ≤ length file
+    no_longer : (other rest : List ℕ) → file ++ behind ≡ other ++ rest → (packets : List AncillaryPacket) → IsWordsFile packets other → length other ≤ length file
     no_longer other rest spelled packets is = elim (no_more (length other) (length file)) [
       | inl short ↦ short
       | inr long ↦

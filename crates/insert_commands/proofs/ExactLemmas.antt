@@ -31,7 +31,7 @@ use Rattle.words_files.proofs.FramesOfLemmas.{carry_front, file_front}
 use Rattle.words_files.specs.Frames.{CarryFrames, IsFileOf}
 use Rattle.words_files.specs.Frames.CarryFrames.{none, caption}
 use Rattle.words_files.specs.Offences.{FirstOffendingWord, IsFileUnder}
-use Rattle.insert_commands.specs.InsertAnswer.{Cause, IsFoundAt, IsRefusedWith, IsShort, OfList, PassesLimit, PassesPacket, RefusesList, Stops}
+use Rattle.insert_commands.specs.InsertAnswer.{Cause, ExceedsPacketLength, IsFoundAt, IsRefusedWith, IsShort, OfList, PassesLimit, RefusesList, Stops}
 use Rattle.insert_commands.specs.InsertVerdict.{CanTake, InsertedIsAnswered, RefusedSideIsAnswered}
 
 -- what holds of the list of a side file holds of every accepted list that it spells
@@ -117,10 +117,10 @@ module _ (list : Listing) (placed : Placement) (bytes : List ℕ) (old new : End
   never_passes : Stops (captioning_of list placed) PassesLimit put.Done old new → ⊥
   never_passes stops = never_past list placed PassesLimit bytes old new put.Done known stops can.frames can.file _ can.within stops.cause.full stops.cause.past
 
-  never_long : Stops (captioning_of list placed) PassesPacket put.Done old new → ⊥
+  never_long : Stops (captioning_of list placed) ExceedsPacketLength put.Done old new → ⊥
   never_long stops =
       let cause = stops.cause in
-      let (behind, same) = next_frame list placed PassesPacket bytes old new put.Done known stops can.frames can.file cause.last cause.brings in
+      let (behind, same) = next_frame list placed ExceedsPacketLength bytes old new put.Done known stops can.frames can.file cause.last cause.brings in
       let fits = can.fit stops.frames behind cause.last cause.new same cause.inserted in
       let long = cause.long in
       omega (arith, fits, long)
@@ -164,7 +164,7 @@ inserted_answered text bytes list placed side later old new (status.Limit limit.
     (list_known text side list placed (λ l p. Stops (captioning_of l p) PassesLimit put.Done old new) known accepted is.2))
 inserted_answered text bytes list placed side later old new (status.Limit limit.Packet) accepted can known steady read is =
     absurd (never_long list placed bytes old new can read.left
-    (list_known text side list placed (λ l p. Stops (captioning_of l p) PassesPacket put.Done old new) known accepted is.2))
+    (list_known text side list placed (λ l p. Stops (captioning_of l p) ExceedsPacketLength put.Done old new) known accepted is.2))
 inserted_answered text bytes list placed side later old new (status.Malformed (Byte place) why) accepted can known steady read is =
     absurd (never_malformed list placed bytes old new can read.left (record { place = place; why = why })
     (list_known text side list placed (λ l p. Stops (captioning_of l p) (IsRefusedWith (record { place = place; why = why }) old.left) put.Done old new) known accepted is.2))

@@ -6,13 +6,13 @@ use Rattle.std.proofs.lemmas.List.Elements.{All-cons, All-head, All-nil, All-tai
 use Rattle.cc_base.specs.Steps.{front_from}
 use Rattle.cc_base.specs.Syntax.{open_behind}
 use Rattle.cc_base.proofs.StepLemmas.{front_from-append}
-use Rattle.anc_words.specs.Packets.{Packet}
+use Rattle.anc_words.specs.Packets.{AncillaryPacket}
 use Rattle.anc_words.specs.Reading.{anc_syntax, nothing_open, open_after}
 use Rattle.anc_words.specs.WordsFiles.{IsPacketBytes, IsWordsFile}
 use Rattle.anc_words.proofs.ByteLemmas.{file_is_read}
 use Rattle.cc_receiver.specs.Feeds.{Counts, HasFed}
 use Rattle.cc_receiver.specs.Receivers.{HasReceived, frame_count}
-use Rattle.cc_receiver.specs.Receiving.{EndsBy, EndsWith}
+use Rattle.cc_receiver.specs.Receiving.{EndsBy, EndsWithPacket}
 use Rattle.cc_receiver.specs.declared.receiver.Ended.{Ended}
 use Rattle.cc_receiver.specs.declared.receiver.Ended.TheVariants as ended
 use Rattle.cc_receiver.specs.declared.receiver.Fed.{Fed}
@@ -21,7 +21,7 @@ use Rattle.cc_receiver.proofs.FedFrames.{counted_nothing, counts_one, moves_by, 
 use Rattle.cdp_packets.specs.Packets.{Packet as Frame}
 use Rattle.services_files.specs.Services.{services_say}
 use Rattle.words_files.specs.Offences.{IsFileUnder, IsUnoffending}
-use Rattle.insert_commands.specs.OpenPackets.{Ends, EndsCaption, EndsForeign, HasRead, NoPacketEnds, Reads, open_bytes}
+use Rattle.insert_commands.specs.OpenPackets.{EndsCaption, EndsForeign, HasRead, IsEndedAs, NoPacketEnds, ReadsFront, open_bytes}
 use Rattle.insert_commands.specs.declared.packets.Packets.{Packets}
 use Rattle.insert_commands.proofs.EndLemmas.{brings, closed_file, file_under, no_more, one_packet}
 use Rattle.insert_commands.proofs.RoomLemmas.{packet_room}
@@ -62,7 +62,7 @@ module _ (frames : List Frame) (file bytes : List ℕ) (old : Packets) (new : Re
   long = length-append (open_bytes old) (take fed.used bytes) ∙ ap (λ n. length (open_bytes old) + n) (length-take-le fed.used bytes within)
 
   -- no packet ends before the last byte that was read
-  no_sooner : (packets : List Packet) (n : ℕ) → 0 < n → n < length more → IsWordsFile packets (file ++ take n more) → ⊥
+  no_sooner : (packets : List AncillaryPacket) (n : ℕ) → 0 < n → n < length more → IsWordsFile packets (file ++ take n more) → ⊥
   no_sooner packets n some few is = elim (no_more n (length (open_bytes old))) [
     | inl short ↦
         had.none packets n some short (subst (λ b. IsWordsFile packets (file ++ b)) (take-append-le n (open_bytes old) (take fed.used bytes) short) is)
@@ -130,12 +130,12 @@ module _ (frames : List Frame) (file bytes : List ℕ) (old : Packets) (new : Re
       }
 
   -- a packet ended
-  the_packet : (packet : Packet) → EndsWith packet ((file ++ open_bytes old) ++ take fed.used bytes) → 0 < fed.used → IsPacketBytes packet more
+  the_packet : (packet : AncillaryPacket) → EndsWithPacket packet ((file ++ open_bytes old) ++ take fed.used bytes) → 0 < fed.used → IsPacketBytes packet more
   the_packet packet with some =
       one_packet had.under.file.packets with.earlier packet file more had.under.file.file (subst (IsWordsFile (with.earlier ++ packet ∷ [])) whole with.are)
       (omega (arith, some, long)) no_sooner
 
-  under_now : (packet : Packet) → EndsWith packet ((file ++ open_bytes old) ++ take fed.used bytes)
+  under_now : (packet : AncillaryPacket) → EndsWithPacket packet ((file ++ open_bytes old) ++ take fed.used bytes)
       → (now : List Frame) × IsFileUnder services_say now (file ++ more)
   under_now packet with =
       file_under (with.earlier ++ packet ∷ []) (file ++ more) (subst (IsWordsFile (with.earlier ++ packet ∷ [])) whole with.are) unoffending_whole received_whole.bytes_are
@@ -175,7 +175,7 @@ module _ (frames : List Frame) (file bytes : List ℕ) (old : Packets) (new : Re
       }
 
   pub fed_ends : (packets : Packets) → packets.receiver ≡ new → open_bytes packets ≡ more → (answer : Ended) → fed.ended ≡ answer
-      → (fed.ended ≡ ended.Caption → 0 < fed.used) → (fed.ended ≡ ended.Foreign → 0 < fed.used) → Ends answer frames file packets
+      → (fed.ended ≡ ended.Caption → 0 < fed.used) → (fed.ended ≡ ended.Foreign → 0 < fed.used) → IsEndedAs answer frames file packets
   fed_ends packets receiver kept ended.No is by_caption by_foreign = fed_no packets receiver kept is
   fed_ends packets receiver kept ended.Foreign is by_caption by_foreign =
       subst (λ b. EndsForeign frames file b packets) (sym kept) (fed_foreign packets receiver (by_foreign is) is)
@@ -185,7 +185,7 @@ module _ (frames : List Frame) (file bytes : List ℕ) (old : Packets) (new : Re
 -- a front of a piece was read, so a front of the bytes
 pub reads_front : (frames : List Frame) (file bytes : List ℕ) (most : ℕ) (old new : Packets) (fed : Fed) → most ≤ length bytes → (0 < length bytes → 0 < most)
     → fed.used ≤ length (take most bytes) → (fed.ended ≡ ended.No → fed.used ≡ length (take most bytes)) → (fed.ended ≢ ended.No → 0 < fed.used)
-    → open_bytes new ≡ open_bytes old ++ take fed.used (take most bytes) → Ends fed.ended frames file new → Reads frames file bytes old new fed
+    → open_bytes new ≡ open_bytes old ++ take fed.used (take most bytes) → IsEndedAs fed.ended frames file new → ReadsFront frames file bytes old new fed
 reads_front frames file bytes most old new fed fits some within all moves kept ends =
     let long = length-take-le most bytes fits in
     record {

@@ -2,7 +2,7 @@
 use Rattle.std.proofs.Common.{◌≡◌, ℕ, ◌+◌, ◌<◌, ◌≤◌, inl, inr, List, [], ◌∷◌, ◌++◌, length, take, drop, ap, sym, subst, ◌∙◌, append_assoc, append-nil, length-append, arith}
 use Rattle.std.proofs.lemmas.List.{length-take-le, take-append-drop, take-append-le, take-take}
 use Rattle.std.proofs.Math.Seq.{take-append_seam}
-use Rattle.anc_words.specs.Packets.{Packet}
+use Rattle.anc_words.specs.Packets.{AncillaryPacket}
 use Rattle.anc_words.specs.WordsFiles.{IsPacketBytes, IsWordsFile}
 use Rattle.anc_words.proofs.WordsFileLemmas.{IsWordsFile-append, IsWordsFile-first, IsWordsFile-one}
 use Rattle.cc_base.specs.declared.refusal.Refusal.{Refusal}
@@ -12,18 +12,18 @@ use Rattle.words_files.specs.Offences.{AreWholeWords, Begins, FirstOffendingWord
 use Rattle.words_files.proofs.FramesOfLemmas.{empty_file, file_front}
 use Rattle.words_files.proofs.OffenceLemmas.{past_offence}
 use Rattle.words_files.proofs.WordLemmas.{AreWords-whole, front_of}
-use Rattle.insert_commands.specs.OpenPackets.{EndsNoSooner, NoPacketEnds, Refuses}
+use Rattle.insert_commands.specs.OpenPackets.{EndsNoSooner, NoPacketEnds, RefusesWord}
 use Rattle.insert_commands.proofs.EndLemmas.{has_bytes, no_more, tail_same}
 
 -- the first packet of a file that isn't empty
 pub record HasFirst (bytes : List ℕ) : Type 0 where
-  pub packet : Packet
+  pub packet : AncillaryPacket
   pub size : ℕ
   pub some : 0 < size
   pub within : size ≤ length bytes
   pub is : IsPacketBytes packet (take size bytes)
 
-first_packet : (packets : List Packet) (bytes : List ℕ) → IsWordsFile packets bytes → 0 < length bytes → HasFirst bytes
+first_packet : (packets : List AncillaryPacket) (bytes : List ℕ) → IsWordsFile packets bytes → 0 < length bytes → HasFirst bytes
 first_packet [] bytes is some = absurd (omega (arith, some, ap length (empty_file bytes is)))
 first_packet (p ∷ packets) bytes is some =
     let (front, rest, spelled, is_packet, others) = IsWordsFile-first p packets bytes is in
@@ -37,8 +37,8 @@ first_packet (p ∷ packets) bytes is some =
     }
 
 -- behind a file, of whose open packet these bytes are kept, none ends before its own end
-no_end_before : (packets : List Packet) (file held bytes : List ℕ) (more n : ℕ) → IsWordsFile packets file → NoPacketEnds file held → EndsNoSooner held bytes more
-    → more ≤ length bytes → 0 < n → n < length held + more → (others : List Packet) → IsWordsFile others (file ++ take n (held ++ bytes)) → ⊥
+no_end_before : (packets : List AncillaryPacket) (file held bytes : List ℕ) (more n : ℕ) → IsWordsFile packets file → NoPacketEnds file held → EndsNoSooner held bytes more
+    → more ≤ length bytes → 0 < n → n < length held + more → (others : List AncillaryPacket) → IsWordsFile others (file ++ take n (held ++ bytes)) → ⊥
 no_end_before packets file held bytes more n file_is none sooner most some less others is =
     let long = length-take-le n (held ++ bytes) (omega (arith, less, most, length-append held bytes)) in
     let behind = file_front packets others file (take n (held ++ bytes)) file_is is in
@@ -57,7 +57,7 @@ no_end_before packets file held bytes more n file_is none sooner most some less 
     ]
 
 -- a file is of whole words
-even_file : (packets : List Packet) (file : List ℕ) → IsWordsFile packets file → AreWholeWords file
+even_file : (packets : List AncillaryPacket) (file : List ℕ) → IsWordsFile packets file → AreWholeWords file
 even_file packets file is = AreWords-whole file is.words is.spelled
 
 -- a file begins with itself
@@ -67,7 +67,7 @@ file_begins frames file is = record { more = []; frames = frames; is_file = subs
 -- a word was refused in bytes up to a packet's end
 pub refused_behind : (frames : List Frame) (file held bytes : List ℕ) (more : ℕ) (refusal : Refusal) → IsFileUnder services_say frames file
     → NoPacketEnds file held → EndsNoSooner held bytes more → more ≤ length bytes
-    → FirstOffendingWord services_say ((file ++ held) ++ take more bytes) refusal → Refuses file (held ++ bytes) refusal
+    → FirstOffendingWord services_say ((file ++ held) ++ take more bytes) refusal → RefusesWord file (held ++ bytes) refusal
 refused_behind frames file held bytes more refusal under none sooner within offends =
     let packets = under.file.packets in
     let before = offends.before in

@@ -2,7 +2,7 @@
 use Rattle.std.proofs.Common.{◌≡◌, ℕ, ◌+◌, ◌-◌, ◌*◌, ◌%◌, ◌<◌, ◌≤◌, List, [], ◌∷◌, ◌++◌, length, take, max, get_or, get_or-take, refl, ap, ◌∙◌, length-append, arith, Option, Some, None, MatchOption}
 use Rattle.std.proofs.lemmas.List.{length-take-le}
 use Rattle.std.specs.List.{flat_map}
-use Rattle.anc_words.specs.Packets.{IsPacket, Packet}
+use Rattle.anc_words.specs.Packets.{AncillaryPacket, IsPacket}
 use Rattle.anc_words.specs.Words.{AreWords}
 use Rattle.anc_words.specs.WordsFiles.{IsPacketBytes}
 use Rattle.anc_words.specs.Writing.{word_bytes}
@@ -19,7 +19,7 @@ pub record HasSize (bytes : List ℕ) : Type 0 where
   pub past : 11 < length bytes
   pub size : length bytes ≡ 14 + 2 * get_or bytes 11 0
 
-sized : (packet : Packet) (bytes words : List ℕ) → AreWords bytes words → IsPacket packet words → HasSize bytes
+sized : (packet : AncillaryPacket) (bytes words : List ℕ) → AreWords bytes words → IsPacket packet words → HasSize bytes
 sized packet bytes words are is =
     let user = packet.user ++ is.checksum ∷ [] in
     let all : bytes ≡ flat_map word_bytes (0x000 ∷ 0x3FF ∷ 0x3FF ∷ is.did ∷ is.sdid ∷ is.count ∷ user) = AreWords-bytes bytes words are ∙ ap (flat_map word_bytes) is.spelled in
@@ -31,7 +31,7 @@ sized packet bytes words are is =
       size = omega (arith, long, count, low, length-append packet.user (is.checksum ∷ []));
     }
 
-pub packet_size : (packet : Packet) (bytes : List ℕ) → IsPacketBytes packet bytes → HasSize bytes
+pub packet_size : (packet : AncillaryPacket) (bytes : List ℕ) → IsPacketBytes packet bytes → HasSize bytes
 packet_size packet bytes is = sized packet bytes is.words is.spelled is.is_packet
 
 -- an item of a front is that of the list

@@ -3,7 +3,7 @@ use Rattle.std.proofs.Common.{◌≡◌, ◌≢◌, ℕ, ◌+◌, ◌-◌, ◌%�
 use Rattle.std.proofs.lemmas.List.{length-map, length-take-le, take-append-drop}
 use Rattle.std.proofs.lemmas.List.Elements.{All-append, All-cons, All-nil}
 use Rattle.std.specs.List.{concat}
-use Rattle.cc_base.specs.Rate.{code_of, rate_of}
+use Rattle.cc_base.specs.Rate.{rate_code, rate_of}
 use Rattle.cc_base.specs.Streams.{Puts}
 use Rattle.cc_base.specs.declared.rate.Rate.{Rate}
 use Rattle.cc_base.specs.declared.refusal.Refusal.{Refusal}
@@ -25,12 +25,12 @@ use Rattle.text_output.proofs.PageLemmas.{gathered_more}
 use Rattle.text_output.specs.Gathered.{Gathers, held_of}
 use Rattle.words_commands.specs.WordsAnswer.{words_limit}
 use Rattle.insert_commands.proofs.FlushLemmas.{inserted_unwritten}
-use Rattle.insert_commands.specs.InsertSteps.{GathersInserted, HasFrame, HasJudged, HasStopped, Replaces, StopsBy}
+use Rattle.insert_commands.specs.InsertSteps.{GathersInserted, HasJudged, HasLastFrame, HasStopped, Replaces, StopsBy}
 use Rattle.inserted_words.specs.InsertedFile.{BringsFrame, IsForeign, carried_words}
 use Rattle.inserted_words.specs.InsertedFile.AreInserted.{caption, foreign}
 use Rattle.inserted_words.specs.Captioning.{Captioning, captions_of}
 use Rattle.insert_commands.specs.ListCaptions.{GivesCaptions}
-use Rattle.insert_commands.specs.OpenPackets.{Ends, EndsCaption, EndsForeign, HasRead, MayFollow, NoPacketEnds, Reads, Refuses, open_bytes}
+use Rattle.insert_commands.specs.OpenPackets.{EndsCaption, EndsForeign, HasRead, IsEndedAs, MayFollow, NoPacketEnds, ReadsFront, RefusesWord, open_bytes}
 use Rattle.insert_commands.specs.declared.captions.Captions.{Captions}
 use Rattle.insert_commands.specs.declared.inserting.Inserting.{Inserting}
 use Rattle.insert_commands.specs.declared.inserting.Stop.{Stop}
@@ -38,7 +38,7 @@ use Rattle.insert_commands.specs.declared.inserting.Stop.TheVariants as stop
 use Rattle.insert_commands.specs.declared.packets.Packets.{Packets}
 
 -- a rate is told by its code
-pub same_rate : (r s : Rate) → code_of r ≡ code_of s → r ≡ s
+pub same_rate : (r s : Rate) → rate_code r ≡ rate_code s → r ≡ s
 same_rate r s same = cc (rate_of-code r, rate_of-code s, ap rate_of same)
 
 -- nothing is open behind a packet
@@ -69,7 +69,7 @@ rest_parted before bytes used =
 
 module _ (list : Captioning) (start now : Option (List ℕ)) (before bytes : List ℕ) (old : Inserting) (had : HasJudged list start now before old) where
   -- a word was refused
-  pub step_refused : (refusal : Refusal) → Refuses had.file (open_bytes old.packets ++ bytes) refusal
+  pub step_refused : (refusal : Refusal) → RefusesWord had.file (open_bytes old.packets ++ bytes) refusal
       → HasStopped list start now (before ++ bytes) (held_of old.gathered) (stop.Refused refusal)
   step_refused refusal refuses = record {
     frames = had.frames;
@@ -96,18 +96,18 @@ module _ (list : Captioning) (start now : Option (List ℕ)) (before bytes : Lis
   }
 
   -- no packet ended
-  pub step_still : (new : Inserting) (fed : Fed) → Reads had.frames had.file bytes old.packets new.packets fed → fed.ended ≡ ended.No
+  pub step_still : (new : Inserting) (fed : Fed) → ReadsFront had.frames had.file bytes old.packets new.packets fed → fed.ended ≡ ended.No
       → new.captions ≡ old.captions → new.gathered ≡ old.gathered → HasJudged list start now (before ++ take fed.used bytes) new
   step_still new fed read still same kept = record {
     frames = had.frames;
     file = had.file;
     spelled = parted before had.file (open_bytes old.packets) bytes (take fed.used bytes) (open_bytes new.packets) had.spelled read.kept;
-    read = subst (λ e. Rattle.insert_commands.specs.OpenPackets.Ends e had.frames had.file new.packets) still read.ends;
+    read = subst (λ e. IsEndedAs e had.frames had.file new.packets) still read.ends;
     gives = subst (GivesCaptions list (length had.frames)) (sym same) had.gives;
     gathers = subst (λ g. GathersInserted list had.frames had.file put.Done start now (held_of g)) (sym kept) had.gathers;
   }
 
-  module _ (mid : Packets) (fed : Fed) (read : Reads had.frames had.file bytes old.packets mid fed) where
+  module _ (mid : Packets) (fed : Fed) (read : ReadsFront had.frames had.file bytes old.packets mid fed) where
     abbrev whole : List ℕ
     whole = had.file ++ open_bytes mid
 
@@ -202,7 +202,7 @@ module _ (list : Captioning) (start now : Option (List ℕ)) (before bytes : Lis
     }
 
 -- a packet of captions that ended brought a frame, whose sections fit
-pub has_frame : (frames : List Frame) (file bytes : List ℕ) (packets : Packets) → EndsCaption frames file bytes packets → HasFrame packets.receiver
+pub has_frame : (frames : List Frame) (file bytes : List ℕ) (packets : Packets) → EndsCaption frames file bytes packets → HasLastFrame packets.receiver
 has_frame frames file bytes packets is =
     let are = file_frames services_say (frames ++ is.frame ∷ []) (file ++ bytes) is.under in
     let count : frame_count packets.receiver ≡ length (frames ++ is.frame ∷ []) = frames_count (frames ++ is.frame ∷ []) (file ++ bytes) packets.receiver is.received are in
@@ -238,19 +238,19 @@ stops_by before now (stop.Found finding) other same = same
 stops_by before now stop.Packet other same = same
 
 -- how a packet ended
-pub ends_foreign : (answer : Ended) (frames : List Frame) (file : List ℕ) (mid : Packets) → answer ≡ ended.Foreign → Ends answer frames file mid
+pub ends_foreign : (answer : Ended) (frames : List Frame) (file : List ℕ) (mid : Packets) → answer ≡ ended.Foreign → IsEndedAs answer frames file mid
     → EndsForeign frames file (open_bytes mid) mid
-ends_foreign answer frames file mid is ends = subst (λ e. Ends e frames file mid) is ends
+ends_foreign answer frames file mid is ends = subst (λ e. IsEndedAs e frames file mid) is ends
 
-pub ends_caption : (answer : Ended) (frames : List Frame) (file : List ℕ) (mid : Packets) → answer ≡ ended.Caption → Ends answer frames file mid
+pub ends_caption : (answer : Ended) (frames : List Frame) (file : List ℕ) (mid : Packets) → answer ≡ ended.Caption → IsEndedAs answer frames file mid
     → EndsCaption frames file (open_bytes mid) mid
-ends_caption answer frames file mid is ends = subst (λ e. Ends e frames file mid) is ends
+ends_caption answer frames file mid is ends = subst (λ e. IsEndedAs e frames file mid) is ends
 
-pub ends_no : (answer : Ended) (frames : List Frame) (file : List ℕ) (mid : Packets) → answer ≡ ended.No → Ends answer frames file mid → HasRead frames file mid
-ends_no answer frames file mid is ends = subst (λ e. Ends e frames file mid) is ends
+pub ends_no : (answer : Ended) (frames : List Frame) (file : List ℕ) (mid : Packets) → answer ≡ ended.No → IsEndedAs answer frames file mid → HasRead frames file mid
+ends_no answer frames file mid is ends = subst (λ e. IsEndedAs e frames file mid) is ends
 
 -- how many bytes were read
-kept_long : (frames : List Frame) (file bytes : List ℕ) (old mid : Packets) (fed : Fed) → Reads frames file bytes old mid fed
+kept_long : (frames : List Frame) (file bytes : List ℕ) (old mid : Packets) (fed : Fed) → ReadsFront frames file bytes old mid fed
     → length (file ++ open_bytes mid) ≡ length (file ++ open_bytes old) + fed.used
 kept_long frames file bytes old mid fed read =
     let size = ap length read.kept in
@@ -264,7 +264,7 @@ kept_long frames file bytes old mid fed read =
     )
 
 pub more_no : (bytes : List ℕ) (more : ℕ) (old mid : Packets) (fed : Fed) (may : MayFollow words_limit old (length bytes + more))
-    → Reads may.frames may.file bytes old mid fed → fed.ended ≡ ended.No → MayFollow words_limit mid (length bytes - fed.used + more)
+    → ReadsFront may.frames may.file bytes old mid fed → fed.ended ≡ ended.No → MayFollow words_limit mid (length bytes - fed.used + more)
 more_no bytes more old mid fed may read is =
     follow_more bytes more fed.used old mid may may.frames may.file read.within (ends_no fed.ended may.frames may.file mid is read.ends)
     (kept_long may.frames may.file bytes old mid fed read)
@@ -273,7 +273,7 @@ begun_long : (file bytes kept : List ℕ) → kept ≡ [] → length ((file ++ b
 begun_long file bytes kept none = ap length (ap (λ b. (file ++ bytes) ++ b) none ∙ append-nil (file ++ bytes))
 
 pub more_foreign : (bytes : List ℕ) (more : ℕ) (old mid new : Packets) (fed : Fed) (may : MayFollow words_limit old (length bytes + more))
-    → Reads may.frames may.file bytes old mid fed → fed.ended ≡ ended.Foreign → new.receiver ≡ mid.receiver → open_bytes new ≡ []
+    → ReadsFront may.frames may.file bytes old mid fed → fed.ended ≡ ended.Foreign → new.receiver ≡ mid.receiver → open_bytes new ≡ []
     → MayFollow words_limit new (length bytes - fed.used + more)
 more_foreign bytes more old mid new fed may read is same none =
     let ends = ends_foreign fed.ended may.frames may.file mid is read.ends in
@@ -282,7 +282,7 @@ more_foreign bytes more old mid new fed may read is same none =
     (begun_long may.file (open_bytes mid) (open_bytes new) none ∙ kept_long may.frames may.file bytes old mid fed read)
 
 pub more_caption : (bytes : List ℕ) (more : ℕ) (old mid new : Packets) (fed : Fed) (may : MayFollow words_limit old (length bytes + more))
-    → Reads may.frames may.file bytes old mid fed → fed.ended ≡ ended.Caption → new.receiver ≡ mid.receiver → open_bytes new ≡ []
+    → ReadsFront may.frames may.file bytes old mid fed → fed.ended ≡ ended.Caption → new.receiver ≡ mid.receiver → open_bytes new ≡ []
     → MayFollow words_limit new (length bytes - fed.used + more)
 more_caption bytes more old mid new fed may read is same none =
     let ends = ends_caption fed.ended may.frames may.file mid is read.ends in

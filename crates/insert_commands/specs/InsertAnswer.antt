@@ -22,7 +22,7 @@ use Rattle.findings.specs.declared.finding.Kind45.TheVariants as kind
 use Rattle.frame_scheduler.specs.Planned.{Placement}
 use Rattle.packet_inserter.specs.Insertion.{IsInserted, packet_length}
 use Rattle.services_files.specs.Services.{services_say}
-use Rattle.words_commands.specs.WordsAnswer.{IsSteady, IsWhole, words_limit}
+use Rattle.words_commands.specs.WordsAnswer.{IsSteady, IsWholeInput, words_limit}
 use Rattle.words_files.specs.Offences.{IsCutShort, IsFileUnder, IsUnoffending}
 use Rattle.inserted_words.specs.InsertedFile.{AreInserted, BringsFrame}
 use Rattle.inserted_words.specs.Captioning.{Captioning, captioning_of, captions_of}
@@ -55,7 +55,7 @@ pub record Stops (list : Captioning) (Why : Cause) (answer : Put) (old new : End
 
 -- the whole input is a words file of the frames, and all of it was put
 pub record IsWholeFile (left : Option (List ℕ)) (frames : List Frame) (file behind unjudged : List ℕ) : Type 0 where
-  pub whole : IsWhole left file unjudged
+  pub whole : IsWholeInput left file unjudged
   pub is_file : IsFileUnder services_say frames file
   pub all : behind ≡ []
 
@@ -92,15 +92,15 @@ pub record IsOffence (refusal : Refusal) (file behind unjudged : List ℕ) : Typ
   pub fits : length (file ++ behind) + 2 ≤ words_limit
 
 -- the whole input was judged, and is cut short
-pub record IsCut (refusal : Refusal) (left : Option (List ℕ)) (file behind unjudged : List ℕ) : Type 0 where
-  pub whole : IsWhole left (file ++ behind) unjudged
+pub record IsInputCutShort (refusal : Refusal) (left : Option (List ℕ)) (file behind unjudged : List ℕ) : Type 0 where
+  pub whole : IsWholeInput left (file ++ behind) unjudged
   pub cut : IsCutShort services_say (file ++ behind) refusal
   pub none : NoPacketEnds file behind
 
 -- a word offends, or the whole input is cut short
 abbrev pub IsRefusedWith : Refusal → Option (List ℕ) → Cause
 IsRefusedWith refusal left list frames file behind unjudged =
-    IsOffence refusal file behind unjudged ⊎ IsCut refusal left file behind unjudged
+    IsOffence refusal file behind unjudged ⊎ IsInputCutShort refusal left file behind unjudged
 
 -- the frame behind the file has another rate than the list, and no word offends
 pub record IsFoundAt (finding : Finding) (list : Captioning) (frames : List Frame) (file behind unjudged : List ℕ) : Type 0 where
@@ -111,7 +111,7 @@ pub record IsFoundAt (finding : Finding) (list : Captioning) (frames : List Fram
   pub is : finding ≡ record { frame = length frames; kind = kind.WrongRate list.rate last.rate }
 
 -- it has the list's rate, and its packet would have more than 255 bytes with the list's captions; no word offends
-pub record PassesPacket (list : Captioning) (frames : List Frame) (file behind unjudged : List ℕ) : Type 0 where
+pub record ExceedsPacketLength (list : Captioning) (frames : List Frame) (file behind unjudged : List ℕ) : Type 0 where
   pub last : Frame
   pub brings : BringsFrame last behind
   pub unoffending : IsUnoffending services_say (file ++ behind)
@@ -160,7 +160,7 @@ InsertAnswer side later old new status.WriteFault =
 InsertAnswer side later old new status.Memory = (later.faults ≡ side.faults) × (new ≡ old)
 InsertAnswer side later old new (status.Limit limit.Bytes) =
     RefusesList side later old new (status.Limit limit.Bytes) ⊎ JudgesWords PassesLimit side later old new
-InsertAnswer side later old new (status.Limit limit.Packet) = JudgesWords PassesPacket side later old new
+InsertAnswer side later old new (status.Limit limit.Packet) = JudgesWords ExceedsPacketLength side later old new
 InsertAnswer side later old new (status.Malformed (Byte place) why) =
     JudgesWords (IsRefusedWith (record { place = place; why = why }) old.left) side later old new
 InsertAnswer side later old new (status.Differs finding) = JudgesWords (IsFoundAt finding) side later old new

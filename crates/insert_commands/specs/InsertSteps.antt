@@ -20,7 +20,7 @@ use Rattle.words_files.specs.FramesOf.{AreFramesOf}
 use Rattle.words_commands.specs.WordsAnswer.{IsSteady}
 use Rattle.words_files.specs.Offences.{IsCutShort}
 use Rattle.text_output.specs.Gathered.{Gathers, GathersText, held_of}
-use Rattle.insert_commands.specs.InsertAnswer.{Cause, HasFrames, IsAnyhow, IsFoundAt, IsJudged, IsRefusedWith, IsShort, PassesLimit, PassesPacket, Stops}
+use Rattle.insert_commands.specs.InsertAnswer.{Cause, ExceedsPacketLength, HasFrames, IsAnyhow, IsFoundAt, IsJudged, IsRefusedWith, IsShort, PassesLimit, Stops}
 use Rattle.inserted_words.specs.InsertedFile.{AreInserted, carried_words}
 use Rattle.inserted_words.specs.Captioning.{Captioning, captions_of}
 use Rattle.inserted_words.specs.Soundness.{HaveRate}
@@ -32,7 +32,7 @@ use Rattle.insert_commands.specs.declared.inserting.Stop.{Stop}
 use Rattle.insert_commands.specs.declared.inserting.Stop.TheVariants as stop
 
 -- a frame ended last in a receiver
-pub record HasFrame (receiver : Receiver) : Type 0 where
+pub record HasLastFrame (receiver : Receiver) : Type 0 where
   pub bytes : List ℕ
   pub earlier : List Frame
   pub last : Frame
@@ -85,7 +85,7 @@ abbrev pub StopsFor : Stop → Cause
 StopsFor (stop.Refused refusal) list frames file behind unjudged = OffendsBehind refusal file behind unjudged
 StopsFor stop.Unwritten list frames file behind unjudged = IsAnyhow list frames file behind unjudged
 StopsFor (stop.Found finding) list frames file behind unjudged = IsFoundAt finding list frames file behind unjudged
-StopsFor stop.Packet list frames file behind unjudged = PassesPacket list frames file behind unjudged
+StopsFor stop.Packet list frames file behind unjudged = ExceedsPacketLength list frames file behind unjudged
 
 -- what the last put of a run that stopped so answered
 abbrev pub put_of : Stop → Put
@@ -158,7 +158,7 @@ InsertsWords list old new status.Ok = Stops list (HasFrames old.left) put.Done o
 InsertsWords list old new status.ReadFault = Stops list IsJudged put.Done old new
 InsertsWords list old new status.WriteFault = Stops list IsAnyhow put.Failed old new
 InsertsWords list old new (status.Limit limit.Bytes) = Stops list PassesLimit put.Done old new
-InsertsWords list old new (status.Limit limit.Packet) = Stops list PassesPacket put.Done old new
+InsertsWords list old new (status.Limit limit.Packet) = Stops list ExceedsPacketLength put.Done old new
 InsertsWords list old new (status.Malformed (Byte place) why) = Stops list (IsRefusedWith (record { place = place; why = why }) old.left) put.Done old new
 InsertsWords list old new (status.Differs finding) = Stops list (IsFoundAt finding) put.Done old new
 InsertsWords list old new (status.Short count) = Stops list (IsShort old.left count) put.Done old new

@@ -1,6 +1,6 @@
 -- Words that are read packet by packet (SMPTE ST 291-1): the packets that have ended, and the bytes of the one that is open.
 use Rattle.std.specs.Prelude.{◌≡◌, ◌<◌, ◌≤◌, ◌+◌, ℕ, List, [], ◌∷◌, ◌++◌, length, take, slice_index, MatchOption, Option, Result, Ok, Err}
-use Rattle.anc_words.specs.Packets.{IsCaption, Packet, user_bytes}
+use Rattle.anc_words.specs.Packets.{AncillaryPacket, IsCaption, user_bytes}
 use Rattle.anc_words.specs.WordsFiles.{IsPacketBytes, IsWordsFile}
 use Rattle.cc_base.specs.declared.refusal.Refusal.{Refusal}
 use Rattle.cc_receiver.specs.Receivers.{HasReceived, frame_count}
@@ -14,7 +14,7 @@ use Rattle.insert_commands.specs.declared.packets.Packets.{Packets}
 
 -- no packet ends among the bytes behind a file
 abbrev pub NoPacketEnds : List ℕ → List ℕ → Type 0
-NoPacketEnds file behind = (packets : List Packet) (n : ℕ) → 0 < n → n ≤ length behind → IsWordsFile packets (file ++ take n behind) → ⊥
+NoPacketEnds file behind = (packets : List AncillaryPacket) (n : ℕ) → 0 < n → n ≤ length behind → IsWordsFile packets (file ++ take n behind) → ⊥
 
 -- behind these bytes, with which no packet ends behind a file, stands the first word that offends
 pub record OffendsBehind (refusal : Refusal) (file behind rest : List ℕ) : Type 0 where
@@ -29,7 +29,7 @@ IsCount bytes count = MatchOption count (length bytes ≤ 11) (λ count. (11 < l
 -- no packet has so many bytes, more than these and fewer than with those behind them
 abbrev pub EndsNoSooner : List ℕ → List ℕ → ℕ → Type 0
 EndsNoSooner held bytes more =
-    (packet : Packet) (n : ℕ) → length held < n → n < length held + more → IsPacketBytes packet (take n (held ++ bytes)) → ⊥
+    (packet : AncillaryPacket) (n : ℕ) → length held < n → n < length held + more → IsPacketBytes packet (take n (held ++ bytes)) → ⊥
 
 -- the bytes that are kept of the open packet
 abbrev pub open_bytes : Packets → List ℕ
@@ -52,7 +52,7 @@ pub record MayFollow (limit : ℕ) (packets : Packets) (more : ℕ) : Type 0 whe
 
 -- behind this file an ancillary packet of these bytes ended, which isn't one of captions
 pub record EndsForeign (frames : List Frame) (file bytes : List ℕ) (packets : Packets) : Type 0 where
-  pub packet : Packet
+  pub packet : AncillaryPacket
   pub is : IsPacketBytes packet bytes
   pub is_foreign : IsCaption packet → ⊥
   pub received : HasReceived (file ++ bytes) packets.receiver
@@ -62,7 +62,7 @@ pub record EndsForeign (frames : List Frame) (file bytes : List ℕ) (packets : 
 
 -- or one that brought this frame
 pub record EndsCaption (frames : List Frame) (file bytes : List ℕ) (packets : Packets) : Type 0 where
-  pub packet : Packet
+  pub packet : AncillaryPacket
   pub is : IsPacketBytes packet bytes
   pub is_caption : IsCaption packet
   pub frame : Frame
@@ -72,25 +72,25 @@ pub record EndsCaption (frames : List Frame) (file bytes : List ℕ) (packets : 
   pub unoffending : IsUnoffending services_say (file ++ bytes)
   pub under : IsFileUnder services_say (frames ++ frame ∷ []) (file ++ bytes)
 
-abbrev pub Ends : Ended → List Frame → List ℕ → Packets → Type 0
-Ends ended.No frames file packets = HasRead frames file packets
-Ends ended.Foreign frames file packets = EndsForeign frames file (open_bytes packets) packets
-Ends ended.Caption frames file packets = EndsCaption frames file (open_bytes packets) packets
+abbrev pub IsEndedAs : Ended → List Frame → List ℕ → Packets → Type 0
+IsEndedAs ended.No frames file packets = HasRead frames file packets
+IsEndedAs ended.Foreign frames file packets = EndsForeign frames file (open_bytes packets) packets
+IsEndedAs ended.Caption frames file packets = EndsCaption frames file (open_bytes packets) packets
 
 -- a front of the bytes was read
-pub record Reads (frames : List Frame) (file bytes : List ℕ) (old new : Packets) (fed : Fed) : Type 0 where
+pub record ReadsFront (frames : List Frame) (file bytes : List ℕ) (old new : Packets) (fed : Fed) : Type 0 where
   pub within : fed.used ≤ length bytes
   pub moves : 0 < length bytes → 0 < fed.used
   pub kept : open_bytes new ≡ open_bytes old ++ take fed.used bytes
-  pub ends : Ends fed.ended frames file new
+  pub ends : IsEndedAs fed.ended frames file new
 
 -- a word of these bytes behind a file was refused
-pub record Refuses (file bytes : List ℕ) (refusal : Refusal) : Type 0 where
+pub record RefusesWord (file bytes : List ℕ) (refusal : Refusal) : Type 0 where
   pub behind : List ℕ
   pub rest : List ℕ
   pub spelled : bytes ≡ behind ++ rest
   pub stands : OffendsBehind refusal file behind rest
 
 abbrev pub Receives : List Frame → List ℕ → List ℕ → Packets → Packets → Result Fed Refusal → Type 0
-Receives frames file bytes old new (Ok fed) = Reads frames file bytes old new fed
-Receives frames file bytes old new (Err refusal) = Refuses file (open_bytes old ++ bytes) refusal
+Receives frames file bytes old new (Ok fed) = ReadsFront frames file bytes old new fed
+Receives frames file bytes old new (Err refusal) = RefusesWord file (open_bytes old ++ bytes) refusal

@@ -8,7 +8,7 @@ ghost use Rattle.words_files.specs.FramesOf.{AreFramesOf};
 ghost use Rattle.command_base.specs.Ends.{Ends};
 ghost use Rattle.words_commands.specs.WordsAnswer.{IsSteady, words_limit};
 ghost use Rattle.text_output.specs.Gathered.{held_of};
-ghost use Rattle.insert_commands.specs.InsertSteps.{CountsBy, EndsAs, GathersWords, HasFrame, HasJudged, HasStopped, Judges, JudgesAndPuts, Replaces, StepJudges, StopCause, StopsBy, stop_status};
+ghost use Rattle.insert_commands.specs.InsertSteps.{CountsBy, EndsAs, GathersWords, HasJudged, HasLastFrame, HasStopped, Judges, JudgesAndPuts, Replaces, StepJudges, StopCause, StopsBy, stop_status};
 ghost use Rattle.inserted_words.specs.Captioning.{Captioning};
 ghost use Rattle.insert_commands.specs.ListCaptions.{GivesCaptions, HasCaptions};
 ghost use Rattle.insert_commands.specs.OpenPackets.{HasRead, MayFollow, open_bytes};
@@ -214,7 +214,7 @@ fn replace(
     frame: u32,
     words: &mut ArrayVec<u8, 524>,
 ) -> Result<(), Stop>
-    requires frame { HasFrame receiver.now }
+    requires frame { HasLastFrame receiver.now }
     requires empty { words.old.items ≡ [] }
     ensures replaces { (list : Captioning) (bytes : List ℕ) (earlier : List Frame) (last : Frame) → HasReceived bytes receiver.now
         → AreFramesOf services_say (earlier ++ last ∷ []) bytes → AreSections last.sections → GivesCaptions list frame captions.old

@@ -3,14 +3,14 @@ use Rattle.std.proofs.Common.{◌≡◌, ℕ, zero, suc, ◌+◌, ◌<◌, List,
 use Rattle.std.specs.List.{concat}
 use Rattle.std.proofs.lemmas.List.{map-append}
 use Rattle.std.proofs.lemmas.List.Elements.{All-cons, All-head, All-nil, All-tail}
-use Rattle.anc_words.specs.Packets.{Packet, user_bytes}
+use Rattle.anc_words.specs.Packets.{AncillaryPacket, user_bytes}
 use Rattle.cc_data.specs.declared.triplet.Triplet.{Triplet}
 use Rattle.cdp_packets.specs.Packets.{Packet as Frame}
 use Rattle.cdp_packets.specs.PacketTriplets.{packet_triplets}
 use Rattle.cdp_packets.specs.Written.{cc_data_section}
 use Rattle.cdp_packets.proofs.SectionLemmas.{cc_data_section-triplets}
 use Rattle.frame_carrier.specs.Carried.{AreCarried, AreRoomy}
-use Rattle.frame_carrier.specs.Carrying.{channel_of, column_packets, frame_packet, packets_before}
+use Rattle.frame_carrier.specs.Carrying.{channel_packet_of, column_packets, frame_packet, packets_before}
 use Rattle.frame_carrier.proofs.CarryingLemmas.{frame_kinds, frame_number, packet_kinds, triplets_many}
 use Rattle.packet_inserter.specs.Insertion.{IsInserted}
 use Rattle.packet_inserter.proofs.OneWayLemmas.{inserted-triplets}
@@ -24,7 +24,7 @@ use Rattle.inserted_words.proofs.FileLemmas.{CanBeCarried, IsByte, low_bytes, of
 
 -- the packet of a frame of a programme
 abbrev packet_at : Captioning → ℕ → Frame
-packet_at list frame = frame_packet list.rate frame (padded list frame) (channel_of (padded list) frame)
+packet_at list frame = frame_packet list.rate frame (padded list frame) (channel_packet_of (padded list) frame)
 
 -- one packet more at the end
 packets_more : (list : Captioning) (frame n : ℕ)
@@ -44,7 +44,7 @@ packets_first list n =
 -- the captions of a frame have kinds
 pub captions_kinds : (list : Captioning) (frame : ℕ) → All (λ t. t.kind < 4) (captions_of list frame)
 captions_kinds list frame =
-    frame_kinds list.rate (padded list frame) (channel_of (padded list) frame)
+    frame_kinds list.rate (padded list frame) (channel_packet_of (padded list) frame)
     (packet_kinds (packets_before (padded list) frame) (padded list frame).blocks.items)
 
 -- so they are those of its packet
@@ -52,7 +52,7 @@ packet_captions : (list : Captioning) (frame : ℕ) → packet_triplets (packet_
 packet_captions list frame = append-nil _ ∙ cc_data_section-triplets (captions_of list frame) (captions_kinds list frame)
 
 -- the sections of frames that packets carry are of bytes
-carried_bytes : (packets : List Packet) (frames : List Frame) → CarryFrames packets frames → All (λ (f : Frame). All IsByte (concat f.sections)) frames
+carried_bytes : (packets : List AncillaryPacket) (frames : List Frame) → CarryFrames packets frames → All (λ (f : Frame). All IsByte (concat f.sections)) frames
 carried_bytes _ _ none = All-nil (λ (f : Frame). All IsByte (concat f.sections))
 carried_bytes _ _ (caption packet packets frame frames is cdp rest) =
     All-cons (λ (f : Frame). All IsByte (concat f.sections)) frame frames (of_bytes frame (user_bytes packet) cdp (low_bytes packet.user)).sections
@@ -73,7 +73,7 @@ front_is P (f ∷ front) frame all =
 pub can_be_carried : (list : Captioning) → AreRoomy list.rate (padded list) → ((n : ℕ) → AreCarried list.rate (padded list) n)
     → (frame : ℕ) → CanBeCarried (captions_of list frame)
 can_be_carried list roomy carried frame =
-    let number = frame_number list.rate (padded list frame) (channel_of (padded list) frame) (roomy frame) in
+    let number = frame_number list.rate (padded list frame) (channel_packet_of (padded list) frame) (roomy frame) in
     let many = (triplets_many list.rate).1 in
     let file = (carried (suc frame)).file in
     let all = carried_bytes file.packets (column_packets list.rate (padded list) 0 (suc frame)) file.carried in

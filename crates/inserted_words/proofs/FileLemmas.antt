@@ -8,7 +8,7 @@ use Rattle.anc_words.specs.Packets.{user_bytes}
 use Rattle.anc_words.specs.Writing.{packet_bytes, packet_of}
 use Rattle.anc_words.proofs.PacketLemmas.{packet_bytes-is, user_bytes-packet_of}
 use Rattle.anc_words.proofs.WordsFileLemmas.{IsWordsFile-nil, IsWordsFile-one}
-use Rattle.cc_base.specs.Rate.{code_of}
+use Rattle.cc_base.specs.Rate.{rate_code}
 use Rattle.cc_data.specs.declared.triplet.Triplet.{Triplet}
 use Rattle.cdp_packets.specs.Packets.{IsCdp, Packet as Frame}
 use Rattle.cdp_packets.specs.Sections.{AreSections}
@@ -38,7 +38,7 @@ pub record CanBeCarried (triplets : List Triplet) : Type 0 where
 
 -- the parts of a packet are bytes
 pub record IsOfBytes (frame : Frame) : Type 0 where
-  pub rate : code_of frame.rate < 16
+  pub rate : rate_code frame.rate < 16
   pub flags : frame.flags < 256
   pub counter : frame.counter < 65536
   pub sections : All IsByte (concat frame.sections)
@@ -52,7 +52,7 @@ low_bytes (word ∷ user) = All-cons IsByte (word % 256) (map (λ word. word % 2
 pub of_bytes : (frame : Frame) (bytes : List ℕ) → IsCdp frame bytes → All IsByte bytes → IsOfBytes frame
 of_bytes frame bytes is all =
     let footer = 0x74 ∷ is.high ∷ is.low ∷ is.last ∷ [] in
-    let front = 0x96 ∷ 0x69 ∷ length bytes ∷ (16 * code_of frame.rate + is.marker) ∷ frame.flags ∷ is.high ∷ is.low ∷ [] in
+    let front = 0x96 ∷ 0x69 ∷ length bytes ∷ (16 * rate_code frame.rate + is.marker) ∷ frame.flags ∷ is.high ∷ is.low ∷ [] in
     let parts = All-split IsByte front (concat frame.sections ++ footer) (subst (All IsByte) is.spelled all) in
     let (_, (_, (_, (rate, (flags, (high, (low, _))))))) = recursion_from_All IsByte front parts.0 in
     let counter = is.counter in
@@ -74,7 +74,7 @@ module _ (frame : Frame) (are : AreSections frame.sections) (of : IsOfBytes fram
   footer = 0x74 ∷ (frame.counter / 256) ∷ (frame.counter % 256) ∷ []
 
   abbrev front : List ℕ
-  front = 0x96 ∷ 0x69 ∷ (length sections + 11) ∷ (16 * code_of frame.rate + 15) ∷ frame.flags ∷ (frame.counter / 256) ∷ (frame.counter % 256) ∷ []
+  front = 0x96 ∷ 0x69 ∷ (length sections + 11) ∷ (16 * rate_code frame.rate + 15) ∷ frame.flags ∷ (frame.counter / 256) ∷ (frame.counter % 256) ∷ []
 
   high_byte : frame.counter / 256 < 256
   high_byte = let low = of.counter in omega (arith, low)
@@ -131,7 +131,7 @@ new_of_bytes triplets old new can inserted of =
     let low = of.counter in
     let same = inserted.counter in
     record {
-      rate = subst (λ r. code_of r < 16) (sym inserted.rate) of.rate;
+      rate = subst (λ r. rate_code r < 16) (sym inserted.rate) of.rate;
       flags = subst IsByte (sym inserted.flags) (or_of_8 old.flags 0x42 of.flags (omega arith));
       counter = omega (arith, low, same);
       sections = subst (All IsByte) (sym (ap concat put.new_is ∙ concat-append put.before (section ∷ put.behind)))

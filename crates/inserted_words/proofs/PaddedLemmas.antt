@@ -2,10 +2,10 @@
 use Rattle.std.proofs.Common.{◌≡◌, ℕ, zero, suc, ◌+◌, ◌<◌, ◌≤◌, nat_le, nat_lt, map, Bool, true, false, if◌then◌else◌, Some, None, List, [], ◌∷◌, ◌++◌, All, IfSome, length, take, refl, ap, sym, subst, ◌∙◌, arith}
 use Rattle.std.proofs.lemmas.Bool.Decides.{nat_tests}
 use Rattle.std.proofs.lemmas.List.Elements.{All-nil}
-use Rattle.cc_base.specs.Rate.{triplets_of}
+use Rattle.cc_base.specs.Rate.{triplets_in_frame}
 use Rattle.cc_base.specs.declared.rate.Rate.{Rate}
 use Rattle.frame_carrier.specs.Carried.{AreByteBlocks, AreBytePairs, AreCarried, AreRoomy, IsBytePair}
-use Rattle.frame_carrier.specs.Carrying.{channel_of, channel_packet, column_packets, frame_packet, packet_count, packets_before}
+use Rattle.frame_carrier.specs.Carrying.{channel_packet, channel_packet_of, column_packets, frame_packet, packet_count, packets_before}
 use Rattle.frame_carrier.specs.FrameTriplets.{front_triplets}
 use Rattle.frame_carrier.proofs.CarriedLemmas.{frames_carried}
 use Rattle.frame_carrier.proofs.CarryingLemmas.{front_few, triplets_many}
@@ -54,7 +54,7 @@ packets_below list (suc frame) most =
 
 -- so their distribution packets are
 packet_below : (list : Captioning) (frame : ℕ) → frame < list.count
-    → frame_packet list.rate frame (padded list frame) (channel_of (padded list) frame) ≡ frame_packet list.rate frame (list.columns frame) (channel_of list.columns frame)
+    → frame_packet list.rate frame (padded list frame) (channel_packet_of (padded list) frame) ≡ frame_packet list.rate frame (list.columns frame) (channel_packet_of list.columns frame)
 packet_below list frame below =
     ap (λ n. frame_packet list.rate frame (padded list frame) (channel_packet n (padded list frame).blocks.items)) (packets_below list frame (omega (arith, below)))
     ∙ ap (λ (b : FrameBytes). frame_packet list.rate frame b (channel_packet (packets_before list.columns frame) b.blocks.items)) (padded_below list frame below)
@@ -65,7 +65,7 @@ front_packets list frame n zero few most = refl
 front_packets list frame zero (suc k) few most = absurd (omega (arith, few))
 front_packets list frame (suc n) (suc k) few most =
     ap (λ p. p ∷ take k (column_packets list.rate (padded list) (suc frame) n)) (packet_below list frame (omega (arith, most)))
-    ∙ ap (λ rest. frame_packet list.rate frame (list.columns frame) (channel_of list.columns frame) ∷ rest)
+    ∙ ap (λ rest. frame_packet list.rate frame (list.columns frame) (channel_packet_of list.columns frame) ∷ rest)
     (front_packets list (suc frame) n k (omega (arith, few)) (omega (arith, most)))
 
 -- the pair of a frame without captions is of bytes
@@ -78,7 +78,7 @@ silent_pairs rate false frame = silent_bytes (has_slot_in (cadence_of rate Cc1) 
 silent_pairs rate true frame = silent_bytes (has_slot_in (cadence_of rate Cc3) frame)
 
 -- it has room for its pairs
-silent_roomy : (rate : Rate) (frame count : ℕ) → length (front_triplets (silent_frame rate frame) (channel_packet count (silent_frame rate frame).blocks.items)) ≤ triplets_of rate
+silent_roomy : (rate : Rate) (frame count : ℕ) → length (front_triplets (silent_frame rate frame) (channel_packet count (silent_frame rate frame).blocks.items)) ≤ triplets_in_frame rate
 silent_roomy rate frame count =
     let few = front_few (silent_frame rate frame) [] in
     let many = (triplets_many rate).0 in
@@ -94,9 +94,9 @@ module _ (list : Captioning) (pairs : AreBytePairs list.columns) (bytes : AreByt
 
   pub padded_roomy : AreRoomy list.rate (padded list)
   padded_roomy frame =
-      by_end list (λ n b. length (front_triplets b (channel_packet (packets_before (padded list) n) b.blocks.items)) ≤ triplets_of list.rate)
+      by_end list (λ n b. length (front_triplets b (channel_packet (packets_before (padded list) n) b.blocks.items)) ≤ triplets_in_frame list.rate)
       (λ n below.
-      subst (λ count. length (front_triplets (list.columns n) (channel_packet count (list.columns n).blocks.items)) ≤ triplets_of list.rate)
+      subst (λ count. length (front_triplets (list.columns n) (channel_packet count (list.columns n).blocks.items)) ≤ triplets_in_frame list.rate)
       (sym (packets_below list n (omega (arith, below)))) (roomy n))
       (λ n. silent_roomy list.rate n (packets_before (padded list) n)) frame
 

@@ -3,7 +3,7 @@ use Rattle.std.specs.Prelude.{ℕ, nat_lt, if◌then◌else◌, Option, Some, No
 use Rattle.cc_base.specs.declared.rate.Rate.{Rate}
 use Rattle.cc_data.specs.declared.triplet.Triplet.{Triplet}
 use Rattle.cue_lists.specs.Listing.{Listing}
-use Rattle.frame_carrier.specs.Carrying.{channel_of}
+use Rattle.frame_carrier.specs.Carrying.{channel_packet_of}
 use Rattle.frame_carrier.specs.FrameTriplets.{frame_triplets}
 use Rattle.frame_scheduler.specs.Columns.{Columns}
 use Rattle.frame_scheduler.specs.Planned.{Placement, columns_of}
@@ -41,4 +41,4 @@ padded list frame = if nat_lt frame list.count then list.columns frame else sile
 
 -- the triplets of a frame
 abbrev pub captions_of : Captioning → ℕ → List Triplet
-captions_of list frame = frame_triplets list.rate (padded list frame) (channel_of (padded list) frame)
+captions_of list frame = frame_triplets list.rate (padded list frame) (channel_packet_of (padded list) frame)

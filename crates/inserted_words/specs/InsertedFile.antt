@@ -2,7 +2,7 @@
 -- place, and each other one carries its distribution packet with the triplets of its frame in place of its own.
 use Rattle.std.specs.Prelude.{◌≡◌, ◌≤◌, ℕ, List, [], ◌∷◌, ◌++◌, length}
 use Rattle.std.specs.List.{concat}
-use Rattle.anc_words.specs.Packets.{IsCaption, Packet, user_bytes}
+use Rattle.anc_words.specs.Packets.{AncillaryPacket, IsCaption, user_bytes}
 use Rattle.anc_words.specs.WordsFiles.{IsPacketBytes}
 use Rattle.anc_words.specs.Writing.{packet_bytes}
 use Rattle.cc_data.specs.declared.triplet.Triplet.{Triplet}
@@ -16,14 +16,14 @@ carried_words frame = packet_bytes 0x61 0x01 (written_packet frame.rate frame.fl
 
 -- a packet behind a file is one of captions that carries this frame
 pub record BringsFrame (frame : Frame) (bytes : List ℕ) : Type 0 where
-  pub packet : Packet
+  pub packet : AncillaryPacket
   pub is : IsPacketBytes packet bytes
   pub is_caption : IsCaption packet
   pub carries : IsCdp frame (user_bytes packet)
 
 -- it isn't one of captions
 pub record IsForeign (bytes : List ℕ) : Type 0 where
-  pub packet : Packet
+  pub packet : AncillaryPacket
   pub is : IsPacketBytes packet bytes
   pub is_foreign : IsCaption packet → ⊥
 

@@ -19,7 +19,7 @@ use Rattle.line21_slots.specs.Cadences.{slot_from, step_of}
 use Rattle.line21_slots.specs.declared.cadence.Cadence.{Cadence}
 use Rattle.line21_author.specs.CueSlots.{cues_in_slots}
 use Rattle.line21_author.specs.FirstChannel.{first_channel}
-use Rattle.line21_author.specs.CueEvents.{event_of, show_events, hide_events, is_replaced_at, events_of, channel_events}
+use Rattle.line21_author.specs.CueEvents.{control_event, show_events, hide_events, is_replaced_at, cue_events, channel_events}
 use Rattle.line21_author.specs.EventPairs.{IsControlEvent}
 use Rattle.line21_author.specs.EventOrder.{AreFrom, AreApart}
 use Rattle.line21_author.proofs.CueSlotLemmas.{cues_on_slots}
@@ -27,7 +27,7 @@ use Rattle.line21_author.proofs.SlotSequenceLemmas.{AreInSlots, in_slots}
 
 -- the event of a code that can be written has a control pair
 event_of_control : (second_field : Bool) (frame : ℕ) (control : Control) → IsWritableControl control
-    → IsControlEvent (event_of second_field frame control)
+    → IsControlEvent (control_event second_field frame control)
 event_of_control second_field frame control writable =
     record {
       parity = written-odd second_field (first_channel control) writable;
@@ -42,13 +42,13 @@ controls-append (event ∷ events) more all too = (all.0, controls-append events
 
 -- what shows a cue has a control pair
 show_control : (second_field pop_on : Bool) (show : ℕ)
-    → AllByRecursion IsControlEvent (if pop_on then event_of second_field show Eoc ∷ [] else [])
+    → AllByRecursion IsControlEvent (if pop_on then control_event second_field show Eoc ∷ [] else [])
 show_control second_field true show = (event_of_control second_field show Eoc tt, tt)
 show_control second_field false show = tt
 
 -- so has what hides it
 hide_control_at : (second_field replaced : Bool) (hide : ℕ)
-    → AllByRecursion IsControlEvent (if replaced then [] else event_of second_field hide Edm ∷ [])
+    → AllByRecursion IsControlEvent (if replaced then [] else control_event second_field hide Edm ∷ [])
 hide_control_at second_field true hide = tt
 hide_control_at second_field false hide = (event_of_control second_field hide Edm tt, tt)
 
@@ -58,16 +58,16 @@ hide_control second_field None later = tt
 hide_control second_field (Some hide) later = hide_control_at second_field (is_replaced_at hide later) hide
 
 -- every event has a control pair
-events_control : (second_field : Bool) (cues : List Cue) → AllByRecursion IsControlEvent (events_of second_field cues)
+events_control : (second_field : Bool) (cues : List Cue) → AllByRecursion IsControlEvent (cue_events second_field cues)
 events_control second_field [] = tt
 events_control second_field (cue ∷ later) =
-    controls-append (show_events second_field cue ++ hide_events second_field cue.hide later) (events_of second_field later)
+    controls-append (show_events second_field cue ++ hide_events second_field cue.hide later) (cue_events second_field later)
     (controls-append (show_events second_field cue) (hide_events second_field cue.hide later)
     (show_control second_field (is_pop cue.kind) cue.show) (hide_control second_field cue.hide later))
     (events_control second_field later)
 
-pub events_of_control : (second_field : Bool) (cues : List Cue) → All IsControlEvent (events_of second_field cues)
-events_of_control second_field cues = All-from_recursion IsControlEvent (events_of second_field cues) (events_control second_field cues)
+pub events_of_control : (second_field : Bool) (cues : List Cue) → All IsControlEvent (cue_events second_field cues)
+events_of_control second_field cues = All-from_recursion IsControlEvent (cue_events second_field cues) (events_control second_field cues)
 
 -- the first slot in which a cue's first event may be
 abbrev first_from : Bool → Cue → ℕ
@@ -110,17 +110,17 @@ hides_after false cue (Some h) hidden stays = omega arith
 hide_fit_at : (second_field pop_on same : Bool) (n hide : ℕ) (next : Cue) (events : List Event) → (next.show == hide) ≡ same
     → n ≤ hide → hide ≤ next.show → (pop_on ≡ true → hide < next.show → hide + 2 * 1 ≤ next.show) → (pop_on ≡ false → hide < next.show)
     → IsFitFrom (first_from pop_on next) events
-    → IsFitFrom n ((if pop_on && same then [] else event_of second_field hide Edm ∷ []) ++ events)
+    → IsFitFrom n ((if pop_on && same then [] else control_event second_field hide Edm ∷ []) ++ events)
 hide_fit_at second_field false same n hide next events test below shown apart vacated fit =
     let after : hide < next.show = vacated refl in
-    IsFitFrom-cons n (event_of second_field hide Edm) events below
+    IsFitFrom-cons n (control_event second_field hide Edm) events below
     (IsFitFrom-weaker (next.show + 1) (hide + 2) events (omega arith) fit)
 hide_fit_at second_field true true n hide next events test below shown apart vacated fit =
     IsFitFrom-weaker next.show n events (omega arith) fit
 hide_fit_at second_field true false n hide next events test below shown apart vacated fit =
     let less : hide < next.show = grind (arith, nat_tests) in
     let later : hide + 2 ≤ next.show = omega (arith, apart refl less) in
-    IsFitFrom-cons n (event_of second_field hide Edm) events below
+    IsFitFrom-cons n (control_event second_field hide Edm) events below
     (IsFitFrom-weaker next.show (hide + 2) events later fit)
 
 hide_fit : (second_field : Bool) (n : ℕ) (cue : Cue) (hide : Option ℕ) (next : Cue) (later : List Cue) (events : List Event)
@@ -139,9 +139,9 @@ hide_fit second_field n cue (Some hide) next later events below bound behind sho
 -- what shows a cue and the events behind it
 show_fit : (second_field pop_on : Bool) (cue : Cue) (hides events : List Event)
     → IsFitFrom (hides_from pop_on cue) (hides ++ events)
-    → IsFitFrom (first_from pop_on cue) ((if pop_on then event_of second_field cue.show Eoc ∷ [] else []) ++ hides ++ events)
+    → IsFitFrom (first_from pop_on cue) ((if pop_on then control_event second_field cue.show Eoc ∷ [] else []) ++ hides ++ events)
 show_fit second_field true cue hides events fit =
-    IsFitFrom-cons cue.show (event_of second_field cue.show Eoc) (hides ++ events) (omega arith) fit
+    IsFitFrom-cons cue.show (control_event second_field cue.show Eoc) (hides ++ events) (omega arith) fit
 show_fit second_field false cue hides events fit = fit
 
 -- what hides the last cue
@@ -157,22 +157,22 @@ hides_from_low false cue = omega arith
 
 -- the events of cues in sequence
 sequence_fit : (second_field : Bool) (slots : ℕ) (cue : Cue) (later : List Cue) → AreInSlots slots (cue ∷ later)
-    → IsFitFrom (first_from (is_pop cue.kind) cue) (events_of second_field (cue ∷ later))
+    → IsFitFrom (first_from (is_pop cue.kind) cue) (cue_events second_field (cue ∷ later))
 sequence_fit second_field slots cue [] sequence =
     show_fit second_field (is_pop cue.kind) cue (hide_events second_field cue.hide []) []
     (last_fit second_field (hides_from (is_pop cue.kind) cue) cue.hide
     (hides_after (is_pop cue.kind) cue cue.hide sequence.hidden sequence.stays))
 sequence_fit second_field slots cue (next ∷ later) sequence =
     show_fit second_field (is_pop cue.kind) cue (hide_events second_field cue.hide (next ∷ later))
-    (events_of second_field (next ∷ later))
-    (hide_fit second_field (hides_from (is_pop cue.kind) cue) cue cue.hide next later (events_of second_field (next ∷ later))
+    (cue_events second_field (next ∷ later))
+    (hide_fit second_field (hides_from (is_pop cue.kind) cue) cue cue.hide next later (cue_events second_field (next ∷ later))
     (hides_after (is_pop cue.kind) cue cue.hide sequence.0.hidden sequence.0.stays)
     (hides_from_low (is_pop cue.kind) cue)
     sequence.1.later sequence.1.link.shown sequence.1.link.apart sequence.1.vacated
     (λ none. roll_is_not_pop next.kind (sequence.1.link.continued none).roll) (sequence_fit second_field slots next later sequence.2))
 
 -- the events of cues in sequence are apart
-pub events_of_apart : (second_field : Bool) (slots : ℕ) (cues : List Cue) → AreInSlots slots cues → AreApart (events_of second_field cues)
+pub events_of_apart : (second_field : Bool) (slots : ℕ) (cues : List Cue) → AreInSlots slots cues → AreApart (cue_events second_field cues)
 events_of_apart second_field slots [] sequence = tt
 events_of_apart second_field slots (cue ∷ later) sequence = (sequence_fit second_field slots cue later sequence).apart
 

@@ -8,7 +8,7 @@ use Rattle.line21_codes.specs.declared.characters.Spelling.TheVariants.{Basic, S
 use Rattle.line21_codes.specs.Spellings.{spelling_of, Shows}
 use Rattle.line21_codes.specs.Writable.{IsWritable}
 use Rattle.line21_codes.proofs.CharacterLemmas.{spelling_of-shows}
-use Rattle.line21_author.specs.TextCodes.{completed, packed, text_codes}
+use Rattle.line21_author.specs.TextCodes.{completed_pair, packed, text_codes}
 
 -- a byte of a basic character
 abbrev pub IsBasic : ℕ → Type 0
@@ -63,7 +63,7 @@ pair_writable : (first second : ℕ) → IsBasic first → IsBasic second → Is
 pair_writable first second basic too = (basic.1, too.1, inr basic.0)
 
 -- a completed character can be written
-completed_writable : (waiting : Option ℕ) → IfSome waiting IsBasic → AreWritable (completed waiting)
+completed_writable : (waiting : Option ℕ) → IfSome waiting IsBasic → AreWritable (completed_pair waiting)
 completed_writable None basic = tt
 completed_writable (Some first) basic = (alone_writable first basic, tt)
 

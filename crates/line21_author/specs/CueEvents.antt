@@ -13,12 +13,12 @@ use Rattle.line21_author.specs.Channels.{cues_on}
 use Rattle.line21_author.specs.FirstChannel.{first_channel}
 
 -- a control code at a slot, in a field
-abbrev pub event_of : Bool → ℕ → Control → Event
-event_of second_field slot control = record { slot = slot; pair = written second_field (first_channel control) }
+abbrev pub control_event : Bool → ℕ → Control → Event
+control_event second_field slot control = record { slot = slot; pair = written second_field (first_channel control) }
 
 -- a pop-on cue is shown at its SHOW; other cues are written onto the screen
 abbrev pub show_events : Bool → Cue → List Event
-show_events second_field cue = if is_pop cue.kind then event_of second_field cue.show Eoc ∷ [] else []
+show_events second_field cue = if is_pop cue.kind then control_event second_field cue.show Eoc ∷ [] else []
 
 -- the next cue is a pop-on cue that is shown at the slot, and so takes the place of what was displayed
 abbrev pub is_replaced_at : ℕ → List Cue → Bool
@@ -28,14 +28,14 @@ is_replaced_at slot (next ∷ later) = is_pop next.kind && (next.show == slot)
 -- a cue with a HIDE is erased there, unless the next cue replaces it then
 abbrev pub hide_events : Bool → Option ℕ → List Cue → List Event
 hide_events second_field None later = []
-hide_events second_field (Some hide) later = if is_replaced_at hide later then [] else event_of second_field hide Edm ∷ []
+hide_events second_field (Some hide) later = if is_replaced_at hide later then [] else control_event second_field hide Edm ∷ []
 
 -- the events of cues that follow one another on a channel
-abbrev pub events_of : Bool → List Cue → List Event
-events_of second_field [] = []
-events_of second_field (cue ∷ later) =
-    show_events second_field cue ++ hide_events second_field cue.hide later ++ events_of second_field later
+abbrev pub cue_events : Bool → List Cue → List Event
+cue_events second_field [] = []
+cue_events second_field (cue ∷ later) =
+    show_events second_field cue ++ hide_events second_field cue.hide later ++ cue_events second_field later
 
 -- the events of a channel's cues among those of a list
 abbrev pub channel_events : Chan → List Cue → List Event
-channel_events channel cues = events_of (is_in_second_field channel) (cues_on channel cues)
+channel_events channel cues = cue_events (is_in_second_field channel) (cues_on channel cues)

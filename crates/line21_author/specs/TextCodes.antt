@@ -11,9 +11,9 @@ use Rattle.line21_codes.specs.Spellings.{spelling_of}
 use Rattle.line21_author.specs.FirstChannel.{first_channel}
 
 -- a basic character that waits for its second is completed with the null byte
-abbrev pub completed : Option ℕ → List Code
-completed None = []
-completed (Some first) = Text first 0 ∷ []
+abbrev pub completed_pair : Option ℕ → List Code
+completed_pair None = []
+completed_pair (Some first) = Text first 0 ∷ []
 
 -- a fallback ends its text pair: it stands beside the waiting character, or alone
 abbrev pub fallback_pair : Option ℕ → ℕ → List Code
@@ -24,10 +24,10 @@ fallback_pair (Some first) fallback = Text first fallback ∷ []
 -- characters are paired, a special character is one code, and an extended character is its
 -- fallback and then one code; before a control code and at the end a waiting character is completed
 abbrev pub packed : Option ℕ → List Spelling → List Code
-packed waiting [] = completed waiting
+packed waiting [] = completed_pair waiting
 packed None (Basic byte ∷ rest) = packed (Some byte) rest
 packed (Some first) (Basic byte ∷ rest) = Text first byte ∷ packed None rest
-packed waiting (Special byte ∷ rest) = completed waiting ++ first_channel (special_character byte) ∷ packed None rest
+packed waiting (Special byte ∷ rest) = completed_pair waiting ++ first_channel (special_character byte) ∷ packed None rest
 packed waiting (Extended fallback set byte ∷ rest) =
     fallback_pair waiting fallback ++ first_channel (extended_character set byte) ∷ packed None rest
 

@@ -6,7 +6,7 @@ ghost use Rattle.std.specs.Option.{option_map};
 ghost use Rattle.line21_slots.specs.Cadences.{slot_from, step_of};
 ghost use Rattle.line21_author.specs.CueSlots.{cues_in_slots, timed_in_slots};
 ghost use Rattle.line21_author.specs.Channels.{cues_on};
-ghost use Rattle.line21_author.specs.CueEvents.{event_of, show_events, hide_events, channel_events};
+ghost use Rattle.line21_author.specs.CueEvents.{control_event, show_events, hide_events, channel_events};
 ghost use Rattle.line21_author.specs.EventOrder.{AreApart};
 ghost use Rattle.line21_author.specs.EventPairs.{IsControlEvent};
 
@@ -114,7 +114,7 @@ fn push_last_hide(
 // A control code at a slot, in a field.
 fn event_of(second_field: bool, slot: u32, control: Control) -> Event
     requires { IsWritableControl control }
-    ensures { result ≡ event_of second_field slot control }
+    ensures { result ≡ control_event second_field slot control }
 {
     Event {
         slot,

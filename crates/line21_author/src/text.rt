@@ -1,6 +1,6 @@
 ghost use Rattle.std.specs.Prelude.{◌≡◌, List, ◌∷◌, ◌++◌, IfOk, OnOk};
 ghost use Rattle.line21_codes.specs.declared.characters.Spelling.{Spelling};
-ghost use Rattle.line21_author.specs.TextCodes.{completed, fallback_pair, packed, text_codes};
+ghost use Rattle.line21_author.specs.TextCodes.{completed_pair, fallback_pair, packed, text_codes};
 
 use crate::channel::first_channel;
 use cue_lists::Text;
@@ -58,7 +58,7 @@ fn push_spelling(
 
 // Appends the text pair that completes a waiting character with the null byte, if one waits.
 fn push_completed(codes: &mut Vec<Code>, waiting: Option<u8>) -> Result<(), AllocError>
-    ensures { OnOk result (codes.new.items ≡ codes.old.items ++ completed waiting) }
+    ensures { OnOk result (codes.new.items ≡ codes.old.items ++ completed_pair waiting) }
 {
     if let Some(first) = waiting {
         codes.push(Code::Text(first, 0))?;

@@ -13,7 +13,7 @@ use Rattle.line21_codes.specs.contracts.styles.CellPartialEq.TheImpl.{eq-value}
 use Rattle.line21_codes.specs.declared.styles.Cell.{Cell}
 use Rattle.line21_codes.proofs.SameStyleLemmas.{Decides-same_style, Decides-sameb, same_parts}
 use Rattle.line21_codes.specs.declared.styles.Style.{Style}
-use Rattle.line21_screen.specs.Differences.{HasOther, differs, same_cell}
+use Rattle.line21_screen.specs.Differences.{HasOther, grid_differs, same_cell}
 use Rattle.line21_screen.specs.Grid.{Grid, columns, in_grid, rows}
 use Rattle.line21_screen.specs.Objects.{grid_of}
 use Rattle.line21_screen.proofs.GridLemmas.{cell_at, col_to, is_inside, row_from, row_to}
@@ -69,8 +69,8 @@ other_in_row old new row any =
     (col, omega arith, λ same. let b = (Decides-same_cell (old row col) (new row col)).1 same in let c = not-true _ differ in cc)
 
 -- a place with another cell, where grids differ
-has_other : (old new : Grid) → differs old new ≡ true → HasOther old new
-unfolding differs
+has_other : (old new : Grid) → grid_differs old new ≡ true → HasOther old new
+unfolding grid_differs
 has_other old new any =
     let (k, row, within, at, differ) = Any-from_list_any (λ row. list_any (λ col. not (same_cell (old row col) (new row col))) columns) rows any in
     let is : row ≡ 1 + k = sym at ∙ get_or-range_with_len 1 15 k row within in
@@ -78,8 +78,8 @@ has_other old new any =
     record { row = row; col = col; inside = is_inside row col (omega arith) (omega arith) to; other = other }
 
 -- and the other way
-other_differs : (old new : Grid) → HasOther old new → differs old new ≡ true
-unfolding differs
+other_differs : (old new : Grid) → HasOther old new → grid_differs old new ≡ true
+unfolding grid_differs
 other_differs old new has =
     let from : 1 ≤ has.row = row_from has.row has.col has.inside in
     let to : has.row ≤ 15 = row_to has.row has.col has.inside in
@@ -93,22 +93,22 @@ other_differs old new has =
     (ap (λ r. list_any (λ col. not (same_cell (old r col) (new r col))) columns) (get_or-range_with_len 1 15 (has.row - 1) 0 (omega arith) ∙ omega arith) ∙ in_row)
 
 -- the test says that some place has another cell
-pub Decides-differs : (old new : Grid) → Decides (differs old new) (HasOther old new)
+pub Decides-differs : (old new : Grid) → Decides (grid_differs old new) (HasOther old new)
 Decides-differs old new = (has_other old new, other_differs old new)
 
 -- a grid doesn't differ from itself
-pub differs-itself : (g : Grid) → differs g g ≡ false
-differs-itself g = elim (cases_Bool (differs g g)) [ inl differ ↦ absurd ((has_other g g differ).other refl) | inr same ↦ same ]
+pub differs-itself : (g : Grid) → grid_differs g g ≡ false
+differs-itself g = elim (cases_Bool (grid_differs g g)) [ inl differ ↦ absurd ((has_other g g differ).other refl) | inr same ↦ same ]
 
 -- where no place has another cell, each has the same
-same_at : (old new : Grid) (r c : ℕ) → differs old new ≡ false → in_grid r c ≡ true → old r c ≡ new r c
+same_at : (old new : Grid) (r c : ℕ) → grid_differs old new ≡ false → in_grid r c ≡ true → old r c ≡ new r c
 same_at old new r c same inside = elim (cases_Bool (same_cell (old r c) (new r c))) [
   | inl one ↦ (Decides-same_cell (old r c) (new r c)).0 one
   | inr other ↦ absurd (true≢false (sym (other_differs old new (record { row = r; col = c; inside = inside; other = λ one. true≢false (sym ((Decides-same_cell (old r c) (new r c)).1 one) ∙ other) })) ∙ same))
 ]
 
 -- lists whose grids don't differ are one
-pub same_list : (xs ys : List (Option Cell)) → length xs ≡ 480 → length ys ≡ 480 → differs (grid_of xs) (grid_of ys) ≡ false → xs ≡ ys
+pub same_list : (xs ys : List (Option Cell)) → length xs ≡ 480 → length ys ≡ 480 → grid_differs (grid_of xs) (grid_of ys) ≡ false → xs ≡ ys
 same_list xs ys long as_long same =
     ext_get_or None xs ys (long ∙ sym as_long) (λ k within.
     let col : k % 32 < 32 = omega arith in
@@ -121,13 +121,13 @@ same_list xs ys long as_long same =
 pub parts_differ : (xs ys : List (Option Cell)) (from to : ℕ) (r : Bool) → length xs ≡ 480 → length ys ≡ 480
     → AllWithin (λ cell. cell ≡ None) xs 0 from → AllWithin (λ cell. cell ≡ None) ys 0 from
     → AllWithin (λ cell. cell ≡ None) xs to 480 → AllWithin (λ cell. cell ≡ None) ys to 480
-    → Decides r (take (to - from) (drop from xs) ≡ take (to - from) (drop from ys)) → not r ≡ differs (grid_of xs) (grid_of ys)
+    → Decides r (take (to - from) (drop from xs) ≡ take (to - from) (drop from ys)) → not r ≡ grid_differs (grid_of xs) (grid_of ys)
 parts_differ xs ys from to true long as_long above other_above below other_below (same, _) =
     let lists : xs ≡ ys = same_cells xs ys from to long as_long above other_above below other_below
     (λ k d past within. sym (part_at xs from to k d past within) ∙ ap (λ zs. get_or zs (k - from) d) (same refl) ∙ part_at ys from to k d past within) in
     rw lists (sym (differs-itself (grid_of ys)))
 parts_differ xs ys from to false long as_long above other_above below other_below (_, one) =
-    elim (cases_Bool (differs (grid_of xs) (grid_of ys))) [
+    elim (cases_Bool (grid_differs (grid_of xs) (grid_of ys))) [
       | inl differ ↦ sym differ
       | inr same ↦ absurd (true≢false (sym (one (ap (λ zs. take (to - from) (drop from zs)) (same_list xs ys long as_long same)))))
     ]
@@ -136,7 +136,7 @@ parts_differ xs ys from to false long as_long above other_above below other_belo
 pub same_where_none : (xs ys : List (Option Cell)) (from to : ℕ) → length xs ≡ 480 → length ys ≡ 480
     → AllWithin (λ cell. cell ≡ None) xs 0 from → AllWithin (λ cell. cell ≡ None) ys 0 from
     → AllWithin (λ cell. cell ≡ None) xs to 480 → AllWithin (λ cell. cell ≡ None) ys to 480
-    → to ≤ from → differs (grid_of xs) (grid_of ys) ≡ false
+    → to ≤ from → grid_differs (grid_of xs) (grid_of ys) ≡ false
 same_where_none xs ys from to long as_long above other_above below other_below empty =
     let lists : xs ≡ ys = same_cells xs ys from to long as_long above other_above below other_below (λ k d past within. absurd (omega arith)) in
     rw lists (differs-itself (grid_of ys))

@@ -12,8 +12,8 @@ same_cell (Some a) (Some b) = a.ch == b.ch && same_style a.style b.style
 same_cell _ _ = false
 
 -- some place has another cell
-unfoldable pub differs : Grid → Grid → Bool
-differs old new = list_any (λ row. list_any (λ col. not (same_cell (old row col) (new row col))) columns) rows
+unfoldable pub grid_differs : Grid → Grid → Bool
+grid_differs old new = list_any (λ row. list_any (λ col. not (same_cell (old row col) (new row col))) columns) rows
 
 -- the same in a word: a place that has another cell
 pub record HasOther (old new : Grid) : Type 0 where

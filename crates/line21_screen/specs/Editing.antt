@@ -34,18 +34,18 @@ abbrev pub with_pen : PenState → ChannelState → ChannelState
 with_pen pen s = record s { pen = pen }
 
 -- a cell is written at the pen, or removed by the transparent space, and the pen moves on
-abbrev pub written : Option Cell → ChannelState → ChannelState
-written cell s =
+abbrev pub with_cell_at_pen : Option Cell → ChannelState → ChannelState
+with_cell_at_pen cell s =
     with_pen (advanced s.pen) (edited (λ g. with_cell g s.pen.row (print_column s.pen) cell) s)
 
 -- a character in the pen's style
 abbrev pub printed : ℕ → ChannelState → ChannelState
-printed ch s = written (Some (record { ch = ch; style = s.pen.style })) s
+printed ch s = with_cell_at_pen (Some (record { ch = ch; style = s.pen.style })) s
 
 -- a special character; the transparent space is none, and removes the cell
 abbrev pub special : Option ℕ → ChannelState → ChannelState
 special (Some ch) s = printed ch s
-special None s = written None s
+special None s = with_cell_at_pen None s
 
 -- backspace: the pen moves left by one, and that cell is removed; at column 0 nothing happens
 abbrev pub backspaced : ChannelState → ChannelState

@@ -31,7 +31,7 @@ impl Channel {
     ghost use Rattle.line21_screen.specs.Grid.{with_cell};
     ghost use Rattle.line21_screen.specs.Windows.{moved};
     ghost use Rattle.line21_screen.specs.Channels.{new_channel, takes_captions};
-    ghost use Rattle.line21_screen.specs.Editing.{edited, written, printed, special, backspaced, extended, row_deleted, carriage_return, addressed, with_pen};
+    ghost use Rattle.line21_screen.specs.Editing.{edited, with_cell_at_pen, printed, special, backspaced, extended, row_deleted, carriage_return, addressed, with_pen};
     ghost use Rattle.line21_screen.specs.Pens.{with_style, mid_row_style};
     ghost use Rattle.line21_screen.specs.Controls.{rolled_up, acted, after_control, IsPossible};
     ghost use Rattle.line21_screen.specs.Fields.{after_character, after_text};
@@ -182,7 +182,7 @@ impl Channel {
 
     // Writes a cell at the pen, or removes it, and moves the pen on.
     fn write(&mut self, cell: Option<Cell>)
-        ensures { channel_of self.new ≡ written cell (channel_of self.old) }
+        ensures { channel_of self.new ≡ with_cell_at_pen cell (channel_of self.old) }
     {
         let pen = self.pen;
         self.put(pen.row, pen.print_column(), cell);

@@ -7,7 +7,7 @@ ghost use Rattle.line21_codes.specs.declared.pairs.Pair.{Pair};
 ghost use Rattle.line21_codes.specs.ControlPairs.{is_control};
 ghost use Rattle.line21_codes.specs.Reading.{code_of};
 ghost use Rattle.line21_codes.specs.Repeats.{is_ignored};
-ghost use Rattle.line21_screen.specs.Differences.{HasOther, differs};
+ghost use Rattle.line21_screen.specs.Differences.{HasOther, grid_differs};
 ghost use Rattle.line21_screen.specs.Fields.{channel, after_code};
 ghost use Rattle.line21_screen.specs.Grid.{Grid};
 ghost use Rattle.line21_screen.specs.Meaning.{after};
@@ -49,5 +49,5 @@ pub fn roll_up_stays_in_window()
 
 /// Two grids differ just where some place has another cell.
 pub fn grids_differ_where_a_place_has_another_cell()
-    ensures { (old new : Grid) → (differs old new ≡ true) ↔ HasOther old new }
+    ensures { (old new : Grid) → (grid_differs old new ≡ true) ↔ HasOther old new }
 {}

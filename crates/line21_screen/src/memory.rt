@@ -32,7 +32,7 @@ pub struct Memory {
 
 impl Memory {
     ghost use Rattle.std.specs.Prelude.{ℕ, false, IfOk};
-    ghost use Rattle.line21_screen.specs.Differences.{differs};
+    ghost use Rattle.line21_screen.specs.Differences.{grid_differs};
     ghost use Rattle.line21_screen.specs.Grid.{empty_grid, row_cells, with_cell, without_cells};
     ghost use Rattle.line21_screen.specs.Windows.{moved};
     ghost use Rattle.line21_screen.specs.Objects.{grid_in, grid_of, place};
@@ -91,7 +91,7 @@ impl Memory {
 
     /// Whether some place of another memory has another cell.
     pub fn differs(&self, other: &Memory) -> bool
-        ensures told { result ≡ differs (grid_in self.now) (grid_in other.now) }
+        ensures told { result ≡ grid_differs (grid_in self.now) (grid_in other.now) }
         ensures same { result ≡ false → grid_in self.now ≡ grid_in other.now }
     {
         let from = self.first.min(other.first);

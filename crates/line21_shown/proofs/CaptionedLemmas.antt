@@ -25,7 +25,7 @@ use Rattle.line21_codes.specs.NullPairs.{null_pair}
 use Rattle.line21_author.specs.Channels.{cues_on, is_for_second_field, is_on}
 use Rattle.line21_slots.specs.Cadences.{cadence_of, slot_in}
 use Rattle.line21_author.specs.CueCodes.{cue_codes, opening_codes}
-use Rattle.line21_author.specs.CueEvents.{channel_events, event_of, events_of, hide_events, is_replaced_at, show_events}
+use Rattle.line21_author.specs.CueEvents.{channel_events, control_event, cue_events, hide_events, is_replaced_at, show_events}
 use Rattle.line21_author.specs.CueUnits.{unit_of}
 use Rattle.line21_author.specs.FirstChannel.{first_channel}
 use Rattle.line21_author.specs.RunCodes.{run_codes}
@@ -106,28 +106,28 @@ module _ (P : Pair → Type 0) (written_is : (second_field : Bool) (code : Code)
       by_test false rest = rest
 
   -- events
-  event_is : (second_field : Bool) (frame : ℕ) (control : Control) → IsWritableControl control → OfEvent (event_of second_field frame control)
+  event_is : (second_field : Bool) (frame : ℕ) (control : Control) → IsWritableControl control → OfEvent (control_event second_field frame control)
   event_is second_field frame control writable = written_is second_field (first_channel control) writable refl
 
   one_event : (event : Event) → OfEvent event → All OfEvent (event ∷ [])
   one_event event is = All-cons OfEvent event [] is (All-nil OfEvent)
 
-  show_all : (second_field pop_on : Bool) (show : ℕ) → All OfEvent (if pop_on then event_of second_field show Eoc ∷ [] else [])
-  show_all second_field true show = one_event (event_of second_field show Eoc) (event_is second_field show Eoc tt)
+  show_all : (second_field pop_on : Bool) (show : ℕ) → All OfEvent (if pop_on then control_event second_field show Eoc ∷ [] else [])
+  show_all second_field true show = one_event (control_event second_field show Eoc) (event_is second_field show Eoc tt)
   show_all second_field false show = All-nil OfEvent
 
-  hide_all_at : (second_field replaced : Bool) (hide : ℕ) → All OfEvent (if replaced then [] else event_of second_field hide Edm ∷ [])
+  hide_all_at : (second_field replaced : Bool) (hide : ℕ) → All OfEvent (if replaced then [] else control_event second_field hide Edm ∷ [])
   hide_all_at second_field true hide = All-nil OfEvent
-  hide_all_at second_field false hide = one_event (event_of second_field hide Edm) (event_is second_field hide Edm tt)
+  hide_all_at second_field false hide = one_event (control_event second_field hide Edm) (event_is second_field hide Edm tt)
 
   hide_all : (second_field : Bool) (hide : Option ℕ) (later : List Cue) → All OfEvent (hide_events second_field hide later)
   hide_all second_field None later = All-nil OfEvent
   hide_all second_field (Some hide) later = hide_all_at second_field (is_replaced_at hide later) hide
 
-  events_all : (second_field : Bool) (cues : List Cue) → All OfEvent (events_of second_field cues)
+  events_all : (second_field : Bool) (cues : List Cue) → All OfEvent (cue_events second_field cues)
   events_all second_field [] = All-nil OfEvent
   events_all second_field (cue ∷ later) =
-      All-append OfEvent (show_events second_field cue ++ hide_events second_field cue.hide later) (events_of second_field later)
+      All-append OfEvent (show_events second_field cue ++ hide_events second_field cue.hide later) (cue_events second_field later)
       (All-append OfEvent (show_events second_field cue) (hide_events second_field cue.hide later)
       (show_all second_field (is_pop cue.kind) cue.show) (hide_all second_field cue.hide later))
       (events_all second_field later)

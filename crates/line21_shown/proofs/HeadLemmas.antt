@@ -10,7 +10,7 @@ use Rattle.cue_lists.specs.Cues.{IsCueFormed}
 use Rattle.cue_lists.specs.declared.cue.Cue.{Cue}
 use Rattle.line21_author.specs.Channels.{is_for_second_field}
 use Rattle.line21_author.specs.CueCodes.{cue_codes}
-use Rattle.line21_author.specs.CueEvents.{events_of, hide_events, show_events}
+use Rattle.line21_author.specs.CueEvents.{cue_events, hide_events, show_events}
 use Rattle.line21_author.specs.CueUnits.{unit_of}
 use Rattle.line21_author.specs.declared.event.Event.{Event}
 use Rattle.line21_author.specs.declared.unit.Unit.{Unit}
@@ -91,7 +91,7 @@ cue_codes_are number cue formed = codes_are (is_for_second_field cue.kind) numbe
 
 -- what hides the former cue, and the events of these cues
 abbrev pub events_on : Bool → Option ℕ → List Cue → List Event
-events_on second_field hide cues = hide_events second_field hide cues ++ events_of second_field cues
+events_on second_field hide cues = hide_events second_field hide cues ++ cue_events second_field cues
 
 -- the timeline goes on, from frame a on, with what hides the former cue and with these cues
 pub record Continues (second_field : Bool) (t : Timeline) (a : ℕ) (hide : Option ℕ) (cues : List Cue) : Type 0 where
@@ -185,5 +185,5 @@ continues_behind second_field t a z hide cue later h up shown events_are =
         ≡ (hide_events second_field hide (cue ∷ later) ++ show_events second_field cue) ++ events_behind second_field cue later
     split =
         ap (λ (es : List Event). hide_events second_field hide (cue ∷ later) ++ es)
-        (append_assoc (show_events second_field cue) (hide_events second_field cue.hide later) (events_of second_field later))
+        (append_assoc (show_events second_field cue) (hide_events second_field cue.hide later) (cue_events second_field later))
         ∙ sym (append_assoc (hide_events second_field hide (cue ∷ later)) (show_events second_field cue) (events_behind second_field cue later))

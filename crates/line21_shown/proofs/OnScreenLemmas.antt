@@ -17,7 +17,7 @@ use Rattle.cue_lists.specs.declared.cue.Kind.TheVariants as kind
 use Rattle.cue_lists.specs.declared.cue.Run.{Run}
 use Rattle.cue_lists.proofs.ChannelKept.{continued_continues}
 use Rattle.line21_author.specs.CueCodes.{cue_codes}
-use Rattle.line21_author.specs.CueEvents.{events_of}
+use Rattle.line21_author.specs.CueEvents.{cue_events}
 use Rattle.line21_screen.specs.Channels.{ChannelState}
 use Rattle.line21_screen.specs.Grid.{Grid, empty_grid}
 use Rattle.frame_scheduler.specs.declared.lane.piece.Piece.{Piece}
@@ -206,15 +206,15 @@ module _ (second_field : Bool) (t : Timeline) (frames a from : ℕ) (hide : Opti
   -- before SHOW nothing of the events begins but what hides the former cue
   only_hides : (n : ℕ) → n < cue.show → event_at (events_on second_field hide (cue ∷ later)) n ≡ erases second_field hide n
   only_hides n below =
-      plain_at second_field hide cue later (events_of second_field (cue ∷ later)) n plain
-      ∙ ap (first_of (erases second_field hide n)) (event_none cue.show n (events_of second_field (cue ∷ later)) (events_from second_field frames cue later sequence) below)
+      plain_at second_field hide cue later (cue_events second_field (cue ∷ later)) n plain
+      ∙ ap (first_of (erases second_field hide n)) (event_none cue.show n (cue_events second_field (cue ∷ later)) (events_from second_field frames cue later sequence) below)
       ∙ or_nothing (erases second_field hide n)
 
   -- its units stand from the first frame on in which it is written
   placed : ArePlacedFrom (events_on second_field hide (cue ∷ later)) start first.own first.front
   placed =
       raised (events_on second_field hide (cue ∷ later)) a start (λ (piece : Piece). cue.load ≤ piece.load) first.own first.front
-      (λ piece f loads at free. plain_free second_field hide cue later (events_of second_field (cue ∷ later)) f plain hidden (omega arith) free)
+      (λ piece f loads at free. plain_free second_field hide cue later (cue_events second_field (cue ∷ later)) f plain hidden (omega arith) free)
       first.begins first.first
 
   stand_beside : StandBeside (erases second_field hide) start cue.show first.own first.front
@@ -262,8 +262,8 @@ module _ (second_field : Bool) (t : Timeline) (frames a from : ℕ) (hide : Opti
   screen_continues =
       continues_behind second_field t a cue.show hide cue later first (omega (arith, sound.loaded)) (omega arith)
       (λ n above.
-      plain_at second_field hide cue later (events_of second_field (cue ∷ later)) n plain
-      ∙ ap (λ u. first_of u (event_at (events_of second_field (cue ∷ later)) n)) (hides_no_more second_field hide cue.load n (omega (arith, up_to_show)))
+      plain_at second_field hide cue later (cue_events second_field (cue ∷ later)) n plain
+      ∙ ap (λ u. first_of u (event_at (cue_events second_field (cue ∷ later)) n)) (hides_no_more second_field hide cue.load n (omega (arith, up_to_show)))
       ∙ ap (λ events. event_at events n) (plain_events second_field cue later plain))
 
   -- and the screen has the cue until its HIDE

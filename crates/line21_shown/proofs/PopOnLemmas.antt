@@ -14,7 +14,7 @@ use Rattle.cue_lists.specs.declared.cue.Kind.{Kind}
 use Rattle.cue_lists.specs.declared.cue.Kind.TheVariants as kind
 use Rattle.cue_lists.specs.declared.cue.Run.{Run}
 use Rattle.line21_author.specs.CueCodes.{cue_codes}
-use Rattle.line21_author.specs.CueEvents.{events_of}
+use Rattle.line21_author.specs.CueEvents.{cue_events}
 use Rattle.line21_author.specs.EventOrder.{AreApart}
 use Rattle.line21_author.specs.FirstChannel.{first_channel}
 use Rattle.line21_author.proofs.CueEventsLemmas.{events_of_apart}
@@ -62,7 +62,7 @@ module _ (second_field : Bool) (t : Timeline) (frames a from : ℕ) (hide : Opti
     (pop : is_pop cue.kind ≡ true) (formed : IsCueFormed cue) (sequence : AreInSequence 1 frames (cue ∷ later))
     (on : Continues second_field t a hide (cue ∷ later)) (is : IsShown t a from hide g earlier) (link : AreBehind earlier (cue ∷ later))
     (low : a ≤ suc from) (before : a ≤ cue.show) where
-  apart : AreApart (events_of second_field (cue ∷ later))
+  apart : AreApart (cue_events second_field (cue ∷ later))
   apart = events_of_apart second_field frames (cue ∷ later) (sequence_in_slots frames (cue ∷ later) sequence)
 
   sound : IsSound 1 frames cue

@@ -18,7 +18,7 @@ use Rattle.cue_lists.specs.declared.cue.Cue.{Cue}
 use Rattle.cue_lists.specs.declared.cue.Kind.{Kind}
 use Rattle.cue_lists.specs.declared.cue.Kind.TheVariants as kind
 use Rattle.cue_lists.proofs.ChannelCues.{All-reverse, reverse-cons}
-use Rattle.line21_slots.specs.Cadences.{frame_of, has_slot_in, slot_from}
+use Rattle.line21_slots.specs.Cadences.{has_slot_in, slot_frame, slot_from}
 use Rattle.line21_author.specs.CueSlots.{cues_in_slots, timed_in_slots}
 use Rattle.line21_slots.specs.declared.cadence.Cadence.{Cadence}
 use Rattle.line21_slots.proofs.CadenceLemmas.{frame_not_before, own_frame, slots_rise}
@@ -82,8 +82,8 @@ module _ (c : Cadence) (f m : ℕ) (come : slot_from c (suc f) ≡ m) where
       ⊎_elim
       (λ (below : slot_from c s < m). below)
       (λ (late : m ≤ slot_from c s).
-      let behind : suc f ≤ frame_of c (slot_from c s) = frame_not_before c (suc f) (slot_from c s) (omega arith) in
-      let own : frame_of c (slot_from c s) ≡ s = own_frame c s some in
+      let behind : suc f ≤ slot_frame c (slot_from c s) = frame_not_before c (suc f) (slot_from c s) (omega arith) in
+      let own : slot_frame c (slot_from c s) ≡ s = own_frame c s some in
       omega arith)
       (cases_lt (slot_from c s) m)
 

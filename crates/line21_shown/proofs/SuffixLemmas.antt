@@ -9,7 +9,7 @@ use Rattle.line21_codes.specs.Writing.{written}
 use Rattle.cue_lists.specs.declared.cue.Cue.{Cue}
 use Rattle.cue_lists.specs.Rules.Lane.{is_pop}
 use Rattle.line21_author.specs.Channels.{cues_on, is_on}
-use Rattle.line21_author.specs.CueEvents.{event_of, events_of, hide_events, is_replaced_at, show_events}
+use Rattle.line21_author.specs.CueEvents.{control_event, cue_events, hide_events, is_replaced_at, show_events}
 use Rattle.line21_author.specs.CueUnits.{units_of}
 use Rattle.line21_author.specs.EventOrder.{AreApart, AreFrom}
 use Rattle.line21_author.specs.FirstChannel.{first_channel}
@@ -211,7 +211,7 @@ showing_unit second_field = record { pair = written second_field (first_channel 
 
 -- what begins at a frame of an event and those behind it
 event_first : (second_field : Bool) (frame : ℕ) (events : List Event) (n : ℕ) (b : Bool) → (n == frame) ≡ b
-    → event_at (event_of second_field frame Eoc ∷ events) n ≡ (if b then Some (showing_unit second_field) else event_at events n)
+    → event_at (control_event second_field frame Eoc ∷ events) n ≡ (if b then Some (showing_unit second_field) else event_at events n)
 event_first second_field frame events n b test = rw test refl
 
 -- what hides, and the events behind it: where the next cue replaces what is shown, nothing hides it
@@ -226,7 +226,7 @@ hide_first second_field None cue later events n pop shows = go (n == cue.show) r
 hide_first second_field (Some hide) cue later events n pop shows = rw pop (by_test (cue.show == hide) refl)
   where
     by_test : (r : Bool) → (cue.show == hide) ≡ r
-        → event_at ((if r then [] else event_of second_field hide Edm ∷ []) ++ events) n
+        → event_at ((if r then [] else control_event second_field hide Edm ∷ []) ++ events) n
         ≡ (if n == cue.show then Some (showing_unit second_field) else first_of (erases second_field (Some hide) n) (event_at events n))
     by_test true same = go (n == cue.show) refl
       where
@@ -238,7 +238,7 @@ hide_first second_field (Some hide) cue later events n pop shows = rw pop (by_te
     by_test false apart = go (n == cue.show) refl (n == hide) refl
       where
         go : (b : Bool) → (n == cue.show) ≡ b → (c : Bool) → (n == hide) ≡ c
-            → event_at (event_of second_field hide Edm ∷ events) n
+            → event_at (control_event second_field hide Edm ∷ events) n
             ≡ (if n == cue.show then Some (showing_unit second_field) else first_of (erases second_field (Some hide) n) (event_at events n))
         go true test true at = let wrong : (cue.show == hide) ≡ true = grind (arith, nat_tests) in cc
         go true test false at = let here : n ≡ cue.show = grind (arith, nat_tests) in rw (test, at) (ap (event_at events) here ∙ shows)
@@ -247,38 +247,38 @@ hide_first second_field (Some hide) cue later events n pop shows = rw pop (by_te
 
 -- the events behind what shows a pop-on cue
 abbrev pub events_behind : Bool → Cue → List Cue → List Event
-events_behind second_field cue later = hide_events second_field cue.hide later ++ events_of second_field later
+events_behind second_field cue later = hide_events second_field cue.hide later ++ cue_events second_field later
 
 -- the events of a pop-on cue and of those behind it
 pub pop_events : (second_field : Bool) (cue : Cue) (later : List Cue) → is_pop cue.kind ≡ true
-    → events_of second_field (cue ∷ later) ≡ event_of second_field cue.show Eoc ∷ events_behind second_field cue later
+    → cue_events second_field (cue ∷ later) ≡ control_event second_field cue.show Eoc ∷ events_behind second_field cue later
 pop_events second_field cue later pop = rw pop refl
 
 module _ (second_field : Bool) (hide : Option ℕ) (cue : Cue) (later : List Cue) (pop : is_pop cue.kind ≡ true)
-    (apart : AreApart (events_of second_field (cue ∷ later))) where
+    (apart : AreApart (cue_events second_field (cue ∷ later))) where
   abbrev rest : List Event
   rest = events_behind second_field cue later
 
   abbrev all_events : List Event
-  all_events = hide_events second_field hide (cue ∷ later) ++ events_of second_field (cue ∷ later)
+  all_events = hide_events second_field hide (cue ∷ later) ++ cue_events second_field (cue ∷ later)
 
   apart_rest : AreFrom (cue.show + 2) rest
   apart_rest = (subst AreApart (pop_events second_field cue later pop) apart).0
 
-  shows_at : (n : ℕ) (b : Bool) → (n == cue.show) ≡ b → event_at (events_of second_field (cue ∷ later)) n ≡ (if b then Some (showing_unit second_field) else event_at rest n)
+  shows_at : (n : ℕ) (b : Bool) → (n == cue.show) ≡ b → event_at (cue_events second_field (cue ∷ later)) n ≡ (if b then Some (showing_unit second_field) else event_at rest n)
   shows_at n b test = ap (λ events. event_at events n) (pop_events second_field cue later pop) ∙ event_first second_field cue.show rest n b test
 
-  shows_here : event_at (events_of second_field (cue ∷ later)) cue.show ≡ Some (showing_unit second_field)
+  shows_here : event_at (cue_events second_field (cue ∷ later)) cue.show ≡ Some (showing_unit second_field)
   shows_here = shows_at cue.show true (grind (arith, nat_tests))
 
-  all_at : (n : ℕ) → event_at all_events n ≡ (if n == cue.show then Some (showing_unit second_field) else first_of (erases second_field hide n) (event_at (events_of second_field (cue ∷ later)) n))
-  all_at n = hide_first second_field hide cue later (events_of second_field (cue ∷ later)) n pop shows_here
+  all_at : (n : ℕ) → event_at all_events n ≡ (if n == cue.show then Some (showing_unit second_field) else first_of (erases second_field hide n) (event_at (cue_events second_field (cue ∷ later)) n))
+  all_at n = hide_first second_field hide cue later (cue_events second_field (cue ∷ later)) n pop shows_here
 
   -- before SHOW nothing begins but what hides the former cue
   pub before_show : (n : ℕ) → n < cue.show → event_at all_events n ≡ erases second_field hide n
   before_show n below =
       let test : (n == cue.show) ≡ false = grind (arith, nat_tests) in
-      let none : event_at (events_of second_field (cue ∷ later)) n ≡ None =
+      let none : event_at (cue_events second_field (cue ∷ later)) n ≡ None =
       shows_at n false test ∙ event_none (cue.show + 2) n rest apart_rest (omega arith) in
       all_at n ∙ rw (test, none) (last (erases second_field hide n))
     where
@@ -306,12 +306,12 @@ from-append n [] more from too = too
 from-append n (event ∷ events) more from too = (from.0, from-append n events more from.1 too)
 
 -- what shows a cue is at its SHOW
-shows_from : (second_field pop_on : Bool) (show : ℕ) → AreFrom show (if pop_on then event_of second_field show Eoc ∷ [] else [])
+shows_from : (second_field pop_on : Bool) (show : ℕ) → AreFrom show (if pop_on then control_event second_field show Eoc ∷ [] else [])
 shows_from second_field true show = (omega arith, tt)
 shows_from second_field false show = tt
 
 -- what hides it is later
-hides_from_at : (second_field replaced : Bool) (show hide : ℕ) → show < hide → AreFrom show (if replaced then [] else event_of second_field hide Edm ∷ [])
+hides_from_at : (second_field replaced : Bool) (show hide : ℕ) → show < hide → AreFrom show (if replaced then [] else control_event second_field hide Edm ∷ [])
 hides_from_at second_field true show hide later = tt
 hides_from_at second_field false show hide later = (omega arith, tt)
 
@@ -321,16 +321,16 @@ hides_from second_field show (Some hide) later hidden = hides_from_at second_fie
 
 -- the events of cues in sequence are at the SHOW of the first of them or later
 pub events_from : (second_field : Bool) (frames : ℕ) (cue : Cue) (later : List Cue) → AreInSequence 1 frames (cue ∷ later)
-    → AreFrom cue.show (events_of second_field (cue ∷ later))
+    → AreFrom cue.show (cue_events second_field (cue ∷ later))
 events_from second_field frames cue [] sequence =
     from-append cue.show (show_events second_field cue ++ hide_events second_field cue.hide []) []
     (from-append cue.show (show_events second_field cue) (hide_events second_field cue.hide []) (shows_from second_field (is_pop cue.kind) cue.show)
     (hides_from second_field cue.show cue.hide [] sequence.hidden)) tt
 events_from second_field frames cue (next ∷ later) sequence =
-    from-append cue.show (show_events second_field cue ++ hide_events second_field cue.hide (next ∷ later)) (events_of second_field (next ∷ later))
+    from-append cue.show (show_events second_field cue ++ hide_events second_field cue.hide (next ∷ later)) (cue_events second_field (next ∷ later))
     (from-append cue.show (show_events second_field cue) (hide_events second_field cue.hide (next ∷ later)) (shows_from second_field (is_pop cue.kind) cue.show)
     (hides_from second_field cue.show cue.hide (next ∷ later) sequence.0.hidden))
-    (from_earlier cue.show next.show (events_of second_field (next ∷ later)) (next_shown next later sequence.1.loaded sequence.2)
+    (from_earlier cue.show next.show (cue_events second_field (next ∷ later)) (next_shown next later sequence.1.loaded sequence.2)
     (events_from second_field frames next later sequence.2))
   where
     next_shown : (next : Cue) (later : List Cue) → cue.show ≤ next.load → AreInSequence 1 frames (next ∷ later) → cue.show ≤ next.show
@@ -339,7 +339,7 @@ events_from second_field frames cue (next ∷ later) sequence =
 
 -- the events of a cue that isn't pop-on, and of those behind it
 pub plain_events : (second_field : Bool) (cue : Cue) (later : List Cue) → is_pop cue.kind ≡ false
-    → events_of second_field (cue ∷ later) ≡ events_behind second_field cue later
+    → cue_events second_field (cue ∷ later) ≡ events_behind second_field cue later
 plain_events second_field cue later plain = rw plain refl
 
 -- what hides the former cue, and these events
@@ -349,7 +349,7 @@ plain_at second_field None cue later events n plain = refl
 plain_at second_field (Some hide) cue later events n plain = rw plain (by_test (n == hide) refl)
   where
     by_test : (b : Bool) → (n == hide) ≡ b
-        → event_at (event_of second_field hide Edm ∷ events) n ≡ first_of (erases second_field (Some hide) n) (event_at events n)
+        → event_at (control_event second_field hide Edm ∷ events) n ≡ first_of (erases second_field (Some hide) n) (event_at events n)
     by_test true test = rw test refl
     by_test false test = rw test refl
 

@@ -39,8 +39,8 @@ abbrev pub empty_rows : ℕ → List (List (Option Cell))
 empty_rows rows = replicate rows (gap 32)
 
 -- the rows of a picture from 1 to 15, each with its columns from 0 to 31
-abbrev pub screen_of : Picture → List (List (Option Cell))
-screen_of picture = map (λ row. map (picture row) (range_with_len 0 32)) (range_with_len 1 15)
+abbrev pub picture_rows : Picture → List (List (Option Cell))
+picture_rows picture = map (λ row. map (picture row) (range_with_len 0 32)) (range_with_len 1 15)
 
 -- what the receiver of field 1 displays at a frame, by the pairs up to that of the frame
 abbrev pub displayed_at : List Pair → ℕ → Picture
@@ -54,15 +54,15 @@ pub record Example : Type 0 where
   pub pairs : List Pair
 
 -- the pairs are those of the cues
-abbrev pub IsSent : Example → Type 0
-IsSent example =
+abbrev pub ArePairsSent : Example → Type 0
+ArePairsSent example =
     column (lane_timeline (channel_events Cc1 example.cues) (channel_pieces Cc1 example.cues) example.placed) example.frames
     ≡ example.pairs
 
 -- the screen is authored for a frame, and the pairs display it at that frame
-pub record Shows (example : Example) (frame : ℕ) (screen : List (List (Option Cell))) : Type 0 where
-  pub authored : screen_of (authored_grid Cc1 example.cues frame) ≡ screen
-  pub displayed : screen_of (displayed_at example.pairs frame) ≡ screen
+pub record ShowsScreen (example : Example) (frame : ℕ) (screen : List (List (Option Cell))) : Type 0 where
+  pub authored : picture_rows (authored_grid Cc1 example.cues frame) ≡ screen
+  pub displayed : picture_rows (displayed_at example.pairs frame) ≡ screen
 
 -- a pop-on cue of a white run, ABC in row 15 from column 1 on, and a red one, OK in row 14 from column 5 on
 abbrev pub shown_cue : Cue

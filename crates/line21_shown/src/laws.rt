@@ -1,7 +1,7 @@
 //! Laws of the definitions: functions without a body, whose contract is the law.
 
 ghost use Rattle.std.specs.Prelude.{[], ◌∷◌, ◌++◌};
-ghost use Rattle.line21_shown.specs.Examples.{IsSent, Shows, shown_cue, two_colours, two_colours_screen, rolling, letter_row, empty_rows};
+ghost use Rattle.line21_shown.specs.Examples.{ArePairsSent, ShowsScreen, shown_cue, two_colours, two_colours_screen, rolling, letter_row, empty_rows};
 ghost use Rattle.line21_shown.specs.Reading.{ColumnsAreRead};
 ghost use Rattle.line21_shown.specs.Sentences.{AuthoredGridIsSaid, IsUp};
 ghost use Rattle.line21_shown.specs.Shown.{AuthoredIsSeen};
@@ -34,21 +34,21 @@ pub fn authored_grid_is_said()
 /// A pop-on caption in two colours, worked out by hand: its pairs show it from SHOW up to HIDE, as it is authored, with the
 /// lead cell of the red run.
 pub fn colours_are_seen_with_lead_cells()
-    ensures sent { IsSent two_colours }
-    ensures before { Shows two_colours 14 (empty_rows 15) }
-    ensures from { Shows two_colours 15 two_colours_screen }
-    ensures to { Shows two_colours 16 two_colours_screen }
-    ensures behind { Shows two_colours 17 (empty_rows 15) }
+    ensures sent { ArePairsSent two_colours }
+    ensures before { ShowsScreen two_colours 14 (empty_rows 15) }
+    ensures from { ShowsScreen two_colours 15 two_colours_screen }
+    ensures to { ShowsScreen two_colours 16 two_colours_screen }
+    ensures behind { ShowsScreen two_colours 17 (empty_rows 15) }
 {}
 
 /// A chain of three roll-up captions of 2 rows, worked out by hand: its pairs show the last two of the captions, each a row
 /// higher when the next is shown, as they are authored.
 pub fn rolled_up_rows_are_seen()
-    ensures sent { IsSent rolling }
-    ensures one { Shows rolling 7 (empty_rows 10 ++ letter_row 65 ∷ empty_rows 4) }
-    ensures two { Shows rolling 15 (empty_rows 9 ++ letter_row 65 ∷ letter_row 66 ∷ empty_rows 4) }
-    ensures three { Shows rolling 24 (empty_rows 9 ++ letter_row 66 ∷ letter_row 67 ∷ empty_rows 4) }
-    ensures behind { Shows rolling 25 (empty_rows 15) }
+    ensures sent { ArePairsSent rolling }
+    ensures one { ShowsScreen rolling 7 (empty_rows 10 ++ letter_row 65 ∷ empty_rows 4) }
+    ensures two { ShowsScreen rolling 15 (empty_rows 9 ++ letter_row 65 ∷ letter_row 66 ∷ empty_rows 4) }
+    ensures three { ShowsScreen rolling 24 (empty_rows 9 ++ letter_row 66 ∷ letter_row 67 ∷ empty_rows 4) }
+    ensures behind { ShowsScreen rolling 25 (empty_rows 15) }
 {}
 
 /// A cue is up from its SHOW on and before its HIDE, at frames 15 and 16 of a cue that is shown at 15 and hidden at 17: a

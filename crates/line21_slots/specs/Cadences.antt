@@ -24,10 +24,10 @@ abbrev pub cadence_of : Rate → Chan → Cadence
 cadence_of rate channel = if is_double rate then (if is_in_second_field channel then OddFrames else EvenFrames) else EveryFrame
 
 -- the frame of a slot
-abbrev pub frame_of : Cadence → ℕ → ℕ
-frame_of EveryFrame slot = slot
-frame_of EvenFrames slot = 2 * slot
-frame_of OddFrames slot = 2 * slot + 1
+abbrev pub slot_frame : Cadence → ℕ → ℕ
+slot_frame EveryFrame slot = slot
+slot_frame EvenFrames slot = 2 * slot
+slot_frame OddFrames slot = 2 * slot + 1
 
 -- the frames from one slot to the next
 abbrev pub step_of : Cadence → ℕ

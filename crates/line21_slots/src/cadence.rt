@@ -1,5 +1,5 @@
 ghost use Rattle.std.specs.Prelude.{◌≡◌, ℕ, ◌≤◌, ◌↔◌, true};
-ghost use Rattle.line21_slots.specs.Cadences.{cadence_of, frame_of, has_slot_in, is_double, slot_from, slot_step};
+ghost use Rattle.line21_slots.specs.Cadences.{cadence_of, has_slot_in, is_double, slot_frame, slot_from, slot_step};
 
 use cc_base::Rate;
 use line21_codes::Chan;
@@ -32,7 +32,7 @@ impl Cadence {
     /// Whether a slot of the field lies in a frame.
     pub fn has_slot_in(self, frame: u32) -> bool
         ensures is { result ≡ has_slot_in self frame }
-        ensures exact { (result ≡ true) ↔ ((slot : ℕ) × (frame_of self slot ≡ frame)) }
+        ensures exact { (result ≡ true) ↔ ((slot : ℕ) × (slot_frame self slot ≡ frame)) }
     {
         match self {
             Cadence::EveryFrame => true,
@@ -44,7 +44,7 @@ impl Cadence {
     /// The first slot that isn't before a frame, which is also the number of slots before it.
     pub fn slot_from(self, frame: u32) -> u32
         ensures slot { result ≡ slot_from self frame }
-        ensures first { (slot : ℕ) → (result ≤ slot) ↔ (frame ≤ frame_of self slot) }
+        ensures first { (slot : ℕ) → (result ≤ slot) ↔ (frame ≤ slot_frame self slot) }
     {
         match self {
             Cadence::EveryFrame => frame,

@@ -1,6 +1,6 @@
 -- The list of a load is accepted: it is read as a programme, or memory ran out, and what came of the programme is the summary.
 use Rattle.std.proofs.Common.{◌≡◌, ◌≢◌, ◌∙◌, ℕ, ◌≤◌, List, length, Option, Some, Result, Ok, Err, ap, refl, sym, subst, arith}
-use Rattle.command_base.specs.WholeInput.{Reads}
+use Rattle.command_base.specs.WholeInput.{ReadsInput}
 use Rattle.command_base.specs.declared.status.Status.{Status}
 use Rattle.command_base.specs.declared.status.Status.TheVariants as status
 use Rattle.cue_lists.specs.Printing.{list_bytes}
@@ -18,7 +18,7 @@ use Rattle.load_lists.proofs.RuledLemmas.{list_ruled}
 use Rattle.load_lists.proofs.WrittenLemmas.{list_written}
 use Rattle.load_rooms.proofs.LoadRoomLemmas.{list_placed}
 use Rattle.load_commands.specs.LoadOutput.{IsSummaryOf, change_count}
-use Rattle.load_commands.specs.Receiving.{AreAllWhole, AreWhole, HasTaken, IsSendable}
+use Rattle.load_commands.specs.Receiving.{AreAllWhole, AreWhole, HasReceivedColumns, IsSendable}
 use Rattle.load_commands.specs.declared.reception.Reception.{Reception}
 use Rattle.load_commands.specs.declared.summary.Summary.{Summary}
 use Rattle.load_commands.proofs.WholeLemmas.{frames_whole}
@@ -47,7 +47,7 @@ module _ (count : ℕ) (some : 1 ≤ count) (most : count ≤ most_load) where
       }
 
   -- so it isn't refused
-  pub not_refused : (new : Option (List ℕ)) (answer : Status) → Reads IsProgrammeOf IsRefused (Some (list_bytes (load_list count))) new 0 0 (Err answer)
+  pub not_refused : (new : Option (List ℕ)) (answer : Status) → ReadsInput IsProgrammeOf IsRefused (Some (list_bytes (load_list count))) new 0 0 (Err answer)
       → answer ≢ status.Memory → ⊥
   not_refused new status.Ok reads other = reads
   not_refused new status.Usage reads other = reads
@@ -72,18 +72,18 @@ module _ (count : ℕ) (some : 1 ≤ count) (most : count ≤ most_load) where
 
   done : (programme : Programme) (reception : Reception) (is : IsProgrammeOf (list_bytes (load_list count)) programme)
       → ((columns : Columns) → GivesFrom columns 0 programme.plan → AreAllWhole programme.rate columns (frames_left programme.plan)
-      → HasTaken programme.rate columns (frames_left programme.plan) reception) → IsDone is.list is.placed reception
+      → HasReceivedColumns programme.rate columns (frames_left programme.plan) reception) → IsDone is.list is.placed reception
   done programme reception is takes =
       let columns = columns_of is.list is.placed in
       let whole = subst (λ rate. AreAllWhole rate columns (frames_left programme.plan)) (sym is.rate)
       (λ first within. frames_whole is.list is.placed is.accepted.spelled.formed is.accepted.ruled is.accepted.placement first) in
-      let taken = subst (λ n. HasTaken is.list.rate columns n reception) is.frames
-      (subst (λ rate. HasTaken rate columns (frames_left programme.plan) reception) is.rate (takes columns is.gives whole)) in
+      let taken = subst (λ n. HasReceivedColumns is.list.rate columns n reception) is.frames
+      (subst (λ rate. HasReceivedColumns rate columns (frames_left programme.plan) reception) is.rate (takes columns is.gives whole)) in
       (taken.bytes, taken.changes)
 
   pub summary_is : (programme : Programme) (reception : Reception) → IsProgrammeOf (list_bytes (load_list count)) programme
       → ((columns : Columns) → GivesFrom columns 0 programme.plan → AreAllWhole programme.rate columns (frames_left programme.plan)
-      → HasTaken programme.rate columns (frames_left programme.plan) reception)
+      → HasReceivedColumns programme.rate columns (frames_left programme.plan) reception)
       → IsSummaryOf count (record { cues = count; frames = (load_list count).frames; bytes = reception.bytes; changes = reception.changes })
   summary_is programme reception is takes =
       let placed = list_placed count some most in

@@ -2,18 +2,18 @@
 use Rattle.std.proofs.Common.{◌≡◌, ◌∙◌, ℕ, zero, suc, ◌+◌, Bool, if◌then◌else◌, List, [], ◌∷◌, ◌++◌, ap, refl, sym, subst, arith, add-one, append_assoc, append-nil}
 use Rattle.cc_base.specs.declared.rate.Rate.{Rate}
 use Rattle.cdp_packets.specs.Packets.{Packet as Frame}
-use Rattle.frame_carrier.specs.Carrying.{channel_of, column_bytes, column_packets, frame_bytes, frame_packet}
+use Rattle.frame_carrier.specs.Carrying.{channel_packet_of, column_bytes, column_packets, frame_bytes, frame_packet}
 use Rattle.frame_scheduler.specs.Columns.{Columns}
 use Rattle.grid_print.specs.GridTexts.{screens_differ}
 use Rattle.grid_print.specs.Screens.{received_screens}
-use Rattle.load_commands.specs.LoadOutput.{change_count, changes_behind}
+use Rattle.load_commands.specs.LoadOutput.{change_count, change_count_behind}
 
 -- the packet of a frame
 abbrev pub packet_at : Rate → Columns → ℕ → Frame
-packet_at rate columns frame = frame_packet rate frame (columns frame) (channel_of columns frame)
+packet_at rate columns frame = frame_packet rate frame (columns frame) (channel_packet_of columns frame)
 
 abbrev pub bytes_at : Rate → Columns → ℕ → List ℕ
-bytes_at rate columns frame = frame_bytes rate frame (columns frame) (channel_of columns frame)
+bytes_at rate columns frame = frame_bytes rate frame (columns frame) (channel_packet_of columns frame)
 
 packets_from : (rate : Rate) (columns : Columns) (frame n last : ℕ) → frame + n ≡ last
     → column_packets rate columns frame (suc n) ≡ column_packets rate columns frame n ++ packet_at rate columns last ∷ []
@@ -45,7 +45,7 @@ abbrev change_of : List Frame → Frame → ℕ
 change_of before next = if screens_differ (received_screens before) (received_screens (before ++ next ∷ [])) then 1 else 0
 
 changes_from : (before frames : List Frame) (next : Frame)
-    → changes_behind before (frames ++ next ∷ []) ≡ changes_behind before frames + change_of (before ++ frames) next
+    → change_count_behind before (frames ++ next ∷ []) ≡ change_count_behind before frames + change_of (before ++ frames) next
 changes_from before [] next =
     let same : change_of before next ≡ change_of (before ++ []) next = ap (λ b. change_of b next) (sym (append-nil before)) in
     omega (arith, same)

@@ -4,7 +4,7 @@ use Rattle.cc_base.specs.declared.rate.Rate.{Rate}
 use Rattle.cc_receiver.specs.Receivers.{HasReceived, frame_count}
 use Rattle.cc_receiver.specs.declared.receiver.Receiver.{Receiver}
 use Rattle.cdp_packets.specs.Packets.{Packet as Frame}
-use Rattle.frame_carrier.specs.Carrying.{IsAt, channel_of, channel_packet, column_bytes, column_packets, frame_bytes, packet_count, packets_before}
+use Rattle.frame_carrier.specs.Carrying.{IsAt, channel_packet, channel_packet_of, column_bytes, column_packets, frame_bytes, packet_count, packets_before}
 use Rattle.frame_carrier.specs.declared.carrier.Carrier.{Carrier}
 use Rattle.frame_scheduler.specs.Columns.{Columns}
 use Rattle.frame_scheduler.specs.declared.frames.FrameBytes.{FrameBytes}
@@ -21,7 +21,7 @@ use Rattle.words_files.proofs.CaughtLemmas.{file_caught}
 use Rattle.words_files.proofs.FramesOfLemmas.{file_frames}
 use Rattle.words_commands.proofs.PrintingLemmas.{nothing_shown}
 use Rattle.load_commands.specs.LoadOutput.{change_count}
-use Rattle.load_commands.specs.Receiving.{AreWhole, HasTaken, MayTake, MayTakeFrame}
+use Rattle.load_commands.specs.Receiving.{AreWhole, HasReceivedColumns, MayTake, MayTakeFrame}
 use Rattle.load_commands.specs.declared.reception.Reception.{Reception}
 use Rattle.load_commands.proofs.CountLemmas.{bytes_at, bytes_more, changes_more, packet_at, packets_more}
 
@@ -53,7 +53,7 @@ whole_unrefused rate columns count whole =
     (whole-under (column_packets rate columns 0 count) (column_bytes rate columns 0 count) whole)).1
 
 -- the words of the next frame may be fed
-pub may_take : (rate : Rate) (columns : Columns) (count : ℕ) (frame : FrameBytes) (reception : Reception) (words : List ℕ) → HasTaken rate columns count reception
+pub may_take : (rate : Rate) (columns : Columns) (count : ℕ) (frame : FrameBytes) (reception : Reception) (words : List ℕ) → HasReceivedColumns rate columns count reception
     → frame ≡ columns count → AreWhole rate columns (count + 1) → count + 1 ≤ 1000000 → AreWords frame reception.carrier words → length words ≤ 524
     → MayTake reception.receiver words
 may_take rate columns count frame reception words taken is whole within are few = record {
@@ -68,7 +68,7 @@ may_take rate columns count frame reception words taken is whole within are few 
 }
 
 module _ (rate : Rate) (columns : Columns) (count : ℕ) (frame : FrameBytes) (old : Reception) (carrier : Carrier) (receiver : Receiver) (shown : Shown)
-    (words : List ℕ) (bytes changes : ℕ) (differs : Bool) (taken : HasTaken rate columns count old) (is : frame ≡ columns count)
+    (words : List ℕ) (bytes changes : ℕ) (differs : Bool) (taken : HasReceivedColumns rate columns count old) (is : frame ≡ columns count)
     (whole : AreWhole rate columns (count + 1)) (are : AreWords frame old.carrier words)
     (moves : (rate : Rate) (number n : ℕ) → IsAt rate number n old.carrier → IsAt rate (number + 1) (n + packet_count frame.blocks.items) carrier)
     (fed : (before : List ℕ) → HasReceived before old.receiver → HasReceived (before ++ words) receiver)
@@ -119,7 +119,7 @@ module _ (rate : Rate) (columns : Columns) (count : ℕ) (frame : FrameBytes) (o
       (ap (λ (f : FrameBytes). packets_before columns count + packet_count f.blocks.items) is ∙ ap (packets_before columns) (sym (add-one count)))
       (moves rate count (packets_before columns count) taken.carrier)
 
-  pub taken_more : HasTaken rate columns (count + 1) (record { carrier = carrier; receiver = receiver; shown = shown; bytes = bytes; changes = changes })
+  pub taken_more : HasReceivedColumns rate columns (count + 1) (record { carrier = carrier; receiver = receiver; shown = shown; bytes = bytes; changes = changes })
   taken_more = record {
     carrier = at_next;
     received = received;
@@ -134,7 +134,7 @@ module _ (rate : Rate) (columns : Columns) (count : ℕ) (frame : FrameBytes) (o
 -- nothing was taken
 pub new_taken : (rate : Rate) (columns : Columns) (carrier : Carrier) (receiver : Receiver) (shown : Shown) → IsAt rate 0 0 carrier → HasReceived [] receiver
     → (last_shown shown).grids ≡ (λ chan. empty_grid) → ((service id : ℕ) → (last_shown shown).windows service id ≡ None)
-    → HasTaken rate columns 0 (record { carrier = carrier; receiver = receiver; shown = shown; bytes = 0; changes = 0 })
+    → HasReceivedColumns rate columns 0 (record { carrier = carrier; receiver = receiver; shown = shown; bytes = 0; changes = 0 })
 new_taken rate columns carrier receiver shown at received grids windows = record {
   carrier = at;
   received = received;

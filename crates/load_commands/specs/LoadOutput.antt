@@ -11,15 +11,15 @@ use Rattle.load_commands.specs.declared.summary.Summary.{Summary}
 
 -- the number of frames at which the screens differ from those of the frame before, of frames that come behind others; before the
 -- first frame of all, every screen is empty and no window is shown
-abbrev pub changes_behind : List Frame → List Frame → ℕ
-changes_behind before [] = 0
-changes_behind before (frame ∷ frames) =
+abbrev pub change_count_behind : List Frame → List Frame → ℕ
+change_count_behind before [] = 0
+change_count_behind before (frame ∷ frames) =
     (if screens_differ (received_screens before) (received_screens (before ++ frame ∷ [])) then 1 else 0)
-    + changes_behind (before ++ frame ∷ []) frames
+    + change_count_behind (before ++ frame ∷ []) frames
 
 -- of all frames: just at these `decode` prints something
 abbrev pub change_count : List Frame → ℕ
-change_count frames = changes_behind [] frames
+change_count frames = change_count_behind [] frames
 
 -- the four lines
 abbrev pub summary_text : Summary → List ℕ

@@ -26,7 +26,7 @@ abbrev pub AreAllWhole : Rate → Columns → ℕ → Type 0
 AreAllWhole rate columns count = (first : ℕ) → first ≤ count → AreWhole rate columns first
 
 -- the first frames of columns, so many, were carried and fed, and their changes counted
-pub record HasTaken (rate : Rate) (columns : Columns) (count : ℕ) (reception : Reception) : Type 0 where
+pub record HasReceivedColumns (rate : Rate) (columns : Columns) (count : ℕ) (reception : Reception) : Type 0 where
   pub carrier : IsAt rate count (packets_before columns count) reception.carrier
   pub received : HasReceived (column_bytes rate columns 0 count) reception.receiver
   pub counted : frame_count reception.receiver ≤ 524 * count
@@ -48,7 +48,7 @@ pub record MayTakeFrame (reception : Reception) (frame : FrameBytes) : Type 0 wh
   pub rate : Rate
   pub columns : Columns
   pub count : ℕ
-  pub taken : HasTaken rate columns count reception
+  pub taken : HasReceivedColumns rate columns count reception
   pub next : frame ≡ columns count
   pub whole : AreWhole rate columns (count + 1)
   pub within : count + 1 ≤ most_frames

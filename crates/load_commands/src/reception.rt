@@ -3,7 +3,7 @@ ghost use Rattle.cc_base.specs.declared.rate.Rate.{Rate as OfRate};
 ghost use Rattle.cc_receiver.specs.Receivers.{HasReceived, frame_count};
 ghost use Rattle.frame_scheduler.specs.Columns.{Columns};
 ghost use Rattle.frame_scheduler.specs.Frames.{GivesFrom, frames_left};
-ghost use Rattle.load_commands.specs.Receiving.{AreAllWhole, AreWhole, HasTaken, IsSendable, MayTake, MayTakeFrame};
+ghost use Rattle.load_commands.specs.Receiving.{AreAllWhole, AreWhole, HasReceivedColumns, IsSendable, MayTake, MayTakeFrame};
 
 use arrayvec::ArrayVec;
 use cc_base::Rate;
@@ -29,7 +29,7 @@ pub(crate) struct Reception {
 impl Reception {
     /// A receiver that was fed nothing, of a programme of this rate. All memory that it takes is taken here.
     fn new(alloc: Global, rate: Rate) -> Result<Reception, AllocError>
-        ensures { (columns : Columns) → IfOk result (HasTaken rate columns 0) }
+        ensures { (columns : Columns) → IfOk result (HasReceivedColumns rate columns 0) }
     {
         Ok(Reception {
             carrier: Carrier::new(rate),
@@ -43,8 +43,8 @@ impl Reception {
     /// Carries the next frame, and feeds its words.
     fn take(&mut self, frame: &FrameBytes)
         requires { MayTakeFrame self.now frame.now }
-        ensures { (rate : OfRate) (columns : Columns) (count : ℕ) → HasTaken rate columns count self.old → frame.now ≡ columns count
-            → AreWhole rate columns (count + 1) → HasTaken rate columns (count + 1) self.new }
+        ensures { (rate : OfRate) (columns : Columns) (count : ℕ) → HasReceivedColumns rate columns count self.old → frame.now ≡ columns count
+            → AreWhole rate columns (count + 1) → HasReceivedColumns rate columns (count + 1) self.new }
     {
         let mut words = ArrayVec::new();
         self.carrier.put_words(frame, &mut words);
@@ -74,7 +74,7 @@ impl Reception {
 pub(crate) fn receive(alloc: Global, programme: Programme) -> Result<Reception, AllocError>
     requires { IsSendable programme }
     ensures { (columns : Columns) → GivesFrom columns 0 programme.plan → AreAllWhole programme.rate columns (frames_left programme.plan)
-        → IfOk result (HasTaken programme.rate columns (frames_left programme.plan)) }
+        → IfOk result (HasReceivedColumns programme.rate columns (frames_left programme.plan)) }
 {
     let mut reception = Reception::new(alloc, programme.rate)?;
     let mut plan = programme.plan;

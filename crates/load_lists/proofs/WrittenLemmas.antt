@@ -12,9 +12,9 @@ use Rattle.csv.specs.declared.writer.QuoteStyle.TheVariants.{Necessary}
 use Rattle.cue_types.specs.declared.head.Version.TheVariants.{Two}
 use Rattle.cue_form.specs.Records.{Field, Record, list_limit}
 use Rattle.cue_form.specs.Spelling.{cue_records}
-use Rattle.cue_print.specs.Printing.{bytes_of, flexible_writer, in_order, list_bytes}
+use Rattle.cue_print.specs.Printing.{flexible_writer, in_order, list_bytes, record_bytes}
 use Rattle.cue_print.proofs.PrintedFacts.{records_of-bytes}
-use Rattle.load_lists.specs.LoadLaws.{IsWritten}
+use Rattle.load_lists.specs.LoadLaws.{IsListWritten}
 use Rattle.load_lists.specs.LoadList.{letter, load_cue, load_kind, load_list, load_run, load_text, most_load}
 use Rattle.load_lists.proofs.FormedLemmas.{list_formed, of_letters}
 
@@ -80,12 +80,12 @@ record_most record_ is = at (is_blank flexible_writer record_)
         let both = length-append (row_body flexible_writer record_) (10 ∷ []) in
         omega (arith, most, both)
 
-records_most : (records : List Record) → AllByRecursion IsShortRecord records → length (bytes_of records) ≤ 2450 * length records
+records_most : (records : List Record) → AllByRecursion IsShortRecord records → length (record_bytes records) ≤ 2450 * length records
 records_most [] short = omega arith
 records_most (record_ ∷ rest) short =
     let here = record_most record_ short.0 in
     let more = records_most rest short.1 in
-    let both = length-append (row_text flexible_writer record_) (bytes_of rest) in
+    let both = length-append (row_text flexible_writer record_) (record_bytes rest) in
     omega (arith, here, more, both)
 
 -- the digits of a number below 10,000,000,000
@@ -141,7 +141,7 @@ turn_count k zero = refl
 turn_count k (suc zero) = refl
 turn_count k (suc (suc turn)) = refl
 
-cues_most : (a n : ℕ) → a + n ≤ most_load → length (bytes_of (flat_map cue_records (map load_cue (range_with_len a n)))) ≤ 4900 * n
+cues_most : (a n : ℕ) → a + n ≤ most_load → length (record_bytes (flat_map cue_records (map load_cue (range_with_len a n)))) ≤ 4900 * n
 cues_most a zero within = omega arith
 cues_most a (suc n) within =
     let rest = flat_map cue_records (map load_cue (range_with_len (a + 1) n)) in
@@ -149,7 +149,7 @@ cues_most a (suc n) within =
     let count = turn_count a (a % 3) in
     let more = cues_most (a + 1) n (omega arith) in
     let split = ap length (flat_map-append (row_text flexible_writer) (cue_records (load_cue a)) rest) in
-    let both = length-append (bytes_of (cue_records (load_cue a))) (bytes_of rest) in
+    let both = length-append (record_bytes (cue_records (load_cue a))) (record_bytes rest) in
     omega (arith, here, count, more, split, both)
 
 -- the head and the share
@@ -169,10 +169,10 @@ bytes_most count most =
     let first = records_most (first_records count) (first_short count most) in
     let rest = cues_most 0 count (omega arith) in
     let split = ap length (flat_map-append (row_text flexible_writer) (first_records count) cues) in
-    let both = length-append (bytes_of (first_records count)) (bytes_of cues) in
+    let both = length-append (record_bytes (first_records count)) (record_bytes cues) in
     omega (arith, first, rest, split, both)
 
-pub list_written : (count : ℕ) → 1 ≤ count → count ≤ most_load → IsWritten (load_list count)
+pub list_written : (count : ℕ) → 1 ≤ count → count ≤ most_load → IsListWritten (load_list count)
 list_written count some most = record {
   within = bytes_most count most;
   spelled = record {

@@ -1,7 +1,7 @@
 -- What holds of the list of every load.
 use Rattle.std.specs.Prelude.{ℕ, ◌≤◌, length}
 use Rattle.cue_form.specs.Records.{list_limit, records_of}
-use Rattle.cue_form.specs.Spelling.{Spells}
+use Rattle.cue_form.specs.Spelling.{SpellsList}
 use Rattle.cue_print.specs.Printing.{list_bytes}
 use Rattle.cue_types.specs.Listing.{IsFormed, Listing}
 use Rattle.cue_rules.specs.Rules.{IsRuled}
@@ -16,10 +16,10 @@ abbrev pub LoadsAreRuled : Type 0
 LoadsAreRuled = (count : ℕ) → IsRuled (load_list count)
 
 -- what is written of a list is within the limit of a list's bytes, and spells it
-pub record IsWritten (list : Listing) : Type 0 where
+pub record IsListWritten (list : Listing) : Type 0 where
   pub within : length (list_bytes list) ≤ list_limit
-  pub spelled : Spells (records_of (list_bytes list)) list
+  pub spelled : SpellsList (records_of (list_bytes list)) list
 
 -- so is what is written of the list of a load
 abbrev pub LoadsAreWritten : Type 0
-LoadsAreWritten = (count : ℕ) → 1 ≤ count → count ≤ most_load → IsWritten (load_list count)
+LoadsAreWritten = (count : ℕ) → 1 ≤ count → count ≤ most_load → IsListWritten (load_list count)

@@ -8,7 +8,7 @@ use Rattle.line21_codes.specs.Channels.{is_in_second_field}
 use Rattle.line21_codes.specs.declared.channels.Chan.{Chan}
 use Rattle.line21_slots.specs.declared.cadence.Cadence.TheVariants.{EveryFrame}
 use Rattle.line21_author.specs.Channels.{cues_on, is_on}
-use Rattle.line21_author.specs.CueEvents.{channel_events, events_of, hide_events, is_replaced_at, show_events}
+use Rattle.line21_author.specs.CueEvents.{channel_events, cue_events, hide_events, is_replaced_at, show_events}
 use Rattle.line21_author.specs.CueSlots.{timed_in_slots}
 use Rattle.line21_author.specs.CueUnits.{units_of}
 use Rattle.line21_author.specs.declared.event.Event.{Event}
@@ -55,10 +55,10 @@ hide_beat second_field (Some hide) later beat = at (is_replaced_at hide later) r
     at true is = rw is tt
     at false is = rw is (beat, tt)
 
-events_beat : (second_field : Bool) (cues : List Cue) → AllByRecursion IsOnBeat cues → AreOnBeat (events_of second_field cues)
+events_beat : (second_field : Bool) (cues : List Cue) → AllByRecursion IsOnBeat cues → AreOnBeat (cue_events second_field cues)
 events_beat second_field [] beat = tt
 events_beat second_field (cue ∷ later) beat =
-    beat_append (show_events second_field cue ++ hide_events second_field cue.hide later) (events_of second_field later)
+    beat_append (show_events second_field cue ++ hide_events second_field cue.hide later) (cue_events second_field later)
     (beat_append (show_events second_field cue) (hide_events second_field cue.hide later) (show_beat second_field cue beat.0.show)
     (hide_beat second_field cue.hide later beat.0.hide))
     (events_beat second_field later beat.1)

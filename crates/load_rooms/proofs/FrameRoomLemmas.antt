@@ -5,7 +5,7 @@ use Rattle.std.specs.List.{AllByRecursion}
 use Rattle.std.proofs.lemmas.Bool.Decides.{nat_tests}
 use Rattle.std.proofs.lemmas.List.Sums.{sum_by-cons}
 use Rattle.placements.specs.Placing.{IsPlaced}
-use Rattle.service_lanes.specs.ServiceLane.{AreUpTo, bytes_between, is_between, service_lane, size_of, used}
+use Rattle.service_lanes.specs.ServiceLane.{AreUpTo, bytes_between, chunk_size, is_between, service_lane, used}
 use Rattle.service_lanes.specs.declared.chunk.Chunk.{Chunk}
 
 -- all stand before a frame
@@ -40,7 +40,7 @@ none_used frame end (each ∷ placed) before =
 pub record IsWithin (low high : ℕ) (chunk : Chunk) : Type 0 where
   pub load : chunk.load ≤ low
   pub until : high ≤ chunk.until
-  pub size : size_of chunk ≤ 7
+  pub size : chunk_size chunk ≤ 7
 
 -- no delay is on in a frame
 abbrev pub IsUndelayed : (ℕ → Option ℕ) → ℕ → Type 0

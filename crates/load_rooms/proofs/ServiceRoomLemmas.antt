@@ -5,8 +5,8 @@ use Rattle.std.specs.List.{AllByRecursion, cons_option, range_with_len}
 use Rattle.std.proofs.lemmas.List.{length-map}
 use Rattle.cc_base.specs.declared.rate.Rate.TheVariants.{F2997}
 use Rattle.cue_lists.specs.declared.cue.Cue.{Cue}
-use Rattle.dtvcc_author.specs.Captions.{caption_with, captions_of, window_caption}
-use Rattle.dtvcc_author.specs.CueUnits.{units_of}
+use Rattle.dtvcc_author.specs.Captions.{caption_with, service_captions, window_caption}
+use Rattle.dtvcc_author.specs.CueUnits.{window_cue_units}
 use Rattle.dtvcc_author.specs.FrameEvents.{delay_end}
 use Rattle.dtvcc_author.specs.declared.caption.Caption.{Caption}
 use Rattle.dtvcc_author.proofs.LatestLemmas.{all_has}
@@ -39,9 +39,9 @@ beat_more service k (suc zero) cs beat = at (1 == service) refl
     at false is = rw is beat
 beat_more service k (suc (suc turn)) cs beat = beat
 
-on_beat : (service a n : ℕ) → AllByRecursion IsOnBeat (captions_of F2997 service (cues a n))
+on_beat : (service a n : ℕ) → AllByRecursion IsOnBeat (service_captions F2997 service (cues a n))
 on_beat service a zero = tt
-on_beat service a (suc n) = beat_more service a (a % 3) (captions_of F2997 service (cues (a + 1) n)) (on_beat service (a + 1) n)
+on_beat service a (suc n) = beat_more service a (a % 3) (service_captions F2997 service (cues (a + 1) n)) (on_beat service (a + 1) n)
 
 -- no delay is on in the first 30 frames behind a multiple of 90
 beat_undelayed : (cs : List Caption) (frame : ℕ) → AllByRecursion IsOnBeat cs → frame % 90 < 30 → IsUndelayed (delay_end cs) frame
@@ -77,7 +77,7 @@ module _ (cs : List Caption) (beat : AllByRecursion IsOnBeat cs) where
       → HasFrames before (cue_chunks F2997 1 number (turned a turn) ++ later)
   cue_placed number a zero later before behind rest = rest before (before_later (90 * a) (90 * (a + 1)) before (omega arith) behind)
   cue_placed number a (suc zero) later before behind rest =
-      let units = units_of (turned a 1) in
+      let units = window_cue_units (turned a 1) in
       let count = window_units_count a in
       let same = length-map units (chunk_of number (window_caption F2997 (load_window a) (turned a 1))) in
       one_each (frame_room 31 cs) (delay_end cs) (90 * a) (90 * a + 30) (90 * a) (cue_chunks F2997 1 number (turned a 1)) later before behind (omega arith)

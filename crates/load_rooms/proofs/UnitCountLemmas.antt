@@ -92,7 +92,7 @@ letter_small n =
     le_of (length (unwrap_or (dtv_spelling_of (letter n)) [])) 7
     (at_each (λ m. nat_le (length (unwrap_or (dtv_spelling_of (65 + m)) [])) 7) 26 letters_small (n % 26) (omega arith))
 
-pub window_units_count : (k : ℕ) → length (window.units_of (turned k 1)) ≡ 23
+pub window_units_count : (k : ℕ) → length (window.window_cue_units (turned k 1)) ≡ 23
 window_units_count k = refl
 
 -- units of at most seven bytes
@@ -116,10 +116,10 @@ unfolding written
 pen_small pen = omega arith
 
 window_small : (k : ℕ) (text : List ℕ) → AllByRecursion (λ ch. length (written (Put (Some ch))) ≤ 7) text
-    → AreSmall (window.units_of (captioned k (Win (load_window k)) (window_run text)))
+    → AreSmall (window.window_cue_units (captioned k (Win (load_window k)) (window_run text)))
 window_small k text small = (first_small (definition_of (load_window k)), (place_small, (pen_small _, characters_small text small)))
 
-pub window_units_small : (k : ℕ) → AllByRecursion (λ (unit : List ℕ). length unit ≤ 7) (window.units_of (turned k 1))
+pub window_units_small : (k : ℕ) → AllByRecursion (λ (unit : List ℕ). length unit ≤ 7) (window.window_cue_units (turned k 1))
 window_units_small k =
     window_small k (load_text k)
     (recursion_from_All (λ ch. length (written (Put (Some ch))) ≤ 7) (load_text k) (of_letters (λ ch. length (written (Put (Some ch))) ≤ 7) letter_small k))

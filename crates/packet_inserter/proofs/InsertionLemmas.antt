@@ -9,7 +9,7 @@ use Rattle.cc_data.proofs.TripletLemmas.{length-all_written}
 use Rattle.cdp_packets.specs.Packets.{Packet}
 use Rattle.cdp_packets.specs.Sections.{AreSections, IsSection}
 use Rattle.cdp_packets.specs.Written.{cc_data_section}
-use Rattle.packet_inserter.specs.Insertion.{IsInserted, IsPlace, is_kept, is_time_code, packet_length}
+use Rattle.packet_inserter.specs.Insertion.{IsInserted, IsPlace, is_kept, is_time_code_section, packet_length}
 use Rattle.packet_inserter.specs.Walks.{StandsBehindTimeCodes}
 
 -- sections that are all kept
@@ -20,7 +20,7 @@ filter-all (section ∷ sections) all =
     ∙ ap (λ s. section ∷ s) (filter-all sections (All-tail (λ s. is_kept s ≡ true) section sections all))
 
 -- a time code is kept
-pub time_code-kept : (section : List ℕ) → is_time_code section ≡ true → is_kept section ≡ true
+pub time_code-kept : (section : List ℕ) → is_time_code_section section ≡ true → is_kept section ≡ true
 time_code-kept [] is = refl
 time_code-kept (id ∷ rest) is = grind arith
 
@@ -42,7 +42,7 @@ split_at_place cut before (inr (inl stand)) = record {
 }
 split_at_place cut before (inr (inr are)) = record {
   behind = [];
-  kept = filter-all cut (All-weaker (λ s. is_time_code s ≡ true) (λ s. is_kept s ≡ true) time_code-kept cut are.time_codes) ∙ sym are.all ∙ sym (append-nil before);
+  kept = filter-all cut (All-weaker (λ s. is_time_code_section s ≡ true) (λ s. is_kept s ≡ true) time_code-kept cut are.time_codes) ∙ sym are.all ∙ sym (append-nil before);
 }
 
 -- sections that are kept are sections, and so are the parts of a list of sections

@@ -8,7 +8,7 @@ use Rattle.cdp_packets.specs.Packets.{Packet}
 use Rattle.cdp_packets.specs.PacketTriplets.{packet_triplets, section_triplets}
 use Rattle.cdp_packets.specs.Written.{cc_data_section}
 use Rattle.cdp_packets.proofs.SectionLemmas.{cc_data_section-triplets}
-use Rattle.packet_inserter.specs.Insertion.{AreTimeCodes, IsInserted, IsPlace, IsPutAmong, StandBeforeCaptions, StandBeforeOthers, is_kept, is_time_code}
+use Rattle.packet_inserter.specs.Insertion.{AreTimeCodes, IsInserted, IsPlace, IsPutAmong, StandBeforeCaptions, StandBeforeOthers, is_kept, is_time_code_section}
 use Rattle.packet_inserter.proofs.InsertionLemmas.{time_code-kept}
 
 -- where lists begin with elements that pass a test, up to the first that doesn't, they begin alike
@@ -51,12 +51,12 @@ one_place cut before other (inl this) (inl that) =
 one_place cut before other (inl this) (inr that) = absurd (apart cut before other this that)
 one_place cut before other (inr this) (inl that) = absurd (apart cut other before that this)
 one_place cut before other (inr (inl this)) (inr (inl that)) =
-    (same_front is_time_code before other this.behind that.behind this.first that.first this.time_codes that.time_codes
+    (same_front is_time_code_section before other this.behind that.behind this.first that.first this.time_codes that.time_codes
     this.is_first that.is_first (sym this.cut ∙ that.cut)).fronts
 one_place cut before other (inr (inl this)) (inr (inr that)) =
-    absurd (not_all is_time_code before this.behind this.first this.is_first (subst (All (λ s. is_time_code s ≡ true)) this.cut that.time_codes))
+    absurd (not_all is_time_code_section before this.behind this.first this.is_first (subst (All (λ s. is_time_code_section s ≡ true)) this.cut that.time_codes))
 one_place cut before other (inr (inr this)) (inr (inl that)) =
-    absurd (not_all is_time_code other that.behind that.first that.is_first (subst (All (λ s. is_time_code s ≡ true)) that.cut this.time_codes))
+    absurd (not_all is_time_code_section other that.behind that.first that.is_first (subst (All (λ s. is_time_code_section s ≡ true)) that.cut this.time_codes))
 one_place cut before other (inr (inr this)) (inr (inr that)) = this.all ∙ sym that.all
 
 -- behind one front stands one list

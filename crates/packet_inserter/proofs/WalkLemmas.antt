@@ -4,7 +4,7 @@ use Rattle.std.proofs.lemmas.List.Elements.{All-append, All-cons, All-nil, filte
 use Rattle.std.proofs.lemmas.List.Folds.{concat-append}
 use Rattle.std.specs.List.{concat}
 use Rattle.cdp_packets.specs.Sections.{AreSections, IsSection}
-use Rattle.packet_inserter.specs.Insertion.{StandBeforeCaptions, is_captions, is_kept, is_time_code}
+use Rattle.packet_inserter.specs.Insertion.{StandBeforeCaptions, is_captions, is_kept, is_time_code_section}
 use Rattle.packet_inserter.specs.Walks.{StandsBehindTimeCodes}
 
 -- the sections are those walked, and those left, whose bytes are the rest
@@ -149,8 +149,8 @@ all_passed test cut rest place have none =
     subst (All (λ section. test section ≡ true)) (sym (all_walked cut rest have.walk none)) have.passed
 
 -- behind the time codes stands another section, or none
-pub behind_time_codes : (cut : List (List ℕ)) (rest section behind : List ℕ) (place : ℕ) → HavePassed is_time_code cut rest place
-    → IsSection section → rest ≡ section ++ behind → is_time_code section ≡ false → StandsBehindTimeCodes cut place
+pub behind_time_codes : (cut : List (List ℕ)) (rest section behind : List ℕ) (place : ℕ) → HavePassed is_time_code_section cut rest place
+    → IsSection section → rest ≡ section ++ behind → is_time_code_section section ≡ false → StandsBehindTimeCodes cut place
 behind_time_codes cut rest section behind place have is spelled other =
     let next = next_walked cut rest section behind have.walk is spelled in
     record {
@@ -162,7 +162,7 @@ behind_time_codes cut rest section behind place have is spelled other =
       long = have.long;
     }
 
-pub all_time_codes : (cut : List (List ℕ)) (rest : List ℕ) (place : ℕ) → HavePassed is_time_code cut rest place
+pub all_time_codes : (cut : List (List ℕ)) (rest : List ℕ) (place : ℕ) → HavePassed is_time_code_section cut rest place
     → ((section behind : List ℕ) → IsSection section → rest ≡ section ++ behind → ⊥) → StandsBehindTimeCodes cut place
 all_time_codes cut rest place have none = record {
   before = have.walk.done;

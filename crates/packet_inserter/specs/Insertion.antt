@@ -13,9 +13,9 @@ is_captions (id ∷ rest) = id == 0x72
 is_captions [] = false
 
 -- it is a time code
-abbrev pub is_time_code : List ℕ → Bool
-is_time_code (id ∷ rest) = id == 0x71
-is_time_code [] = false
+abbrev pub is_time_code_section : List ℕ → Bool
+is_time_code_section (id ∷ rest) = id == 0x71
+is_time_code_section [] = false
 
 -- it is neither removed nor new
 abbrev pub is_kept : List ℕ → Bool
@@ -32,15 +32,15 @@ pub record StandBeforeCaptions (sections before : List (List ℕ)) : Type 0 wher
 -- none is one of cc_data, and these stand before the first one that isn't a time code
 pub record StandBeforeOthers (sections before : List (List ℕ)) : Type 0 where
   pub none : All (λ section. is_kept section ≡ true) sections
-  pub time_codes : All (λ section. is_time_code section ≡ true) before
+  pub time_codes : All (λ section. is_time_code_section section ≡ true) before
   pub first : List ℕ
   pub behind : List (List ℕ)
   pub cut : sections ≡ before ++ first ∷ behind
-  pub is_first : is_time_code first ≡ false
+  pub is_first : is_time_code_section first ≡ false
 
 -- all are time codes, and these are all of them
 pub record AreTimeCodes (sections before : List (List ℕ)) : Type 0 where
-  pub time_codes : All (λ section. is_time_code section ≡ true) sections
+  pub time_codes : All (λ section. is_time_code_section section ≡ true) sections
   pub all : before ≡ sections
 
 -- the new section's place is behind these sections

@@ -1,13 +1,13 @@
 -- How far the sections of a packet were walked.
 use Rattle.std.specs.Prelude.{◌≡◌, ℕ, ◌++◌, ◌∷◌, [], ◌⊎◌, List, length, true, false}
 use Rattle.std.specs.List.{All, concat}
-use Rattle.packet_inserter.specs.Insertion.{is_time_code}
+use Rattle.packet_inserter.specs.Insertion.{is_time_code_section}
 
 -- the bytes are those of the time codes with which the sections begin: behind them stands another section, or none
 pub record StandsBehindTimeCodes (sections : List (List ℕ)) (place : ℕ) : Type 0 where
   pub before : List (List ℕ)
   pub behind : List (List ℕ)
   pub cut : sections ≡ before ++ behind
-  pub time_codes : All (λ section. is_time_code section ≡ true) before
-  pub ends : (behind ≡ []) ⊎ ((first : List ℕ) × (others : List (List ℕ)) × (behind ≡ first ∷ others) × (is_time_code first ≡ false))
+  pub time_codes : All (λ section. is_time_code_section section ≡ true) before
+  pub ends : (behind ≡ []) ⊎ ((first : List ℕ) × (others : List (List ℕ)) × (behind ≡ first ∷ others) × (is_time_code_section first ≡ false))
   pub long : place ≡ length (concat before)

@@ -1,7 +1,7 @@
 ghost use Rattle.std.specs.Prelude.{◌≡◌, ◌≤◌, ◌+◌, ℕ, ◌++◌, List, length, filter, true, IfNone, IfSome};
 ghost use Rattle.std.specs.List.{All, concat};
 ghost use Rattle.cdp_packets.specs.Sections.{AreSections, IsSectionList};
-ghost use Rattle.packet_inserter.specs.Insertion.{IsPlace, StandBeforeCaptions, is_captions, is_kept, is_time_code};
+ghost use Rattle.packet_inserter.specs.Insertion.{IsPlace, StandBeforeCaptions, is_captions, is_kept, is_time_code_section};
 ghost use Rattle.packet_inserter.specs.Walks.{StandsBehindTimeCodes};
 
 use arrayvec::ArrayVec;
@@ -21,7 +21,7 @@ fn is_captions(section: &[u8]) -> bool
 
 /// Whether a section is a time code.
 fn is_time_code(section: &[u8]) -> bool
-    ensures { result ≡ is_time_code section.now }
+    ensures { result ≡ is_time_code_section section.now }
 {
     section.first() == Some(&TIME_CODE)
 }

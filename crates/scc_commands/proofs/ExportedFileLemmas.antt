@@ -2,14 +2,14 @@
 use Rattle.std.proofs.Common.{◌≡◌, ◌+◌, ◌%◌, ◌<◌, ◌≤◌, ◌++◌, ◌==◌, arith, length, map, refl, suc, subst, ℕ, Bool, List, [], ◌∷◌, false, true}
 use Rattle.std.specs.Prelude.{◌&&◌}
 use Rattle.std.specs.List.{AllByRecursion, concat, flat_map}
-use Rattle.anc_words.specs.Packets.{Packet, user_bytes}
+use Rattle.anc_words.specs.Packets.{AncillaryPacket, user_bytes}
 use Rattle.cc_data.specs.Triplets.{triplets_of}
 use Rattle.cc_data.specs.declared.triplet.Triplet.{Triplet}
 use Rattle.cdp_packets.specs.PacketTriplets.{packet_triplets, section_triplets}
 use Rattle.cdp_packets.specs.Packets.{IsCdp, Packet as Frame}
 use Rattle.line21_codes.specs.declared.pairs.Pair.{Pair}
 use Rattle.scc_files.specs.SccFiles.{IsSccFile}
-use Rattle.scc_files.specs.Written.{AreWritable, counted, shown}
+use Rattle.scc_files.specs.Written.{AreWritable, counted, pairs_not_null}
 use Rattle.time_codes.specs.Frames.{frame_number}
 use Rattle.time_codes.specs.declared.time_code.TimeCode.{TimeCode}
 use Rattle.words_files.specs.Frames.{CarryFrames, IsFileOf}
@@ -65,7 +65,7 @@ sections_are frame bytes cdp are =
 abbrev HaveBytes : List Frame → Type 0
 HaveBytes = AllByRecursion (λ (frame : Frame). AllByRecursion AreBytes frame.sections)
 
-carried_bytes : (packets : List Packet) (frames : List Frame) → CarryFrames packets frames → HaveBytes frames
+carried_bytes : (packets : List AncillaryPacket) (frames : List Frame) → CarryFrames packets frames → HaveBytes frames
 carried_bytes _ _ CarryFrames.none = tt
 carried_bytes _ _ (CarryFrames.caption packet packets frame frames captions cdp more) =
     (sections_are frame (user_bytes packet) cdp (low_bytes packet.user), carried_bytes packets frames more)
@@ -122,7 +122,7 @@ exported_writable time number (frame ∷ frames) (are, have) (one, none) within 
     (λ rest. exported_writable time (suc number) frames have none rest)
 
 pub exported_is_file : (time : TimeCode) (frames : List Frame) (bytes : List ℕ) → IsFileOf frames bytes → AreExported time frames
-    → IsSccFile (counted (shown (exported frames))) (export_file time frames)
+    → IsSccFile (counted (pairs_not_null (exported frames))) (export_file time frames)
 exported_is_file time frames bytes file good =
     written_is_file (exported frames) (frame_number time) time.drop_frame
     (exported_writable time 0 frames (carried_bytes file.packets frames file.carried) good.no_finding good.within_day)

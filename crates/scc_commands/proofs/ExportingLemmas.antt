@@ -22,13 +22,13 @@ use Rattle.words_commands.specs.WordsReading.{HasRead, Receives}
 use Rattle.words_commands.proofs.PieceLemmas.{front_size, front_spelled}
 use Rattle.words_commands.proofs.WayLemmas.{way_flushed, way_unwritten}
 use Rattle.scc_commands.specs.Export.{export_front}
-use Rattle.scc_commands.specs.ExportSteps.{Begins, GathersBefore, HasJudged, HasPut, HasStopped, StopsBy, StopsFor, WritesFrame}
+use Rattle.scc_commands.specs.ExportSteps.{BeginsExport, GathersBefore, HasJudged, HasPut, HasStopped, StopsBy, StopsFor, WritesFrame}
 use Rattle.scc_commands.specs.declared.exporting.Exporting.{Exporting}
 use Rattle.scc_commands.specs.declared.exporting.Stop.{Stop}
 use Rattle.scc_commands.specs.declared.exporting.Stop.TheVariants as stop
 
 -- an export that judged nothing, and whose first lines were put
-pub judged_nothing : (time : TimeCode) (start now : Option (List ℕ)) (export : Exporting) → Begins time export → Appends start now head_text
+pub judged_nothing : (time : TimeCode) (start now : Option (List ℕ)) (export : Exporting) → BeginsExport time export → Appends start now head_text
     → HasPut time start now [] export
 judged_nothing time start now export begun appended =
     let count = counted_nothing export.receiver begun.received in

@@ -23,7 +23,7 @@ use Rattle.scc_files.specs.SccFiles.{AreBytes, AreRising}
 use Rattle.scc_files.specs.declared.fault.SccFault.{SccFault}
 use Rattle.scc_files.specs.declared.fault.SccFault.TheVariants as fault
 use Rattle.command_base.proofs.WholeInputLemmas.{AreRefusals}
-use Rattle.command_base.specs.WholeInput.{Judges, whole_limit}
+use Rattle.command_base.specs.WholeInput.{JudgesInput, whole_limit}
 use Rattle.command_base.specs.declared.status.Status.{Status}
 use Rattle.command_base.specs.declared.status.Status.TheVariants as status
 use Rattle.scc_commands.specs.Cursors.{Passes}
@@ -173,7 +173,7 @@ import_refusals bytes _ refused = tt
 
 -- a file that isn't read is refused so
 pub fault_refused : (bytes : List ℕ) (f : SccFault) → length bytes ≤ whole_limit → FileAnswers bytes (Err f)
-    → Judges IsImport IsRefusedImport bytes (Err (fault_status f))
+    → JudgesInput IsImport IsRefusedImport bytes (Err (fault_status f))
 fault_refused bytes (fault.Memory error) within answers = tt
 fault_refused bytes (fault.Limit limit.Bytes) within answers = absurd answers
 fault_refused bytes (fault.Limit limit.Frames) within (pairs, file, many) = record { within = within; pairs = pairs; file = file; many = many }
@@ -183,7 +183,7 @@ fault_refused bytes (fault.Limit limit.Day) within answers = absurd answers
 fault_refused bytes (fault.Malformed refusal) within answers = (within, answers.0)
 
 -- one that is read stands at frames of the day in order
-pub placed_read : (bytes : List ℕ) (r : Result Placed Status) → Judges IsImport IsRefusedImport bytes r → IfOk r ArePlaced
+pub placed_read : (bytes : List ℕ) (r : Result Placed Status) → JudgesInput IsImport IsRefusedImport bytes r → IfOk r ArePlaced
 placed_read bytes (Ok pairs) is = record { rising = file_rises pairs bytes is.file; few = is.few }
 placed_read bytes (Err s) is = tt
 

@@ -6,8 +6,8 @@ use Rattle.scc_commands.specs.Import.{Placed, pair_at}
 use Rattle.scc_commands.specs.declared.cursor.Cursor.{Cursor}
 
 -- the pairs of the frames that a cursor has not passed
-abbrev pub left_of : Cursor → Placed
-left_of cursor = cursor.left.now
+abbrev pub pairs_left : Cursor → Placed
+pairs_left cursor = cursor.left.now
 
 -- a frame is passed: its pair is given, and the pairs of later frames are left
 pub record Passes (frame : ℕ) (old new : Placed) (pair : Pair) : Type 0 where

@@ -24,12 +24,12 @@ use Rattle.scc_commands.specs.declared.exporting.Stop.{Stop}
 use Rattle.scc_commands.specs.declared.exporting.Stop.TheVariants as stop
 
 -- what is found at a frame, if anything is
-abbrev pub Finds : Frame → Option Kind45 → Type 0
-Finds frame None = HasNoFinding frame
-Finds frame (Some found) = HasFinding frame found
+abbrev pub FindsInExport : Frame → Option Kind45 → Type 0
+FindsInExport frame None = HasNoFinding frame
+FindsInExport frame (Some found) = HasFinding frame found
 
 -- an export before all bytes
-pub record Begins (time : TimeCode) (export : Exporting) : Type 0 where
+pub record BeginsExport (time : TimeCode) (export : Exporting) : Type 0 where
   pub received : HasReceived [] export.receiver
   pub writer : standing_of export.writer ≡ first_standing time
   pub none_held : held_of export.text ≡ []
@@ -75,14 +75,14 @@ pub record HasStopped (time : TimeCode) (start now : Option (List ℕ)) (bytes h
   pub way : GathersBefore why start now held (export_front time frames)
 
 -- the pair of a frame was written behind those before, or the export stopped at the frame
-pub record IsWritten (time : TimeCode) (frames : List Frame) (last : Frame) (export : Exporting) : Type 0 where
+pub record HasWrittenFrame (time : TimeCode) (frames : List Frame) (last : Frame) (export : Exporting) : Type 0 where
   pub no_finding : HasNoFinding last
   pub are_exported : AreExported time frames → AreExported time (frames ++ last ∷ [])
   pub writer : standing_of export.writer ≡ stand_after (first_standing time) (exported (frames ++ last ∷ []))
 
 abbrev pub WritesFrame : TimeCode → Option (List ℕ) → Option (List ℕ) → List Frame → Frame → Exporting → Result (Unit {0}) Stop → Type 0
 WritesFrame time start now frames last export (Ok done) =
-    IsWritten time frames last export × IsGathered start now (held_of export.text) (export_front time (frames ++ last ∷ []))
+    HasWrittenFrame time frames last export × IsGathered start now (held_of export.text) (export_front time (frames ++ last ∷ []))
 WritesFrame time start now frames last export (Err (stop.Refused refusal)) = ⊥
 WritesFrame time start now frames last export (Err stop.Unwritten) =
     (AreExported time frames → AreExported time (frames ++ last ∷ [])) × Puts start now put.Failed (export_front time (frames ++ last ∷ []))

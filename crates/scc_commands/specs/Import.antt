@@ -15,7 +15,7 @@ use Rattle.scc_files.specs.Offences.{IsFirstOffence}
 use Rattle.scc_files.specs.Reading.{frames_of}
 use Rattle.scc_files.specs.SccFiles.{IsSccFile}
 use Rattle.command_base.specs.Ends.{Ends}
-use Rattle.command_base.specs.WholeInput.{Reads, WholeAnswer, whole_limit}
+use Rattle.command_base.specs.WholeInput.{ReadsInput, WholeAnswer, whole_limit}
 use Rattle.command_base.specs.declared.status.Place.TheVariants.{Byte}
 use Rattle.command_base.specs.declared.status.Status.{Status}
 use Rattle.command_base.specs.declared.status.Status.TheVariants as status
@@ -42,14 +42,14 @@ abbrev pub import_words : Placed → List ℕ
 import_words pairs = column_bytes rate.F2997 (import_columns pairs) 0 (frames_of pairs)
 
 -- the most frames of an import: a day
-abbrev pub most_frames : ℕ
-most_frames = 2592000
+abbrev pub most_import_frames : ℕ
+most_import_frames = 2592000
 
 -- the bytes are an SCC file of the pairs, within the limits
 pub record IsImport (bytes : List ℕ) (pairs : Placed) : Type 0 where
   pub within : length bytes ≤ whole_limit
   pub file : IsSccFile pairs bytes
-  pub few : frames_of pairs ≤ most_frames
+  pub few : frames_of pairs ≤ most_import_frames
 
 -- the words of an SCC file's pairs were put; they are a words file whose frames carry just these pairs
 pub record PutsImport (bytes : List ℕ) (old new : Option (List ℕ)) : Type 0 where
@@ -69,7 +69,7 @@ pub record HasTooManyFrames (bytes : List ℕ) : Type 0 where
   pub within : length bytes ≤ whole_limit
   pub pairs : Placed
   pub file : IsSccFile pairs bytes
-  pub many : most_frames < frames_of pairs
+  pub many : most_import_frames < frames_of pairs
 
 -- the bytes are refused with this status
 abbrev pub IsRefusedImport : List ℕ → Status → Type 0
@@ -80,7 +80,7 @@ IsRefusedImport bytes _ = ⊥
 
 -- an input gives the pairs of its file, or is refused
 abbrev pub ReadsImport : Option (List ℕ) → Option (List ℕ) → ℕ → ℕ → Result Placed Status → Type 0
-ReadsImport old new before now result = Reads IsImport IsRefusedImport old new before now result
+ReadsImport old new before now result = ReadsInput IsImport IsRefusedImport old new before now result
 
 -- what `import` answers
 abbrev pub ImportAnswer : Ends → Ends → Status → Type 0

@@ -1,6 +1,6 @@
 ghost use Rattle.std.specs.Prelude.{◌≡◌};
 ghost use Rattle.scc_files.specs.SccFiles.{AreRising};
-ghost use Rattle.scc_commands.specs.Cursors.{Passes, left_of};
+ghost use Rattle.scc_commands.specs.Cursors.{Passes, pairs_left};
 
 use line21_codes::Pair;
 
@@ -17,15 +17,15 @@ pub struct Cursor<'a> {
 impl<'a> Cursor<'a> {
     /// A cursor before the frame of the first pair.
     pub fn new(pairs: &'a [(u32, Pair)]) -> Cursor<'a>
-        ensures { left_of result ≡ pairs.now }
+        ensures { pairs_left result ≡ pairs.now }
     {
         Cursor { left: pairs }
     }
 
     /// Passes a frame, before which all frames were passed: the pair at the frame, or the null pair where none stands there.
     pub fn pass(&mut self, frame: u32) -> Pair
-        requires { AreRising frame (left_of self.old) }
-        ensures { Passes frame (left_of self.old) (left_of self.new) result }
+        requires { AreRising frame (pairs_left self.old) }
+        ensures { Passes frame (pairs_left self.old) (pairs_left self.new) result }
     {
         match self.left.split_first() {
             Some((placed, rest)) => {

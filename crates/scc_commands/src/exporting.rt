@@ -11,7 +11,7 @@ ghost use Rattle.words_files.specs.Offences.{IsUnoffending};
 ghost use Rattle.words_commands.specs.WordsAnswer.{words_limit};
 ghost use Rattle.words_commands.specs.WordsReading.{MayBeFed, Receives};
 ghost use Rattle.scc_commands.specs.Export.{export_front, exported, first_standing, stand_after};
-ghost use Rattle.scc_commands.specs.ExportSteps.{Begins, EndsAt, HasJudged, HasStopped, Judges, JudgesAndPuts, StepJudges, StopCause, StopsBy, WritesFrame, stop_status};
+ghost use Rattle.scc_commands.specs.ExportSteps.{BeginsExport, EndsAt, HasJudged, HasStopped, Judges, JudgesAndPuts, StepJudges, StopCause, StopsBy, WritesFrame, stop_status};
 
 use crate::finding::find;
 use cc_base::{LimitOf, Put, Refusal, Sink};
@@ -63,7 +63,7 @@ impl Exporting {
     /// An export that judged nothing, whose frame 0 has this time code, which a frame of the day must have.
     pub fn new(alloc: Global, time: TimeCode) -> Result<Exporting, AllocError>
         requires { is_time_code time ≡ true }
-        ensures begins { IfOk result (Begins time) }
+        ensures begins { IfOk result (BeginsExport time) }
         ensures more { IfOk result (λ export. MayBeFed export.receiver words_limit) }
     {
         Ok(Exporting {

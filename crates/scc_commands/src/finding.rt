@@ -4,7 +4,7 @@ ghost use Rattle.cc_receiver.specs.Receivers.{HasReceived, frame_count};
 ghost use Rattle.cdp_packets.specs.Packets.{Packet as Frame};
 ghost use Rattle.services_files.specs.Services.{services_say};
 ghost use Rattle.words_files.specs.FramesOf.{AreFramesOf};
-ghost use Rattle.scc_commands.specs.ExportSteps.{Finds};
+ghost use Rattle.scc_commands.specs.ExportSteps.{FindsInExport};
 
 use cc_base::Rate;
 use cc_receiver::Receiver;
@@ -15,7 +15,7 @@ use findings::Kind45;
 pub fn find(receiver: &Receiver) -> Option<Kind45>
     requires { 0 < frame_count receiver.now }
     ensures { (bytes : List ℕ) (earlier : List Frame) (last : Frame) → HasReceived bytes receiver.now
-        → AreFramesOf services_say (earlier ++ last ∷ []) bytes → Finds last result }
+        → AreFramesOf services_say (earlier ++ last ∷ []) bytes → FindsInExport last result }
 {
     match receiver.rate() {
         Rate::F2997 => find_pairs(receiver),
@@ -30,7 +30,7 @@ pub fn find(receiver: &Receiver) -> Option<Kind45>
 fn find_pairs(receiver: &Receiver) -> Option<Kind45>
     requires { 0 < frame_count receiver.now }
     ensures { (bytes : List ℕ) (earlier : List Frame) (last : Frame) → HasReceived bytes receiver.now
-        → AreFramesOf services_say (earlier ++ last ∷ []) bytes → last.rate ≡ rate.F2997 → Finds last result }
+        → AreFramesOf services_say (earlier ++ last ∷ []) bytes → last.rate ≡ rate.F2997 → FindsInExport last result }
 {
     // there are no more pairs than triplets
     let pairs = receiver

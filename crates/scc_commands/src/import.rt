@@ -1,9 +1,9 @@
 ghost use Rattle.std.specs.Prelude.{◌≡◌, ◌≤◌, IfOk, length};
 ghost use Rattle.cc_base.specs.Streams.{PutCause, Puts};
 ghost use Rattle.command_base.specs.Ends.{ends};
-ghost use Rattle.command_base.specs.WholeInput.{Judges, whole_limit};
+ghost use Rattle.command_base.specs.WholeInput.{JudgesInput, whole_limit};
 ghost use Rattle.scc_files.specs.Reading.{frames_of};
-ghost use Rattle.scc_commands.specs.Import.{ImportAnswer, IsImport, IsRefusedImport, ReadsImport, import_words, most_frames};
+ghost use Rattle.scc_commands.specs.Import.{ImportAnswer, IsImport, IsRefusedImport, ReadsImport, import_words, most_import_frames};
 ghost use Rattle.scc_commands.specs.ImportSteps.{ArePlaced, fault_status, frame_with};
 
 use crate::cursor::{Cursor, NULL};
@@ -51,7 +51,7 @@ fn read_pairs<M: Source>(alloc: Global, input: &mut M) -> Result<SccPairs, Statu
 /// Judges the bytes of an SCC file.
 fn judge(alloc: Global, bytes: &[u8]) -> Result<SccPairs, Status>
     requires { length bytes.now ≤ whole_limit }
-    ensures { Judges IsImport IsRefusedImport bytes.now result }
+    ensures { JudgesInput IsImport IsRefusedImport bytes.now result }
 {
     match read_scc(alloc, bytes) {
         Ok(pairs) => Ok(pairs),
@@ -72,7 +72,7 @@ fn status_of(fault: SccFault) -> Status
 
 /// How many frames pairs take: those up to that of the last one.
 fn count_frames(pairs: &[(u32, Pair)]) -> u32
-    requires { frames_of pairs.now ≤ most_frames }
+    requires { frames_of pairs.now ≤ most_import_frames }
     ensures { result ≡ frames_of pairs.now }
 {
     match pairs.split_last() {

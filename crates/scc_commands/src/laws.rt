@@ -3,7 +3,7 @@ ghost use Rattle.std.specs.Prelude.{◌≡◌, ◌++◌, List, ℕ};
 ghost use Rattle.cdp_packets.specs.Packets.{Packet as Frame};
 ghost use Rattle.scc_files.specs.SccFiles.{AreBytes, AreRising, IsSccFile};
 ghost use Rattle.scc_files.specs.Writing.{end_text};
-ghost use Rattle.scc_files.specs.Written.{counted, shown, written_file};
+ghost use Rattle.scc_files.specs.Written.{counted, pairs_not_null, written_file};
 ghost use Rattle.time_codes.specs.Frames.{frame_number};
 ghost use Rattle.time_codes.specs.declared.time_code.TimeCode.{TimeCode as Time};
 ghost use Rattle.words_files.specs.Frames.{IsFileOf};
@@ -28,5 +28,5 @@ pub fn import_is_exported_again()
 /// first of them.
 pub fn exported_words_are_an_scc_file()
     ensures { (time : Time) (frames : List Frame) (bytes : List ℕ) → IsFileOf frames bytes → AreExported time frames
-        → IsSccFile (counted (shown (exported frames))) (export_file time frames) }
+        → IsSccFile (counted (pairs_not_null (exported frames))) (export_file time frames) }
 {}

@@ -11,8 +11,8 @@ use Rattle.time_codes.specs.Texts.{HasTwoDigits, mark, ones, tens, text_of, time
 use Rattle.time_codes.specs.TimeCodes.{is_time_code}
 use Rattle.time_codes.specs.declared.time_code.TimeCode.{TimeCode}
 use Rattle.cc_base.specs.declared.why.Why.TheVariants as why
-use Rattle.scc_files.specs.Lines.{AreBlanks, AreLines, AreSpaces, AreWords, IsForm, IsLineEnd, IsTimedLine, IsWord, TimedLine}
-use Rattle.scc_files.specs.Phases.{ended, fits, hex_value, is_blank, may_end, moved, why_in, word_or_end}
+use Rattle.scc_files.specs.Lines.{AreBlanks, AreLines, AreSpacedWords, AreSpaces, IsForm, IsLineEnd, IsPairWord, IsTimedLine, TimedLine}
+use Rattle.scc_files.specs.Phases.{ended, fits, hex_value, is_blank, may_end, phase_after, why_in, word_or_end}
 use Rattle.scc_files.specs.Reading.{at_first, at_first_frame, behind, judged, line_at, pairs_on, read_file, read_from, reached, step_to, text_done, timed, timed_form, with_pair}
 use Rattle.scc_files.specs.SccFiles.{AreTimed, IsSccFile, one_a_frame, placed_from}
 use Rattle.scc_files.specs.declared.phase.Phase.{Phase}
@@ -25,7 +25,7 @@ pub record Reads (judging : Bool) (to : Phase) (p : Position) (bytes : List ℕ)
   pub at : (place : ℕ) → read_from judging place (record { phase = to; position = p }) bytes ≡ Ok out
 
 -- one byte more in front
-pub one : (j : Bool) (p : Position) (from to : Phase) (byte : ℕ) (rest : List ℕ) (out : List (ℕ × Pair)) → moved from byte ≡ Some to
+pub one : (j : Bool) (p : Position) (from to : Phase) (byte : ℕ) (rest : List ℕ) (out : List (ℕ × Pair)) → phase_after from byte ≡ Some to
     → reached j p to ≡ Ok (record { phase = to; position = p }, None) → Reads j to p rest out → Reads j from p (byte ∷ rest) out
 one j p from to byte rest out moves plain read = record {
   at = λ place.
@@ -34,7 +34,7 @@ one j p from to byte rest out moves plain read = record {
 }
 
 pub one_pair : (j : Bool) (p : Position) (from : Phase) (pair : Pair) (byte : ℕ) (rest : List ℕ) (out : List (ℕ × Pair))
-    → moved from byte ≡ Some (phase.Whole pair) → Reads j (phase.Whole pair) (pairs_on p 1) rest out → Reads j from p (byte ∷ rest) ((p.next, pair) ∷ out)
+    → phase_after from byte ≡ Some (phase.Whole pair) → Reads j (phase.Whole pair) (pairs_on p 1) rest out → Reads j from p (byte ∷ rest) ((p.next, pair) ∷ out)
 one_pair j p from pair byte rest out moves read = record {
   at = λ place.
       ap (λ m. behind place (step_to j (record { phase = from; position = p }) m) (λ s. read_from j (place + 1) s rest)) moves
@@ -42,7 +42,7 @@ one_pair j p from pair byte rest out moves read = record {
 }
 
 pub one_text : (j : Bool) (p s : Position) (from : Phase) (text : List ℕ) (byte : ℕ) (rest : List ℕ) (out : List (ℕ × Pair))
-    → moved from byte ≡ Some (phase.Timed text) → judged j p text ≡ Ok s → Reads j (phase.Timed text) s rest out → Reads j from p (byte ∷ rest) out
+    → phase_after from byte ≡ Some (phase.Timed text) → judged j p text ≡ Ok s → Reads j (phase.Timed text) s rest out → Reads j from p (byte ∷ rest) out
 one_text j p s from text byte rest out moves is read = record {
   at = λ place.
       ap (λ m. behind place (step_to j (record { phase = from; position = p }) m) (λ s. read_from j (place + 1) s rest)) moves
@@ -54,19 +54,19 @@ pub first_spaces : (j : Bool) (p : Position) (spaces rest : List ℕ) (out : Lis
     → Reads j phase.FirstSpaces p rest out → Reads j phase.FirstSpaces p (spaces ++ rest) out
 first_spaces j p [] rest out are read = read
 first_spaces j p (b ∷ bs) rest out are read =
-    one j p phase.FirstSpaces phase.FirstSpaces b (bs ++ rest) out (ap (λ z. moved phase.FirstSpaces z) are.0) refl (first_spaces j p bs rest out are.1 read)
+    one j p phase.FirstSpaces phase.FirstSpaces b (bs ++ rest) out (ap (λ z. phase_after phase.FirstSpaces z) are.0) refl (first_spaces j p bs rest out are.1 read)
 
 pub blank_spaces : (j : Bool) (p : Position) (spaces rest : List ℕ) (out : List (ℕ × Pair)) → AreSpaces spaces
     → Reads j phase.Blank p rest out → Reads j phase.Blank p (spaces ++ rest) out
 blank_spaces j p [] rest out are read = read
 blank_spaces j p (b ∷ bs) rest out are read =
-    one j p phase.Blank phase.Blank b (bs ++ rest) out (ap (λ z. moved phase.Blank z) are.0) refl (blank_spaces j p bs rest out are.1 read)
+    one j p phase.Blank phase.Blank b (bs ++ rest) out (ap (λ z. phase_after phase.Blank z) are.0) refl (blank_spaces j p bs rest out are.1 read)
 
 pub between_spaces : (j : Bool) (p : Position) (spaces rest : List ℕ) (out : List (ℕ × Pair)) → AreSpaces spaces
     → Reads j phase.Between p rest out → Reads j phase.Between p (spaces ++ rest) out
 between_spaces j p [] rest out are read = read
 between_spaces j p (b ∷ bs) rest out are read =
-    one j p phase.Between phase.Between b (bs ++ rest) out (ap (λ z. moved phase.Between z) are.0) refl (between_spaces j p bs rest out are.1 read)
+    one j p phase.Between phase.Between b (bs ++ rest) out (ap (λ z. phase_after phase.Between z) are.0) refl (between_spaces j p bs rest out are.1 read)
 
 pub gap_blanks : (j : Bool) (p : Position) (blanks rest : List ℕ) (out : List (ℕ × Pair)) → AreBlanks blanks
     → Reads j phase.Gap p rest out → Reads j phase.Gap p (blanks ++ rest) out
@@ -93,11 +93,11 @@ word_read j p v q r s b c d rest out b_is c_is d_is read =
     (one_pair j p (phase.Three (16 * v + q) r) (record { a = 16 * v + q; b = 16 * r + s }) d rest out
     (ap (λ o. option_map (λ low. phase.Whole (record { a = 16 * v + q; b = 16 * r + low })) o) d_is) read))
 
-pub gap_word : (j : Bool) (p : Position) (pair : Pair) (word rest : List ℕ) (out : List (ℕ × Pair)) → IsWord pair word
+pub gap_word : (j : Bool) (p : Position) (pair : Pair) (word rest : List ℕ) (out : List (ℕ × Pair)) → IsPairWord pair word
     → Reads j (phase.Whole pair) (pairs_on p 1) rest out → Reads j phase.Gap p (word ++ rest) ((p.next, pair) ∷ out)
 gap_word j p pair word rest out w read =
     let read' = subst (λ (x : Pair). Reads j (phase.Whole x) (pairs_on p 1) rest out) w.is read in
-    let moves : moved phase.Gap w.a ≡ Some (phase.One w.p) =
+    let moves : phase_after phase.Gap w.a ≡ Some (phase.One w.p) =
     ap (λ t. cond t (Some phase.Gap) (option_map (λ value. phase.One value) (hex_value w.a))) (hex_is_no_blank w.a w.p w.a_is)
     ∙ ap (λ o. option_map (λ value. phase.One value) o) w.a_is in
     let whole = one j p phase.Gap (phase.One w.p) w.a (w.b ∷ w.c ∷ w.d ∷ rest) _ moves refl
@@ -105,11 +105,11 @@ gap_word j p pair word rest out w read =
     subst (λ (x : Pair). Reads j phase.Gap p (word ++ rest) ((p.next, x) ∷ out)) (sym w.is)
     (subst (λ (z : List ℕ). Reads j phase.Gap p (z ++ rest) ((p.next, record { a = 16 * w.p + w.q; b = 16 * w.r + w.s }) ∷ out)) (sym w.spelled) whole)
 
-pub between_word : (j : Bool) (p : Position) (pair : Pair) (word rest : List ℕ) (out : List (ℕ × Pair)) → IsWord pair word
+pub between_word : (j : Bool) (p : Position) (pair : Pair) (word rest : List ℕ) (out : List (ℕ × Pair)) → IsPairWord pair word
     → Reads j (phase.Whole pair) (pairs_on p 1) rest out → Reads j phase.Between p (word ++ rest) ((p.next, pair) ∷ out)
 between_word j p pair word rest out w read =
     let read' = subst (λ (x : Pair). Reads j (phase.Whole x) (pairs_on p 1) rest out) w.is read in
-    let moves : moved phase.Between w.a ≡ Some (phase.One w.p) =
+    let moves : phase_after phase.Between w.a ≡ Some (phase.One w.p) =
     ap (λ t. cond t (Some phase.Between) (word_or_end w.a (hex_value w.a))) (hex_is_no_space w.a w.p w.a_is)
     ∙ ap (λ o. word_or_end w.a o) w.a_is in
     let whole = one j p phase.Between (phase.One w.p) w.a (w.b ∷ w.c ∷ w.d ∷ rest) _ moves refl
@@ -121,9 +121,9 @@ between_word j p pair word rest out w read =
 pub record IsEnding (at : Phase) : Type 0 where
   pub cr : Phase
   pub may : may_end at ≡ true
-  pub lf : moved at 10 ≡ Some phase.Start
-  pub cr_is : moved at 13 ≡ Some cr
-  pub cr_lf : moved cr 10 ≡ Some phase.Start
+  pub lf : phase_after at 10 ≡ Some phase.Start
+  pub cr_is : phase_after at 13 ≡ Some cr
+  pub cr_lf : phase_after cr 10 ≡ Some phase.Start
   pub plain : (j : Bool) (p : Position) → reached j p cr ≡ Ok (record { phase = cr; position = p }, None)
 
 pub first_ends : IsEnding phase.FirstSpaces
@@ -151,11 +151,11 @@ abbrev pub AtEnds : Bool → Position → List ℕ → List (ℕ × Pair) → Ty
 AtEnds j p rest out = (at : Phase) → IsEnding at → Reads j at p rest out
 
 -- words behind a word
-pub words_read : (j : Bool) (pairs : List Pair) (p : Position) (last : Pair) (words rest : List ℕ) (out : List (ℕ × Pair)) → AreWords pairs words
+pub words_read : (j : Bool) (pairs : List Pair) (p : Position) (last : Pair) (words rest : List ℕ) (out : List (ℕ × Pair)) → AreSpacedWords pairs words
     → AtEnds j (after_pairs p pairs) rest out → Reads j (phase.Whole last) p (words ++ rest) (one_a_frame p.next pairs ++ out)
 words_read j [] p last [] rest out are ends = ends (phase.Whole last) (whole_ends last)
 words_read j [] p last (b ∷ bs) rest out are ends =
-    one j p (phase.Whole last) phase.Between b (bs ++ rest) out (ap (λ z. moved (phase.Whole last) z) are.0) refl
+    one j p (phase.Whole last) phase.Between b (bs ++ rest) out (ap (λ z. phase_after (phase.Whole last) z) are.0) refl
     (between_spaces j p bs rest out are.1 (ends phase.Between between_ends))
 words_read j (pair ∷ pairs) p last words rest out (spaces, word, more, are_spaces, is_word, are_words, spelled) ends =
     let next = words_read j pairs (pairs_on p 1) pair more rest out are_words ends in
@@ -183,10 +183,10 @@ mark_fits false = refl
 pub text_read : (j : Bool) (p s : Position) (t : TimeCode) (rest : List ℕ) (out : List (ℕ × Pair)) → HasTwoDigits t → judged j p (text_of t) ≡ Ok s
     → Reads j (phase.Timed (text_of t)) s rest out → Reads j phase.Start p (text_of t ++ rest) out
 text_read j p s t rest out two is read =
-    let last : moved (phase.Text 10 (tens t.h ∷ ones t.h ∷ 58 ∷ tens t.m ∷ ones t.m ∷ 58 ∷ tens t.s ∷ ones t.s ∷ mark t.drop_frame ∷ tens t.f ∷ 0 ∷ [])) (ones t.f)
+    let last : phase_after (phase.Text 10 (tens t.h ∷ ones t.h ∷ 58 ∷ tens t.m ∷ ones t.m ∷ 58 ∷ tens t.s ∷ ones t.s ∷ mark t.drop_frame ∷ tens t.f ∷ 0 ∷ [])) (ones t.f)
     ≡ Some (phase.Timed (text_of t)) =
     ap (λ v. cond v (Some (phase.Timed (text_of t))) None) (ones_digit t.f) in
-    let start : moved phase.Start (tens t.h) ≡ Some (phase.Text 1 (tens t.h ∷ 0 ∷ 0 ∷ 0 ∷ 0 ∷ 0 ∷ 0 ∷ 0 ∷ 0 ∷ 0 ∷ 0 ∷ [])) =
+    let start : phase_after phase.Start (tens t.h) ≡ Some (phase.Text 1 (tens t.h ∷ 0 ∷ 0 ∷ 0 ∷ 0 ∷ 0 ∷ 0 ∷ 0 ∷ 0 ∷ 0 ∷ 0 ∷ [])) =
     ap (λ v. cond v (Some (phase.Text 1 (tens t.h ∷ 0 ∷ 0 ∷ 0 ∷ 0 ∷ 0 ∷ 0 ∷ 0 ∷ 0 ∷ 0 ∷ 0 ∷ [])))
     (cond (nat_eq (tens t.h) 32) (Some phase.Blank) (ended (tens t.h)))) (tens_digit t.h two.h) in
     one j p phase.Start _ (tens t.h) _ out start refl
@@ -224,7 +224,7 @@ pub blank_read : (j : Bool) (p : Position) (spelled rest : List ℕ) (out : List
     → Reads j phase.Start p (spelled ++ rest) out
 blank_read j p [] rest out are ends = ends phase.Start start_ends
 blank_read j p (b ∷ bs) rest out are ends =
-    one j p phase.Start phase.Blank b (bs ++ rest) out (ap (λ z. moved phase.Start z) are.0) refl (blank_spaces j p bs rest out are.1 (ends phase.Blank blank_ends))
+    one j p phase.Start phase.Blank b (bs ++ rest) out (ap (λ z. phase_after phase.Start z) are.0) refl (blank_spaces j p bs rest out are.1 (ends phase.Blank blank_ends))
 
 pub timed_read : (j : Bool) (p s : Position) (line : TimedLine) (spelled rest : List ℕ) (out : List (ℕ × Pair)) → IsTimedLine line spelled
     → judged_time j p line.time ≡ Ok s → AtEnds j (after_pairs s (line.first ∷ line.more)) rest out

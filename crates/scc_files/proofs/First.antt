@@ -14,11 +14,11 @@ use Rattle.cc_base.specs.declared.why.Why.TheVariants as why
 use Rattle.line21_codes.specs.declared.pairs.Pair.{Pair}
 use Rattle.time_codes.proofs.TextLemmas.{read_is_spelled}
 use Rattle.time_codes.specs.Frames.{frame_of}
-use Rattle.time_codes.specs.Texts.{number_of, time_of_text}
+use Rattle.time_codes.specs.Texts.{time_of_text, two_digit_number}
 use Rattle.time_codes.specs.declared.time_code.TimeCode.{TimeCode}
 use Rattle.scc_files.specs.Lines.{IsForm, IsTimedLine, TimedLine}
-use Rattle.scc_files.specs.Offences.{BeginsFile, BeginsForm, EndsEarly, IsFirstOffence, IsUnoffending, TimeOffends, line_why, time_why, time_why_by}
-use Rattle.scc_files.specs.Phases.{first_text, fits, may_end, moved, why_in}
+use Rattle.scc_files.specs.Offences.{BeginsFile, BeginsForm, EndsEarly, IsFirstOffence, IsUnoffendingText, TimeOffends, line_why, time_why, time_why_by}
+use Rattle.scc_files.specs.Phases.{first_text, fits, may_end, phase_after, why_in}
 use Rattle.scc_files.specs.Reading.{Stepped, at_first, at_first_frame, behind, judged, line_at, read_file, read_from, reached, step, step_to, text_done, timed}
 use Rattle.scc_files.specs.SccFiles.{one_a_frame}
 use Rattle.scc_files.specs.declared.phase.Phase.{Phase}
@@ -50,7 +50,7 @@ first_reads (suc n) at j p is =
     let early : at < 18 = omega arith in
     let other = before_last at n is in
     let same : nat_eq (get_or first_text at 0) (get_or first_text at 0) ≡ true = eq-eqb (get_or first_text at 0) (get_or first_text at 0) refl in
-    let moves : moved (phase.First at) (get_or first_text at 0) ≡ Some (phase.First (at + 1)) =
+    let moves : phase_after (phase.First at) (get_or first_text at 0) ≡ Some (phase.First (at + 1)) =
     ap (λ t. cond t (cond (nat_eq at 17) (Some phase.FirstSpaces) (Some (phase.First (at + 1)))) None) same
     ∙ ap (λ t. cond t (Some phase.FirstSpaces) (Some (phase.First (at + 1)))) other in
     let step_on = one j p (phase.First at) (phase.First (at + 1)) (get_or first_text at 0) (drop (at + 1) first_text) [] moves refl (first_reads n (at + 1) j p next) in
@@ -107,8 +107,8 @@ pub fit_text : (a b c d e f g h i k l : ℕ) → AllFit 0 (a ∷ b ∷ c ∷ d �
     → (t : TimeCode) × (time_of_text (a ∷ b ∷ c ∷ d ∷ e ∷ f ∷ g ∷ h ∷ i ∷ k ∷ l ∷ []) ≡ Some t)
 fit_text a b c d e f g h i k l (fa, (fb, (fc, (fd, (fe, (ff, (fg, (fh, (fi, (fk, (fl, end))))))))))) =
     let all = and_true _ _ (and_true _ _ (and_true _ _ (and_true _ _ (and_true _ _ (and_true _ _ (and_true _ _ (and_true _ _ (and_true _ _ (and_true _ _ fa fb) fc) fd) fe) ff) fg) fh) fi) fk) fl in (
-      record { h = number_of a b; m = number_of d e; s = number_of g h; f = number_of k l; drop_frame = nat_eq i 59 },
-      ap (λ t. cond t (Some (record { h = number_of a b; m = number_of d e; s = number_of g h; f = number_of k l; drop_frame = nat_eq i 59 })) None) all,
+      record { h = two_digit_number a b; m = two_digit_number d e; s = two_digit_number g h; f = two_digit_number k l; drop_frame = nat_eq i 59 },
+      ap (λ t. cond t (Some (record { h = two_digit_number a b; m = two_digit_number d e; s = two_digit_number g h; f = two_digit_number k l; drop_frame = nat_eq i 59 })) None) all,
     )
 
 pub whole_text : (xs : List ℕ) → length xs ≡ 11 → AllFit 0 xs → (t : TimeCode) × (time_of_text xs ≡ Some t)
@@ -193,7 +193,7 @@ form_of_text before at text p o =
     ∙ (sym (append_assoc o.start front more) ∙ ap (λ z. z ++ more) (sym o.is)) in
     record { more = more; lines = file.lines; form = subst (λ (z : List ℕ). IsForm file.lines z) same file.form }
 
-pub open_text : (before : List ℕ) (to : Phase) (p : Position) → Origin before (record { phase = to; position = p }) → IsText to → IsUnoffending before
+pub open_text : (before : List ℕ) (to : Phase) (p : Position) → Origin before (record { phase = to; position = p }) → IsText to → IsUnoffendingText before
 open_text before (phase.Text at text) p o is_text =
     let size : length (take at text) ≡ at = length-take-le at text (omega (arith, o.size, o.early)) in
     record {
@@ -220,7 +220,7 @@ open_text before phase.Between p o is_text = absurd is_text
 
 -- nothing offends in bytes that are taken
 pub unoffending : (before : List ℕ) (to : Phase) (p : Position) → reach true at_first before ≡ Some (record { phase = to; position = p })
-    → Origin before (record { phase = to; position = p }) → IsUnoffending before
+    → Origin before (record { phase = to; position = p }) → IsUnoffendingText before
 unoffending before to p reaches origin =
     ⊎_elim
     (λ is_text. open_text before to p origin is_text)
@@ -243,7 +243,7 @@ form_reads lines bytes form =
     record { out = out; is = form_read false lines bytes out form placed }
 
 -- no file in form goes on with a byte that no phase goes on with
-pub byte_offends : (before : List ℕ) (byte : ℕ) (s : Reader) → reach true at_first before ≡ Some s → moved s.phase byte ≡ None → BeginsForm (before ++ byte ∷ []) → ⊥
+pub byte_offends : (before : List ℕ) (byte : ℕ) (s : Reader) → reach true at_first before ≡ Some s → phase_after s.phase byte ≡ None → BeginsForm (before ++ byte ∷ []) → ⊥
 byte_offends before byte s reaches stuck begins =
     let form = same_phase before (phase.First 0) at_first_frame at_first_frame s reaches in
     let r : Reader = record { phase = s.phase; position = form.at } in
@@ -327,7 +327,7 @@ why_reach (byte ∷ bytes) r s is =
     → why_in s.phase ≡ why_from (why_in r.phase) (byte ∷ bytes) =
     elim [
       | Ok stepped ↦ λ e h.
-          let (to, moves, reached_is) = moved_step true r (moved r.phase byte) stepped e in
+          let (to, moves, reached_is) = moved_step true r (phase_after r.phase byte) stepped e in
           let (phase_is, form) = form_step to r.position r.position stepped reached_is in
           why_reach bytes stepped.0 s h ∙ ap (λ w. why_from w bytes) (ap why_in phase_is ∙ why_step to r.phase byte (target r.phase byte to moves))
       | Err offence ↦ λ e h. absurd (none_reader h)
@@ -430,7 +430,7 @@ time_offends bytes before rest byte s o refusal text spelled reaches origin step
     }
 
 pub stop_offends : (rest bytes before : List ℕ) (s : Reader) (refusal : Refusal) → bytes ≡ before ++ rest → reach true at_first before ≡ Some s → Origin before s
-    → IsUnoffending before → line_why before ≡ why_in s.phase → Stops s rest (0 + length before) refusal → IsFirstOffence bytes refusal
+    → IsUnoffendingText before → line_why before ≡ why_in s.phase → Stops s rest (0 + length before) refusal → IsFirstOffence bytes refusal
 stop_offends [] bytes before s refusal spelled reaches origin good reason stops =
     let same : bytes ≡ before = spelled ∙ append-nil before in
     let place : refusal.place ≡ 0 + length before = ap (λ x. x.place) stops.1 in
@@ -460,7 +460,7 @@ stop_offends (byte ∷ rest) bytes before s refusal spelled reaches origin good 
     let (text, to_is, judge) = refused_text went.0 s.position o went.2 in
     let w = target s.phase byte (phase.Timed text) (went.1 ∙ ap (λ x. Some x) to_is) in
     inr (inr (time_offends bytes before rest byte s o refusal text spelled reaches origin stepped w judge refused)))
-    (refused_step s (moved s.phase byte) o stepped)
+    (refused_step s (phase_after s.phase byte) o stepped)
 
 pub first_offence : (bytes : List ℕ) (refusal : Refusal) → read_file bytes ≡ Err refusal → IsFirstOffence bytes refusal
 first_offence bytes refusal is =

@@ -8,7 +8,7 @@ use Rattle.std.proofs.lemmas.List.{length-set, length-take-le}
 use Rattle.cc_base.specs.declared.why.Why.TheVariants as why
 use Rattle.time_codes.specs.Texts.{is_digit}
 use Rattle.scc_files.specs.Offences.{EndsLine}
-use Rattle.scc_files.specs.Phases.{ended, first_text, fits, hex_value, is_blank, moved, why_in, word_or_end}
+use Rattle.scc_files.specs.Phases.{ended, first_text, fits, hex_value, is_blank, phase_after, why_in, word_or_end}
 use Rattle.scc_files.specs.Reading.{Stepped, at_first, judged, reached, step}
 use Rattle.scc_files.specs.declared.phase.Phase.{Phase}
 use Rattle.scc_files.specs.declared.phase.Phase.TheVariants as phase
@@ -85,7 +85,7 @@ ended_target from byte to later is =
     (chose (nat_eq byte 13) (Some phase.End) None to c.1))
     (chose (nat_eq byte 10) (Some phase.Start) (cond (nat_eq byte 13) (Some phase.End) None) to is)
 
-pub target : (from : Phase) (byte : ℕ) (to : Phase) → moved from byte ≡ Some to → Target from byte to
+pub target : (from : Phase) (byte : ℕ) (to : Phase) → phase_after from byte ≡ Some to → Target from byte to
 target (phase.First at) byte to is =
     ⊎_elim
     (λ c.
@@ -272,7 +272,7 @@ origins (byte ∷ bytes) before r s reaches origin is =
     let cases : (x : Result Stepped Offence) → step true r byte ≡ x → option_and_then (λ s. reach true s bytes) (reader_of x) ≡ Some s → Origin (before ++ (byte ∷ bytes)) s =
     elim [
       | Ok stepped ↦ λ e h.
-          let (to, moves, reached_is) = moved_step true r (moved r.phase byte) stepped e in
+          let (to, moves, reached_is) = moved_step true r (phase_after r.phase byte) stepped e in
           let next = step_origin before byte r.position to r.phase stepped reaches origin (target r.phase byte to moves) reached_is in
           let reaches' : reach true at_first (before ++ byte ∷ []) ≡ Some stepped.0 =
           reach_append true before (byte ∷ []) at_first r reaches ∙ ap (λ x. option_and_then (λ s. Some s) (reader_of x)) e in

@@ -3,7 +3,7 @@ use Rattle.std.proofs.Common.{◌≡◌, ℕ, ◌+◌, ◌-◌, Bool, true, fals
 use Rattle.std.specs.Option.{option_and_then}
 use Rattle.cc_base.specs.declared.refusal.Refusal.{Refusal}
 use Rattle.line21_codes.specs.declared.pairs.Pair.{Pair}
-use Rattle.scc_files.specs.Phases.{may_end, moved, why_in}
+use Rattle.scc_files.specs.Phases.{may_end, phase_after, why_in}
 use Rattle.scc_files.specs.Reading.{Stepped, behind, judged, pairs_on, read_from, reached, step, step_to, text_done, with_pair}
 use Rattle.scc_files.specs.declared.phase.Phase.{Phase}
 use Rattle.scc_files.specs.declared.phase.Phase.TheVariants as phase
@@ -177,7 +177,7 @@ same_phase (byte ∷ bytes) from p q s is =
     → option_and_then (λ s. reach true s bytes) (reader_of x) ≡ Some s → SamePhase (record { phase = from; position = q }) s (byte ∷ bytes) =
     elim [
       | Ok stepped ↦ λ e h.
-          let (to, moves, reaches) = moved_step true (record { phase = from; position = p }) (moved from byte) stepped e in
+          let (to, moves, reaches) = moved_step true (record { phase = from; position = p }) (phase_after from byte) stepped e in
           let (phase_is, form) = form_step to p q stepped reaches in
           let h' : reach true (record { phase = to; position = stepped.0.position }) bytes ≡ Some s =
           ap (λ f. reach true (record { phase = f; position = stepped.0.position }) bytes) (sym phase_is) ∙ h in

@@ -3,7 +3,7 @@ use Rattle.std.proofs.Common.{◌≡◌, ℕ, ◌+◌, ◌-◌, ◌*◌, ◌<◌
 use Rattle.std.proofs.lemmas.Grind.{common_steps}
 use Rattle.line21_codes.specs.declared.pairs.Pair.{Pair}
 use Rattle.time_codes.specs.Frames.{frame_number}
-use Rattle.scc_files.specs.Lines.{AreLines, AreWords, IsWord, TimedLine}
+use Rattle.scc_files.specs.Lines.{AreLines, AreSpacedWords, IsPairWord, TimedLine}
 use Rattle.scc_files.specs.Phases.{hex_value}
 use Rattle.scc_files.specs.SccFiles.{AreBytes, AreRising, IsSccFile, one_a_frame, placed_from}
 
@@ -35,7 +35,7 @@ file_rises pairs bytes file = subst (AreRising 0) (sym file.placed) (placed_rise
 pub hex_small : (byte value : ℕ) → hex_value byte ≡ Some value → value < 16
 hex_small byte value is = grind (arith, common_steps)
 
-pub word_bytes : (pair : Pair) (bytes : List ℕ) → IsWord pair bytes → (pair.a < 256) × (pair.b < 256)
+pub word_bytes : (pair : Pair) (bytes : List ℕ) → IsPairWord pair bytes → (pair.a < 256) × (pair.b < 256)
 word_bytes pair bytes w =
     let p = hex_small w.a w.p w.a_is in
     let q = hex_small w.b w.q w.b_is in
@@ -45,7 +45,7 @@ word_bytes pair bytes w =
     let b : pair.b ≡ 16 * w.r + w.s = ap (λ x. x.b) w.is in
     (omega (arith, p, q, a), omega (arith, r, s, b))
 
-pub words_bytes : (pairs : List Pair) (bytes : List ℕ) (frame : ℕ) (rest : List (ℕ × Pair)) → AreWords pairs bytes → AreBytes rest → AreBytes (one_a_frame frame pairs ++ rest)
+pub words_bytes : (pairs : List Pair) (bytes : List ℕ) (frame : ℕ) (rest : List (ℕ × Pair)) → AreSpacedWords pairs bytes → AreBytes rest → AreBytes (one_a_frame frame pairs ++ rest)
 words_bytes [] bytes frame rest are more = more
 words_bytes (pair ∷ pairs) bytes frame rest (spaces, word, left, are_spaces, is_word, are_words, spelled) more =
     let (a, b) = word_bytes pair word is_word in

@@ -8,12 +8,12 @@ use Rattle.line21_codes.specs.NullPairs.{is_null}
 use Rattle.time_codes.specs.Frames.{frame_number, frame_of, time_at}
 use Rattle.time_codes.specs.Texts.{HasTwoDigits, text_of}
 use Rattle.time_codes.specs.TimeCodes.{day_frames}
-use Rattle.scc_files.specs.Lines.{AreLines, AreWords, IsTimedLine, IsWord, TimedLine}
+use Rattle.scc_files.specs.Lines.{AreLines, AreSpacedWords, IsPairWord, IsTimedLine, TimedLine}
 use Rattle.scc_files.specs.Phases.{hex_value}
 use Rattle.scc_files.specs.SccFiles.{AreTimed, IsSccFile, one_a_frame, placed_from}
-use Rattle.scc_files.specs.Words.{hex_digit, word_of}
+use Rattle.scc_files.specs.Words.{lower_hex_digit, pair_word}
 use Rattle.scc_files.specs.Writing.{Standing, between}
-use Rattle.scc_files.specs.Written.{AreWritable, counted, counted_from, shown, text_from, written_file}
+use Rattle.scc_files.specs.Written.{AreWritable, counted, counted_from, pairs_not_null, text_from, written_file}
 use Rattle.scc_files.proofs.Complete.{number_is}
 
 -- a frame of the day has a time code, whose numbers have two digits
@@ -31,7 +31,7 @@ pub time_spelled : (frame : ℕ) (drop_frame : Bool) → frame < day_frames drop
 time_spelled frame true within = record { h = omega arith; m = omega arith; s = omega arith; f = omega arith }
 time_spelled frame false within = record { h = omega arith; m = omega arith; s = omega arith; f = omega arith }
 
-pub hex_again : (value : ℕ) → value < 16 → hex_value (hex_digit value) ≡ Some value
+pub hex_again : (value : ℕ) → value < 16 → hex_value (lower_hex_digit value) ≡ Some value
 hex_again value small = grind (arith, common_steps)
 
 abbrev pub pair_of : ℕ → ℕ → Pair
@@ -40,15 +40,15 @@ pair_of a b = record { a = a; b = b }
 pub same_pair : (a b c d : ℕ) → a ≡ c → b ≡ d → pair_of a b ≡ pair_of c d
 same_pair a b c d first second = ap (λ x. pair_of x b) first ∙ ap (λ x. pair_of c x) second
 
-pub word_is : (pair : Pair) → pair.a < 256 → pair.b < 256 → IsWord pair (word_of pair)
+pub word_is : (pair : Pair) → pair.a < 256 → pair.b < 256 → IsPairWord pair (pair_word pair)
 word_is pair a_fits b_fits =
     let first : pair.a ≡ 16 * (pair.a / 16) + pair.a % 16 = omega arith in
     let second : pair.b ≡ 16 * (pair.b / 16) + pair.b % 16 = omega arith in
     record {
-      a = hex_digit (pair.a / 16);
-      b = hex_digit (pair.a % 16);
-      c = hex_digit (pair.b / 16);
-      d = hex_digit (pair.b % 16);
+      a = lower_hex_digit (pair.a / 16);
+      b = lower_hex_digit (pair.a % 16);
+      c = lower_hex_digit (pair.b / 16);
+      d = lower_hex_digit (pair.b % 16);
       p = pair.a / 16;
       q = pair.a % 16;
       r = pair.b / 16;
@@ -76,21 +76,21 @@ pub record Within (start first behind : ℕ) (text : List ℕ) (left : List (ℕ
   pub rest : List ℕ
   pub lines : List (Option TimedLine)
   pub is : text ≡ words ++ rest
-  pub are_words : AreWords ps words
+  pub are_words : AreSpacedWords ps words
   pub are_lines : AreLines lines rest
   pub timed : (last : ℕ) → last ≤ start + behind → AreTimed last lines
   pub placed : counted_from first left ≡ one_a_frame (behind - first) ps ++ placed_from (Some (start + first)) (behind - first + length ps) lines
 
 -- a line of a pair and those that go on with its stretch
 pub line_is : (start : ℕ) (drop_frame : Bool) (frame : ℕ) (pair : Pair) (ps : List Pair) (words : List ℕ) → pair.a < 256 → pair.b < 256 → start + frame < day_frames drop_frame
-    → AreWords ps words
+    → AreSpacedWords ps words
     → IsTimedLine (record { time = time_at (start + frame) drop_frame; first = pair; more = ps })
-    (text_of (time_at (start + frame) drop_frame) ++ (9 ∷ ([] ++ (word_of pair ++ words))))
+    (text_of (time_at (start + frame) drop_frame) ++ (9 ∷ ([] ++ (pair_word pair ++ words))))
 line_is start drop_frame frame pair ps words a_fits b_fits within are = record {
   text = text_of (time_at (start + frame) drop_frame);
   blank = 9;
   blanks = [];
-  word = word_of pair;
+  word = pair_word pair;
   words = words;
   is_text = record { digits = time_spelled (start + frame) drop_frame within; spelled = refl };
   is_blank_byte = refl;
@@ -103,13 +103,13 @@ line_is start drop_frame frame pair ps words a_fits b_fits within are = record {
 -- a new line, where pairs stood before
 pub next_line : (start first behind frame : ℕ) (drop_frame : Bool) (pair : Pair) (text : List ℕ) (left : List (ℕ × Pair)) → first ≤ behind → behind ≤ frame
     → pair.a < 256 → pair.b < 256 → start + frame < day_frames drop_frame → Within start first (frame + 1) text left
-    → Within start first behind (10 ∷ 10 ∷ (text_of (time_at (start + frame) drop_frame) ++ (9 ∷ (word_of pair ++ text)))) ((frame, pair) ∷ left)
+    → Within start first behind (10 ∷ 10 ∷ (text_of (time_at (start + frame) drop_frame) ++ (9 ∷ (pair_word pair ++ text)))) ((frame, pair) ∷ left)
 next_line start first behind frame drop_frame pair text left low high a_fits b_fits day w =
     let t = time_at (start + frame) drop_frame in
     let named : frame_of t ≡ Ok (start + frame) = time_named (start + frame) drop_frame day in
     let number : frame_number t ≡ start + frame = number_is t (start + frame) named in
     let line : TimedLine = record { time = t; first = pair; more = w.ps } in
-    let spelled = text_of t ++ (9 ∷ ([] ++ (word_of pair ++ w.words))) in
+    let spelled = text_of t ++ (9 ∷ ([] ++ (pair_word pair ++ w.words))) in
     let at : max (start + frame - (start + first)) (behind - first + 0) ≡ frame - first = omega arith in
     let next : frame + 1 - first ≡ frame - first + 1 = omega arith in
     let count : frame + 1 - first + length w.ps ≡ frame - first + 1 + length w.ps = omega arith in
@@ -118,7 +118,7 @@ next_line start first behind frame drop_frame pair text left low high a_fits b_f
       words = [];
       rest = 10 ∷ 10 ∷ (spelled ++ w.rest);
       lines = None ∷ Some line ∷ w.lines;
-      is = ap (λ z. 10 ∷ 10 ∷ (text_of t ++ (9 ∷ (word_of pair ++ z)))) w.is;
+      is = ap (λ z. 10 ∷ 10 ∷ (text_of t ++ (9 ∷ (pair_word pair ++ z)))) w.is;
       are_words = tt;
       are_lines = (
         10 ∷ [],
@@ -140,17 +140,17 @@ next_line start first behind frame drop_frame pair text left low high a_fits b_f
 
 -- a further word of a line
 pub next_word : (start first behind : ℕ) (pair : Pair) (text : List ℕ) (left : List (ℕ × Pair)) → first ≤ behind → pair.a < 256 → pair.b < 256
-    → Within start first (behind + 1) text left → Within start first behind (32 ∷ (word_of pair ++ text)) ((behind, pair) ∷ left)
+    → Within start first (behind + 1) text left → Within start first behind (32 ∷ (pair_word pair ++ text)) ((behind, pair) ∷ left)
 next_word start first behind pair text left low a_fits b_fits w =
     let next : behind + 1 - first ≡ behind - first + 1 = omega arith in
     let count : behind + 1 - first + length w.ps ≡ behind - first + length (pair ∷ w.ps) = omega arith in
     record {
       ps = pair ∷ w.ps;
-      words = 32 ∷ (word_of pair ++ w.words);
+      words = 32 ∷ (pair_word pair ++ w.words);
       rest = w.rest;
       lines = w.lines;
-      is = ap (λ z. 32 ∷ (word_of pair ++ z)) w.is;
-      are_words = ([], word_of pair, w.words, tt, word_is pair a_fits b_fits, w.are_words, refl);
+      is = ap (λ z. 32 ∷ (pair_word pair ++ z)) w.is;
+      are_words = ([], pair_word pair, w.words, tt, word_is pair a_fits b_fits, w.are_words, refl);
       are_lines = w.are_lines;
       timed = λ last early. w.timed last (omega arith);
       placed = ap (λ z. (behind - first, pair) ∷ z) (w.placed ∙ (ap (λ n. one_a_frame n w.ps ++ placed_from (Some (start + first)) (behind + 1 - first + length w.ps) w.lines) next
@@ -176,30 +176,30 @@ writable_lower start drop_frame low lower [] fewer are = tt
 writable_lower start drop_frame low lower (placed ∷ pairs) fewer (l, a, b, day, rest) = (omega arith, a, b, day, rest)
 
 pub within : (pairs : List (ℕ × Pair)) (start first behind : ℕ) (drop_frame : Bool) → first ≤ behind → AreWritable start drop_frame behind pairs
-    → Within start first behind (text_from (record { start = start; drop_frame = drop_frame; behind = Some behind }) pairs) (shown pairs)
+    → Within start first behind (text_from (record { start = start; drop_frame = drop_frame; behind = Some behind }) pairs) (pairs_not_null pairs)
 within [] start first behind drop_frame low are = no_more start first behind
 within (placed ∷ pairs) start first behind drop_frame low (high, a_fits, b_fits, day, rest) =
     let frame = placed.0 in
     let pair = placed.1 in
     let w : Standing = record { start = start; drop_frame = drop_frame; behind = Some behind } in
     let v : Standing = record { start = start; drop_frame = drop_frame; behind = Some (frame + 1) } in
-    let new = between (Some behind) ++ (text_of (time_at (start + frame) drop_frame) ++ (9 ∷ word_of pair)) in
+    let new = between (Some behind) ++ (text_of (time_at (start + frame) drop_frame) ++ (9 ∷ pair_word pair)) in
     let by_goes : (g : Bool) → nat_eq behind frame ≡ g → is_null pair ≡ false
-    → Within start first behind (cond g (32 ∷ word_of pair) new ++ text_from v pairs) ((frame, pair) ∷ shown pairs) =
+    → Within start first behind (cond g (32 ∷ pair_word pair) new ++ text_from v pairs) ((frame, pair) ∷ pairs_not_null pairs) =
     elim [
       | true ↦ λ e n.
           let same : behind ≡ frame = eqb-true behind frame e in
           let next = within pairs start first (frame + 1) drop_frame (omega arith) rest in
-          subst (λ (b : ℕ). Within start first b (32 ∷ (word_of pair ++ text_from v pairs)) ((frame, pair) ∷ shown pairs)) (sym same)
-          (next_word start first frame pair (text_from v pairs) (shown pairs) (omega arith) a_fits b_fits next)
+          subst (λ (b : ℕ). Within start first b (32 ∷ (pair_word pair ++ text_from v pairs)) ((frame, pair) ∷ pairs_not_null pairs)) (sym same)
+          (next_word start first frame pair (text_from v pairs) (pairs_not_null pairs) (omega arith) a_fits b_fits next)
       | false ↦ λ e n.
           let next = within pairs start first (frame + 1) drop_frame (omega arith) rest in
-          next_line start first behind frame drop_frame pair (text_from v pairs) (shown pairs) low high a_fits b_fits
+          next_line start first behind frame drop_frame pair (text_from v pairs) (pairs_not_null pairs) low high a_fits b_fits
           (of_day (is_null pair) (day_frames drop_frame) (start + frame) n day) next
     ] in
     let by_null : (n : Bool) → is_null pair ≡ n
-    → Within start first behind (cond n [] (cond (nat_eq behind frame) (32 ∷ word_of pair) new) ++ text_from (cond n w v) pairs)
-    (cond n (shown pairs) ((frame, pair) ∷ shown pairs)) =
+    → Within start first behind (cond n [] (cond (nat_eq behind frame) (32 ∷ pair_word pair) new) ++ text_from (cond n w v) pairs)
+    (cond n (pairs_not_null pairs) ((frame, pair) ∷ pairs_not_null pairs)) =
     elim [
       | true ↦ λ n. within pairs start first behind drop_frame low (writable_lower start drop_frame (frame + 1) behind pairs (omega arith) rest)
       | false ↦ λ n. by_goes (nat_eq behind frame) refl n
@@ -215,13 +215,13 @@ pub record Before (start : ℕ) (text : List ℕ) (left : List (ℕ × Pair)) : 
 
 pub first_line : (start frame : ℕ) (drop_frame : Bool) (pair : Pair) (text : List ℕ) (left : List (ℕ × Pair))
     → pair.a < 256 → pair.b < 256 → start + frame < day_frames drop_frame → Within start frame (frame + 1) text left
-    → Before start (text_of (time_at (start + frame) drop_frame) ++ (9 ∷ (word_of pair ++ text))) ((frame, pair) ∷ left)
+    → Before start (text_of (time_at (start + frame) drop_frame) ++ (9 ∷ (pair_word pair ++ text))) ((frame, pair) ∷ left)
 first_line start frame drop_frame pair text left a_fits b_fits day w =
     let t = time_at (start + frame) drop_frame in
     let named : frame_of t ≡ Ok (start + frame) = time_named (start + frame) drop_frame day in
     let number : frame_number t ≡ start + frame = number_is t (start + frame) named in
     let line : TimedLine = record { time = t; first = pair; more = w.ps } in
-    let spelled = text_of t ++ (9 ∷ ([] ++ (word_of pair ++ w.words))) in
+    let spelled = text_of t ++ (9 ∷ ([] ++ (pair_word pair ++ w.words))) in
     let at : max (start + frame - (start + frame)) 0 ≡ frame - frame = omega arith in
     let next : frame + 1 - frame ≡ frame - frame + 1 = omega arith in
     let count : frame + 1 - frame + length w.ps ≡ frame - frame + 1 + length w.ps = omega arith in
@@ -234,7 +234,7 @@ first_line start frame drop_frame pair text left a_fits b_fits day w =
         inl refl,
         tt,
         (10 ∷ [], spelled, w.rest, inl refl, line_is start drop_frame frame pair w.ps w.words a_fits b_fits day w.are_words, w.are_lines, refl),
-        ap (λ z. 10 ∷ 10 ∷ (text_of t ++ (9 ∷ (word_of pair ++ z)))) w.is,
+        ap (λ z. 10 ∷ 10 ∷ (text_of t ++ (9 ∷ (pair_word pair ++ z)))) w.is,
       );
       timed = (start + frame, named, omega arith, w.timed (start + frame) (omega arith));
       placed =
@@ -245,7 +245,7 @@ first_line start frame drop_frame pair text left a_fits b_fits day w =
     }
 
 pub before : (pairs : List (ℕ × Pair)) (start low : ℕ) (drop_frame : Bool) → AreWritable start drop_frame low pairs
-    → Before start (text_from (record { start = start; drop_frame = drop_frame; behind = None }) pairs) (shown pairs)
+    → Before start (text_from (record { start = start; drop_frame = drop_frame; behind = None }) pairs) (pairs_not_null pairs)
 before [] start low drop_frame are = record {
   lines = None ∷ None ∷ [];
   are_lines = (10 ∷ [], [], 10 ∷ [], inl refl, tt, (10 ∷ [], [], [], inl refl, tt, refl, refl), refl);
@@ -258,18 +258,18 @@ before (placed ∷ pairs) start low drop_frame (high, a_fits, b_fits, day, rest)
     let w : Standing = record { start = start; drop_frame = drop_frame; behind = None } in
     let v : Standing = record { start = start; drop_frame = drop_frame; behind = Some (frame + 1) } in
     let by_null : (n : Bool) → is_null pair ≡ n
-    → Before start (cond n [] (text_of (time_at (start + frame) drop_frame) ++ (9 ∷ word_of pair)) ++ text_from (cond n w v) pairs)
-    (cond n (shown pairs) ((frame, pair) ∷ shown pairs)) =
+    → Before start (cond n [] (text_of (time_at (start + frame) drop_frame) ++ (9 ∷ pair_word pair)) ++ text_from (cond n w v) pairs)
+    (cond n (pairs_not_null pairs) ((frame, pair) ∷ pairs_not_null pairs)) =
     elim [
       | true ↦ λ n. before pairs start (frame + 1) drop_frame rest
       | false ↦ λ n.
-          first_line start frame drop_frame pair (text_from v pairs) (shown pairs) a_fits b_fits
+          first_line start frame drop_frame pair (text_from v pairs) (pairs_not_null pairs) a_fits b_fits
           (of_day (is_null pair) (day_frames drop_frame) (start + frame) n day) (within pairs start frame (frame + 1) drop_frame (omega arith) rest)
     ] in
     by_null (is_null pair) refl
 
 pub written_is_file : (pairs : List (ℕ × Pair)) (start : ℕ) (drop_frame : Bool) → AreWritable start drop_frame 0 pairs
-    → IsSccFile (counted (shown pairs)) (written_file start drop_frame pairs)
+    → IsSccFile (counted (pairs_not_null pairs)) (written_file start drop_frame pairs)
 written_is_file pairs start drop_frame are =
     let b = before pairs start 0 drop_frame are in
     record {

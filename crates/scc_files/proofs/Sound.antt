@@ -14,8 +14,8 @@ use Rattle.time_codes.proofs.TextLemmas.{read_is_spelled}
 use Rattle.time_codes.specs.Frames.{frame_of}
 use Rattle.time_codes.specs.Texts.{IsTimeText, is_digit, time_of_text}
 use Rattle.time_codes.specs.declared.time_code.TimeCode.{TimeCode}
-use Rattle.scc_files.specs.Lines.{AreBlanks, AreLines, AreSpaces, AreWords, IsForm, IsLine, IsWord, TimedLine}
-use Rattle.scc_files.specs.Phases.{ended, first_text, fits, hex_value, is_blank, moved, word_or_end}
+use Rattle.scc_files.specs.Lines.{AreBlanks, AreLines, AreSpacedWords, AreSpaces, IsForm, IsLine, IsPairWord, TimedLine}
+use Rattle.scc_files.specs.Phases.{ended, first_text, fits, hex_value, is_blank, phase_after, word_or_end}
 use Rattle.scc_files.specs.Reading.{at_first, at_first_frame, behind, judged, pairs_on, read_from, reached, step_to, text_done, timed, timed_form, with_pair}
 use Rattle.scc_files.specs.SccFiles.{one_a_frame}
 use Rattle.scc_files.specs.declared.phase.Phase.{Phase}
@@ -61,7 +61,7 @@ pub record WordsThen (j : Bool) (p : Position) (bytes : List ℕ) (out : Pairs) 
   pub words : List ℕ
   pub rest : List ℕ
   pub more : Pairs
-  pub are : AreWords pairs words
+  pub are : AreSpacedWords pairs words
   pub behind : LinesAt j (after_pairs p pairs) rest more
   pub made : out ≡ one_a_frame p.next pairs ++ more
   pub is : bytes ≡ words ++ rest
@@ -71,7 +71,7 @@ pub record BetweenThen (j : Bool) (p : Position) (bytes : List ℕ) (out : Pairs
   pub words : List ℕ
   pub rest : List ℕ
   pub more : Pairs
-  pub are : AreWords pairs (32 ∷ words)
+  pub are : AreSpacedWords pairs (32 ∷ words)
   pub behind : LinesAt j (after_pairs p pairs) rest more
   pub made : out ≡ one_a_frame p.next pairs ++ more
   pub is : bytes ≡ words ++ rest
@@ -252,7 +252,7 @@ space_behind j p byte bytes out is w =
     subst (λ (b : ℕ). WordsThen j p (b ∷ bytes) out) (sym (eqb-true byte 32 is))
     (record { pairs = w.pairs; words = 32 ∷ w.words; rest = w.rest; more = w.more; are = w.are; behind = w.behind; made = w.made; is = ap (λ z. 32 ∷ z) w.is })
 
-pub wider : (pairs : List Pair) (words : List ℕ) → AreWords pairs (32 ∷ words) → AreWords pairs (32 ∷ 32 ∷ words)
+pub wider : (pairs : List Pair) (words : List ℕ) → AreSpacedWords pairs (32 ∷ words) → AreSpacedWords pairs (32 ∷ 32 ∷ words)
 wider [] words are = (refl, are)
 wider (pair ∷ pairs) words (spaces, word, rest, are_spaces, is_word, are_words, is) =
     (32 ∷ spaces, word, rest, (refl, are_spaces), is_word, are_words, ap (λ z. 32 ∷ z) is)
@@ -268,7 +268,7 @@ pub record WordThen (j : Bool) (p : Position) (bytes : List ℕ) (out : Pairs) :
   pub word : List ℕ
   pub rest : List ℕ
   pub more : Pairs
-  pub is_word : IsWord pair word
+  pub is_word : IsPairWord pair word
   pub behind : WordsThen j (pairs_on p 1) rest more
   pub made : out ≡ (p.next, pair) ∷ more
   pub is : bytes ≡ word ++ rest
@@ -433,7 +433,7 @@ text_whole j p s text byte bytes out size judge behind =
     }
 
 -- a byte of the first line's text
-pub first_more : (j : Bool) (at byte : ℕ) (p : Position) (bytes : List ℕ) (out : Pairs) (to : Phase) → moved (phase.First at) byte ≡ Some to → Reached j to p bytes out
+pub first_more : (j : Bool) (at byte : ℕ) (p : Position) (bytes : List ℕ) (out : Pairs) (to : Phase) → phase_after (phase.First at) byte ≡ Some to → Reached j to p bytes out
     → Follows j (phase.First at) p (byte ∷ bytes) out
 first_more j at byte p bytes out to is next = λ early.
     ⊎_elim
@@ -459,7 +459,7 @@ first_more j at byte p bytes out to is next = λ early.
     (λ c. absurd (none_some to c.1))
     (chose (nat_eq byte (slice_index first_text at)) (cond (nat_eq at 17) (Some phase.FirstSpaces) (Some (phase.First (at + 1)))) None to is)
 
-pub first_spaces_more : (j : Bool) (byte : ℕ) (p : Position) (bytes : List ℕ) (out : Pairs) (to : Phase) → moved phase.FirstSpaces byte ≡ Some to → Reached j to p bytes out
+pub first_spaces_more : (j : Bool) (byte : ℕ) (p : Position) (bytes : List ℕ) (out : Pairs) (to : Phase) → phase_after phase.FirstSpaces byte ≡ Some to → Reached j to p bytes out
     → SpacesThen j p (byte ∷ bytes) out
 first_spaces_more j byte p bytes out to is next =
     ⊎_elim
@@ -489,7 +489,7 @@ lf_more j byte p bytes out to is next =
     (λ c. absurd (none_some to c.1))
     (chose (nat_eq byte 10) (Some phase.Start) None to is)
 
-pub blank_more : (j : Bool) (byte : ℕ) (p : Position) (bytes : List ℕ) (out : Pairs) (to : Phase) → moved phase.Blank byte ≡ Some to → Reached j to p bytes out
+pub blank_more : (j : Bool) (byte : ℕ) (p : Position) (bytes : List ℕ) (out : Pairs) (to : Phase) → phase_after phase.Blank byte ≡ Some to → Reached j to p bytes out
     → SpacesThen j p (byte ∷ bytes) out
 blank_more j byte p bytes out to is next =
     ⊎_elim
@@ -497,7 +497,7 @@ blank_more j byte p bytes out to is next =
     (λ c. no_space j p (byte ∷ bytes) out (behind_end j p byte bytes out to c.1 next))
     (chose (nat_eq byte 32) (Some phase.Blank) (ended byte) to is)
 
-pub start_more : (j : Bool) (byte : ℕ) (p : Position) (bytes : List ℕ) (out : Pairs) (to : Phase) → moved phase.Start byte ≡ Some to → Reached j to p bytes out
+pub start_more : (j : Bool) (byte : ℕ) (p : Position) (bytes : List ℕ) (out : Pairs) (to : Phase) → phase_after phase.Start byte ≡ Some to → Reached j to p bytes out
     → StartAt j p (byte ∷ bytes) out
 start_more j byte p bytes out to is next =
     let text = byte ∷ 0 ∷ 0 ∷ 0 ∷ 0 ∷ 0 ∷ 0 ∷ 0 ∷ 0 ∷ 0 ∷ 0 ∷ [] in
@@ -513,7 +513,7 @@ start_more j byte p bytes out to is next =
     (chose (nat_eq byte 32) (Some phase.Blank) (ended byte) to c.1))
     (chose (is_digit byte) (Some (phase.Text 1 text)) (cond (nat_eq byte 32) (Some phase.Blank) (ended byte)) to is)
 
-pub time_more : (j : Bool) (at : ℕ) (text : List ℕ) (byte : ℕ) (p : Position) (bytes : List ℕ) (out : Pairs) (to : Phase) → moved (phase.Text at text) byte ≡ Some to
+pub time_more : (j : Bool) (at : ℕ) (text : List ℕ) (byte : ℕ) (p : Position) (bytes : List ℕ) (out : Pairs) (to : Phase) → phase_after (phase.Text at text) byte ≡ Some to
     → Reached j to p bytes out → Follows j (phase.Text at text) p (byte ∷ bytes) out
 time_more j at text byte p bytes out to is next = λ size early.
     ⊎_elim
@@ -547,7 +547,7 @@ timed_more j byte p bytes out to is next =
     (λ c. absurd (none_some to c.1))
     (chose (is_blank byte) (Some phase.Gap) None to is)
 
-pub gap_more : (j : Bool) (byte : ℕ) (p : Position) (bytes : List ℕ) (out : Pairs) (to : Phase) → moved phase.Gap byte ≡ Some to → Reached j to p bytes out
+pub gap_more : (j : Bool) (byte : ℕ) (p : Position) (bytes : List ℕ) (out : Pairs) (to : Phase) → phase_after phase.Gap byte ≡ Some to → Reached j to p bytes out
     → GapThen j p (byte ∷ bytes) out
 gap_more j byte p bytes out to is next =
     ⊎_elim
@@ -557,26 +557,26 @@ gap_more j byte p bytes out to is next =
     no_gap j p byte value bytes out known (subst (λ (t : Phase). Reached j t p bytes out) (sym goes) next))
     (chose (is_blank byte) (Some phase.Gap) (option_map (λ value. phase.One value) (hex_value byte)) to is)
 
-pub one_more : (j : Bool) (value byte : ℕ) (p : Position) (bytes : List ℕ) (out : Pairs) (to : Phase) → moved (phase.One value) byte ≡ Some to → Reached j to p bytes out
+pub one_more : (j : Bool) (value byte : ℕ) (p : Position) (bytes : List ℕ) (out : Pairs) (to : Phase) → phase_after (phase.One value) byte ≡ Some to → Reached j to p bytes out
     → OneThen value j p (byte ∷ bytes) out
 one_more j value byte p bytes out to is next =
     let (low, known, goes) = mapped (λ low. phase.Two (16 * value + low)) (hex_value byte) to is in
     record { b = byte; q = low; rest = bytes; b_is = known; behind = subst (λ (t : Phase). Reached j t p bytes out) (sym goes) next; is = refl }
 
-pub two_more : (j : Bool) (first byte : ℕ) (p : Position) (bytes : List ℕ) (out : Pairs) (to : Phase) → moved (phase.Two first) byte ≡ Some to → Reached j to p bytes out
+pub two_more : (j : Bool) (first byte : ℕ) (p : Position) (bytes : List ℕ) (out : Pairs) (to : Phase) → phase_after (phase.Two first) byte ≡ Some to → Reached j to p bytes out
     → TwoThen first j p (byte ∷ bytes) out
 two_more j first byte p bytes out to is next =
     let (value, known, goes) = mapped (λ value. phase.Three first value) (hex_value byte) to is in
     record { c = byte; r = value; rest = bytes; c_is = known; behind = subst (λ (t : Phase). Reached j t p bytes out) (sym goes) next; is = refl }
 
-pub three_more : (j : Bool) (first value byte : ℕ) (p : Position) (bytes : List ℕ) (out : Pairs) (to : Phase) → moved (phase.Three first value) byte ≡ Some to
+pub three_more : (j : Bool) (first value byte : ℕ) (p : Position) (bytes : List ℕ) (out : Pairs) (to : Phase) → phase_after (phase.Three first value) byte ≡ Some to
     → Reached j to p bytes out → ThreeThen first value j p (byte ∷ bytes) out
 three_more j first value byte p bytes out to is next =
     let (low, known, goes) = mapped (λ low. phase.Whole (record { a = first; b = 16 * value + low })) (hex_value byte) to is in
     let (more, words, made) = subst (λ (t : Phase). Reached j t p bytes out) (sym goes) next in
     record { d = byte; s = low; rest = bytes; more = more; d_is = known; behind = words; made = made; is = refl }
 
-pub whole_more : (j : Bool) (pair : Pair) (byte : ℕ) (p : Position) (bytes : List ℕ) (out : Pairs) (to : Phase) → moved (phase.Whole pair) byte ≡ Some to
+pub whole_more : (j : Bool) (pair : Pair) (byte : ℕ) (p : Position) (bytes : List ℕ) (out : Pairs) (to : Phase) → phase_after (phase.Whole pair) byte ≡ Some to
     → Reached j to p bytes out → WordsThen j p (byte ∷ bytes) out
 whole_more j pair byte p bytes out to is next =
     ⊎_elim
@@ -584,7 +584,7 @@ whole_more j pair byte p bytes out to is next =
     (λ c. no_words j p (byte ∷ bytes) out (behind_end j p byte bytes out to c.1 next))
     (chose (nat_eq byte 32) (Some phase.Between) (ended byte) to is)
 
-pub between_more : (j : Bool) (byte : ℕ) (p : Position) (bytes : List ℕ) (out : Pairs) (to : Phase) → moved phase.Between byte ≡ Some to → Reached j to p bytes out
+pub between_more : (j : Bool) (byte : ℕ) (p : Position) (bytes : List ℕ) (out : Pairs) (to : Phase) → phase_after phase.Between byte ≡ Some to → Reached j to p bytes out
     → BetweenThen j p (byte ∷ bytes) out
 between_more j byte p bytes out to is next =
     let cases : (o : Option ℕ) → hex_value byte ≡ o → word_or_end byte o ≡ Some to → BetweenThen j p (byte ∷ bytes) out =
@@ -598,7 +598,7 @@ between_more j byte p bytes out to is next =
     (chose (nat_eq byte 32) (Some phase.Between) (word_or_end byte (hex_value byte)) to is)
 
 -- one byte more in front, at any phase
-pub byte_more : (from : Phase) (j : Bool) (byte : ℕ) (p : Position) (bytes : List ℕ) (out : Pairs) (to : Phase) → moved from byte ≡ Some to → Reached j to p bytes out
+pub byte_more : (from : Phase) (j : Bool) (byte : ℕ) (p : Position) (bytes : List ℕ) (out : Pairs) (to : Phase) → phase_after from byte ≡ Some to → Reached j to p bytes out
     → Follows j from p (byte ∷ bytes) out
 byte_more (phase.First at) j byte p bytes out to is next = first_more j at byte p bytes out to is next
 byte_more phase.FirstSpaces j byte p bytes out to is next = first_spaces_more j byte p bytes out to is next
@@ -685,7 +685,7 @@ reached_sound phase.Between j place p bytes out more is = more phase.Between p o
 pub sound : (j : Bool) (bytes : List ℕ) (place : ℕ) → ReadsOn j place bytes
 sound j [] place from p out is = end_sound from j place p out is
 sound j (byte ∷ bytes) place from p out is =
-    let (to, moves, read) = led j (record { phase = from; position = p }) (moved from byte) place (λ s. read_from j (place + 1) s bytes) out is in
+    let (to, moves, read) = led j (record { phase = from; position = p }) (phase_after from byte) place (λ s. read_from j (place + 1) s bytes) out is in
     byte_more from j byte p bytes out to moves (reached_sound to j place p bytes out (sound j bytes (place + 1)) read)
 
 -- a whole file is one in form, of these lines

@@ -7,10 +7,10 @@ use Rattle.line21_codes.specs.NullPairs.{is_null}
 use Rattle.time_codes.specs.Frames.{time_at}
 use Rattle.time_codes.specs.Texts.{text_of}
 use Rattle.scc_files.specs.SccFiles.{AreRising, one_a_frame}
-use Rattle.scc_files.specs.Stretches.{AreApart, AreLongest, CallsWrite, IsWritten, IsWriting, Stretch, pairs_of, spaced, standing_first, stretch_lines}
-use Rattle.scc_files.specs.Words.{word_of}
+use Rattle.scc_files.specs.Stretches.{AreStretchesApart, AreLongest, CallsWrite, IsWritten, IsWriting, Stretch, stretch_pairs, spaced_words, standing_first, stretch_lines}
+use Rattle.scc_files.specs.Words.{pair_word}
 use Rattle.scc_files.specs.Writing.{Standing, between, head_text, piece_of, stand_behind}
-use Rattle.scc_files.specs.Written.{shown, text_from, written_file}
+use Rattle.scc_files.specs.Written.{pairs_not_null, text_from, written_file}
 use Rattle.scc_files.proofs.Rising.{rising_lower}
 
 -- a loop of calls
@@ -32,22 +32,22 @@ calls_write = record {
 pub record Follows (start : ℕ) (drop_frame : Bool) (behind : ℕ) (text : List ℕ) (left : List (ℕ × Pair)) : Type 0 where
   pub more : List Pair
   pub stretches : List Stretch
-  pub are : left ≡ one_a_frame behind more ++ pairs_of stretches
-  pub apart : AreApart (behind + length more) stretches
-  pub spelled : text ≡ spaced more ++ (10 ∷ 10 ∷ stretch_lines start drop_frame stretches)
+  pub are : left ≡ one_a_frame behind more ++ stretch_pairs stretches
+  pub apart : AreStretchesApart (behind + length more) stretches
+  pub spelled : text ≡ spaced_words more ++ (10 ∷ 10 ∷ stretch_lines start drop_frame stretches)
 
 -- one that a word more goes on with
 pub goes_further : (start : ℕ) (drop_frame : Bool) (behind : ℕ) (pair : Pair) (text : List ℕ) (left : List (ℕ × Pair))
-    → Follows start drop_frame (behind + 1) text left → Follows start drop_frame behind (32 ∷ (word_of pair ++ text)) ((behind, pair) ∷ left)
+    → Follows start drop_frame (behind + 1) text left → Follows start drop_frame behind (32 ∷ (pair_word pair ++ text)) ((behind, pair) ∷ left)
 goes_further start drop_frame behind pair text left f =
     let count : behind + 1 + length f.more ≡ behind + length (pair ∷ f.more) = omega arith in
     record {
       more = pair ∷ f.more;
       stretches = f.stretches;
       are = ap (λ z. (behind, pair) ∷ z) f.are;
-      apart = subst (λ n. AreApart n f.stretches) count f.apart;
-      spelled = ap (λ z. 32 ∷ (word_of pair ++ z)) f.spelled
-          ∙ ap (λ z. 32 ∷ z) (sym (append_assoc (word_of pair) (spaced f.more) (10 ∷ 10 ∷ stretch_lines start drop_frame f.stretches)));
+      apart = subst (λ n. AreStretchesApart n f.stretches) count f.apart;
+      spelled = ap (λ z. 32 ∷ (pair_word pair ++ z)) f.spelled
+          ∙ ap (λ z. 32 ∷ z) (sym (append_assoc (pair_word pair) (spaced_words f.more) (10 ∷ 10 ∷ stretch_lines start drop_frame f.stretches)));
     }
 
 -- the stretch of a pair and what follows it
@@ -55,19 +55,19 @@ abbrev pub stretch_with : ℕ → Pair → List Pair → Stretch
 stretch_with frame pair more = record { frame = frame; first = pair; more = more }
 
 pub line_with : (start : ℕ) (drop_frame : Bool) (frame : ℕ) (pair : Pair) (text : List ℕ) (left : List (ℕ × Pair)) (f : Follows start drop_frame (frame + 1) text left)
-    → text_of (time_at (start + frame) drop_frame) ++ (9 ∷ (word_of pair ++ text))
+    → text_of (time_at (start + frame) drop_frame) ++ (9 ∷ (pair_word pair ++ text))
     ≡ stretch_lines start drop_frame (stretch_with frame pair f.more ∷ f.stretches)
 line_with start drop_frame frame pair text left f =
     let rest = 10 ∷ 10 ∷ stretch_lines start drop_frame f.stretches in
     let time = text_of (time_at (start + frame) drop_frame) in
-    ap (λ z. time ++ (9 ∷ (word_of pair ++ z))) f.spelled
-    ∙ (ap (λ z. time ++ (9 ∷ z)) (sym (append_assoc (word_of pair) (spaced f.more) rest))
-    ∙ sym (append_assoc time (9 ∷ (word_of pair ++ spaced f.more)) rest))
+    ap (λ z. time ++ (9 ∷ (pair_word pair ++ z))) f.spelled
+    ∙ (ap (λ z. time ++ (9 ∷ z)) (sym (append_assoc (pair_word pair) (spaced_words f.more) rest))
+    ∙ sym (append_assoc time (9 ∷ (pair_word pair ++ spaced_words f.more)) rest))
 
 -- a new stretch
 pub begins_stretch : (start : ℕ) (drop_frame : Bool) (behind frame : ℕ) (pair : Pair) (text : List ℕ) (left : List (ℕ × Pair)) → behind < frame
     → Follows start drop_frame (frame + 1) text left
-    → Follows start drop_frame behind (10 ∷ 10 ∷ (text_of (time_at (start + frame) drop_frame) ++ (9 ∷ (word_of pair ++ text)))) ((frame, pair) ∷ left)
+    → Follows start drop_frame behind (10 ∷ 10 ∷ (text_of (time_at (start + frame) drop_frame) ++ (9 ∷ (pair_word pair ++ text)))) ((frame, pair) ∷ left)
 begins_stretch start drop_frame behind frame pair text left apart f =
     let here : behind + 0 < frame = omega arith in
     record {
@@ -82,26 +82,26 @@ pub later_frame : (behind frame : ℕ) → behind ≤ frame → nat_eq behind fr
 later_frame behind frame low other = grind (arith, common_steps)
 
 pub follows : (pairs : List (ℕ × Pair)) (start : ℕ) (drop_frame : Bool) (behind : ℕ) → AreRising behind pairs
-    → Follows start drop_frame behind (text_from (record { start = start; drop_frame = drop_frame; behind = Some behind }) pairs) (shown pairs)
+    → Follows start drop_frame behind (text_from (record { start = start; drop_frame = drop_frame; behind = Some behind }) pairs) (pairs_not_null pairs)
 follows [] start drop_frame behind are = record { more = []; stretches = []; are = refl; apart = tt; spelled = refl }
 follows (placed ∷ pairs) start drop_frame behind (high, rest) =
     let frame = placed.0 in
     let pair = placed.1 in
     let w : Standing = record { start = start; drop_frame = drop_frame; behind = Some behind } in
     let v : Standing = record { start = start; drop_frame = drop_frame; behind = Some (frame + 1) } in
-    let new = between (Some behind) ++ (text_of (time_at (start + frame) drop_frame) ++ (9 ∷ word_of pair)) in
+    let new = between (Some behind) ++ (text_of (time_at (start + frame) drop_frame) ++ (9 ∷ pair_word pair)) in
     let next = follows pairs start drop_frame (frame + 1) rest in
     let by_goes : (g : Bool) → nat_eq behind frame ≡ g
-    → Follows start drop_frame behind (cond g (32 ∷ word_of pair) new ++ text_from v pairs) ((frame, pair) ∷ shown pairs) =
+    → Follows start drop_frame behind (cond g (32 ∷ pair_word pair) new ++ text_from v pairs) ((frame, pair) ∷ pairs_not_null pairs) =
     elim [
       | true ↦ λ e.
-          subst (λ (b : ℕ). Follows start drop_frame b (32 ∷ (word_of pair ++ text_from v pairs)) ((frame, pair) ∷ shown pairs)) (sym (eqb-true behind frame e))
-          (goes_further start drop_frame frame pair (text_from v pairs) (shown pairs) next)
-      | false ↦ λ e. begins_stretch start drop_frame behind frame pair (text_from v pairs) (shown pairs) (later_frame behind frame high e) next
+          subst (λ (b : ℕ). Follows start drop_frame b (32 ∷ (pair_word pair ++ text_from v pairs)) ((frame, pair) ∷ pairs_not_null pairs)) (sym (eqb-true behind frame e))
+          (goes_further start drop_frame frame pair (text_from v pairs) (pairs_not_null pairs) next)
+      | false ↦ λ e. begins_stretch start drop_frame behind frame pair (text_from v pairs) (pairs_not_null pairs) (later_frame behind frame high e) next
     ] in
     let by_null : (n : Bool) → is_null pair ≡ n
-    → Follows start drop_frame behind (cond n [] (cond (nat_eq behind frame) (32 ∷ word_of pair) new) ++ text_from (cond n w v) pairs)
-    (cond n (shown pairs) ((frame, pair) ∷ shown pairs)) =
+    → Follows start drop_frame behind (cond n [] (cond (nat_eq behind frame) (32 ∷ pair_word pair) new) ++ text_from (cond n w v) pairs)
+    (cond n (pairs_not_null pairs) ((frame, pair) ∷ pairs_not_null pairs)) =
     elim [
       | true ↦ λ n. follows pairs start drop_frame behind (rising_lower pairs (frame + 1) behind (omega arith) rest)
       | false ↦ λ n. by_goes (nat_eq behind frame) refl
@@ -111,12 +111,12 @@ follows (placed ∷ pairs) start drop_frame behind (high, rest) =
 -- before any stretch
 pub record Begins (start : ℕ) (drop_frame : Bool) (text : List ℕ) (left : List (ℕ × Pair)) : Type 0 where
   pub stretches : List Stretch
-  pub are : left ≡ pairs_of stretches
+  pub are : left ≡ stretch_pairs stretches
   pub longest : AreLongest stretches
   pub spelled : text ≡ stretch_lines start drop_frame stretches
 
 pub begins : (pairs : List (ℕ × Pair)) (start : ℕ) (drop_frame : Bool) (low : ℕ) → AreRising low pairs
-    → Begins start drop_frame (text_from (standing_first start drop_frame) pairs) (shown pairs)
+    → Begins start drop_frame (text_from (standing_first start drop_frame) pairs) (pairs_not_null pairs)
 begins [] start drop_frame low are = record { stretches = []; are = refl; longest = tt; spelled = refl }
 begins (placed ∷ pairs) start drop_frame low (high, rest) =
     let frame = placed.0 in
@@ -124,8 +124,8 @@ begins (placed ∷ pairs) start drop_frame low (high, rest) =
     let w = standing_first start drop_frame in
     let v : Standing = record { start = start; drop_frame = drop_frame; behind = Some (frame + 1) } in
     let by_null : (n : Bool) → is_null pair ≡ n
-    → Begins start drop_frame (cond n [] (text_of (time_at (start + frame) drop_frame) ++ (9 ∷ word_of pair)) ++ text_from (cond n w v) pairs)
-    (cond n (shown pairs) ((frame, pair) ∷ shown pairs)) =
+    → Begins start drop_frame (cond n [] (text_of (time_at (start + frame) drop_frame) ++ (9 ∷ pair_word pair)) ++ text_from (cond n w v) pairs)
+    (cond n (pairs_not_null pairs) ((frame, pair) ∷ pairs_not_null pairs)) =
     elim [
       | true ↦ λ n. begins pairs start drop_frame (frame + 1) rest
       | false ↦ λ n.
@@ -134,7 +134,7 @@ begins (placed ∷ pairs) start drop_frame low (high, rest) =
             stretches = stretch_with frame pair f.more ∷ f.stretches;
             are = ap (λ z. (frame, pair) ∷ z) f.are;
             longest = f.apart;
-            spelled = line_with start drop_frame frame pair (text_from v pairs) (shown pairs) f;
+            spelled = line_with start drop_frame frame pair (text_from v pairs) (pairs_not_null pairs) f;
           }
     ] in
     by_null (is_null pair) refl

@@ -9,8 +9,8 @@ use Rattle.time_codes.proofs.TextLemmas.{spelled_is_read}
 use Rattle.time_codes.specs.Texts.{IsTimeText, mark, text_of, time_of_text}
 use Rattle.time_codes.specs.declared.time_code.TimeCode.{TimeCode}
 use Rattle.scc_files.specs.Lines.{IsForm, IsTimedLine, TimedLine}
-use Rattle.scc_files.specs.Offences.{BeginsFile, BeginsForm, ByteOffends, EndsEarly, EndsLine, IsFirstOffence, IsUnoffending, TimeOffends, line_why, time_why}
-use Rattle.scc_files.specs.Phases.{first_text, moved}
+use Rattle.scc_files.specs.Offences.{BeginsFile, BeginsForm, ByteOffends, EndsEarly, EndsLine, IsFirstOffence, IsUnoffendingText, TimeOffends, line_why, time_why}
+use Rattle.scc_files.specs.Phases.{first_text, phase_after}
 use Rattle.scc_files.specs.Reading.{Stepped, at_first, at_first_frame, behind, read_from, step}
 use Rattle.scc_files.specs.SccFiles.{IsSccFile, one_a_frame}
 use Rattle.scc_files.specs.declared.phase.Phase.{Phase}
@@ -105,7 +105,7 @@ pub either : (n m : ℕ) → (n ≤ m) ⊎ (m < n)
 either n m = ⊎_elim (λ less. inr less) (λ more. inl more) (cases_lt m n)
 
 -- bytes past it offend
-pub time_early : (bytes ys b : List ℕ) (refusal : Refusal) (o : TimeOffends bytes refusal) → bytes ≡ ys ++ b → IsUnoffending ys → length o.start + 11 ≤ length ys → ⊥
+pub time_early : (bytes ys b : List ℕ) (refusal : Refusal) (o : TimeOffends bytes refusal) → bytes ≡ ys ++ b → IsUnoffendingText ys → length o.start + 11 ≤ length ys → ⊥
 time_early bytes ys b refusal o is u late =
     let joined : bytes ≡ u.start ++ (u.open_text ++ b) = is ∙ (ap (λ z. z ++ b) u.spelled ∙ append_assoc u.start u.open_text b) in
     let size : length ys ≡ length u.start + length u.open_text = ap length u.spelled ∙ length-append u.start u.open_text in
@@ -170,15 +170,15 @@ none_phase is = cc
 pub some_phase : {one to : Phase} → Some one ≡ Some to → to ≡ one
 some_phase is = cc
 
-pub text_stuck : (at : ℕ) (text : List ℕ) → moved (phase.Text at text) 10 ≡ None
+pub text_stuck : (at : ℕ) (text : List ℕ) → phase_after (phase.Text at text) 10 ≡ None
 text_stuck at text =
     grind (arith, common_steps)
 
-pub text_stops : (to : Phase) (at : ℕ) (text : List ℕ) → moved (phase.Text at text) 10 ≡ Some to → ⊥
+pub text_stops : (to : Phase) (at : ℕ) (text : List ℕ) → phase_after (phase.Text at text) 10 ≡ Some to → ⊥
 text_stops to at text is =
     none_phase (sym (text_stuck at text) ∙ is)
 
-pub lf_starts : (from to : Phase) → moved from 10 ≡ Some to → to ≡ phase.Start
+pub lf_starts : (from to : Phase) → phase_after from 10 ≡ Some to → to ≡ phase.Start
 lf_starts (phase.First at) to is =
     absurd (none_phase (sym (ap (λ t. cond t (cond (nat_eq at 17) (Some phase.FirstSpaces) (Some (phase.First (at + 1)))) None)
     (flipped (get_or first_text at 0) (no_lf_in first_text at first_text_has_none))) ∙ is))
@@ -202,7 +202,7 @@ pub line_starts : (start : List ℕ) → BeginsFile start → EndsLine start
 line_starts start begins (front, lf) =
     let (s, reaches) = reach_front start begins.more at_first 0 begins.pairs (file_read begins.pairs (start ++ begins.more) begins.file) in
     let (u, given, stepped) = reach_last front 10 at_first s (ap (reach true at_first) (sym lf) ∙ reaches) in
-    let (to, moves, reached_is) = moved_step true u (moved u.phase 10) (s, given) stepped in
+    let (to, moves, reached_is) = moved_step true u (phase_after u.phase 10) (s, given) stepped in
     let (phase_is, form) = form_step to u.position u.position (s, given) reached_is in
     let at_start : s.phase ≡ phase.Start = phase_is ∙ lf_starts u.phase to moves in
     (s.position, reaches ∙ ap (λ f. Some (record { phase = f; position = s.position })) at_start)

@@ -13,9 +13,9 @@ frames_with frames None = frames
 frames_with frames (Some placed) = placed.0 + 1
 
 -- a byte was taken, with the pair that it makes whole; or it offends, or memory ran out
-abbrev pub Gathers : Gathered → Gathered → ℕ → Result (Unit {0}) Stop → Type 0
-Gathers old new byte (Ok _) =
+abbrev pub GathersByte : Gathered → Gathered → ℕ → Result (Unit {0}) Stop → Type 0
+GathersByte old new byte (Ok _) =
     (given : Option (ℕ × Pair)) × (step true old.reader byte ≡ Ok (new.reader, given)) × (new.pairs ≡ old.pairs ++ option_to_list given)
     × (new.frames ≡ frames_with old.frames given)
-Gathers old new byte (Err (stop.Memory error)) = ⊤
-Gathers old new byte (Err (stop.Offends offence)) = (step true old.reader byte ≡ Err offence) × (new.pairs ≡ old.pairs)
+GathersByte old new byte (Err (stop.Memory error)) = ⊤
+GathersByte old new byte (Err (stop.Offends offence)) = (step true old.reader byte ≡ Err offence) × (new.pairs ≡ old.pairs)

@@ -22,7 +22,7 @@ abbrev pub IsLineEnd : List ℕ → Type 0
 IsLineEnd bytes = (bytes ≡ 10 ∷ []) ⊎ (bytes ≡ 13 ∷ 10 ∷ [])
 
 -- a pair's word: four hex digits of either case, two for each byte
-pub record IsWord (pair : Pair) (bytes : List ℕ) : Type 0 where
+pub record IsPairWord (pair : Pair) (bytes : List ℕ) : Type 0 where
   pub a : ℕ
   pub b : ℕ
   pub c : ℕ
@@ -39,10 +39,10 @@ pub record IsWord (pair : Pair) (bytes : List ℕ) : Type 0 where
   pub is : pair ≡ record { a = 16 * p + q; b = 16 * r + s }
 
 -- words behind a word, each behind one or more spaces, and then perhaps spaces
-abbrev pub AreWords : List Pair → List ℕ → Type 0
-AreWords [] bytes = AreSpaces bytes
-AreWords (pair ∷ pairs) bytes =
-    (spaces : List ℕ) × (word : List ℕ) × (rest : List ℕ) × AreSpaces spaces × IsWord pair word × AreWords pairs rest
+abbrev pub AreSpacedWords : List Pair → List ℕ → Type 0
+AreSpacedWords [] bytes = AreSpaces bytes
+AreSpacedWords (pair ∷ pairs) bytes =
+    (spaces : List ℕ) × (word : List ℕ) × (rest : List ℕ) × AreSpaces spaces × IsPairWord pair word × AreSpacedWords pairs rest
     × (bytes ≡ 32 ∷ (spaces ++ (word ++ rest)))
 
 -- what a line with a time code says: its time, and its pairs, at least one
@@ -61,8 +61,8 @@ pub record IsTimedLine (line : TimedLine) (bytes : List ℕ) : Type 0 where
   pub is_text : IsTimeText line.time text
   pub is_blank_byte : is_blank blank ≡ true
   pub are_blanks : AreBlanks blanks
-  pub is_word : IsWord line.first word
-  pub are_words : AreWords line.more words
+  pub is_word : IsPairWord line.first word
+  pub are_words : AreSpacedWords line.more words
   pub spelled : bytes ≡ text ++ (blank ∷ (blanks ++ (word ++ words)))
 
 -- a line: blank, or one with a time code

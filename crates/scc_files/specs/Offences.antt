@@ -34,7 +34,7 @@ abbrev pub EndsLine : List ℕ → Type 0
 EndsLine bytes = (front : List ℕ) × (bytes ≡ front ++ 10 ∷ [])
 
 -- nothing offends in the bytes
-pub record IsUnoffending (bytes : List ℕ) : Type 0 where
+pub record IsUnoffendingText (bytes : List ℕ) : Type 0 where
   pub start : List ℕ
   pub open_text : List ℕ
   pub spelled : bytes ≡ start ++ open_text
@@ -53,14 +53,14 @@ pub record ByteOffends (bytes : List ℕ) (refusal : Refusal) : Type 0 where
   pub byte : ℕ
   pub rest : List ℕ
   pub spelled : bytes ≡ before ++ byte ∷ rest
-  pub unoffending : IsUnoffending before
+  pub unoffending : IsUnoffendingText before
   pub offends : BeginsForm (before ++ byte ∷ []) → ⊥
   pub place_is : refusal.place ≡ length before
   pub why_is : refusal.why ≡ line_why before
 
 -- the bytes end too soon: nothing in them offends, and they are no file in form
 pub record EndsEarly (bytes : List ℕ) (refusal : Refusal) : Type 0 where
-  pub unoffending : IsUnoffending bytes
+  pub unoffending : IsUnoffendingText bytes
   pub no_file : (lines : List (Option TimedLine)) → IsForm lines bytes → ⊥
   pub place_is : refusal.place ≡ length bytes
   pub why_is : refusal.why ≡ line_why bytes

@@ -31,12 +31,12 @@ fits at byte =
     else is_digit byte
 
 -- the numbers that a phase holds are within their ranges
-abbrev pub IsWithin : Phase → Type 0
-IsWithin (phase.First at) = at < 18
-IsWithin (phase.Text at text) = at < 11
-IsWithin (phase.One value) = value < 16
-IsWithin (phase.Three first value) = value < 16
-IsWithin _ = ⊤
+abbrev pub HasNumbersInRange : Phase → Type 0
+HasNumbersInRange (phase.First at) = at < 18
+HasNumbersInRange (phase.Text at text) = at < 11
+HasNumbersInRange (phase.One value) = value < 16
+HasNumbersInRange (phase.Three first value) = value < 16
+HasNumbersInRange _ = ⊤
 
 -- a line's end, or its CR
 abbrev pub ended : ℕ → Option Phase
@@ -67,23 +67,23 @@ word_or_end byte None = ended byte
 word_or_end byte (Some value) = Some (phase.One value)
 
 -- what a byte leads to, if some line goes on with it
-abbrev pub moved : Phase → ℕ → Option Phase
-moved (phase.First at) byte = first_text_moved at byte
-moved phase.FirstSpaces byte =
+abbrev pub phase_after : Phase → ℕ → Option Phase
+phase_after (phase.First at) byte = first_text_moved at byte
+phase_after phase.FirstSpaces byte =
     if byte == 32 then Some phase.FirstSpaces else if byte == 10 then Some phase.Start else if byte == 13 then Some phase.FirstEnd else None
-moved phase.FirstEnd byte = if byte == 10 then Some phase.Start else None
-moved phase.Start byte = started byte
-moved phase.Blank byte = if byte == 32 then Some phase.Blank else ended byte
-moved phase.End byte = if byte == 10 then Some phase.Start else None
-moved (phase.Text at text) byte = text_moved at text byte
-moved (phase.Timed text) byte = if is_blank byte then Some phase.Gap else None
-moved phase.Gap byte = if is_blank byte then Some phase.Gap else option_map (λ value. phase.One value) (hex_value byte)
-moved (phase.One value) byte = option_map (λ low. phase.Two (16 * value + low)) (hex_value byte)
-moved (phase.Two first) byte = option_map (λ value. phase.Three first value) (hex_value byte)
-moved (phase.Three first value) byte =
+phase_after phase.FirstEnd byte = if byte == 10 then Some phase.Start else None
+phase_after phase.Start byte = started byte
+phase_after phase.Blank byte = if byte == 32 then Some phase.Blank else ended byte
+phase_after phase.End byte = if byte == 10 then Some phase.Start else None
+phase_after (phase.Text at text) byte = text_moved at text byte
+phase_after (phase.Timed text) byte = if is_blank byte then Some phase.Gap else None
+phase_after phase.Gap byte = if is_blank byte then Some phase.Gap else option_map (λ value. phase.One value) (hex_value byte)
+phase_after (phase.One value) byte = option_map (λ low. phase.Two (16 * value + low)) (hex_value byte)
+phase_after (phase.Two first) byte = option_map (λ value. phase.Three first value) (hex_value byte)
+phase_after (phase.Three first value) byte =
     option_map (λ low. phase.Whole (record { a = first; b = 16 * value + low })) (hex_value byte)
-moved (phase.Whole pair) byte = if byte == 32 then Some phase.Between else ended byte
-moved phase.Between byte = if byte == 32 then Some phase.Between else word_or_end byte (hex_value byte)
+phase_after (phase.Whole pair) byte = if byte == 32 then Some phase.Between else ended byte
+phase_after phase.Between byte = if byte == 32 then Some phase.Between else word_or_end byte (hex_value byte)
 
 -- a file may end here
 abbrev pub may_end : Phase → Bool

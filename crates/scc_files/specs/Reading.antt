@@ -7,7 +7,7 @@ use Rattle.cc_base.specs.declared.why.Why.TheVariants as why
 use Rattle.line21_codes.specs.declared.pairs.Pair.{Pair}
 use Rattle.time_codes.specs.Frames.{frame_of}
 use Rattle.time_codes.specs.Texts.{time_of_text}
-use Rattle.scc_files.specs.Phases.{may_end, moved, why_in}
+use Rattle.scc_files.specs.Phases.{may_end, phase_after, why_in}
 use Rattle.cc_base.specs.declared.limit_of.LimitOf.TheVariants as limit
 use Rattle.scc_files.specs.declared.fault.SccFault.{SccFault}
 use Rattle.scc_files.specs.declared.fault.SccFault.TheVariants as fault
@@ -73,7 +73,7 @@ step_to judging r (Some to) = reached judging r.position to
 
 -- a byte more
 abbrev pub step : Bool → Reader → ℕ → Result Stepped Offence
-step judging r byte = step_to judging r (moved r.phase byte)
+step judging r byte = step_to judging r (phase_after r.phase byte)
 
 -- a pair more in front, if there is one
 abbrev pub with_pair : Option (ℕ × Pair) → Result (List (ℕ × Pair)) Refusal → Result (List (ℕ × Pair)) Refusal
@@ -104,9 +104,9 @@ abbrev pub frames_of : List (ℕ × Pair) → ℕ
 frames_of pairs = frames_to 0 pairs
 
 -- an answer: the pairs, or that they take too many frames, or the first offence; or that memory ran out
-abbrev pub Answers : Result (List (ℕ × Pair)) Refusal → Result (List (ℕ × Pair)) SccFault → Type 0
-Answers due (Ok pairs) = (due ≡ Ok pairs) × (frames_of pairs ≤ 2592000)
-Answers due (Err (fault.Memory error)) = ⊤
-Answers due (Err (fault.Limit limit.Frames)) = (pairs : List (ℕ × Pair)) × (due ≡ Ok pairs) × (2592000 < frames_of pairs)
-Answers due (Err (fault.Limit _)) = ⊥
-Answers due (Err (fault.Malformed refusal)) = due ≡ Err refusal
+abbrev pub AnswersPairs : Result (List (ℕ × Pair)) Refusal → Result (List (ℕ × Pair)) SccFault → Type 0
+AnswersPairs due (Ok pairs) = (due ≡ Ok pairs) × (frames_of pairs ≤ 2592000)
+AnswersPairs due (Err (fault.Memory error)) = ⊤
+AnswersPairs due (Err (fault.Limit limit.Frames)) = (pairs : List (ℕ × Pair)) × (due ≡ Ok pairs) × (2592000 < frames_of pairs)
+AnswersPairs due (Err (fault.Limit _)) = ⊥
+AnswersPairs due (Err (fault.Malformed refusal)) = due ≡ Err refusal

@@ -4,9 +4,9 @@ use Rattle.line21_codes.specs.declared.pairs.Pair.{Pair}
 use Rattle.time_codes.specs.Frames.{time_at}
 use Rattle.time_codes.specs.Texts.{text_of}
 use Rattle.scc_files.specs.SccFiles.{one_a_frame}
-use Rattle.scc_files.specs.Words.{word_of}
+use Rattle.scc_files.specs.Words.{pair_word}
 use Rattle.scc_files.specs.Writing.{Standing, end_text, head_text, piece_of, stand_behind}
-use Rattle.scc_files.specs.Written.{shown, text_from, written_file}
+use Rattle.scc_files.specs.Written.{pairs_not_null, text_from, written_file}
 
 -- pairs on consecutive frames, the first of them on this frame
 pub record Stretch : Type 0 where
@@ -15,33 +15,33 @@ pub record Stretch : Type 0 where
   pub more : List Pair
 
 -- the pairs of stretches, each at its frame
-abbrev pub pairs_of : List Stretch → List (ℕ × Pair)
-pairs_of [] = []
-pairs_of (stretch ∷ stretches) = one_a_frame stretch.frame (stretch.first ∷ stretch.more) ++ pairs_of stretches
+abbrev pub stretch_pairs : List Stretch → List (ℕ × Pair)
+stretch_pairs [] = []
+stretch_pairs (stretch ∷ stretches) = one_a_frame stretch.frame (stretch.first ∷ stretch.more) ++ stretch_pairs stretches
 
 -- the frame behind a stretch
 abbrev pub frame_behind : Stretch → ℕ
 frame_behind stretch = stretch.frame + 1 + length stretch.more
 
 -- each stretch is longest: between it and the next one there is a frame without a pair
-abbrev pub AreApart : ℕ → List Stretch → Type 0
-AreApart behind [] = ⊤
-AreApart behind (stretch ∷ stretches) = (behind < stretch.frame) × AreApart (frame_behind stretch) stretches
+abbrev pub AreStretchesApart : ℕ → List Stretch → Type 0
+AreStretchesApart behind [] = ⊤
+AreStretchesApart behind (stretch ∷ stretches) = (behind < stretch.frame) × AreStretchesApart (frame_behind stretch) stretches
 
 abbrev pub AreLongest : List Stretch → Type 0
 AreLongest [] = ⊤
-AreLongest (stretch ∷ stretches) = AreApart (frame_behind stretch) stretches
+AreLongest (stretch ∷ stretches) = AreStretchesApart (frame_behind stretch) stretches
 
 -- words, each behind a space
-abbrev pub spaced : List Pair → List ℕ
-spaced [] = []
-spaced (pair ∷ pairs) = 32 ∷ (word_of pair ++ spaced pairs)
+abbrev pub spaced_words : List Pair → List ℕ
+spaced_words [] = []
+spaced_words (pair ∷ pairs) = 32 ∷ (pair_word pair ++ spaced_words pairs)
 
 -- the line of a stretch, where frame 0 is this frame of the day: the time code of its first frame, a TAB, and its words with a space
 -- between
 abbrev pub stretch_line : ℕ → Bool → Stretch → List ℕ
 stretch_line start drop_frame stretch =
-    text_of (time_at (start + stretch.frame) drop_frame) ++ (9 ∷ (word_of stretch.first ++ spaced stretch.more))
+    text_of (time_at (start + stretch.frame) drop_frame) ++ (9 ∷ (pair_word stretch.first ++ spaced_words stretch.more))
 
 -- the lines of stretches, each ended, and an empty one behind each
 abbrev pub stretch_lines : ℕ → Bool → List Stretch → List ℕ
@@ -52,7 +52,7 @@ stretch_lines start drop_frame (stretch ∷ stretches) =
 -- the bytes are the written form of pairs: the first line, an empty one, and the lines of the longest stretches of those that aren't null
 pub record IsWritten (start : ℕ) (drop_frame : Bool) (pairs : List (ℕ × Pair)) (bytes : List ℕ) : Type 0 where
   pub stretches : List Stretch
-  pub are : shown pairs ≡ pairs_of stretches
+  pub are : pairs_not_null pairs ≡ stretch_pairs stretches
   pub longest : AreLongest stretches
   pub spelled : bytes ≡ head_text ++ stretch_lines start drop_frame stretches
 

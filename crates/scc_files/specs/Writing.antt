@@ -9,7 +9,7 @@ use Rattle.time_codes.specs.Frames.{frame_of, time_at}
 use Rattle.time_codes.specs.Texts.{text_of}
 use Rattle.time_codes.specs.TimeCodes.{day_frames}
 use Rattle.time_codes.specs.declared.time_code.TimeCode.{TimeCode}
-use Rattle.scc_files.specs.Words.{word_of}
+use Rattle.scc_files.specs.Words.{pair_word}
 use Rattle.scc_files.specs.declared.writer.SccPut.{SccPut}
 use Rattle.scc_files.specs.declared.writer.SccPut.TheVariants as scc_put
 use Rattle.scc_files.specs.declared.writer.SccWriter.{SccWriter}
@@ -47,8 +47,8 @@ goes_on (Some behind) frame = behind == frame
 abbrev pub piece_of : Standing → ℕ → Pair → List ℕ
 piece_of w frame pair =
     if is_null pair then []
-    else if goes_on w.behind frame then 32 ∷ word_of pair
-    else between w.behind ++ (text_of (time_at (w.start + frame) w.drop_frame) ++ (9 ∷ word_of pair))
+    else if goes_on w.behind frame then 32 ∷ pair_word pair
+    else between w.behind ++ (text_of (time_at (w.start + frame) w.drop_frame) ++ (9 ∷ pair_word pair))
 
 -- where a writer stands behind a pair
 abbrev pub stand_behind : Standing → ℕ → Pair → Standing
@@ -65,22 +65,22 @@ GivesPiece w v frame pair (Some piece) =
 GivesPiece w v frame pair None = (is_past_day w frame pair ≡ true) × (v ≡ w)
 
 -- a piece was put, or a front of it where the sink failed
-abbrev pub PutsPiece : Option (List ℕ) → Option (List ℕ) → ℕ → ℕ → Put → List ℕ → Type 0
-PutsPiece old new before now answer piece = Puts old new answer piece × PutCause before now answer
+abbrev pub PutsPieceOrFails : Option (List ℕ) → Option (List ℕ) → ℕ → ℕ → Put → List ℕ → Type 0
+PutsPieceOrFails old new before now answer piece = Puts old new answer piece × PutCause before now answer
 
 -- a writer begins
 abbrev pub BeginsWriting : TimeCode → Option (List ℕ) → Option (List ℕ) → ℕ → ℕ → Result SccWriter SccPut → Type 0
 BeginsWriting start old new before now (Ok w) =
-    PutsPiece old new before now put.Done head_text × StandsFirst start w
-BeginsWriting start old new before now (Err scc_put.Fault) = PutsPiece old new before now put.Failed head_text
+    PutsPieceOrFails old new before now put.Done head_text × StandsFirst start w
+BeginsWriting start old new before now (Err scc_put.Fault) = PutsPieceOrFails old new before now put.Failed head_text
 BeginsWriting start old new before now (Err scc_put.Day) = ⊥
 
 -- it writes a pair
 abbrev pub WritesPair : Standing → Standing → ℕ → Pair → Option (List ℕ) → Option (List ℕ) → ℕ → ℕ → Result (Unit {0}) SccPut → Type 0
 WritesPair w v frame pair old new before now (Ok _) =
-    (is_past_day w frame pair ≡ false) × PutsPiece old new before now put.Done (piece_of w frame pair) × (v ≡ stand_behind w frame pair)
+    (is_past_day w frame pair ≡ false) × PutsPieceOrFails old new before now put.Done (piece_of w frame pair) × (v ≡ stand_behind w frame pair)
 WritesPair w v frame pair old new before now (Err scc_put.Fault) =
-    (is_past_day w frame pair ≡ false) × PutsPiece old new before now put.Failed (piece_of w frame pair)
+    (is_past_day w frame pair ≡ false) × PutsPieceOrFails old new before now put.Failed (piece_of w frame pair)
 WritesPair w v frame pair old new before now (Err scc_put.Day) = (is_past_day w frame pair ≡ true) × (new ≡ old) × (now ≡ before) × (v ≡ w)
 
 -- what ends a file
@@ -90,6 +90,6 @@ end_text (Some behind) = 10 ∷ 10 ∷ []
 
 -- it ends the file
 abbrev pub FinishesWriting : Standing → Option (List ℕ) → Option (List ℕ) → ℕ → ℕ → Result (Unit {0}) SccPut → Type 0
-FinishesWriting w old new before now (Ok _) = PutsPiece old new before now put.Done (end_text w.behind)
-FinishesWriting w old new before now (Err scc_put.Fault) = PutsPiece old new before now put.Failed (end_text w.behind)
+FinishesWriting w old new before now (Ok _) = PutsPieceOrFails old new before now put.Done (end_text w.behind)
+FinishesWriting w old new before now (Err scc_put.Fault) = PutsPieceOrFails old new before now put.Failed (end_text w.behind)
 FinishesWriting w old new before now (Err scc_put.Day) = ⊥

@@ -14,9 +14,9 @@ abbrev pub written_file : ℕ → Bool → List (ℕ × Pair) → List ℕ
 written_file start drop_frame pairs = head_text ++ text_from (record { start = start; drop_frame = drop_frame; behind = None }) pairs
 
 -- the pairs that aren't null
-abbrev pub shown : List (ℕ × Pair) → List (ℕ × Pair)
-shown [] = []
-shown (placed ∷ pairs) = if is_null placed.1 then shown pairs else placed ∷ shown pairs
+abbrev pub pairs_not_null : List (ℕ × Pair) → List (ℕ × Pair)
+pairs_not_null [] = []
+pairs_not_null (placed ∷ pairs) = if is_null placed.1 then pairs_not_null pairs else placed ∷ pairs_not_null pairs
 
 -- pairs with their frames counted from a frame, and from that of the first one
 abbrev pub counted_from : ℕ → List (ℕ × Pair) → List (ℕ × Pair)

@@ -7,7 +7,7 @@ ghost use Rattle.scc_files.specs.Offences.{IsFirstOffence};
 ghost use Rattle.scc_files.specs.Reading.{read_file};
 ghost use Rattle.scc_files.specs.SccFiles.{AreBytes, AreRising, IsSccFile};
 ghost use Rattle.scc_files.specs.Stretches.{CallsWrite, IsWritten};
-ghost use Rattle.scc_files.specs.Written.{AreWritable, counted, shown, written_file};
+ghost use Rattle.scc_files.specs.Written.{AreWritable, counted, pairs_not_null, written_file};
 
 /// Bytes are read as pairs exactly where they are an SCC file of these pairs.
 pub fn files_are_read()
@@ -31,9 +31,9 @@ pub fn first_offence_is_one()
 /// of them; and so it is read.
 pub fn written_files_are_files()
     ensures file { (pairs : List (ℕ × Pair)) (start : ℕ) (drop_frame : Bool) → AreWritable start drop_frame 0 pairs
-        → IsSccFile (counted (shown pairs)) (written_file start drop_frame pairs) }
+        → IsSccFile (counted (pairs_not_null pairs)) (written_file start drop_frame pairs) }
     ensures read { (pairs : List (ℕ × Pair)) (start : ℕ) (drop_frame : Bool) → AreWritable start drop_frame 0 pairs
-        → read_file (written_file start drop_frame pairs) ≡ Ok (counted (shown pairs)) }
+        → read_file (written_file start drop_frame pairs) ≡ Ok (counted (pairs_not_null pairs)) }
 {}
 
 /// What is written of pairs at rising frames is their written form: the first line, an empty one, and each longest stretch of

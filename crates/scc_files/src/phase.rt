@@ -1,5 +1,5 @@
 ghost use Rattle.std.specs.Prelude.{◌≡◌, ◌<◌, IfSome};
-ghost use Rattle.scc_files.specs.Phases.{IsWithin, ended, first_text_moved, fits, hex_value, may_end, moved, started, text_moved, why_in};
+ghost use Rattle.scc_files.specs.Phases.{HasNumbersInRange, ended, first_text_moved, fits, hex_value, may_end, phase_after, started, text_moved, why_in};
 
 use cc_base::Why;
 use line21_codes::Pair;
@@ -92,7 +92,7 @@ fn ended(byte: u8) -> Option<Phase>
 fn first_text(at: u8, byte: u8) -> Option<Phase>
     requires { at < 18 }
     ensures moved { result ≡ first_text_moved at byte }
-    ensures within { IfSome result IsWithin }
+    ensures within { IfSome result HasNumbersInRange }
 {
     if byte != FIRST_TEXT[at as usize] {
         None
@@ -106,7 +106,7 @@ fn first_text(at: u8, byte: u8) -> Option<Phase>
 /// What a byte leads to at the start of a line.
 fn line_start(byte: u8) -> Option<Phase>
     ensures moved { result ≡ started byte }
-    ensures within { IfSome result IsWithin }
+    ensures within { IfSome result HasNumbersInRange }
 {
     if byte.is_ascii_digit() {
         let text = [byte, 0, 0, 0, 0, 0, 0, 0, 0, 0, 0];
@@ -122,7 +122,7 @@ fn line_start(byte: u8) -> Option<Phase>
 fn time_text(at: u8, text: [u8; 11], byte: u8) -> Option<Phase>
     requires { at < 11 }
     ensures moved { result ≡ text_moved at text byte }
-    ensures within { IfSome result IsWithin }
+    ensures within { IfSome result HasNumbersInRange }
 {
     if !fits(at, byte) {
         return None;
@@ -139,9 +139,9 @@ fn time_text(at: u8, text: [u8; 11], byte: u8) -> Option<Phase>
 impl Phase {
     /// What a byte leads to; None exactly where no line goes on with it.
     pub fn moved(self, byte: u8) -> Option<Phase>
-        requires { IsWithin self }
-        ensures moved { result ≡ moved self byte }
-        ensures within { IfSome result IsWithin }
+        requires { HasNumbersInRange self }
+        ensures moved { result ≡ phase_after self byte }
+        ensures within { IfSome result HasNumbersInRange }
     {
         match self {
             Phase::First(at) => first_text(at, byte),

@@ -1,6 +1,6 @@
 ghost use Rattle.std.specs.Prelude.{◌≡◌, ◌-◌, ◌^◌, ◌+◌, ◌<◌, ◌≤◌, max, MatchResult, IfOk, IfErr, IfSome, Ok, Err, true};
 ghost use Rattle.scc_files.specs.Reading.{at_first, frame_of_text, step, timed};
-ghost use Rattle.scc_files.specs.Phases.{IsWithin};
+ghost use Rattle.scc_files.specs.Phases.{HasNumbersInRange};
 
 use crate::phase::Phase;
 use cc_base::Why;
@@ -89,10 +89,10 @@ impl Reader {
 
     /// Takes a byte: the pair at its frame that it makes whole, if it makes one whole.
     pub fn step(&mut self, byte: u8) -> Result<Option<(u32, Pair)>, Offence>
-        requires within { IsWithin self.old.phase }
+        requires within { HasNumbersInRange self.old.phase }
         requires room { self.old.position.next < 2 ^ 32 - 1 }
         ensures steps { MatchResult result (λ given. step true self.old byte ≡ Ok (self.new, given)) (λ offence. step true self.old byte ≡ Err offence) }
-        ensures within { IfOk result (λ _. IsWithin self.new.phase) }
+        ensures within { IfOk result (λ _. HasNumbersInRange self.new.phase) }
         ensures next { IfOk result (λ _. self.new.position.next ≤ max 2592000 (self.old.position.next + 1)) }
         ensures last { IfOk result (λ given. IfSome given (λ placed. self.new.position.next ≡ placed.0 + 1)) }
         ensures back { IfErr result (λ offence. offence.back ≤ 10) }

@@ -1,8 +1,8 @@
 ghost use Rattle.std.specs.Prelude.{◌+◌, ◌-◌, ◌≤◌, ◌<◌, ◌^◌, IfOk, length, max};
-ghost use Rattle.scc_files.specs.Phases.{IsWithin};
-ghost use Rattle.scc_files.specs.Gathering.{Gathers};
+ghost use Rattle.scc_files.specs.Phases.{HasNumbersInRange};
+ghost use Rattle.scc_files.specs.Gathering.{GathersByte};
 ghost use Rattle.scc_files.specs.Offences.{FileAnswers};
-ghost use Rattle.scc_files.specs.Reading.{Answers, read_file};
+ghost use Rattle.scc_files.specs.Reading.{AnswersPairs, read_file};
 
 use crate::fault::SccFault;
 use crate::pairs::SccPairs;
@@ -36,10 +36,10 @@ pub enum Stop {
 impl Gathered {
     /// Takes a byte.
     fn take(&mut self, byte: u8) -> Result<(), Stop>
-        requires within { IsWithin self.old.reader.phase }
+        requires within { HasNumbersInRange self.old.reader.phase }
         requires room { self.old.reader.position.next < 2 ^ 32 - 1 }
-        ensures gathers { Gathers self.old self.new byte result }
-        ensures within { IfOk result (λ _. IsWithin self.new.reader.phase) }
+        ensures gathers { GathersByte self.old self.new byte result }
+        ensures within { IfOk result (λ _. HasNumbersInRange self.new.reader.phase) }
         ensures next { IfOk result (λ _. self.new.reader.position.next ≤ max 2592000 (self.old.reader.position.next + 1)) }
     {
         match self.reader.step(byte) {
@@ -65,7 +65,7 @@ impl Gathered {
 /// comes exactly where the bytes are an SCC file of more than 2,592,000 frames.
 pub fn read_scc(alloc: Global, bytes: &[u8]) -> Result<SccPairs, SccFault>
     requires { length bytes.now ≤ 67108864 }
-    ensures answers { Answers (read_file bytes.now) result }
+    ensures answers { AnswersPairs (read_file bytes.now) result }
     ensures file { FileAnswers bytes.now result }
 {
     read_bytes(alloc, bytes)
@@ -74,7 +74,7 @@ pub fn read_scc(alloc: Global, bytes: &[u8]) -> Result<SccPairs, SccFault>
 // Reads them byte by byte.
 fn read_bytes(alloc: Global, bytes: &[u8]) -> Result<SccPairs, SccFault>
     requires { length bytes.now ≤ 67108864 }
-    ensures { Answers (read_file bytes.now) result }
+    ensures { AnswersPairs (read_file bytes.now) result }
 {
     let mut gathered = Gathered {
         reader: Reader::new(),

@@ -6,7 +6,7 @@ use Rattle.std.proofs.lemmas.List.Elements.{All-head, All-tail}
 use Rattle.std.specs.Borrow.{Bor}
 use Rattle.std.specs.Option.{option_and_then}
 use Rattle.std.specs.Prelude.{◌&&◌, All, MatchOption, None, Option, Some, if◌then◌else◌}
-use Rattle.authored_grids.specs.AuthoredServiceGrid.{authored_windows, is_before, shows_in, uses_window, window_of as authored_of}
+use Rattle.authored_grids.specs.AuthoredServiceGrid.{authored_windows, cue_window as authored_of, is_before, shows_in, uses_window}
 use Rattle.cue_types.specs.Cues.{IsCueFormed, IsOfKind}
 use Rattle.cue_types.specs.declared.cue.Cue.{Cue}
 use Rattle.cue_types.specs.declared.cue.Kind.{Kind}
@@ -17,10 +17,10 @@ use Rattle.dtvcc_windows.specs.Showing.{shown}
 use Rattle.dtvcc_windows.specs.Windows.{WindowState}
 use Rattle.dtvcc_windows.specs.declared.window.Window.{Window}
 use Rattle.dtvcc_services.specs.Numbers.{IsService}
-use Rattle.screen_checks.specs.Differing.{ShowsItsWindows, Windows}
+use Rattle.screen_checks.specs.Differing.{AllSeenWindows, ShowsItsWindows}
 use Rattle.screen_checks.specs.Services.{IsFirstOtherService}
 use Rattle.window_places.specs.Places.{SameWindows}
-use Rattle.window_places.specs.Seen.{seen_in}
+use Rattle.window_places.specs.Seen.{seen_window}
 
 -- a service past the sixth has no cue
 other_service : (service id : ℕ) (kind : Kind) (hide : Option ℕ) (runs : List Run) → 6 < service → IsOfKind kind hide runs → uses_window service id kind ≡ false
@@ -44,7 +44,7 @@ none_past_six service id frame cues past formed = ap (λ o. option_and_then (λ 
 
 -- what is seen of a window that a receiver gave
 pub window_seen : (got : Option (Bor Window)) (window : Option WindowState) → MatchOption got (window ≡ None) (λ w. window_of w.now ≡ window)
-    → seen_in got ≡ shown window
+    → seen_window got ≡ shown window
 window_seen None window is = sym (ap shown is)
 window_seen (Some got) window is = ap shown is
 
@@ -57,7 +57,7 @@ same_windows service id former frame cues is within formed same = elim (cases_lt
 ]
 
 -- no service has another window
-pub none_is_first : (cues : List Cue) (frame : ℕ) (windows : Windows) (first : Option ℕ) → first ≡ None → IsFirstOtherService cues frame windows first
+pub none_is_first : (cues : List Cue) (frame : ℕ) (windows : AllSeenWindows) (first : Option ℕ) → first ≡ None → IsFirstOtherService cues frame windows first
     → (service : ℕ) → IsService service → ShowsItsWindows cues frame windows service
 none_is_first cues frame windows None none is = is
 none_is_first cues frame windows (Some service) none is = cc

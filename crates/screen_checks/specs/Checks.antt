@@ -5,8 +5,8 @@ use Rattle.line21_screen.specs.Differences.{HasOther}
 use Rattle.line21_screen.specs.Grid.{Grid}
 use Rattle.line21_screen.specs.Objects.{grid_in}
 use Rattle.authored_grids.specs.AuthoredGrid.{authored_grid}
-use Rattle.authored_places.specs.Cursors.{Stands, channel_of}
-use Rattle.authored_places.specs.Timed.{AreTimed}
+use Rattle.authored_places.specs.Cursors.{StandsAtFrame, cursor_channel}
+use Rattle.authored_places.specs.Timed.{AreCuesTimed}
 use Rattle.cue_types.specs.Channels.{cues_on}
 use Rattle.cue_types.specs.declared.cue.Cue.{Cue}
 use Rattle.screen_checks.specs.declared.channel_check.ChannelCheck.{ChannelCheck}
@@ -14,8 +14,8 @@ use Rattle.screen_checks.specs.declared.channel_check.ChannelCheck.{ChannelCheck
 -- it is that of the channel, and stands at the frame; where it says that the channel agrees, the channel showed this grid at the
 -- frame before, and that is what is authored at this frame
 pub record Knows (channel : Chan) (cues : List Cue) (frame : ℕ) (former : Grid) (check : ChannelCheck) : Type 0 where
-  pub channel_is : channel_of check.cursor ≡ channel
-  pub stands : Stands cues frame check.cursor
+  pub channel_is : cursor_channel check.cursor ≡ channel
+  pub stands : StandsAtFrame cues frame check.cursor
   pub showed : check.agrees ≡ true → grid_in check.seen ≡ former
   pub agreed : check.agrees ≡ true → HasOther (grid_in check.seen) (authored_grid channel cues frame) → ⊥
 
@@ -24,6 +24,6 @@ abbrev pub LeavesGrid : Bool → Grid → Grid → Type 0
 LeavesGrid is_idle former now = is_idle ≡ true → now ≡ former
 
 -- it stands at a frame of cues that are timed
-pub record IsReady (cues : List Cue) (frame : ℕ) (check : ChannelCheck) : Type 0 where
-  pub timed : AreTimed 0 (cues_on (channel_of check.cursor) cues)
-  pub stands : Stands cues frame check.cursor
+pub record IsReadyToCheck (cues : List Cue) (frame : ℕ) (check : ChannelCheck) : Type 0 where
+  pub timed : AreCuesTimed 0 (cues_on (cursor_channel check.cursor) cues)
+  pub stands : StandsAtFrame cues frame check.cursor

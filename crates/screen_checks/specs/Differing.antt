@@ -15,15 +15,15 @@ pub record ShowsOther (cues : List Cue) (frame : ℕ) (screens : Chan → Grid) 
   pub other : HasOther (screens channel) (authored_grid channel cues frame)
 
 -- what is seen of the windows of services, by the service and the window's id
-abbrev pub Windows : Type 0
-Windows = ℕ → ℕ → Option ShownWindow
+abbrev pub AllSeenWindows : Type 0
+AllSeenWindows = ℕ → ℕ → Option ShownWindow
 
 -- of a service a window, 0 to 7, is seen otherwise than it is authored; every frame is settled for a service
-pub record ShowsOtherWindow (cues : List Cue) (frame : ℕ) (windows : Windows) (service : ℕ) : Type 0 where
+pub record ShowsOtherWindow (cues : List Cue) (frame : ℕ) (windows : AllSeenWindows) (service : ℕ) : Type 0 where
   pub id : ℕ
   pub id_to : id < 8
   pub other : windows service id ≢ authored_windows service cues frame id
 
 -- each is seen as it is authored
-abbrev pub ShowsItsWindows : List Cue → ℕ → Windows → ℕ → Type 0
+abbrev pub ShowsItsWindows : List Cue → ℕ → AllSeenWindows → ℕ → Type 0
 ShowsItsWindows cues frame windows service = (id : ℕ) → id < 8 → windows service id ≡ authored_windows service cues frame id

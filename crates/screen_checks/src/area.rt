@@ -1,9 +1,9 @@
 ghost use Rattle.std.specs.Prelude.{◌≡◌, ◌≢◌, ◌<◌, ◌≤◌, false, true, ℕ};
 ghost use Rattle.authored_grids.specs.AuthoredGrid.{authored_grid};
-ghost use Rattle.authored_places.specs.Cursors.{Stands, channel_of};
+ghost use Rattle.authored_places.specs.Cursors.{StandsAtFrame, cursor_channel};
 ghost use Rattle.authored_places.specs.Lines.{line_cell};
-ghost use Rattle.authored_places.specs.Timed.{AreTimed};
-ghost use Rattle.cc_receiver.specs.Receivers.{shown};
+ghost use Rattle.authored_places.specs.Timed.{AreCuesTimed};
+ghost use Rattle.cc_receiver.specs.Receivers.{displayed_grid};
 ghost use Rattle.cue_types.specs.Channels.{cues_on};
 ghost use Rattle.line21_screen.specs.Differences.{HasOther};
 
@@ -20,10 +20,10 @@ pub(crate) fn shows_other(
     cues: &[Cue],
     frame: u32,
 ) -> bool
-    requires timed { AreTimed 0 (cues_on (channel_of cursor.now) cues.now) }
-    requires stands { Stands cues.now frame cursor.now }
-    ensures other { result ≡ true → HasOther (shown receiver.now (channel_of cursor.now)) (authored_grid (channel_of cursor.now) cues.now frame) }
-    ensures same { result ≡ false → HasOther (shown receiver.now (channel_of cursor.now)) (authored_grid (channel_of cursor.now) cues.now frame) → ⊥ }
+    requires timed { AreCuesTimed 0 (cues_on (cursor_channel cursor.now) cues.now) }
+    requires stands { StandsAtFrame cues.now frame cursor.now }
+    ensures other { result ≡ true → HasOther (displayed_grid receiver.now (cursor_channel cursor.now)) (authored_grid (cursor_channel cursor.now) cues.now frame) }
+    ensures same { result ≡ false → HasOther (displayed_grid receiver.now (cursor_channel cursor.now)) (authored_grid (cursor_channel cursor.now) cues.now frame) → ⊥ }
 {
     for row in 1..16u8 {
         let line = cursor.line(cues, frame, row);
@@ -44,8 +44,8 @@ fn row_shows_other(
 ) -> bool
     requires from { 1 ≤ row }
     requires to { row ≤ 15 }
-    ensures other { result ≡ true → (column : ℕ) × (column < 32) × (shown receiver.now channel row column ≢ line_cell cues.now line column) }
-    ensures same { result ≡ false → (column : ℕ) → column < 32 → shown receiver.now channel row column ≡ line_cell cues.now line column }
+    ensures other { result ≡ true → (column : ℕ) × (column < 32) × (displayed_grid receiver.now channel row column ≢ line_cell cues.now line column) }
+    ensures same { result ≡ false → (column : ℕ) → column < 32 → displayed_grid receiver.now channel row column ≡ line_cell cues.now line column }
 {
     for column in 0..32u8 {
         if receiver.cell(channel, row, column) != cell_at(cues, line, column) {

@@ -1,8 +1,8 @@
 ghost use Rattle.std.specs.Prelude.{◌≡◌, ◌<◌, ◌+◌, false, true, IfOk, ℕ};
 ghost use Rattle.authored_grids.specs.AuthoredGrid.{IsSettled, authored_grid};
-ghost use Rattle.authored_places.specs.Timed.{AreTimed};
-ghost use Rattle.cc_receiver.specs.Receivers.{shown};
-ghost use Rattle.screen_checks.specs.Checks.{IsReady, Knows, LeavesGrid};
+ghost use Rattle.authored_places.specs.Timed.{AreCuesTimed};
+ghost use Rattle.cc_receiver.specs.Receivers.{displayed_grid};
+ghost use Rattle.screen_checks.specs.Checks.{IsReadyToCheck, Knows, LeavesGrid};
 ghost use Rattle.cue_types.specs.Channels.{cues_on};
 ghost use Rattle.line21_screen.specs.Differences.{HasOther};
 ghost use Rattle.line21_screen.specs.Objects.{grid_in};
@@ -36,8 +36,8 @@ impl ChannelCheck {
         channel: Chan,
         cues: &[Cue],
     ) -> Result<ChannelCheck, AllocError>
-        requires { AreTimed 0 (cues_on channel cues.now) }
-        ensures ready { IfOk result (IsReady cues.now 0) }
+        requires { AreCuesTimed 0 (cues_on channel cues.now) }
+        ensures ready { IfOk result (IsReadyToCheck cues.now 0) }
         ensures knows { IfOk result (λ check. (former : GridOf) → Knows channel cues.now 0 former check) }
     {
         Ok(ChannelCheck {
@@ -56,17 +56,17 @@ impl ChannelCheck {
         frame: u32,
         is_idle: bool,
     ) -> bool
-        requires { IsReady cues.now frame self.now }
-        ensures ready { IsReady cues.now frame self.new }
+        requires { IsReadyToCheck cues.now frame self.now }
+        ensures ready { IsReadyToCheck cues.now frame self.new }
         ensures differs { (channel : Chan) (former : GridOf) → Knows channel cues.now frame former self.old
-            → LeavesGrid is_idle former (shown receiver.now channel)
-            → result ≡ true → IsSettled channel cues.now frame × HasOther (shown receiver.now channel) (authored_grid channel cues.now frame) }
+            → LeavesGrid is_idle former (displayed_grid receiver.now channel)
+            → result ≡ true → IsSettled channel cues.now frame × HasOther (displayed_grid receiver.now channel) (authored_grid channel cues.now frame) }
         ensures agrees { (channel : Chan) (former : GridOf) → Knows channel cues.now frame former self.old
-            → LeavesGrid is_idle former (shown receiver.now channel)
-            → result ≡ false → IsSettled channel cues.now frame → HasOther (shown receiver.now channel) (authored_grid channel cues.now frame) → ⊥ }
+            → LeavesGrid is_idle former (displayed_grid receiver.now channel)
+            → result ≡ false → IsSettled channel cues.now frame → HasOther (displayed_grid receiver.now channel) (authored_grid channel cues.now frame) → ⊥ }
         ensures knows { (channel : Chan) (former : GridOf) → Knows channel cues.now frame former self.old
-            → LeavesGrid is_idle former (shown receiver.now channel)
-            → result ≡ false → Knows channel cues.now frame (shown receiver.now channel) self.new }
+            → LeavesGrid is_idle former (displayed_grid receiver.now channel)
+            → result ≡ false → Knows channel cues.now frame (displayed_grid receiver.now channel) self.new }
     {
         let now = receiver.displayed(self.cursor.channel());
         if self.still_agrees(now, is_idle) {
@@ -94,8 +94,8 @@ impl ChannelCheck {
 
     /// Goes on to the next frame, of this number.
     pub(crate) fn advance(&mut self, cues: &[Cue], frame: u32)
-        requires { (former : ℕ) × (frame ≡ former + 1) × IsReady cues.now former self.now }
-        ensures ready { IsReady cues.now frame self.new }
+        requires { (former : ℕ) × (frame ≡ former + 1) × IsReadyToCheck cues.now former self.now }
+        ensures ready { IsReadyToCheck cues.now frame self.new }
         ensures knows { (channel : Chan) (former : ℕ) (grid : GridOf) → frame ≡ former + 1 → Knows channel cues.now former grid self.old
             → Knows channel cues.now frame grid self.new }
     {

@@ -1,5 +1,5 @@
 ghost use Rattle.std.specs.Prelude.{◌≡◌, ◌<◌, ◌+◌, None, IfOk, ℕ};
-ghost use Rattle.cc_receiver.specs.Receivers.{shown};
+ghost use Rattle.cc_receiver.specs.Receivers.{displayed_grid};
 ghost use Rattle.line21_screen.specs.Grid.{Grid as GridOf};
 ghost use Rattle.screen_checks.specs.Channels.{AreReady, AreTimedAll, IsFirstOther, KnowAll, LeaveGrids};
 
@@ -44,10 +44,10 @@ impl ChannelChecks {
     ) -> Option<Chan>
         requires { AreReady cues.now frame self.now }
         ensures ready { AreReady cues.now frame self.new }
-        ensures first { (former : Chan → GridOf) → KnowAll cues.now frame former self.old → LeaveGrids is_idle former (shown receiver.now)
-            → IsFirstOther cues.now frame (shown receiver.now) result }
-        ensures knows { (former : Chan → GridOf) → KnowAll cues.now frame former self.old → LeaveGrids is_idle former (shown receiver.now)
-            → result ≡ None → KnowAll cues.now frame (shown receiver.now) self.new }
+        ensures first { (former : Chan → GridOf) → KnowAll cues.now frame former self.old → LeaveGrids is_idle former (displayed_grid receiver.now)
+            → IsFirstOther cues.now frame (displayed_grid receiver.now) result }
+        ensures knows { (former : Chan → GridOf) → KnowAll cues.now frame former self.old → LeaveGrids is_idle former (displayed_grid receiver.now)
+            → result ≡ None → KnowAll cues.now frame (displayed_grid receiver.now) self.new }
     {
         if self.cc1.differs(receiver, cues, frame, is_idle) {
             return Some(Chan::Cc1);

@@ -7,11 +7,11 @@ ghost use Rattle.cue_types.specs.Cues.{IsCueFormed};
 ghost use Rattle.dtvcc_services.specs.Numbers.{IsService};
 ghost use Rattle.services_files.specs.Services.{services_say};
 ghost use Rattle.window_places.specs.Cursors.{AreAt};
-ghost use Rattle.window_places.specs.Places.{IsAuthored};
+ghost use Rattle.window_places.specs.Places.{IsAuthoredBy};
 ghost use Rattle.window_places.specs.Seen.{IsFormedCue};
 ghost use Rattle.window_places.specs.Turns.{AreAllInTurn};
 ghost use Rattle.words_files.specs.FramesOf.{AreFramesOf};
-ghost use Rattle.screen_checks.specs.Differing.{ShowsItsWindows, ShowsOtherWindow, Windows};
+ghost use Rattle.screen_checks.specs.Differing.{AllSeenWindows, ShowsItsWindows, ShowsOtherWindow};
 ghost use Rattle.screen_checks.specs.Services.{IsFirstOtherService, KnowServices, StandAt};
 
 use cc_receiver::Receiver;
@@ -36,7 +36,7 @@ impl ServiceChecks {
     /// The check before frame 0.
     pub fn new(cues: &[Cue]) -> ServiceChecks
         ensures at { StandAt cues.now 0 result }
-        ensures knows { (former : Windows) → KnowServices cues.now 0 former result }
+        ensures knows { (former : AllSeenWindows) → KnowServices cues.now 0 former result }
     {
         ServiceChecks {
             cursors: WindowCursors::new(cues),
@@ -84,7 +84,7 @@ impl ServiceChecks {
         requires formed { All IsCueFormed cues.now }
         requires at { (former : ℕ) × (frame ≡ former + 1) × StandAt cues.now former self.now }
         ensures at { StandAt cues.now frame self.new }
-        ensures knows { (former : ℕ) (windows : Windows) → frame ≡ former + 1 → StandAt cues.now former self.old
+        ensures knows { (former : ℕ) (windows : AllSeenWindows) → frame ≡ former + 1 → StandAt cues.now former self.old
             → KnowServices cues.now former windows self.old → KnowServices cues.now frame windows self.new }
     {
         if self.cursors.advance(cues, frame) {
@@ -151,7 +151,7 @@ fn cue_of<'a>(
     requires turn { AreAllInTurn cues.now }
     requires formed { All IsCueFormed cues.now }
     requires at { AreAt cues.now frame cursors.now }
-    ensures authored { IsAuthored cues.now frame service id result }
+    ensures authored { IsAuthoredBy cues.now frame service id result }
     ensures formed { IsFormedCue result }
 {
     if service <= LAST_AUTHORED {

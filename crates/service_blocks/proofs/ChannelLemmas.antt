@@ -13,7 +13,7 @@ use Rattle.cc_base.proofs.SyntaxLemmas.{AllTaken-append, AllTaken-split, Reads-a
 use Rattle.cc_data.specs.declared.triplet.Triplet.{Triplet}
 use Rattle.channel_packets.specs.declared.parts.PacketPart.{PacketPart}
 use Rattle.channel_packets.specs.declared.parts.PacketPart.TheVariants.{Header, Byte}
-use Rattle.channel_packets.specs.ChannelPackets.{ChannelPacket, continues, is_gap, number_of, size_of, starts}
+use Rattle.channel_packets.specs.ChannelPackets.{ChannelPacket, continues_packet, is_gap, number_of, size_of, starts}
 use Rattle.channel_packets.specs.PacketParts.{byte_parts, packet_parts}
 use Rattle.channel_packets.specs.Reading.{judge_bytes, judge_triplet, packet_syntax}
 use Rattle.channel_packets.specs.Reading as packets
@@ -23,7 +23,7 @@ use Rattle.service_blocks.specs.declared.parts.BlockPart.{BlockPart}
 use Rattle.service_blocks.specs.declared.parts.BlockPart.TheVariants as part
 use Rattle.service_blocks.specs.ServiceBlocks.{Block, rest_of}
 use Rattle.service_blocks.specs.BlockParts.{block_parts}
-use Rattle.service_blocks.specs.Channels.{AreChannel, HaveBlocks, IsHeard, IsHeardBehind, heard, heard_behind, said}
+use Rattle.service_blocks.specs.Channels.{AreChannel, HaveBlocks, IsHeard, IsHeardBehind, heard_behind, heard_parts, said}
 use Rattle.service_blocks.specs.Reading.{IsOverrun, Open, block_after, block_syntax, is_next, judge_byte, judge_part, nothing_open, open_after}
 use Rattle.service_blocks.proofs.BlockLemmas.{IsTaken-if, at, blocks_are, blocks_read, rest_taken}
 use Rattle.service_blocks.proofs.WrittenLemmas.{blocks_unique}
@@ -70,7 +70,7 @@ packets_said front last (packet ∷ packets) (blocks ∷ others) (are, have) (fi
 -- what is a channel is heard
 pub record IsSaid (packets : List ChannelPacket) (blocks : List (List Block)) (triplets : List Triplet) : Type 0 where
   pub is : IsHeard triplets
-  pub says : heard triplets ≡ said None packets blocks
+  pub says : heard_parts triplets ≡ said None packets blocks
 
 pub channel_said : (packets : List ChannelPacket) (blocks : List (List Block)) (triplets : List Triplet) → AreChannel packets blocks triplets
     → AreSaid nothing_open (packet_parts None packets) (said None packets blocks)
@@ -146,7 +146,7 @@ heard_joined before triplets (is, more) =
     subst (AllRead block_syntax) (sym (parts_of-append before triplets))
     (AllTaken-append block_syntax nothing_open (parts_of packet_syntax before) (parts_from packet_syntax (open_behind packet_syntax before) triplets) is more)
 
-pub heard-append : (before triplets : List Triplet) → heard (before ++ triplets) ≡ heard before ++ heard_behind before triplets
+pub heard-append : (before triplets : List Triplet) → heard_parts (before ++ triplets) ≡ heard_parts before ++ heard_behind before triplets
 heard-append before triplets =
     ap (λ parts. parts_of block_syntax parts) (parts_of-append before triplets)
     ∙ parts_from-append block_syntax nothing_open (parts_of packet_syntax before) (parts_from packet_syntax (open_behind packet_syntax before) triplets)
@@ -205,7 +205,7 @@ zero_triplet front packet triplet first second =
     let gap = is_gap packet.last (number_of triplet.a) in
     let size = size_of triplet.a in
     taken_if front (starts triplet) _ _ (header_taken gap, (zero_value (open_after front (Header gap size)) triplet.b (size - 1) second, tt))
-    (taken_if front (continues triplet) _ _ (zero_bytes front packet.left triplet.a triplet.b first second) tt)
+    (taken_if front (continues_packet triplet) _ _ (zero_bytes front packet.left triplet.a triplet.b first second) tt)
 
 pub zero_heard : (triplets : List Triplet) (triplet : Triplet) → IsHeard triplets → triplet.a ≡ 0 → triplet.b ≡ 0 → IsHeard (triplets ++ triplet ∷ [])
 zero_heard triplets triplet is first second =
@@ -236,7 +236,7 @@ halved front packet triplet =
     let size = size_of triplet.a in
     halved_if front (starts triplet) (Two (Header gap size) (Byte triplet.b (size - 1))) _ (Two (Header gap size) (Byte 0 (size - 1))) _
     (λ (one, _). (one, (zero_part (open_after front (Header gap size)) (size - 1), tt)))
-    (halved_if front (continues triplet) (judge_bytes packet.left triplet.a triplet.b) Nothing (judge_bytes packet.left triplet.a 0) Nothing
+    (halved_if front (continues_packet triplet) (judge_bytes packet.left triplet.a triplet.b) Nothing (judge_bytes packet.left triplet.a 0) Nothing
     (halved_bytes front packet.left triplet.a triplet.b) (λ taken. taken))
 
 pub half_heard : (triplets : List Triplet) (triplet : Triplet) → IsHeard (triplets ++ triplet ∷ []) → IsHeard (triplets ++ half triplet ∷ [])

@@ -35,8 +35,8 @@ abbrev pub IsHeard : List Triplet → Type 0
 IsHeard triplets = AllRead block_syntax (parts_of packet_syntax triplets)
 
 -- what both readers make of the triplets
-abbrev pub heard : List Triplet → List BlockPart
-heard triplets = parts_of block_syntax (parts_of packet_syntax triplets)
+abbrev pub heard_parts : List Triplet → List BlockPart
+heard_parts triplets = parts_of block_syntax (parts_of packet_syntax triplets)
 
 -- behind the triplets before, none of these is refused
 abbrev pub IsHeardBehind : List Triplet → List Triplet → Type 0

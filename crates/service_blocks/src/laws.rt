@@ -17,7 +17,7 @@ ghost use Rattle.service_blocks.specs.declared.parts.BlockPart.{BlockPart as Han
 ghost use Rattle.service_blocks.specs.declared.parts.BlockPart.TheVariants as part;
 ghost use Rattle.service_blocks.specs.ServiceBlocks.{AreBlocks, Block};
 ghost use Rattle.service_blocks.specs.BlockParts.{block_parts};
-ghost use Rattle.service_blocks.specs.Channels.{AreChannel, IsHeard, IsHeardBehind, heard, heard_behind, said};
+ghost use Rattle.service_blocks.specs.Channels.{AreChannel, IsHeard, IsHeardBehind, heard_behind, heard_parts, said};
 ghost use Rattle.service_blocks.specs.Reading.{IsOverrun, Open, block_syntax, judge_part, open_after};
 ghost use Rattle.service_blocks.specs.Written.{block_for, block_written};
 
@@ -45,7 +45,7 @@ pub fn channels_are_read()
     ensures read { (packets : List ChannelPacket) (blocks : List (List Block)) (triplets : List Triplet) → AreChannel packets blocks triplets
         → IsHeard triplets }
     ensures says { (packets : List ChannelPacket) (blocks : List (List Block)) (triplets : List Triplet) → AreChannel packets blocks triplets
-        → heard triplets ≡ said None packets blocks }
+        → heard_parts triplets ≡ said None packets blocks }
     ensures handed { (verdict : Verdict Handed) (packets : List ChannelPacket) (blocks : List (List Block)) (triplets : List Triplet)
         → AreChannel packets blocks triplets → AreAccepted verdict [] (said None packets blocks)
         → read_under block_syntax 1 verdict (packet_parts None packets) ≡ record { parts = said None packets blocks; refusal = None } }
@@ -65,7 +65,7 @@ pub fn what_is_read_is_a_channel()
 /// and then what the others make behind them.
 pub fn triplets_are_read_piece_by_piece()
     ensures read { (before triplets : List Triplet) → IsHeard (before ++ triplets) ↔ (IsHeard before × IsHeardBehind before triplets) }
-    ensures says { (before triplets : List Triplet) → heard (before ++ triplets) ≡ heard before ++ heard_behind before triplets }
+    ensures says { (before triplets : List Triplet) → heard_parts (before ++ triplets) ≡ heard_parts before ++ heard_behind before triplets }
 {}
 
 /// A part is refused exactly where it is the header of a block that says more bytes than its packet has left behind it, and for no

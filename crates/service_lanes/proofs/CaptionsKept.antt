@@ -21,7 +21,7 @@ use Rattle.cue_lists.specs.declared.cue.Cue.{Cue}
 use Rattle.cue_lists.specs.declared.cue.Kind.{Kind}
 use Rattle.cue_lists.specs.declared.cue.Kind.TheVariants.{Pop, Paint, Roll, Win}
 use Rattle.cue_lists.specs.declared.cue.WinCue.{WinCue}
-use Rattle.dtvcc_author.specs.Captions.{caption_with, captions_of, window_caption}
+use Rattle.dtvcc_author.specs.Captions.{caption_with, service_captions, window_caption}
 use Rattle.dtvcc_author.specs.Kept.{AreKept, Follows, IsSoundCaption, IsUncovered}
 
 -- no delay lasts no frame
@@ -155,17 +155,17 @@ module _ (l : Listing) (service : ℕ) where
   -- the captions behind one follow it
   all_follow : (hide : ℕ) (v : WinCue) (former : Cue) → IsWinCue service v hide former → (cues : List Cue) → All IsCueFormed cues
       → AllByRecursion (KeepsClear l.rate former) (cues_of_service service cues)
-      → AllByRecursion (Follows (window_caption l.rate v former)) (captions_of l.rate service cues)
+      → AllByRecursion (Follows (window_caption l.rate v former)) (service_captions l.rate service cues)
   all_follow hide v former is [] formed clear = tt
   all_follow hide v former is (cue ∷ cues) formed clear =
       at cue.kind refl (all_follow hide v former is cues (All-tail IsCueFormed cue cues formed)) clear
     where
       more : (w : WinCue) → cue.kind ≡ Win w → (b : Bool) → (w.service == service) ≡ b
           → (AllByRecursion (KeepsClear l.rate former) (cues_of_service service cues)
-          → AllByRecursion (Follows (window_caption l.rate v former)) (captions_of l.rate service cues))
+          → AllByRecursion (Follows (window_caption l.rate v former)) (service_captions l.rate service cues))
           → AllByRecursion (KeepsClear l.rate former) (cond b (cue ∷ cues_of_service service cues) (cues_of_service service cues))
           → AllByRecursion (Follows (window_caption l.rate v former))
-          (cons_option (if b then Some (window_caption l.rate w cue) else None) (captions_of l.rate service cues))
+          (cons_option (if b then Some (window_caption l.rate w cue) else None) (service_captions l.rate service cues))
       more w kind_is true on rest clear =
           let own = win_cue service w cue (All-head IsCueFormed cue cues formed) kind_is on in
           (follows l.rate service hide own.0 v w former cue is own.1 clear.0, rest clear.1)
@@ -173,9 +173,9 @@ module _ (l : Listing) (service : ℕ) where
 
       at : (k : Kind) → cue.kind ≡ k
           → (AllByRecursion (KeepsClear l.rate former) (cues_of_service service cues)
-          → AllByRecursion (Follows (window_caption l.rate v former)) (captions_of l.rate service cues))
+          → AllByRecursion (Follows (window_caption l.rate v former)) (service_captions l.rate service cues))
           → AllByRecursion (KeepsClear l.rate former) (cond (is_of_service service k) (cue ∷ cues_of_service service cues) (cues_of_service service cues))
-          → AllByRecursion (Follows (window_caption l.rate v former)) (cons_option (caption_with l.rate service k cue) (captions_of l.rate service cues))
+          → AllByRecursion (Follows (window_caption l.rate v former)) (cons_option (caption_with l.rate service k cue) (service_captions l.rate service cues))
       at (Pop channel) kind_is rest clear = rest clear
       at (Paint channel) kind_is rest clear = rest clear
       at (Roll channel rows) kind_is rest clear = rest clear
@@ -186,14 +186,14 @@ module _ (l : Listing) (service : ℕ) where
 
   -- the captions of the service keep the rules
   all_kept : (cues : List Cue) → All IsCueFormed cues → AreInService l service (cues_of_service service cues)
-      → AreKept l.rate l.frames (captions_of l.rate service cues)
+      → AreKept l.rate l.frames (service_captions l.rate service cues)
   all_kept [] formed ruled = tt
   all_kept (cue ∷ cues) formed ruled = at cue.kind refl (all_kept cues (All-tail IsCueFormed cue cues formed)) ruled
     where
       more : (w : WinCue) → cue.kind ≡ Win w → (b : Bool) → (w.service == service) ≡ b
-          → (AreInService l service (cues_of_service service cues) → AreKept l.rate l.frames (captions_of l.rate service cues))
+          → (AreInService l service (cues_of_service service cues) → AreKept l.rate l.frames (service_captions l.rate service cues))
           → AreInService l service (cond b (cue ∷ cues_of_service service cues) (cues_of_service service cues))
-          → AreKept l.rate l.frames (cons_option (if b then Some (window_caption l.rate w cue) else None) (captions_of l.rate service cues))
+          → AreKept l.rate l.frames (cons_option (if b then Some (window_caption l.rate w cue) else None) (service_captions l.rate service cues))
       more w kind_is true on rest ruled =
           let own = win_cue service w cue (All-head IsCueFormed cue cues formed) kind_is on in (
             sound_caption l service own.0 w cue own.1 ruled.0,
@@ -203,9 +203,9 @@ module _ (l : Listing) (service : ℕ) where
       more w kind_is false off rest ruled = rest ruled
 
       at : (k : Kind) → cue.kind ≡ k
-          → (AreInService l service (cues_of_service service cues) → AreKept l.rate l.frames (captions_of l.rate service cues))
+          → (AreInService l service (cues_of_service service cues) → AreKept l.rate l.frames (service_captions l.rate service cues))
           → AreInService l service (cond (is_of_service service k) (cue ∷ cues_of_service service cues) (cues_of_service service cues))
-          → AreKept l.rate l.frames (cons_option (caption_with l.rate service k cue) (captions_of l.rate service cues))
+          → AreKept l.rate l.frames (cons_option (caption_with l.rate service k cue) (service_captions l.rate service cues))
       at (Pop channel) kind_is rest ruled = rest ruled
       at (Paint channel) kind_is rest ruled = rest ruled
       at (Roll channel rows) kind_is rest ruled = rest ruled
@@ -214,5 +214,5 @@ module _ (l : Listing) (service : ℕ) where
           (subst (λ b. AreInService l service (cond b (cue ∷ cues_of_service service cues) (cues_of_service service cues))) (eqb_turned service w.service) ruled)
 
 -- the captions of each service of a list that keeps the rules do
-pub captions_kept : (l : Listing) (service : ℕ) → IsFormed l → IsRuled l → AreKept l.rate l.frames (captions_of l.rate service l.cues)
+pub captions_kept : (l : Listing) (service : ℕ) → IsFormed l → IsRuled l → AreKept l.rate l.frames (service_captions l.rate service l.cues)
 captions_kept l service formed ruled = all_kept l service l.cues formed.cues (ruled.services service)

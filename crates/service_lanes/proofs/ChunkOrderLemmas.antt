@@ -12,8 +12,8 @@ use Rattle.cue_lists.specs.declared.cue.Cue.{Cue}
 use Rattle.cue_lists.specs.declared.cue.Kind.{Kind}
 use Rattle.cue_lists.specs.declared.cue.Kind.TheVariants.{Pop, Paint, Roll, Win}
 use Rattle.cue_lists.specs.declared.cue.WinCue.{WinCue}
-use Rattle.dtvcc_author.specs.Captions.{caption_of, caption_with, captions_of, window_caption}
-use Rattle.dtvcc_author.specs.CueUnits.{units_of}
+use Rattle.dtvcc_author.specs.Captions.{caption_of, caption_with, service_captions, window_caption}
+use Rattle.dtvcc_author.specs.CueUnits.{window_cue_units}
 use Rattle.dtvcc_author.specs.declared.caption.Caption.{Caption}
 use Rattle.placements.specs.LaneRoom.{AreInCueOrder, AreOfCuesFrom}
 use Rattle.service_lanes.specs.ServiceChunks.{chunk_cue, chunk_of, chunks_from, chunks_with, service_chunks}
@@ -48,7 +48,7 @@ service_start rate service number (cue ∷ cues) =
     let behind = service_start rate service (suc number) cues in
     let later : StartAt number (chunks_from rate service (suc number) cues) =
     record { from = of_later_cues number (chunks_from rate service (suc number) cues) behind.from; order = behind.order } in
-    cue_start number (caption_of rate service cue) (units_of cue) (chunks_from rate service (suc number) cues) later
+    cue_start number (caption_of rate service cue) (window_cue_units cue) (chunks_from rate service (suc number) cues) later
 
 -- the units of a service stand in the order of their cues
 pub chunks_in_order : (rate : Rate) (service : ℕ) (cues : List Cue) → AreInCueOrder chunk_cue (service_chunks rate service cues)
@@ -56,7 +56,7 @@ chunks_in_order rate service cues = (service_start rate service 1 cues).order
 
 -- a service that is sent nothing: none of its cues is a caption's
 record IsUnsent (rate : Rate) (service : ℕ) (cues : List Cue) : Type 0 where
-  captions : captions_of rate service cues ≡ []
+  captions : service_captions rate service cues ≡ []
   chunks : (number : ℕ) → chunks_from rate service number cues ≡ []
 
 not_some : (o : Option ℕ) → o ≡ None → IsSome o → ⊥
@@ -70,8 +70,8 @@ all_unsent l service none [] ruled = record { captions = refl; chunks = λ numbe
 all_unsent l service none (cue ∷ cues) ruled = at cue.kind refl ruled (all_unsent l service none cues)
   where
     Sent : Option Caption → Type 0
-    Sent c = (cons_option c (captions_of l.rate service cues) ≡ [])
-        × ((number : ℕ) → chunks_with number c (units_of cue) ++ chunks_from l.rate service (suc number) cues ≡ [])
+    Sent c = (cons_option c (service_captions l.rate service cues) ≡ [])
+        × ((number : ℕ) → chunks_with number c (window_cue_units cue) ++ chunks_from l.rate service (suc number) cues ≡ [])
 
     unsent : IsUnsent l.rate service cues → Sent None
     unsent rest = (rest.captions, λ number. rest.chunks (suc number))
@@ -100,7 +100,7 @@ all_unsent l service none (cue ∷ cues) ruled = at cue.kind refl ruled (all_uns
 
 -- a service without a share has no captions and no units
 pub none_sent : (l : Listing) (service : ℕ) → IsRuled l → share_of l service ≡ None
-    → (captions_of l.rate service l.cues ≡ []) × (service_chunks l.rate service l.cues ≡ [])
+    → (service_captions l.rate service l.cues ≡ []) × (service_chunks l.rate service l.cues ≡ [])
 none_sent l service ruled none = let all = all_unsent l service none l.cues (ruled.services service) in (all.captions, all.chunks 1)
 
 -- a list without windows sends its services nothing
@@ -109,8 +109,8 @@ line21_unsent rate service [] none = record { captions = refl; chunks = λ numbe
 line21_unsent rate service (cue ∷ cues) none = of_all (kinds cue.kind none (line21_unsent rate service cues))
   where
     Sent : Option Caption → Type 0
-    Sent c = (cons_option c (captions_of rate service cues) ≡ [])
-        × ((number : ℕ) → chunks_with number c (units_of cue) ++ chunks_from rate service (suc number) cues ≡ [])
+    Sent c = (cons_option c (service_captions rate service cues) ≡ [])
+        × ((number : ℕ) → chunks_with number c (window_cue_units cue) ++ chunks_from rate service (suc number) cues ≡ [])
 
     unsent : IsUnsent rate service cues → Sent None
     unsent rest = (rest.captions, λ number. rest.chunks (suc number))
@@ -126,5 +126,5 @@ line21_unsent rate service (cue ∷ cues) none = of_all (kinds cue.kind none (li
     of_all all = record { captions = all.0; chunks = all.1 }
 
 pub none_of_line21 : (rate : Rate) (service : ℕ) (cues : List Cue) → list_any (λ (cue : Cue). is_win cue.kind) cues ≡ false
-    → (captions_of rate service cues ≡ []) × (service_chunks rate service cues ≡ [])
+    → (service_captions rate service cues ≡ []) × (service_chunks rate service cues ≡ [])
 none_of_line21 rate service cues none = let all = line21_unsent rate service cues none in (all.captions, all.chunks 1)

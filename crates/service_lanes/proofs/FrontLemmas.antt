@@ -8,9 +8,9 @@ use Rattle.buffer_bound.specs.declared.budget.Budget.{Budget}
 use Rattle.cc_base.specs.declared.rate.Rate.{Rate}
 use Rattle.dtvcc_author.specs.FrameEvents.{delay_end, event_bytes}
 use Rattle.dtvcc_author.specs.Kept.{AreKept}
-use Rattle.dtvcc_author.specs.Latest.{IsAt}
+use Rattle.dtvcc_author.specs.Latest.{IsLatestAt}
 use Rattle.dtvcc_author.specs.declared.caption.Caption.{Caption}
-use Rattle.service_lanes.specs.ServiceLane.{AreUpTo, bytes_between, is_between, most_in_delay, size_of, used}
+use Rattle.service_lanes.specs.ServiceLane.{AreUpTo, bytes_between, chunk_size, is_between, most_in_delay, used}
 use Rattle.service_lanes.specs.ServiceRoom.{IsBudgetAt, IsFirstBehind, IsFront, IsSpent, IsUndelayed, behind_taking, budget_in, caption_lane, frame_room, has_left, spent_of, takes}
 use Rattle.service_lanes.specs.declared.chunk.Chunk.{Chunk}
 use Rattle.service_lanes.specs.declared.front.Front.{Front}
@@ -95,10 +95,10 @@ budget_next r frames cs before frame former kept order is = at former (delay_end
 
 -- what the next frame has left
 pub front_next : (r : Rate) (frames share : ℕ) (cs : List Caption) (before : List (Chunk × ℕ)) (old new : Front) → AreKept r frames cs → IsFront share cs before old
-    → new.frame ≡ old.frame + 1 → IsAt cs (old.frame + 1) new.latest → new.room + length (event_bytes (old.frame + 1) cs) ≡ share
+    → new.frame ≡ old.frame + 1 → IsLatestAt cs (old.frame + 1) new.latest → new.room + length (event_bytes (old.frame + 1) cs) ≡ share
     → new.budget ≡ budget_in old.budget (delay_end cs (old.frame + 1)) (old.frame + 1) → IsFront share cs before new
 front_next r frames share cs before old new kept front frame at room budget = record {
-  at = subst (λ f. IsAt cs f new.latest) (sym frame) at;
+  at = subst (λ f. IsLatestAt cs f new.latest) (sym frame) at;
   order = subst (λ f. AreUpTo f before) (sym frame) (up_to_later old.frame (old.frame + 1) before (omega arith) front.order);
   room =
       let unused = none_behind (old.frame + 1) (old.frame + 1 + 1) old.frame before front.order (omega arith) in
@@ -109,10 +109,10 @@ front_next r frames share cs before old new kept front frame at room budget = re
 }
 
 -- the front of no units at frame 0
-pub front_first : (r : Rate) (frames share : ℕ) (cs : List Caption) (new : Front) → AreKept r frames cs → new.frame ≡ 0 → IsAt cs 0 new.latest
+pub front_first : (r : Rate) (frames share : ℕ) (cs : List Caption) (new : Front) → AreKept r frames cs → new.frame ≡ 0 → IsLatestAt cs 0 new.latest
     → new.room + length (event_bytes 0 cs) ≡ share → new.budget ≡ budget_in None (delay_end cs 0) 0 → IsFront share cs [] new
 front_first r frames share cs new kept frame at room budget = record {
-  at = subst (λ f. IsAt cs f new.latest) (sym frame) at;
+  at = subst (λ f. IsLatestAt cs f new.latest) (sym frame) at;
   order = tt;
   room = subst (λ f. used f (f + 1) [] + new.room ≡ frame_room share cs f) (sym frame) (omega (arith, room));
   budget =
@@ -130,28 +130,28 @@ front_first r frames share cs new kept frame at room budget = record {
 
 -- what fits the room of the frame and what is left of its delay is allowed there
 pub allowed_now : (r : Rate) (frames share : ℕ) (cs : List Caption) (before : List (Chunk × ℕ)) (front : Front) (chunk : Chunk) → AreKept r frames cs
-    → IsFront share cs before front → front.frame < chunk.until → (nat_le chunk.load front.frame && takes front (size_of chunk)) ≡ true
+    → IsFront share cs before front → front.frame < chunk.until → (nat_le chunk.load front.frame && takes front (chunk_size chunk)) ≡ true
     → caption_lane share cs before chunk front.frame
 allowed_now r frames share cs before front chunk kept is until admitted =
-    let parts = and_parts (nat_le chunk.load front.frame) (takes front (size_of chunk)) admitted in
-    let fits = and_parts (nat_le (size_of chunk) front.room) (has_left front.budget (size_of chunk)) parts.1 in
+    let parts = and_parts (nat_le chunk.load front.frame) (takes front (chunk_size chunk)) admitted in
+    let fits = and_parts (nat_le (chunk_size chunk) front.room) (has_left front.budget (chunk_size chunk)) parts.1 in
     let loaded = parts.0 in
     let roomy = fits.0 in
     record {
       order = is.order;
       loaded = grind (arith, nat_tests);
       ended = until;
-      fits = let small : size_of chunk ≤ front.room = grind (arith, nat_tests) in omega (arith, small, is.room);
+      fits = let small : chunk_size chunk ≤ front.room = grind (arith, nat_tests) in omega (arith, small, is.room);
       delayed = λ start end delay from to. in_delay start end delay from to front.budget is.budget fits.1;
     }
   where
     in_delay : (start end : ℕ) → delay_end cs start ≡ Some end → start ≤ front.frame → front.frame < end → (budget : Option Budget)
-        → IsBudgetAt cs before front.frame budget → has_left budget (size_of chunk) ≡ true
-        → used start end before + size_of chunk ≤ most_in_delay
+        → IsBudgetAt cs before front.frame budget → has_left budget (chunk_size chunk) ≡ true
+        → used start end before + chunk_size chunk ≤ most_in_delay
     in_delay start end delay from to None none has = absurd (let low = none start end delay from in omega (arith, low, to))
     in_delay start end delay from to (Some budget) spent has =
         let one = one_delay r frames cs start end budget.start budget.end front.frame kept delay spent.delay from to spent.from spent.to in
-        let small : size_of chunk ≤ budget.left = grind (arith, nat_tests) in
+        let small : chunk_size chunk ≤ budget.left = grind (arith, nat_tests) in
         let same : used start end before ≡ used budget.start budget.end before =
         ap (λ s. used s end before) one.0 ∙ ap (λ e. used budget.start e before) one.1 in
         omega (arith, small, spent.left, same)
@@ -164,20 +164,20 @@ both_hold false b p q = p
 -- and what is allowed there fits
 pub allowed_fits : (share : ℕ) (cs : List Caption) (before : List (Chunk × ℕ)) (front : Front) (chunk : Chunk)
     → IsFront share cs before front → caption_lane share cs before chunk front.frame
-    → (nat_le chunk.load front.frame && takes front (size_of chunk)) ≡ true
+    → (nat_le chunk.load front.frame && takes front (chunk_size chunk)) ≡ true
 allowed_fits share cs before front chunk is allowed =
     let early = allowed.loaded in
-    let roomy : size_of chunk ≤ front.room = omega (arith, allowed.fits, is.room) in
+    let roomy : chunk_size chunk ≤ front.room = omega (arith, allowed.fits, is.room) in
     let first : nat_le chunk.load front.frame ≡ true = grind (arith, nat_tests) in
-    let second : nat_le (size_of chunk) front.room ≡ true = grind (arith, nat_tests) in
-    both_hold (nat_le chunk.load front.frame) (takes front (size_of chunk)) first
-    (both_hold (nat_le (size_of chunk) front.room) (has_left front.budget (size_of chunk)) second (in_delay front.budget is.budget))
+    let second : nat_le (chunk_size chunk) front.room ≡ true = grind (arith, nat_tests) in
+    both_hold (nat_le chunk.load front.frame) (takes front (chunk_size chunk)) first
+    (both_hold (nat_le (chunk_size chunk) front.room) (has_left front.budget (chunk_size chunk)) second (in_delay front.budget is.budget))
   where
-    in_delay : (budget : Option Budget) → IsBudgetAt cs before front.frame budget → has_left budget (size_of chunk) ≡ true
+    in_delay : (budget : Option Budget) → IsBudgetAt cs before front.frame budget → has_left budget (chunk_size chunk) ≡ true
     in_delay None none = refl
     in_delay (Some budget) spent =
         let most = allowed.delayed budget.start budget.end spent.delay spent.from spent.to in
-        let small : size_of chunk ≤ budget.left = omega (arith, most, spent.left) in
+        let small : chunk_size chunk ≤ budget.left = omega (arith, most, spent.left) in
         grind (arith, nat_tests)
 
 -- one more placed unit has what it has
@@ -189,36 +189,36 @@ in_stretch : (from to f : ℕ) → from ≤ f → f < to → is_between from to 
 in_stretch from to f low high = grind (arith, nat_tests)
 
 used_more : (from to : ℕ) (before : List (Chunk × ℕ)) (u : Chunk) (f : ℕ) → from ≤ f → f < to
-    → used from to (before ++ (u, f) ∷ []) ≡ used from to before + size_of u
+    → used from to (before ++ (u, f) ∷ []) ≡ used from to before + chunk_size u
 used_more from to before u f low high =
-    let here : bytes_between from to (u, f) ≡ size_of u = let is = in_stretch from to f low high in rw is refl in
+    let here : bytes_between from to (u, f) ≡ chunk_size u = let is = in_stretch from to f low high in rw is refl in
     used_push from to before u f ∙ ap (λ n. used from to before + n) here
 
 -- the front behind a unit that its frame takes
 pub front_push : (share : ℕ) (cs : List Caption) (before : List (Chunk × ℕ)) (front : Front) (chunk : Chunk) → IsFront share cs before front
-    → takes front (size_of chunk) ≡ true → IsFront share cs (before ++ (chunk, front.frame) ∷ []) (behind_taking front (size_of chunk))
+    → takes front (chunk_size chunk) ≡ true → IsFront share cs (before ++ (chunk, front.frame) ∷ []) (behind_taking front (chunk_size chunk))
 front_push share cs before front chunk is taken =
-    let fits = and_parts (nat_le (size_of chunk) front.room) (has_left front.budget (size_of chunk)) taken in
+    let fits = and_parts (nat_le (chunk_size chunk) front.room) (has_left front.budget (chunk_size chunk)) taken in
     let roomy = fits.0 in
     record {
       at = is.at;
       order = up_to_push front.frame before chunk front.frame is.order (omega arith);
       room =
-          let small : size_of chunk ≤ front.room = grind (arith, nat_tests) in
+          let small : chunk_size chunk ≤ front.room = grind (arith, nat_tests) in
           let more = used_more front.frame (front.frame + 1) before chunk front.frame (omega arith) (omega arith) in
           omega (arith, small, more, is.room);
       budget = in_delay front.budget is.budget fits.1;
     }
   where
-    in_delay : (budget : Option Budget) → IsBudgetAt cs before front.frame budget → has_left budget (size_of chunk) ≡ true
-        → IsBudgetAt cs (before ++ (chunk, front.frame) ∷ []) front.frame (spent_of budget (size_of chunk))
+    in_delay : (budget : Option Budget) → IsBudgetAt cs before front.frame budget → has_left budget (chunk_size chunk) ≡ true
+        → IsBudgetAt cs (before ++ (chunk, front.frame) ∷ []) front.frame (spent_of budget (chunk_size chunk))
     in_delay None none has = none
     in_delay (Some budget) spent has = record {
       delay = spent.delay;
       from = spent.from;
       to = spent.to;
       left =
-          let small : size_of chunk ≤ budget.left = grind (arith, nat_tests) in
+          let small : chunk_size chunk ≤ budget.left = grind (arith, nat_tests) in
           let more = used_more budget.start budget.end before chunk front.frame spent.from spent.to in
           omega (arith, small, more, spent.left);
     }

@@ -9,7 +9,7 @@ use Rattle.std.proofs.lemmas.List.{append-nil, drop_all, drop_at, drop_more, dro
 use Rattle.std.proofs.lemmas.List.Concat.{flat_map-append}
 use Rattle.service_lanes.specs.CueChunks.{chunk_bytes}
 use Rattle.service_lanes.specs.ServiceBytes.{AreFramesFrom, IsLoading, loads_at}
-use Rattle.service_lanes.specs.Stretches.{AreStretches, bytes_of_first, frames_from, frames_of}
+use Rattle.service_lanes.specs.Stretches.{AreStretches, bytes_of_first, frames_from, stretch_frames}
 use Rattle.service_lanes.specs.declared.chunk.Chunk.{Chunk}
 use Rattle.service_lanes.specs.declared.cursor.Cursor.{Cursor}
 use Rattle.service_lanes.specs.declared.stretch.Stretch.{Stretch}
@@ -105,7 +105,7 @@ is_part chunks from to low = record {
 pub record IsLoaded (chunks : List Chunk) (stretches : List Stretch) (cursor : Cursor) (s : Stretch) : Type 0 where
   pub order : cursor.start ≤ s.bytes
   pub within : s.bytes ≤ length (flat_map chunk_bytes chunks)
-  pub bytes : take (s.bytes - cursor.start) (drop cursor.start (flat_map chunk_bytes chunks)) ≡ loads_at (zip chunks (frames_of stretches)) cursor.frame
+  pub bytes : take (s.bytes - cursor.start) (drop cursor.start (flat_map chunk_bytes chunks)) ≡ loads_at (zip chunks (stretch_frames stretches)) cursor.frame
   pub behind : IsLoading chunks stretches (record cursor { frame = cursor.frame + 1; next = cursor.next + 1; start = s.bytes })
 
 pub is_loaded : (chunks : List Chunk) (stretches : List Stretch) (cursor : Cursor) (s : Stretch) → IsLoading chunks stretches cursor
@@ -163,7 +163,7 @@ is_loaded chunks stretches cursor s is there read here = record {
         (frames_ascend chunks (cursor.frame + 1) s.units (drop (cursor.next + 1) stretches)
         (subst (λ f. AreStretches chunks (f + 1) s.units (drop (cursor.next + 1) stretches)) here ahead.4))
 
-    loads : loads_at (zip chunks (frames_of stretches)) cursor.frame ≡ flat_map chunk_bytes (take (s.units - is.passed) (drop is.passed chunks))
+    loads : loads_at (zip chunks (stretch_frames stretches)) cursor.frame ≡ flat_map chunk_bytes (take (s.units - is.passed) (drop is.passed chunks))
     loads =
         let same : (s.frame == cursor.frame) ≡ true = eq-eqb s.frame cursor.frame here in
         is.same cursor.frame (omega arith) ∙ split cursor.frame
@@ -171,7 +171,7 @@ is_loaded chunks stretches cursor s is there read here = record {
 
 -- no stretch is left, or the next one is in a later frame
 pub record IsUnloaded (chunks : List Chunk) (stretches : List Stretch) (cursor : Cursor) : Type 0 where
-  pub none : loads_at (zip chunks (frames_of stretches)) cursor.frame ≡ []
+  pub none : loads_at (zip chunks (stretch_frames stretches)) cursor.frame ≡ []
   pub behind : IsLoading chunks stretches (record cursor { frame = cursor.frame + 1 })
 
 unloaded_by : (chunks : List Chunk) (stretches : List Stretch) (cursor : Cursor) (is : IsLoading chunks stretches cursor)

@@ -17,7 +17,7 @@ use Rattle.placements.proofs.LaneRoomLemmas.{no_room_at}
 use Rattle.placements.proofs.PlacingLemmas.{earliest_none, zip_push}
 use Rattle.service_lanes.specs.ServiceBytes.{AreFramesFrom, loads_at}
 use Rattle.service_lanes.specs.ServiceChunks.{chunk_cue}
-use Rattle.service_lanes.specs.ServiceLane.{AreUpTo, bytes_between, is_between, size_of, used}
+use Rattle.service_lanes.specs.ServiceLane.{AreUpTo, bytes_between, chunk_size, is_between, used}
 use Rattle.service_lanes.specs.ServicePlacing.{Reaches}
 use Rattle.service_lanes.specs.ServicePlan.{IsWithinShare}
 use Rattle.service_lanes.specs.ServiceRoom.{IsFirstBehind, IsFront, caption_lane, frame_room}
@@ -122,10 +122,10 @@ loads_used ((u, f) ∷ placed) frame =
     let whole = sum_by-cons (bytes_between frame (frame + 1)) (u, f) placed in
     let joined = length-append (if f == frame then u.unit.items else []) (loads_at placed frame) in
     let here : bytes_between frame (frame + 1) (u, f) ≡ length (if f == frame then u.unit.items else []) =
-    ap (λ b. if b then size_of u else 0) (between_frame f frame) ∙ size (f == frame) in
+    ap (λ b. if b then chunk_size u else 0) (between_frame f frame) ∙ size (f == frame) in
     omega (arith, rest, whole, joined, here)
   where
-    size : (b : Bool) → (if b then size_of u else 0) ≡ length (if b then u.unit.items else [])
+    size : (b : Bool) → (if b then chunk_size u else 0) ≡ length (if b then u.unit.items else [])
     size true = refl
     size false = refl
 

@@ -10,7 +10,7 @@ use Rattle.service_lanes.specs.CueChunks.{chunk_in}
 use Rattle.service_lanes.specs.ServiceChunks.{chunk_cue}
 use Rattle.service_lanes.specs.ServicePlacing.{IsOfCue, IsPlacing, Reaches, stretches_of}
 use Rattle.service_lanes.specs.ServiceRoom.{IsFirstBehind, IsFront, caption_lane}
-use Rattle.service_lanes.specs.Stretches.{AreStretches, bytes_of_first, frames_of}
+use Rattle.service_lanes.specs.Stretches.{AreStretches, bytes_of_first, stretch_frames}
 use Rattle.service_lanes.specs.declared.chunk.Chunk.{Chunk}
 use Rattle.service_lanes.specs.declared.chunk.CueLoad.{CueLoad}
 use Rattle.service_lanes.specs.declared.front.Front.{Front}
@@ -27,7 +27,7 @@ pub record IsPlaced (share : ℕ) (cs : List Caption) (chunk : Chunk) (old new :
 
 -- the units so far and one more
 module _ (share : ℕ) (cs : List Caption) (us : List Chunk) (cue : CueLoad) (units : List (List ℕ)) (ss : List Stretch) (s t : Stretch) (old new : Front)
-    (reaches : Reaches share cs (take s.units us) (frames_of (ss ++ s ∷ [])) old) (are : AreStretches us 0 0 (ss ++ s ∷ [])) (same : s.frame ≡ old.frame)
+    (reaches : Reaches share cs (take s.units us) (stretch_frames (ss ++ s ∷ [])) old) (are : AreStretches us 0 0 (ss ++ s ∷ [])) (same : s.frame ≡ old.frame)
     (of_cue : IsOfCue cue units us s.units) (placed : IsPlaced share cs (chunk_in cue (get_or units s.units [])) old new t.frame)
     (more : t.units ≡ s.units + 1) (bytes : t.bytes ≡ s.bytes + length (get_or units s.units [])) where
   chunk : Chunk
@@ -36,7 +36,7 @@ module _ (share : ℕ) (cs : List Caption) (us : List Chunk) (cue : CueLoad) (un
   -- the unit's frame isn't before that of the units before it
   pub no_earlier : s.frame ≤ t.frame
   no_earlier =
-      let before = zip (take s.units us) (frames_of (ss ++ s ∷ [])) in
+      let before = zip (take s.units us) (stretch_frames (ss ++ s ∷ [])) in
       let least = placed.first before reaches.front_is reaches.first in
       omega (arith, same, reaches.first t.frame least.holds.order)
 
@@ -48,10 +48,10 @@ module _ (share : ℕ) (cs : List Caption) (us : List Chunk) (cue : CueLoad) (un
       bytes ∙ ap (λ n. n + length (get_or units s.units [])) last.bytes
       ∙ ap (λ n. bytes_of_first s.units us + n) (sym unit) ∙ sym (bytes_of_more us s.units d of_cue.within) ∙ ap (λ n. bytes_of_first n us) (sym more)
 
-  reached : Reaches share cs (take (s.units + 1) us) (frames_of (ss ++ s ∷ []) ++ t.frame ∷ []) new
+  reached : Reaches share cs (take (s.units + 1) us) (stretch_frames (ss ++ s ∷ []) ++ t.frame ∷ []) new
   reached =
       let d = chunk_in cue (get_or units s.units []) in
-      reaches_next share cs us s.units d (frames_of (ss ++ s ∷ [])) old new t.frame of_cue.within reaches
+      reaches_next share cs us s.units d (stretch_frames (ss ++ s ∷ [])) old new t.frame of_cue.within reaches
       (subst (λ u. (before : List (Chunk × ℕ)) → IsFront share cs before old → IsFirstBehind before old.frame → IsFirst (caption_lane share cs before u) t.frame)
       (sym (of_cue.is d)) placed.first)
       (subst (λ u. (before : List (Chunk × ℕ)) → IsFront share cs before old → IsFront share cs (before ++ (u, t.frame) ∷ []) new) (sym (of_cue.is d)) placed.front)
@@ -59,9 +59,9 @@ module _ (share : ℕ) (cs : List Caption) (us : List Chunk) (cue : CueLoad) (un
 
   -- it stands in the frame of the last stretch
   pub placing_grow : t.frame ≡ s.frame
-      → Reaches share cs (take t.units us) (frames_of (ss ++ t ∷ [])) new × AreStretches us 0 0 (ss ++ t ∷ []) × (t.frame ≡ new.frame)
+      → Reaches share cs (take t.units us) (stretch_frames (ss ++ t ∷ [])) new × AreStretches us 0 0 (ss ++ t ∷ []) × (t.frame ≡ new.frame)
   placing_grow here = (
-    subst (λ n. Reaches share cs (take n us) (frames_of (ss ++ t ∷ [])) new) (sym more)
+    subst (λ n. Reaches share cs (take n us) (stretch_frames (ss ++ t ∷ [])) new) (sym more)
         (subst (λ l. Reaches share cs (take (s.units + 1) us) l new) (sym (frames_grow us ss s t are here more)) reached),
     stretches_grow us 0 0 ss s t are here (omega (arith, more)) (omega (arith, more, of_cue.within)) sized,
     sym placed.at,
@@ -69,9 +69,9 @@ module _ (share : ℕ) (cs : List Caption) (us : List Chunk) (cue : CueLoad) (un
 
   -- or in a later one
   pub placing_more : s.frame < t.frame
-      → Reaches share cs (take t.units us) (frames_of ((ss ++ s ∷ []) ++ t ∷ [])) new × AreStretches us 0 0 ((ss ++ s ∷ []) ++ t ∷ []) × (t.frame ≡ new.frame)
+      → Reaches share cs (take t.units us) (stretch_frames ((ss ++ s ∷ []) ++ t ∷ [])) new × AreStretches us 0 0 ((ss ++ s ∷ []) ++ t ∷ []) × (t.frame ≡ new.frame)
   placing_more later = (
-    subst (λ n. Reaches share cs (take n us) (frames_of ((ss ++ s ∷ []) ++ t ∷ [])) new) (sym more)
+    subst (λ n. Reaches share cs (take n us) (stretch_frames ((ss ++ s ∷ []) ++ t ∷ [])) new) (sym more)
         (subst (λ l. Reaches share cs (take (s.units + 1) us) l new) (sym (frames_more ss s t more)) reached),
     stretches_more us 0 0 ss s t are later (omega (arith, more)) (omega (arith, more, of_cue.within)) sized,
     sym placed.at,
@@ -112,21 +112,21 @@ placing_next share cs us cue units old new t is of_cue placed more bytes last gr
     (cases_lt old.last.frame t.frame)
   where
     made : (ss : List Stretch) → stretches_of new ≡ ss
-        → Reaches share cs (take t.units us) (frames_of ss) new.front × AreStretches us 0 0 ss × (t.frame ≡ new.front.frame)
+        → Reaches share cs (take t.units us) (stretch_frames ss) new.front × AreStretches us 0 0 ss × (t.frame ≡ new.front.frame)
         → IsPlacing share cs us new
     made ss are known = record {
       reaches =
-          subst (λ (s : Stretch). Reaches share cs (take s.units us) (frames_of (stretches_of new)) new.front) (sym last)
-          (subst (λ l. Reaches share cs (take t.units us) (frames_of l) new.front) (sym are) known.0);
+          subst (λ (s : Stretch). Reaches share cs (take s.units us) (stretch_frames (stretches_of new)) new.front) (sym last)
+          (subst (λ l. Reaches share cs (take t.units us) (stretch_frames l) new.front) (sym are) known.0);
       stretches = subst (AreStretches us 0 0) (sym are) known.1;
       frame = ap (λ (s : Stretch). s.frame) last ∙ known.2;
     }
 
 -- all units are placed
 pub placing_all : (share : ℕ) (cs : List Caption) (us : List Chunk) (placing : Placing) (ss : List Stretch) → IsPlacing share cs us placing
-    → length us ≤ placing.last.units → ss ≡ stretches_of placing → IsEarliest (caption_lane share cs) us (frames_of ss) × AreStretches us 0 0 ss
+    → length us ≤ placing.last.units → ss ≡ stretches_of placing → IsEarliest (caption_lane share cs) us (stretch_frames ss) × AreStretches us 0 0 ss
 placing_all share cs us placing ss is end are = (
-  subst (λ l. IsEarliest (caption_lane share cs) us (frames_of l)) (sym are)
-      (reaches_all share cs us placing.last.units (frames_of (stretches_of placing)) placing.front end is.reaches),
+  subst (λ l. IsEarliest (caption_lane share cs) us (stretch_frames l)) (sym are)
+      (reaches_all share cs us placing.last.units (stretch_frames (stretches_of placing)) placing.front end is.reaches),
   subst (AreStretches us 0 0) (sym are) is.stretches,
 )

@@ -8,7 +8,7 @@ use Rattle.service_lanes.specs.declared.chunk.Chunk.{Chunk}
 use Rattle.placements.specs.FirstFit.{EarliestIsFirstFit}
 use Rattle.placements.specs.OneMore.{FitsEarlier, OneMore}
 use Rattle.placements.specs.Placing.{IsPlaced, IsEarliest, NoLater}
-use Rattle.service_lanes.specs.ServiceLane.{AreUpTo, IsAllowed, IsWithinRoom, KeepsRoom, bytes_between, is_between, most_in_delay, service_lane, size_of, used}
+use Rattle.service_lanes.specs.ServiceLane.{AreUpTo, IsAllowed, IsWithinRoom, KeepsRoom, bytes_between, chunk_size, is_between, most_in_delay, service_lane, used}
 use Rattle.placements.proofs.FirstFitLemmas.{earliest_is_first_fit}
 use Rattle.placements.proofs.PlacingLemmas.{one_more}
 
@@ -28,10 +28,10 @@ bytes_earlier : (from to g : ℕ) (u : Chunk) (f h : ℕ) → f ≤ h → h ≤ 
 bytes_earlier from to g u f h low high below = at (is_between from to f) (is_between from to h) refl refl
   where
     at : (b c : Bool) → is_between from to f ≡ b → is_between from to h ≡ c
-        → (if b then size_of u else 0) ≤ (if c then size_of u else 0)
+        → (if b then chunk_size u else 0) ≤ (if c then chunk_size u else 0)
     at false false p q = omega arith
-    at false true p q = let least : 0 ≤ size_of u = omega arith in least
-    at true true p q = let same : size_of u ≤ size_of u = omega arith in same
+    at false true p q = let least : 0 ≤ chunk_size u = omega arith in least
+    at true true p q = let same : chunk_size u ≤ chunk_size u = omega arith in same
     at true false p q = let both = between_later from to f h g low high below p in cc
 
 -- and all together
@@ -92,13 +92,13 @@ within_push room ends before u f within a = record {
 }
   where
     in_frame : (frame : ℕ) (b : Bool) → is_between frame (frame + 1) f ≡ b
-        → used frame (frame + 1) before + (if b then size_of u else 0) ≤ room frame
+        → used frame (frame + 1) before + (if b then chunk_size u else 0) ≤ room frame
     in_frame frame false p = let most : used frame (frame + 1) before + 0 ≤ room frame = omega (arith, within.frames frame) in most
     in_frame frame true p =
-        subst (λ (here : ℕ). used here (here + 1) before + size_of u ≤ room here) (between_one frame f p) a.fits
+        subst (λ (here : ℕ). used here (here + 1) before + chunk_size u ≤ room here) (between_one frame f p) a.fits
 
     in_delay : (start end : ℕ) → ends start ≡ Some end → (b : Bool) → is_between start end f ≡ b
-        → used start end before + (if b then size_of u else 0) ≤ most_in_delay
+        → used start end before + (if b then chunk_size u else 0) ≤ most_in_delay
     in_delay start end is false p = let most : used start end before + 0 ≤ 125 = omega (arith, within.delays start end is) in most
     in_delay start end is true p = let parts = between_parts start end f p in a.delayed start end is parts.0 parts.1
 

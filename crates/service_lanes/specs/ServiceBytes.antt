@@ -4,9 +4,9 @@ use Rattle.std.specs.List.{flat_map, zip}
 use Rattle.cc_base.specs.declared.rate.Rate.{Rate}
 use Rattle.dtvcc_author.specs.FrameEvents.{event_bytes}
 use Rattle.dtvcc_author.specs.Kept.{AreKept}
-use Rattle.dtvcc_author.specs.Latest.{IsAt}
+use Rattle.dtvcc_author.specs.Latest.{IsLatestAt}
 use Rattle.dtvcc_author.specs.declared.caption.Caption.{Caption}
-use Rattle.service_lanes.specs.Stretches.{AreStretches, bytes_of_first, frames_from, frames_of}
+use Rattle.service_lanes.specs.Stretches.{AreStretches, bytes_of_first, frames_from, stretch_frames}
 use Rattle.service_lanes.specs.declared.chunk.Chunk.{Chunk}
 use Rattle.service_lanes.specs.declared.cursor.Cursor.{Cursor}
 use Rattle.service_lanes.specs.declared.stretch.Stretch.{Stretch}
@@ -30,11 +30,11 @@ pub record IsLoading (chunks : List Chunk) (stretches : List Stretch) (cursor : 
   pub passed : ℕ
   pub start : cursor.start ≡ bytes_of_first passed chunks
   pub same : (frame : ℕ) → cursor.frame ≤ frame
-      → loads_at (zip chunks (frames_of stretches)) frame ≡ loads_at (zip (drop passed chunks) (frames_from passed (drop cursor.next stretches))) frame
+      → loads_at (zip chunks (stretch_frames stretches)) frame ≡ loads_at (zip (drop passed chunks) (frames_from passed (drop cursor.next stretches))) frame
   pub ahead : AreStretches chunks cursor.frame passed (drop cursor.next stretches)
 
 -- the cursor is ready to give the bytes of its frame
-pub record IsReady (cs : List Caption) (chunks : List Chunk) (stretches : List Stretch) (cursor : Cursor) : Type 0 where
+pub record IsReadyForBytes (cs : List Caption) (chunks : List Chunk) (stretches : List Stretch) (cursor : Cursor) : Type 0 where
   pub kept : (rate : Rate) × ((all : ℕ) × AreKept rate all cs)
-  pub at : IsAt cs cursor.frame cursor.latest
+  pub at : IsLatestAt cs cursor.frame cursor.latest
   pub loading : IsLoading chunks stretches cursor

@@ -3,7 +3,7 @@ use Rattle.std.specs.Prelude.{ℕ, suc, List, [], ◌∷◌, ◌++◌, Option, S
 use Rattle.cc_base.specs.declared.rate.Rate.{Rate}
 use Rattle.cue_lists.specs.declared.cue.Cue.{Cue}
 use Rattle.dtvcc_author.specs.Captions.{caption_of}
-use Rattle.dtvcc_author.specs.CueUnits.{units_of}
+use Rattle.dtvcc_author.specs.CueUnits.{window_cue_units}
 use Rattle.dtvcc_author.specs.declared.caption.Caption.{Caption}
 use Rattle.service_lanes.specs.declared.chunk.Chunk.{Chunk}
 
@@ -18,7 +18,7 @@ chunks_with number (Some c) units = map (chunk_of number c) units
 
 -- the units of the cue of this number, where it is one of the service
 abbrev pub cue_chunks : Rate → ℕ → ℕ → Cue → List Chunk
-cue_chunks rate service number cue = chunks_with number (caption_of rate service cue) (units_of cue)
+cue_chunks rate service number cue = chunks_with number (caption_of rate service cue) (window_cue_units cue)
 
 -- the units of the cues of a service, where the first cue has this number
 abbrev pub chunks_from : Rate → ℕ → ℕ → List Cue → List Chunk

@@ -7,8 +7,8 @@ use Rattle.placements.specs.Placing.{IsPlaced}
 use Rattle.service_lanes.specs.declared.chunk.Chunk.{Chunk}
 
 -- the bytes of a unit
-abbrev pub size_of : Chunk → ℕ
-size_of chunk = length chunk.unit.items
+abbrev pub chunk_size : Chunk → ℕ
+chunk_size chunk = length chunk.unit.items
 
 -- the most bytes of units that may come in a delay; the two of DisplayWindows are held beside them
 abbrev pub most_in_delay : ℕ
@@ -20,7 +20,7 @@ is_between from to frame = nat_le from frame && nat_lt frame to
 
 -- the bytes that a placed unit has in these frames
 abbrev pub bytes_between : ℕ → ℕ → Chunk × ℕ → ℕ
-bytes_between from to placed = if is_between from to placed.1 then size_of placed.0 else 0
+bytes_between from to placed = if is_between from to placed.1 then chunk_size placed.0 else 0
 
 -- the bytes that the placed units have in these frames
 abbrev pub used : ℕ → ℕ → List (Chunk × ℕ) → ℕ
@@ -36,8 +36,8 @@ pub record IsAllowed (room : ℕ → ℕ) (ends : ℕ → Option ℕ) (before : 
   pub order : AreUpTo frame before
   pub loaded : chunk.load ≤ frame
   pub ended : frame < chunk.until
-  pub fits : used frame (frame + 1) before + size_of chunk ≤ room frame
-  pub delayed : (start end : ℕ) → ends start ≡ Some end → start ≤ frame → frame < end → used start end before + size_of chunk ≤ most_in_delay
+  pub fits : used frame (frame + 1) before + chunk_size chunk ≤ room frame
+  pub delayed : (start end : ℕ) → ends start ≡ Some end → start ≤ frame → frame < end → used start end before + chunk_size chunk ≤ most_in_delay
 
 -- what the lane allows, for the placements of its units
 abbrev pub service_lane : (ℕ → ℕ) → (ℕ → Option ℕ) → List (Chunk × ℕ) → Chunk → ℕ → Type 0

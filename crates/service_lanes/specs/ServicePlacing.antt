@@ -7,7 +7,7 @@ use Rattle.dtvcc_author.specs.declared.caption.Caption.{Caption}
 use Rattle.placements.specs.Placing.{IsEarliest}
 use Rattle.service_lanes.specs.CueChunks.{chunk_in}
 use Rattle.service_lanes.specs.ServiceRoom.{IsFirstBehind, IsFront, caption_lane}
-use Rattle.service_lanes.specs.Stretches.{AreStretches, frames_of}
+use Rattle.service_lanes.specs.Stretches.{AreStretches, stretch_frames}
 use Rattle.service_lanes.specs.declared.chunk.Chunk.{Chunk}
 use Rattle.service_lanes.specs.declared.chunk.CueLoad.{CueLoad}
 use Rattle.service_lanes.specs.declared.front.Front.{Front}
@@ -26,7 +26,7 @@ stretches_of placing = placing.stretches.items ++ placing.last ∷ []
 
 -- the first units stand in their earliest frames, and the last stretch is in the frame of the front
 pub record IsPlacing (share : ℕ) (cs : List Caption) (chunks : List Chunk) (placing : Placing) : Type 0 where
-  pub reaches : Reaches share cs (take placing.last.units chunks) (frames_of (stretches_of placing)) placing.front
+  pub reaches : Reaches share cs (take placing.last.units chunks) (stretch_frames (stretches_of placing)) placing.front
   pub stretches : AreStretches chunks 0 0 (stretches_of placing)
   pub frame : placing.last.frame ≡ placing.front.frame
 

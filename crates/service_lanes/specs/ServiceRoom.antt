@@ -2,7 +2,7 @@
 use Rattle.std.specs.Prelude.{◌≡◌, ℕ, ◌+◌, ◌-◌, ◌<◌, ◌≤◌, ◌&&◌, nat_le, nat_lt, Bool, true, if◌then◌else◌, List, Option, Some, None, length}
 use Rattle.buffer_bound.specs.declared.budget.Budget.{Budget}
 use Rattle.dtvcc_author.specs.FrameEvents.{delay_end, event_bytes}
-use Rattle.dtvcc_author.specs.Latest.{IsAt}
+use Rattle.dtvcc_author.specs.Latest.{IsLatestAt}
 use Rattle.dtvcc_author.specs.declared.caption.Caption.{Caption}
 use Rattle.service_lanes.specs.ServiceLane.{AreUpTo, most_in_delay, service_lane, used}
 use Rattle.service_lanes.specs.declared.chunk.Chunk.{Chunk}
@@ -33,7 +33,7 @@ IsBudgetAt cs before frame (Some budget) = IsSpent cs before frame budget
 
 -- the front is at a frame behind which no unit stands, and knows what the units before leave of it and of its delay
 pub record IsFront (share : ℕ) (cs : List Caption) (before : List (Chunk × ℕ)) (front : Front) : Type 0 where
-  pub at : IsAt cs front.frame front.latest
+  pub at : IsLatestAt cs front.frame front.latest
   pub order : AreUpTo front.frame before
   pub room : used front.frame (front.frame + 1) before + front.room ≡ frame_room share cs front.frame
   pub budget : IsBudgetAt cs before front.frame front.budget

@@ -11,8 +11,8 @@ frames_from before [] = []
 frames_from before (stretch ∷ stretches) = replicate (stretch.units - before) stretch.frame ++ frames_from stretch.units stretches
 
 -- the frame of each unit
-abbrev pub frames_of : List Stretch → List ℕ
-frames_of stretches = frames_from 0 stretches
+abbrev pub stretch_frames : List Stretch → List ℕ
+stretch_frames stretches = frames_from 0 stretches
 
 -- the bytes of the first so many units
 abbrev pub bytes_of_first : ℕ → List Chunk → ℕ

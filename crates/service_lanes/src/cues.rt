@@ -1,6 +1,6 @@
 ghost use Rattle.std.specs.Prelude.{◌≡◌, ◌≤◌, ◌++◌, All, IfOk, OnOk, length, map};
 ghost use Rattle.cue_lists.specs.Cues.{IsCueFormed};
-ghost use Rattle.dtvcc_author.specs.CueUnits.{units_of};
+ghost use Rattle.dtvcc_author.specs.CueUnits.{window_cue_units};
 ghost use Rattle.service_lanes.specs.CueChunks.{AreCounted, chunks_of};
 ghost use Rattle.service_lanes.specs.ServiceChunks.{chunk_of, service_chunks};
 
@@ -39,7 +39,7 @@ fn push_cue(
     requires counted { AreCounted loads.old.items units.old }
     ensures counted { OnOk result (AreCounted loads.new.items units.new) }
     ensures chunks { OnOk result (chunks_of loads.new.items units.new
-        ≡ chunks_of loads.old.items units.old ++ map (chunk_of number caption) (units_of cue.now)) }
+        ≡ chunks_of loads.old.items units.old ++ map (chunk_of number caption) (window_cue_units cue.now)) }
 {
     let before = units.len();
     push_units(units, cue)?;

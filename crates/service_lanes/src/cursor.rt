@@ -1,9 +1,9 @@
 ghost use Rattle.std.specs.Prelude.{◌≡◌, ℕ, ◌+◌, ◌^◌, ◌<◌, ◌≤◌, ◌++◌, List, length};
 ghost use Rattle.std.specs.List.{zip};
-ghost use Rattle.dtvcc_author.specs.Latest.{IsAt};
+ghost use Rattle.dtvcc_author.specs.Latest.{IsLatestAt};
 ghost use Rattle.dtvcc_author.specs.declared.caption.Caption.{Caption};
-ghost use Rattle.service_lanes.specs.ServiceBytes.{IsLoading, IsReady, bytes_in, loads_at};
-ghost use Rattle.service_lanes.specs.Stretches.{frames_of};
+ghost use Rattle.service_lanes.specs.ServiceBytes.{IsLoading, IsReadyForBytes, bytes_in, loads_at};
+ghost use Rattle.service_lanes.specs.Stretches.{stretch_frames};
 
 use crate::chunk_list::ChunkList;
 use crate::stretch::Stretch;
@@ -27,7 +27,7 @@ impl Cursor {
         ensures frame { result.frame ≡ 0 }
         ensures next { result.next ≡ 0 }
         ensures start { result.start ≡ 0 }
-        ensures latest { (captions : List Caption) → IsAt captions 0 result.latest }
+        ensures latest { (captions : List Caption) → IsLatestAt captions 0 result.latest }
     {
         Cursor {
             frame: 0,
@@ -45,11 +45,11 @@ impl Cursor {
         stretches: &[Stretch],
     ) -> ArrayVec<u8, 31>
         requires small { self.old.frame + 1 < 2 ^ 32 }
-        requires ready { IsReady captions.now chunks.now stretches.now self.old }
-        requires within { length (bytes_in captions.now (zip chunks.now (frames_of stretches.now)) self.old.frame) ≤ 31 }
-        ensures bytes { result.items ≡ bytes_in captions.now (zip chunks.now (frames_of stretches.now)) self.old.frame }
+        requires ready { IsReadyForBytes captions.now chunks.now stretches.now self.old }
+        requires within { length (bytes_in captions.now (zip chunks.now (stretch_frames stretches.now)) self.old.frame) ≤ 31 }
+        ensures bytes { result.items ≡ bytes_in captions.now (zip chunks.now (stretch_frames stretches.now)) self.old.frame }
         ensures frame { self.new.frame ≡ self.old.frame + 1 }
-        ensures ready { IsReady captions.now chunks.now stretches.now self.new }
+        ensures ready { IsReadyForBytes captions.now chunks.now stretches.now self.new }
     {
         let mut bytes = ArrayVec::new();
         let events = self.latest.events(self.frame);
@@ -63,8 +63,8 @@ impl Cursor {
     fn load(&mut self, chunks: &ChunkList, stretches: &[Stretch], bytes: &mut ArrayVec<u8, 31>)
         requires small { self.old.frame + 1 < 2 ^ 32 }
         requires loading { IsLoading chunks.now stretches.now self.old }
-        requires room { length bytes.old.items + length (loads_at (zip chunks.now (frames_of stretches.now)) self.old.frame) ≤ 31 }
-        ensures bytes { bytes.new.items ≡ bytes.old.items ++ loads_at (zip chunks.now (frames_of stretches.now)) self.old.frame }
+        requires room { length bytes.old.items + length (loads_at (zip chunks.now (stretch_frames stretches.now)) self.old.frame) ≤ 31 }
+        ensures bytes { bytes.new.items ≡ bytes.old.items ++ loads_at (zip chunks.now (stretch_frames stretches.now)) self.old.frame }
         ensures frame { self.new.frame ≡ self.old.frame + 1 }
         ensures latest { self.new.latest ≡ self.old.latest }
         ensures loading { IsLoading chunks.now stretches.now self.new }

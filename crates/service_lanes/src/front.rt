@@ -3,7 +3,7 @@ ghost use Rattle.std.specs.Bool.{OnFalse, OnTrue};
 ghost use Rattle.cc_base.specs.declared.rate.Rate.{Rate};
 ghost use Rattle.dtvcc_author.specs.FrameEvents.{delay_end, event_bytes};
 ghost use Rattle.dtvcc_author.specs.Kept.{AreKept};
-ghost use Rattle.dtvcc_author.specs.Latest.{IsAt};
+ghost use Rattle.dtvcc_author.specs.Latest.{IsLatestAt};
 ghost use Rattle.placements.specs.FirstFit.{IsFirst};
 ghost use Rattle.service_lanes.specs.CueChunks.{chunk_in};
 ghost use Rattle.service_lanes.specs.declared.chunk.Chunk.{Chunk};
@@ -79,9 +79,9 @@ impl Front {
         requires least { 8 ≤ share }
         ensures frame { self.new.frame ≡ self.old.frame }
         ensures latest { self.new.latest ≡ self.old.latest }
-        ensures room { IsAt captions.now self.old.frame self.old.latest
+        ensures room { IsLatestAt captions.now self.old.frame self.old.latest
             → self.new.room + length (event_bytes self.old.frame captions.now) ≡ share }
-        ensures budget { IsAt captions.now self.old.frame self.old.latest
+        ensures budget { IsLatestAt captions.now self.old.frame self.old.latest
             → self.new.budget ≡ budget_in self.old.budget (delay_end captions.now self.old.frame) self.old.frame }
     {
         let events = self.latest.events(self.frame);

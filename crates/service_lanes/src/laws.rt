@@ -6,7 +6,7 @@ ghost use Rattle.placements.specs.OneMore.{OneMore};
 ghost use Rattle.placements.specs.Placing.{IsEarliest};
 ghost use Rattle.cue_lists.specs.Listing.{IsFormed, Listing};
 ghost use Rattle.cue_lists.specs.Rules.{IsRuled};
-ghost use Rattle.dtvcc_author.specs.Captions.{captions_of};
+ghost use Rattle.dtvcc_author.specs.Captions.{service_captions};
 ghost use Rattle.dtvcc_author.specs.Kept.{AreKept};
 ghost use Rattle.service_lanes.specs.ServiceLane.{KeepsRoom, service_lane};
 
@@ -31,5 +31,5 @@ pub fn law_of_rooms()
 
 /// The captions of each service of a cue list that keeps the rules do: each by itself, and with all before it.
 pub fn law_of_kept_captions()
-    ensures { (list : Listing) (service : ℕ) → IsFormed list → IsRuled list → AreKept list.rate list.frames (captions_of list.rate service list.cues) }
+    ensures { (list : Listing) (service : ℕ) → IsFormed list → IsRuled list → AreKept list.rate list.frames (service_captions list.rate service list.cues) }
 {}

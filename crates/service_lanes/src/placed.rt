@@ -6,7 +6,7 @@ ghost use Rattle.placements.specs.Placing.{IsEarliest};
 ghost use Rattle.service_lanes.specs.ServiceChunks.{chunk_cue};
 ghost use Rattle.service_lanes.specs.ServicePlan.{IsLaneFault, IsPlanOf, lane_bytes};
 ghost use Rattle.service_lanes.specs.ServiceRoom.{caption_lane};
-ghost use Rattle.service_lanes.specs.Stretches.{AreStretches, frames_of};
+ghost use Rattle.service_lanes.specs.Stretches.{AreStretches, stretch_frames};
 
 use crate::chunk_list::ChunkList;
 use crate::cursor::Cursor;
@@ -65,7 +65,7 @@ fn placed_stretches(
     requires kept { (rate : Rate) × ((frames : ℕ) × AreKept rate frames captions.now) }
     requires least { 8 ≤ share }
     requires order { AreInCueOrder chunk_cue chunks.now }
-    ensures frames { IfOk result (λ stretches. IsEarliest (caption_lane share captions.now) chunks.now (frames_of stretches.items)) }
+    ensures frames { IfOk result (λ stretches. IsEarliest (caption_lane share captions.now) chunks.now (stretch_frames stretches.items)) }
     ensures stretches { IfOk result (λ stretches. AreStretches chunks.now 0 0 stretches.items) }
     ensures fault { IfErr result (IsLaneFault share captions.now chunks.now) }
 {
@@ -92,9 +92,9 @@ pub struct PlacedService {
 
 impl Model for PlacedService {
     ghost use Rattle.std.specs.Prelude.{◌≤◌};
-    ghost use Rattle.service_lanes.specs.ServiceBytes.{IsReady};
+    ghost use Rattle.service_lanes.specs.ServiceBytes.{IsReadyForBytes};
     ghost use Rattle.service_lanes.specs.ServicePlan.{IsWithinShare, PlannedService};
-    ghost use Rattle.service_lanes.specs.Stretches.{frames_of};
+    ghost use Rattle.service_lanes.specs.Stretches.{stretch_frames};
 
     ghost Value = { PlannedService };
 
@@ -103,13 +103,13 @@ impl Model for PlacedService {
       share = plan.share;
       captions = plan.captions.items;
       chunks = plan.chunks;
-      frames = frames_of plan.stretches.items;
+      frames = stretch_frames plan.stretches.items;
       frame = plan.cursor.frame;
     } };
 
     ghost invariant = { λ plan.
-        IsReady plan.captions.items plan.chunks plan.stretches.items plan.cursor
-        × IsWithinShare plan.share plan.captions.items plan.chunks (frames_of plan.stretches.items) × (plan.share ≤ 31) };
+        IsReadyForBytes plan.captions.items plan.chunks plan.stretches.items plan.cursor
+        × IsWithinShare plan.share plan.captions.items plan.chunks (stretch_frames plan.stretches.items) × (plan.share ≤ 31) };
 }
 
 impl PlacedService {

@@ -15,8 +15,8 @@ use Rattle.dtvcc_codes.specs.declared.commands.Command.TheVariants.{Dlw, Dly, Ds
 use Rattle.dtvcc_codes.specs.Spellable.{IsSpellable, is_skipped}
 use Rattle.dtvcc_codes.specs.Writing.{bit, written}
 use Rattle.dtvcc_codes.proofs.WrittenLemmas.{written_are_bytes}
-use Rattle.dtvcc_author.specs.Captions.{caption_of, caption_with, captions_of, window_caption}
-use Rattle.dtvcc_author.specs.CueUnits.{IsWritable, units_of}
+use Rattle.dtvcc_author.specs.Captions.{caption_of, caption_with, service_captions, window_caption}
+use Rattle.dtvcc_author.specs.CueUnits.{IsWritable, window_cue_units}
 use Rattle.dtvcc_author.specs.WindowCommands.{commands_of}
 use Rattle.dtvcc_author.specs.FrameEvents.{delay_commands, delayed_at, event_bytes, event_commands, is_delayed_at, is_hidden_at, is_shown_at, names, windows_byte, windows_command}
 use Rattle.dtvcc_author.specs.declared.caption.Caption.{Caption}
@@ -98,18 +98,18 @@ events_are_bytes : (frame : ℕ) (cs : List Caption) → All IsShort cs → All 
 events_are_bytes frame cs short = written_bytes (event_commands frame cs) (events_writable frame cs short)
 
 -- the captions of formed cues
-pub captions_short : (r : Rate) (service : ℕ) (cues : List Cue) → All IsCueFormed cues → All IsShort (captions_of r service cues)
+pub captions_short : (r : Rate) (service : ℕ) (cues : List Cue) → All IsCueFormed cues → All IsShort (service_captions r service cues)
 captions_short r service [] formed = All-nil IsShort
 captions_short r service (cue ∷ cues) formed =
     at cue.kind (All-head IsCueFormed cue cues formed).kind (captions_short r service cues (All-tail IsCueFormed cue cues formed))
   where
-    more : (w : WinCue) (b : Bool) → w.delay < 256 → All IsShort (captions_of r service cues)
-        → All IsShort (cons_option (if b then Some (window_caption r w cue) else None) (captions_of r service cues))
-    more w true short rest = All-cons IsShort (window_caption r w cue) (captions_of r service cues) short rest
+    more : (w : WinCue) (b : Bool) → w.delay < 256 → All IsShort (service_captions r service cues)
+        → All IsShort (cons_option (if b then Some (window_caption r w cue) else None) (service_captions r service cues))
+    more w true short rest = All-cons IsShort (window_caption r w cue) (service_captions r service cues) short rest
     more w false short rest = rest
 
-    at : (k : Kind) → IsOfKind k cue.hide cue.runs → All IsShort (captions_of r service cues)
-        → All IsShort (cons_option (caption_with r service k cue) (captions_of r service cues))
+    at : (k : Kind) → IsOfKind k cue.hide cue.runs → All IsShort (service_captions r service cues)
+        → All IsShort (cons_option (caption_with r service k cue) (service_captions r service cues))
     at (Pop channel) is rest = rest
     at (Paint channel) is rest = rest
     at (Roll channel rows) is rest = rest
@@ -129,11 +129,11 @@ units_are_bytes number c (command ∷ commands) all =
 chunks_are_bytes : (r : Rate) (service number : ℕ) (cues : List Cue) → All IsCueFormed cues → All IsOfBytes (chunks_from r service number cues)
 chunks_are_bytes r service number [] formed = All-nil IsOfBytes
 chunks_are_bytes r service number (cue ∷ cues) formed =
-    All-append IsOfBytes (chunks_with number (caption_of r service cue) (units_of cue)) (chunks_from r service (suc number) cues)
+    All-append IsOfBytes (chunks_with number (caption_of r service cue) (window_cue_units cue)) (chunks_from r service (suc number) cues)
     (own (caption_of r service cue))
     (chunks_are_bytes r service (suc number) cues (All-tail IsCueFormed cue cues formed))
   where
-    own : (c : Option Caption) → All IsOfBytes (chunks_with number c (units_of cue))
+    own : (c : Option Caption) → All IsOfBytes (chunks_with number c (window_cue_units cue))
     own None = All-nil IsOfBytes
     own (Some c) = units_are_bytes number c (commands_of cue) (commands_writable cue (All-head IsCueFormed cue cues formed))
 
@@ -150,10 +150,10 @@ loads_are_bytes (u ∷ us) (f ∷ fs) frame all =
 
 -- the bytes of a service are bytes
 pub service_are_bytes : (r : Rate) (service : ℕ) (cues : List Cue) (frames : List ℕ) (frame : ℕ) → All IsCueFormed cues
-    → All IsByte (bytes_in (captions_of r service cues) (zip (service_chunks r service cues) frames) frame)
+    → All IsByte (bytes_in (service_captions r service cues) (zip (service_chunks r service cues) frames) frame)
 service_are_bytes r service cues frames frame formed =
-    All-append IsByte (event_bytes frame (captions_of r service cues)) (loads_at (zip (service_chunks r service cues) frames) frame)
-    (events_are_bytes frame (captions_of r service cues) (captions_short r service cues formed))
+    All-append IsByte (event_bytes frame (service_captions r service cues)) (loads_at (zip (service_chunks r service cues) frames) frame)
+    (events_are_bytes frame (service_captions r service cues) (captions_short r service cues formed))
     (loads_are_bytes (service_chunks r service cues) frames frame (chunks_are_bytes r service 1 cues formed))
 
 -- so is a block of them

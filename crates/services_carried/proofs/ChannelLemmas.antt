@@ -6,8 +6,8 @@ use Rattle.std.proofs.lemmas.List.Elements.{All-head, All-tail, filter-append}
 use Rattle.cc_base.specs.declared.rate.Rate.{Rate}
 use Rattle.cc_data.specs.declared.triplet.Triplet.{Triplet}
 use Rattle.cdp_packets.specs.PacketTriplets.{packet_triplets}
-use Rattle.channel_packets.specs.ChannelPackets.{ChannelPacket, channel_triplets, continues, is_gap, size_of, starts}
-use Rattle.channel_packets.specs.Written.{completed, header_for, packet_for, packet_written}
+use Rattle.channel_packets.specs.ChannelPackets.{ChannelPacket, channel_triplets, continues_packet, is_gap, size_of, starts}
+use Rattle.channel_packets.specs.Written.{completed_bytes, header_for, packet_for, packet_written}
 use Rattle.channel_packets.proofs.LawLemmas.{header_for-number, header_for-size, packets-same, written-are}
 use Rattle.service_blocks.proofs.WrittenLemmas.{Says-block_for, written_before}
 use Rattle.service_blocks.specs.declared.parts.BlockPart.{BlockPart}
@@ -18,7 +18,7 @@ use Rattle.service_blocks.specs.ServiceBlocks.{AreBlocks, Block, end, ended}
 use Rattle.service_blocks.specs.Written.{block_for, block_written}
 use Rattle.services_files.specs.WholeFiles.{file_triplets}
 use Rattle.frame_scheduler.specs.Columns.{Columns}
-use Rattle.frame_carrier.specs.Carrying.{channel_of, channel_packet, column_packets, frame_packet, packet_count, packets_before}
+use Rattle.frame_carrier.specs.Carrying.{channel_packet, channel_packet_of, column_packets, frame_packet, packet_count, packets_before}
 use Rattle.services_carried.specs.ServicesCarried.{HasBlocks, IsSent, ProgrammesAreWhole, Sent, sent_bytes}
 
 -- the blocks of what is sent
@@ -50,18 +50,18 @@ packet_blocks : (number : ℕ) (sent : List Sent) (bytes : List ℕ) → bytes �
     → AreBlocks (size_of (packet_for number bytes).header) (blocks_for sent) (packet_for number bytes).bytes
 packet_blocks number sent bytes is all few = at (length bytes % 2 == 0) refl
   where
-    size : size_of (header_for number (length bytes)) ≡ length (completed bytes)
+    size : size_of (header_for number (length bytes)) ≡ length (completed_bytes bytes)
     size = header_for-size number bytes few
 
-    at : (b : Bool) → (length bytes % 2 == 0) ≡ b → AreBlocks (size_of (header_for number (length bytes))) (blocks_for sent) (completed bytes)
+    at : (b : Bool) → (length bytes % 2 == 0) ≡ b → AreBlocks (size_of (header_for number (length bytes))) (blocks_for sent) (completed_bytes bytes)
     at true even =
-        let done : completed bytes ≡ bytes ++ 0x00 ∷ [] = rw even refl in
+        let done : completed_bytes bytes ≡ bytes ++ 0x00 ∷ [] = rw even refl in
         let long = length-append bytes (0x00 ∷ []) in
         let count = ap length done in
         subst (AreBlocks (size_of (header_for number (length bytes))) (blocks_for sent)) (sym (done ∙ ap (λ l. l ++ 0x00 ∷ []) is))
         (sent_blocks (size_of (header_for number (length bytes))) sent (0x00 ∷ []) all (let same = ap length is in omega (arith, size, count, long, same)) refl)
     at false odd =
-        let done : completed bytes ≡ bytes = rw odd refl in
+        let done : completed_bytes bytes ≡ bytes = rw odd refl in
         let count = ap length done in
         subst (AreBlocks (size_of (header_for number (length bytes))) (blocks_for sent)) (sym (done ∙ is ∙ sym (append-nil (sent_bytes sent))))
         (sent_blocks (size_of (header_for number (length bytes))) sent [] all (let same = ap length is in omega (arith, size, count, same)) tt)
@@ -135,15 +135,15 @@ with_frame last count (byte ∷ bytes) sent says rest behind is all few channel 
 -- the triplets of channel packets are their own
 channel_twice : (triplets : List Triplet) → channel_triplets (channel_triplets triplets) ≡ channel_triplets triplets
 channel_twice [] = refl
-channel_twice (t ∷ triplets) = at (starts t || continues t) refl (channel_twice triplets)
+channel_twice (t ∷ triplets) = at (starts t || continues_packet t) refl (channel_twice triplets)
   where
-    at : (b : Bool) → (starts t || continues t) ≡ b → channel_triplets (channel_triplets triplets) ≡ channel_triplets triplets
+    at : (b : Bool) → (starts t || continues_packet t) ≡ b → channel_triplets (channel_triplets triplets) ≡ channel_triplets triplets
         → channel_triplets (cond b (t ∷ channel_triplets triplets) (channel_triplets triplets)) ≡ cond b (t ∷ channel_triplets triplets) (channel_triplets triplets)
     at true is rest = rw is (ap (λ l. t ∷ l) rest)
     at false is rest = rest
 
 module _ (rate : Rate) (columns : Columns) (has : (frame : ℕ) → HasBlocks columns frame)
-    (own : (frame : ℕ) → channel_triplets (packet_triplets (frame_packet rate frame (columns frame) (channel_of columns frame))) ≡ channel_of columns frame) where
+    (own : (frame : ℕ) → channel_triplets (packet_triplets (frame_packet rate frame (columns frame) (channel_packet_of columns frame))) ≡ channel_packet_of columns frame) where
   -- what the frames from one on say
   abbrev pub parts_from : ℕ → ℕ → List BlockPart
   parts_from frame zero = []
@@ -151,9 +151,9 @@ module _ (rate : Rate) (columns : Columns) (has : (frame : ℕ) → HasBlocks co
 
   -- the triplets of channel packets of frames are those of the first one and of the others
   first_channel : (frame n : ℕ) → channel_triplets (file_triplets (column_packets rate columns frame (suc n)))
-      ≡ channel_of columns frame ++ channel_triplets (file_triplets (column_packets rate columns (suc frame) n))
+      ≡ channel_packet_of columns frame ++ channel_triplets (file_triplets (column_packets rate columns (suc frame) n))
   first_channel frame n =
-      filter-append (λ t. starts t || continues t) (packet_triplets (frame_packet rate frame (columns frame) (channel_of columns frame)))
+      filter-append (λ t. starts t || continues_packet t) (packet_triplets (frame_packet rate frame (columns frame) (channel_packet_of columns frame)))
       (file_triplets (column_packets rate columns (suc frame) n))
       ∙ ap (λ l. l ++ channel_triplets (file_triplets (column_packets rate columns (suc frame) n))) (own frame)
 

@@ -4,7 +4,7 @@ use Rattle.std.specs.Prelude.{nat_lt, option_map, unwrap_or}
 use Rattle.std.specs.List.{flat_map, zip}
 use Rattle.std.proofs.lemmas.Bool.Decides.{nat_tests}
 use Rattle.std.proofs.lemmas.List.Elements.{All-append, All-cons, All-nil}
-use Rattle.cc_base.specs.Rate.{triplets_of}
+use Rattle.cc_base.specs.Rate.{triplets_in_frame}
 use Rattle.cc_base.specs.declared.rate.Rate.{Rate}
 use Rattle.cc_base.specs.declared.rate.Rate.TheVariants as rate
 use Rattle.line21_codes.specs.declared.channels.Chan.TheVariants.{Cc1, Cc3}
@@ -29,7 +29,7 @@ use Rattle.frame_scheduler.specs.ChannelLane.{channel_slot}
 use Rattle.frame_scheduler.specs.SlotLists.{slot_cues}
 use Rattle.frame_carrier.specs.Carried.{AreRoomy}
 use Rattle.services_carried.proofs.ByteLemmas.{IsByte, block_are_bytes, service_are_bytes}
-use Rattle.frame_carrier.specs.Carrying.{channel_of, packets_before}
+use Rattle.frame_carrier.specs.Carrying.{channel_packet_of, packets_before}
 use Rattle.frame_carrier.specs.FrameTriplets.{field_triplets}
 use Rattle.frame_carrier.proofs.CarryingLemmas.{packet_few}
 
@@ -154,7 +154,7 @@ fields_few rate.F60 frame = one_turn frame
 
 -- with a packet of blocks in the room of a frame they are as many triplets as the rate has
 roomy_rate : (r : Rate) → IsListRate r → (fields packet blocks : ℕ) → fields ≤ field_most r → 2 * packet ≤ blocks + 2 → blocks ≤ share_room r
-    → fields + packet ≤ triplets_of r
+    → fields + packet ≤ triplets_in_frame r
 roomy_rate rate.F23976 is fields packet blocks few low most = absurd is
 roomy_rate rate.F24 is fields packet blocks few low most = absurd is
 roomy_rate rate.F25 is fields packet blocks few low most = absurd is
@@ -166,7 +166,7 @@ roomy_rate rate.F60 is fields packet blocks few low most = omega arith
 
 pub frames_roomy : (l : Listing) (placed : Placement) → IsFormed l → IsRuled l → IsListPlaced l placed → AreRoomy l.rate (columns_of l placed)
 frames_roomy l placed formed ruled all frame =
-    let packet = channel_of (columns_of l placed) frame in
+    let packet = channel_packet_of (columns_of l placed) frame in
     let few = packet_few (packets_before (columns_of l placed) frame) (frame_blocks l placed frame) in
     let within = blocks_within l placed formed ruled all frame in
     let one = field_count 0 (channel_slot Cc1 (slot_cues l Cc1) (placed (Channel Cc1))) (slot_in (cadence_of l.rate Cc1) frame) in

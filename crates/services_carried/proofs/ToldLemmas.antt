@@ -9,14 +9,14 @@ use Rattle.cdp_packets.specs.PacketTriplets.{packet_triplets}
 use Rattle.dtvcc_screen.specs.Meaning.{Byte, Tick}
 use Rattle.service_blocks.specs.declared.parts.BlockPart.{BlockPart}
 use Rattle.service_blocks.specs.declared.parts.BlockPart.TheVariants as part
-use Rattle.service_blocks.specs.Channels.{heard, heard_behind}
+use Rattle.service_blocks.specs.Channels.{heard_behind, heard_parts}
 use Rattle.service_blocks.proofs.ChannelLemmas.{channel_heard, heard-append}
 use Rattle.words_files.specs.Received.{field_pairs, received_pairs}
 use Rattle.services_files.specs.Events.{event_of, events_behind, events_of, frame_events, service_events}
 use Rattle.services_files.specs.WholeFiles.{file_triplets}
 use Rattle.services_files.proofs.EventLemmas.{events_more}
 use Rattle.frame_scheduler.specs.Columns.{Columns}
-use Rattle.frame_carrier.specs.Carrying.{channel_of, column_packets, frame_packet, packets_before}
+use Rattle.frame_carrier.specs.Carrying.{channel_packet_of, column_packets, frame_packet, packets_before}
 use Rattle.frame_carrier.proofs.CarriedLemmas.{packet_channel_is}
 use Rattle.services_carried.specs.ServicesCarried.{HasBlocks, Sent}
 use Rattle.services_carried.specs.Told.{AreAlike, ColumnsAreTold, LikeFramesSayAlike, sent_to, told}
@@ -48,14 +48,14 @@ take_packets : (rate : Rate) (columns : Columns) (frame n k : ℕ) → k ≤ n �
 take_packets rate columns frame n zero below = refl
 take_packets rate columns frame zero (suc k) below = absurd (omega arith)
 take_packets rate columns frame (suc n) (suc k) below =
-    ap (λ l. frame_packet rate frame (columns frame) (channel_of columns frame) ∷ l) (take_packets rate columns (suc frame) n k (omega arith))
+    ap (λ l. frame_packet rate frame (columns frame) (channel_packet_of columns frame) ∷ l) (take_packets rate columns (suc frame) n k (omega arith))
 
 -- one more of them at the end
 packets_more : (rate : Rate) (columns : Columns) (frame n last : ℕ) → last ≡ frame + n
-    → column_packets rate columns frame (suc n) ≡ column_packets rate columns frame n ++ frame_packet rate last (columns last) (channel_of columns last) ∷ []
-packets_more rate columns frame zero last is = let same : frame ≡ last = omega (arith, is) in ap (λ f. frame_packet rate f (columns f) (channel_of columns f) ∷ []) same
+    → column_packets rate columns frame (suc n) ≡ column_packets rate columns frame n ++ frame_packet rate last (columns last) (channel_packet_of columns last) ∷ []
+packets_more rate columns frame zero last is = let same : frame ≡ last = omega (arith, is) in ap (λ f. frame_packet rate f (columns f) (channel_packet_of columns f) ∷ []) same
 packets_more rate columns frame (suc n) last is =
-    ap (λ l. frame_packet rate frame (columns frame) (channel_of columns frame) ∷ l) (packets_more rate columns (suc frame) n last (omega (arith, is)))
+    ap (λ l. frame_packet rate frame (columns frame) (channel_packet_of columns frame) ∷ l) (packets_more rate columns (suc frame) n last (omega (arith, is)))
 
 module _ (rate : Rate) (columns : Columns) (has : (frame : ℕ) → HasBlocks columns frame) where
   abbrev parts : ℕ → ℕ → List BlockPart
@@ -71,31 +71,31 @@ module _ (rate : Rate) (columns : Columns) (has : (frame : ℕ) → HasBlocks co
       ∙ sym (append_assoc (parts_sent (has frame).sent) (parts (suc frame) n) (parts_sent (has last).sent))
 
   -- what is heard of the first frames
-  heard_first : (n : ℕ) → heard (file_triplets (column_packets rate columns 0 n)) ≡ parts 0 n
+  heard_first : (n : ℕ) → heard_parts (file_triplets (column_packets rate columns 0 n)) ≡ parts 0 n
   heard_first n =
       let all = channel_of_first rate columns has (λ frame. packet_channel_is rate frame (columns frame) (packets_before columns frame)) n in
       (channel_heard all.packets all.blocks (file_triplets (column_packets rate columns 0 n)) all.channel).says ∙ all.says_are
 
   -- so what is heard of one more
-  heard_next : (n : ℕ) → heard_behind (file_triplets (column_packets rate columns 0 n)) (packet_triplets (frame_packet rate n (columns n) (channel_of columns n)))
+  heard_next : (n : ℕ) → heard_behind (file_triplets (column_packets rate columns 0 n)) (packet_triplets (frame_packet rate n (columns n) (channel_packet_of columns n)))
       ≡ parts_sent (has n).sent
   heard_next n =
       let before = file_triplets (column_packets rate columns 0 n) in
-      let packet = frame_packet rate n (columns n) (channel_of columns n) in
+      let packet = frame_packet rate n (columns n) (channel_packet_of columns n) in
       let triplets = packet_triplets packet in
       let same : n ≡ 0 + n = omega arith in
       let all : file_triplets (column_packets rate columns 0 (suc n)) ≡ before ++ triplets =
       ap file_triplets (packets_more rate columns 0 n n same) ∙ flat_map-append packet_triplets (column_packets rate columns 0 n) (packet ∷ [])
       ∙ ap (λ ts. before ++ ts) (append-nil triplets) in
-      append_cancel_left (heard before) (heard_behind before triplets) (parts_sent (has n).sent)
-      (sym (heard-append before triplets) ∙ ap heard (sym all) ∙ heard_first (suc n) ∙ parts_more 0 n n same ∙ ap (λ ps. ps ++ parts_sent (has n).sent) (sym (heard_first n)))
+      append_cancel_left (heard_parts before) (heard_behind before triplets) (parts_sent (has n).sent)
+      (sym (heard-append before triplets) ∙ ap heard_parts (sym all) ∙ heard_first (suc n) ∙ parts_more 0 n n same ∙ ap (λ ps. ps ++ parts_sent (has n).sent) (sym (heard_first n)))
 
   -- the events of the first frames
   first_told : (service k : ℕ) → service_events service (column_packets rate columns 0 k) ≡ told rate (λ frame. sent_to service (has frame).sent) k
   first_told service zero = refl
   first_told service (suc k) =
       let frames = column_packets rate columns 0 k in
-      let packet = frame_packet rate k (columns k) (channel_of columns k) in
+      let packet = frame_packet rate k (columns k) (channel_packet_of columns k) in
       ap (service_events service) (packets_more rate columns 0 k k (omega arith))
       ∙ events_more service frames packet
       ∙ ap (λ es. es ++ frame_events service (file_triplets frames) packet) (first_told service k)

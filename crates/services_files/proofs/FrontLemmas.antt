@@ -11,7 +11,7 @@ use Rattle.cc_base.proofs.StepLemmas.{front_from-append}
 use Rattle.cc_data.specs.declared.triplet.Triplet.{Triplet}
 use Rattle.channel_packets.specs.declared.parts.PacketPart.{PacketPart}
 use Rattle.channel_packets.specs.declared.parts.PacketPart.TheVariants.{Header, Byte}
-use Rattle.channel_packets.specs.ChannelPackets.{AreChannelPackets, ChannelPacket, continues, is_gap, number_of, size_of, starts}
+use Rattle.channel_packets.specs.ChannelPackets.{AreChannelPackets, ChannelPacket, continues_packet, is_gap, number_of, size_of, starts}
 use Rattle.channel_packets.specs.PacketParts.{byte_parts, packet_parts, parts_behind}
 use Rattle.channel_packets.specs.Reading as packets
 use Rattle.channel_packets.specs.Reading.{judge_bytes, judge_triplet, packet_syntax}
@@ -169,7 +169,7 @@ all_in_step packet front (triplet ∷ triplets) same =
     let next = packets.open_after packet triplet in
     subst (λ f. AreInStep (front_from packet_syntax.after next triplets) f)
     (sym (front_from-append open_after front parts (parts_from packet_syntax next triplets)))
-    (all_in_step next (front_from open_after front parts) triplets (triplet_in_step (starts triplet) (continues triplet) packet front triplet same))
+    (all_in_step next (front_from open_after front parts) triplets (triplet_in_step (starts triplet) (continues_packet triplet) packet front triplet same))
 
 -- behind triplets whose last packet has bytes left, both readers know how many
 pub left_same : (triplets : List Triplet) (left : ℕ) → (front_behind triplets).left ≡ Some left → (open_behind packet_syntax triplets).left ≡ left

@@ -10,7 +10,7 @@ use Rattle.cc_data.specs.declared.triplet.Triplet.{Triplet}
 use Rattle.cc_data.specs.Triplets.{triplet_of}
 use Rattle.channel_packets.specs.declared.parts.PacketPart.{PacketPart}
 use Rattle.channel_packets.specs.declared.parts.PacketPart.TheVariants.{Header, Byte}
-use Rattle.channel_packets.specs.ChannelPackets.{continues, is_gap, number_of, size_of, starts}
+use Rattle.channel_packets.specs.ChannelPackets.{continues_packet, is_gap, number_of, size_of, starts}
 use Rattle.channel_packets.specs.Reading.{judge_bytes, judge_triplet, packet_syntax}
 use Rattle.channel_packets.specs.Reading as packets
 use Rattle.channel_packets.proofs.CutLemmas.{starts-continuing}
@@ -175,10 +175,10 @@ judged starting going front triplet =
     if starting then Two (Header (is_gap front.last (number_of triplet.a)) (size_of triplet.a)) (Byte triplet.b (size_of triplet.a - 1))
     else if going then judge_bytes front.left triplet.a triplet.b else Nothing
 
-judge-is : (front : packets.Open) (triplet : Triplet) (starting going : Bool) → starts triplet ≡ starting → continues triplet ≡ going
+judge-is : (front : packets.Open) (triplet : Triplet) (starting going : Bool) → starts triplet ≡ starting → continues_packet triplet ≡ going
     → judge_triplet front triplet ≡ judged starting going front triplet
 judge-is front triplet starting going begins goes =
-    ap (λ b. judged b (continues triplet) front triplet) begins ∙ ap (λ b. judged starting b front triplet) goes
+    ap (λ b. judged b (continues_packet triplet) front triplet) begins ∙ ap (λ b. judged starting b front triplet) goes
 
 -- one that starts a packet
 start_unheard : (triplets : List Triplet) (triplet : Triplet) → starts triplet ≡ true
@@ -186,31 +186,31 @@ start_unheard : (triplets : List Triplet) (triplet : Triplet) → starts triplet
 start_unheard triplets triplet is =
     let next = first_why (step_why (judge_part (at (size_of triplet.a) []) (Byte triplet.b (size_of triplet.a - 1)))) None in
     unheard_step triplets triplet
-    ∙ ap (λ step. step_unheard triplets step) (judge-is (open_behind packet_syntax triplets) triplet true (continues triplet) is refl)
+    ∙ ap (λ step. step_unheard triplets step) (judge-is (open_behind packet_syntax triplets) triplet true (continues_packet triplet) is refl)
     ∙ ap (λ w. first_why w next) (header_why (is_gap (open_behind packet_syntax triplets).last (number_of triplet.a)))
 
 -- one that goes on with a packet
-going_unheard : (triplets : List Triplet) (triplet : Triplet) → continues triplet ≡ true
+going_unheard : (triplets : List Triplet) (triplet : Triplet) → continues_packet triplet ≡ true
     → why_unheard triplets (triplet ∷ []) ≡ bytes_why (front_behind triplets) (open_behind packet_syntax triplets).left triplet.a triplet.b
 going_unheard triplets triplet is =
     unheard_step triplets triplet ∙ ap (λ step. step_unheard triplets step) (judge-is (open_behind packet_syntax triplets) triplet false true (starts-continuing triplet is) is)
 
 -- one that does neither
-other_unheard : (triplets : List Triplet) (triplet : Triplet) → starts triplet ≡ false → continues triplet ≡ false → why_unheard triplets (triplet ∷ []) ≡ None
+other_unheard : (triplets : List Triplet) (triplet : Triplet) → starts triplet ≡ false → continues_packet triplet ≡ false → why_unheard triplets (triplet ∷ []) ≡ None
 other_unheard triplets triplet begins goes =
     unheard_step triplets triplet ∙ ap (λ step. step_unheard triplets step) (judge-is (open_behind packet_syntax triplets) triplet false false begins goes)
 
 -- the kinds of triplets
 data IsKind (triplet : Triplet) : Type 0 where
   start : starts triplet ≡ true → IsKind triplet
-  going : continues triplet ≡ true → IsKind triplet
-  other : starts triplet ≡ false → continues triplet ≡ false → IsKind triplet
+  going : continues_packet triplet ≡ true → IsKind triplet
+  other : starts triplet ≡ false → continues_packet triplet ≡ false → IsKind triplet
 
 kind_of : (triplet : Triplet) → IsKind triplet
 kind_of triplet =
-    let cases : (one two : Bool) → starts triplet ≡ one → continues triplet ≡ two → IsKind triplet = λ one two. elim one as (λ one. starts triplet ≡ one → continues triplet ≡ two → IsKind triplet) [
+    let cases : (one two : Bool) → starts triplet ≡ one → continues_packet triplet ≡ two → IsKind triplet = λ one two. elim one as (λ one. starts triplet ≡ one → continues_packet triplet ≡ two → IsKind triplet) [
       | true ↦ λ is _. start is
-      | false ↦ elim two as (λ two. starts triplet ≡ false → continues triplet ≡ two → IsKind triplet) [
+      | false ↦ elim two as (λ two. starts triplet ≡ false → continues_packet triplet ≡ two → IsKind triplet) [
         | true ↦ λ _ is. going is
         | false ↦ λ is none. other is none
       ]

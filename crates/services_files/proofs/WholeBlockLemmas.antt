@@ -6,7 +6,7 @@ use Rattle.cc_base.specs.Steps.{front_from}
 use Rattle.cc_base.proofs.StepLemmas.{front_from-append}
 use Rattle.service_blocks.specs.Reading.{block_after, open_block}
 use Rattle.service_blocks.specs.ServiceBlocks.{Block, rest_of}
-use Rattle.services_files.specs.Overruns.{block_bytes, is_whole}
+use Rattle.services_files.specs.Overruns.{block_bytes, is_whole_block}
 
 -- the block that is open behind bytes
 abbrev pub block_from : List ℕ → List ℕ → List ℕ
@@ -15,7 +15,7 @@ block_from block bytes = front_from block_after block bytes
 -- bytes are whole blocks
 pub record AreWhole (bytes : List ℕ) : Type 0 where
   pub blocks : List Block
-  pub whole : list_all is_whole blocks ≡ true
+  pub whole : list_all is_whole_block blocks ≡ true
   pub spelled : bytes ≡ flat_map block_bytes blocks
 
 -- an open block that can become whole
@@ -67,7 +67,7 @@ opened header done bytes some fits others none =
           let block : Block = record { header = header; rest = done } in
           let rest = others [] tt closed in record {
             blocks = block ∷ rest.blocks;
-            whole = true_both (is_whole block) (list_all is_whole rest.blocks)
+            whole = true_both (is_whole_block block) (list_all is_whole_block rest.blocks)
                 (true_both (not (header == 0)) (length done == rest_of header) (ap not (test_other header 0 some)) (test_same (length done) (rest_of header) many)) rest.whole;
             spelled = ap (λ bs. header ∷ (done ++ bs)) rest.spelled;
           }
@@ -100,10 +100,10 @@ closing header done (byte ∷ rest) some many =
     ∙ ap (λ (t : Bool). block_from (if t then header ∷ [] else open_block header (done ++ byte ∷ [])) rest) (test_other header 0 some)
     ∙ closing header (done ++ byte ∷ []) rest some (omega (arith, many, length-append done (byte ∷ [])))
 
-pub whole_closes : (blocks : List Block) → list_all is_whole blocks ≡ true → block_from [] (flat_map block_bytes blocks) ≡ []
+pub whole_closes : (blocks : List Block) → list_all is_whole_block blocks ≡ true → block_from [] (flat_map block_bytes blocks) ≡ []
 whole_closes [] all = refl
 whole_closes (block ∷ blocks) all =
-    let (one, others) = both_true (is_whole block) (list_all is_whole blocks) all in
+    let (one, others) = both_true (is_whole_block block) (list_all is_whole_block blocks) all in
     let (some_test, many_test) = both_true (not (block.header == 0)) (length block.rest == rest_of block.header) one in
     let some = tested_other block.header 0 (not_true (block.header == 0) some_test) in
     let many = tested_same (length block.rest) (rest_of block.header) many_test in

@@ -8,7 +8,7 @@ use Rattle.cc_base.specs.declared.why.Why.TheVariants as why
 use Rattle.cc_data.specs.declared.triplet.Triplet.{Triplet}
 use Rattle.cc_data.specs.Triplets.{triplet_of}
 use Rattle.cdp_packets.specs.Packets.{Packet as Frame}
-use Rattle.channel_packets.specs.ChannelPackets.{AreChannelPackets, ChannelPacket, continues, size_of, starts}
+use Rattle.channel_packets.specs.ChannelPackets.{AreChannelPackets, ChannelPacket, continues_packet, size_of, starts}
 use Rattle.service_blocks.specs.Channels.{IsHeard}
 use Rattle.service_blocks.specs.ServiceBlocks.{Block, rest_of}
 use Rattle.words_files.specs.Frames.{IsFileOf}
@@ -16,8 +16,8 @@ use Rattle.words_files.specs.Reasons.{AreOpenBehind, OffendsFor}
 use Rattle.services_files.specs.WholeFiles.{file_triplets}
 
 -- a block has all bytes that its header says; a header 00 is none
-abbrev pub is_whole : Block → Bool
-is_whole block = not (block.header == 0x00) && (length block.rest == rest_of block.header)
+abbrev pub is_whole_block : Block → Bool
+is_whole_block block = not (block.header == 0x00) && (length block.rest == rest_of block.header)
 
 -- the bytes of a block
 abbrev pub block_bytes : Block → List ℕ
@@ -27,7 +27,7 @@ block_bytes block = block.header ∷ block.rest
 -- than the packet has left behind it
 pub record PassesPacket (size : ℕ) (bytes : List ℕ) (next : ℕ) : Type 0 where
   pub blocks : List Block
-  pub whole : list_all is_whole blocks ≡ true
+  pub whole : list_all is_whole_block blocks ≡ true
   pub spelled : bytes ≡ flat_map block_bytes blocks
   pub inside : length bytes < size
   pub passes : size < length bytes + 1 + rest_of next
@@ -43,10 +43,10 @@ pub record PassesLastPacket (triplets : List Triplet) (more : List ℕ) (next : 
 -- a triplet that goes on with the last packet; the third one of a triplet that starts a packet, whose header is the second one; or
 -- the third one of a triplet that goes on with the last packet
 abbrev pub Overruns : List Triplet → List ℕ → ℕ → Type 0
-Overruns triplets (first ∷ []) next = (continues (triplet_of first next 0x00) ≡ true) × PassesLastPacket triplets [] next
+Overruns triplets (first ∷ []) next = (continues_packet (triplet_of first next 0x00) ≡ true) × PassesLastPacket triplets [] next
 Overruns triplets (first ∷ second ∷ []) next =
     (starts (triplet_of first second next) ≡ true) × PassesPacket (size_of second) [] next
-    ⊎ (continues (triplet_of first second next) ≡ true) × PassesLastPacket triplets (second ∷ []) next
+    ⊎ (continues_packet (triplet_of first second next) ≡ true) × PassesLastPacket triplets (second ∷ []) next
 Overruns _ _ _ = ⊥
 
 -- in triplets one stands, behind others that have none, of which a byte is a header that passes its packet: its second byte, or its third

@@ -9,7 +9,7 @@ ghost use Rattle.words_files.specs.Examples.{frame_without_captions};
 ghost use Rattle.words_files.specs.Offences.{FirstOffendingWord};
 ghost use Rattle.dtvcc_screen.specs.Meaning.{Byte, Reset, Tick};
 ghost use Rattle.services_files.specs.Events.{service_events};
-ghost use Rattle.services_files.specs.Examples.{frame_with};
+ghost use Rattle.services_files.specs.Examples.{example_frame};
 ghost use Rattle.services_files.specs.Services.{services_say};
 
 // The third triplet of the frame is FF 02 3F: it starts a packet with three bytes behind its header, and the first of these is the
@@ -29,8 +29,8 @@ fn a_header_overruns_in_a_second_byte()
 // Two frames: the packet FF 02 21, FE 41 00 with a byte of service 1, and after a gap the packet FF 82 42, FE 43 44 with two bytes of
 // service 2. Each service is given a tick a frame, its own bytes, and the reset.
 fn each_service_is_given_its_bytes()
-    ensures first { service_events 1 (frame_with (0xFF ∷ 0x02 ∷ 0x21 ∷ 0xFE ∷ 0x41 ∷ 0x00 ∷ []) ∷ frame_with (0xFF ∷ 0x82 ∷ 0x42 ∷ 0xFE ∷ 0x43 ∷ 0x44 ∷ []) ∷ [])
+    ensures first { service_events 1 (example_frame (0xFF ∷ 0x02 ∷ 0x21 ∷ 0xFE ∷ 0x41 ∷ 0x00 ∷ []) ∷ example_frame (0xFF ∷ 0x82 ∷ 0x42 ∷ 0xFE ∷ 0x43 ∷ 0x44 ∷ []) ∷ [])
         ≡ Tick rate.F2997 ∷ Byte 0x41 ∷ Tick rate.F2997 ∷ Reset ∷ [] }
-    ensures second { service_events 2 (frame_with (0xFF ∷ 0x02 ∷ 0x21 ∷ 0xFE ∷ 0x41 ∷ 0x00 ∷ []) ∷ frame_with (0xFF ∷ 0x82 ∷ 0x42 ∷ 0xFE ∷ 0x43 ∷ 0x44 ∷ []) ∷ [])
+    ensures second { service_events 2 (example_frame (0xFF ∷ 0x02 ∷ 0x21 ∷ 0xFE ∷ 0x41 ∷ 0x00 ∷ []) ∷ example_frame (0xFF ∷ 0x82 ∷ 0x42 ∷ 0xFE ∷ 0x43 ∷ 0x44 ∷ []) ∷ [])
         ≡ Tick rate.F2997 ∷ Tick rate.F2997 ∷ Reset ∷ Byte 0x43 ∷ Byte 0x44 ∷ [] }
 {}

@@ -9,7 +9,7 @@ use Rattle.dtvcc_codes.specs.Cut.{IsCut}
 use Rattle.dtvcc_codes.specs.Writing.{written}
 use Rattle.dtvcc_codes.specs.declared.commands.Command.{Command}
 use Rattle.dtvcc_codes.proofs.CutLemmas.{bytes_are_cut}
-use Rattle.dtvcc_author.specs.Captions.{captions_of}
+use Rattle.dtvcc_author.specs.Captions.{service_captions}
 use Rattle.dtvcc_author.specs.CueUnits.{IsWritable}
 use Rattle.dtvcc_author.specs.FrameEvents.{event_bytes, event_commands}
 use Rattle.dtvcc_shown.proofs.PlacedLanesLemmas.{loads_hold}
@@ -76,10 +76,10 @@ module _ (rate : Rate) (service : ℕ) (cues : List Cue) (frames : List ℕ) (fr
       loads_hold AreLoads no_loads both_loads (service_chunks rate service cues) frames frame (units_hold AreLoads one_load rate service cues formed)
 
   -- the commands of a frame
-  pub frame_cut : IsCut (event_commands frame (captions_of rate service cues) ++ frame_loads.commands) []
-      (bytes_in (captions_of rate service cues) (zip (service_chunks rate service cues) frames) frame)
+  pub frame_cut : IsCut (event_commands frame (service_captions rate service cues) ++ frame_loads.commands) []
+      (bytes_in (service_captions rate service cues) (zip (service_chunks rate service cues) frames) frame)
   frame_cut =
-      let cs = captions_of rate service cues in
+      let cs = service_captions rate service cues in
       cut_both (event_commands frame cs) frame_loads.commands (event_bytes frame cs) (loads_at (zip (service_chunks rate service cues) frames) frame)
       (written_cut (event_commands frame cs) (events_writable frame cs (captions_short rate service cues formed)))
       frame_loads.cut

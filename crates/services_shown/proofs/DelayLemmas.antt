@@ -19,10 +19,10 @@ use Rattle.dtvcc_codes.specs.Cut.{IsCut}
 use Rattle.dtvcc_codes.specs.declared.commands.Command.{Command}
 use Rattle.dtvcc_codes.specs.declared.commands.Command.TheVariants.{Put, Dlw, Dly, Dsw, Spa, Spc, Spl, Swa, Df}
 use Rattle.dtvcc_screen.specs.Commands.{is_named}
-use Rattle.dtvcc_author.specs.Captions.{caption_of, caption_with, captions_of, window_caption}
+use Rattle.dtvcc_author.specs.Captions.{caption_of, caption_with, service_captions, window_caption}
 use Rattle.dtvcc_author.specs.FrameEvents.{delay_commands, delayed_at, event_commands, is_hidden_at, is_shown_at, names, windows_byte, windows_command}
 use Rattle.dtvcc_author.specs.Kept.{AreKept, Follows, IsSoundCaption}
-use Rattle.dtvcc_author.specs.Latest.{delay_of}
+use Rattle.dtvcc_author.specs.Latest.{caption_delay}
 use Rattle.dtvcc_author.specs.declared.caption.Caption.{Caption}
 use Rattle.dtvcc_author.specs.declared.frame_events.Delay.{Delay}
 use Rattle.dtvcc_author.proofs.LatestLemmas.{Has, find_delayed, kept_sound}
@@ -38,7 +38,7 @@ use Rattle.windows_shown.proofs.NamedLemmas.{named_is}
 -- the caption of a window cue is one of its service
 module _ (rate : Rate) (service : ℕ) where
   abbrev IsCaptioned : List Cue → Cue → Type 0
-  IsCaptioned cues cue = (w : WinCue) → cue.kind ≡ Win w → w.service ≡ service → Has (window_caption rate w cue) (captions_of rate service cues)
+  IsCaptioned cues cue = (w : WinCue) → cue.kind ≡ Win w → w.service ≡ service → Has (window_caption rate w cue) (service_captions rate service cues)
 
   one_more : (first : Option Caption) (c : Caption) (cs : List Caption) → Has c cs → Has c (cons_option first cs)
   one_more None c cs has = has
@@ -46,11 +46,11 @@ module _ (rate : Rate) (service : ℕ) where
 
   first_captioned : (cue : Cue) (cues : List Cue) → IsCaptioned (cue ∷ cues) cue
   first_captioned cue cues w is of_it =
-      subst (λ (k : Kind). Has (window_caption rate w cue) (cons_option (caption_with rate service k cue) (captions_of rate service cues))) (sym is)
+      subst (λ (k : Kind). Has (window_caption rate w cue) (cons_option (caption_with rate service k cue) (service_captions rate service cues))) (sym is)
       (at (w.service == service) (eq-eqb w.service service of_it))
     where
       at : (b : Bool) → b ≡ true
-          → Has (window_caption rate w cue) (cons_option (if b then Some (window_caption rate w cue) else None) (captions_of rate service cues))
+          → Has (window_caption rate w cue) (cons_option (if b then Some (window_caption rate w cue) else None) (service_captions rate service cues))
       at true on = inl refl
       at false on = cc
 
@@ -59,7 +59,7 @@ module _ (rate : Rate) (service : ℕ) where
   all_captioned (cue ∷ cues) =
       All-cons (IsCaptioned (cue ∷ cues)) cue cues (first_captioned cue cues)
       (All-weaker (IsCaptioned cues) (IsCaptioned (cue ∷ cues))
-      (λ other captioned w is of_it. one_more (caption_of rate service cue) (window_caption rate w other) (captions_of rate service cues) (captioned w is of_it))
+      (λ other captioned w is of_it. one_more (caption_of rate service cue) (window_caption rate w other) (service_captions rate service cues) (captioned w is of_it))
       cues (all_captioned cues))
 
 -- a byte with one bit
@@ -126,7 +126,7 @@ module _ (frame id : ℕ) (cs : List Caption) (small : id < 8) (elsewhere : (c :
       at : (found : Option Caption) → delayed_at frame cs ≡ found → ShowNone id (delay_commands found)
       at None is = All-nil (λ command. shows id command ≡ false)
       at (Some c) is =
-          let s = starting cs frame (delay_of c) (ap (option_map delay_of) is) in
+          let s = starting cs frame (caption_delay c) (ap (option_map caption_delay) is) in
           let other : (s.caption.id == id) ≡ false = ne_eqb s.caption.id id (elsewhere s.caption s.has s.starts) in
           All-cons (λ command. shows id command ≡ false) (Dly c.tenths) (Dsw (windows_byte (λ other. c.id == other)) ∷ []) refl
           (one_shows_none id (Dsw (windows_byte (λ other. c.id == other)))
@@ -170,12 +170,12 @@ module _ (rate : Rate) (frames : ℕ) (cs : List Caption) (c : Caption) (kept : 
 
 -- so its commands are sent
 module _ (list : Listing) (placed : Placement) (formed : IsFormed list) (ruled : IsRuled list) (cue : Cue) (w : WinCue) (is : cue.kind ≡ Win w)
-    (has : Has (window_caption list.rate w cue) (captions_of list.rate w.service list.cues)) (small : w.id < 8) (some : 0 < w.delay) where
+    (has : Has (window_caption list.rate w cue) (service_captions list.rate w.service list.cues)) (small : w.id < 8) (some : 0 < w.delay) where
   delay_sent : IsDelaySent list.rate w cue (service_bytes list w.service (placed (Service w.service)))
   delay_sent = record { whole = whole; starts = (before, behind, starts_cut); shows_none = ((whole cue.show).0, (whole cue.show).1, none) }
     where
       cs : List Caption
-      cs = captions_of list.rate w.service list.cues
+      cs = service_captions list.rate w.service list.cues
 
       c : Caption
       c = window_caption list.rate w cue

@@ -8,15 +8,15 @@ use Rattle.cc_base.specs.declared.streams.Put.{Put}
 use Rattle.cc_base.specs.declared.streams.Put.TheVariants as put
 use Rattle.cc_base.proofs.Puts.{puts_stop, puts_then}
 use Rattle.text_output.specs.Gathered.{Flushes, Gathers, GathersText, IsGathered, answer_of, held_of}
-use Rattle.text_output.specs.Pages.{Finishes, HasWritten, Page, PutsPiece, Writes, WritesSome}
+use Rattle.text_output.specs.Pages.{Finishes, HasWrittenText, Page, PutsPiece, Writes, WritesSome}
 
 -- the same text, however it is put together
-pub written_same : (start : Option (List ℕ)) (faults : ℕ) (t u : List ℕ) (now : Page) → t ≡ u → HasWritten start faults t now → HasWritten start faults u now
-written_same start faults t u now same has = subst (λ (v : List ℕ). HasWritten start faults v now) same has
+pub written_same : (start : Option (List ℕ)) (faults : ℕ) (t u : List ℕ) (now : Page) → t ≡ u → HasWrittenText start faults t now → HasWrittenText start faults u now
+written_same start faults t u now same has = subst (λ (v : List ℕ). HasWrittenText start faults v now) same has
 
 -- one more piece of some
 pub written_more : {A : Type 0} (start : Option (List ℕ)) (faults : ℕ) (f : A → List ℕ) (before : List ℕ) (xs : List A) (i : ℕ) (d : A) (now : Page) → i < length xs
-    → HasWritten start faults (before ++ flat_map f (take i xs) ++ f (get_or xs i d)) now → HasWritten start faults (before ++ flat_map f (take (i + 1) xs)) now
+    → HasWrittenText start faults (before ++ flat_map f (take i xs) ++ f (get_or xs i d)) now → HasWrittenText start faults (before ++ flat_map f (take (i + 1) xs)) now
 written_more start faults f before xs i d now within =
     written_same start faults _ _ now (flat_map_more f before (take i xs) (get_or xs i d) ∙ ap (λ ys. before ++ flat_map f ys) (sym (take_more xs i d within)))
 
@@ -49,7 +49,7 @@ piece_put a b c put.Failed before after piece (flushed, none) next = puts_then a
 -- a piece was written
 pub piece_written : (start : Option (List ℕ)) (faults : ℕ) (before piece : List ℕ) (old new : Page) (r : Put) → answer_of old.text ≡ put.Done
     → PutsPiece old.written new.written (held_of old.text) (held_of new.text) r piece → PutCause old.faults new.faults r → answer_of new.text ≡ r
-    → HasWritten start faults before old → HasWritten start faults (before ++ piece) new
+    → HasWrittenText start faults before old → HasWrittenText start faults (before ++ piece) new
 piece_written start faults before piece old new r was puts cause now has =
     let way : IsGathered start old.written (held_of old.text) before = subst (λ a. GathersText start old.written (held_of old.text) before a) was has.bytes in
     let same : old.faults ≡ faults = subst (λ a. PutCause faults old.faults a) was has.cause in
@@ -66,14 +66,14 @@ flushed b c held after put.Failed flushes = flushes
 
 -- a text that is begun behind what is gathered
 pub begun_written : (start : Option (List ℕ)) (all : List ℕ) (now : Page) → answer_of now.text ≡ put.Done → IsGathered start now.written (held_of now.text) all
-    → HasWritten start now.faults all now
+    → HasWrittenText start now.faults all now
 begun_written start all now done way = record {
   bytes = subst (λ a. GathersText start now.written (held_of now.text) all a) (sym done) way;
   cause = subst (λ a. PutCause now.faults now.faults a) (sym done) refl;
 }
 
 -- what is held itself
-pub held_written : (now : Page) → answer_of now.text ≡ put.Done → HasWritten now.written now.faults (held_of now.text) now
+pub held_written : (now : Page) → answer_of now.text ≡ put.Done → HasWrittenText now.written now.faults (held_of now.text) now
 held_written now done = begun_written now.written (held_of now.text) now done (record { sent = []; appended = Appends-nil now.written; whole = refl })
 
 -- nothing, and one text behind another
@@ -99,7 +99,7 @@ some_cause old new done (text, writes) = (writes old.written old.faults (held_of
 
 -- what is held was put
 pub finished : (start : Option (List ℕ)) (before : ℕ) (all : List ℕ) (old : Page) (written : Option (List ℕ)) (faults : ℕ) (after : List ℕ) (r : Put)
-    → answer_of old.text ≡ put.Done → Flushes old.written written (held_of old.text) after r → PutCause old.faults faults r → HasWritten start before all old
+    → answer_of old.text ≡ put.Done → Flushes old.written written (held_of old.text) after r → PutCause old.faults faults r → HasWrittenText start before all old
     → Puts start written r all × PutCause before faults r
 finished start before all old written faults after r was flushes cause has =
     let way : IsGathered start old.written (held_of old.text) all = subst (λ a. GathersText start old.written (held_of old.text) all a) was has.bytes in
@@ -109,7 +109,7 @@ finished start before all old written faults after r was flushes cause has =
     )
 
 -- nothing more was put
-pub finished_failed : (start : Option (List ℕ)) (before : ℕ) (all : List ℕ) (old : Page) → answer_of old.text ≡ put.Failed → HasWritten start before all old
+pub finished_failed : (start : Option (List ℕ)) (before : ℕ) (all : List ℕ) (old : Page) → answer_of old.text ≡ put.Failed → HasWrittenText start before all old
     → Puts start old.written put.Failed all × PutCause before old.faults put.Failed
 finished_failed start before all old was has =
     (subst (λ a. GathersText start old.written (held_of old.text) all a) was has.bytes, subst (λ a. PutCause before old.faults a) was has.cause)

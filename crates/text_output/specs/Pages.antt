@@ -17,14 +17,14 @@ page text written faults = record { text = text; written = written; faults = fau
 
 -- from what the sink had written, and the count of its faults, a text was written: it was gathered, or a front of it was put and
 -- the count rose
-pub record HasWritten (start : Option (List ℕ)) (faults : ℕ) (all : List ℕ) (now : Page) : Type 0 where
+pub record HasWrittenText (start : Option (List ℕ)) (faults : ℕ) (all : List ℕ) (now : Page) : Type 0 where
   pub bytes : GathersText start now.written (held_of now.text) all (answer_of now.text)
   pub cause : PutCause faults now.faults (answer_of now.text)
 
 -- behind whatever was written a text more was
 abbrev pub Writes : Page → Page → List ℕ → Type 0
 Writes old new text = (start : Option (List ℕ)) (faults : ℕ) (before : List ℕ)
-    → HasWritten start faults before old → HasWritten start faults (before ++ text) new
+    → HasWrittenText start faults before old → HasWrittenText start faults (before ++ text) new
 
 -- a piece was added, or a put failed with a front of what was held and of the piece
 abbrev pub PutsPiece : Option (List ℕ) → Option (List ℕ) → List ℕ → List ℕ → Put → List ℕ → Type 0
@@ -38,4 +38,4 @@ WritesSome old new = (text : List ℕ) × Writes old new text
 -- of whatever was written all was put, or a front of it where a put failed, for which the count rose
 abbrev pub Finishes : Page → Option (List ℕ) → ℕ → Put → Type 0
 Finishes old written faults answer = (start : Option (List ℕ)) (before : ℕ) (all : List ℕ)
-    → HasWritten start before all old → Puts start written answer all × PutCause before faults answer
+    → HasWrittenText start before all old → Puts start written answer all × PutCause before faults answer

@@ -1,8 +1,8 @@
 -- How many time codes drop frame leaves out before a place.
 use Rattle.std.proofs.Common.{◌≡◌, ℕ, zero, suc, ◌+◌, ◌-◌, ◌*◌, ◌/◌, ◌%◌, ◌<◌, Bool, true, false, cond, nat_lt, nat_eq, refl, sym, ◌∙◌, ap, subst, add-one, arith, Ok}
 use Rattle.std.proofs.lemmas.Grind.{common_steps}
-use Rattle.time_codes.specs.TimeCodes.{IsFrameOf, code_at, codes_before, is_left_out, is_time_code}
-use Rattle.time_codes.specs.Frames.{frame_of, frame_number, place_of}
+use Rattle.time_codes.specs.TimeCodes.{IsFrameOf, codes_before, is_left_out, is_time_code, time_code_at}
+use Rattle.time_codes.specs.Frames.{frame_of, frame_number, counted_place}
 use Rattle.time_codes.specs.declared.time_code.TimeCode.{TimeCode}
 
 -- two for each minute before but every tenth, and up to two of the minute itself
@@ -14,7 +14,7 @@ left_out_before place = left_out (place / 1800) (place % 1800)
 
 -- one more where the time code at the place is left out
 abbrev pub one_more : ℕ → ℕ
-one_more place = cond (is_left_out (code_at true place)) 1 0
+one_more place = cond (is_left_out (time_code_at true place)) 1 0
 
 pub left_out_step : (place : ℕ) → left_out_before (place + 1) ≡ left_out_before place + one_more place
 left_out_step place = grind arith
@@ -30,7 +30,7 @@ pub codes_count : (place : ℕ) → codes_before true place + left_out_before pl
 unfolding codes_before
 codes_count zero = refl
 codes_count (suc place) =
-    count_more (codes_before true place) (left_out_before place) (left_out_before (suc place)) place (is_left_out (code_at true place)) (codes_count place)
+    count_more (codes_before true place) (left_out_before place) (left_out_before (suc place)) place (is_left_out (time_code_at true place)) (codes_count place)
     (left_out_next place)
 
 pub all_count : (place : ℕ) → codes_before false place ≡ place
@@ -55,12 +55,12 @@ is_of_day t day =
     grind (arith, common_steps)
 
 -- the numbers of a time code of the day are those of its place
-pub code_again : (t : TimeCode) → IsOfDay t → t ≡ code_at t.drop_frame (place_of t)
+pub code_again : (t : TimeCode) → IsOfDay t → t ≡ time_code_at t.drop_frame (counted_place t)
 code_again t day =
-    let h : place_of t / 108000 ≡ t.h = omega (arith, day.h, day.m, day.s, day.f) in
-    let m : place_of t / 1800 % 60 ≡ t.m = omega (arith, day.h, day.m, day.s, day.f) in
-    let s : place_of t / 30 % 60 ≡ t.s = omega (arith, day.h, day.m, day.s, day.f) in
-    let f : place_of t % 30 ≡ t.f = omega (arith, day.h, day.m, day.s, day.f) in
+    let h : counted_place t / 108000 ≡ t.h = omega (arith, day.h, day.m, day.s, day.f) in
+    let m : counted_place t / 1800 % 60 ≡ t.m = omega (arith, day.h, day.m, day.s, day.f) in
+    let s : counted_place t / 30 % 60 ≡ t.s = omega (arith, day.h, day.m, day.s, day.f) in
+    let f : counted_place t % 30 ≡ t.f = omega (arith, day.h, day.m, day.s, day.f) in
     rw (h, m, s, f) refl
 
 -- the time codes before one of the day, in drop frame and without
@@ -90,7 +90,7 @@ counts t frame is =
           let day = of_day t good in
           let number : frame_number t ≡ frame = cc in
           record {
-            place = place_of t;
+            place = counted_place t;
             is = code_again t day;
             within = omega (arith, day.h, day.m, day.s, day.f);
             stands = day.stands;
@@ -109,7 +109,7 @@ counted t frame named =
     let f : t.f ≡ place % 30 = ap (λ u. u.f) named.is in
     let within : place < 24 * 108000 = named.within in
     let day : IsOfDay t = record { h = omega (arith, h); m = omega (arith, m); s = omega (arith, s); f = omega (arith, f); stands = named.stands } in
-    let at : place_of t ≡ place = omega (arith, h, m, s, f) in
+    let at : counted_place t ≡ place = omega (arith, h, m, s, f) in
     let number = frame_counts t.h t.m t.s t.f t.drop_frame day in
     let good : is_time_code t ≡ true = is_of_day t day in
     let same : frame_number t ≡ frame = number ∙ (ap (λ p. codes_before t.drop_frame p) at ∙ sym named.count) in

@@ -2,7 +2,7 @@
 use Rattle.std.proofs.Common.{◌≡◌, ℕ, ◌<◌, ◌≤◌, ◌==◌, ◌&&◌, ◌||◌, Bool, true, false, cond, refl, sym, subst, arith, List, [], ◌∷◌, Some, None}
 use Rattle.std.proofs.lemmas.Bool.{eqb-true}
 use Rattle.std.proofs.lemmas.Grind.{common_steps}
-use Rattle.time_codes.specs.Texts.{IsTimeText, is_digit, mark, number_of, ones, tens, text_of, time_of_text}
+use Rattle.time_codes.specs.Texts.{IsTimeText, is_digit, mark, ones, tens, text_of, time_of_text, two_digit_number}
 use Rattle.time_codes.specs.declared.time_code.TimeCode.{TimeCode}
 
 pub tens_digit : (n : ℕ) → n < 100 → is_digit (tens n) ≡ true
@@ -11,10 +11,10 @@ tens_digit n small = grind arith
 pub ones_digit : (n : ℕ) → is_digit (ones n) ≡ true
 ones_digit n = grind arith
 
-pub number_again : (n : ℕ) → number_of (tens n) (ones n) ≡ n
+pub number_again : (n : ℕ) → two_digit_number (tens n) (ones n) ≡ n
 number_again n = omega arith
 
-pub digit_again : (a b : ℕ) → is_digit a ≡ true → is_digit b ≡ true → (number_of a b < 100) × (tens (number_of a b) ≡ a) × (ones (number_of a b) ≡ b)
+pub digit_again : (a b : ℕ) → is_digit a ≡ true → is_digit b ≡ true → (two_digit_number a b < 100) × (tens (two_digit_number a b) ≡ a) × (ones (two_digit_number a b) ≡ b)
 digit_again a b ten one =
     let low : 48 ≤ a = grind (arith, common_steps) in
     let high : a ≤ 57 = grind (arith, common_steps) in
@@ -112,7 +112,7 @@ read_is_spelled t (a ∷ b ∷ x ∷ c ∷ d ∷ y ∷ e ∷ f ∷ z ∷ g ∷ h
     let x_is : x ≡ 58 = eqb-true x 58 x_colon in
     let y_is : y ≡ 58 = eqb-true y 58 y_colon in
     let z_is = mark_again z z_mark in
-    let whole : IsTimeText (record { h = number_of a b; m = number_of c d; s = number_of e f; f = number_of g h; drop_frame = z == 59 })
+    let whole : IsTimeText (record { h = two_digit_number a b; m = two_digit_number c d; s = two_digit_number e f; f = two_digit_number g h; drop_frame = z == 59 })
     (a ∷ b ∷ x ∷ c ∷ d ∷ y ∷ e ∷ f ∷ z ∷ g ∷ h ∷ []) =
     record {
       digits = record { h = hours.0; m = minutes.0; s = seconds.0; f = frames.0 };

@@ -35,13 +35,13 @@ abbrev pub is_digit : ℕ → Bool
 is_digit byte = nat_le 48 byte && nat_le byte 57
 
 -- the number of two digits
-abbrev pub number_of : ℕ → ℕ → ℕ
-number_of ten one = 10 * (ten - 48) + (one - 48)
+abbrev pub two_digit_number : ℕ → ℕ → ℕ
+two_digit_number ten one = 10 * (ten - 48) + (one - 48)
 
 -- the time code that a text spells, if it spells one
 abbrev pub time_of_text : List ℕ → Option TimeCode
 time_of_text (a ∷ b ∷ x ∷ c ∷ d ∷ y ∷ e ∷ f ∷ z ∷ g ∷ h ∷ []) =
     if is_digit a && is_digit b && (x == 58) && is_digit c && is_digit d && (y == 58) && is_digit e && is_digit f && ((z == 58) || (z == 59)) && is_digit g && is_digit h
-    then Some (record { h = number_of a b; m = number_of c d; s = number_of e f; f = number_of g h; drop_frame = z == 59 })
+    then Some (record { h = two_digit_number a b; m = two_digit_number c d; s = two_digit_number e f; f = two_digit_number g h; drop_frame = z == 59 })
     else None
 time_of_text _ = None

@@ -5,8 +5,8 @@ use Rattle.std.specs.Prelude.{◌≡◌, ℕ, zero, suc, ◌+◌, ◌*◌, ◌/�
 use Rattle.time_codes.specs.declared.time_code.TimeCode.{TimeCode}
 
 -- the time code at a place of the count that leaves none out: 30 frames a second, 60 seconds a minute, 60 minutes an hour
-abbrev pub code_at : Bool → ℕ → TimeCode
-code_at drop_frame place =
+abbrev pub time_code_at : Bool → ℕ → TimeCode
+time_code_at drop_frame place =
     record { h = place / 108000; m = place / 1800 % 60; s = place / 30 % 60; f = place % 30; drop_frame = drop_frame }
 
 -- drop frame leaves it out: frames 00 and 01 at the start of each minute, except for minutes 00, 10, 20, 30, 40 and 50
@@ -20,12 +20,12 @@ is_time_code t = nat_lt t.h 24 && nat_lt t.m 60 && nat_lt t.s 60 && nat_lt t.f 3
 -- how many of the time codes before a place aren't left out
 unfoldable pub codes_before : Bool → ℕ → ℕ
 codes_before drop_frame zero = 0
-codes_before drop_frame (suc place) = codes_before drop_frame place + (if is_left_out (code_at drop_frame place) then 0 else 1)
+codes_before drop_frame (suc place) = codes_before drop_frame place + (if is_left_out (time_code_at drop_frame place) then 0 else 1)
 
 -- the frame that a time code of the day names: how many time codes of the day stand before it
 pub record IsFrameOf (t : TimeCode) (frame : ℕ) : Type 0 where
   pub place : ℕ
-  pub is : t ≡ code_at t.drop_frame place
+  pub is : t ≡ time_code_at t.drop_frame place
   pub within : place < 24 * 108000
   pub stands : is_left_out t ≡ false
   pub count : frame ≡ codes_before t.drop_frame place

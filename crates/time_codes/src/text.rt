@@ -1,5 +1,5 @@
 ghost use Rattle.std.specs.Prelude.{◌≡◌, ◌≤◌, true};
-ghost use Rattle.time_codes.specs.Texts.{HasTwoDigits, is_digit, number_of, text_of, time_of_text};
+ghost use Rattle.time_codes.specs.Texts.{HasTwoDigits, is_digit, text_of, time_of_text, two_digit_number};
 
 use crate::time_code::TimeCode;
 
@@ -14,7 +14,7 @@ fn is_digit(byte: u8) -> bool
 fn number(ten: u8, one: u8) -> u8
     requires ten { is_digit ten ≡ true }
     requires one { is_digit one ≡ true }
-    ensures { result ≡ number_of ten one }
+    ensures { result ≡ two_digit_number ten one }
 {
     10 * (ten - b'0') + (one - b'0')
 }

@@ -6,7 +6,7 @@ use Rattle.cc_receiver.specs.Receivers.{frame_count}
 use Rattle.cc_receiver.specs.declared.receiver.Fed.{Fed}
 use Rattle.cc_verifier.proofs.VerifierLemmas.{found_is, found_none}
 use Rattle.cc_verifier.specs.Findings.{AreClean, FirstFinding}
-use Rattle.cc_verifier.specs.Verifiers.{FeedsOn, FindsOn, HasVerified, finding_of, frames_of, list_of}
+use Rattle.cc_verifier.specs.Verifiers.{FeedsOn, FindsOn, HasVerified, finding_of, list_of, verified_frames}
 use Rattle.cc_verifier.specs.declared.verifier.Verifier.{Verifier}
 use Rattle.cue_types.specs.Listing.{Listing}
 use Rattle.findings.specs.declared.finding.Finding.{Finding}
@@ -27,7 +27,7 @@ may_begin verifier judged = record { before = []; judged = judged; within = omeg
 pub finds_on : (verifier : Verifier) (more : ℕ) → MayBeFed verifier more → FindsOn verifier
 finds_on verifier more may = (may.before, may.judged.verified, may.judged.nothing)
 
-pub few_frames : (verifier : Verifier) (more : ℕ) → MayBeFed verifier more → frames_of verifier < 4294967295
+pub few_frames : (verifier : Verifier) (more : ℕ) → MayBeFed verifier more → verified_frames verifier < 4294967295
 few_frames verifier more may = let few = may.judged.few in let within = may.within in omega arith
 
 pub may_end : (verifier : Verifier) (n m : ℕ) → n ≡ m → MayBeFed verifier n → MayBeFed verifier m

@@ -7,7 +7,7 @@ use Rattle.cc_base.specs.declared.limit_of.LimitOf.TheVariants as limit
 use Rattle.cc_base.specs.declared.refusal.Refusal.{Refusal}
 use Rattle.cc_verifier.proofs.VerifierLemmas.{found_none}
 use Rattle.cc_verifier.specs.Findings.{AreClean}
-use Rattle.cc_verifier.specs.Verifiers.{Judges, list_of}
+use Rattle.cc_verifier.specs.Verifiers.{JudgesFile, list_of}
 use Rattle.cc_verifier.specs.declared.verifier.Verdict.TheVariants as verdict
 use Rattle.cc_verifier.specs.declared.verifier.Verifier.{Verifier}
 use Rattle.cdp_packets.specs.Packets.{Packet as Frame}
@@ -171,22 +171,22 @@ pub words_stopped : (list : Listing) (old new : Option (List ℕ)) (before now :
 words_stopped list old new before now why answer is stops = subst (λ a. StopsEarly list old new before now a) (sym is) stops
 
 -- how the words are judged at their end
-pub ends_judged : (list : Listing) (bytes : List ℕ) (verifier : Verifier) → HasJudged list bytes verifier → Judges (list_of verifier) bytes (Ok verdict.Ok)
+pub ends_judged : (list : Listing) (bytes : List ℕ) (verifier : Verifier) → HasJudged list bytes verifier → JudgesFile (list_of verifier) bytes (Ok verdict.Ok)
     → EndsAt list bytes (Ok tt)
-ends_judged list bytes verifier had judges = subst (λ (l : Listing). Judges l bytes (Ok verdict.Ok)) had.list_is judges
+ends_judged list bytes verifier had judges = subst (λ (l : Listing). JudgesFile l bytes (Ok verdict.Ok)) had.list_is judges
 
 pub ends_short : (list : Listing) (bytes : List ℕ) (verifier : Verifier) (count : ℕ) → HasJudged list bytes verifier
-    → Judges (list_of verifier) bytes (Ok (verdict.Short count)) → EndsAt list bytes (Err (stop.Short count))
-ends_short list bytes verifier count had judges = subst (λ (l : Listing). Judges l bytes (Ok (verdict.Short count))) had.list_is judges
+    → JudgesFile (list_of verifier) bytes (Ok (verdict.Short count)) → EndsAt list bytes (Err (stop.Short count))
+ends_short list bytes verifier count had judges = subst (λ (l : Listing). JudgesFile l bytes (Ok (verdict.Short count))) had.list_is judges
 
 pub ends_differing : (list : Listing) (bytes : List ℕ) (verifier : Verifier) (finding : Finding) → HasJudged list bytes verifier
-    → Judges (list_of verifier) bytes (Ok (verdict.Differs finding)) → ⊥
+    → JudgesFile (list_of verifier) bytes (Ok (verdict.Differs finding)) → ⊥
 ends_differing list bytes verifier finding had (frames, are, first) =
     let same = frames_of_once services_say frames had.verified.frames bytes are had.verified.frames_are in
     let clean = subst (λ fs. AreClean (list_of verifier) fs) (sym same) (found_none bytes verifier had.verified had.nothing) in
     clean first.earlier first.last first.later first.split finding.kind first.first.is
 
 pub ends_refused : (list : Listing) (bytes : List ℕ) (verifier : Verifier) (refusal : Refusal) → HasJudged list bytes verifier
-    → Judges (list_of verifier) bytes (Err refusal) → EndsAt list bytes (Err (stop.Refused refusal))
+    → JudgesFile (list_of verifier) bytes (Err refusal) → EndsAt list bytes (Err (stop.Refused refusal))
 ends_refused list bytes verifier refusal had (frames, are, clean, malformed) =
     (frames, are, subst (λ (l : Listing). AreClean l frames) had.list_is clean, cut_short bytes refusal had.unoffending malformed)

@@ -4,7 +4,7 @@ use Rattle.cc_base.specs.Streams.{Rose}
 use Rattle.cc_base.specs.declared.limit_of.LimitOf.TheVariants as limit
 use Rattle.cc_base.specs.declared.refusal.Refusal.{Refusal}
 use Rattle.cc_verifier.specs.Findings.{AreClean, FirstFinding}
-use Rattle.cc_verifier.specs.Verifiers.{HasVerified, finding_of, frames_of, list_of}
+use Rattle.cc_verifier.specs.Verifiers.{HasVerified, finding_of, list_of, verified_frames}
 use Rattle.cc_verifier.specs.declared.verifier.Verifier.{Verifier}
 use Rattle.cdp_packets.specs.Packets.{Packet as Frame}
 use Rattle.command_base.specs.declared.status.Place.TheVariants.{Byte}
@@ -26,7 +26,7 @@ pub record HasJudged (list : Listing) (bytes : List ℕ) (verifier : Verifier) :
   pub list_is : list_of verifier ≡ list
   pub nothing : finding_of verifier ≡ None
   pub unoffending : IsUnoffending services_say bytes
-  pub few : frames_of verifier ≤ length bytes
+  pub few : verified_frames verifier ≤ length bytes
 
 -- it judged some bytes, and so many may follow within the limit
 pub record MayBeFed (verifier : Verifier) (more : ℕ) : Type 0 where

@@ -23,7 +23,7 @@ use Rattle.cue_types.specs.declared.cue.Run.{Run}
 use Rattle.cue_types.specs.declared.cue.WinCue.{WinCue}
 use Rattle.cue_rules.specs.Rules.{IsRuled}
 use Rattle.cue_rules.specs.Rules.Sentences.{AreInService}
-use Rattle.authored_grids.specs.AuthoredServiceGrid.{authored_window, window_of, written_cells}
+use Rattle.authored_grids.specs.AuthoredServiceGrid.{authored_window, cue_window, written_cells}
 use Rattle.dtvcc_author.specs.WindowCommands.{are_coloured, attribute_commands, commands_with, definition_of, run_commands, window_commands}
 use Rattle.window_loading.specs.Loading.{IsLoadedAsAuthored, edited_all, seen_behind}
 use Rattle.window_loading.proofs.TextLemmas.{edited_all-append, hidden}
@@ -90,7 +90,7 @@ window_as_authored w runs formed placed apart =
 -- a cue, which shares no cell where it has a window
 kind_as_authored : (kind : Kind) (hide : Option ℕ) (runs : List Run) → IsOfKind kind hide runs
     → ((service : ℕ) → is_of_service service kind ≡ true → have_shared_cell runs ≡ false)
-    → seen_behind (commands_with kind runs) ≡ window_of kind runs
+    → seen_behind (commands_with kind runs) ≡ cue_window kind runs
 kind_as_authored (Pop channel) hide runs formed apart = refl
 kind_as_authored (Paint channel) hide runs formed apart = refl
 kind_as_authored (Roll channel rows) hide runs formed apart = refl

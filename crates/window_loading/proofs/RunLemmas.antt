@@ -16,12 +16,12 @@ use Rattle.cue_types.specs.declared.cue.Run.{Run}
 use Rattle.cue_types.specs.declared.cue.WinCue.{WinCue}
 use Rattle.cue_types.specs.Windows.{IsWindowRun}
 use Rattle.authored_grids.specs.AuthoredServiceGrid.{cell_at, has_place, written_as}
-use Rattle.dtvcc_author.specs.WindowCommands.{character_commands, color_commands, definition_of, pen_of, run_commands}
+use Rattle.dtvcc_author.specs.WindowCommands.{character_commands, color_commands, definition_of, run_commands, run_pen}
 use Rattle.window_loading.specs.Loading.{edited_all}
 use Rattle.window_loading.proofs.TextLemmas.{edited_all-append, hidden, text_on}
 
 -- the pen of a run
-pen_is : (style : ℕ) (pen : Pen) → pen_of (pen_style style).0 pen ≡ written_as style pen
+pen_is : (style : ℕ) (pen : Pen) → run_pen (pen_style style).0 pen ≡ written_as style pen
 pen_is style (Line21 line21) = refl
 pen_is style (Dtv italic underline) = refl
 
@@ -65,9 +65,9 @@ run_on : (coloured : Bool) (style : ℕ) (run : Run) (d : Definition) (attribute
 run_on coloured style run d attributes cells row col pen colors in_rows in_cols fits same none =
     let characters = character_commands run.text in
     let own = color_commands coloured (pen_style style).1 run.colors in
-    ap (λ n. edited_all (own ++ characters) (hidden d attributes cells n (min run.col (d.cols - 1)) (pen_of (pen_style style).0 run.pen) colors))
+    ap (λ n. edited_all (own ++ characters) (hidden d attributes cells n (min run.col (d.cols - 1)) (run_pen (pen_style style).0 run.pen) colors))
     (place_is run.row d.rows in_rows)
-    ∙ ap (λ n. edited_all (own ++ characters) (hidden d attributes cells run.row n (pen_of (pen_style style).0 run.pen) colors)) (place_is run.col d.cols in_cols)
+    ∙ ap (λ n. edited_all (own ++ characters) (hidden d attributes cells run.row n (run_pen (pen_style style).0 run.pen) colors)) (place_is run.col d.cols in_cols)
     ∙ ap (λ p. edited_all (own ++ characters) (hidden d attributes cells run.row run.col p colors)) (pen_is style run.pen)
     ∙ edited_all-append own characters (hidden d attributes cells run.row run.col (written_as style run.pen) colors)
     ∙ ap (edited_all characters)

@@ -9,7 +9,7 @@ use Rattle.dtvcc_codes.specs.declared.windows.Definition.{Definition}
 use Rattle.dtvcc_codes.specs.declared.windows.WinAttr.{WinAttr}
 use Rattle.dtvcc_windows.specs.declared.cells.DCell.{DCell}
 use Rattle.dtvcc_windows.specs.Places.{Cells, with_cell}
-use Rattle.dtvcc_windows.specs.Text.{written}
+use Rattle.dtvcc_windows.specs.Text.{with_character}
 use Rattle.dtvcc_windows.specs.Windows.{WindowState}
 use Rattle.dtvcc_author.specs.WindowCommands.{character_commands}
 use Rattle.window_loading.specs.Loading.{edited_all}
@@ -71,7 +71,7 @@ next_text pen colors row col ch text cells = fun_ext (λ r. fun_ext (λ c.
 
 -- a character is written at the pen, which isn't behind the last column
 character_on : (d : Definition) (attributes : WinAttr) (cells : Cells) (row col : ℕ) (pen : PenAttr) (colors : PenColors) (ch : ℕ) → col < d.cols
-    → written (Some ch) (hidden d attributes cells row col pen colors)
+    → with_character (Some ch) (hidden d attributes cells row col pen colors)
     ≡ hidden d attributes (with_cell cells row col (cell pen colors ch)) row (col + 1) pen colors
 character_on d attributes cells row col pen colors ch within =
     let inside : (col == d.cols) ≡ false = grind (arith, nat_tests) in rw inside refl

@@ -10,7 +10,7 @@ use Rattle.dtvcc_windows.specs.Windows.{WindowState, with_visibility}
 use Rattle.dtvcc_screen.specs.Commands.{edited_by}
 use Rattle.dtvcc_screen.specs.Laws.{is_text}
 use Rattle.cue_types.specs.declared.cue.Cue.{Cue}
-use Rattle.authored_grids.specs.AuthoredServiceGrid.{window_of}
+use Rattle.authored_grids.specs.AuthoredServiceGrid.{cue_window}
 use Rattle.dtvcc_author.specs.WindowCommands.{commands_of}
 
 -- what commands make of the current window, one behind another
@@ -29,7 +29,7 @@ seen_behind commands = shown (option_map (with_visibility true) (loaded_by comma
 
 -- the commands of a cue make the window that the cue list authors
 abbrev pub IsLoadedAsAuthored : Cue → Type 0
-IsLoadedAsAuthored cue = seen_behind (commands_of cue) ≡ window_of cue.kind cue.runs
+IsLoadedAsAuthored cue = seen_behind (commands_of cue) ≡ cue_window cue.kind cue.runs
 
 -- commands that define a window, hidden, and behind that are text alone
 pub record IsLoad (d : Definition) (commands : List Command) : Type 0 where

@@ -9,7 +9,7 @@ ghost use Rattle.cue_types.specs.declared.cue.Cue.{Cue};
 ghost use Rattle.cue_types.specs.declared.cue.Run.{Run};
 ghost use Rattle.cue_types.specs.declared.cue.WinCue.{WinCue};
 ghost use Rattle.cue_rules.specs.Rules.{IsRuled};
-ghost use Rattle.authored_grids.specs.WindowExamples.{cell, centred, place_of, ways_of, white, yellow};
+ghost use Rattle.authored_grids.specs.WindowExamples.{cell, centred, example_white, seen_place, ways_of, yellow};
 ghost use Rattle.dtvcc_windows.specs.Showing.{shown};
 ghost use Rattle.dtvcc_author.specs.CueUnits.{IsWritable};
 ghost use Rattle.dtvcc_author.specs.WindowCommands.{commands_of, definition_of, window_commands};
@@ -42,8 +42,8 @@ pub fn commands_are_writable()
 pub fn loaded_windows_by_hand()
     ensures coloured { option_and_then (λ w. w.cells 0 1) (nth_loaded 0) ≡ cell 73 false yellow }
     ensures between { option_and_then (λ w. w.cells 0 3) (nth_loaded 0) ≡ None }
-    ensures italic { option_and_then (λ w. w.cells 0 4) (nth_loaded 0) ≡ cell 88 true white }
+    ensures italic { option_and_then (λ w. w.cells 0 4) (nth_loaded 0) ≡ cell 88 true example_white }
     ensures own { option_map ways_of (nth_loaded 0) ≡ Some (false, true, true, centred) }
-    ensures second_row { option_and_then (λ w. w.cells 1 0) (nth_loaded 1) ≡ cell 65 false white }
-    ensures place { option_map place_of (nth_loaded 1) ≡ Some (10, 50, 2, 10, 7) }
+    ensures second_row { option_and_then (λ w. w.cells 1 0) (nth_loaded 1) ≡ cell 65 false example_white }
+    ensures place { option_map seen_place (nth_loaded 1) ≡ Some (10, 50, 2, 10, 7) }
 {}

@@ -7,11 +7,11 @@ use Rattle.std.proofs.lemmas.Option.{slice_get_past, slice_get_read}
 use Rattle.std.specs.List.{list_all}
 use Rattle.std.specs.Borrow.{Bor}
 use Rattle.std.specs.Prelude.{◌&&◌, All, IfSome, None, Option, Some, is_some, slice_get, slice_index_or}
-use Rattle.authored_grids.specs.AuthoredServiceGrid.{authored_windows, window_of}
+use Rattle.authored_grids.specs.AuthoredServiceGrid.{authored_windows, cue_window}
 use Rattle.cue_types.specs.Cues.{IsCueFormed}
 use Rattle.cue_types.specs.declared.cue.Cue.{Cue}
-use Rattle.window_places.specs.Cursors.{AreAt, HavePassed, id_at, place_of, service_at}
-use Rattle.window_places.specs.Places.{HasPassed, IsPlaced, IsQuiet, IsWindowId, SameWindows, Stands}
+use Rattle.window_places.specs.Cursors.{AreAt, HavePassed, cursor_place, id_at, service_at}
+use Rattle.window_places.specs.Places.{HasPassed, IsQuiet, IsWindowId, SameWindows, StandsAtPlace, StandsUntil}
 use Rattle.window_places.specs.Turns.{AreAllInTurn}
 use Rattle.window_places.specs.declared.cursors.WindowCursors.{WindowCursors}
 use Rattle.window_places.proofs.PlaceLemmas.{hidden_there, none_quiet, none_there, shown_there, stays_same}
@@ -30,17 +30,17 @@ pub id_there : (service id : ℕ) → IsWindowId service id → id_at (place_at 
 id_there service id is = let a = is.from in let b = is.to in let c = is.id_to in omega arith
 
 pub placed_there : (cues : List Cue) (frame : ℕ) (cursors : WindowCursors) (service id : ℕ) → IsWindowId service id → AreAt cues frame cursors
-    → IsPlaced service id cues frame cursors.due (place_of cursors (place_at service id))
+    → StandsUntil service id cues frame cursors.due (cursor_place cursors (place_at service id))
 placed_there cues frame cursors service id is at =
-    subst (λ s. IsPlaced s id cues frame cursors.due (place_of cursors (place_at service id))) (service_there service id is)
-    (subst (λ i. IsPlaced (service_at (place_at service id)) i cues frame cursors.due (place_of cursors (place_at service id))) (id_there service id is)
+    subst (λ s. StandsUntil s id cues frame cursors.due (cursor_place cursors (place_at service id))) (service_there service id is)
+    (subst (λ i. StandsUntil (service_at (place_at service id)) i cues frame cursors.due (cursor_place cursors (place_at service id))) (id_there service id is)
     (at (place_at service id) (place_within service id is)))
 
 -- before the next change all windows show the same
 pub all_same : (cues : List Cue) (former frame : ℕ) (cursors : WindowCursors) → AreAllInTurn cues → AreAt cues former cursors → former ≤ frame
     → frame < cursors.due → SameWindows cues former frame
 all_same cues former frame cursors turn at le before service id is =
-    stays_same service id cues former frame cursors.due (place_of cursors (place_at service id)) (turn service id) le before
+    stays_same service id cues former frame cursors.due (cursor_place cursors (place_at service id)) (turn service id) le before
     (placed_there cues former cursors service id is at)
 
 -- no cue was passed yet
@@ -63,46 +63,46 @@ all_begin cues cursors zeros k within =
 
 -- the cue of a window
 pub shown_cue : (cues : List Cue) (frame : ℕ) (cursors : WindowCursors) (service id : ℕ) (cue : Cue) (place : ℕ) → place ≡ place_at service id
-    → IsWindowId service id → AreAllInTurn cues → AreAt cues frame cursors → true ≡ nat_lt (place_of cursors place) (length cues)
-    → cue ≡ get_or cues (place_of cursors place) cue → cue.show ≤ frame → authored_windows service cues frame id ≡ window_of cue.kind cue.runs
+    → IsWindowId service id → AreAllInTurn cues → AreAt cues frame cursors → true ≡ nat_lt (cursor_place cursors place) (length cues)
+    → cue ≡ get_or cues (cursor_place cursors place) cue → cue.show ≤ frame → authored_windows service cues frame id ≡ cue_window cue.kind cue.runs
 shown_cue cues frame cursors service id cue place there is turn at within read come =
-    let there_is : true ≡ nat_lt (place_of cursors (place_at service id)) (length cues) = subst (λ p. true ≡ nat_lt (place_of cursors p) (length cues)) there within in
-    let reads : cue ≡ get_or cues (place_of cursors (place_at service id)) cue = subst (λ p. cue ≡ get_or cues (place_of cursors p) cue) there read in
-    shown_there service id frame cues (place_of cursors (place_at service id)) cue (turn service id) (placed_there cues frame cursors service id is at).stands
-    (slice_get_read cues (length cues) (place_of cursors (place_at service id)) cue refl (ltb-true _ (length cues) (sym there_is)) reads) come
+    let there_is : true ≡ nat_lt (cursor_place cursors (place_at service id)) (length cues) = subst (λ p. true ≡ nat_lt (cursor_place cursors p) (length cues)) there within in
+    let reads : cue ≡ get_or cues (cursor_place cursors (place_at service id)) cue = subst (λ p. cue ≡ get_or cues (cursor_place cursors p) cue) there read in
+    shown_there service id frame cues (cursor_place cursors (place_at service id)) cue (turn service id) (placed_there cues frame cursors service id is at).stands
+    (slice_get_read cues (length cues) (cursor_place cursors (place_at service id)) cue refl (ltb-true _ (length cues) (sym there_is)) reads) come
 
 pub hidden_cue : (cues : List Cue) (frame : ℕ) (cursors : WindowCursors) (service id : ℕ) (cue : Cue) (place : ℕ) → place ≡ place_at service id
-    → IsWindowId service id → AreAllInTurn cues → AreAt cues frame cursors → true ≡ nat_lt (place_of cursors place) (length cues)
-    → cue ≡ get_or cues (place_of cursors place) cue → frame < cue.show → authored_windows service cues frame id ≡ None
+    → IsWindowId service id → AreAllInTurn cues → AreAt cues frame cursors → true ≡ nat_lt (cursor_place cursors place) (length cues)
+    → cue ≡ get_or cues (cursor_place cursors place) cue → frame < cue.show → authored_windows service cues frame id ≡ None
 hidden_cue cues frame cursors service id cue place there is turn at within read before =
-    let there_is : true ≡ nat_lt (place_of cursors (place_at service id)) (length cues) = subst (λ p. true ≡ nat_lt (place_of cursors p) (length cues)) there within in
-    let reads : cue ≡ get_or cues (place_of cursors (place_at service id)) cue = subst (λ p. cue ≡ get_or cues (place_of cursors p) cue) there read in
-    hidden_there service id frame cues (place_of cursors (place_at service id)) cue (turn service id) (placed_there cues frame cursors service id is at).stands
-    (slice_get_read cues (length cues) (place_of cursors (place_at service id)) cue refl (ltb-true _ (length cues) (sym there_is)) reads) before
+    let there_is : true ≡ nat_lt (cursor_place cursors (place_at service id)) (length cues) = subst (λ p. true ≡ nat_lt (cursor_place cursors p) (length cues)) there within in
+    let reads : cue ≡ get_or cues (cursor_place cursors (place_at service id)) cue = subst (λ p. cue ≡ get_or cues (cursor_place cursors p) cue) there read in
+    hidden_there service id frame cues (cursor_place cursors (place_at service id)) cue (turn service id) (placed_there cues frame cursors service id is at).stands
+    (slice_get_read cues (length cues) (cursor_place cursors (place_at service id)) cue refl (ltb-true _ (length cues) (sym there_is)) reads) before
 
 pub no_cue : (cues : List Cue) (frame : ℕ) (cursors : WindowCursors) (service id : ℕ) (place : ℕ) → place ≡ place_at service id
-    → IsWindowId service id → AreAllInTurn cues → AreAt cues frame cursors → false ≡ nat_lt (place_of cursors place) (length cues)
+    → IsWindowId service id → AreAllInTurn cues → AreAt cues frame cursors → false ≡ nat_lt (cursor_place cursors place) (length cues)
     → authored_windows service cues frame id ≡ None
 no_cue cues frame cursors service id place there is turn at past =
-    let there_is : false ≡ nat_lt (place_of cursors (place_at service id)) (length cues) = subst (λ p. false ≡ nat_lt (place_of cursors p) (length cues)) there past in
-    none_there service id frame cues (place_of cursors (place_at service id)) (turn service id) (placed_there cues frame cursors service id is at).stands
-    (slice_get_past cues (place_of cursors (place_at service id)) (ltb-false _ (length cues) (sym there_is)))
+    let there_is : false ≡ nat_lt (cursor_place cursors (place_at service id)) (length cues) = subst (λ p. false ≡ nat_lt (cursor_place cursors p) (length cues)) there past in
+    none_there service id frame cues (cursor_place cursors (place_at service id)) (turn service id) (placed_there cues frame cursors service id is at).stands
+    (slice_get_past cues (cursor_place cursors (place_at service id)) (ltb-false _ (length cues) (sym there_is)))
 
 -- one more window stands at the frame
 pub record Moved (cues : List Cue) (frame place : ℕ) (cursors : WindowCursors) : Type 0 where
-  pub placed : (k : ℕ) → k < place → IsPlaced (service_at k) (id_at k) cues frame cursors.due (place_of cursors k)
-  pub passed : (k : ℕ) → place ≤ k → k < 48 → HasPassed (service_at k) (id_at k) cues frame (place_of cursors k)
+  pub placed : (k : ℕ) → k < place → StandsUntil (service_at k) (id_at k) cues frame cursors.due (cursor_place cursors k)
+  pub passed : (k : ℕ) → place ≤ k → k < 48 → HasPassed (service_at k) (id_at k) cues frame (cursor_place cursors k)
 
 pub moved_more : (cues : List Cue) (frame place next change : ℕ) (old new : WindowCursors) → place < length old.places
     → new.places ≡ set old.places place next → new.due ≡ min old.due change
-    → Stands (service_at place) (id_at place) cues frame next → IfSome (slice_get cues next) (IsQuiet frame change)
+    → StandsAtPlace (service_at place) (id_at place) cues frame next → IfSome (slice_get cues next) (IsQuiet frame change)
     → Moved cues frame place old → Moved cues frame (place + 1) new
 moved_more cues frame place next change old new within are due stands quiet moved = record { placed = placed; passed = passed }
   where
-    there : place_of new place ≡ next
+    there : cursor_place new place ≡ next
     there = ap (λ (l : List ℕ). slice_index_or l place 0) are ∙ get_or-set_same old.places place next 0 within
 
-    elsewhere : (k : ℕ) → (k ≡ place → ⊥) → place_of new k ≡ place_of old k
+    elsewhere : (k : ℕ) → (k ≡ place → ⊥) → cursor_place new k ≡ cursor_place old k
     elsewhere k other = ap (λ (l : List ℕ). slice_index_or l k 0) are ∙ get_or-set_other old.places place k next 0 other
 
     less : new.due ≤ old.due
@@ -111,20 +111,20 @@ moved_more cues frame place next change old new within are due stands quiet move
     less_change : new.due ≤ change
     less_change = omega arith
 
-    here : IsPlaced (service_at place) (id_at place) cues frame new.due (place_of new place)
-    here = subst (IsPlaced (service_at place) (id_at place) cues frame new.due) (sym there)
+    here : StandsUntil (service_at place) (id_at place) cues frame new.due (cursor_place new place)
+    here = subst (StandsUntil (service_at place) (id_at place) cues frame new.due) (sym there)
         (record { stands = stands; quiet = none_quiet frame change new.due (slice_get cues next) less_change quiet })
 
-    before : (k : ℕ) → k < place → IsPlaced (service_at k) (id_at k) cues frame new.due (place_of new k)
+    before : (k : ℕ) → k < place → StandsUntil (service_at k) (id_at k) cues frame new.due (cursor_place new k)
     before k below =
         let was = moved.placed k below in
-        subst (IsPlaced (service_at k) (id_at k) cues frame new.due) (sym (elsewhere k (λ same. omega arith)))
-        (record { stands = was.stands; quiet = none_quiet frame old.due new.due (slice_get cues (place_of old k)) less was.quiet })
+        subst (StandsUntil (service_at k) (id_at k) cues frame new.due) (sym (elsewhere k (λ same. omega arith)))
+        (record { stands = was.stands; quiet = none_quiet frame old.due new.due (slice_get cues (cursor_place old k)) less was.quiet })
 
-    placed : (k : ℕ) → k < place + 1 → IsPlaced (service_at k) (id_at k) cues frame new.due (place_of new k)
-    placed = below_more (λ k. IsPlaced (service_at k) (id_at k) cues frame new.due (place_of new k)) place before here
+    placed : (k : ℕ) → k < place + 1 → StandsUntil (service_at k) (id_at k) cues frame new.due (cursor_place new k)
+    placed = below_more (λ k. StandsUntil (service_at k) (id_at k) cues frame new.due (cursor_place new k)) place before here
 
-    passed : (k : ℕ) → place + 1 ≤ k → k < 48 → HasPassed (service_at k) (id_at k) cues frame (place_of new k)
+    passed : (k : ℕ) → place + 1 ≤ k → k < 48 → HasPassed (service_at k) (id_at k) cues frame (cursor_place new k)
     passed k from to = subst (HasPassed (service_at k) (id_at k) cues frame) (sym (elsewhere k (λ same. omega arith))) (moved.passed k (omega arith) to)
 
 -- what is known of the cue that was read

@@ -4,20 +4,20 @@ use Rattle.std.specs.Prelude.{◌&&◌, None, Option, Some, IfSome, if◌then◌
 use Rattle.std.specs.List.{AllByRecursion}
 use Rattle.std.proofs.lemmas.Option.{slice_get_past, slice_get_within}
 use Rattle.std.specs.Option.{option_and_then}
-use Rattle.authored_grids.specs.AuthoredServiceGrid.{authored_windows, is_before, shows_in, uses_window, window_of}
+use Rattle.authored_grids.specs.AuthoredServiceGrid.{authored_windows, cue_window, is_before, shows_in, uses_window}
 use Rattle.cue_types.specs.declared.cue.Cue.{Cue}
 use Rattle.dtvcc_windows.specs.Showing.{ShownWindow}
-use Rattle.window_places.specs.Places.{HasPassed, IsOver, IsPlaced, IsQuiet, IsToHide, Stands}
+use Rattle.window_places.specs.Places.{HasPassed, IsOver, IsQuiet, IsToHide, StandsAtPlace, StandsUntil}
 use Rattle.window_places.specs.Turns.{AreInTurn, IsLater}
 
 -- the window of a cue that is shown by a frame
 abbrev pub shown_by : ℕ → Option Cue → Option ShownWindow
 shown_by frame None = None
-shown_by frame (Some cue) = if nat_le cue.show frame then window_of cue.kind cue.runs else None
+shown_by frame (Some cue) = if nat_le cue.show frame then cue_window cue.kind cue.runs else None
 
 -- the window of a cue, or what the later ones have
 abbrev first_or : Bool → Cue → Option Cue → Option ShownWindow
-first_or shown cue later = option_and_then (λ cue. window_of cue.kind cue.runs) (if shown then Some cue else later)
+first_or shown cue later = option_and_then (λ cue. cue_window cue.kind cue.runs) (if shown then Some cue else later)
 
 -- a cue that is over isn't shown
 over_hidden : (service id frame : ℕ) (cue : Cue) → IsOver service id frame cue → shows_in service id frame cue ≡ false
@@ -56,14 +56,14 @@ authored_at service id frame (cue ∷ later) zero turn over next = by_show (nat_
   where
     by_show : (b : Bool) → nat_le cue.show frame ≡ b
         → first_or (uses_window service id cue.kind && (b && is_before frame cue.hide)) cue (find (shows_in service id frame) later)
-        ≡ (if b then window_of cue.kind cue.runs else None)
+        ≡ (if b then cue_window cue.kind cue.runs else None)
     by_show true is =
         ap (λ b. first_or (b && (true && is_before frame cue.hide)) cue (find (shows_in service id frame) later)) next.has
         ∙ ap (λ b. first_or b cue (find (shows_in service id frame) later)) next.before
     by_show false is =
         let before : frame < cue.show = grind arith in
         ap (λ b. first_or (b && false) cue (find (shows_in service id frame) later)) next.has
-        ∙ ap (λ o. option_and_then (λ c. window_of c.kind c.runs) o) (none_later service id frame cue later (turn.0 next.has) before)
+        ∙ ap (λ o. option_and_then (λ c. cue_window c.kind c.runs) o) (none_later service id frame cue later (turn.0 next.has) before)
 authored_at service id frame (cue ∷ later) (suc place) turn over next =
     ap (λ b. first_or b cue (find (shows_in service id frame) later)) (over_hidden service id frame cue (over zero (omega arith)))
     ∙ authored_at service id frame later place turn.1 (λ k below. over (suc k) (omega arith)) next
@@ -106,7 +106,7 @@ passed_more service id cues frame place cue passed is none = record {
 
 -- and one that is to be hidden
 pub stands_there : (service id : ℕ) (cues : List Cue) (frame place : ℕ) (cue : Cue) → HasPassed service id cues frame place
-    → slice_get cues place ≡ Some cue → (uses_window service id cue.kind && is_before frame cue.hide) ≡ true → Stands service id cues frame place
+    → slice_get cues place ≡ Some cue → (uses_window service id cue.kind && is_before frame cue.hide) ≡ true → StandsAtPlace service id cues frame place
 stands_there service id cues frame place cue passed is both =
     let two = both_true (uses_window service id cue.kind) (is_before frame cue.hide) both in
     record {
@@ -116,7 +116,7 @@ stands_there service id cues frame place cue passed is both =
 
 -- or none is left
 pub stands_behind : (service id : ℕ) (cues : List Cue) (frame place : ℕ) → HasPassed service id cues frame place → length cues ≤ place
-    → Stands service id cues frame place
+    → StandsAtPlace service id cues frame place
 stands_behind service id cues frame place passed past = record {
   passed = passed;
   next = subst (λ o. IfSome o (IsToHide service id frame)) (sym (slice_get_past cues place past)) tt;
@@ -159,7 +159,7 @@ quiet_still former frame until (Some cue) le quiet = record {
 }
 
 pub placed_still : (service id : ℕ) (cues : List Cue) (former frame until place : ℕ) → former ≤ frame → frame < until
-    → IsPlaced service id cues former until place → IsPlaced service id cues frame until place
+    → StandsUntil service id cues former until place → StandsUntil service id cues frame until place
 placed_still service id cues former frame until place le before placed = record {
   stands = record {
     passed = passed_later service id cues former frame place le placed.stands.passed;
@@ -172,7 +172,7 @@ placed_still service id cues former frame until place le before placed = record 
 same_shown : (former frame until : ℕ) (cue : Option Cue) → former ≤ frame → frame < until → IfSome cue (IsQuiet former until)
     → shown_by frame cue ≡ shown_by former cue
 same_shown former frame until None le before quiet = refl
-same_shown former frame until (Some cue) le before quiet = ap (λ b. if b then window_of cue.kind cue.runs else None) same
+same_shown former frame until (Some cue) le before quiet = ap (λ b. if b then cue_window cue.kind cue.runs else None) same
   where
     by_show : (b : Bool) → nat_le cue.show former ≡ b → nat_le cue.show frame ≡ b
     by_show true is = let h : cue.show ≤ former = grind arith in let k : cue.show ≤ frame = omega arith in grind arith
@@ -185,7 +185,7 @@ same_shown former frame until (Some cue) le before quiet = ap (λ b. if b then w
     same = by_show (nat_le cue.show former) refl
 
 pub stays_same : (service id : ℕ) (cues : List Cue) (former frame until place : ℕ) → AreInTurn service id cues → former ≤ frame → frame < until
-    → IsPlaced service id cues former until place → authored_windows service cues frame id ≡ authored_windows service cues former id
+    → StandsUntil service id cues former until place → authored_windows service cues frame id ≡ authored_windows service cues former id
 stays_same service id cues former frame until place turn le before placed =
     let still = placed_still service id cues former frame until place le before placed in
     authored_at service id frame cues place turn still.stands.passed.over still.stands.next
@@ -193,21 +193,21 @@ stays_same service id cues former frame until place turn le before placed =
     ∙ sym (authored_at service id former cues place turn placed.stands.passed.over placed.stands.next)
 
 -- what the cue of a place shows: its window from its SHOW on
-pub shown_there : (service id frame : ℕ) (cues : List Cue) (place : ℕ) (cue : Cue) → AreInTurn service id cues → Stands service id cues frame place
-    → slice_get cues place ≡ Some cue → cue.show ≤ frame → authored_windows service cues frame id ≡ window_of cue.kind cue.runs
+pub shown_there : (service id frame : ℕ) (cues : List Cue) (place : ℕ) (cue : Cue) → AreInTurn service id cues → StandsAtPlace service id cues frame place
+    → slice_get cues place ≡ Some cue → cue.show ≤ frame → authored_windows service cues frame id ≡ cue_window cue.kind cue.runs
 shown_there service id frame cues place cue turn stands is come =
     let e : nat_le cue.show frame ≡ true = grind arith in
     authored_at service id frame cues place turn stands.passed.over stands.next ∙ ap (shown_by frame) is
-    ∙ ap (λ b. if b then window_of cue.kind cue.runs else None) e
+    ∙ ap (λ b. if b then cue_window cue.kind cue.runs else None) e
 
-pub hidden_there : (service id frame : ℕ) (cues : List Cue) (place : ℕ) (cue : Cue) → AreInTurn service id cues → Stands service id cues frame place
+pub hidden_there : (service id frame : ℕ) (cues : List Cue) (place : ℕ) (cue : Cue) → AreInTurn service id cues → StandsAtPlace service id cues frame place
     → slice_get cues place ≡ Some cue → frame < cue.show → authored_windows service cues frame id ≡ None
 hidden_there service id frame cues place cue turn stands is before =
     let e : nat_le cue.show frame ≡ false = grind arith in
     authored_at service id frame cues place turn stands.passed.over stands.next ∙ ap (shown_by frame) is
-    ∙ ap (λ b. if b then window_of cue.kind cue.runs else None) e
+    ∙ ap (λ b. if b then cue_window cue.kind cue.runs else None) e
 
-pub none_there : (service id frame : ℕ) (cues : List Cue) (place : ℕ) → AreInTurn service id cues → Stands service id cues frame place
+pub none_there : (service id frame : ℕ) (cues : List Cue) (place : ℕ) → AreInTurn service id cues → StandsAtPlace service id cues frame place
     → slice_get cues place ≡ None → authored_windows service cues frame id ≡ None
 none_there service id frame cues place turn stands is =
     authored_at service id frame cues place turn stands.passed.over stands.next ∙ ap (shown_by frame) is

@@ -1,7 +1,7 @@
 -- Where a caption window stands in the cues of a list at a frame.
 use Rattle.std.specs.Prelude.{◌≡◌, ◌<◌, ◌≤◌, ℕ, true, false, List, length, slice_get, Option, Some, None, IfSome}
 use Rattle.std.specs.Borrow.{Bor}
-use Rattle.authored_grids.specs.AuthoredServiceGrid.{authored_windows, is_before, uses_window, window_of}
+use Rattle.authored_grids.specs.AuthoredServiceGrid.{authored_windows, cue_window, is_before, uses_window}
 use Rattle.cue_types.specs.declared.cue.Cue.{Cue}
 use Rattle.dtvcc_windows.specs.Showing.{ShownWindow}
 
@@ -26,7 +26,7 @@ pub record HasPassed (service id : ℕ) (cues : List Cue) (frame place : ℕ) : 
   pub over : (k : ℕ) → k < place → IfSome (slice_get cues k) (IsOver service id frame)
 
 -- and the one there is to be hidden, if there is one
-pub record Stands (service id : ℕ) (cues : List Cue) (frame place : ℕ) : Type 0 where
+pub record StandsAtPlace (service id : ℕ) (cues : List Cue) (frame place : ℕ) : Type 0 where
   pub passed : HasPassed service id cues frame place
   pub next : IfSome (slice_get cues place) (IsToHide service id frame)
 
@@ -36,18 +36,18 @@ pub record IsQuiet (frame until : ℕ) (cue : Cue) : Type 0 where
   pub hide : IfSome cue.hide (λ hide. until ≤ hide)
 
 -- the window stands at the place, where nothing happens before a frame
-pub record IsPlaced (service id : ℕ) (cues : List Cue) (frame until place : ℕ) : Type 0 where
-  pub stands : Stands service id cues frame place
+pub record StandsUntil (service id : ℕ) (cues : List Cue) (frame until place : ℕ) : Type 0 where
+  pub stands : StandsAtPlace service id cues frame place
   pub quiet : IfSome (slice_get cues place) (IsQuiet frame until)
 
 -- the window of a cue as it is seen, if there is one
-abbrev pub seen_of : Option (Bor Cue) → Option ShownWindow
-seen_of None = None
-seen_of (Some cue) = window_of cue.now.kind cue.now.runs
+abbrev pub seen_cue : Option (Bor Cue) → Option ShownWindow
+seen_cue None = None
+seen_cue (Some cue) = cue_window cue.now.kind cue.now.runs
 
 -- a window is to show this cue, or none
-abbrev pub IsAuthored : List Cue → ℕ → ℕ → ℕ → Option (Bor Cue) → Type 0
-IsAuthored cues frame service id cue = authored_windows service cues frame id ≡ seen_of cue
+abbrev pub IsAuthoredBy : List Cue → ℕ → ℕ → ℕ → Option (Bor Cue) → Type 0
+IsAuthoredBy cues frame service id cue = authored_windows service cues frame id ≡ seen_cue cue
 
 -- each window is to show the same at two frames
 abbrev pub SameWindows : List Cue → ℕ → ℕ → Type 0

@@ -15,9 +15,9 @@ use Rattle.cue_types.specs.declared.cue.Run.{Run}
 use Rattle.cue_types.specs.declared.cue.WinCue.{WinCue}
 
 -- what is seen of a window, if there is one
-abbrev pub seen_in : Option (Bor Window) → Option ShownWindow
-seen_in None = None
-seen_in (Some window) = shown (window_of window.now)
+abbrev pub seen_window : Option (Bor Window) → Option ShownWindow
+seen_window None = None
+seen_window (Some window) = shown (window_of window.now)
 
 -- a received window is there
 abbrev pub IsLive : Option (Bor Window) → Type 0

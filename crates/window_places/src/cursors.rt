@@ -1,7 +1,7 @@
 ghost use Rattle.std.specs.Prelude.{◌≡◌, ◌<◌, ◌≤◌, ◌+◌, ◌/◌, ◌%◌, ◌==◌, ◌&&◌, false, true, ℕ, All, IfSome, length, slice_get};
 ghost use Rattle.authored_grids.specs.AuthoredServiceGrid.{is_before, uses_window};
 ghost use Rattle.window_places.specs.Cursors.{AreAt, HavePassed};
-ghost use Rattle.window_places.specs.Places.{HasPassed, IsAuthored, IsWindowId, IsQuiet, SameWindows, Stands};
+ghost use Rattle.window_places.specs.Places.{HasPassed, IsAuthoredBy, IsWindowId, IsQuiet, SameWindows, StandsAtPlace};
 ghost use Rattle.cue_types.specs.Cues.{IsCueFormed};
 ghost use Rattle.window_places.specs.Seen.{IsFormedCue};
 ghost use Rattle.window_places.specs.Turns.{AreAllInTurn};
@@ -67,7 +67,7 @@ impl WindowCursors {
         requires window { IsWindowId service id }
         requires turn { AreAllInTurn cues.now }
         requires at { AreAt cues.now frame self.now }
-        ensures authored { IsAuthored cues.now frame service id result }
+        ensures authored { IsAuthoredBy cues.now frame service id result }
         ensures formed { All IsCueFormed cues.now → IsFormedCue result }
     {
         let place = usize::from(service - 1) * 8 + usize::from(id);
@@ -81,7 +81,7 @@ impl WindowCursors {
 /// The first cue of a window, from the cue of a number on, whose HIDE is to come at a frame.
 fn pass_over(cues: &[Cue], service: u8, id: u8, frame: u32, from: usize) -> usize
     requires { HasPassed service id cues.now frame from }
-    ensures { Stands service id cues.now frame result }
+    ensures { StandsAtPlace service id cues.now frame result }
 {
     let mut next = from;
     while next < cues.len() {

@@ -1,11 +1,11 @@
 ghost use Rattle.std.specs.Prelude.{◌≡◌, ◌≢◌, ◌<◌, ◌≤◌, false, true, ℕ, Some, None, IfSome, IsTrue, is_some, unwrap_or};
-ghost use Rattle.authored_grids.specs.AuthoredServiceGrid.{authored_window, window_of, written_cells};
+ghost use Rattle.authored_grids.specs.AuthoredServiceGrid.{authored_window, cue_window, written_cells};
 ghost use Rattle.cue_types.specs.Cues.{IsCueFormed};
 ghost use Rattle.dtvcc_windows.specs.Objects.{is_live, state_of};
 ghost use Rattle.dtvcc_windows.specs.Showing.{as_shown, shown};
 ghost use Rattle.dtvcc_windows.specs.Styles.{window_style};
-ghost use Rattle.window_places.specs.Places.{seen_of};
-ghost use Rattle.window_places.specs.Seen.{IsFormedCue, IsFormedWindow, IsLive, cue_part, seen_in, seen_part};
+ghost use Rattle.window_places.specs.Places.{seen_cue};
+ghost use Rattle.window_places.specs.Seen.{IsFormedCue, IsFormedWindow, IsLive, cue_part, seen_part, seen_window};
 
 use crate::cells::written_cell;
 use cue_types::{Cue, Kind, Run, WinCue};
@@ -17,8 +17,8 @@ use dtvcc_windows::{Window, window_style};
 pub fn differs(window: Option<&Window>, cue: Option<&Cue>) -> bool
     requires live { IsLive window }
     requires formed { IsFormedCue cue }
-    ensures same { result ≡ false → seen_in window.entry ≡ seen_of cue.entry }
-    ensures other { result ≡ true → seen_in window.entry ≢ seen_of cue.entry }
+    ensures same { result ≡ false → seen_window window.entry ≡ seen_cue cue.entry }
+    ensures other { result ≡ true → seen_window window.entry ≢ seen_cue cue.entry }
 {
     match cue {
         Some(cue) => differs_from_cue(window, cue),
@@ -28,7 +28,7 @@ pub fn differs(window: Option<&Window>, cue: Option<&Cue>) -> bool
 
 /// Whether something is seen of a window.
 fn is_seen(window: Option<&Window>) -> bool
-    ensures { result ≡ is_some (seen_in window.entry) }
+    ensures { result ≡ is_some (seen_window window.entry) }
 {
     match window {
         Some(window) => window.is_shown(),
@@ -40,8 +40,8 @@ fn is_seen(window: Option<&Window>) -> bool
 fn differs_from_cue(window: Option<&Window>, cue: &Cue) -> bool
     requires live { IsLive window }
     requires formed { IsCueFormed cue.now }
-    ensures same { result ≡ false → seen_in window.entry ≡ window_of cue.now.kind cue.now.runs }
-    ensures other { result ≡ true → seen_in window.entry ≢ window_of cue.now.kind cue.now.runs }
+    ensures same { result ≡ false → seen_window window.entry ≡ cue_window cue.now.kind cue.now.runs }
+    ensures other { result ≡ true → seen_window window.entry ≢ cue_window cue.now.kind cue.now.runs }
 {
     match cue.kind {
         Kind::Win(own) => differs_from(window, own, cue.runs.as_slice()),
@@ -53,8 +53,8 @@ fn differs_from_cue(window: Option<&Window>, cue: &Cue) -> bool
 fn differs_from(window: Option<&Window>, own: WinCue, runs: &[Run]) -> bool
     requires live { IsLive window }
     requires formed { IsFormedWindow own runs.now }
-    ensures same { result ≡ false → seen_in window.entry ≡ Some (authored_window own runs.now) }
-    ensures other { result ≡ true → seen_in window.entry ≢ Some (authored_window own runs.now) }
+    ensures same { result ≡ false → seen_window window.entry ≡ Some (authored_window own runs.now) }
+    ensures other { result ≡ true → seen_window window.entry ≢ Some (authored_window own runs.now) }
 {
     match window {
         Some(window) => {

@@ -18,7 +18,7 @@ use Rattle.dtvcc_windows.specs.Objects.{state_of, window_of}
 use Rattle.dtvcc_windows.specs.Showing.{ShownWindow, shown}
 use Rattle.dtvcc_windows.specs.Windows.{WindowState}
 use Rattle.dtvcc_windows.specs.Sizes.{IsWithin, in_size}
-use Rattle.window_texts.specs.Differences.{differs, same_cell, same_cells, same_place, same_window}
+use Rattle.window_texts.specs.Differences.{differs, same_cell, same_cells, same_place, same_shown_window}
 use Rattle.cell_runs.proofs.AlikeLemmas.{Decides-alike}
 use Rattle.dtvcc_windows.proofs.SameLemmas.{Decides-attributes}
 
@@ -80,13 +80,13 @@ Decides-place a b =
     (Decides-and _ _ (booleans_Decides a.row_lock b.row_lock) (Decides-and _ _ (booleans_Decides a.col_lock b.col_lock) (Decides-eqb a.priority b.priority))))))))
 
 Decides-window : (a b : ShownWindow)
-    → Decides (same_window a b) (Place a b × ((a.attributes ≡ b.attributes) × ((row col : ℕ) → row < a.rows → col < a.cols → a.cells row col ≡ b.cells row col)))
-unfolding same_window
+    → Decides (same_shown_window a b) (Place a b × ((a.attributes ≡ b.attributes) × ((row col : ℕ) → row < a.rows → col < a.cols → a.cells row col ≡ b.cells row col)))
+unfolding same_shown_window
 Decides-window a b =
     Decides-and _ _ (Decides-place a b) (Decides-and _ _ (Decides-attributes a.attributes b.attributes) (Decides-cells a.rows a.cols a.cells b.cells))
 
 -- a window is as itself
-same-itself : (a : ShownWindow) → same_window a a ≡ true
+same-itself : (a : ShownWindow) → same_shown_window a a ≡ true
 unfolding Place
 same-itself a = (Decides-window a a).1 ((refl, (refl, (refl, (refl, (refl, (refl, (refl, (refl, refl)))))))), (refl, λ row col in_row in_col. refl))
 
@@ -124,7 +124,7 @@ Place-rows : (a b : ShownWindow) → Place a b → (a.rows ≡ b.rows) × (a.col
 unfolding Place
 Place-rows a b (relative, (av, (ah, (anchor, (rows, (cols, rest)))))) = (rows, cols)
 
-pub same_is_one : (a b : ShownWindow) → IsWithin a.rows a.cols a.cells → IsWithin b.rows b.cols b.cells → same_window a b ≡ true → a ≡ b
+pub same_is_one : (a b : ShownWindow) → IsWithin a.rows a.cols a.cells → IsWithin b.rows b.cols b.cells → same_shown_window a b ≡ true → a ≡ b
 same_is_one a b within within_too same =
     let (place, (attributes, cells)) = (Decides-window a b).0 same in
     let (rows, cols) = Place-rows a b place in
@@ -140,7 +140,7 @@ differs-itself (Some a) = ap not (same-itself a)
 -- and windows that don't differ are one
 pub one_where_same : (a b : ShownWindow) → IsWithin a.rows a.cols a.cells → IsWithin b.rows b.cols b.cells → differs (Some a) (Some b) ≡ false → a ≡ b
 unfolding differs
-one_where_same a b within within_too none = same_is_one a b within within_too (not-false (same_window a b) none)
+one_where_same a b within within_too none = same_is_one a b within within_too (not-false (same_shown_window a b) none)
 
 -- what stands within its size, where there is something
 IsWithinSize : Option ShownWindow → Type 0
@@ -159,7 +159,7 @@ unfolding differs IsWithinSize
 same_where_none None None within within_too none = refl
 same_where_none None (Some b) within within_too none = absurd (true≢false none)
 same_where_none (Some a) None within within_too none = absurd (true≢false none)
-same_where_none (Some a) (Some b) within within_too none = ap Some (same_is_one a b within within_too (not-false (same_window a b) none))
+same_where_none (Some a) (Some b) within within_too none = ap Some (same_is_one a b within within_too (not-false (same_shown_window a b) none))
 
 shown_one : (one other : Window) → differs (shown (window_of one)) (shown (window_of other)) ≡ false → shown (window_of one) ≡ shown (window_of other)
 shown_one one other none =

@@ -38,11 +38,11 @@ same_place a b =
     && (a.anchor == b.anchor
     && (a.rows == b.rows && (a.cols == b.cols && (beq a.row_lock b.row_lock && (beq a.col_lock b.col_lock && a.priority == b.priority)))))))
 
-unfoldable pub same_window : ShownWindow → ShownWindow → Bool
-same_window a b = same_place a b && (same_attributes a.attributes b.attributes && same_cells a.rows a.cols a.cells b.cells)
+unfoldable pub same_shown_window : ShownWindow → ShownWindow → Bool
+same_shown_window a b = same_place a b && (same_attributes a.attributes b.attributes && same_cells a.rows a.cols a.cells b.cells)
 
 -- one is shown and the other isn't, or they are shown otherwise
 unfoldable pub differs : Option ShownWindow → Option ShownWindow → Bool
 differs None None = false
-differs (Some a) (Some b) = not (same_window a b)
+differs (Some a) (Some b) = not (same_shown_window a b)
 differs _ _ = true

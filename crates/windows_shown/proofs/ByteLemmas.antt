@@ -8,7 +8,7 @@ use Rattle.dtvcc_codes.specs.Writing.{written}
 use Rattle.dtvcc_screen.specs.Screens.{ScreenState}
 use Rattle.dtvcc_author.specs.declared.caption.Caption.{Caption}
 use Rattle.dtvcc_author.specs.FrameEvents.{delayed_at, is_hidden_at, is_shown_at, names, windows_byte}
-use Rattle.dtvcc_author.specs.Latest.{delay_of}
+use Rattle.dtvcc_author.specs.Latest.{caption_delay}
 use Rattle.service_lanes.specs.declared.chunk.Chunk.{Chunk}
 use Rattle.service_lanes.specs.ServiceBytes.{loads_at}
 use Rattle.dtvcc_shown.specs.CaptionLanes.{lane_of, plain_events}
@@ -43,7 +43,7 @@ events_act frame gs s =
     (windows_byte (names (is_hidden_at frame) (captions gs))) (windows_byte (names (is_shown_at frame) (captions gs))) s
 
 -- what a delay puts off
-delay_acts : (found : Option Caption) (s : ScreenState) → acted_on (shows_bytes (option_map delay_of found)) s ≡ delay_shows found s
+delay_acts : (found : Option Caption) (s : ScreenState) → acted_on (shows_bytes (option_map caption_delay found)) s ≡ delay_shows found s
 unfolding written
 delay_acts None s = refl
 delay_acts (Some c) s = dsw_acts (windows_byte (λ id. c.id == id)) s

@@ -14,9 +14,9 @@ use Rattle.dtvcc_codes.specs.declared.commands.Command.{Command}
 use Rattle.dtvcc_codes.specs.declared.windows.Definition.{Definition}
 use Rattle.dtvcc_codes.specs.Writing.{written}
 use Rattle.dtvcc_windows.specs.Showing.{ShownWindow}
-use Rattle.authored_grids.specs.AuthoredServiceGrid.{authored_windows, is_before, shows_in, uses_window, window_of}
+use Rattle.authored_grids.specs.AuthoredServiceGrid.{authored_windows, cue_window, is_before, shows_in, uses_window}
 use Rattle.dtvcc_author.specs.declared.caption.Caption.{Caption}
-use Rattle.dtvcc_author.specs.Captions.{caption_with, captions_of, window_caption}
+use Rattle.dtvcc_author.specs.Captions.{caption_with, service_captions, window_caption}
 use Rattle.dtvcc_author.specs.CueUnits.{IsWritable}
 use Rattle.dtvcc_author.specs.WindowCommands.{commands_with, definition_of, window_commands}
 use Rattle.dtvcc_author.proofs.WritableLemmas.{commands_writable}
@@ -73,7 +73,7 @@ module _ (rate : Rate) (service : ℕ) where
   -- the captions of the later cues, wherever their units stand in time
   abbrev Others : ℕ → List Cue → Type 0
   Others number cues = (left : List ℕ) → AreTimely (chunks_from rate service number cues) left
-      → Loads (captions_of rate service cues) (chunks_from rate service number cues) left (λ id frame. authored_windows service cues frame id)
+      → Loads (service_captions rate service cues) (chunks_from rate service number cues) left (λ id frame. authored_windows service cues frame id)
 
   -- the units of a cue, with this caption and these commands, before those of later cues
   abbrev units : ℕ → Option Caption → List Command → List Cue → List Chunk
@@ -82,14 +82,14 @@ module _ (rate : Rate) (service : ℕ) where
   -- the captions with that of a cue before them, which uses these windows
   abbrev WithCue : ℕ → Cue → List Cue → List ℕ → Option Caption → List Command → (ℕ → Bool) → Type 0
   WithCue number cue cues fs c commands uses =
-      Loads (cons_option c (captions_of rate service cues)) (units number c commands cues) fs
-      (λ id frame. option_and_then (λ (one : Cue). window_of one.kind one.runs)
+      Loads (cons_option c (service_captions rate service cues)) (units number c commands cues) fs
+      (λ id frame. option_and_then (λ (one : Cue). cue_window one.kind one.runs)
       (if uses id && (nat_le cue.show frame && is_before frame cue.hide) then Some cue else find (shows_in service id frame) cues))
 
   -- the captions of cues, with what loads them
   pub loads_of : (number : ℕ) (cues : List Cue) (fs : List ℕ) → All IsCueFormed cues → AllByRecursion IsLoadedAsAuthored cues
       → AreTimely (chunks_from rate service number cues) fs
-      → Loads (captions_of rate service cues) (chunks_from rate service number cues) fs (λ id frame. authored_windows service cues frame id)
+      → Loads (service_captions rate service cues) (chunks_from rate service number cues) fs (λ id frame. authored_windows service cues frame id)
   loads_of number [] [] formed loaded timely = record {
     loads = [];
     captions_are = refl;
@@ -117,17 +117,17 @@ module _ (rate : Rate) (service : ℕ) where
             from = all.from;
             acts = all.acts;
             seen = λ id frame v sees. all.seen id frame v sees
-                ∙ sym (ap (λ (b : Bool). option_and_then (λ (one : Cue). window_of one.kind one.runs)
+                ∙ sym (ap (λ (b : Bool). option_and_then (λ (one : Cue). cue_window one.kind one.runs)
                 (if (b && (id == w.id)) && (nat_le cue.show frame && is_before frame cue.hide) then Some cue else find (shows_in service id frame) cues))
                 (eqb_turned service w.service ∙ other));
           }
       win w is true its in_time others =
           let c : Caption = window_caption rate w cue in
           let writable = subst (λ (k : Kind). All IsWritable (commands_with k cue.runs)) is (commands_writable cue own) in
-          let seen = subst (λ (k : Kind). seen_behind (commands_with k cue.runs) ≡ window_of cue.kind cue.runs) is loaded.0 in
+          let seen = subst (λ (k : Kind). seen_behind (commands_with k cue.runs) ≡ cue_window cue.kind cue.runs) is loaded.0 in
           let hides = (subst (λ (k : Kind). IsOfKind k cue.hide cue.runs) is own.kind).1 in
           let all = more_commands number c (definition_of w) (window_commands w cue.runs) (chunks_from rate service (suc number) cues)
-          (captions_of rate service cues) fs (λ id frame. authored_windows service cues frame id) (window_of cue.kind cue.runs) refl
+          (service_captions rate service cues) fs (λ id frame. authored_windows service cues frame id) (cue_window cue.kind cue.runs) refl
           (window_load w cue.runs) writable seen in_time others in
           record {
             loads = all.loads;
@@ -136,8 +136,8 @@ module _ (rate : Rate) (service : ℕ) where
             from = all.from;
             acts = all.acts;
             seen = λ id frame v sees. all.seen id frame v sees
-                ∙ found_first (shows id frame c) (λ (one : Cue). window_of one.kind one.runs) cue (find (shows_in service id frame) cues)
-                ∙ ap (λ (b : Bool). option_and_then (λ (one : Cue). window_of one.kind one.runs) (if b then Some cue else find (shows_in service id frame) cues))
+                ∙ found_first (shows id frame c) (λ (one : Cue). cue_window one.kind one.runs) cue (find (shows_in service id frame) cues)
+                ∙ ap (λ (b : Bool). option_and_then (λ (one : Cue). cue_window one.kind one.runs) (if b then Some cue else find (shows_in service id frame) cues))
                 (ap (λ (b : Bool). (id == w.id) && (nat_le cue.show frame && b)) (sym (before_hide frame cue.hide hides))
                 ∙ sym (ap (λ (b : Bool). (b && (id == w.id)) && (nat_le cue.show frame && is_before frame cue.hide)) (eqb_turned service w.service ∙ its)));
           }

@@ -20,7 +20,7 @@ use Rattle.dtvcc_author.specs.declared.caption.Caption.{Caption}
 use Rattle.frame_scheduler.specs.Planned.{captions_in, chunks_in, share_in}
 use Rattle.placements.specs.Placing.{IsPlaced}
 use Rattle.service_lanes.specs.declared.chunk.Chunk.{Chunk}
-use Rattle.service_lanes.specs.ServiceLane.{AreUpTo, IsAllowed, bytes_between, is_between, most_in_delay, size_of, used}
+use Rattle.service_lanes.specs.ServiceLane.{AreUpTo, IsAllowed, bytes_between, chunk_size, is_between, most_in_delay, used}
 use Rattle.service_lanes.specs.ServiceRoom.{caption_lane, frame_room}
 use Rattle.windows_shown.specs.AuthoredShown.{IsServicePlaced}
 use Rattle.windows_shown.specs.Examples.{delayed_frames, delayed_list}
@@ -90,18 +90,18 @@ list_ruled = faultless_ruled delayed_list (refl, (refl, (refl, (refl, tt))))
 
 -- the bytes of placed units, in whatever frames
 abbrev all_bytes : List (Chunk × ℕ) → ℕ
-all_bytes placed = sum_by (λ (each : Chunk × ℕ). size_of each.0) placed
+all_bytes placed = sum_by (λ (each : Chunk × ℕ). chunk_size each.0) placed
 
 used_most : (from to : ℕ) (placed : List (Chunk × ℕ)) → used from to placed ≤ all_bytes placed
 used_most from to [] = omega arith
 used_most from to (each ∷ placed) =
     let rest = used_most from to placed in
     let some = sum_by-cons (bytes_between from to) each placed in
-    let most = sum_by-cons (λ (one : Chunk × ℕ). size_of one.0) each placed in
+    let most = sum_by-cons (λ (one : Chunk × ℕ). chunk_size one.0) each placed in
     let own = at (is_between from to each.1) in
     rw (some, most) (omega (arith, rest, own))
   where
-    at : (b : Bool) → (if b then size_of each.0 else 0) ≤ size_of each.0
+    at : (b : Bool) → (if b then chunk_size each.0 else 0) ≤ chunk_size each.0
     at true = omega arith
     at false = omega arith
 
@@ -110,7 +110,7 @@ abbrev is_allowed : ℕ → List Caption → List (Chunk × ℕ) → Chunk → �
 is_allowed share cs before u f =
     list_all (λ (each : Chunk × ℕ). nat_le each.1 f) before
     && (nat_le u.load f && (nat_lt f u.until
-    && (nat_le (used f (f + 1) before + size_of u) (frame_room share cs f) && nat_le (all_bytes before + size_of u) most_in_delay)))
+    && (nat_le (used f (f + 1) before + chunk_size u) (frame_room share cs f) && nat_le (all_bytes before + chunk_size u) most_in_delay)))
 
 abbrev are_allowed : ℕ → List Caption → List (Chunk × ℕ) → List Chunk → List ℕ → Bool
 are_allowed share cs before [] [] = true
@@ -133,13 +133,13 @@ allowed_by share cs before u f test =
     let first = and_parts (list_all (λ (each : Chunk × ℕ). nat_le each.1 f) before) _ test in
     let second = and_parts (nat_le u.load f) _ first.1 in
     let third = and_parts (nat_lt f u.until) _ second.1 in
-    let fourth = and_parts (nat_le (used f (f + 1) before + size_of u) (frame_room share cs f)) (nat_le (all_bytes before + size_of u) most_in_delay) third.1 in
-    let few = le_holds (all_bytes before + size_of u) most_in_delay fourth.1 in
+    let fourth = and_parts (nat_le (used f (f + 1) before + chunk_size u) (frame_room share cs f)) (nat_le (all_bytes before + chunk_size u) most_in_delay) third.1 in
+    let few = le_holds (all_bytes before + chunk_size u) most_in_delay fourth.1 in
     record {
       order = up_to f before first.0;
       loaded = le_holds u.load f second.0;
       ended = le_holds (suc f) u.until third.0;
-      fits = le_holds (used f (f + 1) before + size_of u) (frame_room share cs f) fourth.0;
+      fits = le_holds (used f (f + 1) before + chunk_size u) (frame_room share cs f) fourth.0;
       delayed = λ start end ends from to. let most = used_most start end before in omega (arith, most, few);
     }
 

@@ -11,10 +11,10 @@ use Rattle.dtvcc_screen.specs.Shown.{grids}
 use Rattle.authored_grids.specs.AuthoredServiceGrid.{authored_windows}
 use Rattle.dtvcc_author.specs.declared.caption.Caption.{Caption}
 use Rattle.dtvcc_author.specs.declared.frame_events.Delay.{Delay}
-use Rattle.dtvcc_author.specs.Captions.{captions_of}
+use Rattle.dtvcc_author.specs.Captions.{service_captions}
 use Rattle.dtvcc_author.specs.FrameEvents.{delayed_at}
 use Rattle.dtvcc_author.specs.Kept.{AreKept}
-use Rattle.dtvcc_author.specs.Latest.{delay_of}
+use Rattle.dtvcc_author.specs.Latest.{caption_delay}
 use Rattle.dtvcc_author.proofs.LatestLemmas.{Has}
 use Rattle.placements.specs.Placing.{IsPlaced}
 use Rattle.service_lanes.specs.declared.chunk.Chunk.{Chunk}
@@ -51,11 +51,11 @@ module _ (rate : Rate) (frames : ℕ) (gs : List CaptionLoad) (placed : List (Ch
       → IsSeen gs id frame (grids (served lane (suc frame)).core.screen id)
   seen_in_delay frame id small d among on =
       let start : ℕ = d.caption.starts in
-      let starts : option_map delay_of (delayed_at start (captions gs)) ≡ Some (delay_of d.caption) =
-      ap (option_map delay_of) (delayed_is rate frames start gs d kept among (delay_holds start d.caption on.some refl)) in
-      let is_on : IsInDelay lane start (delay_of d.caption) (suc frame) = record { starts = starts; from = on.from; to = on.to } in
+      let starts : option_map caption_delay (delayed_at start (captions gs)) ≡ Some (caption_delay d.caption) =
+      ap (option_map caption_delay) (delayed_is rate frames start gs d kept among (delay_holds start d.caption on.some refl)) in
+      let is_on : IsInDelay lane start (caption_delay d.caption) (suc frame) = record { starts = starts; from = on.from; to = on.to } in
       let screen : (served lane (suc frame)).core.screen ≡ opening start gs (screen_at gs start) =
-      shows_opened lane sound start (suc frame) (delay_of d.caption) is_on
+      shows_opened lane sound start (suc frame) (caption_delay d.caption) is_on
       ∙ ap (acted_on (plain_events start (captions gs))) (undelayed_is rate placed gs loads start)
       ∙ events_act start gs (screen_at gs start) in
       subst (λ (s : ScreenState). IsSeen gs id frame (shown (s.windows id))) (sym screen)
@@ -95,12 +95,12 @@ module _ (rate : Rate) (frames : ℕ) (gs : List CaptionLoad) (placed : List (Ch
 
 -- the windows of a service
 pub windows_are_shown : (list : Listing) (share service : ℕ) (placed : List ℕ) → IsFormed list → IsRuled list
-    → IsPlaced (caption_lane share (captions_of list.rate service list.cues)) [] (service_chunks list.rate service list.cues) placed
+    → IsPlaced (caption_lane share (service_captions list.rate service list.cues)) [] (service_chunks list.rate service list.cues) placed
     → (frame id : ℕ) → id < 8
-    → grids (served (lane_of list.rate (captions_of list.rate service list.cues) (zip (service_chunks list.rate service list.cues) placed)) (suc frame)).core.screen id
+    → grids (served (lane_of list.rate (service_captions list.rate service list.cues) (zip (service_chunks list.rate service list.cues) placed)) (suc frame)).core.screen id
     ≡ authored_windows service list.cues frame id
 windows_are_shown list share service placed formed ruled is frame id small =
-    let cs : List Caption = captions_of list.rate service list.cues in
+    let cs : List Caption = service_captions list.rate service list.cues in
     let chunks : List Chunk = service_chunks list.rate service list.cues in
     let kept = captions_kept list service formed ruled in
     let sound = lane_sound list.rate share service list.frames list.cues placed formed.cues kept is in

@@ -19,13 +19,13 @@ abbrev pub delayed_frames : List ℕ
 delayed_frames = 0 ∷ 0 ∷ 1 ∷ 3 ∷ 3 ∷ 4 ∷ 4 ∷ 6 ∷ 8 ∷ 8 ∷ 9 ∷ 9 ∷ 12 ∷ 13 ∷ 14 ∷ 15 ∷ []
 
 -- what is seen of a window when a frame has come
-abbrev pub seen_at : ℕ → ℕ → Option ShownWindow
-seen_at id frame = grids (served (list_lane delayed_list 1 delayed_frames) (suc frame)).core.screen id
+abbrev pub seen_in_example : ℕ → ℕ → Option ShownWindow
+seen_in_example id frame = grids (served (list_lane delayed_list 1 delayed_frames) (suc frame)).core.screen id
 
 -- whether something is
 abbrev pub is_seen : ℕ → ℕ → Bool
-is_seen id frame = is_some (seen_at id frame)
+is_seen id frame = is_some (seen_in_example id frame)
 
 -- the cell that is seen at a row and a column of a window
 abbrev pub cell_seen : ℕ → ℕ → ℕ → ℕ → Option DCell
-cell_seen id frame row column = option_and_then (λ (w : ShownWindow). w.cells row column) (seen_at id frame)
+cell_seen id frame row column = option_and_then (λ (w : ShownWindow). w.cells row column) (seen_in_example id frame)

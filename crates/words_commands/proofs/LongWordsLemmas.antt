@@ -12,7 +12,7 @@ use Rattle.services_files.specs.Services.{services_say}
 use Rattle.words_files.specs.Offences.{FirstOffendingWord, IsUnoffending}
 use Rattle.command_base.specs.Ends.{Ends}
 use Rattle.words_commands.specs.Screens.{changes_of, decode_output, show_output}
-use Rattle.words_commands.specs.WordsAnswer.{Cause, DecodeAnswer, IsRefusedWith, IsWhole, IsWholeFile, PassesLimit, ShowAnswer, Stops, StopsEarly, words_limit}
+use Rattle.words_commands.specs.WordsAnswer.{Cause, DecodeAnswer, IsRefusedWith, IsWholeFile, IsWholeInput, PassesLimit, ShowAnswer, Stops, StopsEarly, words_limit}
 use Rattle.command_base.specs.Counts.{IsReadOf}
 use Rattle.words_commands.specs.WordsVerdict.{IsPastLimit}
 use Rattle.words_commands.proofs.WordsVerdictLemmas.{known_judged, known_whole}
@@ -22,7 +22,7 @@ use Rattle.command_base.specs.declared.status.Status.TheVariants as status
 
 -- what was judged isn't the whole input
 never_whole : (text : List Frame → List ℕ) (Why : Cause) (answer : Put) (bytes : List ℕ) (old new : Ends) → words_limit < length bytes → IsReadOf bytes old new
-    → (stops : Stops text Why answer old new) → IsWhole old.left stops.judged stops.unjudged → ⊥
+    → (stops : Stops text Why answer old new) → IsWholeInput old.left stops.judged stops.unjudged → ⊥
 never_whole text Why answer bytes old new past read stops whole =
     let same = known_whole old.left bytes stops.judged read.left whole.0 in
     let within = stops.within in

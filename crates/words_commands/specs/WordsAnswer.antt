@@ -43,12 +43,12 @@ pub record Stops (text : List Frame → List ℕ) (Why : Cause) (answer : Put) (
   pub output : Puts old.written new.written answer (text frames)
 
 -- the bytes judged are all that the input had, and it was read to its end
-abbrev pub IsWhole : Option (List ℕ) → List ℕ → List ℕ → Type 0
-IsWhole left judged unjudged = IfSome left (λ bytes. bytes ≡ judged) × (unjudged ≡ [])
+abbrev pub IsWholeInput : Option (List ℕ) → List ℕ → List ℕ → Type 0
+IsWholeInput left judged unjudged = IfSome left (λ bytes. bytes ≡ judged) × (unjudged ≡ [])
 
 -- the whole input is a words file of the frames
 abbrev pub IsWholeFile : Option (List ℕ) → Cause
-IsWholeFile left frames judged unjudged = IsWhole left judged unjudged × IsFileUnder services_say frames judged
+IsWholeFile left frames judged unjudged = IsWholeInput left judged unjudged × IsFileUnder services_say frames judged
 
 -- no word of the bytes taken offends
 abbrev pub HasNoOffence : Cause
@@ -61,7 +61,7 @@ PassesLimit frames judged unjudged = (length judged ≡ words_limit) × (0 < len
 -- a word offends, or the whole input is cut short
 abbrev pub IsRefusedWith : Refusal → Option (List ℕ) → Cause
 IsRefusedWith refusal left frames judged unjudged =
-    FirstOffendingWord services_say judged refusal ⊎ (IsWhole left judged unjudged × IsCutShort services_say judged refusal)
+    FirstOffendingWord services_say judged refusal ⊎ (IsWholeInput left judged unjudged × IsCutShort services_say judged refusal)
 
 -- nothing more is said
 abbrev pub IsAnyhow : Cause

@@ -7,7 +7,7 @@ use Rattle.cc_base.specs.Steps.{AreAccepted, front_from}
 use Rattle.cc_base.specs.Syntax.{parts_from, parts_of}
 use Rattle.cc_base.proofs.StepLemmas.{AreAccepted-append, front_from-append}
 use Rattle.cc_base.proofs.SyntaxLemmas.{parts_from-append}
-use Rattle.anc_words.specs.Packets.{Packet}
+use Rattle.anc_words.specs.Packets.{AncillaryPacket}
 use Rattle.anc_words.specs.Reading.{anc_syntax, packet_parts as word_parts, word_syntax, words_after}
 use Rattle.anc_words.specs.Words.{AreWords}
 use Rattle.anc_words.specs.WordsFiles.{ArePackets, IsWordsFile}
@@ -30,7 +30,7 @@ use Rattle.words_files.proofs.FrameLemmas.{carry-append}
 use Rattle.words_files.proofs.WordLemmas.{All-split, are_spelled, packets-ten_bits}
 
 -- the parts of words that are packets and the begin of one
-pub parts-split : (bytes whole behind : List ℕ) (packets : List Packet) → words_of bytes ≡ whole ++ behind → ArePackets packets whole
+pub parts-split : (bytes whole behind : List ℕ) (packets : List AncillaryPacket) → words_of bytes ≡ whole ++ behind → ArePackets packets whole
     → parts_of anc_syntax bytes ≡ flat_map word_parts packets ++ parts_from word_syntax [] behind
 parts-split bytes whole behind packets spelled are =
     let reads = Reads-packets packets whole are in
@@ -39,7 +39,7 @@ parts-split bytes whole behind packets spelled are =
     ∙ ap (λ ps. ps ++ parts_from word_syntax [] behind) reads.made
 
 -- whole packets that carry frames, and the begin of one that goes on to packets, begin a file
-begins_by : (v : Verdict CdpPart) (bytes whole behind : List ℕ) (packets : List Packet) (frames : List Frame) → AreWords bytes (whole ++ behind)
+begins_by : (v : Verdict CdpPart) (bytes whole behind : List ℕ) (packets : List AncillaryPacket) (frames : List Frame) → AreWords bytes (whole ++ behind)
     → ArePackets packets whole → CarryFrames packets frames → AreAccepted v [] (flat_map packet_parts frames)
     → Finishes v (newest_first frames) behind → Begins v bytes
 begins_by v bytes whole behind packets frames spelled are carried accepted rest =

@@ -18,7 +18,7 @@ use Rattle.cdp_packets.specs.declared.parts.CdpPart.{CdpPart}
 use Rattle.cdp_packets.specs.PacketParts.{packet_parts}
 use Rattle.cdp_packets.specs.Packets.{Packet as Frame}
 use Rattle.cdp_packets.specs.Reading.{cdp_syntax, judge_cdp, nothing_open, open_after}
-use Rattle.words_files.specs.Catching.{Caught, OpenCaption, caption_verdict, caught_after, caught_in, caught_of, goes_on, nothing_caught, reading_behind, refusal_of, unless_refused, verdict_behind}
+use Rattle.words_files.specs.Catching.{Caught, OpenCaption, caption_verdict, caught_after, caught_in, caught_of, nothing_caught, packet_gone_on, reading_behind, refusal_of, unless_refused, verdict_behind}
 
 -- a refusal stays
 pub caught-refused : (v : Verdict CdpPart) (caught : Caught) (why : Why) (parts : List WordPart) → caught.refused ≡ Some why
@@ -129,7 +129,7 @@ user_step v frames size bytes parts word is accepted =
     let read = reading-accepted (cdp_syntax size) (verdict_behind v frames) (place_by 1) bytes parts (word % 256 ∷ []) (is, tt)
     (subst (AreAccepted (verdict_behind v frames) parts) (sym (append-nil (step_parts step))) accepted) in
     let here = opened frames (open_of size bytes parts) in
-    ap (λ (r : Reading CdpPart). goes_on (why_of r.refusal) (open_of size (bytes ++ word % 256 ∷ []) (parts ++ r.parts)) here) read
+    ap (λ (r : Reading CdpPart). packet_gone_on (why_of r.refusal) (open_of size (bytes ++ word % 256 ∷ []) (parts ++ r.parts)) here) read
     ∙ ap (λ ps. opened frames (open_of size (bytes ++ word % 256 ∷ []) (parts ++ ps))) (append-nil (step_parts step))
 
 -- no reason, no refusal
@@ -137,7 +137,7 @@ none-why : (refusal : Option Refusal) → why_of refusal ≡ None → refusal �
 none-why None none = refl
 none-why (Some refusal) none = absurd cc
 
-none-goes : (w : Option Why) (o : OpenCaption) (caught : Caught) → caught.refused ≡ None → (goes_on w o caught).refused ≡ None → w ≡ None
+none-goes : (w : Option Why) (o : OpenCaption) (caught : Caught) → caught.refused ≡ None → (packet_gone_on w o caught).refused ≡ None → w ≡ None
 none-goes None o caught was none = refl
 none-goes (Some why) o caught was none = absurd cc
 

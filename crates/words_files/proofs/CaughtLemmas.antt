@@ -9,7 +9,7 @@ use Rattle.cc_base.specs.Steps.{AreAccepted, front_from}
 use Rattle.cc_base.specs.Syntax.{AllRead, open_behind, parts_of}
 use Rattle.cc_base.proofs.StepLemmas.{AreAccepted-append, AreAccepted-split, front_from-append}
 use Rattle.anc_words.specs.declared.parts.WordPart.TheVariants as part
-use Rattle.anc_words.specs.Packets.{IsCaption, Packet, user_bytes}
+use Rattle.anc_words.specs.Packets.{AncillaryPacket, IsCaption, user_bytes}
 use Rattle.anc_words.specs.Reading.{anc_syntax, nothing_open as no_word, packet_parts as word_parts}
 use Rattle.anc_words.proofs.ByteLemmas.{file_is_read, what_is_read_is_file}
 use Rattle.cdp_packets.specs.declared.parts.CdpPart.{CdpPart}
@@ -92,7 +92,7 @@ begun_length v frames did sdid size is unrefused =
     ] in cases _ refl
 
 -- a packet that isn't one of captions changes nothing
-pub foreign_caught : (v : Verdict CdpPart) (frames : List (List CdpPart)) (p : Packet) → (IsCaption p → ⊥)
+pub foreign_caught : (v : Verdict CdpPart) (frames : List (List CdpPart)) (p : AncillaryPacket) → (IsCaption p → ⊥)
     → front_from (caught_after v) (idle frames) (word_parts p) ≡ idle frames
 foreign_caught v frames p other =
     ap (λ (c : Caught). front_from (caught_after v) c (map part.User p.user ++ part.End ∷ [])) (foreign_begun v frames p.did p.sdid (length p.user) other)
@@ -108,12 +108,12 @@ caption_body v frames size user read accepted =
     ∙ ap (λ (c : Caught). front_from (caught_after v) c (part.End ∷ [])) (users_caught v frames size [] [] user read accepted)
 
 -- what is read of the user words of a packet that carries a distribution packet
-pub record Carried (p : Packet) (frame : Frame) : Type 0 where
+pub record Carried (p : AncillaryPacket) (frame : Frame) : Type 0 where
   pub can : IsPacketLength (length p.user)
   pub read : AllRead (cdp_syntax (length p.user)) (user_bytes p)
   pub made : parts_of (cdp_syntax (length p.user)) (user_bytes p) ≡ packet_parts frame
 
-pub carried_read : (p : Packet) (frame : Frame) → IsCdp frame (user_bytes p) → Carried p frame
+pub carried_read : (p : AncillaryPacket) (frame : Frame) → IsCdp frame (user_bytes p) → Carried p frame
 carried_read p frame is =
     let size : length (user_bytes p) ≡ length p.user = length-map p.user (λ word. word % 256) in
     let reads = packet_read frame (user_bytes p) is in record {
@@ -123,7 +123,7 @@ carried_read p frame is =
     }
 
 -- a packet of captions adds the parts of what it carries
-pub caption_caught : (v : Verdict CdpPart) (frames : List (List CdpPart)) (p : Packet) (frame : Frame) → IsCaption p → IsCdp frame (user_bytes p)
+pub caption_caught : (v : Verdict CdpPart) (frames : List (List CdpPart)) (p : AncillaryPacket) (frame : Frame) → IsCaption p → IsCdp frame (user_bytes p)
     → AreAccepted v (handed frames) (packet_parts frame)
     → front_from (caught_after v) (idle frames) (word_parts p) ≡ idle (packet_parts frame ∷ frames)
 caption_caught v frames p frame is carries accepted =
@@ -135,12 +135,12 @@ caption_caught v frames p frame is carries accepted =
     ∙ ap (λ ps. idle (ps ∷ frames)) reads.made
 
 -- a packet of captions that isn't refused carries a frame, and the layers above take it
-pub record Keeps (v : Verdict CdpPart) (frames : List (List CdpPart)) (p : Packet) : Type 0 where
+pub record Keeps (v : Verdict CdpPart) (frames : List (List CdpPart)) (p : AncillaryPacket) : Type 0 where
   pub frame : Frame
   pub carries : IsCdp frame (user_bytes p)
   pub accepted : AreAccepted v (handed frames) (packet_parts frame)
 
-pub caption_kept : (v : Verdict CdpPart) (frames : List (List CdpPart)) (p : Packet) → IsCaption p
+pub caption_kept : (v : Verdict CdpPart) (frames : List (List CdpPart)) (p : AncillaryPacket) → IsCaption p
     → (front_from (caught_after v) (idle frames) (word_parts p)).refused ≡ None → Keeps v frames p
 caption_kept v frames p is unrefused =
     let size = length p.user in
@@ -165,7 +165,7 @@ newest_first-cons frame frames before =
     ∙ ap (λ fs. fs ++ before) (sym (reverse-append (packet_parts frame ∷ []) (map packet_parts frames)))
 
 -- packets that carry frames are caught
-pub packets_caught : (v : Verdict CdpPart) (before : List (List CdpPart)) (packets : List Packet) (frames : List Frame) → CarryFrames packets frames
+pub packets_caught : (v : Verdict CdpPart) (before : List (List CdpPart)) (packets : List AncillaryPacket) (frames : List Frame) → CarryFrames packets frames
     → AreAccepted v (handed before) (flat_map packet_parts frames)
     → front_from (caught_after v) (idle before) (flat_map word_parts packets) ≡ idle (newest_first frames ++ before)
 packets_caught v before _ _ none accepted = refl
@@ -182,12 +182,12 @@ packets_caught v before _ _ (foreign p packets frames other rest) accepted =
     ∙ packets_caught v before packets frames rest accepted
 
 -- packets none of whose parts is refused carry frames, and the layers above take these
-pub record AllKept (v : Verdict CdpPart) (before : List (List CdpPart)) (packets : List Packet) : Type 0 where
+pub record AllKept (v : Verdict CdpPart) (before : List (List CdpPart)) (packets : List AncillaryPacket) : Type 0 where
   pub frames : List Frame
   pub carried : CarryFrames packets frames
   pub accepted : AreAccepted v (handed before) (flat_map packet_parts frames)
 
-pub packets_kept : (v : Verdict CdpPart) (before : List (List CdpPart)) (packets : List Packet)
+pub packets_kept : (v : Verdict CdpPart) (before : List (List CdpPart)) (packets : List AncillaryPacket)
     → (front_from (caught_after v) (idle before) (flat_map word_parts packets)).refused ≡ None → AllKept v before packets
 packets_kept v before [] unrefused = record { frames = []; carried = none; accepted = tt }
 packets_kept v before (p ∷ packets) unrefused =

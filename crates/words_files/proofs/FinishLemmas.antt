@@ -11,7 +11,7 @@ use Rattle.cc_base.proofs.StepLemmas.{AreAccepted-append}
 use Rattle.cc_base.proofs.SyntaxLemmas.{Reads-append, parts_from-append}
 use Rattle.anc_words.specs.declared.parts.WordPart.TheVariants as part
 use Rattle.anc_words.specs.EightBitWords.{IsEightBit}
-use Rattle.anc_words.specs.Packets.{IsPacket, Packet, user_bytes}
+use Rattle.anc_words.specs.Packets.{AncillaryPacket, IsPacket, user_bytes}
 use Rattle.anc_words.specs.Reading.{is_caption, is_eight_bit, word_syntax}
 use Rattle.anc_words.specs.WordsFiles.{ArePackets}
 use Rattle.anc_words.specs.Writing.{checksum_word, eight_bit_word}
@@ -34,7 +34,7 @@ use Rattle.words_files.proofs.CaughtLemmas.{begun_length, caption_begun, caption
 -- words that begin packets, with what these carry
 pub record Finishes (v : Verdict CdpPart) (before : List (List CdpPart)) (front : List ℕ) : Type 0 where
   pub more : List ℕ
-  pub packets : List Packet
+  pub packets : List AncillaryPacket
   pub are : ArePackets packets (front ++ more)
   pub frames : List Frame
   pub carried : CarryFrames packets frames

@@ -1,13 +1,13 @@
 -- The frames of a words file: the bytes have one list of them, and files behind one another are a file.
 use Rattle.std.proofs.Common.{◌≡◌, ℕ, List, [], ◌++◌, refl, subst}
-use Rattle.anc_words.specs.Packets.{Packet, user_bytes}
+use Rattle.anc_words.specs.Packets.{AncillaryPacket, user_bytes}
 use Rattle.anc_words.proofs.WordsFileLemmas.{IsWordsFile-append, IsWordsFile-unique}
 use Rattle.cdp_packets.specs.Packets.{Packet as Frame}
 use Rattle.cdp_packets.proofs.PacketLemmas.{packet_once}
 use Rattle.words_files.specs.Frames.{CarryFrames, IsFileOf, none, caption, foreign}
 
 -- packets carry one list of frames
-pub carry_once : (packets : List Packet) (frames others : List Frame) → CarryFrames packets frames → CarryFrames packets others → frames ≡ others
+pub carry_once : (packets : List AncillaryPacket) (frames others : List Frame) → CarryFrames packets frames → CarryFrames packets others → frames ≡ others
 carry_once _ _ _ none none = refl
 carry_once _ _ _ (caption packet packets frame frames is carries rest) (caption _ _ other others also carries_other rest_other) =
     let same : frame ≡ other = (packet_once frame other (user_bytes packet) (user_bytes packet) [] [] carries carries_other refl).packet in
@@ -23,7 +23,7 @@ one_list frames others bytes is other =
     carry_once other.packets frames others (subst (λ packets. CarryFrames packets frames) same is.carried) other.carried
 
 -- packets behind packets carry frames behind frames
-pub carry-append : (packets more : List Packet) (frames others : List Frame) → CarryFrames packets frames → CarryFrames more others
+pub carry-append : (packets more : List AncillaryPacket) (frames others : List Frame) → CarryFrames packets frames → CarryFrames more others
     → CarryFrames (packets ++ more) (frames ++ others)
 carry-append _ more _ others none rest = rest
 carry-append _ more _ others (caption packet packets frame frames is carries behind) rest =

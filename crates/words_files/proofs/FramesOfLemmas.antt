@@ -1,7 +1,7 @@
 -- The frames that bytes have brought: every list of bytes has some, they are one list, and more bytes bring more.
 use Rattle.std.proofs.Common.{◌≡◌, ℕ, ◌⊎◌, inl, inr, List, [], ◌∷◌, ◌++◌, length, refl, ap, sym, subst, ◌∙◌, append_assoc, append-nil, length-append, arith}
 use Rattle.cc_base.specs.Feeding.{Verdict}
-use Rattle.anc_words.specs.Packets.{Packet}
+use Rattle.anc_words.specs.Packets.{AncillaryPacket}
 use Rattle.anc_words.specs.WordsFiles.{IsPacketBytes, IsWordsFile}
 use Rattle.anc_words.proofs.PacketLemmas.{IsPacketBytes-unique}
 use Rattle.anc_words.proofs.WordsFileLemmas.{IsWordsFile-first}
@@ -39,7 +39,7 @@ empty_file bytes is = no_words bytes (subst (AreWords bytes) is.are_packets is.s
 some_words : (bytes words : List ℕ) (word : ℕ) (rest : List ℕ) → AreWords bytes words → words ≡ word ∷ rest → bytes ≡ [] → ⊥
 some_words bytes words word rest are spelled empty = subst (λ ws. AreWords [] ws) spelled (subst (λ bs. AreWords bs words) empty are)
 
-pub some_packet : (p : Packet) (bytes : List ℕ) → IsPacketBytes p bytes → bytes ≡ [] → ⊥
+pub some_packet : (p : AncillaryPacket) (bytes : List ℕ) → IsPacketBytes p bytes → bytes ≡ [] → ⊥
 some_packet p bytes is = some_words bytes is.words _ _ is.spelled is.is_packet.spelled
 
 -- the first of two lists is empty where both together are
@@ -48,12 +48,12 @@ first_empty [] rest empty = refl
 first_empty (b ∷ front) rest empty = absurd cc
 
 -- a file at the front of a file is its first packets, and what is behind it is a file of the others
-pub record Behind (packets others : List Packet) (more : List ℕ) : Type 0 where
-  pub rest : List Packet
+pub record Behind (packets others : List AncillaryPacket) (more : List ℕ) : Type 0 where
+  pub rest : List AncillaryPacket
   pub spelled : others ≡ packets ++ rest
   pub file : IsWordsFile rest more
 
-pub file_front : (packets others : List Packet) (bytes more : List ℕ) → IsWordsFile packets bytes → IsWordsFile others (bytes ++ more) → Behind packets others more
+pub file_front : (packets others : List AncillaryPacket) (bytes more : List ℕ) → IsWordsFile packets bytes → IsWordsFile others (bytes ++ more) → Behind packets others more
 file_front [] others bytes more is whole =
     record { rest = others; spelled = refl; file = subst (λ bs. IsWordsFile others (bs ++ more)) (empty_file bytes is) whole }
 file_front (p ∷ packets) [] bytes more is whole =
@@ -69,12 +69,12 @@ file_front (p ∷ packets) (q ∷ others) bytes more is whole =
     record { rest = next.rest; spelled = ap (λ r. q ∷ r) next.spelled ∙ ap (λ r. r ∷ (packets ++ next.rest)) (sym packet); file = next.file }
 
 -- packets that carry frames, and more packets: their frames are these and more
-pub record CarriesMore (rest : List Packet) (frames others : List Frame) : Type 0 where
+pub record CarriesMore (rest : List AncillaryPacket) (frames others : List Frame) : Type 0 where
   pub behind : List Frame
   pub spelled : others ≡ frames ++ behind
   pub carried : CarryFrames rest behind
 
-pub carry_front : (packets rest : List Packet) (frames others : List Frame) → CarryFrames packets frames → CarryFrames (packets ++ rest) others
+pub carry_front : (packets rest : List AncillaryPacket) (frames others : List Frame) → CarryFrames packets frames → CarryFrames (packets ++ rest) others
     → CarriesMore rest frames others
 carry_front _ rest _ others none whole = record { behind = others; spelled = refl; carried = whole }
 carry_front _ rest _ _ (caption packet packets frame frames is carries behind) (caption _ _ other others also carries_other whole) =

@@ -20,7 +20,7 @@ use Rattle.anc_words.proofs.WordsFileLemmas.{IsWordsFile-nil}
 use Rattle.cdp_packets.specs.declared.parts.CdpPart.{CdpPart}
 use Rattle.cdp_packets.specs.PacketParts.{packet_parts}
 use Rattle.cdp_packets.specs.Packets.{Packet as Frame}
-use Rattle.words_files.specs.Catching.{Caught, OpenCaption, caption_verdict, caught_after, caught_in, caught_of, ended_with, goes_on, is_packet_length, nothing_caught, refusal_of, taken_in, unless_refused}
+use Rattle.words_files.specs.Catching.{Caught, OpenCaption, caption_verdict, caught_after, caught_in, caught_of, ended_with, is_packet_length, nothing_caught, packet_gone_on, refusal_of, taken_in, unless_refused}
 use Rattle.words_files.specs.Frames.{none}
 use Rattle.words_files.specs.FramesOf.{AreFramesOf}
 use Rattle.words_files.specs.Offences.{IsFileUnder}
@@ -83,7 +83,7 @@ same_if : (test : Bool) (one two caught : Caught) → one.frames ≡ caught.fram
 same_if true one two caught first second = first
 same_if false one two caught first second = second
 
-goes_on_same : (why : Option Why) (o : OpenCaption) (caught : Caught) → (goes_on why o caught).frames ≡ caught.frames
+goes_on_same : (why : Option Why) (o : OpenCaption) (caught : Caught) → (packet_gone_on why o caught).frames ≡ caught.frames
 goes_on_same None o caught = refl
 goes_on_same (Some why) o caught = refl
 

@@ -7,7 +7,7 @@ use Rattle.cc_base.specs.Feeding.{Verdict}
 use Rattle.cc_base.specs.Steps.{AreAccepted}
 use Rattle.cc_base.specs.Syntax.{open_behind}
 use Rattle.cc_base.proofs.StepLemmas.{AreAccepted-split}
-use Rattle.anc_words.specs.Packets.{IsCaption, Packet}
+use Rattle.anc_words.specs.Packets.{AncillaryPacket, IsCaption}
 use Rattle.anc_words.specs.WordsFiles.{IsPacketBytes, IsWordsFile}
 use Rattle.anc_words.specs.Ending.{bytes_to_end}
 use Rattle.anc_words.specs.Reading.{anc_syntax}
@@ -65,9 +65,9 @@ no_end v frames before more few no_file are = record {
 }
 
 -- the last packet of packets
-pub record Last (packets : List Packet) (bytes : List ℕ) : Type 0 where
-  pub earlier : List Packet
-  pub packet : Packet
+pub record Last (packets : List AncillaryPacket) (bytes : List ℕ) : Type 0 where
+  pub earlier : List AncillaryPacket
+  pub packet : AncillaryPacket
   pub spelled : packets ≡ earlier ++ packet ∷ []
   pub front : List ℕ
   pub own : List ℕ
@@ -75,7 +75,7 @@ pub record Last (packets : List Packet) (bytes : List ℕ) : Type 0 where
   pub file : IsWordsFile earlier front
   pub is_packet : IsPacketBytes packet own
 
-last_of : (p : Packet) (packets : List Packet) (bytes : List ℕ) → IsWordsFile (p ∷ packets) bytes → Last (p ∷ packets) bytes
+last_of : (p : AncillaryPacket) (packets : List AncillaryPacket) (bytes : List ℕ) → IsWordsFile (p ∷ packets) bytes → Last (p ∷ packets) bytes
 last_of p [] bytes is =
     let (front, rest, spelled, is_packet, file) = IsWordsFile-first p [] bytes is in
     record {
@@ -103,14 +103,14 @@ last_of p (q ∷ packets) bytes is =
     }
 
 -- the frames of packets, and those of packets behind them
-pub record Carries (packets rest : List Packet) (frames : List Frame) : Type 0 where
+pub record Carries (packets rest : List AncillaryPacket) (frames : List Frame) : Type 0 where
   pub first : List Frame
   pub behind : List Frame
   pub spelled : frames ≡ first ++ behind
   pub carried : CarryFrames packets first
   pub others : CarryFrames rest behind
 
-carry_split : (packets rest : List Packet) (frames : List Frame) → CarryFrames (packets ++ rest) frames → Carries packets rest frames
+carry_split : (packets rest : List AncillaryPacket) (frames : List Frame) → CarryFrames (packets ++ rest) frames → Carries packets rest frames
 carry_split [] rest frames whole = record { first = []; behind = frames; spelled = refl; carried = none; others = whole }
 carry_split (p ∷ packets) rest _ (caption _ _ frame frames is carries whole) =
     let next = carry_split packets rest frames whole in
@@ -120,8 +120,8 @@ carry_split (p ∷ packets) rest frames (foreign _ _ _ isnt whole) =
     record { first = next.first; behind = next.behind; spelled = next.spelled; carried = foreign p packets next.first isnt next.carried; others = next.others }
 
 -- the last packet begins no later than the bytes before end
-past_last : (before more front own : List ℕ) (q : Packet) → length more ≤ bytes_to_end (open_behind anc_syntax before) → Past before more front own
-    → (packets : List Packet) → IsWordsFile packets front → IsPacketBytes q own → ⊥
+past_last : (before more front own : List ℕ) (q : AncillaryPacket) → length more ≤ bytes_to_end (open_behind anc_syntax before) → Past before more front own
+    → (packets : List AncillaryPacket) → IsWordsFile packets front → IsPacketBytes q own → ⊥
 past_last before more front [] q few past packets is is_packet = some_packet q [] is_packet refl
 past_last before more front (b ∷ own) q few past packets is is_packet =
     let e = ap length past.parts in
@@ -130,12 +130,12 @@ past_last before more front (b ∷ own) q few past packets is is_packet =
     ends_no_sooner before past.some packets any (omega (arith, e, long, few)) (subst (IsWordsFile packets) past.longer is)
 
 -- a list behind the same front
-drop_front : (front xs ys : List Packet) → front ++ xs ≡ front ++ ys → xs ≡ ys
+drop_front : (front xs ys : List AncillaryPacket) → front ++ xs ≡ front ++ ys → xs ≡ ys
 drop_front [] xs ys same = same
 drop_front (p ∷ front) xs ys same = drop_front front xs ys cc
 
 -- one packet is the first list or the second
-one_of_two : (p : Packet) (xs ys : List Packet) → p ∷ [] ≡ xs ++ ys → (xs ≡ []) ⊎ (ys ≡ [])
+one_of_two : (p : AncillaryPacket) (xs ys : List AncillaryPacket) → p ∷ [] ≡ xs ++ ys → (xs ≡ []) ⊎ (ys ≡ [])
 one_of_two p [] ys is = inl refl
 one_of_two p (x ∷ []) ys is = inr (let last : [] ≡ ys = cc in sym last)
 one_of_two p (x ∷ y ∷ xs) ys is = absurd (let clash : [] ≡ y ∷ (xs ++ ys) = cc in cc)
@@ -146,7 +146,7 @@ second_empty [] rest is = is
 second_empty (b ∷ front) rest is = absurd cc
 
 -- no file at the front of the bytes before is longer than the packets before the last one
-shorter : (qs os earlier : List Packet) (q : Packet) (e z other rest more : List ℕ) → qs ≡ earlier ++ q ∷ [] → 0 < length more
+shorter : (qs os earlier : List AncillaryPacket) (q : AncillaryPacket) (e z other rest more : List ℕ) → qs ≡ earlier ++ q ∷ [] → 0 < length more
     → IsWordsFile earlier e → IsWordsFile os other → other ≡ e ++ z → IsWordsFile qs (other ++ (rest ++ more)) → length other ≤ length e
 shorter qs os earlier q e z other rest more spelled any file is longer whole =
     let first = file_front earlier os e z file (subst (IsWordsFile os) longer is) in
@@ -163,7 +163,7 @@ shorter qs os earlier q e z other rest more spelled any file is longer whole =
     ]
 
 -- the frames before the last packet are those of the packets before it
-before_last : (v : Verdict CdpPart) (first : List Frame) (qs earlier : List Packet) (q : Packet) (e some before more : List ℕ) → qs ≡ earlier ++ q ∷ []
+before_last : (v : Verdict CdpPart) (first : List Frame) (qs earlier : List AncillaryPacket) (q : AncillaryPacket) (e some before more : List ℕ) → qs ≡ earlier ++ q ∷ []
     → 0 < length more → IsFileUnder v first e → IsWordsFile earlier e → before ≡ e ++ some → IsWordsFile qs (before ++ more) → AreFramesOf v first before
 before_last v first qs earlier q e some before more spelled any file earlier_file parted whole = record {
   file = e;
@@ -181,23 +181,23 @@ before_last v first qs earlier q e some before more spelled any file earlier_fil
 }
 
 -- what one packet brings
-pub record Brings (packet : Packet) (frames more : List Frame) : Type 0 where
+pub record Brings (packet : AncillaryPacket) (frames more : List Frame) : Type 0 where
   pub brings : (IsCaption packet × ((frame : Frame) × (more ≡ frames ++ frame ∷ []))) ⊎ ((IsCaption packet → ⊥) × (more ≡ frames))
 
-brings_one : (packet : Packet) (frames behind more : List Frame) → CarryFrames (packet ∷ []) behind → more ≡ frames ++ behind → Brings packet frames more
+brings_one : (packet : AncillaryPacket) (frames behind more : List Frame) → CarryFrames (packet ∷ []) behind → more ≡ frames ++ behind → Brings packet frames more
 brings_one packet frames _ more (caption _ _ frame _ is carries none) spelled = record { brings = inl (is, (frame, spelled)) }
 brings_one packet frames _ more (foreign _ _ _ isnt none) spelled = record { brings = inr (isnt, spelled ∙ append-nil frames) }
 
 -- bytes up to the end of a packet: the last packet, and what it brings
 pub record EndsBringing (frames more : List Frame) (bytes : List ℕ) : Type 0 where
-  pub earlier : List Packet
-  pub packet : Packet
+  pub earlier : List AncillaryPacket
+  pub packet : AncillaryPacket
   pub are : IsWordsFile (earlier ++ packet ∷ []) bytes
   pub brings : Brings packet frames more
 
 -- the packets of a file, of which there is one
 ends_last : (v : Verdict CdpPart) (frames more_frames : List Frame) (before more : List ℕ) → 0 < length more → length more ≤ bytes_to_end (open_behind anc_syntax before)
-    → AreFramesOf v frames before → IsFileUnder v more_frames (before ++ more) → (qs : List Packet) → IsWordsFile qs (before ++ more) → CarryFrames qs more_frames
+    → AreFramesOf v frames before → IsFileUnder v more_frames (before ++ more) → (qs : List AncillaryPacket) → IsWordsFile qs (before ++ more) → CarryFrames qs more_frames
     → Last qs (before ++ more) → EndsBringing frames more_frames (before ++ more)
 ends_last v frames more_frames before more any few are is qs file carried last =
     let carries = carry_split last.earlier (last.packet ∷ []) more_frames (subst (λ ps. CarryFrames ps more_frames) last.spelled carried) in
@@ -223,7 +223,7 @@ pub ends_bringing : (v : Verdict CdpPart) (frames more_frames : List Frame) (bef
     → length more ≤ bytes_to_end (open_behind anc_syntax before) → AreFramesOf v frames before → IsFileUnder v more_frames (before ++ more)
     → EndsBringing frames more_frames (before ++ more)
 ends_bringing v frames more_frames before more any few are is =
-    let cases : (qs : List Packet) → IsWordsFile qs (before ++ more) → CarryFrames qs more_frames → EndsBringing frames more_frames (before ++ more) = elim [
+    let cases : (qs : List AncillaryPacket) → IsWordsFile qs (before ++ more) → CarryFrames qs more_frames → EndsBringing frames more_frames (before ++ more) = elim [
       | [] ↦ λ file carried.
           let empty = ap length (second_empty before more (empty_file (before ++ more) file)) in absurd (omega (arith, empty, any))
       | (q ∷ qs) ↦ λ file carried. ends_last v frames more_frames before more any few are is (q ∷ qs) file carried (last_of q qs (before ++ more) file)
@@ -235,7 +235,7 @@ pub record AtMostOne (v : Verdict CdpPart) (frames : List Frame) (bytes : List �
   pub are : AreFramesOf v more bytes
   pub brings : (more ≡ frames) ⊎ ((frame : Frame) × (more ≡ frames ++ frame ∷ []))
 
-at_most : (v : Verdict CdpPart) (frames more_frames : List Frame) (bytes : List ℕ) (packet : Packet) → IsFileUnder v more_frames bytes
+at_most : (v : Verdict CdpPart) (frames more_frames : List Frame) (bytes : List ℕ) (packet : AncillaryPacket) → IsFileUnder v more_frames bytes
     → (IsCaption packet × ((frame : Frame) × (more_frames ≡ frames ++ frame ∷ []))) ⊎ ((IsCaption packet → ⊥) × (more_frames ≡ frames))
     → AtMostOne v frames bytes
 at_most v frames more_frames bytes packet is (inl (_, (frame, spelled))) =

@@ -5,7 +5,7 @@ use Rattle.cc_base.specs.Steps.{front_from}
 use Rattle.cc_base.specs.Syntax.{AllRead, AllTaken, open_behind}
 use Rattle.cc_base.proofs.StepLemmas.{front_from-append}
 use Rattle.cc_base.proofs.SyntaxLemmas.{AllTaken-split}
-use Rattle.anc_words.specs.Packets.{IsPacket, Packet}
+use Rattle.anc_words.specs.Packets.{AncillaryPacket, IsPacket}
 use Rattle.anc_words.specs.Reading.{Open, anc_syntax, nothing_open, open_after, word_syntax, words_after}
 use Rattle.anc_words.specs.Words.{AreWords, words_of}
 use Rattle.anc_words.specs.WordsFiles.{ArePackets}
@@ -17,7 +17,7 @@ use Rattle.words_files.specs.Reasons.{AreOpenBehind}
 use Rattle.words_files.proofs.WordLemmas.{are_spelled}
 
 -- no whole packet begins with words that begin one
-begun_none : (words : List ℕ) → IsBegun words → (packet : Packet) (front rest : List ℕ) → words ≡ front ++ rest → IsPacket packet front → ⊥
+begun_none : (words : List ℕ) → IsBegun words → (packet : AncillaryPacket) (front rest : List ℕ) → words ≡ front ++ rest → IsPacket packet front → ⊥
 begun_none words begun p front rest spelled is =
     let user = (p.user ++ is.checksum ∷ []) ++ rest in
     let long : words ≡ 0x000 ∷ 0x3FF ∷ 0x3FF ∷ is.did ∷ is.sdid ∷ is.count ∷ user = spelled ∙ ap (λ ws. ws ++ rest) is.spelled in
@@ -45,12 +45,12 @@ open_exists bytes are read whole =
     subst (λ ws. AreOpenBehind ws bytes) (sym (ap (λ (o : Open). o.words) (open-words_of [] bytes))) is
 
 -- words with which no whole packet begins stay open
-stay_open : (words : List ℕ) → AllTaken word_syntax [] words → ((packet : Packet) (front rest : List ℕ) → words ≡ front ++ rest → IsPacket packet front → ⊥)
+stay_open : (words : List ℕ) → AllTaken word_syntax [] words → ((packet : AncillaryPacket) (front rest : List ℕ) → words ≡ front ++ rest → IsPacket packet front → ⊥)
     → front_from words_after [] words ≡ words
 stay_open words taken none_whole =
     let behind = front_from words_after [] words in
     let splits = sound words taken in
-    let cases : (ps : List Packet) → ArePackets ps splits.whole → behind ≡ words = elim [
+    let cases : (ps : List AncillaryPacket) → ArePackets ps splits.whole → behind ≡ words = elim [
       | [] ↦ λ empty. sym (splits.spelled ∙ ap (λ ws. ws ++ behind) empty)
       | (p ∷ ps) ↦ λ are.
           let (front, rest, spelled, is, _) = are in

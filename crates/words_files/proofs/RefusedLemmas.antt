@@ -11,7 +11,7 @@ use Rattle.cc_base.specs.Syntax.{AllTaken, Syntax, judge_by, open_behind, parts_
 use Rattle.cc_base.proofs.StepLemmas.{front_from-append, hand-none}
 use Rattle.anc_words.specs.declared.parts.WordPart.{WordPart}
 use Rattle.anc_words.specs.declared.parts.WordPart.TheVariants as part
-use Rattle.anc_words.specs.Packets.{IsCaption, Packet, user_bytes}
+use Rattle.anc_words.specs.Packets.{AncillaryPacket, IsCaption, user_bytes}
 use Rattle.anc_words.specs.Reading.{anc_syntax, packet_parts as word_parts}
 use Rattle.anc_words.proofs.ByteLemmas.{file_is_read}
 use Rattle.cdp_packets.specs.declared.parts.CdpPart.{CdpPart}
@@ -19,7 +19,7 @@ use Rattle.cdp_packets.specs.PacketParts.{packet_parts}
 use Rattle.cdp_packets.specs.Packets.{IsCdp, Packet as Frame}
 use Rattle.cdp_packets.specs.Reading.{cdp_syntax, judge_cdp, nothing_open, open_after}
 use Rattle.cdp_packets.proofs.PacketLemmas.{packet_once}
-use Rattle.words_files.specs.Catching.{Caught, OpenCaption, caption_verdict, caught_after, caught_of, ended_with, goes_on, nothing_caught, reading_behind, refusal_of, unless_refused, verdict_behind}
+use Rattle.words_files.specs.Catching.{Caught, OpenCaption, caption_verdict, caught_after, caught_of, ended_with, nothing_caught, packet_gone_on, reading_behind, refusal_of, unless_refused, verdict_behind}
 use Rattle.words_files.specs.Frames.{CarryFrames, IsFileOf, none as no_packet, caption, foreign}
 use Rattle.words_files.specs.Reasons.{IsRefusedFor}
 use Rattle.words_files.proofs.CatchingLemmas.{caught-refused, handed, handed-cons, idle, lows, open_of, opened, user_kept, user_step}
@@ -167,7 +167,7 @@ refuses_caught v above (p ∷ parts) reason (inr (_, rest)) =
     ap (λ (ps : List WordPart). (caught_of v ps).refused) (sym (append_assoc above (p ∷ []) parts)) ∙ refuses_caught v (above ++ p ∷ []) parts reason rest
 
 -- a byte that is refused
-pub goes-why : (w : Option Why) (o : OpenCaption) (caught : Caught) (reason : Why) → caught.refused ≡ None → (goes_on w o caught).refused ≡ Some reason → w ≡ Some reason
+pub goes-why : (w : Option Why) (o : OpenCaption) (caught : Caught) (reason : Why) → caught.refused ≡ None → (packet_gone_on w o caught).refused ≡ Some reason → w ≡ Some reason
 goes-why None o caught reason none is = let clash : None ≡ Some reason = sym none ∙ is in absurd cc
 goes-why (Some why) o caught reason none is = is
 
@@ -221,7 +221,7 @@ refused_behind v frames above (p ∷ parts) reason (inr (none, rest)) =
     inr (none, subst (λ ps. RefusesFor v ps parts reason) (sym (append_assoc (handed frames) above (p ∷ []))) (refused_behind v frames (above ++ p ∷ []) parts reason rest))
 
 -- a packet that carries a frame
-caption_refused : (v : Verdict CdpPart) (before : List (List CdpPart)) (p : Packet) (frame : Frame) (reason : Why) → IsCaption p → IsCdp frame (user_bytes p)
+caption_refused : (v : Verdict CdpPart) (before : List (List CdpPart)) (p : AncillaryPacket) (frame : Frame) (reason : Why) → IsCaption p → IsCdp frame (user_bytes p)
     → (front_from (caught_after v) (idle before) (word_parts p)).refused ≡ Some reason → RefusesFor v (handed before) (packet_parts frame) reason
 caption_refused v before p frame reason is carries some =
     let reads = carried_read p frame carries in
@@ -241,7 +241,7 @@ caption_refused v before p frame reason is carries some =
     ] in cases _ refl
 
 -- packets that carry frames
-packets_refused : (v : Verdict CdpPart) (before : List (List CdpPart)) (packets : List Packet) (frames : List Frame) (reason : Why) → CarryFrames packets frames
+packets_refused : (v : Verdict CdpPart) (before : List (List CdpPart)) (packets : List AncillaryPacket) (frames : List Frame) (reason : Why) → CarryFrames packets frames
     → (front_from (caught_after v) (idle before) (flat_map word_parts packets)).refused ≡ Some reason → RefusesFor v (handed before) (flat_map packet_parts frames) reason
 packets_refused v before _ _ reason no_packet some = absurd cc
 packets_refused v before _ _ reason (caption p packets frame frames is carries rest) some =

@@ -4,7 +4,7 @@ use Rattle.std.proofs.lemmas.List.Elements.{All-append, All-cons, All-head, All-
 use Rattle.std.specs.List.{All}
 use Rattle.cc_base.specs.declared.why.Why.TheVariants as why
 use Rattle.cc_base.specs.Syntax.{AllRead, AllTaken}
-use Rattle.anc_words.specs.Packets.{Packet}
+use Rattle.anc_words.specs.Packets.{AncillaryPacket}
 use Rattle.anc_words.specs.Reading.{anc_syntax, judge_ten_bits, word_syntax, words_after}
 use Rattle.anc_words.specs.Words.{AreWords}
 use Rattle.anc_words.specs.WordsFiles.{ArePackets}
@@ -44,7 +44,7 @@ AreWords-whole (high ∷ low ∷ bytes) [] are = absurd are
 AreWords-whole (high ∷ low ∷ bytes) (word ∷ words) (_, are) = let rest = AreWords-whole bytes words are in omega arith
 
 -- the words of packets have ten bits
-pub packets-ten_bits : (packets : List Packet) (words : List ℕ) → ArePackets packets words → All (λ word. word < 1024) words
+pub packets-ten_bits : (packets : List AncillaryPacket) (words : List ℕ) → ArePackets packets words → All (λ word. word < 1024) words
 packets-ten_bits [] words are = subst (All (λ word. word < 1024)) (sym are) (All-nil (λ word. word < 1024))
 packets-ten_bits (p ∷ packets) words (front, rest, spelled, is, are) =
     subst (All (λ word. word < 1024)) (sym spelled)

@@ -41,8 +41,8 @@ abbrev pub is_packet_length : ℕ → Bool
 is_packet_length size = nat_le 11 size && not (size == 12)
 
 -- a packet begins
-abbrev pub begun : ℕ → ℕ → ℕ → Caught → Caught
-begun did sdid count caught =
+abbrev pub packet_begun : ℕ → ℕ → ℕ → Caught → Caught
+packet_begun did sdid count caught =
     if (did == 0x61) && (sdid == 0x01)
     then (if is_packet_length count
     then record caught { open_caption = Some (record { size = count; bytes = []; parts = [] }) }
@@ -59,16 +59,16 @@ reading_behind verdict frames o byte =
     reading (judge_by (cdp_syntax o.size)) (verdict_behind verdict frames) (place_by 1) o.bytes o.parts (byte ∷ [])
 
 -- the open packet goes on, unless its byte was refused
-abbrev pub goes_on : Option Why → OpenCaption → Caught → Caught
-goes_on None o caught = record caught { open_caption = Some o }
-goes_on (Some why) o caught = record caught { refused = Some why }
+abbrev pub packet_gone_on : Option Why → OpenCaption → Caught → Caught
+packet_gone_on None o caught = record caught { open_caption = Some o }
+packet_gone_on (Some why) o caught = record caught { refused = Some why }
 
 -- one more byte comes
 abbrev pub taken_in : Verdict CdpPart → Option OpenCaption → ℕ → Caught → Caught
 taken_in verdict None byte caught = caught
 taken_in verdict (Some o) byte caught =
     let read = reading_behind verdict caught.frames o byte in
-    goes_on (why_of read.refusal) (record { size = o.size; bytes = o.bytes ++ byte ∷ []; parts = o.parts ++ read.parts }) caught
+    packet_gone_on (why_of read.refusal) (record { size = o.size; bytes = o.bytes ++ byte ∷ []; parts = o.parts ++ read.parts }) caught
 
 -- one more byte comes in the packet that is open, if one is
 abbrev pub taken : Verdict CdpPart → ℕ → Caught → Caught
@@ -80,14 +80,14 @@ ended_with None caught = caught
 ended_with (Some o) caught = record caught { open_caption = None; frames = o.parts ∷ caught.frames }
 
 -- the packet that is open ends, if one is, and is a frame where it is one of captions
-abbrev pub ended : Caught → Caught
-ended caught = ended_with caught.open_caption caught
+abbrev pub packet_ended : Caught → Caught
+packet_ended caught = ended_with caught.open_caption caught
 
 -- one more part comes
 abbrev pub behind_part : Verdict CdpPart → WordPart → Caught → Caught
-behind_part verdict (part.Start did sdid count) caught = begun did sdid count caught
+behind_part verdict (part.Start did sdid count) caught = packet_begun did sdid count caught
 behind_part verdict (part.User word) caught = taken verdict (word % 256) caught
-behind_part verdict part.End caught = ended caught
+behind_part verdict part.End caught = packet_ended caught
 
 -- a refusal is kept, with what was caught before it
 abbrev pub unless_refused : Verdict CdpPart → Option Why → WordPart → Caught → Caught

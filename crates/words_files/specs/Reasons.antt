@@ -7,7 +7,7 @@ use Rattle.cc_base.specs.declared.why.Why.TheVariants as why
 use Rattle.cc_base.specs.Feeding.{Verdict}
 use Rattle.cc_base.specs.Steps.{AreAccepted}
 use Rattle.anc_words.specs.EightBitWords.{IsEightBit}
-use Rattle.anc_words.specs.Packets.{IsPacket, Packet}
+use Rattle.anc_words.specs.Packets.{AncillaryPacket, IsPacket}
 use Rattle.anc_words.specs.Refusals.{WordOffends}
 use Rattle.anc_words.specs.Words.{AreWords}
 use Rattle.anc_words.specs.WordsFiles.{IsWordsFile}
@@ -21,13 +21,13 @@ use Rattle.words_files.specs.Frames.{IsFileOf}
 -- these words are open behind the bytes: the bytes are whole packets, and behind them these words, with which no whole packet
 -- begins
 pub record AreOpenBehind (words bytes : List ℕ) : Type 0 where
-  pub packets : List Packet
+  pub packets : List AncillaryPacket
   pub file : List ℕ
   pub behind : List ℕ
   pub spelled : bytes ≡ file ++ behind
   pub whole : IsWordsFile packets file
   pub are : AreWords behind words
-  pub none_whole : (packet : Packet) (front rest : List ℕ) → words ≡ front ++ rest → IsPacket packet front → ⊥
+  pub none_whole : (packet : AncillaryPacket) (front rest : List ℕ) → words ≡ front ++ rest → IsPacket packet front → ⊥
 
 -- behind these words stands the count of a packet of captions
 abbrev pub CaptionCountIsNext : List ℕ → Type 0

@@ -33,20 +33,20 @@ abbrev pub example_cue : Kind → ℕ → ℕ → Option ℕ → List Run → Cu
 example_cue kind load show hide runs = record { load = load; show = show; hide = hide; kind = kind; runs = runs }
 
 -- a white letter A at the left of row 15
-abbrev pub letter : List Run
-letter = example_run colour.White 15 0 (65 ∷ []) ∷ []
+abbrev pub example_letter : List Run
+example_letter = example_run colour.White 15 0 (65 ∷ []) ∷ []
 
 -- a pop-on cue
 abbrev pub pop : Chan → ℕ → ℕ → ℕ → Cue
-pop channel load show hide = example_cue (kind.Pop channel) load show (Some hide) letter
+pop channel load show hide = example_cue (kind.Pop channel) load show (Some hide) example_letter
 
 -- a paint-on cue
 abbrev pub paint : Chan → ℕ → ℕ → ℕ → Cue
-paint channel load show hide = example_cue (kind.Paint channel) load show (Some hide) letter
+paint channel load show hide = example_cue (kind.Paint channel) load show (Some hide) example_letter
 
 -- a roll-up cue of so many rows
 abbrev pub roll : Chan → ℕ → ℕ → ℕ → Option ℕ → Cue
-roll channel rows load show hide = example_cue (kind.Roll channel rows) load show hide letter
+roll channel rows load show hide = example_cue (kind.Roll channel rows) load show hide example_letter
 
 -- a pop-on cue of the white letters AB, and a red C right behind them
 abbrev pub white_then_red : Cue

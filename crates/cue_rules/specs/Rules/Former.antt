@@ -2,7 +2,7 @@
 -- from 1 in their order, and the cues before a cue are a list with the newest first.
 use Rattle.std.specs.Prelude.{ℕ, ◌+◌, Bool, if◌then◌else◌, List, [], ◌∷◌, length, Option, Some, None}
 use Rattle.cue_types.specs.declared.cue.Cue.{Cue}
-use Rattle.cue_types.specs.Lane.{lane_of, on_lane}
+use Rattle.cue_types.specs.Lane.{kind_lane, on_lane}
 
 -- the nearest cue before that passes a test
 abbrev pub nearest : (Cue → Bool) → List Cue → Option Cue
@@ -16,8 +16,8 @@ nearest_number test (cue ∷ earlier) = if test cue then Some (length earlier + 
 
 -- the former cue of a cue
 abbrev pub former_cue : Cue → List Cue → Option Cue
-former_cue cue earlier = nearest (on_lane (lane_of cue.kind)) earlier
+former_cue cue earlier = nearest (on_lane (kind_lane cue.kind)) earlier
 
 -- and its number
 abbrev pub former_number : Cue → List Cue → Option ℕ
-former_number cue earlier = nearest_number (on_lane (lane_of cue.kind)) earlier
+former_number cue earlier = nearest_number (on_lane (kind_lane cue.kind)) earlier

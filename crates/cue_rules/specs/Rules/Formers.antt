@@ -35,8 +35,8 @@ with_channel formers chan.Cc2 number = record formers { cc2 = Some number }
 with_channel formers chan.Cc3 number = record formers { cc3 = Some number }
 with_channel formers chan.Cc4 number = record formers { cc4 = Some number }
 
-abbrev pub with_window : Formers → WinCue → ℕ → Formers
-with_window formers window number = record formers {
+abbrev pub with_window_former : Formers → WinCue → ℕ → Formers
+with_window_former formers window number = record formers {
   services = slice_set formers.services window.service (Some number);
   windows = slice_set formers.windows (window.service * 8 + window.id) (Some number);
 }
@@ -61,8 +61,8 @@ number_if test number None = None
 number_if test number (Some cue) = if test cue then number else None
 
 -- the cue of a number
-abbrev pub cue_at : List Cue → Option ℕ → Option Cue
-cue_at cues number = option_and_then (λ n. slice_get cues (n - 1)) number
+abbrev pub numbered_cue : List Cue → Option ℕ → Option Cue
+numbered_cue cues number = option_and_then (λ n. slice_get cues (n - 1)) number
 
 -- the greater of two numbers, of which none may be there
 abbrev pub later : Option ℕ → Option ℕ → Option ℕ
@@ -73,4 +73,4 @@ later (Some a) (Some b) = Some (max a b)
 -- of a service's windows below an ID, the greatest number whose cue passes a test
 abbrev pub last_below : (Cue → Bool) → List Cue → (ℕ → Option ℕ) → ℕ → Option ℕ
 last_below test cues last_in zero = None
-last_below test cues last_in (suc id) = later (last_below test cues last_in id) (number_if test (last_in id) (cue_at cues (last_in id)))
+last_below test cues last_in (suc id) = later (last_below test cues last_in id) (number_if test (last_in id) (numbered_cue cues (last_in id)))

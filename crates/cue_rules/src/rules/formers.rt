@@ -4,7 +4,7 @@ ghost use Rattle.cue_types.specs.Cues.{IsCueFormed};
 ghost use Rattle.cue_types.specs.Windows.{IsWindow};
 ghost use Rattle.cue_types.specs.declared.cue.Cue.{Cue};
 ghost use Rattle.cue_rules.specs.Rules.Former.{former_number};
-ghost use Rattle.cue_rules.specs.Rules.Formers.{Remembers, cue_at, last_in, last_of, last_on, with_channel, with_window};
+ghost use Rattle.cue_rules.specs.Rules.Formers.{Remembers, last_in, last_of, last_on, numbered_cue, with_channel, with_window_former};
 
 use cue_types::{Cue, Kind, WinCue};
 use line21_codes::Chan;
@@ -105,7 +105,7 @@ impl Formers {
     /// Remembers the number of a cue in a window.
     fn pass_in(&mut self, window: WinCue, number: u32)
         requires { IsWindow window }
-        ensures { self.new ≡ with_window self.old window number }
+        ensures { self.new ≡ with_window_former self.old window number }
     {
         let service = window.service as usize;
         self.services[service] = Some(number);
@@ -116,7 +116,7 @@ impl Formers {
 /// The cue of a number.
 pub fn cue_of(earlier: &[Cue], number: Option<u32>) -> Option<&Cue>
     requires { ForSome number (λ n. 1 ≤ n) }
-    ensures { option_copied result ≡ cue_at earlier.now number }
+    ensures { option_copied result ≡ numbered_cue earlier.now number }
 {
     earlier.get(number? as usize - 1)
 }

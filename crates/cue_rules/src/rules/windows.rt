@@ -7,7 +7,7 @@ ghost use Rattle.cue_rules.specs.Rules.Alternatives.{first_broken, with_earlier}
 ghost use Rattle.cue_rules.specs.Rules.Delay.{delay_of, delay_start, event_frames};
 ghost use Rattle.cue_rules.specs.Rules.DelayCovers.{delay_covers, delays_cross, same_service, delay_has, same_start};
 ghost use Rattle.cue_rules.specs.Rules.Former.{former_cue};
-ghost use Rattle.cue_rules.specs.Rules.Formers.{Remembers, cue_at, later, number_if};
+ghost use Rattle.cue_rules.specs.Rules.Formers.{Remembers, later, number_if, numbered_cue};
 ghost use Rattle.cue_rules.specs.Rules.Order.{order};
 ghost use Rattle.cue_rules.specs.Rules.Share.{share};
 ghost use Rattle.cue_rules.specs.Rules.WindowBusy.{window_busy, keeps_window, same_window};
@@ -36,7 +36,7 @@ pub fn breaks_window_busy(cue: &Cue, earlier: &[Cue], formers: &Formers) -> Opti
 /// The number of an earlier cue, where the cue has it and still uses the window.
 fn busy(cue: &Cue, earlier: &[Cue], number: Option<u32>) -> Option<u32>
     requires { ForSome number (λ n. 1 ≤ n) }
-    ensures { result ≡ number_if (keeps_window cue.now) number (cue_at earlier.now number) }
+    ensures { result ≡ number_if (keeps_window cue.now) number (numbered_cue earlier.now number) }
 {
     let other = cue_of(earlier, number)?;
     if keeps_window(cue, other) {
@@ -103,7 +103,7 @@ pub fn breaks_delay_covers(
 /// The number of an earlier cue, where the delays of the cue that has it and of this one cross.
 fn crossing(rate: Rate, cue: &Cue, earlier: &[Cue], number: Option<u32>) -> Option<u32>
     requires { ForSome number (λ n. 1 ≤ n) }
-    ensures { result ≡ number_if (delays_cross rate cue.now) number (cue_at earlier.now number) }
+    ensures { result ≡ number_if (delays_cross rate cue.now) number (numbered_cue earlier.now number) }
 {
     let other = cue_of(earlier, number)?;
     if delays_cross(rate, cue, other) {

@@ -14,7 +14,7 @@ pub struct Front {
 }
 
 impl Front {
-    ghost use Rattle.frame_scheduler.specs.LaneFront.{IsFront, IsFirstFree};
+    ghost use Rattle.frame_scheduler.specs.LaneFront.{IsFrontOfEvents, IsFirstFree};
 
     /// The front where no unit is placed.
     pub fn start() -> Self
@@ -29,10 +29,10 @@ impl Front {
     pub fn place(&mut self, piece: Piece, events: &[Event]) -> Option<u32>
         requires small { self.old.end < 2 ^ 32 }
         requires apart { AreApart events.now }
-        requires front { IsFront events.now self.old }
+        requires front { IsFrontOfEvents events.now self.old }
         ensures first { IfSome result (IsFirst (IsAllowed events.now self.old.end piece)) }
         ensures end { IfSome result (λ slot. (self.new.end ≡ slot + slots_of piece) × (self.new.end < 2 ^ 32)) }
-        ensures front { IfSome result (λ _. IsFront events.now self.new) }
+        ensures front { IfSome result (λ _. IsFrontOfEvents events.now self.new) }
         ensures onward { self.old.passed ≤ self.new.passed }
         ensures none { IfNone result ((slot : ℕ) → IsAllowed events.now self.old.end piece slot → ⊥) }
     {
@@ -54,10 +54,10 @@ impl Front {
         requires some { 1 ≤ slots }
         requires few { slots ≤ 2 }
         requires apart { AreApart events.now }
-        requires front { IsFront events.now self.old }
+        requires front { IsFrontOfEvents events.now self.old }
         ensures small { self.new.end < 2 ^ 33 }
         ensures first { IsFirstFree events.now slots self.old.end self.new.end }
-        ensures front { IsFront events.now self.new }
+        ensures front { IsFrontOfEvents events.now self.new }
         ensures onward { self.old.passed ≤ self.new.passed }
     {
         let slots = u64::from(slots);

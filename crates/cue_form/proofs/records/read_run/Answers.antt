@@ -1,11 +1,11 @@
 use Rattle.std.proofs.Common.{◌≡◌, ◌-◌, ◌==◌, true, length, Some, rules, arith}
 use Rattle.std.proofs.lemmas.Grind.{common_steps}
 use Rattle.csv.specs.Records.{fields_of}
-use Rattle.cue_form.specs.Answers.{Refuses}
+use Rattle.cue_form.specs.Answers.{AnswersOffence}
 use Rattle.cue_form.specs.Fields.{number_within}
-use Rattle.cue_form.specs.Form.{columns_of, first_row, last_row, run_pen_field, suits_row}
+use Rattle.cue_form.specs.Form.{cue_columns, first_row, last_row, run_pen_field, suits_row}
 use Rattle.cue_form.specs.Records.{field}
-use Rattle.cue_form.specs.Texts.{text_of}
+use Rattle.cue_form.specs.Texts.{run_text_of}
 use Rattle.cue_form.proofs.TextRun.{run_refused}
 use Rattle.cue_form.proofs.records.read_run.Goals as goal
 
@@ -15,8 +15,8 @@ returns-in-Err c =
     let count : (length (fields_of c.args.row.now) == 5) ≡ true = first_of (search rules, grind (arith, common_steps)) in
     let row : number_within (first_row c.args.cue.now.kind) (last_row c.args.cue.now.kind) (field (fields_of c.args.row.now) 1) ≡ Some c.in-Some.value = first_of (search rules, grind (arith, common_steps)) in
     let suits : suits_row c.args.cue.now.kind c.args.cue.now.runs c.in-Some.value ≡ true = first_of (search rules, grind (arith, common_steps)) in
-    let col : number_within 0 (columns_of c.args.cue.now.kind - 1) (field (fields_of c.args.row.now) 2) ≡ Some c.in-Some-read_within.value = first_of (search rules, grind (arith, common_steps)) in
+    let col : number_within 0 (cue_columns c.args.cue.now.kind - 1) (field (fields_of c.args.row.now) 2) ≡ Some c.in-Some-read_within.value = first_of (search rules, grind (arith, common_steps)) in
     let pen : run_pen_field c.args.cue.now.kind (field (fields_of c.args.row.now) 3) ≡ Some c.in-Some-read_run_pen.value = first_of (search rules, grind (arith, common_steps)) in
-    let refused : Refuses (text_of c.args.cue.now.kind c.in-Some-read_within.value (field (fields_of c.args.row.now) 4)) c.in-Err.offence = first_of (search rules, grind (arith, common_steps)) in
+    let refused : AnswersOffence (run_text_of c.args.cue.now.kind c.in-Some-read_within.value (field (fields_of c.args.row.now) 4)) c.in-Err.offence = first_of (search rules, grind (arith, common_steps)) in
     run_refused c.args.cue.now.kind c.args.cue.now.runs (fields_of c.args.row.now) c.in-Some.value c.in-Some-read_within.value c.in-Some-read_run_pen.value c.in-Err.offence
     count row suits col pen refused

@@ -1,5 +1,5 @@
 use Rattle.std.proofs.Common.{◌∙◌, ◌++◌, ap}
-use Rattle.dtvcc_author.specs.CueUnits.{units_of}
+use Rattle.dtvcc_author.specs.CueUnits.{window_cue_units}
 use Rattle.dtvcc_author.specs.WindowCommands.{commands_of}
 use Rattle.dtvcc_author.proofs.SpelledLemmas.{units_spelled}
 use Rattle.dtvcc_author.proofs.WritableLemmas.{commands_writable}
@@ -9,4 +9,4 @@ use Rattle.dtvcc_author.proofs.cue.units.Goals as goal
 pub returns-clause-spelled : goal.returns-clause-spelled
 returns-clause-spelled c =
     units_spelled (commands_of c.args.cue.now) c.in_ok-units.units (commands_writable c.args.cue.now c.requires)
-    (c.in_ok-units.ensures ∙ c.in_ok-push_units.ensures ∙ ap (λ l. l ++ units_of c.args.cue.now) c.new-packed.ensures)
+    (c.in_ok-units.ensures ∙ c.in_ok-push_units.ensures ∙ ap (λ l. l ++ window_cue_units c.args.cue.now) c.new-packed.ensures)

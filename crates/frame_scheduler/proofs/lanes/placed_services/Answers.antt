@@ -1,5 +1,5 @@
 use Rattle.std.proofs.Common.{◌≡◌, ◌∙◌, ◌+◌, suc, Some, None, sym, subst, arith}
-use Rattle.dtvcc_author.specs.Captions.{captions_of}
+use Rattle.dtvcc_author.specs.Captions.{service_captions}
 use Rattle.dtvcc_author.specs.Kept.{AreKept}
 use Rattle.service_lanes.proofs.CaptionsKept.{captions_kept}
 use Rattle.frame_scheduler.specs.ServicePlans.{AreServices}
@@ -16,8 +16,8 @@ placed_service-requires-clause-kept c =
     let l = c.args.list.now in
     let service = c.loop-service.service in (
       l.frames,
-      subst (λ r. AreKept r l.frames (captions_of r service c.cues-cues.result.now)) (sym c.rate-rate.ensures)
-          (subst (λ cues. AreKept l.rate l.frames (captions_of l.rate service cues)) (sym c.cues-cues.ensures.cues)
+      subst (λ r. AreKept r l.frames (service_captions r service c.cues-cues.result.now)) (sym c.rate-rate.ensures)
+          (subst (λ cues. AreKept l.rate l.frames (service_captions l.rate service cues)) (sym c.cues-cues.ensures.cues)
           (captions_kept l service c.cues-cues.ensures.formed c.requires)),
     )
 

@@ -1,6 +1,6 @@
 use Rattle.std.proofs.Common.{◌≤◌, length, ap, sym, subst, ◌∙◌}
 use Rattle.anc_words.specs.Writing.{packet_bytes}
-use Rattle.cc_base.specs.Rate.{code_of}
+use Rattle.cc_base.specs.Rate.{rate_code}
 use Rattle.findings.specs.declared.finding.Finding.{Finding}
 use Rattle.findings.specs.declared.finding.Kind45.TheVariants as kind
 use Rattle.packet_inserter.specs.Insertion.{IsInserted}
@@ -11,7 +11,7 @@ pub returns-then-code-clause-replaces : goal.returns-then-code-clause-replaces
 returns-then-code-clause-replaces c list bytes earlier last had are sections gives =
     let expected = c.rate-expected.ensures list c.args.frame gives in
     let seen = c.rate-seen.ensures bytes earlier last had are in (
-      λ same. c.if-code.true (c.code.ensures ∙ ap code_of (seen ∙ same ∙ sym expected) ∙ sym c.code-2.ensures),
+      λ same. c.if-code.true (c.code.ensures ∙ ap rate_code (seen ∙ same ∙ sym expected) ∙ sym c.code-2.ensures),
       ap (λ e. let f : Finding = record { frame = c.args.frame; kind = kind.WrongRate e c.rate-seen.result } in f) expected
           ∙ ap (λ s. let f : Finding = record { frame = c.args.frame; kind = kind.WrongRate list.rate s } in f) seen,
     )

@@ -1,7 +1,7 @@
 use Rattle.std.proofs.Common.{◌≡◌, ◌++◌, drop}
 use Rattle.line21_author.specs.CueSlots.{cues_in_slots}
 use Rattle.line21_author.specs.Channels.{cues_on}
-use Rattle.line21_author.specs.CueEvents.{hide_events, events_of}
+use Rattle.line21_author.specs.CueEvents.{hide_events, cue_events}
 use Rattle.line21_author.proofs.event.events.Given as goal
 
 -- the events so far, with those from the last cue's HIDE on, are the channel's
@@ -9,5 +9,5 @@ abbrev pub invariant-loop-cue : goal.invariant-loop-cue
 invariant-loop-cue l =
     l.events.items
     ++ (hide_events l.second_field l.hide (cues_on l.channel (cues_in_slots l.cadence (drop l.cue-index l.cues)))
-    ++ events_of l.second_field (cues_on l.channel (cues_in_slots l.cadence (drop l.cue-index l.cues))))
-    ≡ events_of l.second_field (cues_on l.channel (cues_in_slots l.cadence l.cues))
+    ++ cue_events l.second_field (cues_on l.channel (cues_in_slots l.cadence (drop l.cue-index l.cues))))
+    ≡ cue_events l.second_field (cues_on l.channel (cues_in_slots l.cadence l.cues))

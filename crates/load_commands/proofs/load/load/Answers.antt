@@ -1,6 +1,6 @@
 use Rattle.std.proofs.Common.{◌≡◌, ◌∙◌, List, Some, Err, ap, subst, ℕ}
 use Rattle.cc_base.specs.MemorySource.{steady_left}
-use Rattle.command_base.specs.WholeInput.{Reads}
+use Rattle.command_base.specs.WholeInput.{ReadsInput}
 use Rattle.cue_lists.specs.Listing.{Listing}
 use Rattle.cue_lists.specs.Printing.{list_bytes}
 use Rattle.cue_list_commands.specs.Accepted.{IsRefused}
@@ -24,6 +24,6 @@ returns-in-Ok c =
 pub unreachable-requires : goal.unreachable-requires
 unreachable-requires c =
     let text = c.new-text.ensures ∙ c.in_ok-print.ensures.bytes ∙ ap list_bytes c.in_ok-list.ensures in
-    let reads = subst (λ (bytes : List ℕ). Reads IsProgrammeOf IsRefused (Some bytes) (Some (steady_left c.read_programme.new.input)) 0 0 (Err c.in-Err.status)) text
+    let reads = subst (λ (bytes : List ℕ). ReadsInput IsProgrammeOf IsRefused (Some bytes) (Some (steady_left c.read_programme.new.input)) 0 0 (Err c.in-Err.status)) text
     c.in-Err.ensures in
     not_refused c.args.count c.requires.some c.requires.most (Some (steady_left c.read_programme.new.input)) c.in-Err.status reads c.in_default.not-Memory

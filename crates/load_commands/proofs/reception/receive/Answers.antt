@@ -1,6 +1,6 @@
 use Rattle.std.proofs.Common.{◌≡◌, ◌+◌, ℕ, refl, subst, sym, arith}
 use Rattle.frame_scheduler.specs.Frames.{frames_left}
-use Rattle.load_commands.specs.Receiving.{HasTaken}
+use Rattle.load_commands.specs.Receiving.{HasReceivedColumns}
 use Rattle.load_commands.proofs.reception.receive.Goals as goal
 
 pub loop-frame-init : goal.loop-frame-init
@@ -37,4 +37,4 @@ returns c columns gives whole =
     let none = c.in_default.ensures.left in
     let total = so_far.1 in
     let all : so_far.0 ≡ frames_left c.args.programme.plan = omega (arith, none, total) in
-    subst (λ count. HasTaken c.args.programme.rate columns count c.loop-frame.reception) all so_far.3
+    subst (λ count. HasReceivedColumns c.args.programme.rate columns count c.loop-frame.reception) all so_far.3

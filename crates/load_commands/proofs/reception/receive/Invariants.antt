@@ -1,7 +1,7 @@
 use Rattle.std.proofs.Common.{◌≡◌, ◌+◌, ℕ}
 use Rattle.frame_scheduler.specs.Columns.{Columns}
 use Rattle.frame_scheduler.specs.Frames.{GivesFrom, frames_left}
-use Rattle.load_commands.specs.Receiving.{AreAllWhole, HasTaken}
+use Rattle.load_commands.specs.Receiving.{AreAllWhole, HasReceivedColumns}
 use Rattle.load_commands.proofs.reception.receive.Given as goal
 
 -- the frames that the plan gave were taken
@@ -9,7 +9,7 @@ abbrev pub invariant-loop-frame : goal.invariant-loop-frame
 invariant-loop-frame l =
     (columns : Columns) → GivesFrom columns 0 l.fn.programme.plan → AreAllWhole l.fn.programme.rate columns (frames_left l.fn.programme.plan)
     → (count : ℕ) × (count + frames_left l.plan ≡ frames_left l.fn.programme.plan) × GivesFrom columns count l.plan
-    × HasTaken l.fn.programme.rate columns count l.reception
+    × HasReceivedColumns l.fn.programme.rate columns count l.reception
 
 abbrev pub decreases-loop-frame : goal.decreases-loop-frame
 decreases-loop-frame l = frames_left l.plan

@@ -1,4 +1,4 @@
-use Rattle.scc_files.specs.Written.{counted, shown, written_file}
+use Rattle.scc_files.specs.Written.{counted, pairs_not_null, written_file}
 use Rattle.scc_files.proofs.Complete.{file_read}
 use Rattle.scc_files.proofs.RoundTrip.{written_is_file}
 use Rattle.scc_files.proofs.laws.written_files_are_files.Goals as goal
@@ -8,4 +8,4 @@ returns-clause-file c = written_is_file
 
 pub returns-clause-read : goal.returns-clause-read
 returns-clause-read c pairs start drop_frame are =
-    file_read (counted (shown pairs)) (written_file start drop_frame pairs) (written_is_file pairs start drop_frame are)
+    file_read (counted (pairs_not_null pairs)) (written_file start drop_frame pairs) (written_is_file pairs start drop_frame are)

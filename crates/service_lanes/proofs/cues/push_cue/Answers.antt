@@ -1,5 +1,5 @@
 use Rattle.std.proofs.Common.{◌≡◌, ◌∙◌, ◌-◌, ◌++◌, ◌∷◌, [], ap, arith, length, length-append, subst, sym}
-use Rattle.dtvcc_author.specs.CueUnits.{units_of}
+use Rattle.dtvcc_author.specs.CueUnits.{window_cue_units}
 use Rattle.service_lanes.specs.CueChunks.{AreCounted, chunks_of}
 use Rattle.service_lanes.specs.declared.chunk.CueLoad.{CueLoad}
 use Rattle.service_lanes.proofs.CueChunkLemmas.{chunks_push, counted_push}
@@ -8,7 +8,7 @@ use Rattle.service_lanes.proofs.cues.push_cue.Goals as goal
 pub returns-clause-counted : goal.returns-clause-counted
 returns-clause-counted c =
     let load : CueLoad = record { load = c.args.caption.load; until = c.args.caption.starts; cue = c.args.number; count = c.len.result - c.len-before.result } in
-    let more = units_of c.args.cue.now in
+    let more = window_cue_units c.args.cue.now in
     let count : load.count ≡ length more =
     omega (arith, c.len.ensures, c.len-before.ensures, ap length c.in_ok-push_units.ensures, length-append c.args.units.now more) in
     subst (λ l. AreCounted l c.push_units.new.units) (sym c.in_ok-push.ensures.items)
@@ -18,7 +18,7 @@ returns-clause-counted c =
 pub returns-clause-chunks : goal.returns-clause-chunks
 returns-clause-chunks c =
     let load : CueLoad = record { load = c.args.caption.load; until = c.args.caption.starts; cue = c.args.number; count = c.len.result - c.len-before.result } in
-    let more = units_of c.args.cue.now in
+    let more = window_cue_units c.args.cue.now in
     let count : load.count ≡ length more =
     omega (arith, c.len.ensures, c.len-before.ensures, ap length c.in_ok-push_units.ensures, length-append c.args.units.now more) in
     ap (λ l. chunks_of l c.push_units.new.units) c.in_ok-push.ensures.items

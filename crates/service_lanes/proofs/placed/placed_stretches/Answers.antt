@@ -4,7 +4,7 @@ use Rattle.placements.specs.Placing.{IsEarliest}
 use Rattle.dtvcc_author.specs.Packed.{bytes_before}
 use Rattle.service_lanes.specs.ServiceRoom.{caption_lane}
 use Rattle.service_lanes.specs.ServicePlacing.{stretches_of}
-use Rattle.service_lanes.specs.Stretches.{AreStretches, frames_of}
+use Rattle.service_lanes.specs.Stretches.{AreStretches, stretch_frames}
 use Rattle.service_lanes.specs.declared.chunk.CueLoad.{CueLoad}
 use Rattle.service_lanes.proofs.CueChunkLemmas.{AreLeft, none_left, takes_at}
 use Rattle.service_lanes.proofs.PlacingSteps.{placing_all}
@@ -63,7 +63,7 @@ returns c =
     let placing = c.loop-cue.placing in
     let end = none_left c.parts.result.1.now c.parts.result.0.now chunks c.loop-cue.cue-index placing.last.units c.loop-cue-test.false c.loop-cue.invariant.left in
     record {
-      frames = IfOk-weaker c.finish.result (λ ss. ss.items ≡ stretches_of placing) (λ ss. IsEarliest (caption_lane share cs) chunks (frames_of ss.items))
+      frames = IfOk-weaker c.finish.result (λ ss. ss.items ≡ stretches_of placing) (λ ss. IsEarliest (caption_lane share cs) chunks (stretch_frames ss.items))
           (λ ss are. (placing_all share cs chunks placing ss.items c.loop-cue.invariant.placing end are).0) c.finish.ensures.stretches;
       stretches = IfOk-weaker c.finish.result (λ ss. ss.items ≡ stretches_of placing) (λ ss. AreStretches chunks 0 0 ss.items)
           (λ ss are. (placing_all share cs chunks placing ss.items c.loop-cue.invariant.placing end are).1) c.finish.ensures.stretches;

@@ -1,5 +1,5 @@
 use Rattle.std.proofs.Common.{sym, subst}
-use Rattle.dtvcc_author.specs.Captions.{captions_of}
+use Rattle.dtvcc_author.specs.Captions.{service_captions}
 use Rattle.dtvcc_author.specs.Kept.{AreKept}
 use Rattle.placements.specs.LaneRoom.{AreInCueOrder}
 use Rattle.service_lanes.specs.ServiceChunks.{chunk_cue}
@@ -11,8 +11,8 @@ pub place-requires-clause-kept : goal.place-requires-clause-kept
 place-requires-clause-kept c =
     let l = c.args.list.now in
     let kept = captions_kept l 1 c.cues-cues.ensures.formed c.requires.ruled in
-    let same = subst (λ r. AreKept r l.frames (captions_of r 1 l.cues)) (sym c.rate-rate.ensures) kept in
-    let read = subst (λ cues. AreKept c.rate-rate.result l.frames (captions_of c.rate-rate.result 1 cues)) (sym c.cues-cues.ensures.cues) same in
+    let same = subst (λ r. AreKept r l.frames (service_captions r 1 l.cues)) (sym c.rate-rate.ensures) kept in
+    let read = subst (λ cues. AreKept c.rate-rate.result l.frames (service_captions c.rate-rate.result 1 cues)) (sym c.cues-cues.ensures.cues) same in
     (c.rate-rate.result, (l.frames, subst (AreKept c.rate-rate.result l.frames) (sym c.in-Ok.ensures) read))
 
 pub place-requires-clause-order : goal.place-requires-clause-order

@@ -1,6 +1,6 @@
 use Rattle.std.proofs.Common.{◌≡◌, ◌+◌, ◌≤◌, ◌∙◌, arith, sym, subst}
 use Rattle.authored_grids.specs.AuthoredGrid.{shown_of_newest}
-use Rattle.authored_places.specs.Cursors.{Stands}
+use Rattle.authored_places.specs.Cursors.{StandsAtFrame}
 use Rattle.authored_places.specs.Newest.{newest}
 use Rattle.authored_places.specs.declared.cursor.ChannelCursor.{ChannelCursor}
 use Rattle.authored_places.proofs.CursorLemmas.{come_later}
@@ -11,7 +11,7 @@ pub pass-requires : goal.pass-requires
 pass-requires c =
     let former = c.requires.stands.0 in
     let next : c.args.frame ≡ former + 1 = c.requires.stands.1 in
-    let stands : Stands c.args.cues.now former c.args.self.now = c.requires.stands.2 in
+    let stands : StandsAtFrame c.args.cues.now former c.args.self.now = c.requires.stands.2 in
     let le : former ≤ c.args.frame = omega arith in
     record {
       within = stands.passed.within;
@@ -24,9 +24,9 @@ returns-else-next-self-clause-same c former is unhidden =
     let was = c.requires.stands.0 in
     let next : c.args.frame ≡ was + 1 = c.requires.stands.1 in
     let same_former : was ≡ former = omega arith in
-    let stood : Stands c.args.cues.now former c.args.self.now = subst (λ f. Stands c.args.cues.now f c.args.self.now) same_former c.requires.stands.2 in
+    let stood : StandsAtFrame c.args.cues.now former c.args.self.now = subst (λ f. StandsAtFrame c.args.cues.now f c.args.self.now) same_former c.requires.stands.2 in
     let same = c.pass.ensures.same (sym c.if-next-self.false) in
-    let stands : Stands c.args.cues.now c.args.frame c.args.self.now = subst (Stands c.args.cues.now c.args.frame) same c.pass.ensures.stands in
+    let stands : StandsAtFrame c.args.cues.now c.args.frame c.args.self.now = subst (StandsAtFrame c.args.cues.now c.args.frame) same c.pass.ensures.stands in
     authored_is c.args.cues.now c.args.frame c.args.self.now c.requires.timed stands
     ∙ subst (λ (x : ChannelCursor). shown_of_newest c.args.frame (newest x.channel c.args.cues.now x.next) ≡ shown_of_newest former (newest x.channel c.args.cues.now x.next))
     same (c.hides_at.ensures unhidden former is)

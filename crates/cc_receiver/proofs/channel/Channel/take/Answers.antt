@@ -1,7 +1,7 @@
 use Rattle.std.proofs.Common.{rules, ◌≡◌, ◌||◌, true, false, [], ◌∷◌, ◌++◌, ap, append-nil, append_assoc, subst, sym, ◌∙◌}
 use Rattle.cc_base.specs.declared.step.Step.TheVariants.{One, Two}
 use Rattle.cc_base.specs.Syntax.{open_behind, parts_of}
-use Rattle.channel_packets.specs.ChannelPackets.{channel_triplets, continues, starts}
+use Rattle.channel_packets.specs.ChannelPackets.{channel_triplets, continues_packet, starts}
 use Rattle.channel_packets.specs.Readers as packets
 use Rattle.channel_packets.specs.Reading.{judge_triplet, packet_syntax}
 use Rattle.service_blocks.specs.Readers as blocks
@@ -10,7 +10,7 @@ use Rattle.cc_receiver.proofs.channel.Channel.take.Goals as goal
 
 pub returns-then-not-is_of_channel-clause-heard : goal.returns-then-not-is_of_channel-clause-heard
 returns-then-not-is_of_channel-clause-heard c before heard none =
-    let other : (starts c.args.triplet || continues c.args.triplet) ≡ false = Prim.search rules in
+    let other : (starts c.args.triplet || continues_packet c.args.triplet) ≡ false = Prim.search rules in
     passes_over before c.args.triplet c.args.self.now other heard
 
 pub returns-in-Nothing-clause-why : goal.returns-in-Nothing-clause-why
@@ -20,7 +20,7 @@ returns-in-Nothing-clause-why c before heard =
 
 pub returns-in-Nothing-clause-heard : goal.returns-in-Nothing-clause-heard
 returns-in-Nothing-clause-heard c before heard none =
-    let own : (starts c.args.triplet || continues c.args.triplet) ≡ true = Prim.search rules in
+    let own : (starts c.args.triplet || continues_packet c.args.triplet) ≡ true = Prim.search rules in
     let nothing = ap (λ ps. parts_of packet_syntax before ++ ps) (no_pieces c.step.result c.in-Nothing.is) ∙ append-nil (parts_of packet_syntax before) in
     takes_pieces before c.args.triplet c.step.result (record { packets = c.step.new.self; blocks = c.args.self.now.blocks }) own
     (c.step.ensures.says (channel_triplets before) heard.packets_read) (c.step.ensures.leads (channel_triplets before) heard.packets_read)
@@ -35,7 +35,7 @@ returns-in-One-clause-why c before heard =
 
 pub returns-in-One-clause-heard : goal.returns-in-One-clause-heard
 returns-in-One-clause-heard c before heard none =
-    let own : (starts c.args.triplet || continues c.args.triplet) ≡ true = Prim.search rules in
+    let own : (starts c.args.triplet || continues_packet c.args.triplet) ≡ true = Prim.search rules in
     let is : One c.in-One.piece ≡ judge_triplet (open_behind packet_syntax (channel_triplets before)) c.args.triplet =
     sym c.in-One.is ∙ c.step.ensures.says (channel_triplets before) heard.packets_read in
     takes_pieces before c.args.triplet (One c.in-One.piece) c.piece.new.self own is
@@ -55,7 +55,7 @@ returns-in-None-clause-why c before heard =
 
 pub returns-in-None-clause-heard : goal.returns-in-None-clause-heard
 returns-in-None-clause-heard c before heard none =
-    let own : (starts c.args.triplet || continues c.args.triplet) ≡ true = Prim.search rules in
+    let own : (starts c.args.triplet || continues_packet c.args.triplet) ≡ true = Prim.search rules in
     let is : Two c.in-Two.first c.in-Two.second ≡ judge_triplet (open_behind packet_syntax (channel_triplets before)) c.args.triplet =
     sym c.in-Two.is ∙ c.step.ensures.says (channel_triplets before) heard.packets_read in
     let pieces = parts_of packet_syntax before in

@@ -1,7 +1,7 @@
 use Rattle.std.proofs.Common.{rules, ◌≡◌, ◌||◌, true, false, [], ◌∷◌, ◌++◌, ap, append-nil, append_assoc, subst, sym, ◌∙◌}
 use Rattle.cc_base.specs.Steps.{step_parts}
 use Rattle.cc_base.specs.Syntax.{open_behind, parts_from, parts_of}
-use Rattle.channel_packets.specs.ChannelPackets.{channel_triplets, continues, starts}
+use Rattle.channel_packets.specs.ChannelPackets.{channel_triplets, continues_packet, starts}
 use Rattle.channel_packets.specs.Readers as packets
 use Rattle.channel_packets.specs.Reading.{packet_syntax}
 use Rattle.service_blocks.specs.Readers as blocks
@@ -13,13 +13,13 @@ use Rattle.cc_receiver.proofs.services.Served.triplet.Goals as goal
 
 pub returns-then-not-is_of_channel-clause-served : goal.returns-then-not-is_of_channel-clause-served
 returns-then-not-is_of_channel-clause-served c before earlier last served heard =
-    let other : (starts c.args.triplet || continues c.args.triplet) ≡ false = Prim.search rules in
+    let other : (starts c.args.triplet || continues_packet c.args.triplet) ≡ false = Prim.search rules in
     served_nothing before earlier last c.args.triplet c.args.self.now (passes_over before c.args.triplet c.args.self.now.channel other served.heard)
     (heard_other before c.args.triplet other) served.leads
 
 pub returns-in-Nothing-clause-served : goal.returns-in-Nothing-clause-served
 returns-in-Nothing-clause-served c before earlier last served heard =
-    let own : (starts c.args.triplet || continues c.args.triplet) ≡ true = Prim.search rules in
+    let own : (starts c.args.triplet || continues_packet c.args.triplet) ≡ true = Prim.search rules in
     let says = c.step.ensures.says (channel_triplets before) served.heard.packets_read in
     let none = no_pieces c.step.result c.in-Nothing.is in
     let nothing = ap (λ ps. parts_of packet_syntax before ++ ps) none ∙ append-nil (parts_of packet_syntax before) in
@@ -33,7 +33,7 @@ returns-in-Nothing-clause-served c before earlier last served heard =
 
 pub returns-in-One-clause-served : goal.returns-in-One-clause-served
 returns-in-One-clause-served c before earlier last served heard =
-    let own : (starts c.args.triplet || continues c.args.triplet) ≡ true = Prim.search rules in
+    let own : (starts c.args.triplet || continues_packet c.args.triplet) ≡ true = Prim.search rules in
     let says = c.step.ensures.says (channel_triplets before) served.heard.packets_read in
     let one : step_parts c.step.result ≡ c.in-One.piece ∷ [] = ap step_parts c.in-One.is in
     let pieces = parts_of packet_syntax before in
@@ -49,7 +49,7 @@ returns-in-One-clause-served c before earlier last served heard =
 
 pub returns-in-Two-clause-served : goal.returns-in-Two-clause-served
 returns-in-Two-clause-served c before earlier last served heard =
-    let own : (starts c.args.triplet || continues c.args.triplet) ≡ true = Prim.search rules in
+    let own : (starts c.args.triplet || continues_packet c.args.triplet) ≡ true = Prim.search rules in
     let says = c.step.ensures.says (channel_triplets before) served.heard.packets_read in
     let first = c.in-Two.first in
     let second = c.in-Two.second in

@@ -1,6 +1,6 @@
 use Rattle.std.proofs.Common.{◌≡◌, length, arith, rules, ◌∙◌, ap}
 use Rattle.std.proofs.lemmas.List.{take_at}
-use Rattle.dtvcc_windows.specs.Lists.{cells_of}
+use Rattle.dtvcc_windows.specs.Lists.{listed_cells}
 use Rattle.dtvcc_windows.proofs.PartLemmas.{copied_is}
 use Rattle.dtvcc_windows.proofs.cells.Cells.copy_from.Goals as goal
 
@@ -23,7 +23,7 @@ invariant_of-self c =
 pub returns-clause-cells : goal.returns-clause-cells
 returns-clause-cells c =
     let long : length c.copy_places.new.places ≡ c.fill_up.new.self.places.len = search rules in
-    ap cells_of (take_at c.copy_places.new.places _ _ long
+    ap listed_cells (take_at c.copy_places.new.places _ _ long
     ∙ copied_is c.fill_up.new.self.places.items c.args.other.now.places.items c.copy_places.new.places c.min-from.result c.max-to.result (search rules) (omega arith)
     (λ k d from to. c.fill_up.new.self.none_above k d from (omega arith)) (λ k d from to. c.args.other.now.none_above k d from (omega arith))
     (λ k d from to. c.fill_up.new.self.none_below k d (omega arith) to) (λ k d from to. c.args.other.now.none_below k d (omega arith) to)

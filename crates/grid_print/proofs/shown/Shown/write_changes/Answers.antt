@@ -1,7 +1,7 @@
 use Rattle.std.proofs.Common.{◌++◌, ◌∙◌, ◌-◌, [], if◌then◌else◌, ap, subst, sym}
 use Rattle.std.specs.List.{flat_map}
 use Rattle.cc_receiver.specs.ReceivedServices.{received_windows}
-use Rattle.cc_receiver.specs.Receivers.{shown}
+use Rattle.cc_receiver.specs.Receivers.{displayed_grid}
 use Rattle.text_output.proofs.PageLemmas.{some_none, writes_none, writes_same}
 use Rattle.grid_print.specs.GridTexts.{changed_channel, channels, channels_differ, frame_line}
 use Rattle.grid_print.specs.Kept.{changed_places, seen_at}
@@ -19,7 +19,7 @@ returns-then-changed-clause-text g c frames behind same =
     let services = c.keep_services-services.result in
     let texts = if services then changed_places now.services.items (received_windows frames) else [] in
     writes_same _ _ _ _
-    (ap (λ was. frame_line c.args.frame ++ flat_map (changed_channel was (shown c.args.r.now)) channels ++ texts) c.keep_services-services.ensures.grids
+    (ap (λ was. frame_line c.args.frame ++ flat_map (changed_channel was (displayed_grid c.args.r.now)) channels ++ texts) c.keep_services-services.ensures.grids
     ∙ ap (λ is. frame_line c.args.frame ++ flat_map (changed_channel old.grids is) channels ++ texts) grids
     ∙ changes_joined c.args.frame old new c.channels_differ-channels.result services texts
     (c.channels_differ-channels.ensures.some ∙ ap (channels_differ old.grids) grids) (c.keep_services-services.ensures.some frames behind same) c.if-changed.true

@@ -1,7 +1,7 @@
 use Rattle.std.proofs.Common.{◌++◌, ◌∙◌, ap, sym, append-nil}
 use Rattle.std.specs.List.{flat_map}
 use Rattle.cc_receiver.specs.ReceivedServices.{received_windows}
-use Rattle.cc_receiver.specs.Receivers.{shown}
+use Rattle.cc_receiver.specs.Receivers.{displayed_grid}
 use Rattle.text_output.proofs.PageLemmas.{some_then, writes_same, writes_then}
 use Rattle.grid_print.specs.GridTexts.{changed_channel, channels, frame_line}
 use Rattle.grid_print.specs.Kept.{changed_places}
@@ -15,7 +15,7 @@ returns-then-services-clause-some g c =
 
 pub returns-then-services-clause-text : goal.returns-then-services-clause-text
 returns-then-services-clause-text g c frames behind =
-    let front = frame_line c.args.frame ++ flat_map (changed_channel (last_grid c.args.self.now) (shown c.args.r.now)) channels in
+    let front = frame_line c.args.frame ++ flat_map (changed_channel (last_grid c.args.self.now) (displayed_grid c.args.r.now)) channels in
     writes_same _ _ _ _
     (ap (λ t. front ++ t)
     (text_if c.args.services (changed_places c.args.self.now.services.items (received_windows frames)) c.if-services.true))
@@ -28,7 +28,7 @@ returns-else-services-clause-some g c = some_then _ _ _ (_, c.write_frame.ensure
 
 pub returns-else-services-clause-text : goal.returns-else-services-clause-text
 returns-else-services-clause-text g c frames behind =
-    let front = frame_line c.args.frame ++ flat_map (changed_channel (last_grid c.args.self.now) (shown c.args.r.now)) channels in
+    let front = frame_line c.args.frame ++ flat_map (changed_channel (last_grid c.args.self.now) (displayed_grid c.args.r.now)) channels in
     writes_same _ _ _ _
     (sym (append-nil front) ∙ ap (λ t. front ++ t)
     (none_if c.args.services (changed_places c.args.self.now.services.items (received_windows frames)) c.if-services.false))

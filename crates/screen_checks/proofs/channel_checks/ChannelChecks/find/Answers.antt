@@ -1,5 +1,5 @@
 use Rattle.line21_codes.specs.declared.channels.Chan.TheVariants as chan
-use Rattle.cc_receiver.specs.Receivers.{shown}
+use Rattle.cc_receiver.specs.Receivers.{displayed_grid}
 use Rattle.screen_checks.proofs.ChannelsLemmas.{first_is_four, first_is_one, first_is_three, first_is_two, none_of_four}
 use Rattle.screen_checks.proofs.channel_checks.ChannelChecks.find.Goals as goal
 
@@ -8,7 +8,7 @@ returns-then-differs-clause-first c former knows leaves =
     let one = c.differs.ensures.differs chan.Cc1 (former chan.Cc1) knows.cc1 (leaves chan.Cc1) c.if-differs.true in
     record {
       shows = record { settled = one.0; other = one.1 };
-      first = first_is_one c.args.cues.now c.args.frame (shown c.args.receiver.now);
+      first = first_is_one c.args.cues.now c.args.frame (displayed_grid c.args.receiver.now);
     }
 
 pub returns-then-differs-2-clause-first : goal.returns-then-differs-2-clause-first
@@ -17,7 +17,7 @@ returns-then-differs-2-clause-first c former knows leaves =
     let one = c.differs.ensures.agrees chan.Cc1 (former chan.Cc1) knows.cc1 (leaves chan.Cc1) c.if-differs.false in
     record {
       shows = record { settled = two.0; other = two.1 };
-      first = first_is_two c.args.cues.now c.args.frame (shown c.args.receiver.now) (λ shows. one shows.settled shows.other);
+      first = first_is_two c.args.cues.now c.args.frame (displayed_grid c.args.receiver.now) (λ shows. one shows.settled shows.other);
     }
 
 pub returns-then-differs-3-clause-first : goal.returns-then-differs-3-clause-first
@@ -27,7 +27,7 @@ returns-then-differs-3-clause-first c former knows leaves =
     let two = c.differs-2.ensures.agrees chan.Cc2 (former chan.Cc2) knows.cc2 (leaves chan.Cc2) c.if-differs-2.false in
     record {
       shows = record { settled = three.0; other = three.1 };
-      first = first_is_three c.args.cues.now c.args.frame (shown c.args.receiver.now) (λ shows. one shows.settled shows.other) (λ shows. two shows.settled shows.other);
+      first = first_is_three c.args.cues.now c.args.frame (displayed_grid c.args.receiver.now) (λ shows. one shows.settled shows.other) (λ shows. two shows.settled shows.other);
     }
 
 pub returns-then-differs-4-clause-first : goal.returns-then-differs-4-clause-first
@@ -38,7 +38,7 @@ returns-then-differs-4-clause-first c former knows leaves =
     let three = c.differs-3.ensures.agrees chan.Cc3 (former chan.Cc3) knows.cc3 (leaves chan.Cc3) c.if-differs-3.false in
     record {
       shows = record { settled = four.0; other = four.1 };
-      first = first_is_four c.args.cues.now c.args.frame (shown c.args.receiver.now) (λ shows. one shows.settled shows.other) (λ shows. two shows.settled shows.other)
+      first = first_is_four c.args.cues.now c.args.frame (displayed_grid c.args.receiver.now) (λ shows. one shows.settled shows.other) (λ shows. two shows.settled shows.other)
           (λ shows. three shows.settled shows.other);
     }
 
@@ -48,7 +48,7 @@ returns-clause-first c former knows leaves =
     let two = c.differs-2.ensures.agrees chan.Cc2 (former chan.Cc2) knows.cc2 (leaves chan.Cc2) c.if-differs-2.false in
     let three = c.differs-3.ensures.agrees chan.Cc3 (former chan.Cc3) knows.cc3 (leaves chan.Cc3) c.if-differs-3.false in
     let four = c.differs-4.ensures.agrees chan.Cc4 (former chan.Cc4) knows.cc4 (leaves chan.Cc4) c.if-differs-4.false in
-    none_of_four c.args.cues.now c.args.frame (shown c.args.receiver.now) (λ shows. one shows.settled shows.other) (λ shows. two shows.settled shows.other)
+    none_of_four c.args.cues.now c.args.frame (displayed_grid c.args.receiver.now) (λ shows. one shows.settled shows.other) (λ shows. two shows.settled shows.other)
     (λ shows. three shows.settled shows.other) (λ shows. four shows.settled shows.other)
 
 pub returns-clause-knows : goal.returns-clause-knows

@@ -2,7 +2,7 @@ use Rattle.std.proofs.Common.{◌≡◌, ◌∙◌, ◌-◌, ◌++◌, ap, arith
 use Rattle.std.specs.List.{zip}
 use Rattle.std.proofs.lemmas.List.{append-nil}
 use Rattle.service_lanes.specs.ServiceBytes.{loads_at}
-use Rattle.service_lanes.specs.Stretches.{frames_of}
+use Rattle.service_lanes.specs.Stretches.{stretch_frames}
 use Rattle.service_lanes.proofs.LoadLemmas.{IsUnloaded, all_loaded, is_loaded, not_yet}
 use Rattle.service_lanes.proofs.cursor.Cursor.load.Goals as goal
 use Rattle.service_lanes.proofs.cursor.Cursor.load.Goals.{in_default-via-in-None-1, in_default-via-in-Some+else-stretch-frame}
@@ -30,7 +30,7 @@ push-requires c =
     let found = c.in-Some.ensures.lookup in
     let loaded = is_loaded c.args.chunks.now c.args.stretches.now c.args.self.now c.in-Some.stretch.now c.requires.loading found.3.0 found.1 c.if-stretch-frame.true in
     let bytes : take (c.in-Some.stretch.now.bytes - c.args.self.now.start) (drop c.args.self.now.start c.bytes.result.now)
-    ≡ loads_at (zip c.args.chunks.now (frames_of c.args.stretches.now)) c.args.self.now.frame =
+    ≡ loads_at (zip c.args.chunks.now (stretch_frames c.args.stretches.now)) c.args.self.now.frame =
     ap (λ l. take (c.in-Some.stretch.now.bytes - c.args.self.now.start) (drop c.args.self.now.start l)) c.bytes.ensures ∙ loaded.bytes in
     omega (arith, ap length bytes, c.requires.room)
 
@@ -39,7 +39,7 @@ returns-then-stretch-frame-clause-bytes c =
     let found = c.in-Some.ensures.lookup in
     let loaded = is_loaded c.args.chunks.now c.args.stretches.now c.args.self.now c.in-Some.stretch.now c.requires.loading found.3.0 found.1 c.if-stretch-frame.true in
     let bytes : take (c.in-Some.stretch.now.bytes - c.args.self.now.start) (drop c.args.self.now.start c.bytes.result.now)
-    ≡ loads_at (zip c.args.chunks.now (frames_of c.args.stretches.now)) c.args.self.now.frame =
+    ≡ loads_at (zip c.args.chunks.now (stretch_frames c.args.stretches.now)) c.args.self.now.frame =
     ap (λ l. take (c.in-Some.stretch.now.bytes - c.args.self.now.start) (drop c.args.self.now.start l)) c.bytes.ensures ∙ loaded.bytes in
     c.push.ensures ∙ ap (λ l. c.args.bytes.now.items ++ l) bytes
 

@@ -2,7 +2,7 @@ use Rattle.std.proofs.Common.{◌≡◌, ◌∙◌, ◌+◌, ◌<◌, ◌≤◌,
 use Rattle.std.specs.Prelude.{nat_le}
 use Rattle.std.proofs.lemmas.Bool.{and_parts, cases_lt}
 use Rattle.dtvcc_author.specs.FrameEvents.{delay_end, event_bytes}
-use Rattle.dtvcc_author.specs.Latest.{IsAt}
+use Rattle.dtvcc_author.specs.Latest.{IsLatestAt}
 use Rattle.placements.specs.FirstFit.{IsFirst}
 use Rattle.service_lanes.specs.CueChunks.{chunk_in}
 use Rattle.service_lanes.specs.ServiceRoom.{IsFront, budget_in, caption_lane, takes}
@@ -55,12 +55,12 @@ loop-self-preserved c =
     record {
       front = λ before is.
           let here = c.loop-self.invariant.front before is in
-          let at : IsAt cs (old.frame + 1) c.pass_to.new.self =
-          subst (λ n. IsAt cs (n + 1) c.pass_to.new.self) frame_was
-          (c.pass_to.ensures old.frame (omega arith) (subst (λ f. IsAt cs old.frame f.latest) (sym unchanged) here.at)) in
-          let at_passed : IsAt cs (c.admit.new.self.frame + 1) c.pass_to.new.self = subst (λ n. IsAt cs (n + 1) c.pass_to.new.self) (sym frame_was) at in
+          let at : IsLatestAt cs (old.frame + 1) c.pass_to.new.self =
+          subst (λ n. IsLatestAt cs (n + 1) c.pass_to.new.self) frame_was
+          (c.pass_to.ensures old.frame (omega arith) (subst (λ f. IsLatestAt cs old.frame f.latest) (sym unchanged) here.at)) in
+          let at_passed : IsLatestAt cs (c.admit.new.self.frame + 1) c.pass_to.new.self = subst (λ n. IsLatestAt cs (n + 1) c.pass_to.new.self) (sym frame_was) at in
           front_next kept.0 kept.1.0 share cs before old c.open.new.self kept.1.1 here frame_is
-          (subst (λ l. IsAt cs (old.frame + 1) l) (sym c.open.ensures.latest) at)
+          (subst (λ l. IsLatestAt cs (old.frame + 1) l) (sym c.open.ensures.latest) at)
           (subst (λ n. c.open.new.self.room + length (event_bytes (n + 1) cs) ≡ share) frame_was (c.open.ensures.room at_passed))
           (subst (λ f. c.open.new.self.budget ≡ budget_in f.budget (delay_end cs (f.frame + 1)) (f.frame + 1)) unchanged (c.open.ensures.budget at_passed));
       below = λ before is first frame low allowed.

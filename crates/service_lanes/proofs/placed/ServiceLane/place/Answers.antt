@@ -1,8 +1,8 @@
 use Rattle.std.proofs.Common.{sym, subst}
 use Rattle.placements.specs.Placing.{IsEarliest}
-use Rattle.dtvcc_author.specs.Latest.{IsAt}
+use Rattle.dtvcc_author.specs.Latest.{IsLatestAt}
 use Rattle.service_lanes.specs.ServiceRoom.{caption_lane}
-use Rattle.service_lanes.specs.Stretches.{frames_of}
+use Rattle.service_lanes.specs.Stretches.{stretch_frames}
 use Rattle.service_lanes.proofs.LoadLemmas.{loading_start}
 use Rattle.service_lanes.proofs.PlaceLemmas.{within_share}
 use Rattle.service_lanes.proofs.placed.ServiceLane.place.Goals as goal
@@ -14,13 +14,13 @@ invariant_of-result c =
     let chunks = c.args.self.chunks in
     let stretches = c.in-Ok.stretches.items in
     let cursor = c.start.result in
-    let earliest : IsEarliest (caption_lane share cs) chunks (frames_of stretches) =
-    subst (λ l. IsEarliest (caption_lane share l) chunks (frames_of stretches)) c.deref.ensures.value c.in-Ok.ensures.frames in (
+    let earliest : IsEarliest (caption_lane share cs) chunks (stretch_frames stretches) =
+    subst (λ l. IsEarliest (caption_lane share l) chunks (stretch_frames stretches)) c.deref.ensures.value c.in-Ok.ensures.frames in (
       record {
         kept = c.requires.kept;
-        at = subst (λ n. IsAt cs n cursor.latest) (sym c.start.ensures.frame) (c.start.ensures.latest cs);
+        at = subst (λ n. IsLatestAt cs n cursor.latest) (sym c.start.ensures.frame) (c.start.ensures.latest cs);
         loading = loading_start chunks stretches cursor c.in-Ok.ensures.stretches c.start.ensures.frame c.start.ensures.next c.start.ensures.start;
       },
-      within_share share cs chunks (frames_of stretches) c.requires.least earliest.placed,
+      within_share share cs chunks (stretch_frames stretches) c.requires.least earliest.placed,
       c.requires.most,
     )

@@ -4,7 +4,7 @@ use Rattle.dtvcc_author.proofs.PackedLemmas.{bytes_before_next}
 use Rattle.service_lanes.specs.CueChunks.{chunk_in}
 use Rattle.service_lanes.specs.ServiceRoom.{IsFirstBehind, IsFront, caption_lane}
 use Rattle.service_lanes.specs.ServicePlacing.{stretches_of}
-use Rattle.service_lanes.specs.Stretches.{frames_of}
+use Rattle.service_lanes.specs.Stretches.{stretch_frames}
 use Rattle.service_lanes.specs.declared.chunk.Chunk.{Chunk}
 use Rattle.service_lanes.specs.declared.stretch.Stretch.{Stretch}
 use Rattle.service_lanes.proofs.PlacingSteps.{IsPlaced, placing_next, placing_none}
@@ -13,7 +13,7 @@ use Rattle.service_lanes.proofs.placing.Placing.place.Goals as goal
 pub returns-in_default-clause-fault : goal.returns-in_default-clause-fault
 returns-in_default-clause-fault c chunks of_cue order is =
     placing_none c.args.share c.args.captions.now chunks c.args.cue.now c.args.units.now c.args.self.now.last.units
-    (frames_of (stretches_of c.args.self.now)) c.args.self.now.front order
+    (stretch_frames (stretches_of c.args.self.now)) c.args.self.now.front order
     is.reaches of_cue
     (subst (λ u. (before : List (Chunk × ℕ)) → IsFront c.args.share c.args.captions.now before c.args.self.now.front
     → IsFirstBehind before c.args.self.now.front.frame → (frame : ℕ)

@@ -1,12 +1,12 @@
 use Rattle.std.proofs.Common.{length, ◌-◌, ℕ, ◌^◌, ◌<◌, ◌≤◌}
-use Rattle.frame_scheduler.specs.LaneFront.{IsFront, AreFree}
+use Rattle.frame_scheduler.specs.LaneFront.{IsFrontOfEvents, AreFree}
 use Rattle.frame_scheduler.proofs.lane.front.Front.pass_events.Given as goal
 
 abbrev pub invariant-loop-event : goal.invariant-loop-event
 invariant-loop-event l = record {
   small : l.self.end < 2 ^ 33;
   behind : l.fn.self.end ≤ l.self.end;
-  front : IsFront l.events l.self;
+  front : IsFrontOfEvents l.events l.self;
   onward : l.fn.self.passed ≤ l.self.passed;
   first : (other : ℕ) → l.fn.self.end ≤ other → AreFree l.events l.slots other → l.self.end ≤ other;
 }
