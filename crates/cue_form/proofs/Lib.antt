@@ -8,6 +8,7 @@ pub mod LastRun
 pub mod ListLimits
 pub mod NumberFacts
 pub mod Passing
+pub mod PlainTexts
 pub mod RecordFacts
 pub mod Rows
 pub mod ShareRoom

@@ -23,7 +23,7 @@ use Rattle.cue_types.specs.Windows.{AreWindowAttributes, IsWindow, IsWindowRun}
 use Rattle.cue_form.specs.Fields.{channel_field, fill_field, frame_field, is_two_bits, named, number_field, number_within, pen_field, rate_field, rgb_field}
 use Rattle.cue_form.specs.Form.{cue_columns, first_row, frame_or_none_field, is_coded, last_row, run_pen_field, suits_row, version_words}
 use Rattle.cue_form.specs.Judgements.{attribute_judgements, colour_judgements, head_judgements, rolled_judgements, run_judgements, share_judgements, shown_judgements, window_judgements}
-use Rattle.cue_form.specs.Reading.{attributes_of, colours_of, cue_of, head_of, number, record_channel, record_fill, rgb, rolled_cue_of, run_of, share_record_of, shown_cue_of, window_cue_of}
+use Rattle.cue_form.specs.Reading.{attributes_of, colours_of, cue_of, head_of, number, record_fill, rgb, rolled_cue_of, run_of, share_record_of, shown_cue_of, window_cue_of}
 use Rattle.cue_form.specs.Records.{Field, Record, field}
 use Rattle.cue_form.specs.Spelling.{attribute_record, channel_word, colour_record, cue_record, fill_word, head_record, hide_word, pen_word, rgb_word, run_record, share_record, wrap_number}
 use Rattle.cue_types.specs.declared.cue.Cue.{Cue}

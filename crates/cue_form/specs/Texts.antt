@@ -1,5 +1,5 @@
 -- The text of a run, judged for its bytes, then for its characters, then for its length.
-use Rattle.std.specs.Prelude.{ℕ, ◌+◌, ◌&&◌, nat_lt, nat_le, if◌then◌else◌, Bool, List, length, chars, Result, Ok, Err}
+use Rattle.std.specs.Prelude.{ℕ, ◌+◌, ◌&&◌, ◌==◌, not, nat_lt, nat_le, if◌then◌else◌, Bool, List, length, chars, Result, Ok, Err}
 use Rattle.std.specs.List.{list_all}
 use Rattle.std.specs.Str.{is_utf8}
 use Rattle.cc_base.specs.declared.why.Why.{Why}
@@ -9,6 +9,10 @@ use Rattle.cue_form.specs.Records.{Field}
 use Rattle.cue_types.specs.declared.cue.Kind.{Kind}
 use Rattle.cue_form.specs.declared.offence.Offence.{Offence}
 use Rattle.cue_form.specs.declared.offence.Offence.TheVariants as offence
+
+-- a character of ASCII that has a code in line 21 and in a service
+abbrev pub is_plain : ℕ → Bool
+is_plain byte = nat_le 0x20 byte && (nat_lt byte 0x7F && not (byte == 0x60))
 
 -- a test of the text, and what goes on where it is passed
 abbrev pub must : {A : Type 0} → Bool → Why → Result A Offence → Result A Offence

@@ -2,7 +2,7 @@ ghost use Rattle.std.specs.Prelude.{◌≡◌, ◌≤◌, length, chars};
 ghost use Rattle.std.specs.List.{list_all};
 ghost use Rattle.cue_form.specs.Answers.{Gives};
 ghost use Rattle.cue_form.specs.Form.{cue_columns, is_coded};
-ghost use Rattle.cue_form.specs.Texts.{run_text_of};
+ghost use Rattle.cue_form.specs.Texts.{is_plain, run_text_of};
 
 use crate::offence::{Offence, out_of_form};
 use cc_base::Why;
@@ -13,8 +13,44 @@ use std::alloc::Global;
 use std::str;
 
 /// The text of a run that begins at a column, in a cue of the kind. It is judged for its bytes, then for its characters, then
-/// for its length.
+/// for its length; where its bytes are all plain and fit, it is good by all three.
 pub fn read_text(alloc: Global, kind: Kind, col: u8, text: &[u8]) -> Result<Text, Offence>
+    ensures { Gives (run_text_of kind col text.now) result }
+{
+    let fits = usize::from(col) + text.len() <= usize::from(columns_of(kind));
+    if fits && !text.is_empty() && are_plain(text) {
+        plain_text(alloc, text)
+    } else {
+        judged_text(alloc, kind, col, text)
+    }
+}
+
+/// Whether the bytes are all plain.
+fn are_plain(text: &[u8]) -> bool
+    ensures { result ≡ list_all is_plain text.now }
+{
+    text.iter().all(|byte| is_plain(*byte))
+}
+
+/// A character of ASCII that has a code in line 21 and in a service: there is none for ` in line 21.
+fn is_plain(byte: u8) -> bool
+    ensures { result ≡ is_plain byte }
+{
+    0x20 <= byte && byte < 0x7F && byte != 0x60
+}
+
+/// The text of plain bytes, each of which is its own character.
+fn plain_text(alloc: Global, text: &[u8]) -> Result<Text, Offence>
+    ensures { Gives (Ok text.now) result }
+{
+    match text.iter().map(|byte| char::from(*byte)).collect(alloc) {
+        Ok(chars) => Ok(Text::from_vec(chars)),
+        Err(error) => Err(Offence::Memory(error)),
+    }
+}
+
+/// The text of any bytes, judged in turn.
+fn judged_text(alloc: Global, kind: Kind, col: u8, text: &[u8]) -> Result<Text, Offence>
     ensures { Gives (run_text_of kind col text.now) result }
 {
     let Ok(text) = str::from_utf8(text) else {
