@@ -25,11 +25,15 @@ pub fn read_text(alloc: Global, kind: Kind, col: u8, text: &[u8]) -> Result<Text
     }
 }
 
-/// Whether the bytes are all plain.
+/// Whether the bytes are all plain. Each is tested, so that many can be tested at once.
 fn are_plain(text: &[u8]) -> bool
     ensures { result ≡ list_all is_plain text.now }
 {
-    text.iter().all(|byte| is_plain(*byte))
+    let mut plain = true;
+    for byte in text {
+        plain &= is_plain(*byte);
+    }
+    plain
 }
 
 /// A character of ASCII that has a code in line 21 and in a service: there is none for ` in line 21.
