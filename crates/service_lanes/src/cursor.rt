@@ -87,6 +87,7 @@ fn push(bytes: &[u8], out: &mut ArrayVec<u8, 31>)
     ensures { out.new.items ≡ out.old.items ++ bytes.now }
 {
     match bytes {
+        [] => {}
         [byte] => out.push(*byte),
         _ => {
             if out.try_extend_from_slice(bytes).is_err() {
