@@ -1,3 +1,4 @@
+pub mod AsciiUnits
 pub mod WritableLemmas
 pub mod SpelledLemmas
 pub mod LatestLemmas

@@ -152,7 +152,19 @@ fn push_characters(units: &mut PackedUnits, text: &[char]) -> Result<(), AllocEr
     ensures { OnOk result (units.new ≡ units.old ++ map written (character_commands text.now)) }
 {
     for ch in text {
-        push_command(units, Command::Put(Some(*ch)))?;
+        push_character(units, *ch)?;
     }
     Ok(())
+}
+
+// Appends the unit of a character; one of ASCII is its own byte.
+#[inline(always)]
+fn push_character(units: &mut PackedUnits, ch: char) -> Result<(), AllocError>
+    requires { IsWritable (command.Put (Some ch)) }
+    ensures { OnOk result (units.new ≡ units.old ++ written (command.Put (Some ch)) ∷ []) }
+{
+    match ch {
+        ' '..='~' => units.push_byte(ch as u8),
+        _ => push_command(units, Command::Put(Some(ch))),
+    }
 }

@@ -50,6 +50,20 @@ impl PackedUnits {
         Ok(())
     }
 
+    /// Appends a unit of one byte.
+    #[inline(always)]
+    pub(crate) fn push_byte(&mut self, byte: u8) -> Result<(), AllocError>
+        ensures { OnOk result (self.new ≡ self.old ++ (byte ∷ []) ∷ []) }
+    {
+        let before = self.bytes.len();
+        self.bytes.push(byte)?;
+        if let Err(error) = self.lengths.push(1) {
+            self.bytes.truncate(before);
+            return Err(error.into());
+        }
+        Ok(())
+    }
+
     /// The bytes of all units, one unit behind the other.
     pub fn bytes(&self) -> &[u8]
         ensures { result.now ≡ concat self.now }

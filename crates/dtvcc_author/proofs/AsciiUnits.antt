@@ -1,0 +1,18 @@
+-- A character of ASCII is its own byte.
+use Rattle.std.proofs.Common.{◌≡◌, ℕ, ◌<◌, ◌≤◌, ◌==◌, false, ◌∷◌, [], refl, arith, inl, inr, eqb-true, lt-ltb, le-leb}
+use Rattle.std.proofs.lemmas.Bool.{cases_Bool}
+use Rattle.dtvcc_codes.specs.CharacterSpellings.{spelling_of}
+use Rattle.dtvcc_codes.specs.Writing.{written}
+use Rattle.dtvcc_codes.specs.declared.commands.Command.TheVariants.{Put}
+use Rattle.std.specs.Prelude.{Some}
+
+not_note : (ch : ℕ) → ch < 0x7F → (ch == 0x266A) ≡ false
+not_note ch below =
+    elim (cases_Bool (ch == 0x266A)) [
+      | inl same ↦ absurd (let is : ch ≡ 0x266A = eqb-true ch 0x266A same in omega arith)
+      | inr other ↦ other
+    ]
+
+pub ascii_written : (ch : ℕ) → 0x20 ≤ ch → ch < 0x7F → written (Put (Some ch)) ≡ ch ∷ []
+unfolding written spelling_of
+ascii_written ch from below = rw (not_note ch below, le-leb 0x20 ch from, lt-ltb ch 0x7F below) refl
