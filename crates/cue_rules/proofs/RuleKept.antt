@@ -1,7 +1,7 @@
 -- What a cue that keeps the rules has, in plain facts: each for one alternative of a rule that isn't broken.
 use Rattle.std.proofs.Common.{◌≡◌, ◌≢◌, ℕ, ◌+◌, ◌*◌, ◌<◌, ◌≤◌, lt-ltb, Bool, true, false, if◌then◌else◌, not, ◌&&◌, ◌||◌, List, [], ◌∷◌, Option, Some, None, suc, refl, sym, ap, ◌∙◌, inl, inr, arith}
-use Rattle.std.specs.Prelude.{nat_le, nat_lt, ◌==◌, is_none, filter, slice_get}
-use Rattle.std.proofs.lemmas.Bool.Decides.{leb_tells, eqb_tells}
+use Rattle.std.specs.Prelude.{nat_le, nat_lt, ◌==◌, is_none}
+use Rattle.std.proofs.lemmas.Bool.Decides.{leb_tells}
 use Rattle.cc_base.specs.declared.why.Why.{Why}
 use Rattle.cue_types.specs.Listing.{Listing}
 use Rattle.cue_rules.specs.Rules.{verdicts, fault_or, fault_of}
@@ -10,7 +10,7 @@ use Rattle.cue_types.specs.Cells.{have_shared_cell}
 use Rattle.cue_rules.specs.Rules.Clash.{clash, shows_as_it_hides}
 use Rattle.cue_rules.specs.Rules.DelayCovers.{delay_covers}
 use Rattle.cue_types.specs.Line21Cues.{continues}
-use Rattle.cue_rules.specs.Rules.Former.{nearest, former_cue}
+use Rattle.cue_rules.specs.Rules.Former.{former_cue}
 use Rattle.cue_types.specs.Lane.{is_line21, is_pop, is_paint, is_roll}
 use Rattle.cue_rules.specs.Rules.Order.{order, loads_before_it_shows}
 use Rattle.cue_rules.specs.Rules.Overlap.{overlap, shows_before_it_hides}

@@ -13,7 +13,7 @@ use Rattle.dtvcc_codes.proofs.SpellableLemmas.{delay_cancel_is}
 use Rattle.dtvcc_screen.specs.declared.clock.Clock.{Clock}
 use Rattle.dtvcc_screen.specs.declared.cores.Core.{Core}
 use Rattle.dtvcc_screen.specs.Commands.{on_screen}
-use Rattle.dtvcc_screen.specs.Cores.{CoreState, acted, acted_if, after_byte, after_tick, all_acted, arrived, fill, fill_in, held_more, is_cancel, is_due, is_reset, released, tenths_of, until_of}
+use Rattle.dtvcc_screen.specs.Cores.{CoreState, acted, acted_if, after_byte, all_acted, fill, fill_in, held_more, is_cancel, is_reset, released, tenths_of, until_of}
 use Rattle.dtvcc_screen.specs.Objects.{Carries, Stands, acting_on, screen_of}
 use Rattle.dtvcc_screen.specs.Screens.{ScreenState}
 use Rattle.dtvcc_screen.proofs.CoreLemmas.{all_acted-open, arrived_cancel, arrived_held, arrived_now, by_byte, closed, completions_length, completions_more, fill_held, front, front_more, front_rest, next_delayed, rest_acted}

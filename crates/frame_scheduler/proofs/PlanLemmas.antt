@@ -2,9 +2,7 @@
 use Rattle.std.proofs.Common.{◌≡◌, ◌∙◌, ◌+◌, ◌≤◌, ◌⊎◌, inl, inr, ◌==◌, ℕ, zero, suc, Bool, true, false, List, [], ◌∷◌, ◌++◌, ap, sym, subst, refl, arith, Some, None, Option, Result, Ok, Err, All, append-nil, append_assoc}
 use Rattle.std.specs.Prelude.{⊤, is_some, if◌then◌else◌, option_map, find, unwrap_or, Vec}
 use Rattle.std.specs.Global.{Global}
-use Rattle.std.specs.List.{flat_map, list_any, zip}
-use Rattle.cue_lists.specs.Rules.Lane.{is_win}
-use Rattle.cue_lists.specs.declared.cue.Cue.{Cue}
+use Rattle.std.specs.List.{flat_map, zip}
 use Rattle.std.specs.Result.{result_err}
 use Rattle.std.proofs.lemmas.Bool.{cases_lt, eqb-true}
 use Rattle.std.proofs.lemmas.List.Concat.{flat_map-append}
@@ -24,7 +22,7 @@ use Rattle.cue_lists.specs.declared.list.Share.{Share}
 use Rattle.placements.specs.declared.planning.PlanFault.{PlanFault}
 use Rattle.placements.specs.declared.planning.PlanFault.TheVariants.{Memory, NoRoom}
 use Rattle.placements.proofs.PlacingLemmas.{earliest_same}
-use Rattle.service_lanes.proofs.ChunkOrderLemmas.{none_of_line21, none_sent}
+use Rattle.service_lanes.proofs.ChunkOrderLemmas.{none_sent}
 use Rattle.service_lanes.specs.ServiceBytes.{bytes_in}
 use Rattle.service_lanes.specs.ServicePlan.{PlannedService, lane_bytes}
 use Rattle.frame_scheduler.specs.Blocks.{blocks_of, blocks_room, lane_block, service_block}

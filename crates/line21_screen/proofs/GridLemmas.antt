@@ -1,5 +1,5 @@
 -- The grid of a list of cells: what a read and a write of the list are to it.
-use Rattle.std.proofs.Common.{◌≡◌, ◌≢◌, ℕ, ◌+◌, ◌-◌, ◌*◌, ◌<◌, ◌≤◌, ◌==◌, ◌&&◌, nat_le, nat_lt, Bool, true, false, if◌then◌else◌, List, Option, None, get_or, length, refl, sym, ap, ◌∙◌, arith, get_or-set_same, get_or-set_other, min, inl, inr}
+use Rattle.std.proofs.Common.{◌≡◌, ◌≢◌, ℕ, ◌+◌, ◌-◌, ◌*◌, ◌<◌, ◌≤◌, ◌==◌, ◌&&◌, Bool, true, false, if◌then◌else◌, List, Option, None, get_or, length, refl, sym, ap, ◌∙◌, arith, get_or-set_same, get_or-set_other, min, inl, inr}
 use Rattle.std.proofs.Math.ListN.{set}
 use Rattle.std.proofs.Math.Path.{fun_ext}
 use Rattle.std.proofs.lemmas.Bool.{cases_lt}
@@ -7,7 +7,7 @@ use Rattle.std.proofs.lemmas.Bool.Decides.{nat_tests}
 use Rattle.std.proofs.lemmas.List.{get_or_default}
 use Rattle.std.specs.List.{AllWithin, CopiedTo, SameBelow, SameFrom}
 use Rattle.line21_codes.specs.declared.styles.Cell.{Cell}
-use Rattle.line21_screen.specs.Grid.{Grid, in_grid, empty_grid, with_cell, without_cells}
+use Rattle.line21_screen.specs.Grid.{Grid, in_grid, empty_grid, with_cell}
 use Rattle.line21_screen.specs.Windows.{in_window, moved}
 use Rattle.line21_screen.specs.Objects.{place, grid_of}
 

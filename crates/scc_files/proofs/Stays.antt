@@ -3,7 +3,7 @@ use Rattle.std.proofs.Common.{◌≡◌, ℕ, ◌+◌, ◌<◌, Bool, true, fals
 use Rattle.cc_base.specs.declared.refusal.Refusal.{Refusal}
 use Rattle.line21_codes.specs.declared.pairs.Pair.{Pair}
 use Rattle.scc_files.specs.Phases.{may_end, why_in}
-use Rattle.scc_files.specs.Reading.{Stepped, at_first, behind, read_file, read_from, step, with_pair}
+use Rattle.scc_files.specs.Reading.{Stepped, behind, read_file, read_from, step, with_pair}
 use Rattle.scc_files.specs.SccFiles.{IsSccFile}
 use Rattle.scc_files.specs.declared.reader.Offence.{Offence}
 use Rattle.scc_files.specs.declared.reader.Reader.{Reader}

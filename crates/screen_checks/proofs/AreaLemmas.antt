@@ -1,5 +1,5 @@
 -- Places of the caption area at which a grid has another cell.
-use Rattle.std.proofs.Common.{◌≡◌, ◌≢◌, ◌∙◌, ℕ, ◌<◌, ◌≤◌, ap, arith}
+use Rattle.std.proofs.Common.{◌≡◌, ◌≢◌, ◌∙◌, ℕ, ◌<◌, ◌≤◌, arith}
 use Rattle.std.specs.Prelude.{Option}
 use Rattle.line21_codes.specs.declared.styles.Cell.{Cell}
 use Rattle.line21_screen.specs.Differences.{HasOther}

@@ -1,8 +1,7 @@
 -- The units of a service stand in the order of their cues; a service without a share has none.
 use Rattle.std.proofs.Common.{◌≡◌, ℕ, suc, ◌==◌, ◌||◌, Bool, true, false, cond, List, [], ◌∷◌, ◌++◌, Option, Some, None, map, refl, subst, arith}
 use Rattle.std.specs.Prelude.{IsSome, if◌then◌else◌}
-use Rattle.std.specs.List.{cons_option, list_any}
-use Rattle.cue_lists.specs.Rules.Lane.{is_win}
+use Rattle.std.specs.List.{cons_option}
 use Rattle.cc_base.specs.declared.rate.Rate.{Rate}
 use Rattle.cue_lists.specs.Channels.{cues_of_service, is_of_service}
 use Rattle.cue_lists.specs.Listing.{Listing, share_of}
@@ -102,29 +101,3 @@ all_unsent l service none (cue ∷ cues) ruled = at cue.kind refl ruled (all_uns
 pub none_sent : (l : Listing) (service : ℕ) → IsRuled l → share_of l service ≡ None
     → (service_captions l.rate service l.cues ≡ []) × (service_chunks l.rate service l.cues ≡ [])
 none_sent l service ruled none = let all = all_unsent l service none l.cues (ruled.services service) in (all.captions, all.chunks 1)
-
--- a list without windows sends its services nothing
-line21_unsent : (rate : Rate) (service : ℕ) (cues : List Cue) → list_any (λ (cue : Cue). is_win cue.kind) cues ≡ false → IsUnsent rate service cues
-line21_unsent rate service [] none = record { captions = refl; chunks = λ number. refl }
-line21_unsent rate service (cue ∷ cues) none = of_all (kinds cue.kind none (line21_unsent rate service cues))
-  where
-    Sent : Option Caption → Type 0
-    Sent c = (cons_option c (service_captions rate service cues) ≡ [])
-        × ((number : ℕ) → chunks_with number c (window_cue_units cue) ++ chunks_from rate service (suc number) cues ≡ [])
-
-    unsent : IsUnsent rate service cues → Sent None
-    unsent rest = (rest.captions, λ number. rest.chunks (suc number))
-
-    kinds : (k : Kind) → (is_win k || list_any (λ (cue : Cue). is_win cue.kind) cues) ≡ false
-        → (list_any (λ (cue : Cue). is_win cue.kind) cues ≡ false → IsUnsent rate service cues) → Sent (caption_with rate service k cue)
-    kinds (Pop channel) none rest = unsent (rest none)
-    kinds (Paint channel) none rest = unsent (rest none)
-    kinds (Roll channel rows) none rest = unsent (rest none)
-    kinds (Win w) none rest = cc
-
-    of_all : Sent (caption_with rate service cue.kind cue) → IsUnsent rate service (cue ∷ cues)
-    of_all all = record { captions = all.0; chunks = all.1 }
-
-pub none_of_line21 : (rate : Rate) (service : ℕ) (cues : List Cue) → list_any (λ (cue : Cue). is_win cue.kind) cues ≡ false
-    → (service_captions rate service cues ≡ []) × (service_chunks rate service cues ≡ [])
-none_of_line21 rate service cues none = let all = line21_unsent rate service cues none in (all.captions, all.chunks 1)

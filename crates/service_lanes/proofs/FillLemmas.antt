@@ -29,16 +29,6 @@ le_test a b low = grind (arith, nat_tests)
 le_told : (a b : ℕ) → nat_le a b ≡ true → a ≤ b
 le_told a b low = grind (arith, nat_tests)
 
--- a frame has what is at most its room and what its delay has left
-pub most_taken : (front : Front) (budget : Budget) (size : ℕ) → front.budget ≡ Some budget → size ≤ front.room → size ≤ budget.left → takes front size ≡ true
-most_taken front budget size is room left =
-    both_hold (nat_le size front.room) (has_left front.budget size) (le_test size front.room room)
-    (subst (λ b. has_left b size ≡ true) (sym is) (le_test size budget.left left))
-
-pub room_taken : (front : Front) (size : ℕ) → front.budget ≡ None → size ≤ front.room → takes front size ≡ true
-room_taken front size is room =
-    both_hold (nat_le size front.room) (has_left front.budget size) (le_test size front.room room) (subst (λ b. has_left b size ≡ true) (sym is) refl)
-
 -- bytes that are taken in two parts
 spent_twice : (budget : Option Budget) (a b : ℕ) → spent_of (spent_of budget a) b ≡ spent_of budget (a + b)
 spent_twice None a b = refl

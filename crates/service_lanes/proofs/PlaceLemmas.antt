@@ -14,7 +14,7 @@ use Rattle.placements.specs.FirstFit.{IsFirst}
 use Rattle.placements.specs.LaneRoom.{AreInCueOrder, IsFirstCrowded}
 use Rattle.placements.specs.Placing.{IsEarliest, IsPlaced}
 use Rattle.placements.proofs.LaneRoomLemmas.{no_room_at}
-use Rattle.placements.proofs.PlacingLemmas.{earliest_none, zip_push}
+use Rattle.placements.proofs.PlacingLemmas.{zip_push}
 use Rattle.service_lanes.specs.ServiceBytes.{AreFramesFrom, loads_at}
 use Rattle.service_lanes.specs.ServiceChunks.{chunk_cue}
 use Rattle.service_lanes.specs.ServiceLane.{AreUpTo, bytes_between, chunk_size, is_between, used}
@@ -25,14 +25,6 @@ use Rattle.service_lanes.specs.declared.chunk.Chunk.{Chunk}
 use Rattle.service_lanes.specs.declared.front.Front.{Front}
 use Rattle.service_lanes.proofs.FrontLemmas.{last_is_first}
 use Rattle.service_lanes.proofs.ServiceLaneLemmas.{chunks_fit_earlier, chunks_one_more, placed_within}
-
--- no unit is placed
-pub reaches_start : (share : ℕ) (cs : List Caption) (front : Front) → IsFront share cs [] front → front.frame ≡ 0 → Reaches share cs [] [] front
-reaches_start share cs front is at = record {
-  earliest = earliest_none (caption_lane share cs);
-  front_is = is;
-  first = λ other all. omega (arith, at);
-}
 
 -- one more of the lane's units is placed
 pub reaches_next : (share : ℕ) (cs : List Caption) (us : List Chunk) (k : ℕ) (d : Chunk) (frames : List ℕ) (old new : Front) (f : ℕ) → k < length us

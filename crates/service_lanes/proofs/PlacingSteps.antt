@@ -1,5 +1,5 @@
 -- The units of a service placed one by one: the stretches of those that are placed.
-use Rattle.std.proofs.Common.{◌≡◌, ◌∙◌, ℕ, ◌+◌, ◌<◌, ◌≤◌, List, [], ◌∷◌, ◌++◌, refl, sym, ap, subst, arith, length, get_or, take, ⊎_elim}
+use Rattle.std.proofs.Common.{◌≡◌, ◌∙◌, ℕ, ◌+◌, ◌<◌, ◌≤◌, List, [], ◌∷◌, ◌++◌, sym, ap, subst, arith, length, get_or, take, ⊎_elim}
 use Rattle.std.proofs.lemmas.Bool.{cases_lt}
 use Rattle.std.specs.List.{zip}
 use Rattle.dtvcc_author.specs.declared.caption.Caption.{Caption}
@@ -16,7 +16,7 @@ use Rattle.service_lanes.specs.declared.chunk.CueLoad.{CueLoad}
 use Rattle.service_lanes.specs.declared.front.Front.{Front}
 use Rattle.service_lanes.specs.declared.placing.Placing.{Placing}
 use Rattle.service_lanes.specs.declared.stretch.Stretch.{Stretch}
-use Rattle.service_lanes.proofs.PlaceLemmas.{reaches_all, reaches_next, reaches_none, reaches_start}
+use Rattle.service_lanes.proofs.PlaceLemmas.{reaches_all, reaches_next, reaches_none}
 use Rattle.service_lanes.proofs.StretchLemmas.{bytes_of_more, frames_grow, frames_more, is_last, stretches_grow, stretches_more}
 
 -- what placing the next unit of a cue gave
