@@ -11,8 +11,8 @@ use Rattle.cue_form.specs.declared.offence.Offence.{Offence}
 use Rattle.cue_form.specs.declared.offence.Offence.TheVariants as offence
 
 -- a character of ASCII that has a code in line 21 and in a service
-abbrev pub is_plain : ℕ → Bool
-is_plain byte = nat_le 0x20 byte && (nat_lt byte 0x7F && not (byte == 0x60))
+abbrev pub is_plain_byte : ℕ → Bool
+is_plain_byte byte = nat_le 0x20 byte && (nat_lt byte 0x7F && not (byte == 0x60))
 
 -- a test of the text, and what goes on where it is passed
 abbrev pub must : {A : Type 0} → Bool → Why → Result A Offence → Result A Offence

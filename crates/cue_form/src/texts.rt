@@ -2,7 +2,7 @@ ghost use Rattle.std.specs.Prelude.{◌≡◌, ◌≤◌, length, chars};
 ghost use Rattle.std.specs.List.{list_all};
 ghost use Rattle.cue_form.specs.Answers.{Gives};
 ghost use Rattle.cue_form.specs.Form.{cue_columns, is_coded};
-ghost use Rattle.cue_form.specs.Texts.{is_plain, run_text_of};
+ghost use Rattle.cue_form.specs.Texts.{is_plain_byte, run_text_of};
 
 use crate::offence::{Offence, out_of_form};
 use cc_base::Why;
@@ -27,18 +27,18 @@ pub fn read_text(alloc: Global, kind: Kind, col: u8, text: &[u8]) -> Result<Text
 
 /// Whether the bytes are all plain. Each is tested, so that many can be tested at once.
 fn are_plain(text: &[u8]) -> bool
-    ensures { result ≡ list_all is_plain text.now }
+    ensures { result ≡ list_all is_plain_byte text.now }
 {
     let mut plain = true;
     for byte in text {
-        plain &= is_plain(*byte);
+        plain &= is_plain_byte(*byte);
     }
     plain
 }
 
 /// A character of ASCII that has a code in line 21 and in a service: there is none for ` in line 21.
-fn is_plain(byte: u8) -> bool
-    ensures { result ≡ is_plain byte }
+fn is_plain_byte(byte: u8) -> bool
+    ensures { result ≡ is_plain_byte byte }
 {
     0x20 <= byte && byte < 0x7F && byte != 0x60
 }

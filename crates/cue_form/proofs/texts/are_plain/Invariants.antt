@@ -1,7 +1,7 @@
 use Rattle.std.proofs.Common.{◌≡◌, take}
 use Rattle.std.specs.List.{list_all}
-use Rattle.cue_form.specs.Texts.{is_plain}
+use Rattle.cue_form.specs.Texts.{is_plain_byte}
 use Rattle.cue_form.proofs.texts.are_plain.Given as goal
 
 abbrev pub invariant-loop-byte : goal.invariant-loop-byte
-invariant-loop-byte l = l.plain ≡ list_all is_plain (take l.byte-index l.text)
+invariant-loop-byte l = l.plain ≡ list_all is_plain_byte (take l.byte-index l.text)
