@@ -126,7 +126,7 @@ impl Latest {
     }
 }
 
-// The first frame, from this one on, in which a caption has an event; the last frame of all where there is none.
+// A frame, from this one on, before which a caption has no event.
 fn next_event(caption: &Option<Caption>, frame: u32) -> u32
     ensures { (other : ℕ) → frame ≤ other → other < result → passes (has_event_at other) caption.now ≡ false }
 {
@@ -136,7 +136,7 @@ fn next_event(caption: &Option<Caption>, frame: u32) -> u32
     }
 }
 
-// The frame of an event, or the last frame of all where it is before this one.
+// A frame, from this one on, before which an event doesn't come.
 fn frame_from(event: u32, frame: u32) -> u32
     ensures { (other : ℕ) → frame ≤ other → other < result → (event == other) ≡ false }
 {

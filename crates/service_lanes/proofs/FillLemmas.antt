@@ -55,7 +55,7 @@ takes_rest front a b has =
 -- units of so many bytes more are placed, up to so many units in all
 abbrev pub filled : Placing → ℕ → ℕ → Placing
 filled placing size units = record {
-  stretches = placing.stretches;
+  batches = placing.batches;
   last = record { frame = placing.last.frame; units = units; bytes = placing.last.bytes + size };
   front = behind_taking placing.front size;
 }
@@ -94,7 +94,7 @@ filled_start share cs us old is =
     let room : old.front.room ≡ old.front.room - 0 = omega arith in
     subst
     (λ n. IsPlacing share cs us
-    (record { stretches = old.stretches; last = record { frame = old.last.frame; units = old.last.units; bytes = n }; front = behind_taking old.front 0 })) bytes
+    (record { batches = old.batches; last = record { frame = old.last.frame; units = old.last.units; bytes = n }; front = behind_taking old.front 0 })) bytes
     (subst (λ n. IsPlacing share cs us (record old { front = record old.front { room = n; budget = spent_of old.front.budget 0 } })) room
     (subst (λ o. IsPlacing share cs us (record old { front = record old.front { budget = o } })) (spent_none old.front.budget) is))
   where

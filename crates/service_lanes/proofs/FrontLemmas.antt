@@ -185,13 +185,13 @@ used_push : (from to : ℕ) (before : List (Chunk × ℕ)) (u : Chunk) (f : ℕ)
     → used from to (before ++ (u, f) ∷ []) ≡ used from to before + bytes_between from to (u, f)
 used_push from to before u f = sum_by_push (bytes_between from to) before (u, f)
 
-in_stretch : (from to f : ℕ) → from ≤ f → f < to → is_between from to f ≡ true
-in_stretch from to f low high = grind (arith, nat_tests)
+in_batch : (from to f : ℕ) → from ≤ f → f < to → is_between from to f ≡ true
+in_batch from to f low high = grind (arith, nat_tests)
 
 used_more : (from to : ℕ) (before : List (Chunk × ℕ)) (u : Chunk) (f : ℕ) → from ≤ f → f < to
     → used from to (before ++ (u, f) ∷ []) ≡ used from to before + chunk_size u
 used_more from to before u f low high =
-    let here : bytes_between from to (u, f) ≡ chunk_size u = let is = in_stretch from to f low high in rw is refl in
+    let here : bytes_between from to (u, f) ≡ chunk_size u = let is = in_batch from to f low high in rw is refl in
     used_push from to before u f ∙ ap (λ n. used from to before + n) here
 
 -- the front behind a unit that its frame takes

@@ -2,7 +2,7 @@ pub mod ServiceLaneLemmas
 pub mod DelayLemmas
 pub mod FrontLemmas
 pub mod CueChunkLemmas
-pub mod StretchLemmas
+pub mod BatchLemmas
 pub mod LoadLemmas
 pub mod PlaceLemmas
 pub mod PlacingSteps

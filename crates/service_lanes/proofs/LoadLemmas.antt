@@ -1,4 +1,4 @@
--- The units of a frame: those of the cursor's next stretch, where that is in the frame.
+-- The units of a frame: those of the cursor's next batch, where that is in the frame.
 use Rattle.std.proofs.Common.{◌≡◌, ◌∙◌, ℕ, zero, suc, ◌+◌, ◌-◌, ◌<◌, ◌≤◌, ◌==◌, Bool, true, false, if◌then◌else◌, List, [], ◌∷◌, ◌++◌, refl, sym, ap, subst, arith, length, get_or, take, drop, append_assoc, length-append}
 use Rattle.std.specs.Prelude.{replicate}
 use Rattle.std.specs.List.{flat_map, zip}
@@ -9,11 +9,11 @@ use Rattle.std.proofs.lemmas.List.{append-nil, drop_all, drop_at, drop_more, dro
 use Rattle.std.proofs.lemmas.List.Concat.{flat_map-append}
 use Rattle.service_lanes.specs.CueChunks.{chunk_bytes}
 use Rattle.service_lanes.specs.ServiceBytes.{AreFramesFrom, IsLoading, loads_at}
-use Rattle.service_lanes.specs.Stretches.{AreStretches, bytes_of_first, frames_from, stretch_frames}
+use Rattle.service_lanes.specs.Batches.{AreBatches, bytes_of_first, frames_from, batch_frames}
 use Rattle.service_lanes.specs.declared.chunk.Chunk.{Chunk}
 use Rattle.service_lanes.specs.declared.cursor.Cursor.{Cursor}
-use Rattle.service_lanes.specs.declared.stretch.Stretch.{Stretch}
-use Rattle.service_lanes.proofs.StretchLemmas.{frames_ascend}
+use Rattle.service_lanes.specs.declared.batch.Batch.{Batch}
+use Rattle.service_lanes.proofs.BatchLemmas.{frames_ascend}
 
 later_frame : (f frame : ℕ) → frame < f → (f == frame) ≡ false
 later_frame f frame high = grind (arith, nat_tests)
@@ -30,18 +30,18 @@ loads_none (u ∷ us) (f ∷ fs) frame from =
     later [] rest = tt
     later (g ∷ gs) rest = (omega (arith, from.0, rest.0), rest.1)
 
--- the units of a stretch have all of their bytes in its frame, and none in another
-loads_stretch : (count f frame : ℕ) (us : List Chunk) (gs : List ℕ) → count ≤ length us
+-- the units of a batch have all of their bytes in its frame, and none in another
+loads_batch : (count f frame : ℕ) (us : List Chunk) (gs : List ℕ) → count ≤ length us
     → loads_at (zip us (replicate count f ++ gs)) frame
     ≡ (if f == frame then flat_map chunk_bytes (take count us) else []) ++ loads_at (zip (drop count us) gs) frame
-loads_stretch zero f frame us gs few = at (f == frame)
+loads_batch zero f frame us gs few = at (f == frame)
   where
     at : (b : Bool) → loads_at (zip us gs) frame ≡ (if b then [] else []) ++ loads_at (zip us gs) frame
     at true = refl
     at false = refl
-loads_stretch (suc count) f frame [] gs few = absurd (omega arith)
-loads_stretch (suc count) f frame (u ∷ us) gs few =
-    ap (λ l. (if f == frame then u.unit.items else []) ++ l) (loads_stretch count f frame us gs (omega arith)) ∙ join (f == frame)
+loads_batch (suc count) f frame [] gs few = absurd (omega arith)
+loads_batch (suc count) f frame (u ∷ us) gs few =
+    ap (λ l. (if f == frame then u.unit.items else []) ++ l) (loads_batch count f frame us gs (omega arith)) ∙ join (f == frame)
   where
     join : (b : Bool) → (if b then u.unit.items else []) ++ ((if b then flat_map chunk_bytes (take count us) else []) ++ loads_at (zip (drop count us) gs) frame)
         ≡ (if b then u.unit.items ++ flat_map chunk_bytes (take count us) else []) ++ loads_at (zip (drop count us) gs) frame
@@ -101,16 +101,16 @@ is_part chunks from to low = record {
         ∙ drop_at (flat_map chunk_bytes (take from chunks))
         (flat_map chunk_bytes (take (to - from) (drop from chunks)) ++ flat_map chunk_bytes (drop (to - from) (drop from chunks))) (bytes_of_first from chunks) refl
 
--- the cursor's next stretch is in its frame
-pub record IsLoaded (chunks : List Chunk) (stretches : List Stretch) (cursor : Cursor) (s : Stretch) : Type 0 where
+-- the cursor's next batch is in its frame
+pub record IsLoaded (chunks : List Chunk) (batches : List Batch) (cursor : Cursor) (s : Batch) : Type 0 where
   pub order : cursor.start ≤ s.bytes
   pub within : s.bytes ≤ length (flat_map chunk_bytes chunks)
-  pub bytes : take (s.bytes - cursor.start) (drop cursor.start (flat_map chunk_bytes chunks)) ≡ loads_at (zip chunks (stretch_frames stretches)) cursor.frame
-  pub behind : IsLoading chunks stretches (record cursor { frame = cursor.frame + 1; next = cursor.next + 1; start = s.bytes })
+  pub bytes : take (s.bytes - cursor.start) (drop cursor.start (flat_map chunk_bytes chunks)) ≡ loads_at (zip chunks (batch_frames batches)) cursor.frame
+  pub behind : IsLoading chunks batches (record cursor { frame = cursor.frame + 1; next = cursor.next + 1; start = s.bytes })
 
-pub is_loaded : (chunks : List Chunk) (stretches : List Stretch) (cursor : Cursor) (s : Stretch) → IsLoading chunks stretches cursor
-    → cursor.next < length stretches → s ≡ get_or stretches cursor.next s → s.frame ≡ cursor.frame → IsLoaded chunks stretches cursor s
-is_loaded chunks stretches cursor s is there read here = record {
+pub is_loaded : (chunks : List Chunk) (batches : List Batch) (cursor : Cursor) (s : Batch) → IsLoading chunks batches cursor
+    → cursor.next < length batches → s ≡ get_or batches cursor.next s → s.frame ≡ cursor.frame → IsLoaded chunks batches cursor s
+is_loaded chunks batches cursor s is there read here = record {
   order = omega (arith, part.order, is.start, bytes_are);
   within = omega (arith, part.within, bytes_are);
   bytes =
@@ -121,18 +121,18 @@ is_loaded chunks stretches cursor s is there read here = record {
     passed = s.units;
     start = bytes_are;
     same = λ frame later. is.same frame (omega (arith, later)) ∙ split frame ∙ gone frame (omega (arith, later));
-    ahead = subst (λ f. AreStretches chunks (f + 1) s.units rest) here ahead.4;
+    ahead = subst (λ f. AreBatches chunks (f + 1) s.units rest) here ahead.4;
   };
 }
   where
-    rest : List Stretch
-    rest = drop (cursor.next + 1) stretches
+    rest : List Batch
+    rest = drop (cursor.next + 1) batches
 
-    next : drop cursor.next stretches ≡ s ∷ drop (cursor.next + 1) stretches
-    next = drop_more stretches cursor.next s there ∙ ap (λ d. d ∷ drop (cursor.next + 1) stretches) (sym read)
+    next : drop cursor.next batches ≡ s ∷ drop (cursor.next + 1) batches
+    next = drop_more batches cursor.next s there ∙ ap (λ d. d ∷ drop (cursor.next + 1) batches) (sym read)
 
-    ahead : AreStretches chunks cursor.frame is.passed (s ∷ drop (cursor.next + 1) stretches)
-    ahead = subst (AreStretches chunks cursor.frame is.passed) next is.ahead
+    ahead : AreBatches chunks cursor.frame is.passed (s ∷ drop (cursor.next + 1) batches)
+    ahead = subst (AreBatches chunks cursor.frame is.passed) next is.ahead
 
     part : IsPart chunks is.passed s.units
     part = is_part chunks is.passed s.units ahead.1
@@ -140,46 +140,46 @@ is_loaded chunks stretches cursor s is there read here = record {
     bytes_are : s.bytes ≡ bytes_of_first s.units chunks
     bytes_are = ahead.3
 
-    split : (frame : ℕ) → loads_at (zip (drop is.passed chunks) (frames_from is.passed (drop cursor.next stretches))) frame
+    split : (frame : ℕ) → loads_at (zip (drop is.passed chunks) (frames_from is.passed (drop cursor.next batches))) frame
         ≡ (if s.frame == frame then flat_map chunk_bytes (take (s.units - is.passed) (drop is.passed chunks)) else [])
-        ++ loads_at (zip (drop s.units chunks) (frames_from s.units (drop (cursor.next + 1) stretches))) frame
+        ++ loads_at (zip (drop s.units chunks) (frames_from s.units (drop (cursor.next + 1) batches))) frame
     split frame =
         let sum : is.passed + (s.units - is.passed) ≡ s.units = omega (arith, ahead.1) in
         ap (λ l. loads_at (zip (drop is.passed chunks) (frames_from is.passed l)) frame) next
-        ∙ loads_stretch (s.units - is.passed) s.frame frame (drop is.passed chunks) (frames_from s.units (drop (cursor.next + 1) stretches))
+        ∙ loads_batch (s.units - is.passed) s.frame frame (drop is.passed chunks) (frames_from s.units (drop (cursor.next + 1) batches))
         (omega (arith, ahead.2, length-drop is.passed chunks))
         ∙ ap (λ l. (if s.frame == frame then flat_map chunk_bytes (take (s.units - is.passed) (drop is.passed chunks)) else [])
-        ++ loads_at (zip l (frames_from s.units (drop (cursor.next + 1) stretches))) frame)
+        ++ loads_at (zip l (frames_from s.units (drop (cursor.next + 1) batches))) frame)
         (drop-drop (s.units - is.passed) is.passed chunks ∙ ap (λ n. drop n chunks) sum)
 
     gone : (frame : ℕ) → cursor.frame < frame
         → (if s.frame == frame then flat_map chunk_bytes (take (s.units - is.passed) (drop is.passed chunks)) else [])
-        ++ loads_at (zip (drop s.units chunks) (frames_from s.units (drop (cursor.next + 1) stretches))) frame
-        ≡ loads_at (zip (drop s.units chunks) (frames_from s.units (drop (cursor.next + 1) stretches))) frame
+        ++ loads_at (zip (drop s.units chunks) (frames_from s.units (drop (cursor.next + 1) batches))) frame
+        ≡ loads_at (zip (drop s.units chunks) (frames_from s.units (drop (cursor.next + 1) batches))) frame
     gone frame later = let other : (s.frame == frame) ≡ false = grind (arith, nat_tests) in rw other refl
 
-    none : loads_at (zip (drop s.units chunks) (frames_from s.units (drop (cursor.next + 1) stretches))) cursor.frame ≡ []
-    none = loads_none (drop s.units chunks) (frames_from s.units (drop (cursor.next + 1) stretches)) cursor.frame
-        (frames_ascend chunks (cursor.frame + 1) s.units (drop (cursor.next + 1) stretches)
-        (subst (λ f. AreStretches chunks (f + 1) s.units (drop (cursor.next + 1) stretches)) here ahead.4))
+    none : loads_at (zip (drop s.units chunks) (frames_from s.units (drop (cursor.next + 1) batches))) cursor.frame ≡ []
+    none = loads_none (drop s.units chunks) (frames_from s.units (drop (cursor.next + 1) batches)) cursor.frame
+        (frames_ascend chunks (cursor.frame + 1) s.units (drop (cursor.next + 1) batches)
+        (subst (λ f. AreBatches chunks (f + 1) s.units (drop (cursor.next + 1) batches)) here ahead.4))
 
-    loads : loads_at (zip chunks (stretch_frames stretches)) cursor.frame ≡ flat_map chunk_bytes (take (s.units - is.passed) (drop is.passed chunks))
+    loads : loads_at (zip chunks (batch_frames batches)) cursor.frame ≡ flat_map chunk_bytes (take (s.units - is.passed) (drop is.passed chunks))
     loads =
         let same : (s.frame == cursor.frame) ≡ true = eq-eqb s.frame cursor.frame here in
         is.same cursor.frame (omega arith) ∙ split cursor.frame
         ∙ rw (same, none) (append-nil (flat_map chunk_bytes (take (s.units - is.passed) (drop is.passed chunks))))
 
--- no stretch is left, or the next one is in a later frame
-pub record IsUnloaded (chunks : List Chunk) (stretches : List Stretch) (cursor : Cursor) : Type 0 where
-  pub none : loads_at (zip chunks (stretch_frames stretches)) cursor.frame ≡ []
-  pub behind : IsLoading chunks stretches (record cursor { frame = cursor.frame + 1 })
+-- no batch is left, or the next one is in a later frame
+pub record IsUnloaded (chunks : List Chunk) (batches : List Batch) (cursor : Cursor) : Type 0 where
+  pub none : loads_at (zip chunks (batch_frames batches)) cursor.frame ≡ []
+  pub behind : IsLoading chunks batches (record cursor { frame = cursor.frame + 1 })
 
-unloaded_by : (chunks : List Chunk) (stretches : List Stretch) (cursor : Cursor) (is : IsLoading chunks stretches cursor)
-    → AreStretches chunks (cursor.frame + 1) is.passed (drop cursor.next stretches) → IsUnloaded chunks stretches cursor
-unloaded_by chunks stretches cursor is ahead = record {
+unloaded_by : (chunks : List Chunk) (batches : List Batch) (cursor : Cursor) (is : IsLoading chunks batches cursor)
+    → AreBatches chunks (cursor.frame + 1) is.passed (drop cursor.next batches) → IsUnloaded chunks batches cursor
+unloaded_by chunks batches cursor is ahead = record {
   none = is.same cursor.frame (omega arith)
-      ∙ loads_none (drop is.passed chunks) (frames_from is.passed (drop cursor.next stretches)) cursor.frame
-      (frames_ascend chunks (cursor.frame + 1) is.passed (drop cursor.next stretches) ahead);
+      ∙ loads_none (drop is.passed chunks) (frames_from is.passed (drop cursor.next batches)) cursor.frame
+      (frames_ascend chunks (cursor.frame + 1) is.passed (drop cursor.next batches) ahead);
   behind = record {
     passed = is.passed;
     start = is.start;
@@ -188,27 +188,27 @@ unloaded_by chunks stretches cursor is ahead = record {
   };
 }
 
-pub all_loaded : (chunks : List Chunk) (stretches : List Stretch) (cursor : Cursor) → IsLoading chunks stretches cursor → length stretches ≤ cursor.next
-    → IsUnloaded chunks stretches cursor
-all_loaded chunks stretches cursor is end =
-    unloaded_by chunks stretches cursor is (subst (AreStretches chunks (cursor.frame + 1) is.passed) (sym (drop_all cursor.next stretches end)) tt)
+pub all_loaded : (chunks : List Chunk) (batches : List Batch) (cursor : Cursor) → IsLoading chunks batches cursor → length batches ≤ cursor.next
+    → IsUnloaded chunks batches cursor
+all_loaded chunks batches cursor is end =
+    unloaded_by chunks batches cursor is (subst (AreBatches chunks (cursor.frame + 1) is.passed) (sym (drop_all cursor.next batches end)) tt)
 
-pub not_yet : (chunks : List Chunk) (stretches : List Stretch) (cursor : Cursor) (s : Stretch) → IsLoading chunks stretches cursor
-    → cursor.next < length stretches → s ≡ get_or stretches cursor.next s → (s.frame ≡ cursor.frame → ⊥) → IsUnloaded chunks stretches cursor
-not_yet chunks stretches cursor s is there read other =
-    let next : drop cursor.next stretches ≡ s ∷ drop (cursor.next + 1) stretches =
-    drop_more stretches cursor.next s there ∙ ap (λ d. d ∷ drop (cursor.next + 1) stretches) (sym read) in
-    let ahead : AreStretches chunks cursor.frame is.passed (s ∷ drop (cursor.next + 1) stretches) =
-    subst (AreStretches chunks cursor.frame is.passed) next is.ahead in
-    unloaded_by chunks stretches cursor is
-    (subst (AreStretches chunks (cursor.frame + 1) is.passed) (sym next) (omega (arith, ahead.0, other), ahead.1, ahead.2, ahead.3, ahead.4))
+pub not_yet : (chunks : List Chunk) (batches : List Batch) (cursor : Cursor) (s : Batch) → IsLoading chunks batches cursor
+    → cursor.next < length batches → s ≡ get_or batches cursor.next s → (s.frame ≡ cursor.frame → ⊥) → IsUnloaded chunks batches cursor
+not_yet chunks batches cursor s is there read other =
+    let next : drop cursor.next batches ≡ s ∷ drop (cursor.next + 1) batches =
+    drop_more batches cursor.next s there ∙ ap (λ d. d ∷ drop (cursor.next + 1) batches) (sym read) in
+    let ahead : AreBatches chunks cursor.frame is.passed (s ∷ drop (cursor.next + 1) batches) =
+    subst (AreBatches chunks cursor.frame is.passed) next is.ahead in
+    unloaded_by chunks batches cursor is
+    (subst (AreBatches chunks (cursor.frame + 1) is.passed) (sym next) (omega (arith, ahead.0, other), ahead.1, ahead.2, ahead.3, ahead.4))
 
 -- the cursor at the beginning
-pub loading_start : (chunks : List Chunk) (stretches : List Stretch) (cursor : Cursor) → AreStretches chunks 0 0 stretches → cursor.frame ≡ 0 → cursor.next ≡ 0
-    → cursor.start ≡ 0 → IsLoading chunks stretches cursor
-loading_start chunks stretches cursor are frame next start = record {
+pub loading_start : (chunks : List Chunk) (batches : List Batch) (cursor : Cursor) → AreBatches chunks 0 0 batches → cursor.frame ≡ 0 → cursor.next ≡ 0
+    → cursor.start ≡ 0 → IsLoading chunks batches cursor
+loading_start chunks batches cursor are frame next start = record {
   passed = 0;
   start = start;
-  same = λ other later. ap (λ n. loads_at (zip chunks (frames_from 0 (drop n stretches))) other) (sym next);
-  ahead = subst (λ n. AreStretches chunks n 0 (drop cursor.next stretches)) (sym frame) (subst (λ n. AreStretches chunks 0 0 (drop n stretches)) (sym next) are);
+  same = λ other later. ap (λ n. loads_at (zip chunks (frames_from 0 (drop n batches))) other) (sym next);
+  ahead = subst (λ n. AreBatches chunks n 0 (drop cursor.next batches)) (sym frame) (subst (λ n. AreBatches chunks 0 0 (drop n batches)) (sym next) are);
 }

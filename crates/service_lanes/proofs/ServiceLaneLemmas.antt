@@ -19,11 +19,11 @@ up_to_earlier g (u ∷ us) [] gs low all = tt
 up_to_earlier g (u ∷ us) (f ∷ fs) [] low all = absurd low
 up_to_earlier g (u ∷ us) (f ∷ fs) (h ∷ gs) low all = (omega (arith, low.0, all.0), up_to_earlier g us fs gs low.1 all.1)
 
--- where a frame lies in a stretch, a later one lies in it too, up to its end
+-- where a frame lies in a batch, a later one lies in it too, up to its end
 between_later : (from to f h g : ℕ) → f ≤ h → h ≤ g → g < to → is_between from to f ≡ true → is_between from to h ≡ true
 between_later from to f h g low high below is = grind (arith, nat_tests)
 
--- so a unit has in the stretch what it has where it stands later
+-- so a unit has in the batch what it has where it stands later
 bytes_earlier : (from to g : ℕ) (u : Chunk) (f h : ℕ) → f ≤ h → h ≤ g → g < to → bytes_between from to (u, f) ≤ bytes_between from to (u, h)
 bytes_earlier from to g u f h low high below = at (is_between from to f) (is_between from to h) refl refl
   where
@@ -76,7 +76,7 @@ used_push : (from to : ℕ) (before : List (Chunk × ℕ)) (u : Chunk) (f : ℕ)
     → used from to (before ++ (u, f) ∷ []) ≡ used from to before + bytes_between from to (u, f)
 used_push from to before u f = sum_by_push (bytes_between from to) before (u, f)
 
--- the frame of a stretch of one
+-- the frame of a batch of one
 between_one : (frame f : ℕ) → is_between frame (frame + 1) f ≡ true → f ≡ frame
 between_one frame f is = grind (arith, nat_tests)
 

@@ -6,10 +6,10 @@ use Rattle.dtvcc_author.specs.FrameEvents.{event_bytes}
 use Rattle.dtvcc_author.specs.Kept.{AreKept}
 use Rattle.dtvcc_author.specs.Latest.{IsLatestAt}
 use Rattle.dtvcc_author.specs.declared.caption.Caption.{Caption}
-use Rattle.service_lanes.specs.Stretches.{AreStretches, bytes_of_first, frames_from, stretch_frames}
+use Rattle.service_lanes.specs.Batches.{AreBatches, bytes_of_first, frames_from, batch_frames}
 use Rattle.service_lanes.specs.declared.chunk.Chunk.{Chunk}
 use Rattle.service_lanes.specs.declared.cursor.Cursor.{Cursor}
-use Rattle.service_lanes.specs.declared.stretch.Stretch.{Stretch}
+use Rattle.service_lanes.specs.declared.batch.Batch.{Batch}
 
 -- the bytes of the units that stand in a frame
 abbrev pub loads_at : List (Chunk × ℕ) → ℕ → List ℕ
@@ -24,17 +24,17 @@ abbrev pub AreFramesFrom : ℕ → List ℕ → Type 0
 AreFramesFrom frame [] = ⊤
 AreFramesFrom frame (f ∷ fs) = (frame ≤ f) × AreFramesFrom f fs
 
--- the cursor is behind the units that stand before its frame: those of the frames from there on are the ones of its next stretches
-pub record IsLoading (chunks : List Chunk) (stretches : List Stretch) (cursor : Cursor) : Type 0 where
+-- the cursor is behind the units that stand before its frame: those of the frames from there on are the ones of its next batches
+pub record IsLoading (chunks : List Chunk) (batches : List Batch) (cursor : Cursor) : Type 0 where
   -- how many units are passed
   pub passed : ℕ
   pub start : cursor.start ≡ bytes_of_first passed chunks
   pub same : (frame : ℕ) → cursor.frame ≤ frame
-      → loads_at (zip chunks (stretch_frames stretches)) frame ≡ loads_at (zip (drop passed chunks) (frames_from passed (drop cursor.next stretches))) frame
-  pub ahead : AreStretches chunks cursor.frame passed (drop cursor.next stretches)
+      → loads_at (zip chunks (batch_frames batches)) frame ≡ loads_at (zip (drop passed chunks) (frames_from passed (drop cursor.next batches))) frame
+  pub ahead : AreBatches chunks cursor.frame passed (drop cursor.next batches)
 
 -- the cursor is ready to give the bytes of its frame
-pub record IsReadyForBytes (cs : List Caption) (chunks : List Chunk) (stretches : List Stretch) (cursor : Cursor) : Type 0 where
+pub record IsReadyForBytes (cs : List Caption) (chunks : List Chunk) (batches : List Batch) (cursor : Cursor) : Type 0 where
   pub kept : (rate : Rate) × ((all : ℕ) × AreKept rate all cs)
   pub at : IsLatestAt cs cursor.frame cursor.latest
-  pub loading : IsLoading chunks stretches cursor
+  pub loading : IsLoading chunks batches cursor

@@ -7,12 +7,12 @@ use Rattle.dtvcc_author.specs.declared.caption.Caption.{Caption}
 use Rattle.placements.specs.Placing.{IsEarliest}
 use Rattle.service_lanes.specs.CueChunks.{chunk_in}
 use Rattle.service_lanes.specs.ServiceRoom.{IsFirstBehind, IsFront, caption_lane}
-use Rattle.service_lanes.specs.Stretches.{AreStretches, stretch_frames}
+use Rattle.service_lanes.specs.Batches.{AreBatches, batch_frames}
 use Rattle.service_lanes.specs.declared.chunk.Chunk.{Chunk}
 use Rattle.service_lanes.specs.declared.chunk.CueLoad.{CueLoad}
 use Rattle.service_lanes.specs.declared.front.Front.{Front}
 use Rattle.service_lanes.specs.declared.placing.Placing.{Placing}
-use Rattle.service_lanes.specs.declared.stretch.Stretch.{Stretch}
+use Rattle.service_lanes.specs.declared.batch.Batch.{Batch}
 
 -- the units in their earliest frames, with the front behind them
 pub record Reaches (share : ℕ) (cs : List Caption) (us : List Chunk) (frames : List ℕ) (front : Front) : Type 0 where
@@ -20,14 +20,14 @@ pub record Reaches (share : ℕ) (cs : List Caption) (us : List Chunk) (frames :
   pub front_is : IsFront share cs (zip us frames) front
   pub first : IsFirstBehind (zip us frames) front.frame
 
--- the stretches of the units placed, the last of which may still grow
-abbrev pub stretches_of : Placing → List Stretch
-stretches_of placing = placing.stretches.items ++ placing.last ∷ []
+-- the batches of the units placed, the last of which may still grow
+abbrev pub batches_of : Placing → List Batch
+batches_of placing = placing.batches.items ++ placing.last ∷ []
 
--- the first units stand in their earliest frames, and the last stretch is in the frame of the front
+-- the first units stand in their earliest frames, and the last batch is in the frame of the front
 pub record IsPlacing (share : ℕ) (cs : List Caption) (chunks : List Chunk) (placing : Placing) : Type 0 where
-  pub reaches : Reaches share cs (take placing.last.units chunks) (stretch_frames (stretches_of placing)) placing.front
-  pub stretches : AreStretches chunks 0 0 (stretches_of placing)
+  pub reaches : Reaches share cs (take placing.last.units chunks) (batch_frames (batches_of placing)) placing.front
+  pub batches : AreBatches chunks 0 0 (batches_of placing)
   pub frame : placing.last.frame ≡ placing.front.frame
 
 -- the unit of this place is one of the cue

@@ -3,10 +3,10 @@ ghost use Rattle.std.specs.List.{zip};
 ghost use Rattle.dtvcc_author.specs.Latest.{IsLatestAt};
 ghost use Rattle.dtvcc_author.specs.declared.caption.Caption.{Caption};
 ghost use Rattle.service_lanes.specs.ServiceBytes.{IsLoading, IsReadyForBytes, bytes_in, loads_at};
-ghost use Rattle.service_lanes.specs.Stretches.{stretch_frames};
+ghost use Rattle.service_lanes.specs.Batches.{batch_frames};
 
+use crate::batch::Batch;
 use crate::chunk_list::ChunkList;
-use crate::stretch::Stretch;
 use arrayvec::ArrayVec;
 use dtvcc_author::{Caption, Latest};
 
@@ -14,7 +14,7 @@ use dtvcc_author::{Caption, Latest};
 #[derive(Clone, Copy, Debug)]
 pub(crate) struct Cursor {
     frame: u32,
-    // How many stretches were given.
+    // How many batches were given.
     next: usize,
     // Where the bytes of the next one start.
     start: usize,
@@ -42,40 +42,40 @@ impl Cursor {
         &mut self,
         captions: &[Caption],
         chunks: &ChunkList,
-        stretches: &[Stretch],
+        batches: &[Batch],
     ) -> ArrayVec<u8, 31>
         requires small { self.old.frame + 1 < 2 ^ 32 }
-        requires ready { IsReadyForBytes captions.now chunks.now stretches.now self.old }
-        requires within { length (bytes_in captions.now (zip chunks.now (stretch_frames stretches.now)) self.old.frame) ≤ 31 }
-        ensures bytes { result.items ≡ bytes_in captions.now (zip chunks.now (stretch_frames stretches.now)) self.old.frame }
+        requires ready { IsReadyForBytes captions.now chunks.now batches.now self.old }
+        requires within { length (bytes_in captions.now (zip chunks.now (batch_frames batches.now)) self.old.frame) ≤ 31 }
+        ensures bytes { result.items ≡ bytes_in captions.now (zip chunks.now (batch_frames batches.now)) self.old.frame }
         ensures frame { self.new.frame ≡ self.old.frame + 1 }
-        ensures ready { IsReadyForBytes captions.now chunks.now stretches.now self.new }
+        ensures ready { IsReadyForBytes captions.now chunks.now batches.now self.new }
     {
         let mut bytes = ArrayVec::new();
         let events = self.latest.events(self.frame);
         push(&events.bytes(), &mut bytes);
-        self.load(chunks, stretches, &mut bytes);
+        self.load(chunks, batches, &mut bytes);
         self.latest.pass_to(captions, self.frame);
         bytes
     }
 
     // Appends the units of the cursor's frame, and passes on to the next frame.
-    fn load(&mut self, chunks: &ChunkList, stretches: &[Stretch], bytes: &mut ArrayVec<u8, 31>)
+    fn load(&mut self, chunks: &ChunkList, batches: &[Batch], bytes: &mut ArrayVec<u8, 31>)
         requires small { self.old.frame + 1 < 2 ^ 32 }
-        requires loading { IsLoading chunks.now stretches.now self.old }
-        requires room { length bytes.old.items + length (loads_at (zip chunks.now (stretch_frames stretches.now)) self.old.frame) ≤ 31 }
-        ensures bytes { bytes.new.items ≡ bytes.old.items ++ loads_at (zip chunks.now (stretch_frames stretches.now)) self.old.frame }
+        requires loading { IsLoading chunks.now batches.now self.old }
+        requires room { length bytes.old.items + length (loads_at (zip chunks.now (batch_frames batches.now)) self.old.frame) ≤ 31 }
+        ensures bytes { bytes.new.items ≡ bytes.old.items ++ loads_at (zip chunks.now (batch_frames batches.now)) self.old.frame }
         ensures frame { self.new.frame ≡ self.old.frame + 1 }
         ensures latest { self.new.latest ≡ self.old.latest }
-        ensures loading { IsLoading chunks.now stretches.now self.new }
+        ensures loading { IsLoading chunks.now batches.now self.new }
     {
         let frame = self.frame;
         self.frame += 1;
-        if let Some(stretch) = stretches.get(self.next)
-            && stretch.frame == frame
+        if let Some(batch) = batches.get(self.next)
+            && batch.frame == frame
         {
-            push(&chunks.bytes()[self.start..stretch.bytes], bytes);
-            self.start = stretch.bytes;
+            push(&chunks.bytes()[self.start..batch.bytes], bytes);
+            self.start = batch.bytes;
             self.next += 1;
         }
     }

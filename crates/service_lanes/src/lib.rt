@@ -7,6 +7,7 @@ pub use crate::chunk_list::ChunkList;
 pub use crate::cues::chunks;
 pub use crate::placed::{PlacedService, ServiceLane};
 
+mod batch;
 pub mod chunk;
 mod chunk_list;
 mod cues;
@@ -15,6 +16,5 @@ mod front;
 pub mod laws;
 pub mod placed;
 mod placing;
-mod stretch;
 #[cfg(test)]
 mod tests;

@@ -6,12 +6,12 @@ ghost use Rattle.placements.specs.Placing.{IsEarliest};
 ghost use Rattle.service_lanes.specs.ServiceChunks.{chunk_cue};
 ghost use Rattle.service_lanes.specs.ServicePlan.{IsLaneFault, IsPlanOf, lane_bytes};
 ghost use Rattle.service_lanes.specs.ServiceRoom.{caption_lane};
-ghost use Rattle.service_lanes.specs.Stretches.{AreStretches, stretch_frames};
+ghost use Rattle.service_lanes.specs.Batches.{AreBatches, batch_frames};
 
+use crate::batch::Batch;
 use crate::chunk_list::ChunkList;
 use crate::cursor::Cursor;
 use crate::placing::Placing;
-use crate::stretch::Stretch;
 use arrayvec::ArrayVec;
 use dtvcc_author::Caption;
 use placements::PlanFault;
@@ -41,13 +41,13 @@ impl ServiceLane {
         ensures planned { IfOk result (IsPlanOf self.service self.share self.captions.items self.chunks) }
         ensures fault { IfErr result (IsLaneFault self.share self.captions.items self.chunks) }
     {
-        match placed_stretches(alloc, &self.chunks, &self.captions, self.share) {
-            Ok(stretches) => Ok(PlacedService {
+        match placed_batches(alloc, &self.chunks, &self.captions, self.share) {
+            Ok(batches) => Ok(PlacedService {
                 service: self.service,
                 share: self.share,
                 captions: self.captions,
                 chunks: self.chunks,
-                stretches,
+                batches,
                 cursor: Cursor::start(),
             }),
             Err(fault) => Err(fault),
@@ -55,18 +55,18 @@ impl ServiceLane {
     }
 }
 
-// The stretches of the units in their earliest placement, or the first cue that has no room.
-fn placed_stretches(
+// The batches of the units in their earliest placement, or the first cue that has no room.
+fn placed_batches(
     alloc: Global,
     chunks: &ChunkList,
     captions: &[Caption],
     share: u8,
-) -> Result<Vec<Stretch>, PlanFault>
+) -> Result<Vec<Batch>, PlanFault>
     requires kept { (rate : Rate) × ((frames : ℕ) × AreKept rate frames captions.now) }
     requires least { 8 ≤ share }
     requires order { AreInCueOrder chunk_cue chunks.now }
-    ensures frames { IfOk result (λ stretches. IsEarliest (caption_lane share captions.now) chunks.now (stretch_frames stretches.items)) }
-    ensures stretches { IfOk result (λ stretches. AreStretches chunks.now 0 0 stretches.items) }
+    ensures frames { IfOk result (λ batches. IsEarliest (caption_lane share captions.now) chunks.now (batch_frames batches.items)) }
+    ensures batches { IfOk result (λ batches. AreBatches chunks.now 0 0 batches.items) }
     ensures fault { IfErr result (IsLaneFault share captions.now chunks.now) }
 {
     let (units, cues) = chunks.parts();
@@ -86,7 +86,7 @@ pub struct PlacedService {
     share: u8,
     captions: Vec<Caption>,
     chunks: ChunkList,
-    stretches: Vec<Stretch>,
+    batches: Vec<Batch>,
     cursor: Cursor,
 }
 
@@ -94,7 +94,7 @@ impl Model for PlacedService {
     ghost use Rattle.std.specs.Prelude.{◌≤◌};
     ghost use Rattle.service_lanes.specs.ServiceBytes.{IsReadyForBytes};
     ghost use Rattle.service_lanes.specs.ServicePlan.{IsWithinShare, PlannedService};
-    ghost use Rattle.service_lanes.specs.Stretches.{stretch_frames};
+    ghost use Rattle.service_lanes.specs.Batches.{batch_frames};
 
     ghost Value = { PlannedService };
 
@@ -103,13 +103,13 @@ impl Model for PlacedService {
       share = plan.share;
       captions = plan.captions.items;
       chunks = plan.chunks;
-      frames = stretch_frames plan.stretches.items;
+      frames = batch_frames plan.batches.items;
       frame = plan.cursor.frame;
     } };
 
     ghost invariant = { λ plan.
-        IsReadyForBytes plan.captions.items plan.chunks plan.stretches.items plan.cursor
-        × IsWithinShare plan.share plan.captions.items plan.chunks (stretch_frames plan.stretches.items) × (plan.share ≤ 31) };
+        IsReadyForBytes plan.captions.items plan.chunks plan.batches.items plan.cursor
+        × IsWithinShare plan.share plan.captions.items plan.chunks (batch_frames plan.batches.items) × (plan.share ≤ 31) };
 }
 
 impl PlacedService {
@@ -128,6 +128,6 @@ impl PlacedService {
         ensures moves { self.new ≡ record self.old { frame = self.old.frame + 1 } }
     {
         self.cursor
-            .step(&self.captions, &self.chunks, &self.stretches)
+            .step(&self.captions, &self.chunks, &self.batches)
     }
 }

@@ -9,24 +9,24 @@ ghost use Rattle.service_lanes.specs.ServiceChunks.{chunk_cue};
 ghost use Rattle.service_lanes.specs.ServicePlan.{IsLaneFault};
 ghost use Rattle.service_lanes.specs.declared.chunk.Chunk.{Chunk};
 
+use crate::batch::Batch;
 use crate::chunk::CueLoad;
 use crate::front::Front;
-use crate::stretch::Stretch;
 use dtvcc_author::{Caption, PackedUnits};
 use placements::PlanFault;
 use std::alloc::{AllocError, Global};
 
-/// How far the units of a service have been placed: their stretches, of which the last one may still grow, and what is free
+/// How far the units of a service have been placed: their batches, of which the last one may still grow, and what is free
 /// behind them.
 #[derive(Drop)]
 pub(crate) struct Placing {
-    stretches: Vec<Stretch>,
-    last: Stretch,
+    batches: Vec<Batch>,
+    last: Batch,
     front: Front,
 }
 
 impl Placing {
-    ghost use Rattle.service_lanes.specs.ServicePlacing.{AreOfCue, FillsFrame, IsOfCue, IsPlacing, MayStand, stretches_of};
+    ghost use Rattle.service_lanes.specs.ServicePlacing.{AreOfCue, FillsFrame, IsOfCue, IsPlacing, MayStand, batches_of};
 
     /// No unit is placed, with the captions of the service and its share of each frame.
     pub fn start(alloc: Global, captions: &[Caption], share: u8) -> Placing
@@ -37,8 +37,8 @@ impl Placing {
         ensures bytes { result.last.bytes ≡ 0 }
     {
         Placing {
-            stretches: Vec::new(alloc),
-            last: Stretch {
+            batches: Vec::new(alloc),
+            last: Batch {
                 frame: 0,
                 units: 0,
                 bytes: 0,
@@ -102,12 +102,12 @@ impl Placing {
         let Some(frame) = self.front.place(cue, unit, captions, share) else {
             return Err(PlanFault::NoRoom(cue.cue));
         };
-        let stretch = Stretch {
+        let batch = Batch {
             frame,
             units: self.last.units + 1,
             bytes: self.last.bytes + unit.len(),
         };
-        match self.hold(stretch) {
+        match self.hold(batch) {
             Ok(()) => Ok(()),
             Err(error) => Err(PlanFault::Memory(error)),
         }
@@ -139,28 +139,28 @@ impl Placing {
         self.last.bytes += usize::from(size);
     }
 
-    // Makes this the last stretch: in place of the last one, where that is in its frame, or else behind it.
-    fn hold(&mut self, stretch: Stretch) -> Result<(), AllocError>
-        ensures grown { stretch.frame ≡ self.old.last.frame → OnOk result (stretches_of self.new ≡ self.old.stretches.items ++ stretch ∷ []) }
-        ensures more { (stretch.frame ≡ self.old.last.frame → ⊥) → OnOk result (stretches_of self.new ≡ stretches_of self.old ++ stretch ∷ []) }
-        ensures last { OnOk result (self.new.last ≡ stretch) }
+    // Makes this the last batch: in place of the last one, where that is in its frame, or else behind it.
+    fn hold(&mut self, batch: Batch) -> Result<(), AllocError>
+        ensures grown { batch.frame ≡ self.old.last.frame → OnOk result (batches_of self.new ≡ self.old.batches.items ++ batch ∷ []) }
+        ensures more { (batch.frame ≡ self.old.last.frame → ⊥) → OnOk result (batches_of self.new ≡ batches_of self.old ++ batch ∷ []) }
+        ensures last { OnOk result (self.new.last ≡ batch) }
         ensures front { self.new.front ≡ self.old.front }
     {
-        if stretch.frame != self.last.frame {
-            self.stretches.push(self.last)?;
+        if batch.frame != self.last.frame {
+            self.batches.push(self.last)?;
         }
-        self.last = stretch;
+        self.last = batch;
         Ok(())
     }
 
-    /// The stretches of the units, when all are placed.
-    pub fn finish(self) -> Result<Vec<Stretch>, PlanFault>
-        ensures stretches { IfOk result (λ stretches. stretches.items ≡ stretches_of self) }
+    /// The batches of the units, when all are placed.
+    pub fn finish(self) -> Result<Vec<Batch>, PlanFault>
+        ensures batches { IfOk result (λ batches. batches.items ≡ batches_of self) }
         ensures fault { (captions : List Caption) (chunks : List Chunk) (share : ℕ) → IfErr result (IsLaneFault share captions chunks) }
     {
-        let mut stretches = self.stretches;
-        match stretches.push(self.last) {
-            Ok(()) => Ok(stretches),
+        let mut batches = self.batches;
+        match batches.push(self.last) {
+            Ok(()) => Ok(batches),
             Err(error) => Err(PlanFault::Memory(error.into())),
         }
     }

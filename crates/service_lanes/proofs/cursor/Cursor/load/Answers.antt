@@ -2,61 +2,61 @@ use Rattle.std.proofs.Common.{◌≡◌, ◌∙◌, ◌-◌, ◌++◌, ap, arith
 use Rattle.std.specs.List.{zip}
 use Rattle.std.proofs.lemmas.List.{append-nil}
 use Rattle.service_lanes.specs.ServiceBytes.{loads_at}
-use Rattle.service_lanes.specs.Stretches.{stretch_frames}
+use Rattle.service_lanes.specs.Batches.{batch_frames}
 use Rattle.service_lanes.proofs.LoadLemmas.{IsUnloaded, all_loaded, is_loaded, not_yet}
 use Rattle.service_lanes.proofs.cursor.Cursor.load.Goals as goal
-use Rattle.service_lanes.proofs.cursor.Cursor.load.Goals.{in_default-via-in-None-1, in_default-via-in-Some+else-stretch-frame}
+use Rattle.service_lanes.proofs.cursor.Cursor.load.Goals.{in_default-via-in-None-1, in_default-via-in-Some+else-batch-frame}
 
 pub slice_bounds-push-count : goal.slice_bounds-push-count
 slice_bounds-push-count c =
     let found = c.in-Some.ensures.lookup in
-    let loaded = is_loaded c.args.chunks.now c.args.stretches.now c.args.self.now c.in-Some.stretch.now c.requires.loading found.3.0 found.1 c.if-stretch-frame.true in
+    let loaded = is_loaded c.args.chunks.now c.args.batches.now c.args.self.now c.in-Some.batch.now c.requires.loading found.3.0 found.1 c.if-batch-frame.true in
     loaded.order
 
 pub slice_bounds-push-start : goal.slice_bounds-push-start
 slice_bounds-push-start c =
     let found = c.in-Some.ensures.lookup in
-    let loaded = is_loaded c.args.chunks.now c.args.stretches.now c.args.self.now c.in-Some.stretch.now c.requires.loading found.3.0 found.1 c.if-stretch-frame.true in
+    let loaded = is_loaded c.args.chunks.now c.args.batches.now c.args.self.now c.in-Some.batch.now c.requires.loading found.3.0 found.1 c.if-batch-frame.true in
     omega (arith, loaded.order, loaded.within, ap length c.bytes.ensures)
 
 pub slice_bounds-push-end : goal.slice_bounds-push-end
 slice_bounds-push-end c =
     let found = c.in-Some.ensures.lookup in
-    let loaded = is_loaded c.args.chunks.now c.args.stretches.now c.args.self.now c.in-Some.stretch.now c.requires.loading found.3.0 found.1 c.if-stretch-frame.true in
+    let loaded = is_loaded c.args.chunks.now c.args.batches.now c.args.self.now c.in-Some.batch.now c.requires.loading found.3.0 found.1 c.if-batch-frame.true in
     omega (arith, loaded.order, loaded.within, ap length c.bytes.ensures)
 
 pub push-requires : goal.push-requires
 push-requires c =
     let found = c.in-Some.ensures.lookup in
-    let loaded = is_loaded c.args.chunks.now c.args.stretches.now c.args.self.now c.in-Some.stretch.now c.requires.loading found.3.0 found.1 c.if-stretch-frame.true in
-    let bytes : take (c.in-Some.stretch.now.bytes - c.args.self.now.start) (drop c.args.self.now.start c.bytes.result.now)
-    ≡ loads_at (zip c.args.chunks.now (stretch_frames c.args.stretches.now)) c.args.self.now.frame =
-    ap (λ l. take (c.in-Some.stretch.now.bytes - c.args.self.now.start) (drop c.args.self.now.start l)) c.bytes.ensures ∙ loaded.bytes in
+    let loaded = is_loaded c.args.chunks.now c.args.batches.now c.args.self.now c.in-Some.batch.now c.requires.loading found.3.0 found.1 c.if-batch-frame.true in
+    let bytes : take (c.in-Some.batch.now.bytes - c.args.self.now.start) (drop c.args.self.now.start c.bytes.result.now)
+    ≡ loads_at (zip c.args.chunks.now (batch_frames c.args.batches.now)) c.args.self.now.frame =
+    ap (λ l. take (c.in-Some.batch.now.bytes - c.args.self.now.start) (drop c.args.self.now.start l)) c.bytes.ensures ∙ loaded.bytes in
     omega (arith, ap length bytes, c.requires.room)
 
-pub returns-then-stretch-frame-clause-bytes : goal.returns-then-stretch-frame-clause-bytes
-returns-then-stretch-frame-clause-bytes c =
+pub returns-then-batch-frame-clause-bytes : goal.returns-then-batch-frame-clause-bytes
+returns-then-batch-frame-clause-bytes c =
     let found = c.in-Some.ensures.lookup in
-    let loaded = is_loaded c.args.chunks.now c.args.stretches.now c.args.self.now c.in-Some.stretch.now c.requires.loading found.3.0 found.1 c.if-stretch-frame.true in
-    let bytes : take (c.in-Some.stretch.now.bytes - c.args.self.now.start) (drop c.args.self.now.start c.bytes.result.now)
-    ≡ loads_at (zip c.args.chunks.now (stretch_frames c.args.stretches.now)) c.args.self.now.frame =
-    ap (λ l. take (c.in-Some.stretch.now.bytes - c.args.self.now.start) (drop c.args.self.now.start l)) c.bytes.ensures ∙ loaded.bytes in
+    let loaded = is_loaded c.args.chunks.now c.args.batches.now c.args.self.now c.in-Some.batch.now c.requires.loading found.3.0 found.1 c.if-batch-frame.true in
+    let bytes : take (c.in-Some.batch.now.bytes - c.args.self.now.start) (drop c.args.self.now.start c.bytes.result.now)
+    ≡ loads_at (zip c.args.chunks.now (batch_frames c.args.batches.now)) c.args.self.now.frame =
+    ap (λ l. take (c.in-Some.batch.now.bytes - c.args.self.now.start) (drop c.args.self.now.start l)) c.bytes.ensures ∙ loaded.bytes in
     c.push.ensures ∙ ap (λ l. c.args.bytes.now.items ++ l) bytes
 
-pub returns-then-stretch-frame-clause-loading : goal.returns-then-stretch-frame-clause-loading
-returns-then-stretch-frame-clause-loading c =
+pub returns-then-batch-frame-clause-loading : goal.returns-then-batch-frame-clause-loading
+returns-then-batch-frame-clause-loading c =
     let found = c.in-Some.ensures.lookup in
-    let loaded = is_loaded c.args.chunks.now c.args.stretches.now c.args.self.now c.in-Some.stretch.now c.requires.loading found.3.0 found.1 c.if-stretch-frame.true in
+    let loaded = is_loaded c.args.chunks.now c.args.batches.now c.args.self.now c.in-Some.batch.now c.requires.loading found.3.0 found.1 c.if-batch-frame.true in
     loaded.behind
 
--- no stretch is in the frame
-none_here : (c : goal.In_default) → IsUnloaded c.args.chunks.now c.args.stretches.now c.args.self.now
+-- no batch is in the frame
+none_here : (c : goal.In_default) → IsUnloaded c.args.chunks.now c.args.batches.now c.args.self.now
 none_here c =
     elim c.in_default.branch [
-      | in_default-via-in-None-1 w ↦ all_loaded c.args.chunks.now c.args.stretches.now c.args.self.now c.requires.loading (search rules)
-      | in_default-via-in-Some+else-stretch-frame w ↦
+      | in_default-via-in-None-1 w ↦ all_loaded c.args.chunks.now c.args.batches.now c.args.self.now c.requires.loading (search rules)
+      | in_default-via-in-Some+else-batch-frame w ↦
           let found = w.in-Some.ensures.lookup in
-          not_yet c.args.chunks.now c.args.stretches.now c.args.self.now w.in-Some.stretch.now c.requires.loading found.3.0 found.1 w.if-stretch-frame.false
+          not_yet c.args.chunks.now c.args.batches.now c.args.self.now w.in-Some.batch.now c.requires.loading found.3.0 found.1 w.if-batch-frame.false
     ]
 
 pub returns-in_default-clause-bytes : goal.returns-in_default-clause-bytes

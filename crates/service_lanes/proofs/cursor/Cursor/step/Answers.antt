@@ -3,7 +3,7 @@ use Rattle.std.specs.List.{zip}
 use Rattle.dtvcc_author.specs.FrameEvents.{event_bytes}
 use Rattle.dtvcc_author.specs.Latest.{IsLatestAt}
 use Rattle.service_lanes.specs.ServiceBytes.{loads_at}
-use Rattle.service_lanes.specs.Stretches.{stretch_frames}
+use Rattle.service_lanes.specs.Batches.{batch_frames}
 use Rattle.service_lanes.proofs.cursor.Cursor.step.Goals as goal
 
 pub load-requires-clause-room : goal.load-requires-clause-room
@@ -13,7 +13,7 @@ load-requires-clause-room c =
     let kept = c.requires.ready.kept in
     let exact = c.bytes.ensures.exact kept.0 kept.1.0 frame cs kept.1.1 (c.events-events.ensures kept.0 kept.1.0 cs kept.1.1 c.requires.ready.at) in
     let events : c.push.new.out.items ≡ event_bytes frame cs = c.push.ensures ∙ ap (λ l. l ++ c.deref.result.now) c.new-bytes.ensures ∙ c.deref.ensures.0 ∙ exact in
-    let whole = length-append (event_bytes frame cs) (loads_at (zip c.args.chunks.now (stretch_frames c.args.stretches.now)) frame) in
+    let whole = length-append (event_bytes frame cs) (loads_at (zip c.args.chunks.now (batch_frames c.args.batches.now)) frame) in
     let first = ap length events in
     omega (arith, whole, first, c.requires.within)
 
@@ -24,7 +24,7 @@ returns-clause-bytes c =
     let kept = c.requires.ready.kept in
     let exact = c.bytes.ensures.exact kept.0 kept.1.0 frame cs kept.1.1 (c.events-events.ensures kept.0 kept.1.0 cs kept.1.1 c.requires.ready.at) in
     let events : c.push.new.out.items ≡ event_bytes frame cs = c.push.ensures ∙ ap (λ l. l ++ c.deref.result.now) c.new-bytes.ensures ∙ c.deref.ensures.0 ∙ exact in
-    c.load.ensures.bytes ∙ ap (λ l. l ++ loads_at (zip c.args.chunks.now (stretch_frames c.args.stretches.now)) frame) events
+    c.load.ensures.bytes ∙ ap (λ l. l ++ loads_at (zip c.args.chunks.now (batch_frames c.args.batches.now)) frame) events
 
 pub returns-clause-ready : goal.returns-clause-ready
 returns-clause-ready c =

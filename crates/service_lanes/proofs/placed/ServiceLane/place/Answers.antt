@@ -2,7 +2,7 @@ use Rattle.std.proofs.Common.{sym, subst}
 use Rattle.placements.specs.Placing.{IsEarliest}
 use Rattle.dtvcc_author.specs.Latest.{IsLatestAt}
 use Rattle.service_lanes.specs.ServiceRoom.{caption_lane}
-use Rattle.service_lanes.specs.Stretches.{stretch_frames}
+use Rattle.service_lanes.specs.Batches.{batch_frames}
 use Rattle.service_lanes.proofs.LoadLemmas.{loading_start}
 use Rattle.service_lanes.proofs.PlaceLemmas.{within_share}
 use Rattle.service_lanes.proofs.placed.ServiceLane.place.Goals as goal
@@ -12,15 +12,15 @@ invariant_of-result c =
     let share = c.args.self.share in
     let cs = c.args.self.captions.items in
     let chunks = c.args.self.chunks in
-    let stretches = c.in-Ok.stretches.items in
+    let batches = c.in-Ok.batches.items in
     let cursor = c.start.result in
-    let earliest : IsEarliest (caption_lane share cs) chunks (stretch_frames stretches) =
-    subst (λ l. IsEarliest (caption_lane share l) chunks (stretch_frames stretches)) c.deref.ensures.value c.in-Ok.ensures.frames in (
+    let earliest : IsEarliest (caption_lane share cs) chunks (batch_frames batches) =
+    subst (λ l. IsEarliest (caption_lane share l) chunks (batch_frames batches)) c.deref.ensures.value c.in-Ok.ensures.frames in (
       record {
         kept = c.requires.kept;
         at = subst (λ n. IsLatestAt cs n cursor.latest) (sym c.start.ensures.frame) (c.start.ensures.latest cs);
-        loading = loading_start chunks stretches cursor c.in-Ok.ensures.stretches c.start.ensures.frame c.start.ensures.next c.start.ensures.start;
+        loading = loading_start chunks batches cursor c.in-Ok.ensures.batches c.start.ensures.frame c.start.ensures.next c.start.ensures.start;
       },
-      within_share share cs chunks (stretch_frames stretches) c.requires.least earliest.placed,
+      within_share share cs chunks (batch_frames batches) c.requires.least earliest.placed,
       c.requires.most,
     )

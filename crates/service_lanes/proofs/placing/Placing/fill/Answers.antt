@@ -55,12 +55,12 @@ returns-clause-placed c share captions chunks units cue are fills is =
     subst (λ b. OnTrue b (c.take-taken.new.self ≡ behind_taking old.front size)) has c.take-taken.ensures.taken in
     subst
     (λ f. IsPlacing share captions chunks
-    (record { stretches = old.stretches; last = record { frame = old.last.frame; units = c.loop-index.index; bytes = old.last.bytes + c.from.result }; front = f }))
+    (record { batches = old.batches; last = record { frame = old.last.frame; units = c.loop-index.index; bytes = old.last.bytes + c.from.result }; front = f }))
     (sym taken)
     (subst
     (λ n. IsPlacing share captions chunks
     (record {
-      stretches = old.stretches;
+      batches = old.batches;
       last = record { frame = old.last.frame; units = c.loop-index.index; bytes = old.last.bytes + n };
       front = behind_taking old.front size;
     })) (sym c.from.ensures) (c.loop-index.invariant.placed share captions chunks units cue are fills is))

@@ -3,17 +3,17 @@ use Rattle.dtvcc_author.specs.Packed.{bytes_before}
 use Rattle.dtvcc_author.proofs.PackedLemmas.{bytes_before_next}
 use Rattle.service_lanes.specs.CueChunks.{chunk_in}
 use Rattle.service_lanes.specs.ServiceRoom.{IsFirstBehind, IsFront, caption_lane}
-use Rattle.service_lanes.specs.ServicePlacing.{stretches_of}
-use Rattle.service_lanes.specs.Stretches.{stretch_frames}
+use Rattle.service_lanes.specs.ServicePlacing.{batches_of}
+use Rattle.service_lanes.specs.Batches.{batch_frames}
 use Rattle.service_lanes.specs.declared.chunk.Chunk.{Chunk}
-use Rattle.service_lanes.specs.declared.stretch.Stretch.{Stretch}
+use Rattle.service_lanes.specs.declared.batch.Batch.{Batch}
 use Rattle.service_lanes.proofs.PlacingSteps.{IsPlaced, placing_next, placing_none}
 use Rattle.service_lanes.proofs.placing.Placing.place.Goals as goal
 
 pub returns-in_default-clause-fault : goal.returns-in_default-clause-fault
 returns-in_default-clause-fault c chunks of_cue order is =
     placing_none c.args.share c.args.captions.now chunks c.args.cue.now c.args.units.now c.args.self.now.last.units
-    (stretch_frames (stretches_of c.args.self.now)) c.args.self.now.front order
+    (batch_frames (batches_of c.args.self.now)) c.args.self.now.front order
     is.reaches of_cue
     (subst (λ u. (before : List (Chunk × ℕ)) → IsFront c.args.share c.args.captions.now before c.args.self.now.front
     → IsFirstBehind before c.args.self.now.front.frame → (frame : ℕ)
@@ -38,8 +38,8 @@ returns-in-Ok-clause-placed c chunks of_cue is =
 pub returns-in-Ok-clause-bytes : goal.returns-in-Ok-clause-bytes
 returns-in-Ok-clause-bytes c =
     let old = c.args.self.now.last in
-    let units : c.hold.new.self.last.units ≡ old.units + 1 = ap (λ (s : Stretch). s.units) c.in-Ok.ensures.last in
-    let bytes : c.hold.new.self.last.bytes ≡ old.bytes + length c.unit-unit.result.now = ap (λ (s : Stretch). s.bytes) c.in-Ok.ensures.last in
+    let units : c.hold.new.self.last.units ≡ old.units + 1 = ap (λ (s : Batch). s.units) c.in-Ok.ensures.last in
+    let bytes : c.hold.new.self.last.bytes ≡ old.bytes + length c.unit-unit.result.now = ap (λ (s : Batch). s.bytes) c.in-Ok.ensures.last in
     bytes ∙ ap (λ n. n + length c.unit-unit.result.now) c.requires.bytes
     ∙ ap (λ u. bytes_before old.units c.args.units.now + length u) c.unit-unit.ensures.unit
     ∙ sym (bytes_before_next c.args.units.now old.units c.requires.within)

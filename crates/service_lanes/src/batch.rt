@@ -1,6 +1,6 @@
-/// Units of a service that stand in one frame: those behind the stretch before. Frames are counted from 0.
+/// Units of a service that stand in one frame: those behind the batch before. Frames are counted from 0.
 #[derive(Clone, Copy, Debug)]
-pub struct Stretch {
+pub struct Batch {
     /// The frame of the units.
     pub frame: u32,
     /// The number of the service's units up to the last of them.

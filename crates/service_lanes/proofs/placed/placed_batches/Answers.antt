@@ -3,12 +3,12 @@ use Rattle.std.proofs.lemmas.Result.{IfOk-weaker}
 use Rattle.placements.specs.Placing.{IsEarliest}
 use Rattle.dtvcc_author.specs.Packed.{bytes_before}
 use Rattle.service_lanes.specs.ServiceRoom.{caption_lane}
-use Rattle.service_lanes.specs.ServicePlacing.{stretches_of}
-use Rattle.service_lanes.specs.Stretches.{AreStretches, stretch_frames}
+use Rattle.service_lanes.specs.ServicePlacing.{batches_of}
+use Rattle.service_lanes.specs.Batches.{AreBatches, batch_frames}
 use Rattle.service_lanes.specs.declared.chunk.CueLoad.{CueLoad}
 use Rattle.service_lanes.proofs.CueChunkLemmas.{AreLeft, none_left, takes_at}
 use Rattle.service_lanes.proofs.PlacingSteps.{placing_all}
-use Rattle.service_lanes.proofs.placed.placed_stretches.Goals as goal
+use Rattle.service_lanes.proofs.placed.placed_batches.Goals as goal
 
 pub loop-cue-init : goal.loop-cue-init
 loop-cue-init c =
@@ -63,9 +63,9 @@ returns c =
     let placing = c.loop-cue.placing in
     let end = none_left c.parts.result.1.now c.parts.result.0.now chunks c.loop-cue.cue-index placing.last.units c.loop-cue-test.false c.loop-cue.invariant.left in
     record {
-      frames = IfOk-weaker c.finish.result (λ ss. ss.items ≡ stretches_of placing) (λ ss. IsEarliest (caption_lane share cs) chunks (stretch_frames ss.items))
-          (λ ss are. (placing_all share cs chunks placing ss.items c.loop-cue.invariant.placing end are).0) c.finish.ensures.stretches;
-      stretches = IfOk-weaker c.finish.result (λ ss. ss.items ≡ stretches_of placing) (λ ss. AreStretches chunks 0 0 ss.items)
-          (λ ss are. (placing_all share cs chunks placing ss.items c.loop-cue.invariant.placing end are).1) c.finish.ensures.stretches;
+      frames = IfOk-weaker c.finish.result (λ ss. ss.items ≡ batches_of placing) (λ ss. IsEarliest (caption_lane share cs) chunks (batch_frames ss.items))
+          (λ ss are. (placing_all share cs chunks placing ss.items c.loop-cue.invariant.placing end are).0) c.finish.ensures.batches;
+      batches = IfOk-weaker c.finish.result (λ ss. ss.items ≡ batches_of placing) (λ ss. AreBatches chunks 0 0 ss.items)
+          (λ ss are. (placing_all share cs chunks placing ss.items c.loop-cue.invariant.placing end are).1) c.finish.ensures.batches;
       fault = c.finish.ensures.fault cs chunks share;
     }

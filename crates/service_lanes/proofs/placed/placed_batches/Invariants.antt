@@ -2,7 +2,7 @@ use Rattle.std.proofs.Common.{◌≡◌, ◌≤◌, length}
 use Rattle.dtvcc_author.specs.Packed.{bytes_before}
 use Rattle.service_lanes.specs.ServicePlacing.{IsPlacing}
 use Rattle.service_lanes.proofs.CueChunkLemmas.{AreLeft}
-use Rattle.service_lanes.proofs.placed.placed_stretches.Given as goal
+use Rattle.service_lanes.proofs.placed.placed_batches.Given as goal
 
 -- the units of the cues so far are placed, and those of the others are left
 abbrev pub invariant-loop-cue : goal.invariant-loop-cue
