@@ -4,6 +4,8 @@ use Rattle.std.proofs.lemmas.Bool.Decides.{nat_tests}
 use Rattle.std.proofs.lemmas.Bool.{and_parts}
 use Rattle.std.specs.Bool.{beq}
 use Rattle.std.specs.Cmp.{booleans_Decides}
+use Rattle.line21_codes.specs.declared.channels.FieldNumber.{FieldNumber}
+use Rattle.line21_codes.specs.declared.channels.FieldNumber.TheVariants.{One}
 use Rattle.line21_codes.specs.declared.codes.Code.{Code}
 use Rattle.line21_codes.specs.declared.codes.Code.TheVariants.{Null, Text, Xds, Control}
 use Rattle.line21_codes.specs.declared.codes.Control.{Control as ControlCode}
@@ -70,13 +72,13 @@ unfolding all_below is_told
 told_test = refl
 
 -- a code's two bytes are below 128 and are read as the code
-pub record ReadsBack (second_field : Bool) (code : Code) : Type 0 where
-  pub first : (code_bytes second_field code).0 < 128
-  pub second : (code_bytes second_field code).1 < 128
-  pub is : code_at (code_bytes second_field code).0 (code_bytes second_field code).1 ≡ code
+pub record ReadsBack (in_field : FieldNumber) (code : Code) : Type 0 where
+  pub first : (code_bytes in_field code).0 < 128
+  pub second : (code_bytes in_field code).1 < 128
+  pub is : code_at (code_bytes in_field code).0 (code_bytes in_field code).1 ≡ code
 
 -- a text pair
-text_reads_back : (f : Bool) (first second : ℕ) → IsText first second → ReadsBack f (Text first second)
+text_reads_back : (f : FieldNumber) (first second : ℕ) → IsText first second → ReadsBack f (Text first second)
 unfolding text_back
 text_reads_back f first second h =
     record {
@@ -88,7 +90,7 @@ text_reads_back f first second h =
     }
 
 -- a pair of extended data services
-xds_reads_back : (f : Bool) (first second : ℕ) → 1 ≤ first → first < 0x10 → second < 128 → ReadsBack f (Xds first second)
+xds_reads_back : (f : FieldNumber) (first second : ℕ) → 1 ≤ first → first < 0x10 → second < 128 → ReadsBack f (Xds first second)
 unfolding xds_back
 xds_reads_back f first second from to below =
     record {
@@ -100,15 +102,15 @@ xds_reads_back f first second from to below =
     }
 
 -- what the bytes of a control code are
-pub record ControlReadsBack (second_field : Bool) (control : ControlCode) : Type 0 where
-  pub from : 0x10 ≤ (control_bytes second_field control).0
-  pub to : (control_bytes second_field control).0 < 0x18
-  pub second_from : 0x20 ≤ (control_bytes second_field control).1
-  pub second_to : (control_bytes second_field control).1 < 0x80
-  pub is : control_at (control_bytes second_field control).0 (control_bytes second_field control).1 ≡ control
+pub record ControlReadsBack (in_field : FieldNumber) (control : ControlCode) : Type 0 where
+  pub from : 0x10 ≤ (control_bytes in_field control).0
+  pub to : (control_bytes in_field control).0 < 0x18
+  pub second_from : 0x20 ≤ (control_bytes in_field control).1
+  pub second_to : (control_bytes in_field control).1 < 0x80
+  pub is : control_at (control_bytes in_field control).0 (control_bytes in_field control).1 ≡ control
 
 -- the test of a control code, as facts
-control_reads_back : (f : Bool) (control : ControlCode) → reads_back f control ≡ true → ControlReadsBack f control
+control_reads_back : (f : FieldNumber) (control : ControlCode) → reads_back f control ≡ true → ControlReadsBack f control
 unfolding reads_back
 control_reads_back f control h =
     record {
@@ -130,7 +132,7 @@ channels_at first second from to second_from second_to =
     (same_code-true (code_at first second) (Control false (control_at first second)) parts.0, same_code-true (code_at (first + 8) second) (Control true (control_at first second)) parts.1)
 
 -- a control code of either data channel
-control_code_reads_back : (f second : Bool) (control : ControlCode) → ControlReadsBack f control → ReadsBack f (Control second control)
+control_code_reads_back : (f : FieldNumber) (second : Bool) (control : ControlCode) → ControlReadsBack f control → ReadsBack f (Control second control)
 control_code_reads_back f false control h =
     let at = channels_at (control_bytes f control).0 (control_bytes f control).1 h.from h.to h.second_from h.second_to in
     record { first = omega (arith, h.to); second = h.second_to; is = at.0 ∙ ap (λ k. Control false k) h.is }
@@ -139,7 +141,7 @@ control_code_reads_back f true control h =
     record { first = omega (arith, h.to); second = h.second_to; is = at.1 ∙ ap (λ k. Control true k) h.is }
 
 -- every code that can be written is read back from its bytes
-pub reads_back_at : (f : Bool) (code : Code) → IsWritable code → ReadsBack f code
+pub reads_back_at : (f : FieldNumber) (code : Code) → IsWritable code → ReadsBack f code
 reads_back_at f Null h = record { first = omega arith; second = omega arith; is = refl }
 reads_back_at f (Text first second) h = text_reads_back f first second h
 reads_back_at f (Xds first second) h = xds_reads_back f first second h.0 h.1 h.2
@@ -152,26 +154,26 @@ code_of_parity first second below second_below =
     rw (with_parity-odd first below, with_parity-odd second second_below, with_parity-bits first below, with_parity-bits second second_below) refl
 
 -- what is written is read back
-pub written-code_of : (f : Bool) (code : Code) → IsWritable code → code_of (written f code) ≡ code
+pub written-code_of : (f : FieldNumber) (code : Code) → IsWritable code → code_of (written f code) ≡ code
 unfolding written
 written-code_of f code h =
     let back = reads_back_at f code h in
     code_of_parity (code_bytes f code).0 (code_bytes f code).1 back.first back.second ∙ back.is
 
 -- what is written has odd parity
-pub written-odd : (f : Bool) (code : Code) → IsWritable code → has_odd_parity (written f code) ≡ true
+pub written-odd : (f : FieldNumber) (code : Code) → IsWritable code → has_odd_parity (written f code) ≡ true
 unfolding written
 written-odd f code h =
     let back = reads_back_at f code h in
     rw (with_parity-odd (code_bytes f code).0 back.first, with_parity-odd (code_bytes f code).1 back.second) refl
 
 -- the first byte is a byte
-pub written-a : (f : Bool) (code : Code) → IsWritable code → (written f code).a < 256
+pub written-a : (f : FieldNumber) (code : Code) → IsWritable code → (written f code).a < 256
 unfolding written
 written-a f code h = with_parity-byte (code_bytes f code).0 (reads_back_at f code h).first
 
 -- the second byte is a byte
-pub written-b : (f : Bool) (code : Code) → IsWritable code → (written f code).b < 256
+pub written-b : (f : FieldNumber) (code : Code) → IsWritable code → (written f code).b < 256
 unfolding written
 written-b f code h = with_parity-byte (code_bytes f code).1 (reads_back_at f code h).second
 
@@ -193,7 +195,7 @@ unfolding is_control code_of
 is_control-code_of pair = doubled_if (has_odd_parity pair) (low_bits pair.a) (low_bits pair.b) (omega arith) (omega arith)
 
 -- a control pair is written exactly for the codes that are sent twice
-pub is_control-written : (f : Bool) (code : Code) → IsWritable code → is_control (written f code) ≡ is_doubled code
+pub is_control-written : (f : FieldNumber) (code : Code) → IsWritable code → is_control (written f code) ≡ is_doubled code
 is_control-written f code h = is_control-code_of (written f code) ∙ ap is_doubled (written-code_of f code h)
 
 -- what is read and not skipped can be written
@@ -222,12 +224,12 @@ IsWritable-kept _ h = refl
 -- the codes that can be written are those that can be read and are not skipped
 pub writable_iff_readable : (code : Code) → IsWritable code ↔ (IsReadable code × (is_skipped code ≡ false))
 writable_iff_readable code = (
-  λ h. ((written false code, written-a false code h, written-b false code h, written-odd false code h, written-code_of false code h), IsWritable-kept code h),
+  λ h. ((written One code, written-a One code h, written-b One code h, written-odd One code h, written-code_of One code h), IsWritable-kept code h),
   λ (h : IsReadable code × (is_skipped code ≡ false)). let is : code_of h.0.0 ≡ code = h.0.4 in subst IsWritable is (writable_from_read h.0.0 (subst (λ c. is_skipped c ≡ false) (sym is) h.1)),
 )
 
 -- the same of any pair that is the written one
-pub written_is_read : (f : Bool) (code : Code) (pair : Pair) → pair ≡ written f code → IsWritable code → code_of pair ≡ code
+pub written_is_read : (f : FieldNumber) (code : Code) (pair : Pair) → pair ≡ written f code → IsWritable code → code_of pair ≡ code
 written_is_read f code pair is h = ap code_of is ∙ written-code_of f code h
 
 -- the skipped bytes are those of the list

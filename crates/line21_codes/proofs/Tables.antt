@@ -1,6 +1,8 @@
 -- A test of a whole table, which computes, and the rule that it gives at each entry.
 use Rattle.std.proofs.Common.{◌≡◌, ◌||◌, not, refl, ℕ, zero, suc, ◌<◌, ◌⊎◌, inl, inr, Bool, true, false, ◌&&◌, arith, subst}
 use Rattle.std.proofs.lemmas.Bool.{and_parts, cases_lt}
+use Rattle.line21_codes.specs.declared.channels.FieldNumber.{FieldNumber}
+use Rattle.line21_codes.specs.declared.channels.FieldNumber.TheVariants.{One, Two}
 use Rattle.line21_codes.specs.declared.styles.Colour.{Colour}
 use Rattle.line21_codes.specs.declared.styles.Colour.TheVariants.{White, Green, Blue, Cyan, Red, Yellow, Magenta}
 
@@ -33,6 +35,16 @@ pub at_bool : (p : Bool → Bool) → all_bools p ≡ true → (b : Bool) → p 
 unfolding all_bools
 at_bool p passes true = (and_parts (p true) (p false) passes).0
 at_bool p passes false = (and_parts (p true) (p false) passes).1
+
+-- the test passes in both fields
+unfoldable pub all_fields : (FieldNumber → Bool) → Bool
+all_fields p = p One && p Two
+
+-- a test that passes in both passes in each
+pub at_field : (p : FieldNumber → Bool) → all_fields p ≡ true → (in_field : FieldNumber) → p in_field ≡ true
+unfolding all_fields
+at_field p passes One = (and_parts (p One) (p Two) passes).0
+at_field p passes Two = (and_parts (p One) (p Two) passes).1
 
 -- the test passes at each colour
 unfoldable pub all_colours : (Colour → Bool) → Bool

@@ -3,17 +3,31 @@
 use Rattle.std.specs.Prelude.{Bool, true, false}
 use Rattle.line21_codes.specs.declared.channels.Chan.{Chan}
 use Rattle.line21_codes.specs.declared.channels.Chan.TheVariants.{Cc1, Cc2, Cc3, Cc4}
+use Rattle.line21_codes.specs.declared.channels.FieldNumber.{FieldNumber}
+use Rattle.line21_codes.specs.declared.channels.FieldNumber.TheVariants as fields
+use Rattle.line21_codes.specs.declared.channels.DataChannel.{DataChannel}
+use Rattle.line21_codes.specs.declared.channels.DataChannel.TheVariants as data_channels
 
--- the channel is in field 2
-abbrev pub is_in_second_field : Chan → Bool
-is_in_second_field Cc1 = false
-is_in_second_field Cc2 = false
-is_in_second_field Cc3 = true
-is_in_second_field Cc4 = true
+-- the field that carries the channel
+abbrev pub field_of_channel : Chan → FieldNumber
+field_of_channel Cc1 = fields.One
+field_of_channel Cc2 = fields.One
+field_of_channel Cc3 = fields.Two
+field_of_channel Cc4 = fields.Two
 
--- the channel is data channel 2 of its field
-abbrev pub is_second_channel : Chan → Bool
-is_second_channel Cc1 = false
-is_second_channel Cc2 = true
-is_second_channel Cc3 = false
-is_second_channel Cc4 = true
+-- the data channel of its field that the channel is
+abbrev pub data_channel_of : Chan → DataChannel
+data_channel_of Cc1 = data_channels.One
+data_channel_of Cc2 = data_channels.Two
+data_channel_of Cc3 = data_channels.One
+data_channel_of Cc4 = data_channels.Two
+
+-- field 2 where this says so, or else field 1
+abbrev pub numbered_field : Bool → FieldNumber
+numbered_field false = fields.One
+numbered_field true = fields.Two
+
+-- data channel 2 where this says so, or else data channel 1
+abbrev pub numbered_channel : Bool → DataChannel
+numbered_channel false = data_channels.One
+numbered_channel true = data_channels.Two

@@ -1,5 +1,7 @@
 -- The miscellaneous control codes (CTA-608-E and 47 CFR 79.101, miscellaneous control codes).
-use Rattle.std.specs.Prelude.{ℕ, ◌-◌, Bool, if◌then◌else◌, List, [], ◌∷◌, slice_index_or}
+use Rattle.std.specs.Prelude.{ℕ, ◌-◌, List, [], ◌∷◌, slice_index_or}
+use Rattle.line21_codes.specs.declared.channels.FieldNumber.{FieldNumber}
+use Rattle.line21_codes.specs.declared.channels.FieldNumber.TheVariants.{One, Two}
 use Rattle.line21_codes.specs.declared.codes.Control.{Control}
 use Rattle.line21_codes.specs.declared.codes.Control.TheVariants.{Rcl, Bs, Der, Ru, Fon, Rdc, Tr, Rtd, Edm, Cr, Enm, Eoc, Skipped}
 
@@ -14,5 +16,6 @@ abbrev pub miscellaneous_at : ℕ → Control
 miscellaneous_at second = slice_index_or miscellaneous_codes (second - 0x20) Skipped
 
 -- the first byte with which a field writes them
-abbrev pub miscellaneous_first : Bool → ℕ
-miscellaneous_first second_field = if second_field then 0x15 else 0x14
+abbrev pub miscellaneous_first : FieldNumber → ℕ
+miscellaneous_first One = 0x14
+miscellaneous_first Two = 0x15

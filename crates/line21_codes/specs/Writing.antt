@@ -1,6 +1,7 @@
 -- How a code is written as a pair: the tables from a code to its bytes
 -- (CTA-608-E and 47 CFR 79.101).
 use Rattle.std.specs.Prelude.{ℕ, ◌+◌, ◌-◌, ◌/◌, Bool, true, false, if◌then◌else◌, List, [], ◌∷◌, Some, None, Option, slice_index_or}
+use Rattle.line21_codes.specs.declared.channels.FieldNumber.{FieldNumber}
 use Rattle.line21_codes.specs.declared.codes.Code.{Code}
 use Rattle.line21_codes.specs.declared.codes.Code.TheVariants.{Null, Text, Xds, Control}
 use Rattle.line21_codes.specs.declared.codes.Control.{Control as ControlCode}
@@ -62,38 +63,38 @@ abbrev pub preamble_bytes : ℕ → ℕ → Style → ℕ × ℕ
 preamble_bytes row col style = ((row_bytes_at row).0, (row_bytes_at row).1 + preamble_bits col style)
 
 -- a control code's two bytes in data channel 1 of a field; a skipped code is never written
-abbrev pub control_bytes : Bool → ControlCode → ℕ × ℕ
-control_bytes second_field Rcl = (miscellaneous_first second_field, 0x20)
-control_bytes second_field Bs = (miscellaneous_first second_field, 0x21)
-control_bytes second_field Der = (miscellaneous_first second_field, 0x24)
-control_bytes second_field (Ru rows) = (miscellaneous_first second_field, 0x23 + rows)
-control_bytes second_field Fon = (miscellaneous_first second_field, 0x28)
-control_bytes second_field Rdc = (miscellaneous_first second_field, 0x29)
-control_bytes second_field Tr = (miscellaneous_first second_field, 0x2A)
-control_bytes second_field Rtd = (miscellaneous_first second_field, 0x2B)
-control_bytes second_field Edm = (miscellaneous_first second_field, 0x2C)
-control_bytes second_field Cr = (miscellaneous_first second_field, 0x2D)
-control_bytes second_field Enm = (miscellaneous_first second_field, 0x2E)
-control_bytes second_field Eoc = (miscellaneous_first second_field, 0x2F)
-control_bytes second_field (Tab columns) = (0x17, 0x20 + columns)
-control_bytes second_field (MidRow colour underline) =
+abbrev pub control_bytes : FieldNumber → ControlCode → ℕ × ℕ
+control_bytes in_field Rcl = (miscellaneous_first in_field, 0x20)
+control_bytes in_field Bs = (miscellaneous_first in_field, 0x21)
+control_bytes in_field Der = (miscellaneous_first in_field, 0x24)
+control_bytes in_field (Ru rows) = (miscellaneous_first in_field, 0x23 + rows)
+control_bytes in_field Fon = (miscellaneous_first in_field, 0x28)
+control_bytes in_field Rdc = (miscellaneous_first in_field, 0x29)
+control_bytes in_field Tr = (miscellaneous_first in_field, 0x2A)
+control_bytes in_field Rtd = (miscellaneous_first in_field, 0x2B)
+control_bytes in_field Edm = (miscellaneous_first in_field, 0x2C)
+control_bytes in_field Cr = (miscellaneous_first in_field, 0x2D)
+control_bytes in_field Enm = (miscellaneous_first in_field, 0x2E)
+control_bytes in_field Eoc = (miscellaneous_first in_field, 0x2F)
+control_bytes in_field (Tab columns) = (0x17, 0x20 + columns)
+control_bytes in_field (MidRow colour underline) =
     (0x11, 0x20 + mid_row_bits colour + underline_bit underline)
-control_bytes second_field (Preamble row col style) = preamble_bytes row col style
-control_bytes second_field (Special byte) = (0x11, byte)
-control_bytes second_field (Extended set byte) = (set, byte)
-control_bytes second_field Skipped = (0x10, 0x20)
+control_bytes in_field (Preamble row col style) = preamble_bytes row col style
+control_bytes in_field (Special byte) = (0x11, byte)
+control_bytes in_field (Extended set byte) = (set, byte)
+control_bytes in_field Skipped = (0x10, 0x20)
 
 -- a code's two bytes without parity; data channel 2 has first bytes that are 8 greater
-abbrev pub code_bytes : Bool → Code → ℕ × ℕ
-code_bytes second_field Null = (0, 0)
-code_bytes second_field (Text first second) = (first, second)
-code_bytes second_field (Xds first second) = (first, second)
-code_bytes second_field (Control second control) =
-    let bytes = control_bytes second_field control in
+abbrev pub code_bytes : FieldNumber → Code → ℕ × ℕ
+code_bytes in_field Null = (0, 0)
+code_bytes in_field (Text first second) = (first, second)
+code_bytes in_field (Xds first second) = (first, second)
+code_bytes in_field (Control second control) =
+    let bytes = control_bytes in_field control in
     (if second then bytes.0 + 8 else bytes.0, bytes.1)
 
 -- the pair with which a field writes a code
-unfoldable pub written : Bool → Code → Pair
-written second_field code =
-    let bytes = code_bytes second_field code in
+unfoldable pub written : FieldNumber → Code → Pair
+written in_field code =
+    let bytes = code_bytes in_field code in
     record { a = with_parity bytes.0; b = with_parity bytes.1 }

@@ -1,6 +1,7 @@
 //! Laws of the definitions: functions without a body, whose contract is the law.
 
 ghost use Rattle.std.specs.Prelude.{◌≡◌, ◌↔◌, ◌&&◌, ℕ, List, ◌∷◌, Bool, true, false, Some, None};
+ghost use Rattle.line21_codes.specs.declared.channels.FieldNumber.{FieldNumber};
 ghost use Rattle.line21_codes.specs.declared.codes.Code.{Code};
 ghost use Rattle.line21_codes.specs.declared.pairs.Pair.{Pair};
 ghost use Rattle.line21_codes.specs.declared.characters.Spelling.{Spelling};
@@ -15,17 +16,17 @@ ghost use Rattle.line21_codes.specs.Spellings.{spelling_of, Shows, HasNoCode};
 
 /// What is written is read back, in either field, and has odd parity.
 pub fn written_is_read()
-    ensures code { (second_field : Bool) (code : Code) → IsWritable code
-        → code_of (written second_field code) ≡ code }
-    ensures parity { (second_field : Bool) (code : Code) → IsWritable code
-        → has_odd_parity (written second_field code) ≡ true }
+    ensures code { (in_field : FieldNumber) (code : Code) → IsWritable code
+        → code_of (written in_field code) ≡ code }
+    ensures parity { (in_field : FieldNumber) (code : Code) → IsWritable code
+        → has_odd_parity (written in_field code) ≡ true }
 {}
 
 /// What is read and not skipped can be written, in either field, as a pair that is read alike.
 pub fn read_is_written()
     ensures writable { (pair : Pair) → is_skipped (code_of pair) ≡ false → IsWritable (code_of pair) }
-    ensures code { (second_field : Bool) (pair : Pair) → is_skipped (code_of pair) ≡ false
-        → code_of (written second_field (code_of pair)) ≡ code_of pair }
+    ensures code { (in_field : FieldNumber) (pair : Pair) → is_skipped (code_of pair) ≡ false
+        → code_of (written in_field (code_of pair)) ≡ code_of pair }
 {}
 
 /// The codes that can be written are exactly those that some two bytes are read as and that are not
@@ -44,8 +45,8 @@ pub fn skipped_pairs_are_listed()
 /// The control pairs are exactly the pairs of the codes that are sent twice.
 pub fn control_pairs_are_doubled()
     ensures read { (pair : Pair) → is_control pair ≡ is_doubled (code_of pair) }
-    ensures written { (second_field : Bool) (code : Code) → IsWritable code
-        → is_control (written second_field code) ≡ is_doubled code }
+    ensures written { (in_field : FieldNumber) (code : Code) → IsWritable code
+        → is_control (written in_field code) ≡ is_doubled code }
 {}
 
 /// A spelled character is shown again by its table, and one without a spelling stands in none.

@@ -13,7 +13,7 @@ mod reading;
 mod styles;
 mod writing;
 
-pub use channels::Chan;
+pub use channels::{Chan, DataChannel, FieldNumber};
 pub use characters::{Spelling, basic_char, extended_char, special_char, spell};
 pub use codes::{Code, Control};
 pub use doubling::Doubler;

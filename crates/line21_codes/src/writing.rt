@@ -1,8 +1,11 @@
 ghost use Rattle.std.specs.Prelude.{◌≡◌, ◌<◌, ◌≤◌};
+ghost use Rattle.line21_codes.specs.Channels.{numbered_field};
+ghost use Rattle.line21_codes.specs.MiscellaneousCodes.{miscellaneous_first};
 ghost use Rattle.line21_codes.specs.Reading.{code_of};
 ghost use Rattle.line21_codes.specs.Writable.{IsWritable, IsWritableControl, IsPreamble};
 ghost use Rattle.line21_codes.specs.Writing.{underline_bit, colour_bits, mid_row_bits, indent_bits, preamble_bits, row_bytes_at, preamble_bytes, control_bytes, code_bytes, written};
 
+use crate::channels::FieldNumber;
 use crate::codes::{Code, Control};
 use crate::pairs::{Pair, parity};
 use crate::styles::{Colour, Style};
@@ -13,19 +16,19 @@ use crate::styles::{Colour, Style};
 #[tactic(auto, unfolding(crate::specs::Writing::written))]
 pub fn write_code(code: Code, second_field: bool) -> Pair
     requires { IsWritable code }
-    ensures pair { result ≡ written second_field code }
+    ensures pair { result ≡ written (numbered_field second_field) code }
     ensures code { code_of result ≡ code }
 {
-    let (first, second) = bytes_of(code, second_field);
+    let (first, second) = bytes_of(code, FieldNumber::from_second(second_field));
     Pair {
         a: parity(first),
         b: parity(second),
     }
 }
 
-fn bytes_of(code: Code, second_field: bool) -> (u8, u8)
+fn bytes_of(code: Code, in_field: FieldNumber) -> (u8, u8)
     requires { IsWritable code }
-    ensures bytes { result ≡ code_bytes second_field code }
+    ensures bytes { result ≡ code_bytes in_field code }
     ensures first { result.0 < 128 }
     ensures second { result.1 < 128 }
 {
@@ -34,19 +37,19 @@ fn bytes_of(code: Code, second_field: bool) -> (u8, u8)
         Code::Text(first, second) => (first, second),
         Code::Xds(first, second) => (first, second),
         Code::Control { second, control } => {
-            let (first, byte) = control_bytes_of(control, second_field);
+            let (first, byte) = control_bytes_of(control, in_field);
             (if second { first + 8 } else { first }, byte)
         }
     }
 }
 
-fn control_bytes_of(control: Control, second_field: bool) -> (u8, u8)
+fn control_bytes_of(control: Control, in_field: FieldNumber) -> (u8, u8)
     requires { IsWritableControl control }
-    ensures bytes { result ≡ control_bytes second_field control }
+    ensures bytes { result ≡ control_bytes in_field control }
     ensures first { result.0 < 0x18 }
     ensures second { result.1 < 128 }
 {
-    let miscellaneous = if second_field { 0x15 } else { 0x14 };
+    let miscellaneous = miscellaneous_first_of(in_field);
     match control {
         Control::Rcl => (miscellaneous, 0x20),
         Control::Bs => (miscellaneous, 0x21),
@@ -71,6 +74,16 @@ fn control_bytes_of(control: Control, second_field: bool) -> (u8, u8)
         Control::Special(byte) => (0x11, byte),
         Control::Extended { set, byte } => (set, byte),
         Control::Skipped => unreachable!(),
+    }
+}
+
+fn miscellaneous_first_of(in_field: FieldNumber) -> u8
+    ensures is { result ≡ miscellaneous_first in_field }
+    ensures below { result < 0x18 }
+{
+    match in_field {
+        FieldNumber::One => 0x14,
+        FieldNumber::Two => 0x15,
     }
 }
 

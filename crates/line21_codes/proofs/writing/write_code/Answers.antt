@@ -1,5 +1,6 @@
 use Rattle.std.proofs.Common.{◌≡◌, rules}
 use Rattle.line21_codes.specs.declared.pairs.Pair.{Pair}
+use Rattle.line21_codes.specs.Channels.{numbered_field}
 use Rattle.line21_codes.specs.Writing.{written}
 use Rattle.line21_codes.proofs.CodeLemmas.{written_is_read}
 use Rattle.line21_codes.proofs.writing.write_code.Goals as goal
@@ -8,5 +9,5 @@ pub returns-clause-code : goal.returns-clause-code
 unfolding written
 returns-clause-code c =
     let pair : Pair = record { a = c.parity.result; b = c.parity-2.result } in
-    let is : pair ≡ written c.args.second_field c.args.code = search rules in
-    written_is_read c.args.second_field c.args.code pair is c.requires
+    let is : pair ≡ written (numbered_field c.args.second_field) c.args.code = search rules in
+    written_is_read (numbered_field c.args.second_field) c.args.code pair is c.requires
