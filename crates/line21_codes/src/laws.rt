@@ -1,6 +1,6 @@
 //! Laws of the definitions: functions without a body, whose contract is the law.
 
-ghost use Rattle.std.specs.Prelude.{◌≡◌, ◌↔◌, ◌&&◌, ℕ, List, ◌∷◌, Bool, true, false, Some, None};
+ghost use Rattle.std.specs.Prelude.{◌≡◌, ◌↔◌, ◌&&◌, ℕ, List, ◌∷◌, true, false, Some, None};
 ghost use Rattle.line21_codes.specs.declared.channels.FieldNumber.{FieldNumber};
 ghost use Rattle.line21_codes.specs.declared.codes.Code.{Code};
 ghost use Rattle.line21_codes.specs.declared.pairs.Pair.{Pair};
