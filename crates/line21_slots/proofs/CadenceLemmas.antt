@@ -4,9 +4,11 @@ use Rattle.std.proofs.lemmas.Bool.{eqb-true}
 use Rattle.std.proofs.lemmas.Bool.Decides.{nat_tests}
 use Rattle.cc_base.specs.declared.rate.Rate.{Rate}
 use Rattle.cc_base.specs.declared.rate.Rate.TheVariants as rates
-use Rattle.line21_codes.specs.Channels.{is_in_second_field}
+use Rattle.line21_codes.specs.declared.channels.FieldNumber.{FieldNumber}
+use Rattle.line21_codes.specs.declared.channels.FieldNumber.TheVariants.{One, Two}
+use Rattle.line21_codes.specs.Channels.{field_of_channel}
 use Rattle.line21_codes.specs.declared.channels.Chan.{Chan}
-use Rattle.line21_slots.specs.Cadences.{cadence_of, has_slot_in, slot_frame, slot_from, slot_step, step_of}
+use Rattle.line21_slots.specs.Cadences.{cadence_of, has_slot_in, slot_frame, slot_from, slot_step, step_of, turn_of}
 use Rattle.line21_slots.specs.declared.cadence.Cadence.{Cadence}
 use Rattle.line21_slots.specs.declared.cadence.Cadence.TheVariants.{EveryFrame, EvenFrames, OddFrames}
 
@@ -97,9 +99,9 @@ slots_ended EvenFrames f frames has ended = let even : f % 2 ≡ 0 = eqb-true (f
 slots_ended OddFrames f frames has ended = let odd : f % 2 ≡ 1 = eqb-true (f % 2) 1 has in omega arith
 
 -- the step of a channel's field is that of the rate
-double_step : (second_field : Bool) → 2 ≡ step_of (if second_field then OddFrames else EvenFrames)
-double_step true = refl
-double_step false = refl
+double_step : (in_field : FieldNumber) → 2 ≡ step_of (turn_of in_field)
+double_step Two = refl
+double_step One = refl
 
 pub slot_step_is : (r : Rate) (channel : Chan) → slot_step r ≡ step_of (cadence_of r channel)
 slot_step_is rates.F23976 channel = refl
@@ -108,5 +110,5 @@ slot_step_is rates.F25 channel = refl
 slot_step_is rates.F2997 channel = refl
 slot_step_is rates.F30 channel = refl
 slot_step_is rates.F50 channel = refl
-slot_step_is rates.F5994 channel = double_step (is_in_second_field channel)
-slot_step_is rates.F60 channel = double_step (is_in_second_field channel)
+slot_step_is rates.F5994 channel = double_step (field_of_channel channel)
+slot_step_is rates.F60 channel = double_step (field_of_channel channel)

@@ -4,8 +4,10 @@
 use Rattle.std.specs.Prelude.{ℕ, ◌+◌, ◌*◌, ◌/◌, ◌%◌, ◌==◌, if◌then◌else◌, Bool, true, false, Option, Some, None}
 use Rattle.cc_base.specs.declared.rate.Rate.{Rate}
 use Rattle.cc_base.specs.declared.rate.Rate.TheVariants as rate
-use Rattle.line21_codes.specs.Channels.{is_in_second_field}
+use Rattle.line21_codes.specs.Channels.{field_of_channel}
 use Rattle.line21_codes.specs.declared.channels.Chan.{Chan}
+use Rattle.line21_codes.specs.declared.channels.FieldNumber.{FieldNumber}
+use Rattle.line21_codes.specs.declared.channels.FieldNumber.TheVariants.{One, Two}
 use Rattle.line21_slots.specs.declared.cadence.Cadence.{Cadence}
 use Rattle.line21_slots.specs.declared.cadence.Cadence.TheVariants.{EveryFrame, EvenFrames, OddFrames}
 
@@ -19,9 +21,14 @@ is_double _ = false
 abbrev pub slot_step : Rate → ℕ
 slot_step rate = if is_double rate then 2 else 1
 
+-- the cadence of a field where the fields take turns
+abbrev pub turn_of : FieldNumber → Cadence
+turn_of One = EvenFrames
+turn_of Two = OddFrames
+
 -- the cadence of a channel's field
 abbrev pub cadence_of : Rate → Chan → Cadence
-cadence_of rate channel = if is_double rate then (if is_in_second_field channel then OddFrames else EvenFrames) else EveryFrame
+cadence_of rate channel = if is_double rate then turn_of (field_of_channel channel) else EveryFrame
 
 -- the frame of a slot
 abbrev pub slot_frame : Cadence → ℕ → ℕ

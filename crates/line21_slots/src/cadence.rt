@@ -2,7 +2,7 @@ ghost use Rattle.std.specs.Prelude.{◌≡◌, ℕ, ◌≤◌, ◌↔◌, true};
 ghost use Rattle.line21_slots.specs.Cadences.{cadence_of, has_slot_in, is_double, slot_frame, slot_from, slot_step};
 
 use cc_base::Rate;
-use line21_codes::Chan;
+use line21_codes::{Chan, FieldNumber};
 
 /// In which frames the slots of a field lie. Each slot is one byte pair, and the slots of a field are counted from 0, as frames
 /// are.
@@ -22,10 +22,10 @@ impl Cadence {
     pub fn of(rate: Rate, channel: Chan) -> Cadence
         ensures { result ≡ cadence_of rate channel }
     {
-        match (is_double(rate), channel.is_in_second_field()) {
+        match (is_double(rate), channel.field()) {
             (false, _) => Cadence::EveryFrame,
-            (true, false) => Cadence::EvenFrames,
-            (true, true) => Cadence::OddFrames,
+            (true, FieldNumber::One) => Cadence::EvenFrames,
+            (true, FieldNumber::Two) => Cadence::OddFrames,
         }
     }
 
