@@ -7,12 +7,12 @@ ghost use Rattle.line21_author.specs.CueCodes.{cue_codes};
 ghost use Rattle.line21_author.specs.CueUnits.{unit_of, units_of};
 ghost use Rattle.line21_author.specs.UnitPairs.{IsCarried};
 
-use crate::channel::is_for_second_field;
+use crate::channel::{field_of_kind, write_in};
 use crate::opening::push_opening;
 use crate::run::push_run;
 use crate::unit::{Unit, Units};
 use cue_lists::{Cue, Run};
-use line21_codes::{Code, write_code};
+use line21_codes::{Code, FieldNumber};
 use std::alloc::{AllocError, Global};
 
 /// The units of a cue, in the order in which its field sends them: the codes that set its caption
@@ -24,7 +24,7 @@ pub fn units(alloc: Global, cue: &Cue) -> Result<Units, AllocError>
     ensures carried { IfOk result (λ units. All IsCarried units) }
 {
     let codes = cue_codes(alloc, cue)?;
-    written_units(alloc, &codes, is_for_second_field(cue.kind))
+    written_units(alloc, &codes, field_of_kind(cue.kind))
 }
 
 // The codes of a cue.
@@ -48,24 +48,24 @@ fn push_runs(codes: &mut Vec<Code>, runs: &[Run]) -> Result<(), AllocError>
 }
 
 // The units of codes in a field.
-fn written_units(alloc: Global, codes: &[Code], second_field: bool) -> Result<Units, AllocError>
+fn written_units(alloc: Global, codes: &[Code], in_field: FieldNumber) -> Result<Units, AllocError>
     requires { All IsWritable codes.now }
-    ensures { IfOk result (λ units. units ≡ map (unit_of second_field) codes.now) }
+    ensures { IfOk result (λ units. units ≡ map (unit_of in_field) codes.now) }
 {
     let mut units = Vec::with_capacity(alloc, codes.len())?;
     for code in codes {
-        units.push(written_unit(*code, second_field))?;
+        units.push(written_unit(*code, in_field))?;
     }
     Ok(Units::from_vec(units))
 }
 
 // The unit of a code in a field: the pair that is written, which is sent twice where it is a control pair.
-fn written_unit(code: Code, second_field: bool) -> Unit
+fn written_unit(code: Code, in_field: FieldNumber) -> Unit
     requires { IsWritable code }
-    ensures { result ≡ unit_of second_field code }
+    ensures { result ≡ unit_of in_field code }
 {
     Unit {
-        pair: write_code(code, second_field),
+        pair: write_in(in_field, code),
         doubled: code.is_doubled(),
     }
 }

@@ -10,9 +10,9 @@ ghost use Rattle.line21_author.specs.CueEvents.{control_event, show_events, hide
 ghost use Rattle.line21_author.specs.EventOrder.{AreApart};
 ghost use Rattle.line21_author.specs.EventPairs.{IsControlEvent};
 
-use crate::channel::{first_channel, is_on};
+use crate::channel::{first_channel, is_on, write_in};
 use cue_lists::{Cue, Kind};
-use line21_codes::{Chan, Control, Pair, write_code};
+use line21_codes::{Chan, Control, FieldNumber, Pair};
 use line21_slots::Cadence;
 use std::alloc::{AllocError, Global};
 
@@ -50,16 +50,16 @@ pub fn events(
     ensures apart { IfOk result (λ events. (frames : ℕ) → AreInSequence (step_of cadence) frames (cues_on channel cues.now)
         → All (IsOnSlots cadence) (cues_on channel cues.now) → AreApart events.items) }
 {
-    let second_field = channel.is_in_second_field();
+    let in_field = channel.field();
     let mut events = Vec::new(alloc);
     let mut hide = None;
     for cue in cues {
         if is_on(channel, cue.kind) {
-            push_change(&mut events, second_field, hide, cue, cadence)?;
+            push_change(&mut events, in_field, hide, cue, cadence)?;
             hide = hide_slot(cadence, cue.hide);
         }
     }
-    push_last_hide(&mut events, second_field, hide)?;
+    push_last_hide(&mut events, in_field, hide)?;
     Ok(events)
 }
 
@@ -76,23 +76,23 @@ fn hide_slot(cadence: Cadence, hide: Option<u32>) -> Option<u32>
 // Appends the events between a cue with a HIDE at this slot and the next one, and the one that shows that.
 fn push_change(
     events: &mut Vec<Event>,
-    second_field: bool,
+    in_field: FieldNumber,
     hide: Option<u32>,
     next: &Cue,
     cadence: Cadence,
 ) -> Result<(), AllocError>
     ensures { OnOk result (events.new.items ≡ events.old.items
-        ++ (hide_events second_field hide (timed_in_slots cadence next.now ∷ []) ++ show_events second_field (timed_in_slots cadence next.now))) }
+        ++ (hide_events in_field hide (timed_in_slots cadence next.now ∷ []) ++ show_events in_field (timed_in_slots cadence next.now))) }
 {
     let pop_on = is_pop(next.kind);
     let show = cadence.slot_from(next.show);
     if let Some(slot) = hide {
         if !(pop_on && show == slot) {
-            events.push(event_of(second_field, slot, Control::Edm))?;
+            events.push(event_of(in_field, slot, Control::Edm))?;
         }
     }
     if pop_on {
-        events.push(event_of(second_field, show, Control::Eoc))?;
+        events.push(event_of(in_field, show, Control::Eoc))?;
     }
     Ok(())
 }
@@ -100,25 +100,25 @@ fn push_change(
 // Appends the event that hides the channel's last cue, if it has a HIDE.
 fn push_last_hide(
     events: &mut Vec<Event>,
-    second_field: bool,
+    in_field: FieldNumber,
     hide: Option<u32>,
 ) -> Result<(), AllocError>
-    ensures { OnOk result (events.new.items ≡ events.old.items ++ hide_events second_field hide []) }
+    ensures { OnOk result (events.new.items ≡ events.old.items ++ hide_events in_field hide []) }
 {
     if let Some(slot) = hide {
-        events.push(event_of(second_field, slot, Control::Edm))?;
+        events.push(event_of(in_field, slot, Control::Edm))?;
     }
     Ok(())
 }
 
 // A control code at a slot, in a field.
-fn event_of(second_field: bool, slot: u32, control: Control) -> Event
+fn event_of(in_field: FieldNumber, slot: u32, control: Control) -> Event
     requires { IsWritableControl control }
-    ensures { result ≡ control_event second_field slot control }
+    ensures { result ≡ control_event in_field slot control }
 {
     Event {
         slot,
-        pair: write_code(first_channel(control), second_field),
+        pair: write_in(in_field, first_channel(control)),
     }
 }
 

@@ -19,7 +19,7 @@ returns-clause-carried c =
     let writable : All IsWritable c.deref.result.now =
     rw (c.deref.ensures.value, c.in_ok-codes.ensures) (cue_codes_writable c.args.cue.now c.requires) in
     IfOk-weaker c.written_units.result
-    (λ units. units ≡ map (unit_of c.is_for_second_field.result) c.deref.result.now)
+    (λ units. units ≡ map (unit_of c.field_of_kind.result) c.deref.result.now)
     (λ units. All IsCarried units)
-    (λ units is. units_carried c.is_for_second_field.result c.deref.result.now units writable is)
+    (λ units is. units_carried c.field_of_kind.result c.deref.result.now units writable is)
     c.written_units.ensures

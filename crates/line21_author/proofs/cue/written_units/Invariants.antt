@@ -5,4 +5,4 @@ use Rattle.line21_author.proofs.cue.written_units.Given as goal
 
 -- the units so far are those of the codes so far
 abbrev pub invariant-loop-code : goal.invariant-loop-code
-invariant-loop-code l = l.units.items ≡ map (unit_of l.second_field) (take l.code-index l.codes)
+invariant-loop-code l = l.units.items ≡ map (unit_of l.in_field) (take l.code-index l.codes)

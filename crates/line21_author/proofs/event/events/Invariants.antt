@@ -8,6 +8,6 @@ use Rattle.line21_author.proofs.event.events.Given as goal
 abbrev pub invariant-loop-cue : goal.invariant-loop-cue
 invariant-loop-cue l =
     l.events.items
-    ++ (hide_events l.second_field l.hide (cues_on l.channel (cues_in_slots l.cadence (drop l.cue-index l.cues)))
-    ++ cue_events l.second_field (cues_on l.channel (cues_in_slots l.cadence (drop l.cue-index l.cues))))
-    ≡ cue_events l.second_field (cues_on l.channel (cues_in_slots l.cadence l.cues))
+    ++ (hide_events l.in_field l.hide (cues_on l.channel (cues_in_slots l.cadence (drop l.cue-index l.cues)))
+    ++ cue_events l.in_field (cues_on l.channel (cues_in_slots l.cadence (drop l.cue-index l.cues))))
+    ≡ cue_events l.in_field (cues_on l.channel (cues_in_slots l.cadence l.cues))
