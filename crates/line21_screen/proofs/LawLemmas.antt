@@ -2,6 +2,8 @@
 use Rattle.std.proofs.Common.{◌≡◌, ℕ, ◌+◌, ◌%◌, ◌==◌, ◌&&◌, Bool, true, false, if◌then◌else◌, List, ◌∷◌, refl, sym, ap, ◌∙◌, arith}
 use Rattle.std.proofs.lemmas.Bool.Decides.{nat_tests, Decides-eqb}
 use Rattle.std.specs.Cmp.Derive.{both_true}
+use Rattle.line21_codes.specs.declared.channels.FieldNumber.{FieldNumber}
+use Rattle.line21_codes.specs.Channels.{numbered_channel}
 use Rattle.line21_codes.specs.declared.codes.Code.TheVariants.{Null, Control}
 use Rattle.line21_codes.specs.declared.codes.Control.TheVariants.{Eoc}
 use Rattle.line21_codes.specs.declared.pairs.Pair.{Pair}
@@ -56,21 +58,21 @@ third_acts before p control ignored =
     (even_next (number_behind before p) (sym (number_decides before p control) ∙ ignored))
 
 -- a control code that is sent twice acts once
-pub doubled_acts_once : (f : Bool) (before : List Pair) (p : Pair) → is_control p ≡ true → is_ignored before p ≡ false → after f (p ∷ p ∷ before) ≡ after_code f (code_of p) (after f before)
+pub doubled_acts_once : (f : FieldNumber) (before : List Pair) (p : Pair) → is_control p ≡ true → is_ignored before p ≡ false → after f (p ∷ p ∷ before) ≡ after_code f (code_of p) (after f before)
 doubled_acts_once f before p control acts =
     after-ignored f (p ∷ before) p (repeat_is_ignored before p control acts) ∙ after-acts f before p acts
 
 -- a null pair does nothing, whether or not it is ignored
-null_by : (f : Bool) (before : List Pair) (p : Pair) (ignored : Bool) → is_ignored before p ≡ ignored → code_of p ≡ Null → after f (p ∷ before) ≡ after f before
+null_by : (f : FieldNumber) (before : List Pair) (p : Pair) (ignored : Bool) → is_ignored before p ≡ ignored → code_of p ≡ Null → after f (p ∷ before) ≡ after f before
 null_by f before p true is null = after-ignored f before p is
 null_by f before p false is null = after-acts f before p is ∙ rw null refl
 
 -- a null pair does nothing
-pub null_does_nothing : (f : Bool) (before : List Pair) (p : Pair) → code_of p ≡ Null → after f (p ∷ before) ≡ after f before
+pub null_does_nothing : (f : FieldNumber) (before : List Pair) (p : Pair) → code_of p ≡ Null → after f (p ∷ before) ≡ after f before
 null_does_nothing f before p null = null_by f before p (is_ignored before p) refl null
 
 -- two end of caption codes
-two_flips : (f second : Bool) (before : List Pair) (eoc : Pair) → code_of eoc ≡ Control second Eoc → is_ignored before eoc ≡ false → after f (eoc ∷ eoc ∷ eoc ∷ eoc ∷ before) ≡ after_code f (Control second Eoc) (after_code f (Control second Eoc) (after f before))
+two_flips : (f : FieldNumber) (second : Bool) (before : List Pair) (eoc : Pair) → code_of eoc ≡ Control second Eoc → is_ignored before eoc ≡ false → after f (eoc ∷ eoc ∷ eoc ∷ eoc ∷ before) ≡ after_code f (Control second Eoc) (after_code f (Control second Eoc) (after f before))
 two_flips f second before eoc code acts =
     let control : is_control eoc ≡ true = is_control-code_of eoc ∙ rw code refl in
     let repeat : is_ignored (eoc ∷ before) eoc ≡ true = repeat_is_ignored before eoc control acts in
@@ -80,21 +82,21 @@ two_flips f second before eoc code acts =
     rw (last, first, code) refl
 
 -- they bring the displayed memory back
-back_displayed : (f second : Bool) (s : FieldState) → (channel second (after_code f (Control second Eoc) (after_code f (Control second Eoc) s))).displayed ≡ (channel second s).displayed
+back_displayed : (f : FieldNumber) (second : Bool) (s : FieldState) → (channel (numbered_channel second) (after_code f (Control second Eoc) (after_code f (Control second Eoc) s))).displayed ≡ (channel (numbered_channel second) s).displayed
 back_displayed f true s = refl
 back_displayed f false s = refl
 
 -- and the hidden one
-back_hidden : (f second : Bool) (s : FieldState) → (channel second (after_code f (Control second Eoc) (after_code f (Control second Eoc) s))).hidden ≡ (channel second s).hidden
+back_hidden : (f : FieldNumber) (second : Bool) (s : FieldState) → (channel (numbered_channel second) (after_code f (Control second Eoc) (after_code f (Control second Eoc) s))).hidden ≡ (channel (numbered_channel second) s).hidden
 back_hidden f true s = refl
 back_hidden f false s = refl
 
 -- two doubled end of caption codes bring the displayed memory back
-pub flips-displayed : (f second : Bool) (before : List Pair) (eoc : Pair) → code_of eoc ≡ Control second Eoc → is_ignored before eoc ≡ false → (channel second (after f (eoc ∷ eoc ∷ eoc ∷ eoc ∷ before))).displayed ≡ (channel second (after f before)).displayed
+pub flips-displayed : (f : FieldNumber) (second : Bool) (before : List Pair) (eoc : Pair) → code_of eoc ≡ Control second Eoc → is_ignored before eoc ≡ false → (channel (numbered_channel second) (after f (eoc ∷ eoc ∷ eoc ∷ eoc ∷ before))).displayed ≡ (channel (numbered_channel second) (after f before)).displayed
 flips-displayed f second before eoc code acts =
-    ap (λ s. (channel second s).displayed) (two_flips f second before eoc code acts) ∙ back_displayed f second (after f before)
+    ap (λ s. (channel (numbered_channel second) s).displayed) (two_flips f second before eoc code acts) ∙ back_displayed f second (after f before)
 
 -- and the hidden one
-pub flips-hidden : (f second : Bool) (before : List Pair) (eoc : Pair) → code_of eoc ≡ Control second Eoc → is_ignored before eoc ≡ false → (channel second (after f (eoc ∷ eoc ∷ eoc ∷ eoc ∷ before))).hidden ≡ (channel second (after f before)).hidden
+pub flips-hidden : (f : FieldNumber) (second : Bool) (before : List Pair) (eoc : Pair) → code_of eoc ≡ Control second Eoc → is_ignored before eoc ≡ false → (channel (numbered_channel second) (after f (eoc ∷ eoc ∷ eoc ∷ eoc ∷ before))).hidden ≡ (channel (numbered_channel second) (after f before)).hidden
 flips-hidden f second before eoc code acts =
-    ap (λ s. (channel second s).hidden) (two_flips f second before eoc code acts) ∙ back_hidden f second (after f before)
+    ap (λ s. (channel (numbered_channel second) s).hidden) (two_flips f second before eoc code acts) ∙ back_hidden f second (after f before)

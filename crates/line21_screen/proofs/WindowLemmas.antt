@@ -1,6 +1,10 @@
 -- In roll-up captions no displayed cell stands outside of the window: each code keeps that.
 use Rattle.std.proofs.Common.{◌≡◌, ℕ, ◌+◌, ◌-◌, ◌≤◌, ◌==◌, ◌&&◌, ◌||◌, nat_le, nat_lt, max, min, Bool, true, false, if◌then◌else◌, List, [], ◌∷◌, Option, Some, None, refl, sym, ◌∙◌, subst, arith}
 use Rattle.std.proofs.lemmas.Bool.Decides.{nat_tests}
+use Rattle.line21_codes.specs.declared.channels.FieldNumber.{FieldNumber}
+use Rattle.line21_codes.specs.declared.channels.DataChannel.{DataChannel}
+use Rattle.line21_codes.specs.declared.channels.DataChannel.TheVariants.{One, Two}
+use Rattle.line21_codes.specs.Channels.{numbered_channel}
 use Rattle.line21_codes.specs.declared.codes.Code.{Code}
 use Rattle.line21_codes.specs.declared.codes.Code.TheVariants.{Null, Text, Xds, Control}
 use Rattle.line21_codes.specs.declared.codes.Control.{Control as ControlCode}
@@ -239,9 +243,9 @@ abbrev BothKept : FieldState → Type 0
 BothKept s = IsKept s.first × IsKept s.second
 
 -- one of the channels changes
-on_channel_keeps : (second : Bool) (change : ChannelState → ChannelState) (s : FieldState) → ((x : ChannelState) → IsKept x → IsKept (change x)) → BothKept s → BothKept (on_channel second change s)
-on_channel_keeps false change s keeps k = (keeps s.first k.0, k.1)
-on_channel_keeps true change s keeps k = (k.0, keeps s.second k.1)
+on_channel_keeps : (data_channel : DataChannel) (change : ChannelState → ChannelState) (s : FieldState) → ((x : ChannelState) → IsKept x → IsKept (change x)) → BothKept s → BothKept (on_channel data_channel change s)
+on_channel_keeps One change s keeps k = (keeps s.first k.0, k.1)
+on_channel_keeps Two change s keeps k = (k.0, keeps s.second k.1)
 
 -- text, unless extended data are under way
 field_text_keeps : (b : Bool) (x y : FieldState) → BothKept x → BothKept y → BothKept (if b then x else y)
@@ -249,29 +253,29 @@ field_text_keeps true x y kx ky = kx
 field_text_keeps false x y kx ky = ky
 
 -- each pair
-code_keeps : (f : Bool) (code : Code) (s : FieldState) → IsPossibleCode code → BothKept s → BothKept (after_code f code s)
+code_keeps : (f : FieldNumber) (code : Code) (s : FieldState) → IsPossibleCode code → BothKept s → BothKept (after_code f code s)
 code_keeps f Null s h k = k
 code_keeps f (Text first second) s h k =
     field_text_keeps s.xds s (on_channel s.selected (after_text first second) s) k
     (on_channel_keeps s.selected (after_text first second) s (text_keeps first second) k)
 code_keeps f (Xds first second) s h k = k
 code_keeps f (Control second control) s h k =
-    on_channel_keeps second (after_control control) (record s { selected = second; xds = false })
+    on_channel_keeps (numbered_channel second) (after_control control) (record s { selected = numbered_channel second; xds = false })
     (λ x kx. control_keeps control x h kx) k
 
 -- a pair that may be a repeat
-pair_keeps : (f : Bool) (before : List Pair) (pair : Pair) (ignored : Bool) → is_ignored before pair ≡ ignored → BothKept (after f before) → BothKept (after f (pair ∷ before))
+pair_keeps : (f : FieldNumber) (before : List Pair) (pair : Pair) (ignored : Bool) → is_ignored before pair ≡ ignored → BothKept (after f before) → BothKept (after f (pair ∷ before))
 pair_keeps f before pair true is k = subst BothKept (sym (after-ignored f before pair is)) k
 pair_keeps f before pair false is k =
     subst BothKept (sym (after-acts f before pair is)) (code_keeps f (code_of pair) (after f before) (code_of-possible pair) k)
 
 -- a field that had no pair
-new_keeps : (f : Bool) → BothKept (after f [])
+new_keeps : (f : FieldNumber) → BothKept (after f [])
 unfolding after
 new_keeps f = (tt, tt)
 
 -- every list of pairs
-after_keeps : (f : Bool) (pairs : List Pair) → BothKept (after f pairs)
+after_keeps : (f : FieldNumber) (pairs : List Pair) → BothKept (after f pairs)
 after_keeps f [] = new_keeps f
 after_keeps f (pair ∷ before) = pair_keeps f before pair (is_ignored before pair) refl (after_keeps f before)
 
@@ -283,6 +287,6 @@ windowed PopOn s k = tt
 windowed PaintOn s k = tt
 
 -- in roll-up captions no displayed cell stands outside of the window
-pub stays_in_window : (f second : Bool) (pairs : List Pair) → IsInWindow (channel second (after f pairs))
-stays_in_window f false pairs = windowed (after f pairs).first.mode (after f pairs).first (after_keeps f pairs).0
-stays_in_window f true pairs = windowed (after f pairs).second.mode (after f pairs).second (after_keeps f pairs).1
+pub stays_in_window : (f : FieldNumber) (data_channel : DataChannel) (pairs : List Pair) → IsInWindow (channel data_channel (after f pairs))
+stays_in_window f One pairs = windowed (after f pairs).first.mode (after f pairs).first (after_keeps f pairs).0
+stays_in_window f Two pairs = windowed (after f pairs).second.mode (after f pairs).second (after_keeps f pairs).1

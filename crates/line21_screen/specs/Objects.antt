@@ -1,5 +1,6 @@
 -- What the objects of the program stand for, and which lists of pairs lead to a field.
-use Rattle.std.specs.Prelude.{◌≡◌, ℕ, ◌+◌, ◌-◌, ◌*◌, Bool, if◌then◌else◌, List, Option, None, slice_index_or}
+use Rattle.std.specs.Prelude.{◌≡◌, ℕ, ◌+◌, ◌-◌, ◌*◌, if◌then◌else◌, List, Option, None, slice_index_or}
+use Rattle.line21_codes.specs.declared.channels.FieldNumber.{FieldNumber}
 use Rattle.line21_codes.specs.declared.styles.Cell.{Cell}
 use Rattle.line21_codes.specs.declared.pairs.Pair.{Pair}
 use Rattle.line21_codes.specs.Repeats.{Waits}
@@ -51,7 +52,7 @@ field_of field = record {
 
 -- the pairs, newest first, lead to the object: it is of that field of line 21, it stands for the
 -- state that they leave, and it ignores next what is then to be ignored
-pub record Leads (second_field : Bool) (before : List Pair) (field : Field) : Type 0 where
-  pub of_field : field.second_field ≡ second_field
-  pub state : field_of field ≡ after second_field before
+pub record Leads (in_field : FieldNumber) (before : List Pair) (field : Field) : Type 0 where
+  pub of_field : field.in_field ≡ in_field
+  pub state : field_of field ≡ after in_field before
   pub repeats : Waits before field.doubler

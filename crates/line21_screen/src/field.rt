@@ -1,11 +1,12 @@
 ghost use Rattle.std.specs.Prelude.{◌≡◌};
 ghost use Rattle.line21_codes.specs.Reading.{code_of};
 ghost use Rattle.line21_screen.specs.Codes.{IsPossibleCode};
+ghost use Rattle.line21_screen.specs.Fields.{begins_xds};
 
 use crate::channel::Channel;
 use crate::memory::Memory;
 use crate::modes::Mode;
-use line21_codes::{Cell, Code, Doubler, Pair, read_pair};
+use line21_codes::{Cell, Code, DataChannel, Doubler, FieldNumber, Pair, read_pair};
 use std::alloc::{AllocError, Global};
 
 /// Each byte of a null pair: 00 with odd parity (CTA-608-E).
@@ -14,19 +15,22 @@ const NULL: u8 = 0x80;
 /// The receiver of one field of line 21: the caption memories of its two data channels.
 #[derive(Drop)]
 pub struct Field {
-    second_field: bool,
+    // The field of the picture.
+    in_field: FieldNumber,
     first: Channel,
     second: Channel,
-    // Whether data channel 2 is the selected one.
-    selected: bool,
+    // The selected data channel.
+    selected: DataChannel,
     // Whether extended data are under way.
     xds: bool,
     doubler: Doubler,
 }
 
 impl Field {
-    ghost use Rattle.std.specs.Prelude.{◌<◌, ◌≤◌, Bool, List, [], ◌∷◌, IfOk};
+    ghost use Rattle.std.specs.Prelude.{◌<◌, ◌≤◌, List, [], ◌∷◌, IfOk};
+    ghost use Rattle.line21_codes.specs.declared.channels.FieldNumber.{FieldNumber};
     ghost use Rattle.line21_codes.specs.declared.pairs.Pair.{Pair};
+    ghost use Rattle.line21_codes.specs.Channels.{numbered_field, numbered_channel};
     ghost use Rattle.line21_codes.specs.Repeats.{Waits};
     ghost use Rattle.line21_screen.specs.Fields.{channel, on_channel, after_text, after_code};
     ghost use Rattle.line21_screen.specs.Controls.{after_control, IsPossible};
@@ -37,13 +41,13 @@ impl Field {
     /// A field that had no pair yet: its memories are empty, no mode is set, and data channel 1 is
     /// selected. All memory that it ever takes is taken here.
     pub fn new(alloc: Global, second_field: bool) -> Result<Field, AllocError>
-        ensures { IfOk result (Leads second_field []) }
+        ensures { IfOk result (Leads (numbered_field second_field) []) }
     {
         Ok(Field {
-            second_field,
+            in_field: FieldNumber::from_second(second_field),
             first: Channel::new(alloc)?,
             second: Channel::new(alloc)?,
-            selected: false,
+            selected: DataChannel::One,
             xds: false,
             doubler: Doubler::new(),
         })
@@ -54,8 +58,8 @@ impl Field {
     /// 47 CFR 79.101).
     #[inline(always)]
     pub fn apply(&mut self, pair: Pair)
-        ensures { (second_field : Bool) (before : List Pair) → Leads second_field before self.old
-            → Leads second_field (pair ∷ before) self.new }
+        ensures { (in_field : FieldNumber) (before : List Pair) → Leads in_field before self.old
+            → Leads in_field (pair ∷ before) self.new }
     {
         if pair.a == NULL && pair.b == NULL {
             self.pass_null();
@@ -68,8 +72,8 @@ impl Field {
 
     // Takes the field's next pair, which is null: it does nothing, and behind it no control pair waits for its repeat.
     fn pass_null(&mut self)
-        ensures { (second_field : Bool) (before : List Pair) → Leads second_field before self.old
-            → Leads second_field (null_pair ∷ before) self.new }
+        ensures { (in_field : FieldNumber) (before : List Pair) → Leads in_field before self.old
+            → Leads in_field (null_pair ∷ before) self.new }
     {
         let _ignored = self.doubler.step(Pair { a: NULL, b: NULL });
     }
@@ -79,40 +83,44 @@ impl Field {
         requires row_from { 1 ≤ row }
         requires row_to { row ≤ 15 }
         requires col { col < 32 }
-        ensures shown { result ≡ (channel second_channel (field_of self.now)).displayed row col }
-        ensures after { (second_field : Bool) (before : List Pair) → Leads second_field before self.now
-            → result ≡ (channel second_channel (after second_field before)).displayed row col }
+        ensures shown { result ≡ (channel (numbered_channel second_channel) (field_of self.now)).displayed row col }
+        ensures after { (in_field : FieldNumber) (before : List Pair) → Leads in_field before self.now
+            → result ≡ (channel (numbered_channel second_channel) (after in_field before)).displayed row col }
     {
-        self.channel(second_channel).displayed.cell(row, col)
+        let channel = self.channel(DataChannel::from_second(second_channel));
+        channel.displayed.cell(row, col)
     }
 
     /// The displayed memory of data channel 1 or 2.
-    pub fn displayed(&self, second_channel: bool) -> &Memory
-        ensures { grid_in result.now ≡ (channel second_channel (field_of self.now)).displayed }
+    pub fn displayed(&self, data_channel: DataChannel) -> &Memory
+        ensures { grid_in result.now ≡ (channel data_channel (field_of self.now)).displayed }
     {
-        &self.channel(second_channel).displayed
+        &self.channel(data_channel).displayed
     }
 
     /// The mode of data channel 1 or 2.
     pub fn mode(&self, second_channel: bool) -> Mode
-        ensures { (second_field : Bool) (before : List Pair) → Leads second_field before self.now
-            → result ≡ (channel second_channel (after second_field before)).mode }
+        ensures { (in_field : FieldNumber) (before : List Pair) → Leads in_field before self.now
+            → result ≡ (channel (numbered_channel second_channel) (after in_field before)).mode }
     {
-        self.channel(second_channel).mode
+        self.channel(DataChannel::from_second(second_channel)).mode
     }
 
     // Data channel 1 or 2.
-    fn channel(&self, second: bool) -> &Channel
-        ensures { channel_of result.now ≡ channel second (field_of self.now) }
+    fn channel(&self, data_channel: DataChannel) -> &Channel
+        ensures { channel_of result.now ≡ channel data_channel (field_of self.now) }
     {
-        if second { &self.second } else { &self.first }
+        match data_channel {
+            DataChannel::One => &self.first,
+            DataChannel::Two => &self.second,
+        }
     }
 
     // What a code does.
     fn act(&mut self, code: Code)
         requires { IsPossibleCode code }
-        ensures state { field_of self.new ≡ after_code self.old.second_field code (field_of self.old) }
-        ensures of_field { self.new.second_field ≡ self.old.second_field }
+        ensures state { field_of self.new ≡ after_code self.old.in_field code (field_of self.old) }
+        ensures of_field { self.new.in_field ≡ self.old.in_field }
         ensures repeats { self.new.doubler ≡ self.old.doubler }
     {
         match code {
@@ -122,14 +130,13 @@ impl Field {
                     self.text(first, second);
                 }
             }
-            Code::Xds(first, _) => self.xds = self.second_field && first < 0x0F,
+            Code::Xds(first, _) => self.xds = begins_xds(self.in_field, first),
             Code::Control { second, control } => {
-                self.selected = second;
+                self.selected = DataChannel::from_second(second);
                 self.xds = false;
-                if second {
-                    self.second.control(control);
-                } else {
-                    self.first.control(control);
+                match self.selected {
+                    DataChannel::One => self.first.control(control),
+                    DataChannel::Two => self.second.control(control),
                 }
             }
         }
@@ -138,14 +145,23 @@ impl Field {
     // The two bytes of a text pair.
     fn text(&mut self, first: u8, second: u8)
         ensures state { field_of self.new ≡ on_channel self.old.selected (after_text first second) (field_of self.old) }
-        ensures of_field { self.new.second_field ≡ self.old.second_field }
+        ensures of_field { self.new.in_field ≡ self.old.in_field }
         ensures repeats { self.new.doubler ≡ self.old.doubler }
     {
-        if self.selected {
-            self.second.text(first, second);
-        } else {
-            self.first.text(first, second);
+        match self.selected {
+            DataChannel::One => self.first.text(first, second),
+            DataChannel::Two => self.second.text(first, second),
         }
+    }
+}
+
+// Whether extended data are under way behind a pair of theirs with this first byte.
+fn begins_xds(in_field: FieldNumber, first: u8) -> bool
+    ensures { result ≡ begins_xds in_field first }
+{
+    match in_field {
+        FieldNumber::One => false,
+        FieldNumber::Two => first < 0x0F,
     }
 }
 

@@ -52,12 +52,12 @@ impl Memory {
         })
     }
 
-    // The cell at a row and a column.
-    pub(crate) fn cell(&self, row: u8, col: u8) -> Option<Cell>
+    /// The cell at a row, 1 to 15, and a column, 0 to 31.
+    pub fn cell(&self, row: u8, col: u8) -> Option<Cell>
         requires row_from { 1 ≤ row }
         requires row_to { row ≤ 15 }
         requires col { col < 32 }
-        ensures { result ≡ grid_of self.now.cells.items row col }
+        ensures { result ≡ grid_in self.now row col }
     {
         self.cells[place(row, col)]
     }

@@ -1,5 +1,5 @@
 use crate::{Field, Memory, Mode};
-use line21_codes::{Cell, Colour, Pair, Style};
+use line21_codes::{Cell, Colour, DataChannel, Pair, Style};
 use std::alloc::{AllocError, Global};
 
 const WHITE: Style = Style {
@@ -643,13 +643,13 @@ const HI: &[u16] = &[0x9429, 0x9470, 0xC849];
 fn memory_tells_its_rows(rt: HostRuntime) -> Result<(), AllocError> {
     let alloc = rt.alloc();
     let empty = Field::new(alloc, false)?;
-    let rows = empty.displayed(false).rows();
+    let rows = empty.displayed(DataChannel::One).rows();
     assert_eq!(rt; rows.end - rows.start, 0);
     let one = fed(alloc, false, HI)?;
-    assert_eq!(rt; one.displayed(false).rows(), 15..16);
+    assert_eq!(rt; one.displayed(DataChannel::One).rows(), 15..16);
     // The preambles of row 3, column 28, and of row 2, column 0.
     let two = fed(alloc, false, &[0x9429, 0x92FE, 0xC180, 0x9170, 0xC280])?;
-    let rows = two.displayed(false).rows();
+    let rows = two.displayed(DataChannel::One).rows();
     assert!(rt; rows.start <= 1 + 1);
     assert!(rt; rows.end >= 3 + 1);
     Ok(())
@@ -659,7 +659,7 @@ fn memory_tells_its_rows(rt: HostRuntime) -> Result<(), AllocError> {
 fn memory_gives_the_cells_of_a_row(rt: HostRuntime) -> Result<(), AllocError> {
     let alloc = rt.alloc();
     let field = fed(alloc, false, HI)?;
-    let row = field.displayed(false).row(15);
+    let row = field.displayed(DataChannel::One).row(15);
     assert_eq!(rt; row.len(), 32);
     for (col, cell) in row.iter().enumerate() {
         let ch = match col {
@@ -669,10 +669,10 @@ fn memory_gives_the_cells_of_a_row(rt: HostRuntime) -> Result<(), AllocError> {
         };
         assert_eq!(rt; *cell, ch.map(|ch| Cell { ch, style: WHITE }));
     }
-    for cell in field.displayed(false).row(14) {
+    for cell in field.displayed(DataChannel::One).row(14) {
         assert_eq!(rt; *cell, None);
     }
-    for cell in field.displayed(true).row(15) {
+    for cell in field.displayed(DataChannel::Two).row(15) {
         assert_eq!(rt; *cell, None);
     }
     Ok(())
@@ -687,13 +687,36 @@ fn memories_differ_in_one_cell(rt: HostRuntime) -> Result<(), AllocError> {
     let ho = fed(alloc, false, &[0x9429, 0x9470, 0xC84F])?;
     // The same in yellow, by the preamble's style.
     let yellow = fed(alloc, false, &[0x9429, 0x94EA, 0xC849])?;
-    assert!(rt; !hi.displayed(false).differs(hi.displayed(false)));
-    assert!(rt; !hi.displayed(false).differs(again.displayed(false)));
-    assert!(rt; !empty.displayed(false).differs(hi.displayed(true)));
-    assert!(rt; hi.displayed(false).differs(empty.displayed(false)));
-    assert!(rt; empty.displayed(false).differs(hi.displayed(false)));
-    assert!(rt; hi.displayed(false).differs(ho.displayed(false)));
-    assert!(rt; hi.displayed(false).differs(yellow.displayed(false)));
+    assert!(rt;
+        !hi.displayed(DataChannel::One)
+            .differs(hi.displayed(DataChannel::One))
+    );
+    assert!(rt;
+        !hi.displayed(DataChannel::One)
+            .differs(again.displayed(DataChannel::One))
+    );
+    assert!(rt;
+        !empty
+            .displayed(DataChannel::One)
+            .differs(hi.displayed(DataChannel::Two))
+    );
+    assert!(rt;
+        hi.displayed(DataChannel::One)
+            .differs(empty.displayed(DataChannel::One))
+    );
+    assert!(rt;
+        empty
+            .displayed(DataChannel::One)
+            .differs(hi.displayed(DataChannel::One))
+    );
+    assert!(rt;
+        hi.displayed(DataChannel::One)
+            .differs(ho.displayed(DataChannel::One))
+    );
+    assert!(rt;
+        hi.displayed(DataChannel::One)
+            .differs(yellow.displayed(DataChannel::One))
+    );
     Ok(())
 }
 
@@ -703,12 +726,12 @@ fn copied_memory_has_the_same_cells(rt: HostRuntime) -> Result<(), AllocError> {
     let hi = fed(alloc, false, HI)?;
     let high = fed(alloc, false, &[0x9429, 0x9170, 0xC849])?;
     let mut kept = Memory::new(alloc)?;
-    kept.copy_from(hi.displayed(false));
-    assert!(rt; !kept.differs(hi.displayed(false)));
-    kept.copy_from(high.displayed(false));
-    assert!(rt; !kept.differs(high.displayed(false)));
-    assert!(rt; kept.differs(hi.displayed(false)));
-    kept.copy_from(high.displayed(true));
+    kept.copy_from(hi.displayed(DataChannel::One));
+    assert!(rt; !kept.differs(hi.displayed(DataChannel::One)));
+    kept.copy_from(high.displayed(DataChannel::One));
+    assert!(rt; !kept.differs(high.displayed(DataChannel::One)));
+    assert!(rt; kept.differs(hi.displayed(DataChannel::One)));
+    kept.copy_from(high.displayed(DataChannel::Two));
     assert!(rt; !kept.differs(&Memory::new(alloc)?));
     Ok(())
 }

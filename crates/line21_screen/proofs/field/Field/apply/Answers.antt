@@ -8,7 +8,7 @@ pub returns-then-not-step : goal.returns-then-not-step
 returns-then-not-step c f before leads = record {
   of_field = c.act.ensures.of_field ∙ leads.of_field;
   state =
-      stepped f c.args.self.now.second_field c.code.result before c.args.pair (field_of c.args.self.now) (field_of c.act.new.self)
+      stepped f c.args.self.now.in_field c.code.result before c.args.pair (field_of c.args.self.now) (field_of c.act.new.self)
       leads.of_field c.code.ensures.code leads.state (c.if-not-step.ensures.ignored before leads.repeats) c.act.ensures.state;
   repeats = subst (λ doubler. Waits (c.args.pair ∷ before) doubler) (sym c.act.ensures.repeats) (c.step.ensures.waits before leads.repeats);
 }
