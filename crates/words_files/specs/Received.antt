@@ -1,10 +1,12 @@
 -- What a receiver gets of line 21 from the frames of a words file: the pairs of each field, and the screens that they leave
 -- in a receiver that was reset before the first frame (CTA-708-E, cc_data(); CTA-608-E; 47 CFR 79.101).
-use Rattle.std.specs.Prelude.{ℕ, suc, ◌==◌, ◌&&◌, Bool, true, false, if◌then◌else◌, List, [], ◌∷◌, reverse, take}
+use Rattle.std.specs.Prelude.{ℕ, suc, ◌==◌, ◌&&◌, if◌then◌else◌, List, [], ◌∷◌, reverse, take}
 use Rattle.std.specs.List.{flat_map}
 use Rattle.line21_codes.specs.declared.pairs.Pair.{Pair}
-use Rattle.line21_codes.specs.Channels.{is_in_second_field, is_second_channel}
+use Rattle.line21_codes.specs.Channels.{field_of_channel, data_channel_of}
 use Rattle.line21_codes.specs.declared.channels.Chan.{Chan}
+use Rattle.line21_codes.specs.declared.channels.FieldNumber.{FieldNumber}
+use Rattle.line21_codes.specs.declared.channels.FieldNumber.TheVariants.{One, Two}
 use Rattle.line21_screen.specs.Fields.{FieldState, channel}
 use Rattle.line21_screen.specs.Grid.{Grid}
 use Rattle.line21_screen.specs.Meaning.{after}
@@ -13,31 +15,31 @@ use Rattle.cdp_packets.specs.Packets.{Packet as Frame}
 use Rattle.cdp_packets.specs.PacketTriplets.{packet_triplets}
 
 -- the kind of a field's triplets: 0 for field 1, and 1 for field 2
-abbrev pub field_kind : Bool → ℕ
-field_kind false = 0
-field_kind true = 1
+abbrev pub field_kind : FieldNumber → ℕ
+field_kind One = 0
+field_kind Two = 1
 
 -- the pair of a field that a triplet has, if it counts and is of that kind
-abbrev pub field_pair : Bool → Triplet → List Pair
-field_pair second_field t =
-    if t.valid && (t.kind == field_kind second_field) then record { a = t.a; b = t.b } ∷ [] else []
+abbrev pub field_pair : FieldNumber → Triplet → List Pair
+field_pair in_field t =
+    if t.valid && (t.kind == field_kind in_field) then record { a = t.a; b = t.b } ∷ [] else []
 
 -- the pairs of a field in triplets, in order
-abbrev pub field_pairs : Bool → List Triplet → List Pair
-field_pairs second_field triplets = flat_map (field_pair second_field) triplets
+abbrev pub field_pairs : FieldNumber → List Triplet → List Pair
+field_pairs in_field triplets = flat_map (field_pair in_field) triplets
 
 -- the pairs of a field in frames, in order
-abbrev pub received_pairs : Bool → List Frame → List Pair
-received_pairs second_field frames = flat_map (λ frame. field_pairs second_field (packet_triplets frame)) frames
+abbrev pub received_pairs : FieldNumber → List Frame → List Pair
+received_pairs in_field frames = flat_map (λ frame. field_pairs in_field (packet_triplets frame)) frames
 
 -- the state of a field behind frames: what their pairs leave in a receiver that was reset
-abbrev pub received : Bool → List Frame → FieldState
-received second_field frames = after second_field (reverse (received_pairs second_field frames))
+abbrev pub received : FieldNumber → List Frame → FieldState
+received in_field frames = after in_field (reverse (received_pairs in_field frames))
 
 -- the state of a field at a frame: behind the frames up to this one
-abbrev pub received_at : Bool → List Frame → ℕ → FieldState
-received_at second_field frames frame = received second_field (take (suc frame) frames)
+abbrev pub received_at : FieldNumber → List Frame → ℕ → FieldState
+received_at in_field frames frame = received in_field (take (suc frame) frames)
 
 -- the received grids: the displayed cells of each channel behind frames
 abbrev pub received_grids : List Frame → Chan → Grid
-received_grids frames chan = (channel (is_second_channel chan) (received (is_in_second_field chan) frames)).displayed
+received_grids frames chan = (channel (data_channel_of chan) (received (field_of_channel chan) frames)).displayed
