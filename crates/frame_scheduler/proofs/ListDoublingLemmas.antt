@@ -4,6 +4,8 @@ use Rattle.std.specs.Prelude.{if◌then◌else◌, IfSome, IsTrue, MatchOption, 
 use Rattle.std.specs.Option.{option_map}
 use Rattle.std.specs.List.{AllByRecursion}
 use Rattle.std.proofs.lemmas.List.Elements.{All-append, All-head, All-map, All-nil, All-tail, All-weaker}
+use Rattle.line21_codes.specs.declared.channels.FieldNumber.{FieldNumber}
+use Rattle.line21_codes.specs.declared.channels.FieldNumber.TheVariants.{One, Two}
 use Rattle.line21_codes.specs.ControlPairs.{is_control}
 use Rattle.line21_codes.specs.declared.channels.Chan.{Chan}
 use Rattle.line21_codes.specs.declared.channels.Chan.TheVariants.{Cc1, Cc3}
@@ -122,14 +124,14 @@ column_and c t n = by_test (has_slot_in c n) refl
 
 -- the pairs of a field in the frames below n are the slots of its channel in these frames
 pub field_one_is : (list : Listing) (placed : Placement) (n : ℕ)
-    → first_pairs false (columns_of list placed) n ≡ column (channel_timeline list Cc1 (placed (Channel Cc1))) (slot_from (cadence_of list.rate Cc1) n)
+    → first_pairs One (columns_of list placed) n ≡ column (channel_timeline list Cc1 (placed (Channel Cc1))) (slot_from (cadence_of list.rate Cc1) n)
 field_one_is list placed zero = ap (column (channel_timeline list Cc1 (placed (Channel Cc1)))) (sym (slot_from_first (cadence_of list.rate Cc1)))
 field_one_is list placed (suc n) =
     ap (λ (pairs : List Pair). pairs ++ option_to_list (channel_pair list Cc1 (placed (Channel Cc1)) n)) (field_one_is list placed n)
     ∙ column_and (cadence_of list.rate Cc1) (channel_timeline list Cc1 (placed (Channel Cc1))) n
 
 pub field_two_is : (list : Listing) (placed : Placement) (n : ℕ)
-    → first_pairs true (columns_of list placed) n ≡ column (channel_timeline list Cc3 (placed (Channel Cc3))) (slot_from (cadence_of list.rate Cc3) n)
+    → first_pairs Two (columns_of list placed) n ≡ column (channel_timeline list Cc3 (placed (Channel Cc3))) (slot_from (cadence_of list.rate Cc3) n)
 field_two_is list placed zero = ap (column (channel_timeline list Cc3 (placed (Channel Cc3)))) (sym (slot_from_first (cadence_of list.rate Cc3)))
 field_two_is list placed (suc n) =
     ap (λ (pairs : List Pair). pairs ++ option_to_list (channel_pair list Cc3 (placed (Channel Cc3)) n)) (field_two_is list placed n)
@@ -137,8 +139,8 @@ field_two_is list placed (suc n) =
 
 -- the pairs of each field of a placed list are doubled
 pub columns_doubled : (list : Listing) (placed : Placement) → IsFormed list → IsRuled list → IsListPlaced list placed
-    → (second_field : Bool) → IsDoubled (first_pairs second_field (columns_of list placed) list.frames)
-columns_doubled list placed formed ruled is false =
+    → (in_field : FieldNumber) → IsDoubled (first_pairs in_field (columns_of list placed) list.frames)
+columns_doubled list placed formed ruled is One =
     subst IsDoubled (sym (field_one_is list placed list.frames)) (channel_doubled list Cc1 (placed (Channel Cc1)) formed ruled (is (Channel Cc1)))
-columns_doubled list placed formed ruled is true =
+columns_doubled list placed formed ruled is Two =
     subst IsDoubled (sym (field_two_is list placed list.frames)) (channel_doubled list Cc3 (placed (Channel Cc3)) formed ruled (is (Channel Cc3)))

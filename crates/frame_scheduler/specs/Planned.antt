@@ -1,7 +1,9 @@
 -- A cue list that is placed: the units of each lane in their earliest placement, and the frames that this gives.
-use Rattle.std.specs.Prelude.{ℕ, ◌<◌, Bool, true, false, List, [], ◌∷◌, Option, unwrap_or}
+use Rattle.std.specs.Prelude.{ℕ, ◌<◌, List, [], ◌∷◌, Option, unwrap_or}
 use Rattle.std.specs.List.{flat_map, zip}
 use Rattle.std.specs.Option.{option_map}
+use Rattle.line21_codes.specs.declared.channels.FieldNumber.{FieldNumber}
+use Rattle.line21_codes.specs.declared.channels.FieldNumber.TheVariants.{One, Two}
 use Rattle.line21_codes.specs.declared.channels.Chan.{Chan}
 use Rattle.line21_codes.specs.declared.channels.Chan.TheVariants.{Cc1, Cc3}
 use Rattle.line21_codes.specs.declared.pairs.Pair.{Pair}
@@ -72,9 +74,9 @@ pub record IsFirstWithoutRoom (list : Listing) (cue : ℕ) : Type 0 where
   pub first : (earlier : ℕ) → earlier < cue → (on : Lane) → LaneHasRoom list on earlier
 
 -- the channel of a field that is authored: CC1 in field 1, CC3 in field 2
-abbrev pub authored_channel : Bool → Chan
-authored_channel false = Cc1
-authored_channel true = Cc3
+abbrev pub authored_channel : FieldNumber → Chan
+authored_channel One = Cc1
+authored_channel Two = Cc3
 
 -- the pair of a channel in a frame, where the frame has a slot of the channel's field and the units begin in these slots
 abbrev pub channel_pair : Listing → Chan → List ℕ → ℕ → Option Pair
