@@ -4,6 +4,7 @@ use Rattle.std.specs.Prelude.{IfSome, if◌then◌else◌}
 use Rattle.std.specs.Option.{option_map}
 use Rattle.std.specs.List.{flat_map}
 use Rattle.std.proofs.lemmas.List.Elements.{All-append, All-cons, All-head, All-nil, All-tail}
+use Rattle.line21_codes.specs.declared.channels.FieldNumber.{FieldNumber}
 use Rattle.line21_codes.specs.declared.channels.Chan.{Chan}
 use Rattle.line21_codes.specs.declared.codes.Code.{Code}
 use Rattle.line21_codes.specs.declared.codes.Control.{Control}
@@ -20,9 +21,9 @@ use Rattle.cue_lists.specs.Rules.Lane.{is_pop}
 use Rattle.cue_lists.specs.declared.cue.Cue.{Cue}
 use Rattle.cue_lists.specs.declared.cue.Kind.{Kind}
 use Rattle.cue_lists.specs.declared.cue.Kind.TheVariants as kind
-use Rattle.line21_codes.specs.Channels.{is_in_second_field}
+use Rattle.line21_codes.specs.Channels.{field_of_channel}
 use Rattle.line21_codes.specs.NullPairs.{null_pair}
-use Rattle.line21_author.specs.Channels.{cues_on, is_for_second_field, is_on}
+use Rattle.line21_author.specs.Channels.{cues_on, field_of_kind, is_on}
 use Rattle.line21_slots.specs.Cadences.{cadence_of, slot_in}
 use Rattle.line21_author.specs.CueCodes.{cue_codes, opening_codes}
 use Rattle.line21_author.specs.CueEvents.{channel_events, control_event, cue_events, hide_events, is_replaced_at, show_events}
@@ -77,7 +78,7 @@ cue_codes_first cue =
     (all_writing_first (flat_map run_codes cue.runs) (runs_writing cue.runs))
 
 -- what holds of each pair that a code of data channel 1 is written as holds of all that begins on a channel
-module _ (P : Pair → Type 0) (written_is : (second_field : Bool) (code : Code) → IsWritable code → IsForFirst code → P (written second_field code)) where
+module _ (P : Pair → Type 0) (written_is : (in_field : FieldNumber) (code : Code) → IsWritable code → IsForFirst code → P (written in_field code)) where
   abbrev OfPiece : Piece → Type 0
   OfPiece piece = P piece.unit.pair
 
@@ -85,20 +86,20 @@ module _ (P : Pair → Type 0) (written_is : (second_field : Bool) (code : Code)
   OfEvent event = P event.pair
 
   -- the units of a cue
-  codes_all : (second_field : Bool) (number : ℕ) (cue : Cue) (codes : List Code) → All IsWritable codes → All IsForFirst codes
-      → All OfPiece (map (λ (unit : Unit). record { unit = unit; load = cue.load; until = cue.show; cue = number }) (map (unit_of second_field) codes))
-  codes_all second_field number cue [] writable first = All-nil OfPiece
-  codes_all second_field number cue (code ∷ codes) writable first =
-      All-cons OfPiece (record { unit = unit_of second_field code; load = cue.load; until = cue.show; cue = number }) (map (λ (unit : Unit). record { unit = unit; load = cue.load; until = cue.show; cue = number }) (map (unit_of second_field) codes))
-      (written_is second_field code (All-head IsWritable code codes writable) (All-head IsForFirst code codes first))
-      (codes_all second_field number cue codes (All-tail IsWritable code codes writable) (All-tail IsForFirst code codes first))
+  codes_all : (in_field : FieldNumber) (number : ℕ) (cue : Cue) (codes : List Code) → All IsWritable codes → All IsForFirst codes
+      → All OfPiece (map (λ (unit : Unit). record { unit = unit; load = cue.load; until = cue.show; cue = number }) (map (unit_of in_field) codes))
+  codes_all in_field number cue [] writable first = All-nil OfPiece
+  codes_all in_field number cue (code ∷ codes) writable first =
+      All-cons OfPiece (record { unit = unit_of in_field code; load = cue.load; until = cue.show; cue = number }) (map (λ (unit : Unit). record { unit = unit; load = cue.load; until = cue.show; cue = number }) (map (unit_of in_field) codes))
+      (written_is in_field code (All-head IsWritable code codes writable) (All-head IsForFirst code codes first))
+      (codes_all in_field number cue codes (All-tail IsWritable code codes writable) (All-tail IsForFirst code codes first))
 
   pieces_all : (channel : Chan) (number : ℕ) (cues : List Cue) → All IsCueFormed cues → All OfPiece (pieces_from channel number cues)
   pieces_all channel number [] formed = All-nil OfPiece
   pieces_all channel number (cue ∷ cues) formed = by_test (is_on channel cue.kind) (pieces_all channel (suc number) cues (All-tail IsCueFormed cue cues formed))
     where
       own : All OfPiece (cue_pieces number cue)
-      own = codes_all (is_for_second_field cue.kind) number cue (cue_codes cue) (cue_codes_writable cue (All-head IsCueFormed cue cues formed)) (cue_codes_first cue)
+      own = codes_all (field_of_kind cue.kind) number cue (cue_codes cue) (cue_codes_writable cue (All-head IsCueFormed cue cues formed)) (cue_codes_first cue)
 
       by_test : (b : Bool) → All OfPiece (pieces_from channel (suc number) cues)
           → All OfPiece ((if b then cue_pieces number cue else []) ++ pieces_from channel (suc number) cues)
@@ -106,31 +107,31 @@ module _ (P : Pair → Type 0) (written_is : (second_field : Bool) (code : Code)
       by_test false rest = rest
 
   -- events
-  event_is : (second_field : Bool) (frame : ℕ) (control : Control) → IsWritableControl control → OfEvent (control_event second_field frame control)
-  event_is second_field frame control writable = written_is second_field (first_channel control) writable refl
+  event_is : (in_field : FieldNumber) (frame : ℕ) (control : Control) → IsWritableControl control → OfEvent (control_event in_field frame control)
+  event_is in_field frame control writable = written_is in_field (first_channel control) writable refl
 
   one_event : (event : Event) → OfEvent event → All OfEvent (event ∷ [])
   one_event event is = All-cons OfEvent event [] is (All-nil OfEvent)
 
-  show_all : (second_field pop_on : Bool) (show : ℕ) → All OfEvent (if pop_on then control_event second_field show Eoc ∷ [] else [])
-  show_all second_field true show = one_event (control_event second_field show Eoc) (event_is second_field show Eoc tt)
-  show_all second_field false show = All-nil OfEvent
+  show_all : (in_field : FieldNumber) (pop_on : Bool) (show : ℕ) → All OfEvent (if pop_on then control_event in_field show Eoc ∷ [] else [])
+  show_all in_field true show = one_event (control_event in_field show Eoc) (event_is in_field show Eoc tt)
+  show_all in_field false show = All-nil OfEvent
 
-  hide_all_at : (second_field replaced : Bool) (hide : ℕ) → All OfEvent (if replaced then [] else control_event second_field hide Edm ∷ [])
-  hide_all_at second_field true hide = All-nil OfEvent
-  hide_all_at second_field false hide = one_event (control_event second_field hide Edm) (event_is second_field hide Edm tt)
+  hide_all_at : (in_field : FieldNumber) (replaced : Bool) (hide : ℕ) → All OfEvent (if replaced then [] else control_event in_field hide Edm ∷ [])
+  hide_all_at in_field true hide = All-nil OfEvent
+  hide_all_at in_field false hide = one_event (control_event in_field hide Edm) (event_is in_field hide Edm tt)
 
-  hide_all : (second_field : Bool) (hide : Option ℕ) (later : List Cue) → All OfEvent (hide_events second_field hide later)
-  hide_all second_field None later = All-nil OfEvent
-  hide_all second_field (Some hide) later = hide_all_at second_field (is_replaced_at hide later) hide
+  hide_all : (in_field : FieldNumber) (hide : Option ℕ) (later : List Cue) → All OfEvent (hide_events in_field hide later)
+  hide_all in_field None later = All-nil OfEvent
+  hide_all in_field (Some hide) later = hide_all_at in_field (is_replaced_at hide later) hide
 
-  events_all : (second_field : Bool) (cues : List Cue) → All OfEvent (cue_events second_field cues)
-  events_all second_field [] = All-nil OfEvent
-  events_all second_field (cue ∷ later) =
-      All-append OfEvent (show_events second_field cue ++ hide_events second_field cue.hide later) (cue_events second_field later)
-      (All-append OfEvent (show_events second_field cue) (hide_events second_field cue.hide later)
-      (show_all second_field (is_pop cue.kind) cue.show) (hide_all second_field cue.hide later))
-      (events_all second_field later)
+  events_all : (in_field : FieldNumber) (cues : List Cue) → All OfEvent (cue_events in_field cues)
+  events_all in_field [] = All-nil OfEvent
+  events_all in_field (cue ∷ later) =
+      All-append OfEvent (show_events in_field cue ++ hide_events in_field cue.hide later) (cue_events in_field later)
+      (All-append OfEvent (show_events in_field cue) (hide_events in_field cue.hide later)
+      (show_all in_field (is_pop cue.kind) cue.show) (hide_all in_field cue.hide later))
+      (events_all in_field later)
 
   -- what begins at an event
   at_events : (es : List Event) (n : ℕ) (u : Unit) → All OfEvent es → event_at es n ≡ Some u → P u.pair
@@ -164,7 +165,7 @@ module _ (P : Pair → Type 0) (written_is : (second_field : Bool) (code : Code)
       let events = channel_events channel cues in
       let pieces = channel_pieces channel cues in
       ⊎_elim
-      (λ (at : event_at events n ≡ Some u). at_events events n u (events_all (is_in_second_field channel) (cues_on channel cues)) at)
+      (λ (at : event_at events n ≡ Some u). at_events events n u (events_all (field_of_channel channel) (cues_on channel cues)) at)
       (λ (at : (event_at events n ≡ None) × (stands pieces placed n ≡ Some u)). at_units pieces placed n u (pieces_all channel 1 cues formed) at.1)
       (over_cases events pieces placed n u is)
 
@@ -200,8 +201,8 @@ abbrev IsFirstPair : Pair → Type 0
 IsFirstPair pair = IsForFirst (code_of pair)
 
 -- a code that is for it is written so
-written_first : (second_field : Bool) (code : Code) → IsWritable code → IsForFirst code → IsFirstPair (written second_field code)
-written_first second_field code writable first = subst IsForFirst (sym (written-code_of second_field code writable)) first
+written_first : (in_field : FieldNumber) (code : Code) → IsWritable code → IsForFirst code → IsFirstPair (written in_field code)
+written_first in_field code writable first = subst IsForFirst (sym (written-code_of in_field code writable)) first
 
 -- the timeline of a channel of a list that keeps the rules and is placed
 pub channel_captioned : (list : Listing) (channel : Chan) (placed : List ℕ) → IsFormed list → IsRuled list → IsChannelPlaced channel (slot_cues list channel) placed
@@ -219,8 +220,8 @@ channel_captioned list channel placed formed ruled earliest =
 abbrev pub AreBytes : Pair → Type 0
 AreBytes pair = (pair.a < 256) × (pair.b < 256)
 
-written_bytes : (second_field : Bool) (code : Code) → IsWritable code → IsForFirst code → AreBytes (written second_field code)
-written_bytes second_field code writable first = (written-a second_field code writable, written-b second_field code writable)
+written_bytes : (in_field : FieldNumber) (code : Code) → IsWritable code → IsForFirst code → AreBytes (written in_field code)
+written_bytes in_field code writable first = (written-a in_field code writable, written-b in_field code writable)
 
 -- the pairs of a channel's slots are of bytes
 slots_bytes : (cues : List Cue) (channel : Chan) (placed : List ℕ) → All IsCueFormed cues → (n : ℕ) → AreBytes (channel_slot channel cues placed n)

@@ -1,14 +1,15 @@
 -- The first of the cues that a channel's timeline goes on with: its units, and what begins before and behind its SHOW.
-use Rattle.std.proofs.Common.{◌≡◌, ℕ, ◌+◌, ◌*◌, ◌<◌, ◌≤◌, Bool, List, [], ◌∷◌, ◌++◌, map, Option, Some, None, All, refl, sym, ap, ◌∙◌, subst, arith, append_assoc}
+use Rattle.std.proofs.Common.{◌≡◌, ℕ, ◌+◌, ◌*◌, ◌<◌, ◌≤◌, List, [], ◌∷◌, ◌++◌, map, Option, Some, None, All, refl, sym, ap, ◌∙◌, subst, arith, append_assoc}
 use Rattle.std.specs.Prelude.{IfSome, MatchOption}
 use Rattle.std.proofs.lemmas.List.Elements.{All-head, All-tail}
+use Rattle.line21_codes.specs.declared.channels.FieldNumber.{FieldNumber}
 use Rattle.line21_codes.specs.declared.codes.Code.{Code}
 use Rattle.line21_codes.specs.Reading.{code_of}
 use Rattle.line21_codes.specs.Writable.{IsWritable}
 use Rattle.line21_codes.proofs.CodeLemmas.{written-code_of}
 use Rattle.cue_lists.specs.Cues.{IsCueFormed}
 use Rattle.cue_lists.specs.declared.cue.Cue.{Cue}
-use Rattle.line21_author.specs.Channels.{is_for_second_field}
+use Rattle.line21_author.specs.Channels.{field_of_kind}
 use Rattle.line21_author.specs.CueCodes.{cue_codes}
 use Rattle.line21_author.specs.CueEvents.{cue_events, hide_events, show_events}
 use Rattle.line21_author.specs.CueUnits.{unit_of}
@@ -78,31 +79,31 @@ rest_loads frames cue [] sequence = tt
 rest_loads frames cue (next ∷ later) sequence = sequence.1.loaded
 
 -- the units of a cue are read as its codes
-codes_are : (second_field : Bool) (number : ℕ) (cue : Cue) (codes : List Code) → All IsWritable codes
-    → map piece_code (map (λ (unit : Unit). record { unit = unit; load = cue.load; until = cue.show; cue = number }) (map (unit_of second_field) codes)) ≡ codes
-codes_are second_field number cue [] writable = refl
-codes_are second_field number cue (code ∷ codes) writable =
-    let first : code_of (unit_of second_field code).pair ≡ code = written-code_of second_field code (All-head IsWritable code codes writable) in
-    let rest = codes_are second_field number cue codes (All-tail IsWritable code codes writable) in
+codes_are : (in_field : FieldNumber) (number : ℕ) (cue : Cue) (codes : List Code) → All IsWritable codes
+    → map piece_code (map (λ (unit : Unit). record { unit = unit; load = cue.load; until = cue.show; cue = number }) (map (unit_of in_field) codes)) ≡ codes
+codes_are in_field number cue [] writable = refl
+codes_are in_field number cue (code ∷ codes) writable =
+    let first : code_of (unit_of in_field code).pair ≡ code = written-code_of in_field code (All-head IsWritable code codes writable) in
+    let rest = codes_are in_field number cue codes (All-tail IsWritable code codes writable) in
     rw (first, rest) refl
 
 cue_codes_are : (number : ℕ) (cue : Cue) → IsCueFormed cue → piece_codes (cue_pieces number cue) ≡ cue_codes cue
-cue_codes_are number cue formed = codes_are (is_for_second_field cue.kind) number cue (cue_codes cue) (cue_codes_writable cue formed)
+cue_codes_are number cue formed = codes_are (field_of_kind cue.kind) number cue (cue_codes cue) (cue_codes_writable cue formed)
 
 -- what hides the former cue, and the events of these cues
-abbrev pub events_on : Bool → Option ℕ → List Cue → List Event
-events_on second_field hide cues = hide_events second_field hide cues ++ cue_events second_field cues
+abbrev pub events_on : FieldNumber → Option ℕ → List Cue → List Event
+events_on in_field hide cues = hide_events in_field hide cues ++ cue_events in_field cues
 
 -- the timeline goes on, from frame a on, with what hides the former cue and with these cues
-pub record Continues (second_field : Bool) (t : Timeline) (a : ℕ) (hide : Option ℕ) (cues : List Cue) : Type 0 where
+pub record Continues (in_field : FieldNumber) (t : Timeline) (a : ℕ) (hide : Option ℕ) (cues : List Cue) : Type 0 where
   pub pieces : List Piece
   pub frames : List ℕ
   pub are : ArePieces cues pieces
-  pub placed : ArePlacedFrom (events_on second_field hide cues) a pieces frames
-  pub same : (n : ℕ) → a ≤ n → t n ≡ over (event_at (events_on second_field hide cues)) (stands pieces frames) n
+  pub placed : ArePlacedFrom (events_on in_field hide cues) a pieces frames
+  pub same : (n : ℕ) → a ≤ n → t n ≡ over (event_at (events_on in_field hide cues)) (stands pieces frames) n
 
 -- the first of these cues with its units, where those behind it stand from frame z on
-pub record Head (second_field : Bool) (t : Timeline) (a z : ℕ) (hide : Option ℕ) (cue : Cue) (later : List Cue) : Type 0 where
+pub record Head (in_field : FieldNumber) (t : Timeline) (a z : ℕ) (hide : Option ℕ) (cue : Cue) (later : List Cue) : Type 0 where
   pub own : List Piece
   pub behind : List Piece
   pub front : List ℕ
@@ -111,18 +112,18 @@ pub record Head (second_field : Bool) (t : Timeline) (a z : ℕ) (hide : Option 
   pub codes : piece_codes own ≡ cue_codes cue
   pub ends : All (λ (piece : Piece). piece.until ≡ cue.show) own
   pub begins : All (λ (piece : Piece). cue.load ≤ piece.load) own
-  pub first : ArePlacedFrom (events_on second_field hide (cue ∷ later)) a own front
-  pub rest : ArePlacedFrom (events_on second_field hide (cue ∷ later)) z behind back
+  pub first : ArePlacedFrom (events_on in_field hide (cue ∷ later)) a own front
+  pub rest : ArePlacedFrom (events_on in_field hide (cue ∷ later)) z behind back
   pub same : (n : ℕ) → a ≤ n
-      → t n ≡ first_of (event_at (events_on second_field hide (cue ∷ later)) n) (first_of (stands own front n) (stands behind back n))
+      → t n ≡ first_of (event_at (events_on in_field hide (cue ∷ later)) n) (first_of (stands own front n) (stands behind back n))
 
 -- it is found, where a frame from SHOW on that is free is z or later
-pub head : (second_field : Bool) (t : Timeline) (frames a z : ℕ) (hide : Option ℕ) (cue : Cue) (later : List Cue) → IsCueFormed cue
-    → AreInSequence 1 frames (cue ∷ later) → Continues second_field t a hide (cue ∷ later)
-    → ((f : ℕ) → cue.show ≤ f → IsFree (events_on second_field hide (cue ∷ later)) f → z ≤ f)
-    → Head second_field t a z hide cue later
-head second_field t frames a z hide cue later formed sequence on from =
-    let events = events_on second_field hide (cue ∷ later) in
+pub head : (in_field : FieldNumber) (t : Timeline) (frames a z : ℕ) (hide : Option ℕ) (cue : Cue) (later : List Cue) → IsCueFormed cue
+    → AreInSequence 1 frames (cue ∷ later) → Continues in_field t a hide (cue ∷ later)
+    → ((f : ℕ) → cue.show ≤ f → IsFree (events_on in_field hide (cue ∷ later)) f → z ≤ f)
+    → Head in_field t a z hide cue later
+head in_field t frames a z hide cue later formed sequence on from =
+    let events = events_on in_field hide (cue ∷ later) in
     let own = cue_pieces on.are.0 cue in
     let behind = on.are.1 in
     let split = parts events a own behind on.frames (subst (λ ps. ArePlacedFrom events a ps on.frames) on.are.2 on.placed) in
@@ -153,37 +154,37 @@ or_nothing None = refl
 or_nothing (Some unit) = refl
 
 -- before SHOW its units begin beside what hides the former cue, where that is all there is of the events
-pub loading : (second_field : Bool) (t : Timeline) (a z : ℕ) (hide : Option ℕ) (cue : Cue) (later : List Cue) (h : Head second_field t a z hide cue later)
-    → cue.show ≤ z → ((n : ℕ) → n < cue.show → event_at (events_on second_field hide (cue ∷ later)) n ≡ erases second_field hide n)
-    → (n : ℕ) → a ≤ n → n < cue.show → t n ≡ over (erases second_field hide) (stands h.own h.front) n
-loading second_field t a z hide cue later h up only n from below =
-    let none : stands h.behind h.back n ≡ None = stands_low (events_on second_field hide (cue ∷ later)) z n h.behind h.back h.rest (omega arith) in
+pub loading : (in_field : FieldNumber) (t : Timeline) (a z : ℕ) (hide : Option ℕ) (cue : Cue) (later : List Cue) (h : Head in_field t a z hide cue later)
+    → cue.show ≤ z → ((n : ℕ) → n < cue.show → event_at (events_on in_field hide (cue ∷ later)) n ≡ erases in_field hide n)
+    → (n : ℕ) → a ≤ n → n < cue.show → t n ≡ over (erases in_field hide) (stands h.own h.front) n
+loading in_field t a z hide cue later h up only n from below =
+    let none : stands h.behind h.back n ≡ None = stands_low (events_on in_field hide (cue ∷ later)) z n h.behind h.back h.rest (omega arith) in
     h.same n from ∙ ap (λ u. first_of u (first_of (stands h.own h.front n) (stands h.behind h.back n))) (only n below)
-    ∙ ap (first_of (erases second_field hide n)) (ap (first_of (stands h.own h.front n)) none ∙ or_nothing (stands h.own h.front n))
+    ∙ ap (first_of (erases in_field hide n)) (ap (first_of (stands h.own h.front n)) none ∙ or_nothing (stands h.own h.front n))
 
 -- behind SHOW the timeline goes on with what hides the cue
-pub continues_behind : (second_field : Bool) (t : Timeline) (a z : ℕ) (hide : Option ℕ) (cue : Cue) (later : List Cue) → Head second_field t a z hide cue later
+pub continues_behind : (in_field : FieldNumber) (t : Timeline) (a z : ℕ) (hide : Option ℕ) (cue : Cue) (later : List Cue) → Head in_field t a z hide cue later
     → a ≤ z → cue.show ≤ z
-    → ((n : ℕ) → z ≤ n → event_at (events_on second_field hide (cue ∷ later)) n ≡ event_at (events_behind second_field cue later) n)
-    → Continues second_field t z cue.hide later
-continues_behind second_field t a z hide cue later h up shown events_are =
-    let events = events_on second_field hide (cue ∷ later) in
+    → ((n : ℕ) → z ≤ n → event_at (events_on in_field hide (cue ∷ later)) n ≡ event_at (events_behind in_field cue later) n)
+    → Continues in_field t z cue.hide later
+continues_behind in_field t a z hide cue later h up shown events_are =
+    let events = events_on in_field hide (cue ∷ later) in
     record {
       pieces = h.behind;
       frames = h.back;
       are = h.are;
-      placed = placed_behind (hide_events second_field hide (cue ∷ later) ++ show_events second_field cue) (events_behind second_field cue later) z h.behind h.back
+      placed = placed_behind (hide_events in_field hide (cue ∷ later) ++ show_events in_field cue) (events_behind in_field cue later) z h.behind h.back
           (subst (λ es. ArePlacedFrom es z h.behind h.back) split h.rest);
       same = λ n from.
           let none : stands h.own h.front n ≡ None = stands_high events a cue.show n h.own h.front h.first h.ends (omega arith) in
           h.same n (omega arith)
           ∙ ap (λ u. first_of u (first_of (stands h.own h.front n) (stands h.behind h.back n))) (events_are n from)
-          ∙ ap (first_of (event_at (events_behind second_field cue later) n)) (ap (λ u. first_of u (stands h.behind h.back n)) none);
+          ∙ ap (first_of (event_at (events_behind in_field cue later) n)) (ap (λ u. first_of u (stands h.behind h.back n)) none);
     }
   where
-    split : events_on second_field hide (cue ∷ later)
-        ≡ (hide_events second_field hide (cue ∷ later) ++ show_events second_field cue) ++ events_behind second_field cue later
+    split : events_on in_field hide (cue ∷ later)
+        ≡ (hide_events in_field hide (cue ∷ later) ++ show_events in_field cue) ++ events_behind in_field cue later
     split =
-        ap (λ (es : List Event). hide_events second_field hide (cue ∷ later) ++ es)
-        (append_assoc (show_events second_field cue) (hide_events second_field cue.hide later) (cue_events second_field later))
-        ∙ sym (append_assoc (hide_events second_field hide (cue ∷ later)) (show_events second_field cue) (events_behind second_field cue later))
+        ap (λ (es : List Event). hide_events in_field hide (cue ∷ later) ++ es)
+        (append_assoc (show_events in_field cue) (hide_events in_field cue.hide later) (cue_events in_field later))
+        ∙ sym (append_assoc (hide_events in_field hide (cue ∷ later)) (show_events in_field cue) (events_behind in_field cue later))

@@ -7,7 +7,7 @@ use Rattle.cue_lists.specs.Rules.Lane.{is_line21}
 use Rattle.cue_lists.specs.declared.cue.Cue.{Cue}
 use Rattle.cue_lists.specs.declared.cue.Kind.{Kind}
 use Rattle.cue_lists.specs.declared.cue.Kind.TheVariants as kind
-use Rattle.line21_author.specs.Channels.{is_for_second_field}
+use Rattle.line21_author.specs.Channels.{field_of_kind}
 use Rattle.line21_author.specs.CueCodes.{opening_codes}
 use Rattle.line21_author.specs.CueUnits.{unit_of}
 use Rattle.line21_author.specs.FirstChannel.{first_channel}
@@ -45,7 +45,7 @@ cue_loaded : (number : ℕ) (cue : Cue) (rest : List Piece) → is_line21 cue.ki
 cue_loaded number cue rest line21 all =
     let w = first_code cue.kind (flat_map run_codes cue.runs) line21 in
     let piece_of : Unit → Piece = λ (unit : Unit). record { unit = unit; load = cue.load; until = cue.show; cue = number } in
-    (subst (λ (codes : List Code). AllByRecursion HasTime (map piece_of (map (unit_of (is_for_second_field cue.kind)) codes) ++ rest)) w.2 all).0
+    (subst (λ (codes : List Code). AllByRecursion HasTime (map piece_of (map (unit_of (field_of_kind cue.kind)) codes) ++ rest)) w.2 all).0
 
 -- what holds of all holds of those behind some
 all_behind : (front rest : List Piece) → AllByRecursion HasTime (front ++ rest) → AllByRecursion HasTime rest

@@ -2,6 +2,7 @@
 use Rattle.std.proofs.Common.{◌≡◌, ℕ, zero, suc, ◌+◌, ◌-◌, ◌<◌, ◌≤◌, Bool, true, false, nat_lt, List, [], ◌∷◌, map, Option, Some, None, refl, sym, ap, ◌∙◌, subst, arith}
 use Rattle.std.specs.Prelude.{⊤, ◌==◌, if◌then◌else◌}
 use Rattle.std.proofs.lemmas.Bool.Decides.{nat_tests}
+use Rattle.line21_codes.specs.declared.channels.FieldNumber.{FieldNumber}
 use Rattle.line21_codes.specs.declared.codes.Code.{Code}
 use Rattle.line21_codes.specs.declared.codes.Control.TheVariants.{Edm}
 use Rattle.line21_codes.specs.Reading.{code_of}
@@ -40,13 +41,13 @@ StandBeside e a z (piece ∷ pieces) [] = ⊥
 StandBeside e a z (piece ∷ pieces) (f ∷ fs) = (a ≤ f) × (f < z) × (e f ≡ None) × StandBeside e (suc f) z pieces fs
 
 -- the unit that hides what is displayed
-abbrev pub erasing : Bool → Unit
-erasing second_field = record { pair = written second_field (first_channel Edm); doubled = true }
+abbrev pub erasing : FieldNumber → Unit
+erasing in_field = record { pair = written in_field (first_channel Edm); doubled = true }
 
 -- the timeline that hides what is displayed at a HIDE
-abbrev pub erases : Bool → Option ℕ → Timeline
-erases second_field None n = None
-erases second_field (Some hide) n = if n == hide then Some (erasing second_field) else None
+abbrev pub erases : FieldNumber → Option ℕ → Timeline
+erases in_field None n = None
+erases in_field (Some hide) n = if n == hide then Some (erasing in_field) else None
 
 -- the HIDE is before frame n
 abbrev pub is_before : Option ℕ → ℕ → Bool
@@ -58,19 +59,19 @@ abbrev pub until : Option ℕ → ℕ → Grid → Grid
 until hide n g = if is_before hide n then empty_grid else g
 
 -- what hides erases the displayed memory
-erasing_does : (second_field : Bool) (g : Grid) (s : ChannelState) → does_unit (Some (erasing second_field)) (showing g s) ≡ showing empty_grid s
-erasing_does second_field g s = rw (written-code_of second_field (first_channel Edm) tt) refl
+erasing_does : (in_field : FieldNumber) (g : Grid) (s : ChannelState) → does_unit (Some (erasing in_field)) (showing g s) ≡ showing empty_grid s
+erasing_does in_field g s = rw (written-code_of in_field (first_channel Edm) tt) refl
 
 -- a frame of the timeline that hides
-erases_step : (second_field : Bool) (hide : Option ℕ) (n : ℕ) (g : Grid) (s : ChannelState)
-    → does_unit (erases second_field hide n) (showing (until hide n g) s) ≡ showing (until hide (suc n) g) s
-erases_step second_field None n g s = refl
-erases_step second_field (Some hide) n g s = go (n == hide) refl
+erases_step : (in_field : FieldNumber) (hide : Option ℕ) (n : ℕ) (g : Grid) (s : ChannelState)
+    → does_unit (erases in_field hide n) (showing (until hide n g) s) ≡ showing (until hide (suc n) g) s
+erases_step in_field None n g s = refl
+erases_step in_field (Some hide) n g s = go (n == hide) refl
   where
-    go : (b : Bool) → (n == hide) ≡ b → does_unit (erases second_field (Some hide) n) (showing (until (Some hide) n g) s) ≡ showing (until (Some hide) (suc n) g) s
+    go : (b : Bool) → (n == hide) ≡ b → does_unit (erases in_field (Some hide) n) (showing (until (Some hide) n g) s) ≡ showing (until (Some hide) (suc n) g) s
     go true test =
         let past : nat_lt hide (suc n) ≡ true = grind (arith, nat_tests) in
-        rw (test, past) (erasing_does second_field (until (Some hide) n g) s)
+        rw (test, past) (erasing_does in_field (until (Some hide) n g) s)
     go false test =
         let same : nat_lt hide (suc n) ≡ nat_lt hide n = later test in
         rw (test, same) refl
@@ -83,12 +84,12 @@ erases_step second_field (Some hide) n g s = go (n == hide) refl
             by_test false c = let d : nat_lt hide (suc n) ≡ false = grind (arith, nat_tests) in d ∙ sym c
 
 -- where nothing hides at a frame, the display stays
-until_same : (second_field : Bool) (hide : Option ℕ) (n : ℕ) (g : Grid) → erases second_field hide n ≡ None → until hide (suc n) g ≡ until hide n g
-until_same second_field None n g none = refl
-until_same second_field (Some hide) n g none = go (n == hide) refl
+until_same : (in_field : FieldNumber) (hide : Option ℕ) (n : ℕ) (g : Grid) → erases in_field hide n ≡ None → until hide (suc n) g ≡ until hide n g
+until_same in_field None n g none = refl
+until_same in_field (Some hide) n g none = go (n == hide) refl
   where
     go : (b : Bool) → (n == hide) ≡ b → until (Some hide) (suc n) g ≡ until (Some hide) n g
-    go true test = let wrong : Some (erasing second_field) ≡ None = rw test at none in cc
+    go true test = let wrong : Some (erasing in_field) ≡ None = rw test at none in cc
     go false test = by_test (nat_lt hide n) refl
       where
         by_test : (c : Bool) → nat_lt hide n ≡ c → until (Some hide) (suc n) g ≡ until (Some hide) n g
@@ -128,45 +129,45 @@ all_standing e a z (piece ∷ pieces) (f ∷ fs) beside =
     rw test (ap (λ codes. piece_code piece ∷ codes) (all_standing e (suc f) z pieces fs beside.3))
 
 -- the timeline of units beside what hides
-abbrev Beside : Bool → Option ℕ → List Piece → List ℕ → Timeline
-Beside second_field hide pieces fs = over (erases second_field hide) (stands pieces fs)
+abbrev Beside : FieldNumber → Option ℕ → List Piece → List ℕ → Timeline
+Beside in_field hide pieces fs = over (erases in_field hide) (stands pieces fs)
 
 -- before each frame m up to z the units of the frames below it have acted on all but the displayed memory, and that is
 -- what was displayed until its HIDE
-loads_on : (second_field : Bool) (t : Timeline) (hide : Option ℕ) (z : ℕ) (k a m : ℕ) → a + k ≡ m
+loads_on : (in_field : FieldNumber) (t : Timeline) (hide : Option ℕ) (z : ℕ) (k a m : ℕ) → a + k ≡ m
     → (pieces : List Piece) (fs : List ℕ) (g : Grid) (s : ChannelState)
-    → ((n : ℕ) → a ≤ n → n < m → t n ≡ Beside second_field hide pieces fs n)
-    → StandBeside (erases second_field hide) a z pieces fs
+    → ((n : ℕ) → a ≤ n → n < m → t n ≡ Beside in_field hide pieces fs n)
+    → StandBeside (erases in_field hide) a z pieces fs
     → AreBlind (piece_codes pieces) s
     → acts t a ≡ showing (until hide a g) s
     → acts t m ≡ showing (until hide m g) (does_all (standing pieces fs m) s)
-loads_on second_field t hide z zero a m is pieces fs g s same beside blind state =
+loads_on in_field t hide z zero a m is pieces fs g s same beside blind state =
     let e : a ≡ m = omega arith in
     subst (λ n. acts t n ≡ showing (until hide n g) (does_all (standing pieces fs n) s)) e
-    (state ∙ ap (λ codes. showing (until hide a g) (does_all codes s)) (sym (none_standing (erases second_field hide) a z pieces fs beside)))
-loads_on second_field t hide z (suc k) a m is [] (f ∷ fs) g s same beside blind state = absurd beside
-loads_on second_field t hide z (suc k) a m is (piece ∷ pieces) [] g s same beside blind state = absurd beside
-loads_on second_field t hide z (suc k) a m is [] [] g s same beside blind state =
-    let now : t a ≡ first_of (erases second_field hide a) None = same a (omega arith) (omega arith) in
-    let alone : first_of (erases second_field hide a) None ≡ erases second_field hide a = alone_is (erases second_field hide a) in
+    (state ∙ ap (λ codes. showing (until hide a g) (does_all codes s)) (sym (none_standing (erases in_field hide) a z pieces fs beside)))
+loads_on in_field t hide z (suc k) a m is [] (f ∷ fs) g s same beside blind state = absurd beside
+loads_on in_field t hide z (suc k) a m is (piece ∷ pieces) [] g s same beside blind state = absurd beside
+loads_on in_field t hide z (suc k) a m is [] [] g s same beside blind state =
+    let now : t a ≡ first_of (erases in_field hide a) None = same a (omega arith) (omega arith) in
+    let alone : first_of (erases in_field hide a) None ≡ erases in_field hide a = alone_is (erases in_field hide a) in
     let next : acts t (suc a) ≡ showing (until hide (suc a) g) s =
-    ap (λ u. does_unit u (acts t a)) (now ∙ alone) ∙ ap (does_unit (erases second_field hide a)) state ∙ erases_step second_field hide a g s in
-    loads_on second_field t hide z k (suc a) m (omega arith) [] [] g s (λ n from below. same n (omega arith) below) tt tt next
+    ap (λ u. does_unit u (acts t a)) (now ∙ alone) ∙ ap (does_unit (erases in_field hide a)) state ∙ erases_step in_field hide a g s in
+    loads_on in_field t hide z k (suc a) m (omega arith) [] [] g s (λ n from below. same n (omega arith) below) tt tt next
   where
     alone_is : (u : Option Unit) → first_of u None ≡ u
     alone_is None = refl
     alone_is (Some unit) = refl
-loads_on second_field t hide z (suc k) a m is (piece ∷ pieces) (f ∷ fs) g s same beside blind state = go (a == f) refl
-    (λ next. loads_on second_field t hide z k (suc a) m (omega arith) (piece ∷ pieces) (f ∷ fs) g s (λ n from below. same n (omega arith) below) next blind)
-    (λ alike next. loads_on second_field t hide z k (suc a) m (omega arith) pieces fs g (does (piece_code piece) s) alike next blind.1)
+loads_on in_field t hide z (suc k) a m is (piece ∷ pieces) (f ∷ fs) g s same beside blind state = go (a == f) refl
+    (λ next. loads_on in_field t hide z k (suc a) m (omega arith) (piece ∷ pieces) (f ∷ fs) g s (λ n from below. same n (omega arith) below) next blind)
+    (λ alike next. loads_on in_field t hide z k (suc a) m (omega arith) pieces fs g (does (piece_code piece) s) alike next blind.1)
   where
     e : Timeline
-    e = erases second_field hide
+    e = erases in_field hide
 
     go : (b : Bool) → (a == f) ≡ b
         → (StandBeside e (suc a) z (piece ∷ pieces) (f ∷ fs) → acts t (suc a) ≡ showing (until hide (suc a) g) s
         → acts t m ≡ showing (until hide m g) (does_all (standing (piece ∷ pieces) (f ∷ fs) m) s))
-        → (((n : ℕ) → suc a ≤ n → n < m → t n ≡ Beside second_field hide pieces fs n)
+        → (((n : ℕ) → suc a ≤ n → n < m → t n ≡ Beside in_field hide pieces fs n)
         → StandBeside e (suc a) z pieces fs → acts t (suc a) ≡ showing (until hide (suc a) g) (does (piece_code piece) s)
         → acts t m ≡ showing (until hide m g) (does_all (standing pieces fs m) (does (piece_code piece) s)))
         → acts t m ≡ showing (until hide m g) (does_all (standing (piece ∷ pieces) (f ∷ fs) m) s)
@@ -177,7 +178,7 @@ loads_on second_field t hide z (suc k) a m is (piece ∷ pieces) (f ∷ fs) g s 
         let now : t a ≡ Some piece.unit = same a (omega arith) (omega arith) ∙ ap (λ u. first_of u (stands (piece ∷ pieces) (f ∷ fs) a)) free ∙ at in
         let next : acts t (suc a) ≡ showing (until hide (suc a) g) (does (piece_code piece) s) =
         ap (λ u. does_unit u (acts t a)) now ∙ ap (does (piece_code piece)) state ∙ blind.0 (until hide a g)
-        ∙ ap (λ (shown : Grid). showing shown (does (piece_code piece) s)) (sym (until_same second_field hide a g free)) in
+        ∙ ap (λ (shown : Grid). showing shown (does (piece_code piece) s)) (sym (until_same in_field hide a g free)) in
         let below : f < m = omega arith in
         let test_m : nat_lt f m ≡ true = grind (arith, nat_tests) in
         let rest : StandBeside e (suc a) z pieces fs = subst (λ n. StandBeside e (suc n) z pieces fs) (sym here) beside.3 in
@@ -189,7 +190,7 @@ loads_on second_field t hide z (suc k) a m is (piece ∷ pieces) (f ∷ fs) g s 
         let none : stands (piece ∷ pieces) (f ∷ fs) a ≡ None = stands_before e (suc a) z a (piece ∷ pieces) (f ∷ fs) behind (omega arith) in
         let now : t a ≡ e a = same a (omega arith) (omega arith) ∙ ap (first_of (e a)) none ∙ alone_is (e a) in
         let next : acts t (suc a) ≡ showing (until hide (suc a) g) s =
-        ap (λ u. does_unit u (acts t a)) now ∙ ap (does_unit (e a)) state ∙ erases_step second_field hide a g s in
+        ap (λ u. does_unit u (acts t a)) now ∙ ap (does_unit (e a)) state ∙ erases_step in_field hide a g s in
         idle behind next
       where
         alone_is : (u : Option Unit) → first_of u None ≡ u
@@ -197,15 +198,15 @@ loads_on second_field t hide z (suc k) a m is (piece ∷ pieces) (f ∷ fs) g s 
         alone_is (Some unit) = refl
 
 -- the same up to a frame m
-pub loads : (second_field : Bool) (t : Timeline) (hide : Option ℕ) (a z m : ℕ) → a ≤ m
+pub loads : (in_field : FieldNumber) (t : Timeline) (hide : Option ℕ) (a z m : ℕ) → a ≤ m
     → (pieces : List Piece) (fs : List ℕ) (g : Grid) (s : ChannelState)
-    → ((n : ℕ) → a ≤ n → n < m → t n ≡ Beside second_field hide pieces fs n)
-    → StandBeside (erases second_field hide) a z pieces fs
+    → ((n : ℕ) → a ≤ n → n < m → t n ≡ Beside in_field hide pieces fs n)
+    → StandBeside (erases in_field hide) a z pieces fs
     → AreBlind (piece_codes pieces) s
     → acts t a ≡ showing (until hide a g) s
     → acts t m ≡ showing (until hide m g) (does_all (standing pieces fs m) s)
-loads second_field t hide a z m up pieces fs g s same beside blind state =
-    loads_on second_field t hide z (m - a) a m (omega arith) pieces fs g s same beside blind state
+loads in_field t hide a z m up pieces fs g s same beside blind state =
+    loads_on in_field t hide z (m - a) a m (omega arith) pieces fs g s same beside blind state
 
 -- before each frame m up to z the units of the frames below it have acted, where nothing else begins
 acts_on : (e t : Timeline) (z : ℕ) (k a m : ℕ) → a + k ≡ m → (pieces : List Piece) (fs : List ℕ) (s : ChannelState)

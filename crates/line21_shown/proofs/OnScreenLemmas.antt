@@ -5,6 +5,7 @@ use Rattle.std.specs.Prelude.{◌⊎◌, IfSome}
 use Rattle.std.proofs.lemmas.Bool.{cases_lt}
 use Rattle.std.proofs.lemmas.Bool.Decides.{nat_tests}
 use Rattle.std.proofs.lemmas.List.Elements.{All-head}
+use Rattle.line21_codes.specs.declared.channels.FieldNumber.{FieldNumber}
 use Rattle.line21_codes.specs.declared.channels.Chan.{Chan}
 use Rattle.cue_lists.specs.AuthoredGrid.{IsSettledFor, shown_by, shown_from, shown_of_newest, cells_of, chain_of, chain_rows}
 use Rattle.cue_lists.specs.Cues.{IsCueFormed, IsOfKind}
@@ -47,9 +48,9 @@ hidden_by_load hide g [] s cue later is link plain = subst (λ o. IfSome o (λ h
 hidden_by_load hide g (former ∷ earlier) s cue later is link plain = subst (λ o. IfSome o (λ h. h ≤ cue.load)) (sym is.0) (link.cleared plain)
 
 -- nothing hides from the frame on from which the cue is written
-hides_no_more : (second_field : Bool) (hide : Option ℕ) (load n : ℕ) → writes_from hide load ≤ n → erases second_field hide n ≡ None
-hides_no_more second_field None load n above = refl
-hides_no_more second_field (Some h) load n above = let test : (n == h) ≡ false = grind (arith, nat_tests) in rw test refl
+hides_no_more : (in_field : FieldNumber) (hide : Option ℕ) (load n : ℕ) → writes_from hide load ≤ n → erases in_field hide n ≡ None
+hides_no_more in_field None load n above = refl
+hides_no_more in_field (Some h) load n above = let test : (n == h) ≡ false = grind (arith, nat_tests) in rw test refl
 
 -- that is from LOAD on, and before SHOW
 from_load : (hide : Option ℕ) (load : ℕ) → load ≤ writes_from hide load
@@ -180,9 +181,9 @@ on_screen_of (kind.Roll channel rows) cue earlier s is plain line21 formed sever
     rolled_on channel rows cue earlier s is formed.1 formed.2 several apart begins
 on_screen_of (kind.Win window) cue earlier s is plain line21 formed several apart begins = cc
 
-module _ (second_field : Bool) (t : Timeline) (frames a from : ℕ) (hide : Option ℕ) (g : Grid) (earlier : List Cue) (cue : Cue) (later : List Cue)
+module _ (in_field : FieldNumber) (t : Timeline) (frames a from : ℕ) (hide : Option ℕ) (g : Grid) (earlier : List Cue) (cue : Cue) (later : List Cue)
     (plain : is_pop cue.kind ≡ false) (line21 : is_line21 cue.kind ≡ true) (formed : IsCueFormed cue) (sequence : AreInSequence 1 frames (cue ∷ later))
-    (on : Continues second_field t a hide (cue ∷ later)) (is : IsShown t a from hide g earlier) (link : AreBehind earlier (cue ∷ later))
+    (on : Continues in_field t a hide (cue ∷ later)) (is : IsShown t a from hide g earlier) (link : AreBehind earlier (cue ∷ later))
     (low : a ≤ suc from) (before : a ≤ cue.load) where
   sound : IsSound 1 frames cue
   sound = first_sound 1 frames cue later sequence
@@ -200,33 +201,33 @@ module _ (second_field : Bool) (t : Timeline) (frames a from : ℕ) (hide : Opti
   behind_load : cue.load ≤ start
   behind_load = from_load hide cue.load
 
-  abbrev first : Head second_field t a cue.show hide cue later
-  first = head second_field t frames a cue.show hide cue later formed sequence on (λ f above free. above)
+  abbrev first : Head in_field t a cue.show hide cue later
+  first = head in_field t frames a cue.show hide cue later formed sequence on (λ f above free. above)
 
   -- before SHOW nothing of the events begins but what hides the former cue
-  only_hides : (n : ℕ) → n < cue.show → event_at (events_on second_field hide (cue ∷ later)) n ≡ erases second_field hide n
+  only_hides : (n : ℕ) → n < cue.show → event_at (events_on in_field hide (cue ∷ later)) n ≡ erases in_field hide n
   only_hides n below =
-      plain_at second_field hide cue later (cue_events second_field (cue ∷ later)) n plain
-      ∙ ap (first_of (erases second_field hide n)) (event_none cue.show n (cue_events second_field (cue ∷ later)) (events_from second_field frames cue later sequence) below)
-      ∙ or_nothing (erases second_field hide n)
+      plain_at in_field hide cue later (cue_events in_field (cue ∷ later)) n plain
+      ∙ ap (first_of (erases in_field hide n)) (event_none cue.show n (cue_events in_field (cue ∷ later)) (events_from in_field frames cue later sequence) below)
+      ∙ or_nothing (erases in_field hide n)
 
   -- its units stand from the first frame on in which it is written
-  placed : ArePlacedFrom (events_on second_field hide (cue ∷ later)) start first.own first.front
+  placed : ArePlacedFrom (events_on in_field hide (cue ∷ later)) start first.own first.front
   placed =
-      raised (events_on second_field hide (cue ∷ later)) a start (λ (piece : Piece). cue.load ≤ piece.load) first.own first.front
-      (λ piece f loads at free. plain_free second_field hide cue later (cue_events second_field (cue ∷ later)) f plain hidden (omega arith) free)
+      raised (events_on in_field hide (cue ∷ later)) a start (λ (piece : Piece). cue.load ≤ piece.load) first.own first.front
+      (λ piece f loads at free. plain_free in_field hide cue later (cue_events in_field (cue ∷ later)) f plain hidden (omega arith) free)
       first.begins first.first
 
-  stand_beside : StandBeside (erases second_field hide) start cue.show first.own first.front
-  stand_beside = beside second_field hide (events_on second_field hide (cue ∷ later)) start cue.show first.own first.front only_hides first.ends placed
+  stand_beside : StandBeside (erases in_field hide) start cue.show first.own first.front
+  stand_beside = beside in_field hide (events_on in_field hide (cue ∷ later)) start cue.show first.own first.front only_hides first.ends placed
 
   -- up to that frame the screen has what the earlier cues show
   waits_to : (m : ℕ) → a ≤ m → m ≤ start → acts t m ≡ showing (until hide m g) (acts t a)
   waits_to m above below =
-      loads second_field t hide a m m above [] [] g (acts t a)
+      loads in_field t hide a m m above [] [] g (acts t a)
       (λ n up high.
-      loading second_field t a cue.show hide cue later first (omega arith) only_hides n up (omega (arith, up_to_show))
-      ∙ ap (first_of (erases second_field hide n)) (stands_low (events_on second_field hide (cue ∷ later)) start n first.own first.front placed (omega arith)))
+      loading in_field t a cue.show hide cue later first (omega arith) only_hides n up (omega (arith, up_to_show))
+      ∙ ap (first_of (erases in_field hide n)) (stands_low (events_on in_field hide (cue ∷ later)) start n first.own first.front placed (omega arith)))
       tt tt (showing_own (acts t a) (until hide a g) is.displayed)
 
   pub screen_before : (f : ℕ) → from ≤ f → f < cue.show → IsSettledFor f cue
@@ -242,10 +243,10 @@ module _ (second_field : Bool) (t : Timeline) (frames a from : ℕ) (hide : Opti
   -- and from it on the units of the cue act alone
   written : acts t cue.show ≡ does_all (cue_codes cue) (acts t start)
   written =
-      acts_alone (erases second_field hide) t start cue.show up_to_show first.own first.front
+      acts_alone (erases in_field hide) t start cue.show up_to_show first.own first.front
       (λ n up high.
-      loading second_field t a cue.show hide cue later first (omega arith) only_hides n (omega (arith, behind_load)) high
-      ∙ ap (λ u. first_of u (stands first.own first.front n)) (hides_no_more second_field hide cue.load n up))
+      loading in_field t a cue.show hide cue later first (omega arith) only_hides n (omega (arith, behind_load)) high
+      ∙ ap (λ u. first_of u (stands first.own first.front n)) (hides_no_more in_field hide cue.load n up))
       stand_beside
       ∙ ap (λ codes. does_all codes (acts t start)) first.codes
 
@@ -258,13 +259,13 @@ module _ (second_field : Bool) (t : Timeline) (frames a from : ℕ) (hide : Opti
       (waits_to start (omega (arith, behind_load)) (omega arith))))
 
   -- behind SHOW the timeline goes on with what hides the cue
-  pub screen_continues : Continues second_field t cue.show cue.hide later
+  pub screen_continues : Continues in_field t cue.show cue.hide later
   screen_continues =
-      continues_behind second_field t a cue.show hide cue later first (omega (arith, sound.loaded)) (omega arith)
+      continues_behind in_field t a cue.show hide cue later first (omega (arith, sound.loaded)) (omega arith)
       (λ n above.
-      plain_at second_field hide cue later (cue_events second_field (cue ∷ later)) n plain
-      ∙ ap (λ u. first_of u (event_at (cue_events second_field (cue ∷ later)) n)) (hides_no_more second_field hide cue.load n (omega (arith, up_to_show)))
-      ∙ ap (λ events. event_at events n) (plain_events second_field cue later plain))
+      plain_at in_field hide cue later (cue_events in_field (cue ∷ later)) n plain
+      ∙ ap (λ u. first_of u (event_at (cue_events in_field (cue ∷ later)) n)) (hides_no_more in_field hide cue.load n (omega (arith, up_to_show)))
+      ∙ ap (λ events. event_at events n) (plain_events in_field cue later plain))
 
   -- and the screen has the cue until its HIDE
   pub screen_shown : IsShown t cue.show cue.show cue.hide (shown_from cue.kind cue earlier) (cue ∷ earlier)

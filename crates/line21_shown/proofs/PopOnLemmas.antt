@@ -1,7 +1,8 @@
 -- A pop-on cue: its units are loaded while the former cue is displayed, at its SHOW it is displayed, and from then on it
 -- stays until its HIDE.
-use Rattle.std.proofs.Common.{◌≡◌, ℕ, suc, ◌<◌, ◌≤◌, Bool, true, List, ◌∷◌, Option, Some, None, All, refl, sym, ap, ◌∙◌, subst, arith, ⊎_elim}
+use Rattle.std.proofs.Common.{◌≡◌, ℕ, suc, ◌<◌, ◌≤◌, true, List, ◌∷◌, Option, Some, None, All, refl, sym, ap, ◌∙◌, subst, arith, ⊎_elim}
 use Rattle.std.proofs.lemmas.Bool.{cases_lt}
+use Rattle.line21_codes.specs.declared.channels.FieldNumber.{FieldNumber}
 use Rattle.line21_codes.specs.declared.channels.Chan.{Chan}
 use Rattle.line21_codes.specs.declared.codes.Control.TheVariants.{Eoc}
 use Rattle.line21_codes.proofs.CodeLemmas.{written-code_of}
@@ -51,47 +52,47 @@ not_rolling : (channel : Chan) (k : Kind) (base : ℕ) (g : Grid) (s : ChannelSt
 not_rolling channel k base g s is = subst (λ x. IsRollingFor x base g s) (sym is) tt
 
 -- what shows a cue brings the hidden memory
-shows_hidden : (second_field : Bool) (s : ChannelState) → (does_unit (Some (showing_unit second_field)) s).displayed ≡ s.hidden
-shows_hidden second_field s = rw (written-code_of second_field (first_channel Eoc) tt) refl
+shows_hidden : (in_field : FieldNumber) (s : ChannelState) → (does_unit (Some (showing_unit in_field)) s).displayed ≡ s.hidden
+shows_hidden in_field s = rw (written-code_of in_field (first_channel Eoc) tt) refl
 
 -- a state shows what it displays
 pub showing_own : (s : ChannelState) (g : Grid) → s.displayed ≡ g → s ≡ showing g s
 showing_own s g is = ap (λ (shown : Grid). showing shown s) is
 
-module _ (second_field : Bool) (t : Timeline) (frames a from : ℕ) (hide : Option ℕ) (g : Grid) (earlier : List Cue) (cue : Cue) (later : List Cue)
+module _ (in_field : FieldNumber) (t : Timeline) (frames a from : ℕ) (hide : Option ℕ) (g : Grid) (earlier : List Cue) (cue : Cue) (later : List Cue)
     (pop : is_pop cue.kind ≡ true) (formed : IsCueFormed cue) (sequence : AreInSequence 1 frames (cue ∷ later))
-    (on : Continues second_field t a hide (cue ∷ later)) (is : IsShown t a from hide g earlier) (link : AreBehind earlier (cue ∷ later))
+    (on : Continues in_field t a hide (cue ∷ later)) (is : IsShown t a from hide g earlier) (link : AreBehind earlier (cue ∷ later))
     (low : a ≤ suc from) (before : a ≤ cue.show) where
-  apart : AreApart (cue_events second_field (cue ∷ later))
-  apart = events_of_apart second_field frames (cue ∷ later) (sequence_in_slots frames (cue ∷ later) sequence)
+  apart : AreApart (cue_events in_field (cue ∷ later))
+  apart = events_of_apart in_field frames (cue ∷ later) (sequence_in_slots frames (cue ∷ later) sequence)
 
   sound : IsSound 1 frames cue
   sound = first_sound 1 frames cue later sequence
 
   -- at SHOW stands what shows the cue
-  shows : event_at (events_on second_field hide (cue ∷ later)) cue.show ≡ Some (showing_unit second_field)
-  shows = at_show second_field hide cue later pop apart
+  shows : event_at (events_on in_field hide (cue ∷ later)) cue.show ≡ Some (showing_unit in_field)
+  shows = at_show in_field hide cue later pop apart
 
   -- so the units behind those of the cue stand behind that
-  free_behind : (f : ℕ) → cue.show ≤ f → IsFree (events_on second_field hide (cue ∷ later)) f → suc cue.show ≤ f
+  free_behind : (f : ℕ) → cue.show ≤ f → IsFree (events_on in_field hide (cue ∷ later)) f → suc cue.show ≤ f
   free_behind f above free =
       ⊎_elim
       (λ (h : f < suc cue.show).
       let here : f ≡ cue.show = omega arith in
-      let none : event_at (events_on second_field hide (cue ∷ later)) cue.show ≡ None =
-      free_none (events_on second_field hide (cue ∷ later)) cue.show (subst (IsFree (events_on second_field hide (cue ∷ later))) here free) in
-      let wrong : Some (showing_unit second_field) ≡ None = sym shows ∙ none in absurd (cc))
+      let none : event_at (events_on in_field hide (cue ∷ later)) cue.show ≡ None =
+      free_none (events_on in_field hide (cue ∷ later)) cue.show (subst (IsFree (events_on in_field hide (cue ∷ later))) here free) in
+      let wrong : Some (showing_unit in_field) ≡ None = sym shows ∙ none in absurd (cc))
       (λ (h : suc cue.show ≤ f). h)
       (cases_lt f (suc cue.show))
 
-  abbrev first : Head second_field t a (suc cue.show) hide cue later
-  first = head second_field t frames a (suc cue.show) hide cue later formed sequence on free_behind
+  abbrev first : Head in_field t a (suc cue.show) hide cue later
+  first = head in_field t frames a (suc cue.show) hide cue later formed sequence on free_behind
 
-  only_hides : (n : ℕ) → n < cue.show → event_at (events_on second_field hide (cue ∷ later)) n ≡ erases second_field hide n
-  only_hides = before_show second_field hide cue later pop apart
+  only_hides : (n : ℕ) → n < cue.show → event_at (events_on in_field hide (cue ∷ later)) n ≡ erases in_field hide n
+  only_hides = before_show in_field hide cue later pop apart
 
-  stand_beside : StandBeside (erases second_field hide) a cue.show first.own first.front
-  stand_beside = beside second_field hide (events_on second_field hide (cue ∷ later)) a cue.show first.own first.front only_hides first.ends first.first
+  stand_beside : StandBeside (erases in_field hide) a cue.show first.own first.front
+  stand_beside = beside in_field hide (events_on in_field hide (cue ∷ later)) a cue.show first.own first.front only_hides first.ends first.first
 
   kind_is : (channel : Chan) × (cue.kind ≡ kind.Pop channel)
   kind_is = pop_kind cue.kind pop
@@ -99,8 +100,8 @@ module _ (second_field : Bool) (t : Timeline) (frames a from : ℕ) (hide : Opti
   -- up to SHOW the units of the cue are loaded, beside what hides the former cue
   loaded_to : (m : ℕ) → a ≤ m → m ≤ cue.show → acts t m ≡ showing (until hide m g) (does_all (standing first.own first.front m) (acts t a))
   loaded_to m from below =
-      loads second_field t hide a cue.show m from first.own first.front g (acts t a)
-      (λ n up high. loading second_field t a (suc cue.show) hide cue later first (omega arith) only_hides n up (omega arith)) stand_beside
+      loads in_field t hide a cue.show m from first.own first.front g (acts t a)
+      (λ n up high. loading in_field t a (suc cue.show) hide cue later first (omega arith) only_hides n up (omega arith)) stand_beside
       (subst (λ codes. AreBlind codes (acts t a)) (sym first.codes) (pop_blind kind_is.0 cue (acts t a) kind_is.1))
       (showing_own (acts t a) (until hide a g) is.displayed)
 
@@ -114,7 +115,7 @@ module _ (second_field : Bool) (t : Timeline) (frames a from : ℕ) (hide : Opti
   hidden_at_show : (acts t cue.show).hidden ≡ cells_of cue.runs
   hidden_at_show =
       let all : standing first.own first.front cue.show ≡ cue_codes cue =
-      all_standing (erases second_field hide) a cue.show first.own first.front stand_beside ∙ first.codes in
+      all_standing (erases in_field hide) a cue.show first.own first.front stand_beside ∙ first.codes in
       ap (λ (s : ChannelState). s.hidden) (loaded_to cue.show before (omega arith) ∙ ap (λ codes. showing (until hide cue.show g) (does_all codes (acts t a))) all)
       ∙ pop_written kind_is.0 cue (acts t a) kind_is.1 (pop_runs kind_is.0 cue.kind cue.hide cue.runs kind_is.1 formed.kind)
       ∙ runs_are_cells cue.runs sound.apart
@@ -122,16 +123,16 @@ module _ (second_field : Bool) (t : Timeline) (frames a from : ℕ) (hide : Opti
   -- and then they are displayed
   displayed_at_show : (acts t (suc cue.show)).displayed ≡ shown_from cue.kind cue earlier
   displayed_at_show =
-      let now : t cue.show ≡ Some (showing_unit second_field) =
+      let now : t cue.show ≡ Some (showing_unit in_field) =
       first.same cue.show before ∙ ap (λ u. first_of u (first_of (stands first.own first.front cue.show) (stands first.behind first.back cue.show))) shows in
-      ap (λ u. (does_unit u (acts t cue.show)).displayed) now ∙ shows_hidden second_field (acts t cue.show) ∙ hidden_at_show
+      ap (λ u. (does_unit u (acts t cue.show)).displayed) now ∙ shows_hidden in_field (acts t cue.show) ∙ hidden_at_show
       ∙ sym (ap (λ k. shown_from k cue earlier) kind_is.1)
 
   -- behind SHOW the timeline goes on with what hides the cue
-  pub pop_continues : Continues second_field t (suc cue.show) cue.hide later
+  pub pop_continues : Continues in_field t (suc cue.show) cue.hide later
   pop_continues =
-      continues_behind second_field t a (suc cue.show) hide cue later first (omega arith) (omega arith)
-      (λ n above. behind_show second_field hide cue later pop apart (hidden_by hide g earlier (acts t a) cue later is.newest link) n above)
+      continues_behind in_field t a (suc cue.show) hide cue later first (omega arith) (omega arith)
+      (λ n above. behind_show in_field hide cue later pop apart (hidden_by hide g earlier (acts t a) cue later is.newest link) n above)
 
   -- and the screen has the cue until its HIDE
   pub pop_shown : IsShown t (suc cue.show) cue.show cue.hide (shown_from cue.kind cue earlier) (cue ∷ earlier)

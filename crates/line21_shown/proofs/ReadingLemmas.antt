@@ -1,6 +1,7 @@
 -- A column whose control pairs are doubled is read as its units, one after another.
 use Rattle.std.proofs.Common.{◌≡◌, ℕ, zero, suc, Bool, true, false, List, ◌∷◌, Option, Some, None, option_map, unwrap_or, refl, sym, ap, ◌∙◌, subst}
 use Rattle.std.specs.Int.Count.{ones}
+use Rattle.line21_codes.specs.declared.channels.FieldNumber.{FieldNumber}
 use Rattle.line21_codes.specs.declared.codes.Code.{Code}
 use Rattle.line21_codes.specs.declared.codes.Code.TheVariants.{Null, Text, Xds, Control}
 use Rattle.line21_codes.specs.declared.pairs.Pair.{Pair}
@@ -25,7 +26,7 @@ unfolding code_of ones
 null_code = refl
 
 -- a code of data channel 1 does to its field what it does to the channel
-code_step : (f : Bool) (code : Code) (s : ChannelState) → IsForFirst code → after_code f code (first_alone s) ≡ first_alone (does code s)
+code_step : (f : FieldNumber) (code : Code) (s : ChannelState) → IsForFirst code → after_code f code (first_alone s) ≡ first_alone (does code s)
 code_step f Null s is = refl
 code_step f (Text first second) s is = refl
 code_step f (Xds first second) s is = absurd is
@@ -40,7 +41,7 @@ record IsDue (pairs : List Pair) (pair : Pair) : Type 0 where
   blocks : Blocks before
 
 -- the pairs of the frames below n are read, and stand in blocks up to a pair that is to be repeated
-record IsRead (f : Bool) (t : Timeline) (n : ℕ) : Type 0 where
+record IsRead (f : FieldNumber) (t : Timeline) (n : ℕ) : Type 0 where
   state : after f (pairs_before (slot t) n) ≡ first_alone (acts t n)
   blocks : repeat_at t n ≡ None → Blocks (pairs_before (slot t) n)
   due : (pair : Pair) → repeat_at t n ≡ Some pair → IsDue (pairs_before (slot t) n) pair
@@ -55,7 +56,7 @@ none_begins : (t : Timeline) → IsCaptioned t → (n : ℕ) (pair : Pair) → r
 none_begins t is zero pair due = cc
 none_begins t is (suc n) pair due = is.spaced n pair due
 
-module _ (f : Bool) (t : Timeline) (is : IsCaptioned t) (n : ℕ) (read : IsRead f t n) where
+module _ (f : FieldNumber) (t : Timeline) (is : IsCaptioned t) (n : ℕ) (read : IsRead f t n) where
   -- a repeat does nothing
   repeated : (pair : Pair) → repeat_at t n ≡ Some pair → IsRead f t (suc n)
   repeated pair due =
@@ -127,13 +128,13 @@ module _ (f : Bool) (t : Timeline) (is : IsCaptioned t) (n : ℕ) (read : IsRead
           }
 
 -- one more frame
-read_next : (f : Bool) (t : Timeline) → IsCaptioned t → (n : ℕ) → IsRead f t n → (r : Option Pair) → repeat_at t n ≡ r → (u : Option Unit) → t n ≡ u → IsRead f t (suc n)
+read_next : (f : FieldNumber) (t : Timeline) → IsCaptioned t → (n : ℕ) → IsRead f t n → (r : Option Pair) → repeat_at t n ≡ r → (u : Option Unit) → t n ≡ u → IsRead f t (suc n)
 read_next f t is n read (Some pair) due u at = repeated f t is n read pair due
 read_next f t is n read None due None at = empty f t is n read due at
 read_next f t is n read None due (Some unit) at = begun f t is n read unit due at
 
 -- all frames below n
-read_all : (f : Bool) (t : Timeline) → IsCaptioned t → (n : ℕ) → IsRead f t n
+read_all : (f : FieldNumber) (t : Timeline) → IsCaptioned t → (n : ℕ) → IsRead f t n
 read_all f t is zero = record { state = sym (after-none f _ _ refl refl); blocks = λ due. none; due = λ pair due. cc }
 read_all f t is (suc n) = read_next f t is n (read_all f t is n) (repeat_at t n) refl (t n) refl
 

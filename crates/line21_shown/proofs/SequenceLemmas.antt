@@ -5,6 +5,8 @@ use Rattle.std.specs.List.{AllByRecursion}
 use Rattle.std.proofs.lemmas.Bool.{cases_lt}
 use Rattle.std.proofs.lemmas.List.{reverse-append}
 use Rattle.std.proofs.lemmas.List.Elements.{recursion_from_All}
+use Rattle.line21_codes.specs.declared.channels.FieldNumber.{FieldNumber}
+use Rattle.line21_codes.specs.declared.channels.FieldNumber.TheVariants.{One, Two}
 use Rattle.line21_codes.specs.declared.channels.Chan.{Chan}
 use Rattle.line21_codes.specs.declared.channels.Chan.TheVariants.{Cc1, Cc3}
 use Rattle.line21_codes.specs.declared.pairs.Pair.{Pair}
@@ -15,7 +17,7 @@ use Rattle.cue_lists.specs.Rules.{IsRuled}
 use Rattle.cue_lists.specs.Rules.Lane.{is_line21, is_pop}
 use Rattle.cue_lists.specs.declared.cue.Cue.{Cue}
 use Rattle.cue_lists.specs.declared.lane.Lane.TheVariants.{Channel}
-use Rattle.line21_codes.specs.Channels.{is_in_second_field}
+use Rattle.line21_codes.specs.Channels.{field_of_channel}
 use Rattle.line21_author.specs.Channels.{cues_on}
 use Rattle.line21_slots.specs.Cadences.{cadence_of, slot_from}
 use Rattle.line21_author.specs.CueEvents.{channel_events, hide_events}
@@ -58,13 +60,13 @@ BeginFrom a [] = ⊤
 BeginFrom a (cue ∷ later) = (is_pop cue.kind ≡ false → a ≤ cue.load) × (a ≤ cue.show)
 
 -- the last cue stays on the screen until its HIDE
-last_shown : (second_field : Bool) (t : Timeline) (a from : ℕ) (hide : Option ℕ) (g : Grid) (earlier : List Cue)
-    → Continues second_field t a hide [] → IsShown t a from hide g earlier → a ≤ suc from → (f : ℕ) → from ≤ f
+last_shown : (in_field : FieldNumber) (t : Timeline) (a from : ℕ) (hide : Option ℕ) (g : Grid) (earlier : List Cue)
+    → Continues in_field t a hide [] → IsShown t a from hide g earlier → a ≤ suc from → (f : ℕ) → from ≤ f
     → (acts t (suc f)).displayed ≡ shown_of_newest f (shown_by f earlier)
-last_shown second_field t a from hide g earlier on is low f above =
+last_shown in_field t a from hide g earlier on is low f above =
     ap (λ (s : ChannelState). s.displayed)
-    (loads second_field t hide a (suc f) (suc f) (omega arith) [] [] g (acts t a)
-    (λ n up high. on.same n up ∙ ap (λ u. first_of u (stands on.pieces on.frames n)) (only_hides hide n) ∙ ap (first_of (erases second_field hide n)) (nothing on.pieces on.frames n on.are))
+    (loads in_field t hide a (suc f) (suc f) (omega arith) [] [] g (acts t a)
+    (λ n up high. on.same n up ∙ ap (λ u. first_of u (stands on.pieces on.frames n)) (only_hides hide n) ∙ ap (first_of (erases in_field hide n)) (nothing on.pieces on.frames n on.are))
     tt tt (showing_own (acts t a) (until hide a g) is.displayed))
     ∙ sym (is.on f above)
   where
@@ -72,7 +74,7 @@ last_shown second_field t a from hide g earlier on is low f above =
     nothing [] frames n are = refl
     nothing (piece ∷ pieces) frames n are = cc
 
-    only_hides : (h : Option ℕ) (n : ℕ) → event_at (hide_events second_field h [] ++ []) n ≡ erases second_field h n
+    only_hides : (h : Option ℕ) (n : ℕ) → event_at (hide_events in_field h [] ++ []) n ≡ erases in_field h n
     only_hides None n = refl
     only_hides (Some h) n = refl
 
@@ -105,24 +107,24 @@ after_it frames cue [] earlier sequence = tt
 after_it frames cue (next ∷ later) earlier sequence = sequence.1
 
 -- cues in sequence: at each settled frame the screen has what they show
-cues_shown : (second_field : Bool) (t : Timeline) (frames a from : ℕ) (hide : Option ℕ) (g : Grid) (cues earlier : List Cue)
+cues_shown : (in_field : FieldNumber) (t : Timeline) (frames a from : ℕ) (hide : Option ℕ) (g : Grid) (cues earlier : List Cue)
     → AllByRecursion IsCaption cues → AreInSequence 1 frames cues → BeginFrom a cues → AreBehind earlier cues
-    → Continues second_field t a hide cues → IsShown t a from hide g earlier → a ≤ suc from
+    → Continues in_field t a hide cues → IsShown t a from hide g earlier → a ≤ suc from
     → (f : ℕ) → from ≤ f → AllByRecursion (IsSettledFor f) cues
     → (acts t (suc f)).displayed ≡ shown_of_newest f (shown_by f (newest_first cues earlier))
-cues_shown second_field t frames a from hide g [] earlier captions sequence begin link on is low f above settled =
-    last_shown second_field t a from hide g earlier on is low f above
-cues_shown second_field t frames a from hide g (cue ∷ later) earlier captions sequence begin link on is low f above settled =
+cues_shown in_field t frames a from hide g [] earlier captions sequence begin link on is low f above settled =
+    last_shown in_field t a from hide g earlier on is low f above
+cues_shown in_field t frames a from hide g (cue ∷ later) earlier captions sequence begin link on is low f above settled =
     by_kind (is_pop cue.kind) refl
-    (λ pop h. cues_shown second_field t frames (suc cue.show) cue.show cue.hide (shown_from cue.kind cue earlier) later (cue ∷ earlier) captions.1
+    (λ pop h. cues_shown in_field t frames (suc cue.show) cue.show cue.hide (shown_from cue.kind cue earlier) later (cue ∷ earlier) captions.1
     (rest_in_sequence 1 frames cue later sequence) (begin_behind_pop frames cue later pop captions.0.formed sequence) (after_it frames cue later earlier sequence)
-    (pop_continues second_field t frames a from hide g earlier cue later pop captions.0.formed sequence on is link low begin.1)
-    (pop_shown second_field t frames a from hide g earlier cue later pop captions.0.formed sequence on is link low begin.1)
+    (pop_continues in_field t frames a from hide g earlier cue later pop captions.0.formed sequence on is link low begin.1)
+    (pop_shown in_field t frames a from hide g earlier cue later pop captions.0.formed sequence on is link low begin.1)
     (omega arith) f h settled.1)
-    (λ plain h. cues_shown second_field t frames cue.show cue.show cue.hide (shown_from cue.kind cue earlier) later (cue ∷ earlier) captions.1
+    (λ plain h. cues_shown in_field t frames cue.show cue.show cue.hide (shown_from cue.kind cue earlier) later (cue ∷ earlier) captions.1
     (rest_in_sequence 1 frames cue later sequence) (begin_behind frames cue later sequence) (after_it frames cue later earlier sequence)
-    (screen_continues second_field t frames a from hide g earlier cue later plain captions.0.line21 captions.0.formed sequence on is link low (begin.0 plain))
-    (screen_shown second_field t frames a from hide g earlier cue later plain captions.0.line21 captions.0.formed sequence on is link low (begin.0 plain))
+    (screen_continues in_field t frames a from hide g earlier cue later plain captions.0.line21 captions.0.formed sequence on is link low (begin.0 plain))
+    (screen_shown in_field t frames a from hide g earlier cue later plain captions.0.line21 captions.0.formed sequence on is link low (begin.0 plain))
     (omega arith) f h settled.1)
   where
     by_kind : (b : Bool) → is_pop cue.kind ≡ b
@@ -131,13 +133,13 @@ cues_shown second_field t frames a from hide g (cue ∷ later) earlier captions 
         → (acts t (suc f)).displayed ≡ shown_of_newest f (shown_by f (newest_first later (cue ∷ earlier)))
     by_kind true pop popped screened =
         ⊎_elim
-        (λ (h : f < cue.show). pop_before second_field t frames a from hide g earlier cue later pop captions.0.formed sequence on is link low begin.1 f above h)
+        (λ (h : f < cue.show). pop_before in_field t frames a from hide g earlier cue later pop captions.0.formed sequence on is link low begin.1 f above h)
         (popped pop)
         (cases_lt f cue.show)
     by_kind false plain popped screened =
         ⊎_elim
         (λ (h : f < cue.show).
-        screen_before second_field t frames a from hide g earlier cue later plain captions.0.line21 captions.0.formed sequence on is link low (begin.0 plain) f above h settled.0)
+        screen_before in_field t frames a from hide g earlier cue later plain captions.0.line21 captions.0.formed sequence on is link low (begin.0 plain) f above h settled.0)
         (screened plain)
         (cases_lt f cue.show)
 
@@ -156,7 +158,7 @@ authored_is channel cues f =
 
 -- the timeline of a channel begins with its cues
 begins : (channel : Chan) (cues : List Cue) (placed : List ℕ) → IsChannelPlaced channel cues placed
-    → Continues (is_in_second_field channel) (lane_timeline (channel_events channel cues) (channel_pieces channel cues) placed) 0 None (cues_on channel cues)
+    → Continues (field_of_channel channel) (lane_timeline (channel_events channel cues) (channel_pieces channel cues) placed) 0 None (cues_on channel cues)
 begins channel cues placed earliest = record {
   pieces = channel_pieces channel cues;
   frames = placed;
@@ -189,7 +191,7 @@ channel_shown slots channel cues placed formed sequence earliest k settled =
     let stand = placed_from (channel_events channel cues) [] 0 (channel_pieces channel cues) placed (omega arith) earliest.placed in
     let loaded = cues_loaded (cues_on channel cues) (channel_pieces channel cues) (lines_are (cues_on channel cues) captions) (pieces_are channel 1 cues)
     (all_have_time (channel_events channel cues) 0 (channel_pieces channel cues) placed stand) in
-    cues_shown (is_in_second_field channel) t slots 0 0 None empty_grid (cues_on channel cues) []
+    cues_shown (field_of_channel channel) t slots 0 0 None empty_grid (cues_on channel cues) []
     captions (in_sequence slots (cues_on channel cues) sequence loaded) (any_begin (cues_on channel cues)) tt
     (begins channel cues placed earliest) (empty_first t) (omega arith) k (omega arith) settled
     ∙ authored_is channel cues k
@@ -211,16 +213,16 @@ newest_pairs t zero = refl
 newest_pairs t (suc n) = reverse-append (column t n) (slot t n ∷ []) ∙ ap (λ (pairs : List Pair). slot t n ∷ pairs) (newest_pairs t n)
 
 -- and the field that carries it
-field_shown : (list : Listing) (channel : Chan) (second_field : Bool) (placed : List ℕ) → IsFormed list → IsRuled list
+field_shown : (list : Listing) (channel : Chan) (in_field : FieldNumber) (placed : List ℕ) → IsFormed list → IsRuled list
     → IsChannelPlaced channel (slot_cues list channel) placed → (f : ℕ) (pairs : List Pair)
     → pairs ≡ column (channel_timeline list channel placed) (slot_from (cadence_of list.rate channel) (suc f))
-    → ShowsField (after second_field (reverse pairs)) channel list.cues f
-field_shown list channel second_field placed formed ruled earliest f pairs are =
+    → ShowsField (after in_field (reverse pairs)) channel list.cues f
+field_shown list channel in_field placed formed ruled earliest f pairs are =
     let t = channel_timeline list channel placed in
     let m = slot_from (cadence_of list.rate channel) (suc f) in
-    let state : after second_field (reverse pairs) ≡ first_alone (acts t m) =
-    ap (λ (l : List Pair). after second_field (reverse l)) are ∙ ap (after second_field) (newest_pairs t m)
-    ∙ columns_read second_field t (channel_captioned list channel placed formed ruled earliest) m in
+    let state : after in_field (reverse pairs) ≡ first_alone (acts t m) =
+    ap (λ (l : List Pair). after in_field (reverse l)) are ∙ ap (after in_field) (newest_pairs t m)
+    ∙ columns_read in_field t (channel_captioned list channel placed formed ruled earliest) m in
     record {
       first = λ settled. ap (λ s. s.first.displayed) state ∙ slots_shown list channel placed formed ruled earliest f m refl settled;
       second = ap (λ s. s.second.displayed) state;
@@ -228,9 +230,9 @@ field_shown list channel second_field placed formed ruled earliest f pairs are =
 
 -- what is authored is what is seen
 pub authored_seen : AuthoredIsSeen
-authored_seen list placed formed ruled is f false =
-    field_shown list Cc1 false (placed (Channel Cc1)) formed ruled (is (Channel Cc1)) f (first_pairs false (columns_of list placed) (suc f))
+authored_seen list placed formed ruled is f One =
+    field_shown list Cc1 One (placed (Channel Cc1)) formed ruled (is (Channel Cc1)) f (first_pairs One (columns_of list placed) (suc f))
     (field_one_is list placed (suc f))
-authored_seen list placed formed ruled is f true =
-    field_shown list Cc3 true (placed (Channel Cc3)) formed ruled (is (Channel Cc3)) f (first_pairs true (columns_of list placed) (suc f))
+authored_seen list placed formed ruled is f Two =
+    field_shown list Cc3 Two (placed (Channel Cc3)) formed ruled (is (Channel Cc3)) f (first_pairs Two (columns_of list placed) (suc f))
     (field_two_is list placed (suc f))

@@ -3,6 +3,7 @@ use Rattle.std.proofs.Common.{◌≡◌, ◌≢◌, ℕ, suc, ◌+◌, ◌<◌, 
 use Rattle.std.specs.Prelude.{⊤, ◌==◌, if◌then◌else◌, IfSome}
 use Rattle.std.proofs.lemmas.Bool.Decides.{nat_tests}
 use Rattle.std.proofs.lemmas.List.Elements.{All-append, All-head, All-map, All-nil, All-tail}
+use Rattle.line21_codes.specs.declared.channels.FieldNumber.{FieldNumber}
 use Rattle.line21_codes.specs.declared.channels.Chan.{Chan}
 use Rattle.line21_codes.specs.declared.codes.Control.TheVariants.{Eoc, Edm}
 use Rattle.line21_codes.specs.Writing.{written}
@@ -158,20 +159,20 @@ stands_parts events a n (piece ∷ pieces) more (f ∷ front) back placed = go (
     go false test rest = rw test rest
 
 -- pieces that are placed stand beside what hides, where that is all there is of the events before their time is over
-pub beside : (second_field : Bool) (hide : Option ℕ) (events : List Event) (a z : ℕ) (pieces : List Piece) (fs : List ℕ)
-    → ((n : ℕ) → n < z → event_at events n ≡ erases second_field hide n)
-    → All (λ piece. piece.until ≡ z) pieces → ArePlacedFrom events a pieces fs → StandBeside (erases second_field hide) a z pieces fs
-beside second_field hide events a z [] [] same all placed = tt
-beside second_field hide events a z [] (f ∷ fs) same all placed = placed
-beside second_field hide events a z (piece ∷ pieces) [] same all placed = placed
-beside second_field hide events a z (piece ∷ pieces) (f ∷ fs) same all placed =
+pub beside : (in_field : FieldNumber) (hide : Option ℕ) (events : List Event) (a z : ℕ) (pieces : List Piece) (fs : List ℕ)
+    → ((n : ℕ) → n < z → event_at events n ≡ erases in_field hide n)
+    → All (λ piece. piece.until ≡ z) pieces → ArePlacedFrom events a pieces fs → StandBeside (erases in_field hide) a z pieces fs
+beside in_field hide events a z [] [] same all placed = tt
+beside in_field hide events a z [] (f ∷ fs) same all placed = placed
+beside in_field hide events a z (piece ∷ pieces) [] same all placed = placed
+beside in_field hide events a z (piece ∷ pieces) (f ∷ fs) same all placed =
     let ends : piece.until ≡ z = All-head (λ (p : Piece). p.until ≡ z) piece pieces all in
     let below : f < piece.until = placed.2 in
     let early : f < z = omega arith in (
       placed.0,
       early,
       sym (same f early) ∙ free_none events f placed.3,
-      beside second_field hide events (suc f) z pieces fs same (All-tail (λ (p : Piece). p.until ≡ z) piece pieces all) placed.4,
+      beside in_field hide events (suc f) z pieces fs same (All-tail (λ (p : Piece). p.until ≡ z) piece pieces all) placed.4,
     )
 
 -- the pieces of a cue have its SHOW for their end
@@ -206,31 +207,31 @@ loads_from frames b (cue ∷ (next ∷ later)) pieces sequence from are =
     (loads_from frames b (next ∷ later) are.1 sequence.2 (omega arith) are.3))
 
 -- the unit that shows a pop-on cue
-abbrev pub showing_unit : Bool → Unit
-showing_unit second_field = record { pair = written second_field (first_channel Eoc); doubled = true }
+abbrev pub showing_unit : FieldNumber → Unit
+showing_unit in_field = record { pair = written in_field (first_channel Eoc); doubled = true }
 
 -- what begins at a frame of an event and those behind it
-event_first : (second_field : Bool) (frame : ℕ) (events : List Event) (n : ℕ) (b : Bool) → (n == frame) ≡ b
-    → event_at (control_event second_field frame Eoc ∷ events) n ≡ (if b then Some (showing_unit second_field) else event_at events n)
-event_first second_field frame events n b test = rw test refl
+event_first : (in_field : FieldNumber) (frame : ℕ) (events : List Event) (n : ℕ) (b : Bool) → (n == frame) ≡ b
+    → event_at (control_event in_field frame Eoc ∷ events) n ≡ (if b then Some (showing_unit in_field) else event_at events n)
+event_first in_field frame events n b test = rw test refl
 
 -- what hides, and the events behind it: where the next cue replaces what is shown, nothing hides it
-hide_first : (second_field : Bool) (hide : Option ℕ) (cue : Cue) (later : List Cue) (events : List Event) (n : ℕ) → is_pop cue.kind ≡ true
-    → event_at events cue.show ≡ Some (showing_unit second_field)
-    → event_at (hide_events second_field hide (cue ∷ later) ++ events) n ≡ (if n == cue.show then Some (showing_unit second_field) else first_of (erases second_field hide n) (event_at events n))
-hide_first second_field None cue later events n pop shows = go (n == cue.show) refl
+hide_first : (in_field : FieldNumber) (hide : Option ℕ) (cue : Cue) (later : List Cue) (events : List Event) (n : ℕ) → is_pop cue.kind ≡ true
+    → event_at events cue.show ≡ Some (showing_unit in_field)
+    → event_at (hide_events in_field hide (cue ∷ later) ++ events) n ≡ (if n == cue.show then Some (showing_unit in_field) else first_of (erases in_field hide n) (event_at events n))
+hide_first in_field None cue later events n pop shows = go (n == cue.show) refl
   where
-    go : (b : Bool) → (n == cue.show) ≡ b → event_at events n ≡ (if n == cue.show then Some (showing_unit second_field) else event_at events n)
+    go : (b : Bool) → (n == cue.show) ≡ b → event_at events n ≡ (if n == cue.show then Some (showing_unit in_field) else event_at events n)
     go true test = let here : n ≡ cue.show = grind (arith, nat_tests) in rw test (ap (event_at events) here ∙ shows)
     go false test = rw test refl
-hide_first second_field (Some hide) cue later events n pop shows = rw pop (by_test (cue.show == hide) refl)
+hide_first in_field (Some hide) cue later events n pop shows = rw pop (by_test (cue.show == hide) refl)
   where
     by_test : (r : Bool) → (cue.show == hide) ≡ r
-        → event_at ((if r then [] else control_event second_field hide Edm ∷ []) ++ events) n
-        ≡ (if n == cue.show then Some (showing_unit second_field) else first_of (erases second_field (Some hide) n) (event_at events n))
+        → event_at ((if r then [] else control_event in_field hide Edm ∷ []) ++ events) n
+        ≡ (if n == cue.show then Some (showing_unit in_field) else first_of (erases in_field (Some hide) n) (event_at events n))
     by_test true same = go (n == cue.show) refl
       where
-        go : (b : Bool) → (n == cue.show) ≡ b → event_at events n ≡ (if n == cue.show then Some (showing_unit second_field) else first_of (erases second_field (Some hide) n) (event_at events n))
+        go : (b : Bool) → (n == cue.show) ≡ b → event_at events n ≡ (if n == cue.show then Some (showing_unit in_field) else first_of (erases in_field (Some hide) n) (event_at events n))
         go true test = let here : n ≡ cue.show = grind (arith, nat_tests) in rw test (ap (event_at events) here ∙ shows)
         go false test =
             let other : (n == hide) ≡ false = grind (arith, nat_tests) in
@@ -238,56 +239,56 @@ hide_first second_field (Some hide) cue later events n pop shows = rw pop (by_te
     by_test false apart = go (n == cue.show) refl (n == hide) refl
       where
         go : (b : Bool) → (n == cue.show) ≡ b → (c : Bool) → (n == hide) ≡ c
-            → event_at (control_event second_field hide Edm ∷ events) n
-            ≡ (if n == cue.show then Some (showing_unit second_field) else first_of (erases second_field (Some hide) n) (event_at events n))
+            → event_at (control_event in_field hide Edm ∷ events) n
+            ≡ (if n == cue.show then Some (showing_unit in_field) else first_of (erases in_field (Some hide) n) (event_at events n))
         go true test true at = let wrong : (cue.show == hide) ≡ true = grind (arith, nat_tests) in cc
         go true test false at = let here : n ≡ cue.show = grind (arith, nat_tests) in rw (test, at) (ap (event_at events) here ∙ shows)
         go false test true at = rw (test, at) refl
         go false test false at = rw (test, at) refl
 
 -- the events behind what shows a pop-on cue
-abbrev pub events_behind : Bool → Cue → List Cue → List Event
-events_behind second_field cue later = hide_events second_field cue.hide later ++ cue_events second_field later
+abbrev pub events_behind : FieldNumber → Cue → List Cue → List Event
+events_behind in_field cue later = hide_events in_field cue.hide later ++ cue_events in_field later
 
 -- the events of a pop-on cue and of those behind it
-pub pop_events : (second_field : Bool) (cue : Cue) (later : List Cue) → is_pop cue.kind ≡ true
-    → cue_events second_field (cue ∷ later) ≡ control_event second_field cue.show Eoc ∷ events_behind second_field cue later
-pop_events second_field cue later pop = rw pop refl
+pub pop_events : (in_field : FieldNumber) (cue : Cue) (later : List Cue) → is_pop cue.kind ≡ true
+    → cue_events in_field (cue ∷ later) ≡ control_event in_field cue.show Eoc ∷ events_behind in_field cue later
+pop_events in_field cue later pop = rw pop refl
 
-module _ (second_field : Bool) (hide : Option ℕ) (cue : Cue) (later : List Cue) (pop : is_pop cue.kind ≡ true)
-    (apart : AreApart (cue_events second_field (cue ∷ later))) where
+module _ (in_field : FieldNumber) (hide : Option ℕ) (cue : Cue) (later : List Cue) (pop : is_pop cue.kind ≡ true)
+    (apart : AreApart (cue_events in_field (cue ∷ later))) where
   abbrev rest : List Event
-  rest = events_behind second_field cue later
+  rest = events_behind in_field cue later
 
   abbrev all_events : List Event
-  all_events = hide_events second_field hide (cue ∷ later) ++ cue_events second_field (cue ∷ later)
+  all_events = hide_events in_field hide (cue ∷ later) ++ cue_events in_field (cue ∷ later)
 
   apart_rest : AreFrom (cue.show + 2) rest
-  apart_rest = (subst AreApart (pop_events second_field cue later pop) apart).0
+  apart_rest = (subst AreApart (pop_events in_field cue later pop) apart).0
 
-  shows_at : (n : ℕ) (b : Bool) → (n == cue.show) ≡ b → event_at (cue_events second_field (cue ∷ later)) n ≡ (if b then Some (showing_unit second_field) else event_at rest n)
-  shows_at n b test = ap (λ events. event_at events n) (pop_events second_field cue later pop) ∙ event_first second_field cue.show rest n b test
+  shows_at : (n : ℕ) (b : Bool) → (n == cue.show) ≡ b → event_at (cue_events in_field (cue ∷ later)) n ≡ (if b then Some (showing_unit in_field) else event_at rest n)
+  shows_at n b test = ap (λ events. event_at events n) (pop_events in_field cue later pop) ∙ event_first in_field cue.show rest n b test
 
-  shows_here : event_at (cue_events second_field (cue ∷ later)) cue.show ≡ Some (showing_unit second_field)
+  shows_here : event_at (cue_events in_field (cue ∷ later)) cue.show ≡ Some (showing_unit in_field)
   shows_here = shows_at cue.show true (grind (arith, nat_tests))
 
-  all_at : (n : ℕ) → event_at all_events n ≡ (if n == cue.show then Some (showing_unit second_field) else first_of (erases second_field hide n) (event_at (cue_events second_field (cue ∷ later)) n))
-  all_at n = hide_first second_field hide cue later (cue_events second_field (cue ∷ later)) n pop shows_here
+  all_at : (n : ℕ) → event_at all_events n ≡ (if n == cue.show then Some (showing_unit in_field) else first_of (erases in_field hide n) (event_at (cue_events in_field (cue ∷ later)) n))
+  all_at n = hide_first in_field hide cue later (cue_events in_field (cue ∷ later)) n pop shows_here
 
   -- before SHOW nothing begins but what hides the former cue
-  pub before_show : (n : ℕ) → n < cue.show → event_at all_events n ≡ erases second_field hide n
+  pub before_show : (n : ℕ) → n < cue.show → event_at all_events n ≡ erases in_field hide n
   before_show n below =
       let test : (n == cue.show) ≡ false = grind (arith, nat_tests) in
-      let none : event_at (cue_events second_field (cue ∷ later)) n ≡ None =
+      let none : event_at (cue_events in_field (cue ∷ later)) n ≡ None =
       shows_at n false test ∙ event_none (cue.show + 2) n rest apart_rest (omega arith) in
-      all_at n ∙ rw (test, none) (last (erases second_field hide n))
+      all_at n ∙ rw (test, none) (last (erases in_field hide n))
     where
       last : (u : Option Unit) → first_of u None ≡ u
       last None = refl
       last (Some unit) = refl
 
   -- at SHOW it is shown
-  pub at_show : event_at all_events cue.show ≡ Some (showing_unit second_field)
+  pub at_show : event_at all_events cue.show ≡ Some (showing_unit in_field)
   at_show = let test : (cue.show == cue.show) ≡ true = grind (arith, nat_tests) in all_at cue.show ∙ rw test refl
 
   -- behind SHOW the events behind it begin
@@ -296,7 +297,7 @@ module _ (second_field : Bool) (hide : Option ℕ) (cue : Cue) (later : List Cue
       let test : (n == cue.show) ≡ false = grind (arith, nat_tests) in
       all_at n ∙ rw (test, over hide hidden) (shows_at n false test)
     where
-      over : (h : Option ℕ) → IfSome h (λ x. x ≤ cue.show) → erases second_field h n ≡ None
+      over : (h : Option ℕ) → IfSome h (λ x. x ≤ cue.show) → erases in_field h n ≡ None
       over None hidden = refl
       over (Some h) hidden = let other : (n == h) ≡ false = grind (arith, nat_tests) in rw other refl
 
@@ -306,50 +307,50 @@ from-append n [] more from too = too
 from-append n (event ∷ events) more from too = (from.0, from-append n events more from.1 too)
 
 -- what shows a cue is at its SHOW
-shows_from : (second_field pop_on : Bool) (show : ℕ) → AreFrom show (if pop_on then control_event second_field show Eoc ∷ [] else [])
-shows_from second_field true show = (omega arith, tt)
-shows_from second_field false show = tt
+shows_from : (in_field : FieldNumber) (pop_on : Bool) (show : ℕ) → AreFrom show (if pop_on then control_event in_field show Eoc ∷ [] else [])
+shows_from in_field true show = (omega arith, tt)
+shows_from in_field false show = tt
 
 -- what hides it is later
-hides_from_at : (second_field replaced : Bool) (show hide : ℕ) → show < hide → AreFrom show (if replaced then [] else control_event second_field hide Edm ∷ [])
-hides_from_at second_field true show hide later = tt
-hides_from_at second_field false show hide later = (omega arith, tt)
+hides_from_at : (in_field : FieldNumber) (replaced : Bool) (show hide : ℕ) → show < hide → AreFrom show (if replaced then [] else control_event in_field hide Edm ∷ [])
+hides_from_at in_field true show hide later = tt
+hides_from_at in_field false show hide later = (omega arith, tt)
 
-hides_from : (second_field : Bool) (show : ℕ) (hide : Option ℕ) (later : List Cue) → IfSome hide (λ h. show < h) → AreFrom show (hide_events second_field hide later)
-hides_from second_field show None later hidden = tt
-hides_from second_field show (Some hide) later hidden = hides_from_at second_field (is_replaced_at hide later) show hide hidden
+hides_from : (in_field : FieldNumber) (show : ℕ) (hide : Option ℕ) (later : List Cue) → IfSome hide (λ h. show < h) → AreFrom show (hide_events in_field hide later)
+hides_from in_field show None later hidden = tt
+hides_from in_field show (Some hide) later hidden = hides_from_at in_field (is_replaced_at hide later) show hide hidden
 
 -- the events of cues in sequence are at the SHOW of the first of them or later
-pub events_from : (second_field : Bool) (frames : ℕ) (cue : Cue) (later : List Cue) → AreInSequence 1 frames (cue ∷ later)
-    → AreFrom cue.show (cue_events second_field (cue ∷ later))
-events_from second_field frames cue [] sequence =
-    from-append cue.show (show_events second_field cue ++ hide_events second_field cue.hide []) []
-    (from-append cue.show (show_events second_field cue) (hide_events second_field cue.hide []) (shows_from second_field (is_pop cue.kind) cue.show)
-    (hides_from second_field cue.show cue.hide [] sequence.hidden)) tt
-events_from second_field frames cue (next ∷ later) sequence =
-    from-append cue.show (show_events second_field cue ++ hide_events second_field cue.hide (next ∷ later)) (cue_events second_field (next ∷ later))
-    (from-append cue.show (show_events second_field cue) (hide_events second_field cue.hide (next ∷ later)) (shows_from second_field (is_pop cue.kind) cue.show)
-    (hides_from second_field cue.show cue.hide (next ∷ later) sequence.0.hidden))
-    (from_earlier cue.show next.show (cue_events second_field (next ∷ later)) (next_shown next later sequence.1.loaded sequence.2)
-    (events_from second_field frames next later sequence.2))
+pub events_from : (in_field : FieldNumber) (frames : ℕ) (cue : Cue) (later : List Cue) → AreInSequence 1 frames (cue ∷ later)
+    → AreFrom cue.show (cue_events in_field (cue ∷ later))
+events_from in_field frames cue [] sequence =
+    from-append cue.show (show_events in_field cue ++ hide_events in_field cue.hide []) []
+    (from-append cue.show (show_events in_field cue) (hide_events in_field cue.hide []) (shows_from in_field (is_pop cue.kind) cue.show)
+    (hides_from in_field cue.show cue.hide [] sequence.hidden)) tt
+events_from in_field frames cue (next ∷ later) sequence =
+    from-append cue.show (show_events in_field cue ++ hide_events in_field cue.hide (next ∷ later)) (cue_events in_field (next ∷ later))
+    (from-append cue.show (show_events in_field cue) (hide_events in_field cue.hide (next ∷ later)) (shows_from in_field (is_pop cue.kind) cue.show)
+    (hides_from in_field cue.show cue.hide (next ∷ later) sequence.0.hidden))
+    (from_earlier cue.show next.show (cue_events in_field (next ∷ later)) (next_shown next later sequence.1.loaded sequence.2)
+    (events_from in_field frames next later sequence.2))
   where
     next_shown : (next : Cue) (later : List Cue) → cue.show ≤ next.load → AreInSequence 1 frames (next ∷ later) → cue.show ≤ next.show
     next_shown next [] behind sequence = let shown : next.load < next.show = sequence.loaded in omega arith
     next_shown next (third ∷ later) behind sequence = let shown : next.load < next.show = sequence.0.loaded in omega arith
 
 -- the events of a cue that isn't pop-on, and of those behind it
-pub plain_events : (second_field : Bool) (cue : Cue) (later : List Cue) → is_pop cue.kind ≡ false
-    → cue_events second_field (cue ∷ later) ≡ events_behind second_field cue later
-plain_events second_field cue later plain = rw plain refl
+pub plain_events : (in_field : FieldNumber) (cue : Cue) (later : List Cue) → is_pop cue.kind ≡ false
+    → cue_events in_field (cue ∷ later) ≡ events_behind in_field cue later
+plain_events in_field cue later plain = rw plain refl
 
 -- what hides the former cue, and these events
-pub plain_at : (second_field : Bool) (hide : Option ℕ) (cue : Cue) (later : List Cue) (events : List Event) (n : ℕ) → is_pop cue.kind ≡ false
-    → event_at (hide_events second_field hide (cue ∷ later) ++ events) n ≡ first_of (erases second_field hide n) (event_at events n)
-plain_at second_field None cue later events n plain = refl
-plain_at second_field (Some hide) cue later events n plain = rw plain (by_test (n == hide) refl)
+pub plain_at : (in_field : FieldNumber) (hide : Option ℕ) (cue : Cue) (later : List Cue) (events : List Event) (n : ℕ) → is_pop cue.kind ≡ false
+    → event_at (hide_events in_field hide (cue ∷ later) ++ events) n ≡ first_of (erases in_field hide n) (event_at events n)
+plain_at in_field None cue later events n plain = refl
+plain_at in_field (Some hide) cue later events n plain = rw plain (by_test (n == hide) refl)
   where
     by_test : (b : Bool) → (n == hide) ≡ b
-        → event_at (control_event second_field hide Edm ∷ events) n ≡ first_of (erases second_field (Some hide) n) (event_at events n)
+        → event_at (control_event in_field hide Edm ∷ events) n ≡ first_of (erases in_field (Some hide) n) (event_at events n)
     by_test true test = rw test refl
     by_test false test = rw test refl
 
@@ -359,10 +360,10 @@ writes_from None load = load
 writes_from (Some hide) load = max load (suc hide)
 
 -- a free frame from LOAD on is one of these
-pub plain_free : (second_field : Bool) (hide : Option ℕ) (cue : Cue) (later : List Cue) (events : List Event) (f : ℕ) → is_pop cue.kind ≡ false
-    → IfSome hide (λ h. h ≤ cue.load) → cue.load ≤ f → IsFree (hide_events second_field hide (cue ∷ later) ++ events) f → writes_from hide cue.load ≤ f
-plain_free second_field None cue later events f plain hidden from free = from
-plain_free second_field (Some hide) cue later events f plain hidden from free =
+pub plain_free : (in_field : FieldNumber) (hide : Option ℕ) (cue : Cue) (later : List Cue) (events : List Event) (f : ℕ) → is_pop cue.kind ≡ false
+    → IfSome hide (λ h. h ≤ cue.load) → cue.load ≤ f → IsFree (hide_events in_field hide (cue ∷ later) ++ events) f → writes_from hide cue.load ≤ f
+plain_free in_field None cue later events f plain hidden from free = from
+plain_free in_field (Some hide) cue later events f plain hidden from free =
     let held : hide ≢ f = (rw plain at free).0 in
     let up : hide ≤ f = omega arith in
     omega arith

@@ -3,6 +3,7 @@
 use Rattle.std.specs.Prelude.{◌≡◌, ℕ, ◌+◌, false, List, [], ◌∷◌, ◌++◌, map, replicate, reverse, take, Option, Some, None}
 use Rattle.std.specs.List.{range_with_len}
 use Rattle.line21_codes.specs.declared.channels.Chan.TheVariants.{Cc1}
+use Rattle.line21_codes.specs.declared.channels.FieldNumber.TheVariants.{One}
 use Rattle.line21_codes.specs.declared.pairs.Pair.{Pair}
 use Rattle.line21_codes.specs.declared.styles.Cell.{Cell}
 use Rattle.line21_codes.specs.declared.styles.Colour.{Colour}
@@ -44,7 +45,7 @@ picture_rows picture = map (λ row. map (picture row) (range_with_len 0 32)) (ra
 
 -- what the receiver of field 1 displays at a frame, by the pairs up to that of the frame
 abbrev pub displayed_at : List Pair → ℕ → Picture
-displayed_at pairs frame = (after false (reverse (take (frame + 1) pairs))).first.displayed
+displayed_at pairs frame = (after One (reverse (take (frame + 1) pairs))).first.displayed
 
 -- an example: the cues, the frames in which their units begin, and the pairs of all frames
 pub record Example : Type 0 where

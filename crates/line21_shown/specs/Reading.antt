@@ -1,6 +1,8 @@
 -- How a receiver reads a field whose control pairs are doubled: each unit acts once, in the frame in which it begins
 -- (CTA-608-E; 47 CFR 79.101, control codes are sent twice).
-use Rattle.std.specs.Prelude.{◌≡◌, ⊤, ℕ, zero, suc, Bool, false, List, [], ◌∷◌, Option, Some, None}
+use Rattle.std.specs.Prelude.{◌≡◌, ⊤, ℕ, zero, suc, false, List, [], ◌∷◌, Option, Some, None}
+use Rattle.line21_codes.specs.declared.channels.FieldNumber.{FieldNumber}
+use Rattle.line21_codes.specs.declared.channels.DataChannel.TheVariants.{One}
 use Rattle.line21_codes.specs.declared.codes.Code.{Code}
 use Rattle.line21_codes.specs.declared.codes.Code.TheVariants.{Null, Text, Xds, Control}
 use Rattle.line21_codes.specs.declared.pairs.Pair.{Pair}
@@ -30,7 +32,7 @@ acts timeline (suc n) = does_unit (timeline n) (acts timeline n)
 
 -- the state of a field whose data channel 1 alone was written for
 abbrev pub first_alone : ChannelState → FieldState
-first_alone s = record { first = s; second = new_channel; selected = false; xds = false }
+first_alone s = record { first = s; second = new_channel; selected = One; xds = false }
 
 -- the code is one of captions in data channel 1
 abbrev pub IsForFirst : Code → Type 0
@@ -47,5 +49,5 @@ pub record IsCaptioned (timeline : Timeline) : Type 0 where
 
 -- the pairs of the slots mean what the units do, one after another, also between a pair and its repeat
 abbrev pub ColumnsAreRead : Type 0
-ColumnsAreRead = (second_field : Bool) (timeline : Timeline) → IsCaptioned timeline → (n : ℕ)
-    → after second_field (pairs_before (slot timeline) n) ≡ first_alone (acts timeline n)
+ColumnsAreRead = (in_field : FieldNumber) (timeline : Timeline) → IsCaptioned timeline → (n : ℕ)
+    → after in_field (pairs_before (slot timeline) n) ≡ first_alone (acts timeline n)
