@@ -4,7 +4,8 @@ use Rattle.std.proofs.Common.{◌≡◌, ℕ, zero, suc, ◌+◌, ◌*◌, ◌<�
 use Rattle.std.specs.Prelude.{IfSome}
 use Rattle.std.specs.List.{AllByRecursion, range_with_len}
 use Rattle.std.proofs.lemmas.List.{length-map}
-use Rattle.line21_codes.specs.Channels.{is_in_second_field}
+use Rattle.line21_codes.specs.declared.channels.FieldNumber.{FieldNumber}
+use Rattle.line21_codes.specs.Channels.{field_of_channel}
 use Rattle.line21_codes.specs.declared.channels.Chan.{Chan}
 use Rattle.line21_slots.specs.declared.cadence.Cadence.TheVariants.{EveryFrame}
 use Rattle.line21_author.specs.Channels.{cues_on, is_on}
@@ -40,28 +41,28 @@ beat_append : (xs ys : List Event) → AreOnBeat xs → AreOnBeat ys → AreOnBe
 beat_append [] ys first second = second
 beat_append (x ∷ xs) ys first second = (first.0, beat_append xs ys first.1 second)
 
-show_beat : (second_field : Bool) (cue : Cue) → cue.show % 90 ≡ 60 → AreOnBeat (show_events second_field cue)
-show_beat second_field cue beat = at (is_pop cue.kind) refl
+show_beat : (in_field : FieldNumber) (cue : Cue) → cue.show % 90 ≡ 60 → AreOnBeat (show_events in_field cue)
+show_beat in_field cue beat = at (is_pop cue.kind) refl
   where
-    at : (b : Bool) → is_pop cue.kind ≡ b → AreOnBeat (show_events second_field cue)
+    at : (b : Bool) → is_pop cue.kind ≡ b → AreOnBeat (show_events in_field cue)
     at true is = rw is (beat, tt)
     at false is = rw is tt
 
-hide_beat : (second_field : Bool) (hide : Option ℕ) (later : List Cue) → IfSome hide (λ frame. frame % 90 ≡ 60) → AreOnBeat (hide_events second_field hide later)
-hide_beat second_field None later beat = tt
-hide_beat second_field (Some hide) later beat = at (is_replaced_at hide later) refl
+hide_beat : (in_field : FieldNumber) (hide : Option ℕ) (later : List Cue) → IfSome hide (λ frame. frame % 90 ≡ 60) → AreOnBeat (hide_events in_field hide later)
+hide_beat in_field None later beat = tt
+hide_beat in_field (Some hide) later beat = at (is_replaced_at hide later) refl
   where
-    at : (b : Bool) → is_replaced_at hide later ≡ b → AreOnBeat (hide_events second_field (Some hide) later)
+    at : (b : Bool) → is_replaced_at hide later ≡ b → AreOnBeat (hide_events in_field (Some hide) later)
     at true is = rw is tt
     at false is = rw is (beat, tt)
 
-events_beat : (second_field : Bool) (cues : List Cue) → AllByRecursion IsOnBeat cues → AreOnBeat (cue_events second_field cues)
-events_beat second_field [] beat = tt
-events_beat second_field (cue ∷ later) beat =
-    beat_append (show_events second_field cue ++ hide_events second_field cue.hide later) (cue_events second_field later)
-    (beat_append (show_events second_field cue) (hide_events second_field cue.hide later) (show_beat second_field cue beat.0.show)
-    (hide_beat second_field cue.hide later beat.0.hide))
-    (events_beat second_field later beat.1)
+events_beat : (in_field : FieldNumber) (cues : List Cue) → AllByRecursion IsOnBeat cues → AreOnBeat (cue_events in_field cues)
+events_beat in_field [] beat = tt
+events_beat in_field (cue ∷ later) beat =
+    beat_append (show_events in_field cue ++ hide_events in_field cue.hide later) (cue_events in_field later)
+    (beat_append (show_events in_field cue) (hide_events in_field cue.hide later) (show_beat in_field cue beat.0.show)
+    (hide_beat in_field cue.hide later beat.0.hide))
+    (events_beat in_field later beat.1)
 
 -- the slots up to 58 behind a multiple of 90 are free
 beat_free : (events : List Event) (n : ℕ) → AreOnBeat events → n % 90 < 58 → IsFree events n
@@ -114,4 +115,4 @@ pub channel_placed : (count : ℕ) (channel : Chan)
     → HasSlotsBehind (channel_events channel (slot_cues (load_list count) channel)) [] (channel_pieces channel (slot_cues (load_list count) channel))
 channel_placed count channel =
     captions_placed channel (channel_events channel (slot_cues (load_list count) channel))
-    (events_beat (is_in_second_field channel) (cues_on channel (captions 0 count)) (on_beat channel 0 count)) 1 0 count [] (omega arith)
+    (events_beat (field_of_channel channel) (cues_on channel (captions 0 count)) (on_beat channel 0 count)) 1 0 count [] (omega arith)

@@ -1,9 +1,10 @@
 -- A caption of a load has few units: on a channel 25 at most, in a window 23, each of at most seven bytes.
-use Rattle.std.proofs.Common.{◌≡◌, ℕ, zero, suc, ◌+◌, ◌*◌, ◌≤◌, ◌%◌, nat_le, true, false, List, [], ◌∷◌, ◌++◌, length, map, Option, Some, None, unwrap_or, refl, arith, length-append}
+use Rattle.std.proofs.Common.{◌≡◌, ℕ, zero, suc, ◌+◌, ◌*◌, ◌≤◌, ◌%◌, nat_le, true, List, [], ◌∷◌, ◌++◌, length, map, Option, Some, None, unwrap_or, refl, arith, length-append}
 use Rattle.std.specs.List.{AllByRecursion, cons_option, filter_map}
 use Rattle.std.proofs.lemmas.Bool.Decides.{nat_tests}
 use Rattle.std.proofs.lemmas.List.{length-map}
 use Rattle.std.proofs.lemmas.List.Elements.{recursion_from_All}
+use Rattle.line21_codes.specs.declared.channels.FieldNumber.TheVariants.{One, Two}
 use Rattle.line21_codes.specs.Spellings.{spelling_of}
 use Rattle.line21_codes.specs.declared.channels.Chan.TheVariants.{Cc1, Cc3}
 use Rattle.line21_codes.specs.declared.characters.Spelling.{Spelling}
@@ -62,14 +63,14 @@ captioned k kind run = record { load = 90 * k; show = 90 * k + 60; hide = Some (
 pop_few : (k : ℕ) (text : List ℕ) → length (text_codes text) ≤ 21 → length (units_of (captioned k (Pop Cc1) (line21_run 14 4 White text))) ≤ 29
 pop_few k text few =
     let cue = captioned k (Pop Cc1) (line21_run 14 4 White text) in
-    let same = length-map (cue_codes cue) (unit_of false) in
+    let same = length-map (cue_codes cue) (unit_of One) in
     let behind = length-append (text_codes text) [] in
     omega (arith, few, same, behind)
 
 paint_few : (k : ℕ) (text : List ℕ) → length (text_codes text) ≤ 21 → length (units_of (captioned k (Paint Cc3) (line21_run 15 8 Yellow text))) ≤ 29
 paint_few k text few =
     let cue = captioned k (Paint Cc3) (line21_run 15 8 Yellow text) in
-    let same = length-map (cue_codes cue) (unit_of true) in
+    let same = length-map (cue_codes cue) (unit_of Two) in
     let behind = length-append (text_codes text) [] in
     omega (arith, few, same, behind)
 
