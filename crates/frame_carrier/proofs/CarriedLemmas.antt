@@ -9,6 +9,8 @@ use Rattle.std.proofs.lemmas.List.Elements.{All-append, All-cons, All-from_recur
 use Rattle.cc_base.specs.Rate.{rate_code, triplets_in_frame}
 use Rattle.cc_base.specs.declared.rate.Rate.{Rate}
 use Rattle.cc_base.specs.declared.rate.Rate.TheVariants as rates
+use Rattle.line21_codes.specs.declared.channels.FieldNumber.{FieldNumber}
+use Rattle.line21_codes.specs.declared.channels.FieldNumber.TheVariants.{One, Two}
 use Rattle.line21_codes.specs.declared.pairs.Pair.{Pair}
 use Rattle.cc_data.specs.declared.triplet.Triplet.{Triplet}
 use Rattle.cc_data.specs.Triplets.{all_written, filler, written}
@@ -208,64 +210,74 @@ packet_channel count (byte ∷ blocks) =
     (record { valid = refl; kind = omega arith }) (further_channel blocks)
 
 -- no filler has a pair
-fillers_empty : (second_field : Bool) (n : ℕ) → field_pairs second_field (replicate n filler) ≡ []
-fillers_empty second_field zero = refl
-fillers_empty second_field (suc n) = fillers_empty second_field n
+fillers_empty : (in_field : FieldNumber) (n : ℕ) → field_pairs in_field (replicate n filler) ≡ []
+fillers_empty in_field zero = refl
+fillers_empty in_field (suc n) = fillers_empty in_field n
 
 -- nor has a triplet of a channel packet
-of_no_field : (t : Triplet) (second_field : Bool) → 2 ≤ t.kind → (t.valid && (t.kind == field_kind second_field)) ≡ false
-of_no_field t second_field high = at t.valid
+of_no_field : (t : Triplet) (in_field : FieldNumber) → 2 ≤ t.kind → (t.valid && (t.kind == field_kind in_field)) ≡ false
+of_no_field t in_field high = at t.valid
   where
-    other : (field : Bool) → (t.kind == field_kind field) ≡ false
-    other false = grind (arith, nat_tests)
-    other true = grind (arith, nat_tests)
+    other : (each : FieldNumber) → (t.kind == field_kind each) ≡ false
+    other One = grind (arith, nat_tests)
+    other Two = grind (arith, nat_tests)
 
-    at : (valid : Bool) → (valid && (t.kind == field_kind second_field)) ≡ false
-    at true = other second_field
+    at : (valid : Bool) → (valid && (t.kind == field_kind in_field)) ≡ false
+    at true = other in_field
     at false = refl
 
-channel_empty : (second_field : Bool) (ts : List Triplet) → All IsChannelTriplet ts → field_pairs second_field ts ≡ []
-channel_empty second_field [] all = refl
-channel_empty second_field (t ∷ ts) all =
+channel_empty : (in_field : FieldNumber) (ts : List Triplet) → All IsChannelTriplet ts → field_pairs in_field ts ≡ []
+channel_empty in_field [] all = refl
+channel_empty in_field (t ∷ ts) all =
     let here = All-head IsChannelTriplet t ts all in
-    let none = of_no_field t second_field here.kind in
-    rw none (channel_empty second_field ts (All-tail IsChannelTriplet t ts all))
+    let none = of_no_field t in_field here.kind in
+    rw none (channel_empty in_field ts (All-tail IsChannelTriplet t ts all))
+
+-- what is in field 1, and in the other field nothing
+abbrev in_one : FieldNumber → List Pair → List Pair
+in_one One pairs = pairs
+in_one Two pairs = []
+
+-- and in field 2
+abbrev in_two : FieldNumber → List Pair → List Pair
+in_two One pairs = []
+in_two Two pairs = pairs
 
 -- each field has its pair
-one_is : (second_field : Bool) (one : Option Pair) → field_pairs second_field (field_triplets 0 one) ≡ (if second_field then [] else option_to_list one)
-one_is false None = refl
-one_is false (Some one) = refl
-one_is true None = refl
-one_is true (Some one) = refl
+one_is : (in_field : FieldNumber) (one : Option Pair) → field_pairs in_field (field_triplets 0 one) ≡ in_one in_field (option_to_list one)
+one_is One None = refl
+one_is One (Some one) = refl
+one_is Two None = refl
+one_is Two (Some one) = refl
 
-two_is : (second_field : Bool) (two : Option Pair) → field_pairs second_field (field_triplets 1 two) ≡ (if second_field then option_to_list two else [])
-two_is false None = refl
-two_is false (Some two) = refl
-two_is true None = refl
-two_is true (Some two) = refl
+two_is : (in_field : FieldNumber) (two : Option Pair) → field_pairs in_field (field_triplets 1 two) ≡ in_two in_field (option_to_list two)
+two_is One None = refl
+two_is One (Some two) = refl
+two_is Two None = refl
+two_is Two (Some two) = refl
 
-both_is : (second_field : Bool) (carried : FrameBytes)
-    → (if second_field then [] else option_to_list carried.one) ++ (if second_field then option_to_list carried.two else []) ≡ option_to_list (pair_in second_field carried)
-both_is false carried = append-nil (option_to_list carried.one)
-both_is true carried = refl
+both_is : (in_field : FieldNumber) (carried : FrameBytes)
+    → in_one in_field (option_to_list carried.one) ++ in_two in_field (option_to_list carried.two) ≡ option_to_list (pair_in in_field carried)
+both_is One carried = append-nil (option_to_list carried.one)
+both_is Two carried = refl
 
-field_is : (rate : Rate) (carried : FrameBytes) (packet : List Triplet) (second_field : Bool) → All IsChannelTriplet packet
-    → field_pairs second_field (frame_triplets rate carried packet) ≡ option_to_list (pair_in second_field carried)
-field_is rate carried packet second_field channel =
+field_is : (rate : Rate) (carried : FrameBytes) (packet : List Triplet) (in_field : FieldNumber) → All IsChannelTriplet packet
+    → field_pairs in_field (frame_triplets rate carried packet) ≡ option_to_list (pair_in in_field carried)
+field_is rate carried packet in_field channel =
     let fill = replicate (triplets_in_frame rate - length (front_triplets carried packet)) filler in
-    let all = flat_map-append (field_pair second_field) (front_triplets carried packet) fill in
-    let front = flat_map-append (field_pair second_field) (field_triplets 0 carried.one) (field_triplets 1 carried.two ++ packet) in
-    let back = flat_map-append (field_pair second_field) (field_triplets 1 carried.two) packet in
-    let none = fillers_empty second_field (triplets_in_frame rate - length (front_triplets carried packet)) in
-    let service = channel_empty second_field packet channel in
-    let one = one_is second_field carried.one in
-    let two = two_is second_field carried.two in
-    all ∙ ap (λ l. field_pairs second_field (front_triplets carried packet) ++ l) none ∙ append-nil (field_pairs second_field (front_triplets carried packet))
-    ∙ front ∙ ap (λ l. field_pairs second_field (field_triplets 0 carried.one) ++ l)
-    (back ∙ ap (λ l. field_pairs second_field (field_triplets 1 carried.two) ++ l) service ∙ append-nil (field_pairs second_field (field_triplets 1 carried.two)))
-    ∙ ap (λ l. l ++ field_pairs second_field (field_triplets 1 carried.two)) one
-    ∙ ap (λ l. (if second_field then [] else option_to_list carried.one) ++ l) two
-    ∙ both_is second_field carried
+    let all = flat_map-append (field_pair in_field) (front_triplets carried packet) fill in
+    let front = flat_map-append (field_pair in_field) (field_triplets 0 carried.one) (field_triplets 1 carried.two ++ packet) in
+    let back = flat_map-append (field_pair in_field) (field_triplets 1 carried.two) packet in
+    let none = fillers_empty in_field (triplets_in_frame rate - length (front_triplets carried packet)) in
+    let service = channel_empty in_field packet channel in
+    let one = one_is in_field carried.one in
+    let two = two_is in_field carried.two in
+    all ∙ ap (λ l. field_pairs in_field (front_triplets carried packet) ++ l) none ∙ append-nil (field_pairs in_field (front_triplets carried packet))
+    ∙ front ∙ ap (λ l. field_pairs in_field (field_triplets 0 carried.one) ++ l)
+    (back ∙ ap (λ l. field_pairs in_field (field_triplets 1 carried.two) ++ l) service ∙ append-nil (field_pairs in_field (field_triplets 1 carried.two)))
+    ∙ ap (λ l. l ++ field_pairs in_field (field_triplets 1 carried.two)) one
+    ∙ ap (λ l. in_one in_field (option_to_list carried.one) ++ l) two
+    ∙ both_is in_field carried
 
 -- the triplets of channel packets are those of the frame's
 first_none : (pair : Option Pair) → channel_triplets (field_triplets 0 pair) ≡ []
@@ -318,7 +330,7 @@ within_room rate frame carried count roomy =
     let channel = packet_channel count carried.blocks.items in
     record {
       number = ap length same ∙ frame_number rate carried packet roomy;
-      pairs = λ second_field. ap (field_pairs second_field) same ∙ field_is rate carried packet second_field channel;
+      pairs = λ in_field. ap (field_pairs in_field) same ∙ field_is rate carried packet in_field channel;
       service = packet_channel_is rate frame carried count;
     }
 
@@ -339,57 +351,57 @@ module _ (rate : Rate) (columns : Columns) (are : AreBytePairs columns) (bytes :
   columns_file frame (suc n) =
       joined (frame_packet rate frame (columns frame) (channel_packet_of columns frame) ∷ []) (column_packets rate columns (suc frame) n)
       (frame_bytes rate frame (columns frame) (channel_packet_of columns frame)) (column_bytes rate columns (suc frame) n)
-      (frame_file rate frame (columns frame) (channel_packet_of columns frame) (are false frame) (are true frame)
+      (frame_file rate frame (columns frame) (channel_packet_of columns frame) (are One frame) (are Two frame)
       (packet_bytes_are (packets_before columns frame) (columns frame).blocks.items (blocks_few rate (columns frame) (packets_before columns frame) (roomy frame)) (bytes frame))
       (roomy frame))
       (columns_file (suc frame) n)
 
 -- a field's pairs from a frame on
-pairs_from : Bool → Columns → ℕ → ℕ → List Pair
-pairs_from second_field columns frame zero = []
-pairs_from second_field columns frame (suc k) = option_to_list (pair_in second_field (columns frame)) ++ pairs_from second_field columns (suc frame) k
+pairs_from : FieldNumber → Columns → ℕ → ℕ → List Pair
+pairs_from in_field columns frame zero = []
+pairs_from in_field columns frame (suc k) = option_to_list (pair_in in_field (columns frame)) ++ pairs_from in_field columns (suc frame) k
 
 -- those of one more frame at the end
-pairs_from-more : (second_field : Bool) (columns : Columns) (frame k : ℕ)
-    → pairs_from second_field columns frame (suc k) ≡ pairs_from second_field columns frame k ++ option_to_list (pair_in second_field (columns (frame + k)))
+pairs_from-more : (in_field : FieldNumber) (columns : Columns) (frame k : ℕ)
+    → pairs_from in_field columns frame (suc k) ≡ pairs_from in_field columns frame k ++ option_to_list (pair_in in_field (columns (frame + k)))
 unfolding pairs_from
-pairs_from-more second_field columns frame zero =
+pairs_from-more in_field columns frame zero =
     let e : frame ≡ frame + 0 = omega arith in
-    append-nil (option_to_list (pair_in second_field (columns frame))) ∙ ap (λ m. option_to_list (pair_in second_field (columns m))) e
-pairs_from-more second_field columns frame (suc k) =
+    append-nil (option_to_list (pair_in in_field (columns frame))) ∙ ap (λ m. option_to_list (pair_in in_field (columns m))) e
+pairs_from-more in_field columns frame (suc k) =
     let e : suc frame + k ≡ frame + suc k = omega arith in
-    let here = option_to_list (pair_in second_field (columns frame)) in
-    ap (λ rest. here ++ rest) (pairs_from-more second_field columns (suc frame) k)
-    ∙ ap (λ m. here ++ (pairs_from second_field columns (suc frame) k ++ option_to_list (pair_in second_field (columns m)))) e
-    ∙ sym (append_assoc here (pairs_from second_field columns (suc frame) k) (option_to_list (pair_in second_field (columns (frame + suc k)))))
+    let here = option_to_list (pair_in in_field (columns frame)) in
+    ap (λ rest. here ++ rest) (pairs_from-more in_field columns (suc frame) k)
+    ∙ ap (λ m. here ++ (pairs_from in_field columns (suc frame) k ++ option_to_list (pair_in in_field (columns m)))) e
+    ∙ sym (append_assoc here (pairs_from in_field columns (suc frame) k) (option_to_list (pair_in in_field (columns (frame + suc k)))))
 
 -- from frame 0 on they are the first ones
-pairs_from-first : (second_field : Bool) (columns : Columns) (k : ℕ) → pairs_from second_field columns 0 k ≡ first_pairs second_field columns k
+pairs_from-first : (in_field : FieldNumber) (columns : Columns) (k : ℕ) → pairs_from in_field columns 0 k ≡ first_pairs in_field columns k
 unfolding pairs_from
-pairs_from-first second_field columns zero = refl
-pairs_from-first second_field columns (suc k) =
+pairs_from-first in_field columns zero = refl
+pairs_from-first in_field columns (suc k) =
     let e : 0 + k ≡ k = omega arith in
-    pairs_from-more second_field columns 0 k
-    ∙ ap (λ front. front ++ option_to_list (pair_in second_field (columns (0 + k)))) (pairs_from-first second_field columns k)
-    ∙ ap (λ m. first_pairs second_field columns k ++ option_to_list (pair_in second_field (columns m))) e
+    pairs_from-more in_field columns 0 k
+    ∙ ap (λ front. front ++ option_to_list (pair_in in_field (columns (0 + k)))) (pairs_from-first in_field columns k)
+    ∙ ap (λ m. first_pairs in_field columns k ++ option_to_list (pair_in in_field (columns m))) e
 
 -- a receiver gets the pairs of each field
-received_are : (second_field : Bool) (rate : Rate) (columns : Columns) (frame n k : ℕ) → k ≤ n
-    → received_pairs second_field (take k (column_packets rate columns frame n)) ≡ pairs_from second_field columns frame k
+received_are : (in_field : FieldNumber) (rate : Rate) (columns : Columns) (frame n k : ℕ) → k ≤ n
+    → received_pairs in_field (take k (column_packets rate columns frame n)) ≡ pairs_from in_field columns frame k
 unfolding pairs_from
-received_are second_field rate columns frame n zero below = refl
-received_are second_field rate columns frame zero (suc k) below = absurd (omega arith)
-received_are second_field rate columns frame (suc n) (suc k) below =
-    ap (λ pairs. pairs ++ received_pairs second_field (take k (column_packets rate columns (suc frame) n)))
-    (ap (field_pairs second_field)
+received_are in_field rate columns frame n zero below = refl
+received_are in_field rate columns frame zero (suc k) below = absurd (omega arith)
+received_are in_field rate columns frame (suc n) (suc k) below =
+    ap (λ pairs. pairs ++ received_pairs in_field (take k (column_packets rate columns (suc frame) n)))
+    (ap (field_pairs in_field)
     (packet_triplets_are rate frame (columns frame) (channel_packet_of columns frame) (packet_kinds (packets_before columns frame) (columns frame).blocks.items))
-    ∙ field_is rate (columns frame) (channel_packet_of columns frame) second_field (packet_channel (packets_before columns frame) (columns frame).blocks.items))
-    ∙ ap (λ rest. option_to_list (pair_in second_field (columns frame)) ++ rest) (received_are second_field rate columns (suc frame) n k (omega arith))
+    ∙ field_is rate (columns frame) (channel_packet_of columns frame) in_field (packet_channel (packets_before columns frame) (columns frame).blocks.items))
+    ∙ ap (λ rest. option_to_list (pair_in in_field (columns frame)) ++ rest) (received_are in_field rate columns (suc frame) n k (omega arith))
 
 -- the frames of a programme are carried
 pub frames_carried : FramesAreCarried
 frames_carried rate columns n are bytes roomy = record {
   file = columns_file rate columns are bytes roomy 0 n;
   room = λ frame. within_room rate frame (columns frame) (packets_before columns frame) (roomy frame);
-  received = λ second_field k below. received_are second_field rate columns 0 n k below ∙ pairs_from-first second_field columns k;
+  received = λ in_field k below. received_are in_field rate columns 0 n k below ∙ pairs_from-first in_field columns k;
 }

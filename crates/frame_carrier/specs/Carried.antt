@@ -1,9 +1,10 @@
 -- What is carried of a programme's frames: their bytes are a words file of their packets, each frame has the triplets that
 -- its rate asks, with the pair of each field in which it has a slot, and a receiver gets just these pairs.
-use Rattle.std.specs.Prelude.{◌≡◌, ℕ, ◌<◌, ◌≤◌, Bool, List, length, take, All, IfSome, option_to_list}
+use Rattle.std.specs.Prelude.{◌≡◌, ℕ, ◌<◌, ◌≤◌, List, length, take, All, IfSome, option_to_list}
 use Rattle.cc_data.specs.declared.triplet.Triplet.{Triplet}
 use Rattle.cc_base.specs.Rate.{triplets_in_frame}
 use Rattle.cc_base.specs.declared.rate.Rate.{Rate}
+use Rattle.line21_codes.specs.declared.channels.FieldNumber.{FieldNumber}
 use Rattle.line21_codes.specs.declared.pairs.Pair.{Pair}
 use Rattle.cdp_packets.specs.Packets.{Packet as Frame}
 use Rattle.channel_packets.specs.ChannelPackets.{channel_triplets}
@@ -22,7 +23,7 @@ pub record IsBytePair (pair : Pair) : Type 0 where
 
 -- so are the pairs of columns
 abbrev pub AreBytePairs : Columns → Type 0
-AreBytePairs columns = (second_field : Bool) (frame : ℕ) → IfSome (pair_in second_field (columns frame)) IsBytePair
+AreBytePairs columns = (in_field : FieldNumber) (frame : ℕ) → IfSome (pair_in in_field (columns frame)) IsBytePair
 
 -- the pairs of a frame and its channel packet have as many triplets as the rate asks, at most
 abbrev pub AreRoomy : Rate → Columns → Type 0
@@ -36,15 +37,15 @@ AreByteBlocks columns = (frame : ℕ) → All (λ byte. byte < 256) (columns fra
 -- the field, and the others are those of the frame's channel packet
 pub record IsCarriedInRoom (rate : Rate) (bytes : FrameBytes) (packet : List Triplet) (frame : Frame) : Type 0 where
   pub number : length (packet_triplets frame) ≡ triplets_in_frame rate
-  pub pairs : (second_field : Bool) → field_pairs second_field (packet_triplets frame) ≡ option_to_list (pair_in second_field bytes)
+  pub pairs : (in_field : FieldNumber) → field_pairs in_field (packet_triplets frame) ≡ option_to_list (pair_in in_field bytes)
   pub service : channel_triplets (packet_triplets frame) ≡ packet
 
 -- so many frames of columns are carried
 pub record AreCarried (rate : Rate) (columns : Columns) (n : ℕ) : Type 0 where
   pub file : IsFileOf (column_packets rate columns 0 n) (column_bytes rate columns 0 n)
   pub room : (frame : ℕ) → IsCarriedInRoom rate (columns frame) (channel_packet_of columns frame) (frame_packet rate frame (columns frame) (channel_packet_of columns frame))
-  pub received : (second_field : Bool) (k : ℕ) → k ≤ n
-      → received_pairs second_field (take k (column_packets rate columns 0 n)) ≡ first_pairs second_field columns k
+  pub received : (in_field : FieldNumber) (k : ℕ) → k ≤ n
+      → received_pairs in_field (take k (column_packets rate columns 0 n)) ≡ first_pairs in_field columns k
 
 -- the frames of a programme are carried, at any rate
 abbrev pub FramesAreCarried : Type 0
