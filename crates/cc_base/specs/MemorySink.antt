@@ -1,7 +1,9 @@
 -- What a sink over memory holds: the bytes written, its room, the puts that fail, and their counts.
-use Rattle.std.specs.Prelude.{ℕ, ◌+◌, ◌-◌, ◌^◌, ◌<◌, ◌⊎◌, ◌==◌, min, List, Contains, if◌then◌else◌}
+use Rattle.std.specs.Prelude.{◌≡◌, ◌↔◌, ℕ, ◌+◌, ◌-◌, ◌^◌, ◌<◌, ◌⊎◌, ◌==◌, min, List, Contains, if◌then◌else◌}
 use Rattle.std.specs.Prelude.{length}
 use Rattle.cc_base.specs.declared.memory_sink.MemorySink.{MemorySink}
+use Rattle.cc_base.specs.declared.streams.Put.{Put}
+use Rattle.cc_base.specs.declared.streams.Put.TheVariants as put
 
 -- the bytes written so far
 abbrev pub sink_written : MemorySink → List ℕ
@@ -30,3 +32,16 @@ RefusesNow s n = (0 < n) × (((sink_puts s < 2 ^ 64 - 1) × Contains (sink_faili
 -- the number of the next put, after a put of a piece of n bytes
 abbrev pub puts_after : ℕ → ℕ → ℕ
 puts_after puts n = if n == 0 then puts else min (puts + 1) (2 ^ 64 - 1)
+
+-- what a put of a piece of n bytes does to a sink over memory, beside what it does to any sink
+pub record PutsInMemory (old new : MemorySink) (answer : Put) (n : ℕ) : Type 0 where
+  -- it fails exactly where a put of so many bytes fails now
+  pub fails : (answer ≡ put.Failed) ↔ RefusesNow old n
+  -- and then nothing is written
+  pub nothing : answer ≡ put.Failed → sink_written new ≡ sink_written old
+  -- the room stays
+  pub room : sink_room new ≡ sink_room old
+  -- and so do the numbers of the puts that fail
+  pub failing : sink_failing new ≡ sink_failing old
+  -- the put is counted, unless its piece is empty
+  pub puts : sink_puts new ≡ puts_after (sink_puts old) n

@@ -1,7 +1,9 @@
 -- What the sources over memory hold: the bytes left, the sizes of their pieces, the calls that fail, and their counts.
-use Rattle.std.specs.Prelude.{ℕ, ◌-◌, ◌%◌, ◌^◌, ◌<◌, max, List, [], ◌∷◌, drop, length, slice_index, Contains}
+use Rattle.std.specs.Prelude.{◌≡◌, ◌↔◌, ℕ, ◌+◌, ◌-◌, ◌%◌, ◌^◌, ◌<◌, max, min, List, [], ◌∷◌, drop, length, slice_index, Contains}
 use Rattle.cc_base.specs.declared.memory_source.MemorySource.{MemorySource}
 use Rattle.cc_base.specs.declared.memory_source.SteadySource.{SteadySource}
+use Rattle.cc_base.specs.declared.streams.Took.{Took}
+use Rattle.cc_base.specs.declared.streams.Took.TheVariants.{Failed, Got}
 
 -- the bytes that the source still has
 abbrev pub source_left : MemorySource → List ℕ
@@ -35,6 +37,19 @@ most_at (size ∷ sizes) call = max (slice_index (size ∷ sizes) (call % length
 -- the most bytes that the next call gives
 abbrev pub most_of : MemorySource → ℕ
 most_of s = most_at (source_pieces s) (source_calls s)
+
+-- what a take into a buffer of this length does to a source over memory, beside what it does to any source
+pub record TakesFromMemory (old new : MemorySource) (answer : Took) (buffer : ℕ) : Type 0 where
+  -- it fails exactly where the next call fails
+  pub fails : (answer ≡ Failed) ↔ FailsNow old
+  -- it gives as many bytes as one call gives, and as are left, and fit
+  pub most : (n : ℕ) → answer ≡ Got n → n ≡ min (min (most_of old) (length (source_left old))) buffer
+  -- the sizes of the pieces stay
+  pub pieces : source_pieces new ≡ source_pieces old
+  -- and so do the numbers of the calls that fail
+  pub failing : source_failing new ≡ source_failing old
+  -- the call is counted
+  pub calls : source_calls new ≡ min (source_calls old + 1) (2 ^ 64 - 1)
 
 -- the bytes that a source which never fails still has
 abbrev pub steady_left : SteadySource → List ℕ

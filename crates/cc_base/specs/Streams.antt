@@ -1,6 +1,6 @@
 -- What a take and a put do to the bytes that a source has left and a sink has written, where these are told, and to the
 -- counts of their faults.
-use Rattle.std.specs.Prelude.{◌≡◌, ℕ, ◌+◌, ◌-◌, ◌^◌, ◌≤◌, min, List, length, take, Option}
+use Rattle.std.specs.Prelude.{◌≡◌, ℕ, ◌+◌, ◌-◌, ◌^◌, ◌≤◌, min, List, length, take, Option, IfSome}
 use Rattle.std.specs.Io.KnownBytes.{Appends, Consumes, IsAtEnd, Keeps}
 use Rattle.cc_base.specs.declared.streams.Put.{Put}
 use Rattle.cc_base.specs.declared.streams.Put.TheVariants as put
@@ -40,3 +40,12 @@ PutsEmpty old new answer piece = length piece ≡ 0 → (answer ≡ put.Done) ×
 -- at most so many bytes were taken
 abbrev pub TakesWithin : ℕ → Option (List ℕ) → Option (List ℕ) → Type 0
 TakesWithin limit old new = (taken : List ℕ) × Consumes old new taken × (length taken ≤ limit)
+
+-- these are all bytes that a source had, taken from it within a limit
+pub record IsWhole (limit : ℕ) (old new : Option (List ℕ)) (whole : List ℕ) : Type 0 where
+  -- they are what was left, where that is told
+  pub bytes : IfSome old (λ left. whole ≡ left)
+  -- they were taken
+  pub taken : Consumes old new whole
+  -- they are no more than the limit allows
+  pub within : length whole ≤ limit

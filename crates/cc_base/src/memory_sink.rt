@@ -1,4 +1,4 @@
-ghost use Rattle.std.specs.Prelude.{◌≡◌, ◌↔◌, ◌-◌, ◌<◌, ◌≤◌, [], Some, IfOk, length, vec_capacity, vec_len};
+ghost use Rattle.std.specs.Prelude.{◌≡◌, ◌-◌, ◌≤◌, [], Some, IfOk, length, vec_capacity, vec_len};
 ghost use Rattle.cc_base.specs.Streams.{PutCause, Puts, PutsEmpty};
 
 use crate::memory_source::is_failing;
@@ -51,7 +51,7 @@ impl MemorySink {
 }
 
 impl Sink for MemorySink {
-    ghost use Rattle.cc_base.specs.MemorySink.{RefusesNow, puts_after, sink_failing, sink_faults, sink_puts, sink_room, sink_written};
+    ghost use Rattle.cc_base.specs.MemorySink.{PutsInMemory, sink_faults, sink_written};
 
     ghost written = { λ s. Some (sink_written s) };
 
@@ -61,11 +61,7 @@ impl Sink for MemorySink {
         ensures bytes { Puts (Some (sink_written self.old)) (Some (sink_written self.new)) result bytes.now }
         ensures cause { PutCause (sink_faults self.old) (sink_faults self.new) result }
         ensures empty { PutsEmpty (Some (sink_written self.old)) (Some (sink_written self.new)) result bytes.now }
-        ensures fails { (result ≡ Put.Failed) ↔ RefusesNow self.old (length bytes.now) }
-        ensures nothing { result ≡ Put.Failed → sink_written self.new ≡ sink_written self.old }
-        ensures room { sink_room self.new ≡ sink_room self.old }
-        ensures failing { sink_failing self.new ≡ sink_failing self.old }
-        ensures puts { sink_puts self.new ≡ puts_after (sink_puts self.old) (length bytes.now) }
+        ensures memory { PutsInMemory self.old self.new result (length bytes.now) }
     {
         if bytes.is_empty() {
             return Put::Done;

@@ -62,7 +62,7 @@ impl MemorySource {
 }
 
 impl Source for MemorySource {
-    ghost use Rattle.cc_base.specs.MemorySource.{FailsNow, most_of, source_calls, source_failing, source_faults, source_left, source_pieces};
+    ghost use Rattle.cc_base.specs.MemorySource.{TakesFromMemory, source_faults, source_left};
 
     ghost left = { λ s. Some (source_left s) };
 
@@ -72,11 +72,7 @@ impl Source for MemorySource {
         requires { 0 < length buf.old }
         ensures bytes { Takes (Some (source_left self.old)) (Some (source_left self.new)) result buf.new }
         ensures cause { TakeCause (source_faults self.old) (source_faults self.new) result }
-        ensures fails { (result ≡ Took.Failed) ↔ FailsNow self.old }
-        ensures most { (n : ℕ) → result ≡ Took.Got n → n ≡ min (min (most_of self.old) (length (source_left self.old))) (length buf.old) }
-        ensures pieces { source_pieces self.new ≡ source_pieces self.old }
-        ensures failing { source_failing self.new ≡ source_failing self.old }
-        ensures calls { source_calls self.new ≡ min (source_calls self.old + 1) (2 ^ 64 - 1) }
+        ensures memory { TakesFromMemory self.old self.new result (length buf.old) }
     {
         let fails = is_failing(self.calls, &self.failing);
         let most = self.most();

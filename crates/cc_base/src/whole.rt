@@ -1,6 +1,5 @@
-ghost use Rattle.std.specs.Prelude.{◌≡◌, ◌≢◌, ◌<◌, ◌≤◌, Err, IfOk, IfSome, IsErrOf, length};
-ghost use Rattle.std.specs.Io.KnownBytes.{Consumes};
-ghost use Rattle.cc_base.specs.Streams.{Rose, TakesWithin};
+ghost use Rattle.std.specs.Prelude.{◌≡◌, ◌≢◌, ◌<◌, Err, IfOk, IfSome, IsErrOf, length};
+ghost use Rattle.cc_base.specs.Streams.{IsWhole, Rose, TakesWithin};
 
 use crate::streams::{Source, Took};
 use std::alloc::Global;
@@ -25,9 +24,7 @@ pub fn read_whole<S: Source>(
     source: &mut S,
     limit: usize,
 ) -> Result<Vec<u8>, ReadError>
-    ensures bytes { IfOk result (λ v. IfSome (S.left source.old) (λ bytes. v.items ≡ bytes)) }
-    ensures taken { IfOk result (λ v. Consumes (S.left source.old) (S.left source.new) v.items) }
-    ensures within { IfOk result (λ v. length v.items ≤ limit) }
+    ensures whole { IfOk result (λ v. IsWhole limit (S.left source.old) (S.left source.new) v.items) }
     ensures fault { IsErrOf result ReadError.Fault → Rose (S.faults source.old) (S.faults source.new) }
     ensures in_limit { IsErrOf result ReadError.Fault → TakesWithin limit (S.left source.old) (S.left source.new) }
     ensures steady { result ≢ Err ReadError.Fault → S.faults source.new ≡ S.faults source.old }

@@ -70,6 +70,18 @@ pub record Keeps (size : ℕ) (front : Open) (packet : OpenPacket) : Type 0 wher
   pub low : packet.low ≡ low_counter_byte front.bytes
   pub total : packet.total ≡ front.total % 256
 
+-- what is kept behind one more byte, where this one comes next
+pub record IsBehind (old : OpenPacket) (byte : ℕ) (following : Place) (new : OpenPacket) : Type 0 where
+  pub next : new.next ≡ following
+  -- one byte fewer is left
+  pub left : new.left ≡ old.left - 1
+  -- the byte is in the sum
+  pub total : new.total ≡ (old.total + byte) % 256
+  -- the length of the packet and the counter's bytes stay
+  pub long : new.length ≡ old.length
+  pub high : new.high ≡ old.high
+  pub low : new.low ≡ old.low
+
 -- the reader of a packet of this length was fed these bytes, and refused none of them
 abbrev pub HasRead : ℕ → List ℕ → CdpReader → Type 0
 HasRead size bytes reader = HasTaken (cdp_syntax size) (Keeps size) bytes reader.fed

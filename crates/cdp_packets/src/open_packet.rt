@@ -1,4 +1,4 @@
-ghost use Rattle.std.specs.Prelude.{◌≡◌, ◌+◌, ◌-◌, ◌%◌, ◌==◌, nat_lt, if◌then◌else◌, true, ℕ};
+ghost use Rattle.std.specs.Prelude.{◌≡◌, ◌==◌, nat_lt, if◌then◌else◌, true, ℕ};
 ghost use Rattle.cc_base.specs.declared.step.Step.TheVariants.{Nothing, Refuse};
 ghost use Rattle.cc_base.specs.Steps.{IsTaken};
 ghost use Rattle.cdp_packets.specs.declared.open_packet.Footer.TheVariants as footer;
@@ -85,7 +85,7 @@ fn sections_or_footer(left: u8, within: Within) -> Place
 }
 
 impl OpenPacket {
-    ghost use Rattle.cdp_packets.specs.Readers.{Keeps};
+    ghost use Rattle.cdp_packets.specs.Readers.{IsBehind, Keeps};
 
     /// No byte of a packet of this length has come.
     pub(crate) fn new(length: u8) -> OpenPacket
@@ -105,12 +105,7 @@ impl OpenPacket {
     // Goes on behind a byte.
     fn go_on(&mut self, item: u8, next: Place, step: Step<CdpPart>) -> Step<CdpPart>
         ensures says { result ≡ step }
-        ensures next { self.new.next ≡ next }
-        ensures left { self.new.left ≡ self.old.left - 1 }
-        ensures total { self.new.total ≡ (self.old.total + item) % 256 }
-        ensures length { self.new.length ≡ self.old.length }
-        ensures high { self.new.high ≡ self.old.high }
-        ensures low { self.new.low ≡ self.old.low }
+        ensures behind { IsBehind self.old item next self.new }
     {
         self.next = next;
         self.left = self.left.saturating_sub(1);
@@ -121,12 +116,7 @@ impl OpenPacket {
     // Judges a byte that has to be this one, and goes on behind it.
     fn fixed(&mut self, item: u8, expected: u8, why: Why, next: Place) -> Step<CdpPart>
         ensures says { result ≡ (if item == expected then Nothing else Refuse why) }
-        ensures next { self.new.next ≡ next }
-        ensures left { self.new.left ≡ self.old.left - 1 }
-        ensures total { self.new.total ≡ (self.old.total + item) % 256 }
-        ensures length { self.new.length ≡ self.old.length }
-        ensures high { self.new.high ≡ self.old.high }
-        ensures low { self.new.low ≡ self.old.low }
+        ensures behind { IsBehind self.old item next self.new }
     {
         let step = match item == expected {
             true => Step::Nothing,
