@@ -17,9 +17,7 @@ pub use packets::write_cdp;
 pub use parts::CdpPart;
 pub use reader::CdpReader;
 pub use sections::{cc_section, section_len};
-pub use whole_packet::{
-    WholePacket, read_packet, read_summed_packet, split_section, triplet_bytes,
-};
+pub use whole_packet::{WholePacket, read_summed_packet, split_section, triplet_bytes};
 
 #[cfg(test)]
 mod tests;

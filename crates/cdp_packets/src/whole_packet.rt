@@ -5,7 +5,7 @@ ghost use Rattle.cdp_packets.specs.PacketTriplets.{section_triplet_bytes, sectio
 ghost use Rattle.cdp_packets.specs.Sections.{is_id, IsSection, IsSectionList};
 ghost use Rattle.cdp_packets.specs.WholePackets.{SaysPacket};
 
-use crate::packets::{FOOTER, total};
+use crate::packets::FOOTER;
 use crate::sections::{
     CC_DATA, FIRST_FUTURE, LAST_FUTURE, SERVICE_INFORMATION, TIME_CODE, rest_len,
 };
@@ -24,17 +24,8 @@ pub struct WholePacket<'a> {
     pub sections: &'a [u8],
 }
 
-/// Reads bytes that are a distribution packet from the first to the last: what it says. `None` where they aren't one;
-/// `CdpReader` says at which byte, and why (SMPTE ST 334-2).
-pub fn read_packet(bytes: &[u8]) -> Option<WholePacket<'_>>
-    ensures packet { IfSome result (λ whole. (packet : Packet) × IsCdp packet bytes.now × SaysPacket whole packet) }
-    ensures few { IfSome result (λ whole. length whole.sections.now ≤ 244) }
-    ensures none { IfNone result ((packet : Packet) → IsCdp packet bytes.now → ⊥) }
-{
-    read_summed_packet(bytes, total(bytes))
-}
-
-/// The same of bytes whose sum, modulo 256, is known.
+/// Reads bytes that are a distribution packet from the first to the last, whose sum modulo 256 is known: what it says. `None`
+/// where they aren't one; `CdpReader` says at which byte, and why (SMPTE ST 334-2).
 #[inline]
 pub fn read_summed_packet(bytes: &[u8], total: u8) -> Option<WholePacket<'_>>
     requires { total ≡ sum bytes.now % 256 }

@@ -1,10 +1,10 @@
-ghost use Rattle.std.specs.Prelude.{◌≡◌, ◌≤◌, ◌<◌, [], All, length};
+ghost use Rattle.std.specs.Prelude.{◌≡◌, ◌%◌, ◌≤◌, ◌<◌, [], All, length, sum};
 
 use crate::insert;
 use arrayvec::ArrayVec;
 use cc_base::LimitOf;
 use cc_data::Triplet;
-use cdp_packets::read_packet;
+use cdp_packets::read_summed_packet;
 
 /// A triplet of field 1, FC 94 20 as written.
 const RESUME: Triplet = Triplet {
@@ -13,6 +13,17 @@ const RESUME: Triplet = Triplet {
     a: 0x94,
     b: 0x20,
 };
+
+/// The sum of bytes, modulo 256.
+fn sum_of(bytes: &[u8]) -> u8
+    ensures { result ≡ sum bytes.now % 256 }
+{
+    let mut total = 0u8;
+    for byte in bytes {
+        total = total.wrapping_add(*byte);
+    }
+    total
+}
 
 /// What inserting triplets into a whole packet answers. None where the bytes aren't one.
 fn insert_into(
@@ -24,7 +35,7 @@ fn insert_into(
     requires kinds { All (λ t. t.kind < 4) triplets.now }
     requires empty { out.old.items ≡ [] }
 {
-    let whole = read_packet(packet)?;
+    let whole = read_summed_packet(packet, sum_of(packet))?;
     Some(insert(&whole, triplets, out))
 }
 

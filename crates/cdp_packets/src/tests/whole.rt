@@ -1,6 +1,12 @@
 use super::{EVERY_KIND, WITHOUT_CAPTIONS};
-use crate::{WholePacket, read_packet, split_section, triplet_bytes};
+use crate::packets::total;
+use crate::{WholePacket, read_summed_packet, split_section, triplet_bytes};
 use cc_base::Rate;
+
+// What bytes that may be a packet say, with their sum as it is.
+fn read_whole(bytes: &[u8]) -> Option<WholePacket<'_>> {
+    read_summed_packet(bytes, total(bytes))
+}
 
 // The packet of the first frame without captions, with that byte higher by one and the last byte lower by one, so that the sum
 // stays 0.
@@ -15,7 +21,7 @@ fn raised(at: usize) -> [u8; 73] {
 
 #[test]
 fn the_packet_of_a_frame_without_captions_is_read(rt: HostRuntime) {
-    let whole = read_packet(&WITHOUT_CAPTIONS);
+    let whole = read_whole(&WITHOUT_CAPTIONS);
     let expected = WholePacket {
         rate: Rate::F2997,
         flags: 0x43,
@@ -31,7 +37,7 @@ fn a_packet_with_another_byte_is_none(rt: HostRuntime) {
         for by in [1, 2, 16, 0x80, 0xFF] {
             let mut packet = WITHOUT_CAPTIONS;
             packet[at] = packet[at].wrapping_add(by);
-            assert_eq!(rt; read_packet(&packet), None, "byte {at} by {by}");
+            assert_eq!(rt; read_whole(&packet), None, "byte {at} by {by}");
         }
     }
 }
@@ -40,7 +46,7 @@ fn a_packet_with_another_byte_is_none(rt: HostRuntime) {
 fn a_byte_whose_change_the_sum_makes_good_is_told_where_none_forbids_it(rt: HostRuntime) {
     for at in 0..72 {
         let packet = raised(at);
-        let whole = read_packet(&packet);
+        let whole = read_whole(&packet);
         match at {
             // the bits beside the rate were ones, so that the next rate stands in the byte
             3 => assert_eq!(rt; whole.map(|w| w.rate), Some(Rate::F30)),
@@ -65,7 +71,7 @@ fn the_counters_stand_for_one_another(rt: HostRuntime) {
         packet[place] = 1;
         packet[again] = 1;
         packet[72] = 0xBD;
-        let whole = read_packet(&packet);
+        let whole = read_whole(&packet);
         assert_eq!(rt; whole.map(|w| w.counter), Some(counter));
     }
 }
@@ -92,7 +98,7 @@ fn rates_have_the_codes_1_to_8(rt: HostRuntime) {
                 1..=8 => Some(rates[usize::from(code) - 1]),
                 _ => None,
             };
-            assert_eq!(rt; read_packet(&packet).map(|w| w.rate), rate, "code {code}");
+            assert_eq!(rt; read_whole(&packet).map(|w| w.rate), rate, "code {code}");
         }
     }
 }
@@ -100,19 +106,15 @@ fn rates_have_the_codes_1_to_8(rt: HostRuntime) {
 #[test]
 fn no_more_and_no_fewer_bytes_are_a_packet(rt: HostRuntime) {
     for size in 0..WITHOUT_CAPTIONS.len() {
-        assert_eq!(rt;
-            read_packet(&WITHOUT_CAPTIONS[..size]),
-            None,
-            "{size} bytes"
-        );
+        assert_eq!(rt; read_whole(&WITHOUT_CAPTIONS[..size]), None, "{size} bytes");
     }
     let mut longer = [0; 74];
     longer[..73].copy_from_slice(&WITHOUT_CAPTIONS);
-    assert_eq!(rt; read_packet(&longer), None);
+    assert_eq!(rt; read_whole(&longer), None);
     // nor where the length is that of all bytes, and the sum is made good
     longer[2] = 0x4A;
     longer[72] = 0xBE;
-    assert_eq!(rt; read_packet(&longer), None);
+    assert_eq!(rt; read_whole(&longer), None);
 }
 
 #[test]
@@ -127,7 +129,7 @@ fn a_packet_without_sections_is_read(rt: HostRuntime) {
         counter: 0x8001,
         sections: &[],
     };
-    assert_eq!(rt; read_packet(&packet), Some(expected));
+    assert_eq!(rt; read_whole(&packet), Some(expected));
 }
 
 // The packet of sections of every kind at 25 frames a second, whose flags are E7 and whose counter is 1234.
@@ -148,7 +150,7 @@ fn a_packet_with_sections_of_every_kind_is_read(rt: HostRuntime) {
         counter: 0x1234,
         sections: &EVERY_KIND,
     };
-    assert_eq!(rt; read_packet(&packet), Some(expected));
+    assert_eq!(rt; read_whole(&packet), Some(expected));
 }
 
 #[test]
