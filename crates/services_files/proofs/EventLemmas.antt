@@ -20,6 +20,12 @@ use Rattle.service_blocks.specs.ServiceBlocks.{Block}
 use Rattle.service_blocks.proofs.ChannelLemmas.{channel_heard, heard-append}
 use Rattle.services_files.specs.Events.{event_of, events_behind, events_of, frame_events, rates_of, service_events, untimed}
 use Rattle.services_files.specs.WholeFiles.{file_triplets}
+use Rattle.services_files.proofs.SaidLemmas.{heard_behind-said}
+
+-- a frame's events are what is heard of its triplets behind those before
+pub frame_events-heard : (service : ℕ) (before : List Triplet) (frame : Frame)
+    → frame_events service before frame ≡ Tick frame.rate ∷ events_of service (heard_behind before (packet_triplets frame))
+frame_events-heard service before frame = ap (λ parts. Tick frame.rate ∷ events_of service parts) (sym (heard_behind-said before (packet_triplets frame)))
 
 -- what is heard of triplets and more, behind others
 pub heard_behind-append : (before triplets more : List Triplet)
@@ -95,7 +101,8 @@ behind_untimed service before (frame ∷ frames) =
     let triplets = packet_triplets frame in
     let parts = heard_behind before triplets in
     let next = before ++ triplets in
-    untimed-append (events_of service parts) (events_behind service next frames)
+    ap (λ es. untimed (es ++ events_behind service next frames)) (frame_events-heard service before frame)
+    ∙ untimed-append (events_of service parts) (events_behind service next frames)
     ∙ ap (λ es. es ++ untimed (events_behind service next frames)) (parts_untimed service parts).0
     ∙ ap (λ es. events_of service parts ++ es) (behind_untimed service next frames)
     ∙ sym (flat_map-append (event_of service) parts (heard_behind next (file_triplets frames)))
@@ -106,7 +113,8 @@ behind_rates service before [] = refl
 behind_rates service before (frame ∷ frames) =
     let parts = heard_behind before (packet_triplets frame) in
     let rest = events_behind service (before ++ packet_triplets frame) frames in
-    ap (λ rs. frame.rate ∷ rs) (rates-append (events_of service parts) rest
+    ap (λ es. rates_of (es ++ rest)) (frame_events-heard service before frame)
+    ∙ ap (λ rs. frame.rate ∷ rs) (rates-append (events_of service parts) rest
     ∙ ap (λ rs. rs ++ rates_of rest) (parts_untimed service parts).1
     ∙ behind_rates service (before ++ packet_triplets frame) frames)
 

@@ -2,6 +2,7 @@ pub mod TakenLemmas
 pub mod PendingLemmas
 pub mod FillingLemmas
 pub mod WholeFileLemmas
+pub mod SaidLemmas
 pub mod EventLemmas
 pub mod WholeBlockLemmas
 pub mod FrontLemmas

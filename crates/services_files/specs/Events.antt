@@ -9,7 +9,7 @@ use Rattle.cdp_packets.specs.PacketTriplets.{packet_triplets}
 use Rattle.dtvcc_screen.specs.Meaning.{Event, Byte, Reset, Tick}
 use Rattle.service_blocks.specs.declared.parts.BlockPart.{BlockPart}
 use Rattle.service_blocks.specs.declared.parts.BlockPart.TheVariants as part
-use Rattle.service_blocks.specs.Channels.{heard_behind}
+use Rattle.services_files.specs.Said.{said_behind}
 
 -- what a part of the service blocks is for a service: a byte of another service is nothing, and a reset is one for each service
 abbrev pub event_of : ℕ → BlockPart → List Event
@@ -22,7 +22,7 @@ events_of service parts = flat_map (event_of service) parts
 
 -- the events of a frame, behind the triplets of the frames before it
 abbrev pub frame_events : ℕ → List Triplet → Frame → List Event
-frame_events service before frame = Tick frame.rate ∷ events_of service (heard_behind before (packet_triplets frame))
+frame_events service before frame = Tick frame.rate ∷ events_of service (said_behind before (packet_triplets frame))
 
 -- the events of frames, behind the triplets of those before them
 abbrev pub events_behind : ℕ → List Triplet → List Frame → List Event

@@ -1,5 +1,6 @@
 pub mod Services
 pub mod WholeFiles
+pub mod Said
 pub mod Events
 pub mod Overruns
 pub mod Examples

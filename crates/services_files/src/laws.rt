@@ -14,14 +14,15 @@ ghost use Rattle.cdp_packets.specs.PacketParts.{packet_parts};
 ghost use Rattle.cdp_packets.specs.Packets.{Packet as Frame};
 ghost use Rattle.cc_data.specs.declared.triplet.Triplet.{Triplet};
 ghost use Rattle.cc_data.specs.Triplets.{triplet_of};
-ghost use Rattle.channel_packets.specs.ChannelPackets.{ChannelPacket};
-ghost use Rattle.service_blocks.specs.Channels.{AreChannel, IsHeard, IsHeardBehind, heard_behind, said};
-ghost use Rattle.service_blocks.specs.ServiceBlocks.{Block};
+ghost use Rattle.channel_packets.specs.ChannelPackets.{AreChannelPackets, ChannelPacket};
+ghost use Rattle.service_blocks.specs.Channels.{AreChannel, IsHeard, IsHeardBehind, heard_behind, heard_parts, said};
+ghost use Rattle.service_blocks.specs.ServiceBlocks.{AreBlocks, Block};
 ghost use Rattle.words_files.specs.Catching.{caught_in, refusal_of};
 ghost use Rattle.words_files.specs.Offences.{Begins, FirstOffendingWord, IsCutShort, IsFileUnder, IsUnoffending, TakesFilling};
 ghost use Rattle.words_files.specs.Reasons.{HasReason};
 ghost use Rattle.services_files.specs.Events.{events_of, frame_events, rates_of, service_events, untimed};
 ghost use Rattle.services_files.specs.Overruns.{OffendsOverAll, Overruns};
+ghost use Rattle.services_files.specs.Said.{blocks_in, channel_packets_in, said_behind, said_in};
 ghost use Rattle.services_files.specs.Services.{services_say, tried_at, whole_triplets};
 ghost use Rattle.services_files.specs.WholeFiles.{BeginsWhole, IsWhole, file_triplets};
 
@@ -74,6 +75,18 @@ pub fn whole_files_are_caught()
     ensures file { (bytes : List ℕ) → All (λ byte. byte < 256) bytes
         → refusal_of services_say bytes ≡ None → open_behind anc_syntax bytes ≡ nothing_open
         → (frames : List Frame) × IsWhole frames bytes }
+{}
+
+/// What the readers of packets and of blocks make of any triplets, refused or not, is what the triplets say; and behind others it is what
+/// they say behind these. Triplets have the packets that are cut from them, a packet that is blocks has those that are cut from its bytes,
+/// and a caption channel says what its packets and blocks do.
+pub fn what_triplets_say_is_heard()
+    ensures heard { (triplets : List Triplet) → heard_parts triplets ≡ said_in triplets }
+    ensures behind { (before triplets : List Triplet) → heard_behind before triplets ≡ said_behind before triplets }
+    ensures packets { (packets : List ChannelPacket) (triplets : List Triplet) → AreChannelPackets packets triplets ↔ (packets ≡ channel_packets_in triplets) }
+    ensures blocks { (room : ℕ) (blocks : List Block) (packet : ChannelPacket) → AreBlocks room blocks packet.bytes → blocks ≡ blocks_in packet }
+    ensures channel { (packets : List ChannelPacket) (blocks : List (List Block)) (triplets : List Triplet) → AreChannel packets blocks triplets
+        → said_in triplets ≡ said None packets blocks }
 {}
 
 /// One more frame adds its events behind those of the frames before it.
