@@ -15,7 +15,7 @@ use Rattle.words_files.proofs.GotLemmas.{frames_are_caught}
 use Rattle.services_files.specs.Events.{frame_events, service_events}
 use Rattle.services_files.specs.Services.{services_say}
 use Rattle.services_files.specs.WholeFiles.{file_triplets}
-use Rattle.services_files.proofs.EventLemmas.{events_more}
+use Rattle.services_files.proofs.EventLemmas.{events_more, frame_events-heard}
 use Rattle.services_files.proofs.WholeFileLemmas.{under-whole}
 use Rattle.cc_receiver.specs.declared.receiver.Receiver.{Receiver}
 use Rattle.cc_receiver.specs.Gathering.{Gathered}
@@ -50,6 +50,7 @@ last_of : (frame : Frame) (frames : List Frame) (service : ℕ) → Fits frame �
 last_of frame frames service fits fit =
     ap (λ (g : Gathered). given_by g.rate (said_triplets (map packet_parts frames)) g.triplets service) (packet_gathered frame fits.are fits.few)
     ∙ ap (λ ts. given_by frame.rate ts (packet_triplets frame) service) (said_of frames fit)
+    ∙ sym (frame_events-heard service (file_triplets (reverse frames)) frame)
 
 -- what all of them give
 events_are : (frames : List Frame) (service : ℕ) → AllFit frames → said_events (map packet_parts frames) service ≡ service_events service (reverse frames)
