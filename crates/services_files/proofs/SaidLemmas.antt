@@ -233,6 +233,13 @@ heard_behind-said before triplets =
     ∙ ap (drop (length first)) (sym (heard-append before triplets) ∙ heard-said (before ++ triplets))
     ∙ ap (λ parts. drop (length parts) (said_in (before ++ triplets))) (heard-said before)
 
+-- and of more triplets it is what the first ones say, and then what the others say behind them
+pub said-append : (before triplets : List Triplet) → said_in (before ++ triplets) ≡ said_in before ++ said_behind before triplets
+said-append before triplets =
+    sym (heard-said (before ++ triplets)) ∙ heard-append before triplets
+    ∙ ap (λ parts. parts ++ heard_behind before triplets) (heard-said before)
+    ∙ ap (λ parts. said_in before ++ parts) (heard_behind-said before triplets)
+
 -- of a caption channel it is what the channel says
 pub said-channel : (packets : List ChannelPacket) (blocks : List (List Block)) (triplets : List Triplet) → AreChannel packets blocks triplets
     → said_in triplets ≡ said None packets blocks

@@ -78,11 +78,12 @@ pub fn whole_files_are_caught()
 {}
 
 /// What the readers of packets and of blocks make of any triplets, refused or not, is what the triplets say; and behind others it is what
-/// they say behind these. Triplets have the packets that are cut from them, a packet that is blocks has those that are cut from its bytes,
-/// and a caption channel says what its packets and blocks do.
+/// they say behind these, which is all that they add. Triplets have the packets that are cut from them, a packet that is blocks has those
+/// that are cut from its bytes, and a caption channel says what its packets and blocks do.
 pub fn what_triplets_say_is_heard()
     ensures heard { (triplets : List Triplet) → heard_parts triplets ≡ said_in triplets }
     ensures behind { (before triplets : List Triplet) → heard_behind before triplets ≡ said_behind before triplets }
+    ensures more { (before triplets : List Triplet) → said_in (before ++ triplets) ≡ said_in before ++ said_behind before triplets }
     ensures packets { (packets : List ChannelPacket) (triplets : List Triplet) → AreChannelPackets packets triplets ↔ (packets ≡ channel_packets_in triplets) }
     ensures blocks { (room : ℕ) (blocks : List Block) (packet : ChannelPacket) → AreBlocks room blocks packet.bytes → blocks ≡ blocks_in packet }
     ensures channel { (packets : List ChannelPacket) (blocks : List (List Block)) (triplets : List Triplet) → AreChannel packets blocks triplets
