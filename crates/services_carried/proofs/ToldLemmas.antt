@@ -13,8 +13,9 @@ use Rattle.service_blocks.specs.Channels.{heard_behind, heard_parts}
 use Rattle.service_blocks.proofs.ChannelLemmas.{channel_heard, heard-append}
 use Rattle.words_files.specs.Received.{field_pairs, received_pairs}
 use Rattle.services_files.specs.Events.{event_of, events_behind, events_of, frame_events, service_events}
+use Rattle.services_files.specs.Said.{said_behind}
 use Rattle.services_files.specs.WholeFiles.{file_triplets}
-use Rattle.services_files.proofs.EventLemmas.{events_more}
+use Rattle.services_files.proofs.EventLemmas.{events_more, frame_events-heard}
 use Rattle.frame_scheduler.specs.Columns.{Columns}
 use Rattle.frame_carrier.specs.Carrying.{channel_packet_of, column_packets, frame_packet, packets_before}
 use Rattle.frame_carrier.proofs.CarriedLemmas.{packet_channel_is}
@@ -99,6 +100,7 @@ module _ (rate : Rate) (columns : Columns) (has : (frame : ℕ) → HasBlocks co
       ap (service_events service) (packets_more rate columns 0 k k (omega arith))
       ∙ events_more service frames packet
       ∙ ap (λ es. es ++ frame_events service (file_triplets frames) packet) (first_told service k)
+      ∙ ap (λ es. told rate (λ frame. sent_to service (has frame).sent) k ++ es) (frame_events-heard service (file_triplets frames) packet)
       ∙ ap (λ es. told rate (λ frame. sent_to service (has frame).sent) k ++ (Tick rate ∷ es)) (ap (events_of service) (heard_next k) ∙ sent_told service (has k).sent)
 
 pub columns_told : ColumnsAreTold
@@ -123,8 +125,8 @@ behind_alike service before (frame ∷ frames) (other ∷ others) alike =
     let rate : frame.rate ≡ other.rate = cc in
     let own : packet_triplets frame ≡ packet_triplets other = cc in
     let rest = behind_alike service (before ++ packet_triplets other) frames others (record { rates = cc; triplets = cc }) in
-    ap (λ r. (Tick r ∷ events_of service (heard_behind before (packet_triplets frame))) ++ events_behind service (before ++ packet_triplets frame) frames) rate
-    ∙ ap (λ ts. (Tick other.rate ∷ events_of service (heard_behind before ts)) ++ events_behind service (before ++ ts) frames) own
+    ap (λ r. (Tick r ∷ events_of service (said_behind before (packet_triplets frame))) ++ events_behind service (before ++ packet_triplets frame) frames) rate
+    ∙ ap (λ ts. (Tick other.rate ∷ events_of service (said_behind before ts)) ++ events_behind service (before ++ ts) frames) own
     ∙ ap (λ es. frame_events service before other ++ es) rest
 
 pairs_alike : (second_field : Bool) (frames others : List Frame) → map packet_triplets frames ≡ map packet_triplets others
