@@ -1,8 +1,7 @@
 -- The command lines of the program.
 use Rattle.std.specs.Prelude.{◌≡◌, ◌≤◌, ℕ, List, [], ◌∷◌, Option, option_map, Some, None, codes, if◌then◌else◌, Bool, true, false, ⊤}
 use Rattle.std.specs.Option.{option_and_then}
-use Rattle.std.specs.Str.{bytes_eq}
-use Rattle.cue_lists.specs.Fields.{number_within}
+use Rattle.cue_lists.specs.Fields.{named, number_within}
 use Rattle.load_lists.specs.LoadList.{most_load}
 use Rattle.time_codes.specs.Texts.{time_of_text}
 use Rattle.time_codes.specs.TimeCodes.{is_time_code}
@@ -30,20 +29,28 @@ has_side_file (Some Verify) = true
 has_side_file (Some Insert) = true
 has_side_file _ = false
 
+-- the commands that stand alone, each by its word
+abbrev pub plain_commands : List (List ℕ × Command)
+plain_commands =
+    (codes "pairs", Pairs)
+    ∷ (codes "build", Build)
+    ∷ (codes "cues", Cues)
+    ∷ (codes "decode", Decode)
+    ∷ (codes "import", Import)
+    ∷ []
+
+-- the commands with an argument, each by its word: which command an argument makes it, if it makes it one
+abbrev pub argument_commands : List (List ℕ × (List ℕ → Option Command))
+argument_commands =
+    (codes "show", λ frame. option_map Show (number_within 0 last_frame frame))
+    ∷ (codes "verify", λ path. Some Verify)
+    ∷ (codes "insert", λ path. Some Insert)
+    ∷ (codes "export", λ time. option_map Export (start_of time))
+    ∷ (codes "load", λ count. option_map Load (number_within 1 most_load count))
+    ∷ []
+
 -- the command that these words are, if they are one
 abbrev pub command_of : List (List ℕ) → Option Command
-command_of (word ∷ []) =
-    if bytes_eq word (codes "pairs") then Some Pairs
-    else if bytes_eq word (codes "build") then Some Build
-    else if bytes_eq word (codes "cues") then Some Cues
-    else if bytes_eq word (codes "decode") then Some Decode
-    else if bytes_eq word (codes "import") then Some Import
-    else None
-command_of (word ∷ argument ∷ []) =
-    if bytes_eq word (codes "show") then option_map Show (number_within 0 last_frame argument)
-    else if bytes_eq word (codes "verify") then Some Verify
-    else if bytes_eq word (codes "insert") then Some Insert
-    else if bytes_eq word (codes "export") then option_map Export (start_of argument)
-    else if bytes_eq word (codes "load") then option_map Load (number_within 1 most_load argument)
-    else None
+command_of (word ∷ []) = named plain_commands word
+command_of (word ∷ argument ∷ []) = option_and_then (λ command. command argument) (named argument_commands word)
 command_of _ = None

@@ -53,18 +53,13 @@ fn read_word(word: &str) -> Option<Command>
     ensures command { result ≡ command_of (word.now ∷ []) }
     ensures runnable { IsRunnable result }
 {
-    if word == "pairs" {
-        Some(Command::Pairs)
-    } else if word == "build" {
-        Some(Command::Build)
-    } else if word == "cues" {
-        Some(Command::Cues)
-    } else if word == "decode" {
-        Some(Command::Decode)
-    } else if word == "import" {
-        Some(Command::Import)
-    } else {
-        None
+    match word {
+        "pairs" => Some(Command::Pairs),
+        "build" => Some(Command::Build),
+        "cues" => Some(Command::Cues),
+        "decode" => Some(Command::Decode),
+        "import" => Some(Command::Import),
+        _ => None,
     }
 }
 
@@ -74,24 +69,19 @@ fn read_two(word: &str, argument: &str) -> Option<Command>
     ensures command { result ≡ command_of (word.now ∷ argument.now ∷ []) }
     ensures runnable { IsRunnable result }
 {
-    if word == "show" {
-        read_frame(argument).map(Command::Show)
-    } else if word == "verify" {
-        Some(Command::Verify)
-    } else if word == "insert" {
-        Some(Command::Insert)
-    } else if word == "export" {
-        match read_start(argument) {
+    match word {
+        "show" => read_frame(argument).map(Command::Show),
+        "verify" => Some(Command::Verify),
+        "insert" => Some(Command::Insert),
+        "export" => match read_start(argument) {
             Some(time) => Some(Command::Export(time)),
             None => None,
-        }
-    } else if word == "load" {
-        match read_count(argument) {
+        },
+        "load" => match read_count(argument) {
             Some(count) => Some(Command::Load(count)),
             None => None,
-        }
-    } else {
-        None
+        },
+        _ => None,
     }
 }
 
