@@ -73,7 +73,7 @@ accepted_good bytes list placed accepted =
 -- an accepted list is refused with no status
 pub accepted_not_refused : AcceptedIsNotRefused
 accepted_not_refused bytes list placed (status.NoRoom cue) accepted lacks =
-    let same = spelled_one bytes lacks.list list lacks.spelled accepted.spelled in
+    let same = spelled_one bytes lacks.list list lacks.good.spelled accepted.spelled in
     placed_has_room list placed cue accepted.placement (subst (λ l. IsFirstWithoutRoom l cue) same lacks.first)
 accepted_not_refused bytes list placed answer accepted refused =
     good_not_refused bytes list answer (accepted_good bytes list placed accepted) refused
@@ -114,7 +114,7 @@ one_rule_fault bytes a b first second =
 
 one_cue : (bytes : List ℕ) (a b : ℕ) → LacksRoom bytes a → LacksRoom bytes b → a ≡ b
 one_cue bytes a b first second =
-    let same = spelled_one bytes second.list first.list second.spelled first.spelled in
+    let same = spelled_one bytes second.list first.list second.good.spelled first.good.spelled in
     first_without_room first.list a b first.first (subst (λ l. IsFirstWithoutRoom l b) same second.first)
 
 -- two causes are one
@@ -122,26 +122,26 @@ same_status : (bytes : List ℕ) (one other : Status) → Cause bytes one → Ca
 same_status bytes one other (inl (long, is)) (inl (too_long, at)) = is ∙ sym at
 same_status bytes one other (inl (long, is)) (inr (inl (f, faulty, at))) = absurd (let within = faulty.within in omega arith)
 same_status bytes one other (inl (long, is)) (inr (inr (inl (fault, breaks, at)))) = absurd (let within = breaks.within in omega arith)
-same_status bytes one other (inl (long, is)) (inr (inr (inr (cue, lacks, at)))) = absurd (let within = lacks.within in omega arith)
+same_status bytes one other (inl (long, is)) (inr (inr (inr (cue, lacks, at)))) = absurd (let within = lacks.good.within in omega arith)
 same_status bytes one other (inr (inl (f, faulty, is))) (inl (long, at)) = absurd (let within = faulty.within in omega arith)
 same_status bytes one other (inr (inl (f, faulty, is))) (inr (inl (g, other_faulty, at))) =
     is ∙ ap form_status (one_form_fault bytes f g faulty other_faulty) ∙ sym at
 same_status bytes one other (inr (inl (f, faulty, is))) (inr (inr (inl (fault, breaks, at)))) =
     absurd (spelled_faultless bytes breaks.list f breaks.spelled faulty)
 same_status bytes one other (inr (inl (f, faulty, is))) (inr (inr (inr (cue, lacks, at)))) =
-    absurd (spelled_faultless bytes lacks.list f lacks.spelled faulty)
+    absurd (spelled_faultless bytes lacks.list f lacks.good.spelled faulty)
 same_status bytes one other (inr (inr (inl (fault, breaks, is)))) (inl (long, at)) = absurd (let within = breaks.within in omega arith)
 same_status bytes one other (inr (inr (inl (fault, breaks, is)))) (inr (inl (f, faulty, at))) =
     absurd (spelled_faultless bytes breaks.list f breaks.spelled faulty)
 same_status bytes one other (inr (inr (inl (fault, breaks, is)))) (inr (inr (inl (other_fault, other_breaks, at)))) =
     is ∙ ap status.Rule (one_rule_fault bytes fault other_fault breaks other_breaks) ∙ sym at
 same_status bytes one other (inr (inr (inl (fault, breaks, is)))) (inr (inr (inr (cue, lacks, at)))) =
-    absurd (spelled_unbroken bytes lacks.list fault lacks.spelled lacks.ruled breaks)
-same_status bytes one other (inr (inr (inr (cue, lacks, is)))) (inl (long, at)) = absurd (let within = lacks.within in omega arith)
+    absurd (spelled_unbroken bytes lacks.list fault lacks.good.spelled lacks.good.ruled breaks)
+same_status bytes one other (inr (inr (inr (cue, lacks, is)))) (inl (long, at)) = absurd (let within = lacks.good.within in omega arith)
 same_status bytes one other (inr (inr (inr (cue, lacks, is)))) (inr (inl (f, faulty, at))) =
-    absurd (spelled_faultless bytes lacks.list f lacks.spelled faulty)
+    absurd (spelled_faultless bytes lacks.list f lacks.good.spelled faulty)
 same_status bytes one other (inr (inr (inr (cue, lacks, is)))) (inr (inr (inl (fault, breaks, at)))) =
-    absurd (spelled_unbroken bytes lacks.list fault lacks.spelled lacks.ruled breaks)
+    absurd (spelled_unbroken bytes lacks.list fault lacks.good.spelled lacks.good.ruled breaks)
 same_status bytes one other (inr (inr (inr (cue, lacks, is)))) (inr (inr (inr (more, other_lacks, at)))) =
     is ∙ ap status.NoRoom (one_cue bytes cue more lacks other_lacks) ∙ sym at
 
@@ -171,7 +171,7 @@ list_judged bytes list within spelled =
     elim (ruled_or_broken list) [
       | inl ruled ↦ elim (list_decided list spelled.formed ruled) [
         | inl there ↦ inl (list, there.0, record { within = within; spelled = spelled; ruled = ruled; placement = there.1 })
-        | inr without ↦ inr (status.NoRoom without.0, record { list = list; within = within; spelled = spelled; ruled = ruled; first = without.1 })
+        | inr without ↦ inr (status.NoRoom without.0, record { list = list; good = record { within = within; spelled = spelled; ruled = ruled }; first = without.1 })
       ]
       | inr broken ↦ inr (status.Rule broken.0, record { list = list; within = within; spelled = spelled; broken = broken.1 })
     ]

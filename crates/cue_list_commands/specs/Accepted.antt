@@ -35,33 +35,28 @@ pub record BreaksRule (bytes : List ℕ) (fault : RuleFault) : Type 0 where
   pub spelled : SpellsList (records_of bytes) list
   pub broken : HasFault list fault
 
--- the records of the bytes spell a list that keeps the rules, and this cue is the first without a placement
-pub record LacksRoom (bytes : List ℕ) (cue : ℕ) : Type 0 where
-  pub list : Listing
-  pub within : length bytes ≤ list_limit
-  pub spelled : SpellsList (records_of bytes) list
-  pub ruled : IsRuled list
-  pub first : IsFirstWithoutRoom list cue
-
 -- the records of the bytes spell a cue list that keeps the rules; whether it can be placed isn't asked
 pub record IsGoodList (bytes : List ℕ) (list : Listing) : Type 0 where
   pub within : length bytes ≤ list_limit
   pub spelled : SpellsList (records_of bytes) list
   pub ruled : IsRuled list
 
--- the bytes are refused with this status, and with no other
-abbrev pub IsRefused : List ℕ → Status → Type 0
-IsRefused bytes (status.Limit limit.Bytes) = list_limit < length bytes
-IsRefused bytes (status.Limit limit.Frames) = IsFaulty bytes (fault.Limit limit.Frames)
-IsRefused bytes (status.Limit limit.Cues) = IsFaulty bytes (fault.Limit limit.Cues)
-IsRefused bytes (status.Malformed (Byte byte) why) = ⊥
-IsRefused bytes (status.Malformed (Field rec field) why) = IsFaulty bytes (fault.Malformed rec field why)
-IsRefused bytes (status.Rule fault) = BreaksRule bytes fault
-IsRefused bytes (status.NoRoom cue) = LacksRoom bytes cue
-IsRefused bytes _ = ⊥
+-- they spell such a list, and this cue is its first without a placement
+pub record LacksRoom (bytes : List ℕ) (cue : ℕ) : Type 0 where
+  pub list : Listing
+  pub good : IsGoodList bytes list
+  pub first : IsFirstWithoutRoom list cue
 
--- the same where it isn't asked whether a list can be placed: none is refused for want of room
+-- the bytes are refused with this status, and with no other, where it isn't asked whether their list can be placed
 abbrev pub IsRefusedList : List ℕ → Status → Type 0
-IsRefusedList bytes (status.NoRoom cue) = ⊥
+IsRefusedList bytes (status.Limit limit.Bytes) = list_limit < length bytes
+IsRefusedList bytes (status.Limit limit.Frames) = IsFaulty bytes (fault.Limit limit.Frames)
+IsRefusedList bytes (status.Limit limit.Cues) = IsFaulty bytes (fault.Limit limit.Cues)
 IsRefusedList bytes (status.Malformed (Field rec field) why) = IsFaulty bytes (fault.Malformed rec field why)
-IsRefusedList bytes answer = IsRefused bytes answer
+IsRefusedList bytes (status.Rule fault) = BreaksRule bytes fault
+IsRefusedList bytes _ = ⊥
+
+-- the same where it is asked: a list that keeps the rules is refused for want of room
+abbrev pub IsRefused : List ℕ → Status → Type 0
+IsRefused bytes (status.NoRoom cue) = LacksRoom bytes cue
+IsRefused bytes answer = IsRefusedList bytes answer
