@@ -1,6 +1,7 @@
 -- What a command that reads a cue list answers where no count of faults rose, and where one did.
 use Rattle.std.proofs.Common.{◌≡◌, ◌⊎◌, ℕ, List}
 use Rattle.command_base.proofs.WholeInputLemmas.{answered, refused, told, unrefused}
+use Rattle.cc_base.specs.declared.streams.Put.TheVariants as put
 use Rattle.command_base.specs.Counts.{IsReadOf, TellsFaults}
 use Rattle.command_base.specs.Ends.{Ends}
 use Rattle.command_base.specs.declared.status.Status.{Status}
@@ -8,7 +9,7 @@ use Rattle.command_base.specs.declared.status.Status.TheVariants as status
 use Rattle.cue_lists.specs.Listing.{Listing}
 use Rattle.frame_scheduler.specs.Planned.{Placement}
 use Rattle.cue_list_commands.specs.Accepted.{IsAccepted, IsGoodList, IsRefused, IsRefusedList}
-use Rattle.cue_list_commands.specs.ListAnswer.{BuildAnswer, CuesAnswer, PairsAnswer, PutsFront, PutsList, PutsListFront, PutsOutput}
+use Rattle.cue_list_commands.specs.ListAnswer.{BuildAnswer, CuesAnswer, PairsAnswer, PutsList, PutsOutput}
 use Rattle.cue_list_commands.specs.Output.{IsSoundPairs, IsSoundWords, build_output, pairs_output}
 use Rattle.cue_list_commands.proofs.ListVerdictLemmas.{accepted_good, accepted_not_refused, good_not_refused, refused_once}
 use Rattle.cue_list_commands.proofs.Refusals.{refused_list}
@@ -17,21 +18,21 @@ use Rattle.cue_list_commands.proofs.Refusals.{refused_list}
 pub accepted_pairs : (bytes : List ℕ) (list : Listing) (placed : Placement) (old new : Ends) (answer : Status) → IsAccepted bytes list placed → IsReadOf bytes old new
     → PairsAnswer old new answer → (answer ≡ status.Ok) ⊎ (answer ≡ status.Memory)
 accepted_pairs bytes list placed old new answer accepted read is =
-    unrefused (PutsOutput pairs_output IsSoundPairs) IsRefused bytes old new answer (λ refusal. accepted_not_refused bytes list placed refusal accepted)
-    (answered (PutsOutput pairs_output IsSoundPairs) (PutsFront pairs_output) IsRefused bytes old new answer read is)
+    unrefused (PutsOutput pairs_output IsSoundPairs put.Done) IsRefused bytes old new answer (λ refusal. accepted_not_refused bytes list placed refusal accepted)
+    (answered (PutsOutput pairs_output IsSoundPairs put.Done) (PutsOutput pairs_output IsSoundPairs put.Failed) IsRefused bytes old new answer read is)
 
 pub accepted_build : (bytes : List ℕ) (list : Listing) (placed : Placement) (old new : Ends) (answer : Status) → IsAccepted bytes list placed → IsReadOf bytes old new
     → BuildAnswer old new answer → (answer ≡ status.Ok) ⊎ (answer ≡ status.Memory)
 accepted_build bytes list placed old new answer accepted read is =
-    unrefused (PutsOutput build_output IsSoundWords) IsRefused bytes old new answer (λ refusal. accepted_not_refused bytes list placed refusal accepted)
-    (answered (PutsOutput build_output IsSoundWords) (PutsFront build_output) IsRefused bytes old new answer read is)
+    unrefused (PutsOutput build_output IsSoundWords put.Done) IsRefused bytes old new answer (λ refusal. accepted_not_refused bytes list placed refusal accepted)
+    (answered (PutsOutput build_output IsSoundWords put.Done) (PutsOutput build_output IsSoundWords put.Failed) IsRefused bytes old new answer read is)
 
 -- one that keeps the rules
 pub good_cues : (bytes : List ℕ) (list : Listing) (old new : Ends) (answer : Status) → IsGoodList bytes list → IsReadOf bytes old new
     → CuesAnswer old new answer → (answer ≡ status.Ok) ⊎ (answer ≡ status.Memory)
 good_cues bytes list old new answer good read is =
-    unrefused PutsList IsRefusedList bytes old new answer (λ refusal. good_not_refused bytes list refusal good)
-    (answered PutsList PutsListFront IsRefusedList bytes old new answer read is)
+    unrefused (PutsList put.Done) IsRefusedList bytes old new answer (λ refusal. good_not_refused bytes list refusal good)
+    (answered (PutsList put.Done) (PutsList put.Failed) IsRefusedList bytes old new answer read is)
 
 pub accepted_cues : (bytes : List ℕ) (list : Listing) (placed : Placement) (old new : Ends) (answer : Status) → IsAccepted bytes list placed → IsReadOf bytes old new
     → CuesAnswer old new answer → (answer ≡ status.Ok) ⊎ (answer ≡ status.Memory)
@@ -42,33 +43,33 @@ accepted_cues bytes list placed old new answer accepted read is =
 pub refused_pairs : (bytes : List ℕ) (refusal : Status) (old new : Ends) (answer : Status) → IsRefused bytes refusal → IsReadOf bytes old new
     → PairsAnswer old new answer → (answer ≡ refusal) ⊎ (answer ≡ status.Memory)
 refused_pairs bytes refusal old new answer is_refused read is =
-    refused (PutsOutput pairs_output IsSoundPairs) IsRefused bytes refusal old new answer
+    refused (PutsOutput pairs_output IsSoundPairs put.Done) IsRefused bytes refusal old new answer
     (λ puts. accepted_not_refused bytes puts.list puts.placed refusal puts.accepted is_refused)
     (λ other again. refused_once bytes other refusal again is_refused)
-    (answered (PutsOutput pairs_output IsSoundPairs) (PutsFront pairs_output) IsRefused bytes old new answer read is)
+    (answered (PutsOutput pairs_output IsSoundPairs put.Done) (PutsOutput pairs_output IsSoundPairs put.Failed) IsRefused bytes old new answer read is)
 
 pub refused_build : (bytes : List ℕ) (refusal : Status) (old new : Ends) (answer : Status) → IsRefused bytes refusal → IsReadOf bytes old new
     → BuildAnswer old new answer → (answer ≡ refusal) ⊎ (answer ≡ status.Memory)
 refused_build bytes refusal old new answer is_refused read is =
-    refused (PutsOutput build_output IsSoundWords) IsRefused bytes refusal old new answer
+    refused (PutsOutput build_output IsSoundWords put.Done) IsRefused bytes refusal old new answer
     (λ puts. accepted_not_refused bytes puts.list puts.placed refusal puts.accepted is_refused)
     (λ other again. refused_once bytes other refusal again is_refused)
-    (answered (PutsOutput build_output IsSoundWords) (PutsFront build_output) IsRefused bytes old new answer read is)
+    (answered (PutsOutput build_output IsSoundWords put.Done) (PutsOutput build_output IsSoundWords put.Failed) IsRefused bytes old new answer read is)
 
 pub refused_cues : (bytes : List ℕ) (refusal : Status) (old new : Ends) (answer : Status) → IsRefusedList bytes refusal → IsReadOf bytes old new
     → CuesAnswer old new answer → (answer ≡ refusal) ⊎ (answer ≡ status.Memory)
 refused_cues bytes refusal old new answer is_refused read is =
-    refused PutsList IsRefusedList bytes refusal old new answer
+    refused (PutsList put.Done) IsRefusedList bytes refusal old new answer
     (λ puts. good_not_refused bytes puts.list refusal puts.good is_refused)
     (λ other again. refused_once bytes other refusal (refused_list bytes other again) (refused_list bytes refusal is_refused))
-    (answered PutsList PutsListFront IsRefusedList bytes old new answer read is)
+    (answered (PutsList put.Done) (PutsList put.Failed) IsRefusedList bytes old new answer read is)
 
 -- a count of faults that is greater than before
 pub told_pairs : (old new : Ends) (answer : Status) → PairsAnswer old new answer → TellsFaults old new answer
-told_pairs old new answer is = told (PutsOutput pairs_output IsSoundPairs) (PutsFront pairs_output) IsRefused old new answer is
+told_pairs old new answer is = told (PutsOutput pairs_output IsSoundPairs put.Done) (PutsOutput pairs_output IsSoundPairs put.Failed) IsRefused old new answer is
 
 pub told_build : (old new : Ends) (answer : Status) → BuildAnswer old new answer → TellsFaults old new answer
-told_build old new answer is = told (PutsOutput build_output IsSoundWords) (PutsFront build_output) IsRefused old new answer is
+told_build old new answer is = told (PutsOutput build_output IsSoundWords put.Done) (PutsOutput build_output IsSoundWords put.Failed) IsRefused old new answer is
 
 pub told_cues : (old new : Ends) (answer : Status) → CuesAnswer old new answer → TellsFaults old new answer
-told_cues old new answer is = told PutsList PutsListFront IsRefusedList old new answer is
+told_cues old new answer is = told (PutsList put.Done) (PutsList put.Failed) IsRefusedList old new answer is

@@ -1,9 +1,7 @@
 -- What holds of the output of an accepted list.
 use Rattle.std.proofs.Common.{◌≡◌, ◌∙◌, sym, subst, true, false, ℕ, suc, List, reverse, arith, Option, Some, None}
 use Rattle.std.specs.Prelude.{IfSome}
-use Rattle.std.specs.Io.KnownBytes.{Appends}
 use Rattle.cc_base.specs.Streams.{Puts}
-use Rattle.cc_base.specs.declared.streams.Put.TheVariants as put
 use Rattle.line21_codes.specs.declared.pairs.Pair.{Pair}
 use Rattle.line21_screen.specs.Meaning.{after}
 use Rattle.cc_base.specs.declared.streams.Put.{Put}
@@ -30,7 +28,7 @@ use Rattle.line21_shown.specs.Shown.{ShowsField}
 use Rattle.line21_shown.proofs.CaptionedLemmas.{AreBytes, frame_bytes}
 use Rattle.line21_shown.proofs.SequenceLemmas.{authored_seen}
 use Rattle.cue_list_commands.specs.Accepted.{IsAccepted, IsGoodList}
-use Rattle.cue_list_commands.specs.ListAnswer.{PutsFront, PutsList, PutsOutput}
+use Rattle.cue_list_commands.specs.ListAnswer.{PutsList, PutsOutput}
 use Rattle.cue_list_commands.specs.Output.{AreDoubled, IsSoundPairs, IsSoundWords, build_output, pairs_output}
 use Rattle.cue_list_commands.specs.Lines.{pair_lines}
 use Rattle.cue_list_commands.specs.Reads.{IsProgrammeOf}
@@ -80,24 +78,15 @@ sound_words bytes list placed accepted =
       delayed = delays_sent list placed formed accepted.ruled;
     }
 
--- the output of a programme was put: it is that of its list
-output_put : (output : Listing → Placement → List ℕ) (IsSound : Listing → Placement → Type 0) (left old new : Option (List ℕ)) (programme : Programme)
+-- the output of a programme was put, or a front of it: it is that of its list
+output_put : (output : Listing → Placement → List ℕ) (IsSound : Listing → Placement → Type 0) (answer : Put) (left old new : Option (List ℕ)) (programme : Programme)
     → IfSome left (λ bytes. IsProgrammeOf bytes programme)
-    → ((bytes : List ℕ) (is : IsProgrammeOf bytes programme) → Puts old new put.Done (output is.list is.placed) × IsSound is.list is.placed)
-    → IfSome left (λ bytes. PutsOutput output IsSound bytes old new)
-output_put output IsSound None old new programme is puts = tt
-output_put output IsSound (Some bytes) old new programme is puts =
+    → ((bytes : List ℕ) (is : IsProgrammeOf bytes programme) → Puts old new answer (output is.list is.placed) × IsSound is.list is.placed)
+    → IfSome left (λ bytes. PutsOutput output IsSound answer bytes old new)
+output_put output IsSound answer None old new programme is puts = tt
+output_put output IsSound answer (Some bytes) old new programme is puts =
     let w = puts bytes is in
     record { list = is.list; placed = is.placed; accepted = is.accepted; output_is = w.0; sound = w.1 }
-
--- a put failed: a front of the output of its list was put
-front_put : (output : Listing → Placement → List ℕ) (left old new : Option (List ℕ)) (programme : Programme)
-    → IfSome left (λ bytes. IsProgrammeOf bytes programme)
-    → ((bytes : List ℕ) (is : IsProgrammeOf bytes programme) → Puts old new put.Failed (output is.list is.placed))
-    → IfSome left (λ bytes. PutsFront output bytes old new)
-front_put output None old new programme is puts = tt
-front_put output (Some bytes) old new programme is puts =
-    record { list = is.list; placed = is.placed; accepted = is.accepted; front = puts bytes is }
 
 -- the lines of a programme's frames are those of its list
 lines_are : (old new : Option (List ℕ)) (r : Put) (bytes : List ℕ) (programme : Programme) (is : IsProgrammeOf bytes programme)
@@ -114,42 +103,30 @@ words_are old new r bytes programme is puts =
     (subst (λ rate. Puts old new r (column_bytes rate (columns_of is.list is.placed) 0 (frames_left programme.plan))) is.rate
     (puts (columns_of is.list is.placed) is.gives))
 
--- the lines of a programme were put
-pub pairs_put : (left old new : Option (List ℕ)) (programme : Programme) → IfSome left (λ bytes. IsProgrammeOf bytes programme)
-    → ((columns : Columns) → GivesFrom columns 0 programme.plan → Puts old new put.Done (pair_lines columns 0 (frames_left programme.plan)))
-    → IfSome left (λ bytes. PutsOutput pairs_output IsSoundPairs bytes old new)
-pairs_put left old new programme is puts =
-    output_put pairs_output IsSoundPairs left old new programme is
-    (λ bytes of. (lines_are old new put.Done bytes programme of puts, sound_pairs bytes of.list of.placed of.accepted))
+-- the lines of a programme were put, or a front of them
+pub pairs_put : (answer : Put) (left old new : Option (List ℕ)) (programme : Programme) → IfSome left (λ bytes. IsProgrammeOf bytes programme)
+    → ((columns : Columns) → GivesFrom columns 0 programme.plan → Puts old new answer (pair_lines columns 0 (frames_left programme.plan)))
+    → IfSome left (λ bytes. PutsOutput pairs_output IsSoundPairs answer bytes old new)
+pairs_put answer left old new programme is puts =
+    output_put pairs_output IsSoundPairs answer left old new programme is
+    (λ bytes of. (lines_are old new answer bytes programme of puts, sound_pairs bytes of.list of.placed of.accepted))
 
-pub pairs_front : (left old new : Option (List ℕ)) (programme : Programme) → IfSome left (λ bytes. IsProgrammeOf bytes programme)
-    → ((columns : Columns) → GivesFrom columns 0 programme.plan → Puts old new put.Failed (pair_lines columns 0 (frames_left programme.plan)))
-    → IfSome left (λ bytes. PutsFront pairs_output bytes old new)
-pairs_front left old new programme is puts =
-    front_put pairs_output left old new programme is (λ bytes of. lines_are old new put.Failed bytes programme of puts)
+-- the words of a programme were put, or a front of them
+pub words_put : (answer : Put) (left old new : Option (List ℕ)) (programme : Programme) → IfSome left (λ bytes. IsProgrammeOf bytes programme)
+    → ((columns : Columns) → GivesFrom columns 0 programme.plan → Puts old new answer (column_bytes programme.rate columns 0 (frames_left programme.plan)))
+    → IfSome left (λ bytes. PutsOutput build_output IsSoundWords answer bytes old new)
+words_put answer left old new programme is puts =
+    output_put build_output IsSoundWords answer left old new programme is
+    (λ bytes of. (words_are old new answer bytes programme of puts, sound_words bytes of.list of.placed of.accepted))
 
--- the words of a programme were put
-pub words_put : (left old new : Option (List ℕ)) (programme : Programme) → IfSome left (λ bytes. IsProgrammeOf bytes programme)
-    → ((columns : Columns) → GivesFrom columns 0 programme.plan → Puts old new put.Done (column_bytes programme.rate columns 0 (frames_left programme.plan)))
-    → IfSome left (λ bytes. PutsOutput build_output IsSoundWords bytes old new)
-words_put left old new programme is puts =
-    output_put build_output IsSoundWords left old new programme is
-    (λ bytes of. (words_are old new put.Done bytes programme of puts, sound_words bytes of.list of.placed of.accepted))
-
-pub words_front : (left old new : Option (List ℕ)) (programme : Programme) → IfSome left (λ bytes. IsProgrammeOf bytes programme)
-    → ((columns : Columns) → GivesFrom columns 0 programme.plan → Puts old new put.Failed (column_bytes programme.rate columns 0 (frames_left programme.plan)))
-    → IfSome left (λ bytes. PutsFront build_output bytes old new)
-words_front left old new programme is puts =
-    front_put build_output left old new programme is (λ bytes of. words_are old new put.Failed bytes programme of puts)
-
--- a list was put as it is written
-pub list_put : (left old new : Option (List ℕ)) (list : Listing) (text piece : List ℕ) → IfSome left (λ bytes. IsGoodList bytes list)
-    → text ≡ list_bytes list → records_of text ≡ list_records version.Two (in_order list) → piece ≡ text → Appends old new piece
-    → IfSome left (λ bytes. PutsList bytes old new)
-list_put None old new list text piece good is again same puts = tt
-list_put (Some bytes) old new list text piece good is again same puts = record {
+-- a list was put as it is written, or a front of that
+pub list_put : (answer : Put) (left old new : Option (List ℕ)) (list : Listing) (text piece : List ℕ) → IfSome left (λ bytes. IsGoodList bytes list)
+    → text ≡ list_bytes list → records_of text ≡ list_records version.Two (in_order list) → piece ≡ text → Puts old new answer piece
+    → IfSome left (λ bytes. PutsList answer bytes old new)
+list_put answer None old new list text piece good is again same puts = tt
+list_put answer (Some bytes) old new list text piece good is again same puts = record {
   list = list;
   good = good;
-  output_is = subst (Appends old new) (same ∙ is) puts;
+  output_is = subst (Puts old new answer) (same ∙ is) puts;
   again = subst (λ (t : List ℕ). records_of t ≡ list_records version.Two (in_order list)) is again;
 }
