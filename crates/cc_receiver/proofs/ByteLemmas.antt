@@ -1,11 +1,12 @@
 -- What is kept of an open packet of captions behind one more of its bytes.
-use Rattle.std.proofs.Common.{◌≡◌, ℕ, ◌<◌, ◌%◌, ◌^◌, true, false, length, ◌++◌, List, [], ◌∷◌, Option, Some, None, refl, ap, sym, subst, ◌∙◌, append-nil}
+use Rattle.std.proofs.Common.{◌≡◌, ℕ, ◌<◌, ◌%◌, ◌^◌, length, ◌++◌, List, [], ◌∷◌, Option, Some, None, refl, ap, sym, subst, ◌∙◌, append-nil}
 use Rattle.cc_base.specs.declared.step.Step.{Step}
 use Rattle.cc_base.specs.declared.why.Why.{Why}
 use Rattle.cc_base.specs.Feeding.{Handed, Reading, hand, place_by, read_first, refused_at, why_of}
 use Rattle.cc_base.specs.Steps.{IsTaken}
 use Rattle.cc_base.specs.Syntax.{open_behind}
 use Rattle.cc_base.proofs.StepLemmas.{hand-none}
+use Rattle.line21_codes.specs.declared.channels.FieldNumber.TheVariants.{One, Two}
 use Rattle.cdp_packets.specs.declared.parts.CdpPart.{CdpPart}
 use Rattle.cdp_packets.specs.declared.reader.CdpReader.{CdpReader}
 use Rattle.cdp_packets.specs.Readers.{HasRead}
@@ -102,8 +103,8 @@ kept_going caught more captions answer next now new keeps goes_on = record {
   judges = goes_on.judges;
   last = subst (λ fs. KeepsLast fs captions.last) (sym goes_on.same) keeps.last;
   channel = subst (λ fs. HasTried (frames_parts fs) captions.channel) (sym goes_on.same) keeps.channel;
-  first = subst (λ fs. Leads false (heard false fs) captions.first) (sym goes_on.same) keeps.first;
-  second = subst (λ fs. Leads true (heard true fs) captions.second) (sym goes_on.same) keeps.second;
+  first = subst (λ fs. Leads One (heard One fs) captions.first) (sym goes_on.same) keeps.first;
+  second = subst (λ fs. Leads Two (heard Two fs) captions.second) (sym goes_on.same) keeps.second;
   services = subst (λ fs. length fs < 2 ^ 32 → IsHeard (said_triplets fs) → ServesFrames fs captions.served) (sym goes_on.same) keeps.services;
   count = keeps.count ∙ sym (ap (λ fs. length fs % 2 ^ 32) goes_on.same);
 }

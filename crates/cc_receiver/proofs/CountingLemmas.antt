@@ -7,6 +7,7 @@ use Rattle.std.proofs.lemmas.List.Concat.{flat_map-append}
 use Rattle.cc_base.proofs.StepLemmas.{front_from-append}
 use Rattle.cc_data.specs.declared.triplet.Triplet.{Triplet}
 use Rattle.channel_packets.specs.ChannelPackets.{channel_triplets, continues_packet, starts}
+use Rattle.line21_codes.specs.declared.channels.FieldNumber.{FieldNumber}
 use Rattle.line21_codes.specs.declared.pairs.Pair.{Pair}
 use Rattle.words_files.specs.Received.{field_kind, field_pair, field_pairs}
 use Rattle.cc_receiver.specs.declared.triplets.Triplets.{Triplets}
@@ -46,12 +47,12 @@ none_channel (t ∷ triplets) (not, none) =
     ap (λ (b : Bool). if b then t ∷ own else own) is ∙ none_channel triplets none
 
 -- and have no pairs
-pub none_pairs : (second_field : Bool) (triplets : List Triplet) → NoneCounts triplets → field_pairs second_field triplets ≡ []
-none_pairs second_field [] none = refl
-none_pairs second_field (t ∷ triplets) (not, none) =
+pub none_pairs : (in_field : FieldNumber) (triplets : List Triplet) → NoneCounts triplets → field_pairs in_field triplets ≡ []
+none_pairs in_field [] none = refl
+none_pairs in_field (t ∷ triplets) (not, none) =
     let pair : Pair = record { a = t.a; b = t.b } in
-    ap (λ (v : Bool). (if v && (t.kind == field_kind second_field) then pair ∷ [] else []) ++ field_pairs second_field triplets) not
-    ∙ none_pairs second_field triplets none
+    ap (λ (v : Bool). (if v && (t.kind == field_kind in_field) then pair ∷ [] else []) ++ field_pairs in_field triplets) not
+    ∙ none_pairs in_field triplets none
 
 -- fillers behind others
 pub fillers_kept : (triplets : List Triplet) (count : ℕ) (old new : Triplets) → HasTriplets triplets old → length triplets + count ≤ 81
@@ -129,12 +130,12 @@ front_taken triplets kept has within =
     subst (λ ts. HasFront ts triplets) (sym own) has.has_front
 
 -- those of a front are all pairs
-pub front_pairs : (second_field : Bool) (front triplets : List Triplet) → HasFront front triplets → length triplets ≤ 81
-    → (length front ≤ 81) × (field_pairs second_field front ≡ field_pairs second_field triplets)
-front_pairs second_field front triplets has few =
+pub front_pairs : (in_field : FieldNumber) (front triplets : List Triplet) → HasFront front triplets → length triplets ≤ 81
+    → (length front ≤ 81) × (field_pairs in_field front ≡ field_pairs in_field triplets)
+front_pairs in_field front triplets has few =
     let long = ap length has.joined ∙ length-append front has.others in (
       omega (arith, long, few),
-      sym (ap (field_pairs second_field) has.joined ∙ flat_map-append (field_pair second_field) front has.others
-          ∙ ap (λ ps. field_pairs second_field front ++ ps) (none_pairs second_field has.others has.none)
-          ∙ append-nil (field_pairs second_field front)),
+      sym (ap (field_pairs in_field) has.joined ∙ flat_map-append (field_pair in_field) front has.others
+          ∙ ap (λ ps. field_pairs in_field front ++ ps) (none_pairs in_field has.others has.none)
+          ∙ append-nil (field_pairs in_field front)),
     )

@@ -14,6 +14,8 @@ use Rattle.cdp_packets.specs.PacketTriplets.{packet_triplets, section_triplets}
 use Rattle.cdp_packets.specs.Packets.{Packet}
 use Rattle.cdp_packets.specs.Sections.{AreSections, IsSection, rest_of}
 use Rattle.cdp_packets.proofs.BegunLemmas.{test-same}
+use Rattle.line21_codes.specs.declared.channels.FieldNumber.{FieldNumber}
+use Rattle.line21_codes.specs.declared.channels.FieldNumber.TheVariants.{One, Two}
 use Rattle.line21_codes.specs.declared.pairs.Pair.{Pair}
 use Rattle.words_files.specs.Received.{field_kind, field_pair, field_pairs}
 use Rattle.cc_receiver.specs.Gathering.{Gathered, gather, gathered, one_more, pair_more}
@@ -33,8 +35,8 @@ one_pair_if : (test : Bool) (pair : Pair) → length (if test then pair ∷ [] e
 one_pair_if true pair = omega arith
 one_pair_if false pair = omega arith
 
-pub one_pair : (second_field : Bool) (t : Triplet) → length (field_pair second_field t) ≤ 1
-one_pair second_field t = one_pair_if (t.valid && (t.kind == field_kind second_field)) _
+pub one_pair : (in_field : FieldNumber) (t : Triplet) → length (field_pair in_field t) ≤ 1
+one_pair in_field t = one_pair_if (t.valid && (t.kind == field_kind in_field)) _
 
 -- what is gathered, by its fields
 abbrev pub held : Rate → ℕ → ℕ → List ℕ → List Triplet → List Pair → List Pair → Gathered
@@ -58,7 +60,7 @@ record Room (sections : List ℕ) (triplets : List Triplet) (one two : List Pair
 -- three bytes, and their triplet
 abbrev with_three : Rate → ℕ → ℕ → List ℕ → List Triplet → List Pair → List Pair → ℕ → ℕ → ℕ → Triplet → Gathered
 with_three rate flags counter sections triplets one two a b c t =
-    held rate flags counter (sections ++ a ∷ b ∷ c ∷ []) (triplets ++ t ∷ []) (one ++ field_pair false t) (two ++ field_pair true t)
+    held rate flags counter (sections ++ a ∷ b ∷ c ∷ []) (triplets ++ t ∷ []) (one ++ field_pair One t) (two ++ field_pair Two t)
 
 three_fit : (sections : List ℕ) (a b c : ℕ) → length sections + 3 ≤ 244
     → one_more 244 (one_more 244 (one_more 244 sections a) b) c ≡ sections ++ a ∷ b ∷ c ∷ []
@@ -85,16 +87,16 @@ three_gathered rate flags counter sections triplets one two a b c half t more ro
     let two_fits = room.two_fits in
     let s = three_fit sections a b c (omega (arith, bytes)) in
     let ts = more_fits 81 triplets t (omega (arith, bytes, triplets_fit)) in
-    let ones = pair_fits (t.valid && (t.kind == field_kind false)) one (record { a = t.a; b = t.b }) (omega (arith, bytes, triplets_fit, one_fits)) in
-    let twos = pair_fits (t.valid && (t.kind == field_kind true)) two (record { a = t.a; b = t.b }) (omega (arith, bytes, triplets_fit, two_fits)) in
-    ap (λ x. held rate flags counter x (one_more 81 triplets t) (pair_more one (field_pair false t)) (pair_more two (field_pair true t))) s
-    ∙ ap (λ x. held rate flags counter (sections ++ a ∷ b ∷ c ∷ []) x (pair_more one (field_pair false t)) (pair_more two (field_pair true t))) ts
-    ∙ ap (λ x. held rate flags counter (sections ++ a ∷ b ∷ c ∷ []) (triplets ++ t ∷ []) x (pair_more two (field_pair true t))) ones
-    ∙ ap (λ x. held rate flags counter (sections ++ a ∷ b ∷ c ∷ []) (triplets ++ t ∷ []) (one ++ field_pair false t) x) twos
+    let ones = pair_fits (t.valid && (t.kind == field_kind One)) one (record { a = t.a; b = t.b }) (omega (arith, bytes, triplets_fit, one_fits)) in
+    let twos = pair_fits (t.valid && (t.kind == field_kind Two)) two (record { a = t.a; b = t.b }) (omega (arith, bytes, triplets_fit, two_fits)) in
+    ap (λ x. held rate flags counter x (one_more 81 triplets t) (pair_more one (field_pair One t)) (pair_more two (field_pair Two t))) s
+    ∙ ap (λ x. held rate flags counter (sections ++ a ∷ b ∷ c ∷ []) x (pair_more one (field_pair One t)) (pair_more two (field_pair Two t))) ts
+    ∙ ap (λ x. held rate flags counter (sections ++ a ∷ b ∷ c ∷ []) (triplets ++ t ∷ []) x (pair_more two (field_pair Two t))) ones
+    ∙ ap (λ x. held rate flags counter (sections ++ a ∷ b ∷ c ∷ []) (triplets ++ t ∷ []) (one ++ field_pair One t) x) twos
 
 -- room behind them
 three_room : (sections : List ℕ) (triplets : List Triplet) (one two : List Pair) (a b c : ℕ) (t : Triplet) (more : ℕ) → Room sections triplets one two (3 + more)
-    → Room (sections ++ a ∷ b ∷ c ∷ []) (triplets ++ t ∷ []) (one ++ field_pair false t) (two ++ field_pair true t) more
+    → Room (sections ++ a ∷ b ∷ c ∷ []) (triplets ++ t ∷ []) (one ++ field_pair One t) (two ++ field_pair Two t) more
 three_room sections triplets one two a b c t more room =
     let bytes = room.bytes in
     let triplets_fit = room.triplets_fit in
@@ -102,10 +104,10 @@ three_room sections triplets one two a b c t more room =
     let two_fits = room.two_fits in
     let s = length-append sections (a ∷ b ∷ c ∷ []) in
     let ts = length-append triplets (t ∷ []) in
-    let ones = length-append one (field_pair false t) in
-    let twos = length-append two (field_pair true t) in
-    let few = one_pair false t in
-    let fewer = one_pair true t in
+    let ones = length-append one (field_pair One t) in
+    let twos = length-append two (field_pair Two t) in
+    let few = one_pair One t in
+    let fewer = one_pair Two t in
     record {
       bytes = omega (arith, bytes, s);
       triplets_fit = omega (arith, triplets_fit, s, ts);
@@ -116,7 +118,7 @@ three_room sections triplets one two a b c t more room =
 -- triplets behind what is held
 abbrev with_triplets : Rate → ℕ → ℕ → List ℕ → List Triplet → List Pair → List Pair → List ℕ → List Triplet → Gathered
 with_triplets rate flags counter sections triplets one two bytes more =
-    held rate flags counter (sections ++ bytes) (triplets ++ more) (one ++ field_pairs false more) (two ++ field_pairs true more)
+    held rate flags counter (sections ++ bytes) (triplets ++ more) (one ++ field_pairs One more) (two ++ field_pairs Two more)
 
 -- nothing more
 no_more : (rate : Rate) (flags counter : ℕ) (sections : List ℕ) (triplets : List Triplet) (one two : List Pair)
@@ -129,17 +131,17 @@ no_more rate flags counter sections triplets one two =
 
 -- and more behind more
 more_behind : (rate : Rate) (flags counter : ℕ) (sections : List ℕ) (triplets : List Triplet) (one two : List Pair) (bytes others : List ℕ) (first second : List Triplet)
-    → with_triplets rate flags counter (sections ++ bytes) (triplets ++ first) (one ++ field_pairs false first) (two ++ field_pairs true first) others second
+    → with_triplets rate flags counter (sections ++ bytes) (triplets ++ first) (one ++ field_pairs One first) (two ++ field_pairs Two first) others second
     ≡ with_triplets rate flags counter sections triplets one two (bytes ++ others) (first ++ second)
 more_behind rate flags counter sections triplets one two bytes others first second =
-    ap (λ x. held rate flags counter x ((triplets ++ first) ++ second) ((one ++ field_pairs false first) ++ field_pairs false second) ((two ++ field_pairs true first) ++ field_pairs true second))
+    ap (λ x. held rate flags counter x ((triplets ++ first) ++ second) ((one ++ field_pairs One first) ++ field_pairs One second) ((two ++ field_pairs Two first) ++ field_pairs Two second))
     (append_assoc sections bytes others)
-    ∙ ap (λ x. held rate flags counter (sections ++ (bytes ++ others)) x ((one ++ field_pairs false first) ++ field_pairs false second) ((two ++ field_pairs true first) ++ field_pairs true second))
+    ∙ ap (λ x. held rate flags counter (sections ++ (bytes ++ others)) x ((one ++ field_pairs One first) ++ field_pairs One second) ((two ++ field_pairs Two first) ++ field_pairs Two second))
     (append_assoc triplets first second)
-    ∙ ap (λ x. held rate flags counter (sections ++ (bytes ++ others)) (triplets ++ (first ++ second)) x ((two ++ field_pairs true first) ++ field_pairs true second))
-    (append_assoc one (field_pairs false first) (field_pairs false second) ∙ ap (λ ps. one ++ ps) (sym (flat_map-append (field_pair false) first second)))
-    ∙ ap (λ x. held rate flags counter (sections ++ (bytes ++ others)) (triplets ++ (first ++ second)) (one ++ field_pairs false (first ++ second)) x)
-    (append_assoc two (field_pairs true first) (field_pairs true second) ∙ ap (λ ps. two ++ ps) (sym (flat_map-append (field_pair true) first second)))
+    ∙ ap (λ x. held rate flags counter (sections ++ (bytes ++ others)) (triplets ++ (first ++ second)) x ((two ++ field_pairs Two first) ++ field_pairs Two second))
+    (append_assoc one (field_pairs One first) (field_pairs One second) ∙ ap (λ ps. one ++ ps) (sym (flat_map-append (field_pair One) first second)))
+    ∙ ap (λ x. held rate flags counter (sections ++ (bytes ++ others)) (triplets ++ (first ++ second)) (one ++ field_pairs One (first ++ second)) x)
+    (append_assoc two (field_pairs Two first) (field_pairs Two second) ∙ ap (λ ps. two ++ ps) (sym (flat_map-append (field_pair Two) first second)))
 
 -- the triplets of a section
 triplets_gathered : (rate : Rate) (flags counter : ℕ) (sections : List ℕ) (triplets : List Triplet) (one two : List Pair) (bytes : List ℕ) (count : ℕ)
@@ -152,18 +154,18 @@ triplets_gathered rate flags counter sections triplets one two (a ∷ b ∷ []) 
 triplets_gathered rate flags counter sections triplets one two (a ∷ b ∷ c ∷ bytes) count long room =
     let t = triplet_of a b c in
     let fits : Room sections triplets one two (3 + length bytes) = subst (Room sections triplets one two) (omega arith) room in
-    let behind = triplets_gathered rate flags counter (sections ++ a ∷ b ∷ c ∷ []) (triplets ++ t ∷ []) (one ++ field_pair false t) (two ++ field_pair true t) bytes (count - 1)
+    let behind = triplets_gathered rate flags counter (sections ++ a ∷ b ∷ c ∷ []) (triplets ++ t ∷ []) (one ++ field_pair One t) (two ++ field_pair Two t) bytes (count - 1)
     (omega (arith, long)) (three_room sections triplets one two a b c t (length bytes) fits) in
     ap (λ g. front_from gather g (triplet_parts bytes)) (three_gathered rate flags counter sections triplets one two a b c (triplet_of a b 0) t (length bytes) fits)
     ∙ behind
-    ∙ ap (λ x. held rate flags counter x ((triplets ++ t ∷ []) ++ triplets_of bytes) ((one ++ field_pair false t) ++ field_pairs false (triplets_of bytes))
-    ((two ++ field_pair true t) ++ field_pairs true (triplets_of bytes))) (append_assoc sections (a ∷ b ∷ c ∷ []) bytes)
-    ∙ ap (λ x. held rate flags counter (sections ++ a ∷ b ∷ c ∷ bytes) x ((one ++ field_pair false t) ++ field_pairs false (triplets_of bytes))
-    ((two ++ field_pair true t) ++ field_pairs true (triplets_of bytes))) (append_assoc triplets (t ∷ []) (triplets_of bytes))
+    ∙ ap (λ x. held rate flags counter x ((triplets ++ t ∷ []) ++ triplets_of bytes) ((one ++ field_pair One t) ++ field_pairs One (triplets_of bytes))
+    ((two ++ field_pair Two t) ++ field_pairs Two (triplets_of bytes))) (append_assoc sections (a ∷ b ∷ c ∷ []) bytes)
+    ∙ ap (λ x. held rate flags counter (sections ++ a ∷ b ∷ c ∷ bytes) x ((one ++ field_pair One t) ++ field_pairs One (triplets_of bytes))
+    ((two ++ field_pair Two t) ++ field_pairs Two (triplets_of bytes))) (append_assoc triplets (t ∷ []) (triplets_of bytes))
     ∙ ap (λ x. held rate flags counter (sections ++ a ∷ b ∷ c ∷ bytes) (triplets ++ t ∷ triplets_of bytes) x
-    ((two ++ field_pair true t) ++ field_pairs true (triplets_of bytes))) (append_assoc one (field_pair false t) (field_pairs false (triplets_of bytes)))
-    ∙ ap (λ x. held rate flags counter (sections ++ a ∷ b ∷ c ∷ bytes) (triplets ++ t ∷ triplets_of bytes) (one ++ field_pairs false (t ∷ triplets_of bytes)) x)
-    (append_assoc two (field_pair true t) (field_pairs true (triplets_of bytes)))
+    ((two ++ field_pair Two t) ++ field_pairs Two (triplets_of bytes))) (append_assoc one (field_pair One t) (field_pairs One (triplets_of bytes)))
+    ∙ ap (λ x. held rate flags counter (sections ++ a ∷ b ∷ c ∷ bytes) (triplets ++ t ∷ triplets_of bytes) (one ++ field_pairs One (t ∷ triplets_of bytes)) x)
+    (append_assoc two (field_pair Two t) (field_pairs Two (triplets_of bytes)))
 
 -- bytes that carry no triplets
 bytes_gathered : (rate : Rate) (flags counter : ℕ) (sections : List ℕ) (triplets : List Triplet) (one two : List Pair) (bytes : List ℕ)
@@ -206,8 +208,8 @@ section_gathered rate flags counter sections triplets one two (id ∷ second ∷
     let first = bytes_gathered rate flags counter sections triplets one two (id ∷ second ∷ []) (omega (arith, bytes)) in
     ap (λ g. front_from gather g (if id == 0x72 then triplet_parts rest else map part.SectionByte rest)) first
     ∙ rest_gathered (id == 0x72) id second rate flags counter (sections ++ id ∷ second ∷ []) triplets one two rest refl is.1 behind
-    ∙ ap (λ x. held rate flags counter x (triplets ++ section_triplets (id ∷ second ∷ rest)) (one ++ field_pairs false (section_triplets (id ∷ second ∷ rest)))
-    (two ++ field_pairs true (section_triplets (id ∷ second ∷ rest)))) (append_assoc sections (id ∷ second ∷ []) rest)
+    ∙ ap (λ x. held rate flags counter x (triplets ++ section_triplets (id ∷ second ∷ rest)) (one ++ field_pairs One (section_triplets (id ∷ second ∷ rest)))
+    (two ++ field_pairs Two (section_triplets (id ∷ second ∷ rest)))) (append_assoc sections (id ∷ second ∷ []) rest)
 
 -- a section has no more triplets than bytes for them
 triplets_few : (bytes : List ℕ) → 3 * length (triplets_of bytes) ≤ length bytes
@@ -220,28 +222,28 @@ pub section_few : (test : Bool) (rest : List ℕ) → 3 * length (if test then t
 section_few true rest = triplets_few rest
 section_few false rest = omega arith
 
-pairs_few : (second_field : Bool) (triplets : List Triplet) → length (field_pairs second_field triplets) ≤ length triplets
-pairs_few second_field [] = omega arith
-pairs_few second_field (t ∷ triplets) =
-    let one = one_pair second_field t in
-    let few = pairs_few second_field triplets in
-    let long = length-append (field_pair second_field t) (field_pairs second_field triplets) in
+pairs_few : (in_field : FieldNumber) (triplets : List Triplet) → length (field_pairs in_field triplets) ≤ length triplets
+pairs_few in_field [] = omega arith
+pairs_few in_field (t ∷ triplets) =
+    let one = one_pair in_field t in
+    let few = pairs_few in_field triplets in
+    let long = length-append (field_pair in_field t) (field_pairs in_field triplets) in
     omega (arith, one, few, long)
 
 -- those of one more triplet
-pub pairs_one_more : (second_field : Bool) (triplets : List Triplet) (t : Triplet) → length triplets < 81
-    → pair_more (field_pairs second_field triplets) (field_pair second_field t) ≡ field_pairs second_field (triplets ++ t ∷ [])
-pairs_one_more second_field triplets t room =
-    let few = pairs_few second_field triplets in
-    let pairs = field_pairs second_field triplets in
-    pair_fits (t.valid && (t.kind == field_kind second_field)) pairs (record { a = t.a; b = t.b }) (omega (arith, few, room))
-    ∙ ap (λ ps. pairs ++ ps) (sym (append-nil (field_pair second_field t)))
-    ∙ sym (flat_map-append (field_pair second_field) triplets (t ∷ []))
+pub pairs_one_more : (in_field : FieldNumber) (triplets : List Triplet) (t : Triplet) → length triplets < 81
+    → pair_more (field_pairs in_field triplets) (field_pair in_field t) ≡ field_pairs in_field (triplets ++ t ∷ [])
+pairs_one_more in_field triplets t room =
+    let few = pairs_few in_field triplets in
+    let pairs = field_pairs in_field triplets in
+    pair_fits (t.valid && (t.kind == field_kind in_field)) pairs (record { a = t.a; b = t.b }) (omega (arith, few, room))
+    ∙ ap (λ ps. pairs ++ ps) (sym (append-nil (field_pair in_field t)))
+    ∙ sym (flat_map-append (field_pair in_field) triplets (t ∷ []))
 
 -- room behind a section
 section_room : (sections : List ℕ) (triplets : List Triplet) (one two : List Pair) (section : List ℕ) (more : ℕ) → IsSection section
     → Room sections triplets one two (length section + more)
-    → Room (sections ++ section) (triplets ++ section_triplets section) (one ++ field_pairs false (section_triplets section)) (two ++ field_pairs true (section_triplets section)) more
+    → Room (sections ++ section) (triplets ++ section_triplets section) (one ++ field_pairs One (section_triplets section)) (two ++ field_pairs Two (section_triplets section)) more
 section_room sections triplets one two [] more is room = absurd is
 section_room sections triplets one two (id ∷ []) more is room = absurd is
 section_room sections triplets one two (id ∷ second ∷ rest) more is room =
@@ -252,11 +254,11 @@ section_room sections triplets one two (id ∷ second ∷ rest) more is room =
     let two_fits = room.two_fits in
     let s = length-append sections (id ∷ second ∷ rest) in
     let ts = length-append triplets own in
-    let ones = length-append one (field_pairs false own) in
-    let twos = length-append two (field_pairs true own) in
+    let ones = length-append one (field_pairs One own) in
+    let twos = length-append two (field_pairs Two own) in
     let few = section_few (id == 0x72) rest in
-    let first = pairs_few false own in
-    let second_few = pairs_few true own in
+    let first = pairs_few One own in
+    let second_few = pairs_few Two own in
     record {
       bytes = omega (arith, bytes, s);
       triplets_fit = omega (arith, triplets_fit, s, ts, few);
@@ -278,8 +280,8 @@ sections_gathered rate flags counter sections triplets one two (section ∷ cut)
     record { bytes = omega (arith, bytes); triplets_fit = fits.triplets_fit; one_fits = fits.one_fits; two_fits = fits.two_fits } in
     front_from-append gather (held rate flags counter sections triplets one two) (section_parts section) (flat_map section_parts cut)
     ∙ ap (λ g. front_from gather g (flat_map section_parts cut)) (section_gathered rate flags counter sections triplets one two section is own)
-    ∙ sections_gathered rate flags counter (sections ++ section) (triplets ++ section_triplets section) (one ++ field_pairs false (section_triplets section))
-    (two ++ field_pairs true (section_triplets section)) cut are (section_room sections triplets one two section (length (concat cut)) is fits)
+    ∙ sections_gathered rate flags counter (sections ++ section) (triplets ++ section_triplets section) (one ++ field_pairs One (section_triplets section))
+    (two ++ field_pairs Two (section_triplets section)) cut are (section_room sections triplets one two section (length (concat cut)) is fits)
     ∙ more_behind rate flags counter sections triplets one two section (concat cut) (section_triplets section) (flat_map section_triplets cut)
 
 -- a packet
@@ -290,8 +292,8 @@ pub packet_gathered : (packet : Packet) → AreSections packet.sections → leng
       counter = packet.counter;
       sections = concat packet.sections;
       triplets = packet_triplets packet;
-      pairs_one = field_pairs false (packet_triplets packet);
-      pairs_two = field_pairs true (packet_triplets packet);
+      pairs_one = field_pairs One (packet_triplets packet);
+      pairs_two = field_pairs Two (packet_triplets packet);
     }
 packet_gathered packet are few =
     let start = held packet.rate packet.flags packet.counter [] [] [] [] in

@@ -1,8 +1,10 @@
 -- What is caught of bytes says what their frames say.
-use Rattle.std.proofs.Common.{arith, ◌≡◌, ℕ, ◌%◌, ◌<◌, ◌≤◌, Bool, true, false, ◌++◌, List, [], ◌∷◌, length, map, reverse, refl, ap, sym, ◌∙◌, append_assoc, append-nil, length-append}
+use Rattle.std.proofs.Common.{arith, ◌≡◌, ℕ, ◌%◌, ◌<◌, ◌≤◌, ◌++◌, List, [], ◌∷◌, length, map, reverse, refl, ap, sym, ◌∙◌, append_assoc, append-nil, length-append}
 use Rattle.std.proofs.lemmas.List.{length-map, reverse-append}
 use Rattle.std.specs.List.{concat}
 use Rattle.cc_base.specs.Feeding.{Verdict}
+use Rattle.line21_codes.specs.declared.channels.FieldNumber.{FieldNumber}
+use Rattle.line21_codes.specs.declared.channels.FieldNumber.TheVariants.{One, Two}
 use Rattle.anc_words.specs.Packets.{AncillaryPacket, IsPacket, user_bytes}
 use Rattle.anc_words.specs.WordsFiles.{ArePackets}
 use Rattle.cdp_packets.specs.declared.parts.CdpPart.{CdpPart}
@@ -55,26 +57,26 @@ frames_of_fit v frames bytes are =
     frames_fit file.packets frames file.carried file.file.words file.file.are_packets
 
 -- the pairs of a frame
-pairs_of_frame : (second_field : Bool) (frame : Frame) → Fits frame → parts_pairs second_field (packet_parts frame) ≡ field_pairs second_field (packet_triplets frame)
-pairs_of_frame false frame fits = ap (λ (g : Gathered). g.pairs_one) (packet_gathered frame fits.are fits.few)
-pairs_of_frame true frame fits = ap (λ (g : Gathered). g.pairs_two) (packet_gathered frame fits.are fits.few)
+pairs_of_frame : (in_field : FieldNumber) (frame : Frame) → Fits frame → parts_pairs in_field (packet_parts frame) ≡ field_pairs in_field (packet_triplets frame)
+pairs_of_frame One frame fits = ap (λ (g : Gathered). g.pairs_one) (packet_gathered frame fits.are fits.few)
+pairs_of_frame Two frame fits = ap (λ (g : Gathered). g.pairs_two) (packet_gathered frame fits.are fits.few)
 
 -- what is heard of frames and earlier ones
-heard-append : (second_field : Bool) (frames earlier : List (List CdpPart)) → heard second_field (frames ++ earlier) ≡ heard second_field frames ++ heard second_field earlier
-heard-append second_field [] earlier = refl
-heard-append second_field (parts ∷ frames) earlier =
-    ap (λ ps. reverse (parts_pairs second_field parts) ++ ps) (heard-append second_field frames earlier)
-    ∙ sym (append_assoc (reverse (parts_pairs second_field parts)) (heard second_field frames) (heard second_field earlier))
+heard-append : (in_field : FieldNumber) (frames earlier : List (List CdpPart)) → heard in_field (frames ++ earlier) ≡ heard in_field frames ++ heard in_field earlier
+heard-append in_field [] earlier = refl
+heard-append in_field (parts ∷ frames) earlier =
+    ap (λ ps. reverse (parts_pairs in_field parts) ++ ps) (heard-append in_field frames earlier)
+    ∙ sym (append_assoc (reverse (parts_pairs in_field parts)) (heard in_field frames) (heard in_field earlier))
 
 -- what is heard of the frames are their pairs
-pub heard_frames : (second_field : Bool) (frames : List Frame) → AllFit frames
-    → heard second_field (reverse (map packet_parts frames)) ≡ reverse (received_pairs second_field frames)
-heard_frames second_field [] fit = refl
-heard_frames second_field (frame ∷ frames) (fits, fit) =
-    let own = field_pairs second_field (packet_triplets frame) in
-    ap (heard second_field) (reverse-append (packet_parts frame ∷ []) (map packet_parts frames))
-    ∙ heard-append second_field (reverse (map packet_parts frames)) (packet_parts frame ∷ [])
-    ∙ ap (λ ps. ps ++ (reverse (parts_pairs second_field (packet_parts frame)) ++ [])) (heard_frames second_field frames fit)
-    ∙ ap (λ ps. reverse (received_pairs second_field frames) ++ ps) (append-nil (reverse (parts_pairs second_field (packet_parts frame)))
-    ∙ ap reverse (pairs_of_frame second_field frame fits))
-    ∙ sym (reverse-append own (received_pairs second_field frames))
+pub heard_frames : (in_field : FieldNumber) (frames : List Frame) → AllFit frames
+    → heard in_field (reverse (map packet_parts frames)) ≡ reverse (received_pairs in_field frames)
+heard_frames in_field [] fit = refl
+heard_frames in_field (frame ∷ frames) (fits, fit) =
+    let own = field_pairs in_field (packet_triplets frame) in
+    ap (heard in_field) (reverse-append (packet_parts frame ∷ []) (map packet_parts frames))
+    ∙ heard-append in_field (reverse (map packet_parts frames)) (packet_parts frame ∷ [])
+    ∙ ap (λ ps. ps ++ (reverse (parts_pairs in_field (packet_parts frame)) ++ [])) (heard_frames in_field frames fit)
+    ∙ ap (λ ps. reverse (received_pairs in_field frames) ++ ps) (append-nil (reverse (parts_pairs in_field (packet_parts frame)))
+    ∙ ap reverse (pairs_of_frame in_field frame fits))
+    ∙ sym (reverse-append own (received_pairs in_field frames))

@@ -1,9 +1,11 @@
 -- A frame whose pairs are null leaves all screens as they were.
-use Rattle.std.proofs.Common.{◌≡◌, ◌==◌, Bool, true, false, ◌++◌, List, [], ◌∷◌, reverse, refl, ap, ◌∙◌, append_assoc, append-nil}
+use Rattle.std.proofs.Common.{◌≡◌, ◌==◌, true, ◌++◌, List, [], ◌∷◌, reverse, refl, ap, ◌∙◌, append_assoc, append-nil}
 use Rattle.std.specs.List.{list_all}
 use Rattle.std.proofs.lemmas.Bool.{and_parts, eqb-true}
 use Rattle.std.proofs.lemmas.Grind.{flat_map-append}
 use Rattle.std.proofs.lemmas.List.{reverse-append}
+use Rattle.line21_codes.specs.declared.channels.FieldNumber.{FieldNumber}
+use Rattle.line21_codes.specs.declared.channels.FieldNumber.TheVariants.{One, Two}
 use Rattle.line21_codes.specs.declared.codes.Code.TheVariants.{Null}
 use Rattle.line21_codes.specs.declared.pairs.Pair.{Pair}
 use Rattle.line21_codes.specs.Reading.{code_of}
@@ -25,7 +27,7 @@ null_code pair null =
     rw (first, second) refl
 
 -- null pairs do nothing
-nulls_do_nothing : (f : Bool) (pairs before : List Pair) → list_all is_null pairs ≡ true → after f (reverse pairs ++ before) ≡ after f before
+nulls_do_nothing : (f : FieldNumber) (pairs before : List Pair) → list_all is_null pairs ≡ true → after f (reverse pairs ++ before) ≡ after f before
 nulls_do_nothing f [] before null = refl
 nulls_do_nothing f (pair ∷ pairs) before null =
     let (one, others) = and_parts (is_null pair) (list_all is_null pairs) null in
@@ -35,12 +37,12 @@ nulls_do_nothing f (pair ∷ pairs) before null =
     ∙ null_does_nothing f before pair (null_code pair one)
 
 -- a field's pairs of a frame of null pairs
-idle_pairs : (f : Bool) (frame : Frame) → is_idle frame ≡ true → list_all is_null (field_pairs f (packet_triplets frame)) ≡ true
-idle_pairs false frame idle = (and_parts (list_all is_null (field_pairs false (packet_triplets frame))) (list_all is_null (field_pairs true (packet_triplets frame))) idle).0
-idle_pairs true frame idle = (and_parts (list_all is_null (field_pairs false (packet_triplets frame))) (list_all is_null (field_pairs true (packet_triplets frame))) idle).1
+idle_pairs : (f : FieldNumber) (frame : Frame) → is_idle frame ≡ true → list_all is_null (field_pairs f (packet_triplets frame)) ≡ true
+idle_pairs One frame idle = (and_parts (list_all is_null (field_pairs One (packet_triplets frame))) (list_all is_null (field_pairs Two (packet_triplets frame))) idle).0
+idle_pairs Two frame idle = (and_parts (list_all is_null (field_pairs One (packet_triplets frame))) (list_all is_null (field_pairs Two (packet_triplets frame))) idle).1
 
 -- a frame of null pairs does nothing either
-pub idle_frame : (f : Bool) (earlier : List Frame) (last : Frame) → is_idle last ≡ true → received f (earlier ++ last ∷ []) ≡ received f earlier
+pub idle_frame : (f : FieldNumber) (earlier : List Frame) (last : Frame) → is_idle last ≡ true → received f (earlier ++ last ∷ []) ≡ received f earlier
 idle_frame f earlier last idle =
     let own = field_pairs f (packet_triplets last) in
     let both : received_pairs f (earlier ++ last ∷ []) ≡ received_pairs f earlier ++ own =

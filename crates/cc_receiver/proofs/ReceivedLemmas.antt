@@ -1,5 +1,5 @@
 -- What a receiver shows, and what it keeps of the last frame.
-use Rattle.std.proofs.Common.{◌≡◌, ℕ, ◌++◌, Bool, true, false, List, [], ◌∷◌, map, reverse, Option, Some, None, refl, ap, subst, ◌∙◌}
+use Rattle.std.proofs.Common.{◌≡◌, ℕ, ◌++◌, List, [], ◌∷◌, map, reverse, Option, Some, None, refl, ap, subst, ◌∙◌}
 use Rattle.std.proofs.lemmas.List.{map-append, reverse-append}
 use Rattle.std.specs.List.{concat}
 use Rattle.cc_base.specs.declared.refusal.Refusal.{Refusal}
@@ -7,8 +7,10 @@ use Rattle.cdp_packets.specs.declared.parts.CdpPart.{CdpPart}
 use Rattle.cdp_packets.specs.PacketParts.{packet_parts}
 use Rattle.cdp_packets.specs.PacketTriplets.{packet_triplets}
 use Rattle.cdp_packets.specs.Packets.{Packet as Frame}
+use Rattle.line21_codes.specs.declared.channels.FieldNumber.{FieldNumber}
+use Rattle.line21_codes.specs.declared.channels.FieldNumber.TheVariants.{One, Two}
 use Rattle.line21_codes.specs.declared.channels.Chan.{Chan}
-use Rattle.line21_codes.specs.Channels.{is_in_second_field, is_second_channel}
+use Rattle.line21_codes.specs.Channels.{field_of_channel, data_channel_of}
 use Rattle.line21_screen.specs.Fields.{FieldState, channel}
 use Rattle.line21_screen.specs.Meaning.{after}
 use Rattle.line21_screen.specs.Objects.{field_of}
@@ -35,22 +37,22 @@ kept_is bytes receiver had =
     ] in cases _ refl
 
 -- what is heard of bytes are the pairs of their frames
-heard_of : (second_field : Bool) (frames : List Frame) (bytes : List ℕ) (receiver : Receiver) → HasReceived bytes receiver → AreFramesOf services_say frames bytes
-    → heard second_field (caught_in services_say bytes).frames ≡ reverse (received_pairs second_field frames)
-heard_of second_field frames bytes receiver had are =
-    ap (heard second_field) (frames_are_caught services_say frames bytes had.bytes_are are) ∙ heard_frames second_field frames (frames_of_fit services_say frames bytes are)
+heard_of : (in_field : FieldNumber) (frames : List Frame) (bytes : List ℕ) (receiver : Receiver) → HasReceived bytes receiver → AreFramesOf services_say frames bytes
+    → heard in_field (caught_in services_say bytes).frames ≡ reverse (received_pairs in_field frames)
+heard_of in_field frames bytes receiver had are =
+    ap (heard in_field) (frames_are_caught services_say frames bytes had.bytes_are are) ∙ heard_frames in_field frames (frames_of_fit services_say frames bytes are)
 
 -- the state of a field
-field_received : (second_field : Bool) (frames : List Frame) (bytes : List ℕ) (receiver : Receiver) → HasReceived bytes receiver → AreFramesOf services_say frames bytes
-    → field_of (field_in second_field receiver) ≡ received second_field frames
-field_received false frames bytes receiver had are = had.reached.took.first.state ∙ ap (after false) (heard_of false frames bytes receiver had are)
-field_received true frames bytes receiver had are = had.reached.took.second.state ∙ ap (after true) (heard_of true frames bytes receiver had are)
+field_received : (in_field : FieldNumber) (frames : List Frame) (bytes : List ℕ) (receiver : Receiver) → HasReceived bytes receiver → AreFramesOf services_say frames bytes
+    → field_of (field_in in_field receiver) ≡ received in_field frames
+field_received One frames bytes receiver had are = had.reached.took.first.state ∙ ap (after One) (heard_of One frames bytes receiver had are)
+field_received Two frames bytes receiver had are = had.reached.took.second.state ∙ ap (after Two) (heard_of Two frames bytes receiver had are)
 
 -- a receiver shows what its frames leave on the screens
 pub shown_received : (frames : List Frame) (bytes : List ℕ) (receiver : Receiver) (chan : Chan) → HasReceived bytes receiver → AreFramesOf services_say frames bytes
     → displayed_grid receiver chan ≡ received_grids frames chan
 shown_received frames bytes receiver chan had are =
-    ap (λ (s : FieldState). (channel (is_second_channel chan) s).displayed) (field_received (is_in_second_field chan) frames bytes receiver had are)
+    ap (λ (s : FieldState). (channel (data_channel_of chan) s).displayed) (field_received (field_of_channel chan) frames bytes receiver had are)
 
 -- the last of frames that fit
 last_fits : (earlier : List Frame) (last : Frame) → AllFit (earlier ++ last ∷ []) → Fits last
@@ -65,8 +67,8 @@ said frame = record {
   counter = frame.counter;
   sections = concat frame.sections;
   triplets = packet_triplets frame;
-  pairs_one = field_pairs false (packet_triplets frame);
-  pairs_two = field_pairs true (packet_triplets frame);
+  pairs_one = field_pairs One (packet_triplets frame);
+  pairs_two = field_pairs Two (packet_triplets frame);
 }
 
 -- the last frame is kept

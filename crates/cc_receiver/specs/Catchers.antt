@@ -1,12 +1,15 @@
 -- What is kept of the parts of ancillary packets: the reader of the open packet of captions with what it says so far and what judges
 -- its triplets, what the last whole frame says, both fields of line 21 (CTA-608-E), the services of DTVCC (CTA-708-E), and the number of
 -- whole frames.
-use Rattle.std.specs.Prelude.{◌≡◌, ◌<◌, ◌%◌, ◌^◌, true, false, List, [], ◌∷◌, ◌++◌, length, Option, Some, None}
+use Rattle.std.specs.Prelude.{◌≡◌, ◌<◌, ◌%◌, ◌^◌, List, [], ◌∷◌, ◌++◌, length, Option, Some, None}
 use Rattle.anc_words.specs.declared.parts.WordPart.{WordPart}
 use Rattle.cdp_packets.specs.declared.parts.CdpPart.{CdpPart}
 use Rattle.cdp_packets.specs.declared.reader.CdpReader.{CdpReader}
 use Rattle.cdp_packets.specs.Readers.{HasRead}
+use Rattle.line21_codes.specs.declared.channels.FieldNumber.{FieldNumber}
+use Rattle.line21_codes.specs.declared.channels.FieldNumber.TheVariants.{One, Two}
 use Rattle.line21_screen.specs.Objects.{Leads}
+use Rattle.line21_screen.specs.declared.field.Field.{Field}
 use Rattle.cc_receiver.specs.declared.captions.Captions.{Captions}
 use Rattle.cc_receiver.specs.declared.channel.Channel.{Channel}
 use Rattle.cc_receiver.specs.declared.frame.Frame.{Frame}
@@ -34,6 +37,11 @@ abbrev pub JudgesParts : List (List CdpPart) → Option OpenCaption → Channel 
 JudgesParts frames None judging = Unit {0}
 JudgesParts frames (Some o) judging = HasTried (frames_parts frames ++ o.parts) judging
 
+-- a field of line 21
+abbrev pub captions_field : FieldNumber → Captions → Field
+captions_field One captions = captions.first
+captions_field Two captions = captions.second
+
 -- it keeps what was caught
 pub record Keeps (caught : Caught) (captions : Captions) : Type 0 where
   pub refused : captions.refused ≡ caught.refused
@@ -41,8 +49,8 @@ pub record Keeps (caught : Caught) (captions : Captions) : Type 0 where
   pub judges : caught.refused ≡ None → JudgesParts caught.frames caught.open_caption captions.judging
   pub last : KeepsLast caught.frames captions.last
   pub channel : HasTried (frames_parts caught.frames) captions.channel
-  pub first : Leads false (heard false caught.frames) captions.first
-  pub second : Leads true (heard true caught.frames) captions.second
+  pub first : Leads One (heard One caught.frames) captions.first
+  pub second : Leads Two (heard Two caught.frames) captions.second
   pub services : length caught.frames < 2 ^ 32 → IsHeard (said_triplets caught.frames) → ServesFrames caught.frames captions.served
   pub count : captions.frames ≡ length caught.frames % 2 ^ 32
 

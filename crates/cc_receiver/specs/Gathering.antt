@@ -1,13 +1,14 @@
 -- What is gathered from the parts of a caption distribution packet (SMPTE ST 334-2; CTA-708-E, cc_data()): the rate, the
 -- flags, the counter, the bytes of the sections, and the triplets with the pairs of line 21 among those that count. There is
 -- room for 244 bytes and 81 triplets, which no packet passes.
-use Rattle.std.specs.Prelude.{ℕ, nat_lt, if◌then◌else◌, true, false, List, [], ◌∷◌, ◌++◌, length}
+use Rattle.std.specs.Prelude.{ℕ, nat_lt, if◌then◌else◌, List, [], ◌∷◌, ◌++◌, length}
 use Rattle.cc_base.specs.declared.rate.Rate.{Rate}
 use Rattle.cc_base.specs.declared.rate.Rate.TheVariants as rate
 use Rattle.cc_base.specs.Steps.{front_from}
 use Rattle.cc_data.specs.declared.triplet.Triplet.{Triplet}
 use Rattle.cdp_packets.specs.declared.parts.CdpPart.{CdpPart}
 use Rattle.cdp_packets.specs.declared.parts.CdpPart.TheVariants as part
+use Rattle.line21_codes.specs.declared.channels.FieldNumber.TheVariants.{One, Two}
 use Rattle.line21_codes.specs.declared.pairs.Pair.{Pair}
 use Rattle.words_files.specs.Received.{field_pair}
 
@@ -46,8 +47,8 @@ pair_more pairs (pair ∷ rest) = one_more 81 pairs pair
 abbrev pub with_triplet : Triplet → Gathered → Gathered
 with_triplet t g = record g {
   triplets = one_more 81 g.triplets t;
-  pairs_one = pair_more g.pairs_one (field_pair false t);
-  pairs_two = pair_more g.pairs_two (field_pair true t);
+  pairs_one = pair_more g.pairs_one (field_pair One t);
+  pairs_two = pair_more g.pairs_two (field_pair Two t);
 }
 
 -- behind one more part

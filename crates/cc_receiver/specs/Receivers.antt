@@ -1,13 +1,14 @@
 -- What a receiver is, behind the bytes that it was fed.
-use Rattle.std.specs.Prelude.{◌≡◌, ℕ, ◌<◌, Bool, if◌then◌else◌, List, [], length, Option}
+use Rattle.std.specs.Prelude.{◌≡◌, ℕ, ◌<◌, List, [], length, Option}
 use Rattle.std.specs.List.{All}
 use Rattle.cc_base.specs.declared.refusal.Refusal.{Refusal}
 use Rattle.cc_base.specs.Feeding.{Reached, place_by}
 use Rattle.cc_base.specs.Syntax.{judge_by}
 use Rattle.anc_words.specs.Readers.{HasRead, kept_refusal}
 use Rattle.anc_words.specs.Reading.{anc_syntax}
-use Rattle.line21_codes.specs.Channels.{is_in_second_field, is_second_channel}
+use Rattle.line21_codes.specs.Channels.{field_of_channel, data_channel_of}
 use Rattle.line21_codes.specs.declared.channels.Chan.{Chan}
+use Rattle.line21_codes.specs.declared.channels.FieldNumber.{FieldNumber}
 use Rattle.line21_screen.specs.Fields.{channel}
 use Rattle.line21_screen.specs.Grid.{Grid}
 use Rattle.line21_screen.specs.Objects.{field_of}
@@ -15,7 +16,7 @@ use Rattle.line21_screen.specs.declared.field.Field.{Field}
 use Rattle.cc_receiver.specs.declared.receiver.Receiver.{Receiver}
 use Rattle.words_files.specs.Catching.{caption_verdict, caught_in}
 use Rattle.services_files.specs.Services.{services_say}
-use Rattle.cc_receiver.specs.Catchers.{HasCaught}
+use Rattle.cc_receiver.specs.Catchers.{HasCaught, captions_field}
 
 -- the number of whole frames that it counts
 abbrev pub frame_count : Receiver → ℕ
@@ -26,12 +27,12 @@ abbrev pub receiver_refusal : Receiver → Option Refusal
 receiver_refusal receiver = kept_refusal receiver.words
 
 -- a field of line 21
-abbrev pub field_in : Bool → Receiver → Field
-field_in second_field receiver = if second_field then receiver.captions.second else receiver.captions.first
+abbrev pub field_in : FieldNumber → Receiver → Field
+field_in in_field receiver = captions_field in_field receiver.captions
 
 -- the displayed cells of a channel
 abbrev pub displayed_grid : Receiver → Chan → Grid
-displayed_grid receiver chan = (channel (is_second_channel chan) (field_of (field_in (is_in_second_field chan) receiver))).displayed
+displayed_grid receiver chan = (channel (data_channel_of chan) (field_of (field_in (field_of_channel chan) receiver))).displayed
 
 -- it was fed these bytes, those too behind a refused word, and counts their frames
 pub record HasReceived (bytes : List ℕ) (receiver : Receiver) : Type 0 where

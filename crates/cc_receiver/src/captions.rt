@@ -1,4 +1,4 @@
-ghost use Rattle.std.specs.Prelude.{◌≡◌, ◌≤◌, ◌<◌, ◌%◌, if◌then◌else◌, ◌++◌, Bool, false, List, [], ◌∷◌, None, IfOk, IsTrue, length, reverse, sum as total};
+ghost use Rattle.std.specs.Prelude.{◌≡◌, ◌≤◌, ◌<◌, ◌%◌, ◌++◌, false, List, [], ◌∷◌, None, IfOk, IsTrue, length, reverse, sum as total};
 ghost use Rattle.cc_base.specs.Feeding.{hand};
 ghost use Rattle.channel_packets.specs.ChannelPackets.{channel_triplets};
 ghost use Rattle.cc_data.specs.declared.triplet.Triplet.{Triplet as TripletOf};
@@ -7,6 +7,7 @@ ghost use Rattle.cdp_packets.specs.PacketParts.{packet_parts};
 ghost use Rattle.cdp_packets.specs.Packets.{IsCdp, Packet as FrameOf};
 ghost use Rattle.cdp_packets.specs.Sections.{AreSections};
 ghost use Rattle.cdp_packets.specs.WholePackets.{SaysPacket};
+ghost use Rattle.line21_codes.specs.declared.channels.FieldNumber.{FieldNumber};
 ghost use Rattle.line21_codes.specs.declared.pairs.Pair.{Pair as PairOf};
 ghost use Rattle.line21_screen.specs.Objects.{Leads};
 ghost use Rattle.words_files.specs.Catching.{Caught, caught_after, nothing_caught, packet_begun, packet_ended, taken, verdict_behind};
@@ -24,7 +25,7 @@ use crate::triplets::Triplets;
 use anc_words::WordPart;
 use cc_base::{Step, Upward, Why};
 use cdp_packets::{CdpPart, CdpReader, WholePacket, read_summed_packet};
-use line21_codes::Pair;
+use line21_codes::{FieldNumber, Pair};
 use line21_screen::Field;
 use std::alloc::{AllocError, Global};
 use std::mem;
@@ -63,8 +64,8 @@ pub(crate) struct Captions {
 // Applies pairs to a field, in order.
 #[inline(always)]
 fn apply_all(field: &mut Field, pairs: &[Pair])
-    ensures { (second_field : Bool) (before : List PairOf) → Leads second_field before field.old
-        → Leads second_field (reverse pairs.now ++ before) field.new }
+    ensures { (in_field : FieldNumber) (before : List PairOf) → Leads in_field before field.old
+        → Leads in_field (reverse pairs.now ++ before) field.new }
 {
     for pair in pairs {
         field.apply(*pair);
@@ -103,7 +104,7 @@ fn take_step(frame: &mut Frame, judging: &mut Channel, step: Step<CdpPart>) -> O
 
 impl Captions {
     ghost use Rattle.cc_receiver.specs.declared.channel.Channel.{Channel as ChannelOf};
-    ghost use Rattle.cc_receiver.specs.Catchers.{HasCaught, Keeps, with_frame};
+    ghost use Rattle.cc_receiver.specs.Catchers.{HasCaught, Keeps, captions_field, with_frame};
     ghost use Rattle.cc_receiver.specs.declared.frame.Frame.{Frame as Said};
 
     /// It was handed nothing. All memory that it ever takes is taken here.
@@ -125,15 +126,14 @@ impl Captions {
     }
 
     /// A field of line 21.
-    pub(crate) fn field(&self, second_field: bool) -> &Field
+    pub(crate) fn field(&self, in_field: FieldNumber) -> &Field
         ensures heard { (caught : Caught) → Keeps caught self.now
-            → Leads second_field (heard second_field caught.frames) result.now }
-        ensures field { result.now ≡ (if second_field then self.now.second else self.now.first) }
+            → Leads in_field (heard in_field caught.frames) result.now }
+        ensures field { result.now ≡ captions_field in_field self.now }
     {
-        if second_field {
-            &self.second
-        } else {
-            &self.first
+        match in_field {
+            FieldNumber::One => &self.first,
+            FieldNumber::Two => &self.second,
         }
     }
 

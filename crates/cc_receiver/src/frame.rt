@@ -1,4 +1,4 @@
-ghost use Rattle.std.specs.Prelude.{◌≡◌, ◌≤◌, ℕ, Bool, true, List, [], IsTrue, length};
+ghost use Rattle.std.specs.Prelude.{◌≡◌, ◌≤◌, ℕ, true, List, [], IsTrue, length};
 ghost use Rattle.std.specs.List.{concat, flat_map, list_all};
 ghost use Rattle.cc_data.specs.declared.triplet.Triplet.{Triplet as TripletOf};
 ghost use Rattle.channel_packets.specs.ChannelPackets.{channel_triplets};
@@ -7,6 +7,7 @@ ghost use Rattle.cdp_packets.specs.PacketParts.{packet_parts};
 ghost use Rattle.cdp_packets.specs.PacketTriplets.{section_triplets};
 ghost use Rattle.cdp_packets.specs.Sections.{AreSections};
 ghost use Rattle.cdp_packets.specs.WholePackets.{SaysPacket};
+ghost use Rattle.line21_codes.specs.declared.channels.FieldNumber.{FieldNumber};
 ghost use Rattle.line21_codes.specs.NullPairs.{is_null};
 ghost use Rattle.words_files.specs.Received.{field_kind, field_pair, field_pairs};
 ghost use Rattle.cc_receiver.specs.Gathering.{Gathered, gather, pair_more, with_triplet};
@@ -36,8 +37,8 @@ const FIELD_TWO: u8 = 1;
 
 // Puts the pair of a triplet, if it counts and is of this kind, behind others, where there is room.
 fn put_pair(triplet: Triplet, kind: u8, pairs: &mut ArrayVec<Pair, 81>)
-    ensures { (second_field : Bool) → kind ≡ field_kind second_field
-        → pairs.new.items ≡ pair_more pairs.old.items (field_pair second_field triplet) }
+    ensures { (in_field : FieldNumber) → kind ≡ field_kind in_field
+        → pairs.new.items ≡ pair_more pairs.old.items (field_pair in_field triplet) }
 {
     if triplet.valid && triplet.kind == kind {
         let _ = pairs.try_push(Pair {
@@ -49,8 +50,8 @@ fn put_pair(triplet: Triplet, kind: u8, pairs: &mut ArrayVec<Pair, 81>)
 
 // Puts the pairs of at most 81 triplets, of those that count and are of this kind, into an empty list.
 fn put_pairs(triplets: &[Triplet], kind: u8, pairs: &mut ArrayVec<Pair, 81>)
-    ensures { (second_field : Bool) → kind ≡ field_kind second_field → length triplets.now ≤ 81 → pairs.old.items ≡ []
-        → pairs.new.items ≡ field_pairs second_field triplets.now }
+    ensures { (in_field : FieldNumber) → kind ≡ field_kind in_field → length triplets.now ≤ 81 → pairs.old.items ≡ []
+        → pairs.new.items ≡ field_pairs in_field triplets.now }
 {
     for triplet in triplets {
         put_pair(*triplet, kind, pairs);

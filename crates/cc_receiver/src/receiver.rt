@@ -19,6 +19,7 @@ ghost use Rattle.cc_receiver.specs.Feeds.{Feeds};
 ghost use Rattle.cc_receiver.specs.Receiving.{EndsBy};
 ghost use Rattle.cc_receiver.specs.Idle.{is_idle};
 ghost use Rattle.line21_codes.specs.declared.channels.Chan.{Chan as Channel};
+ghost use Rattle.line21_codes.specs.declared.channels.FieldNumber.TheVariants.{One};
 
 use crate::captions::Captions;
 use anc_words::{CaptionPacket, WordReader};
@@ -213,9 +214,7 @@ impl Receiver {
         ensures received { (bytes : List ℕ) (frames : List FrameOf) → HasReceived bytes self.now → AreFramesOf services_say frames bytes
             → result ≡ received_grids frames chan row col }
     {
-        self.captions
-            .field(chan.is_in_second_field())
-            .cell(chan.is_second_channel(), row, col)
+        self.displayed(chan).cell(row, col)
     }
 
     /// The displayed memory of a channel behind the last whole frame (CTA-608-E; 47 CFR 79.101).
@@ -223,8 +222,8 @@ impl Receiver {
         ensures { grid_in result.now ≡ displayed_grid self.now chan }
     {
         self.captions
-            .field(chan.is_in_second_field())
-            .displayed(chan.is_second_channel())
+            .field(chan.field())
+            .displayed(chan.data_channel())
     }
 
     /// Whether all pairs of line 21 of the last whole frame, where there is one, are null pairs, 80 80: such a frame leaves all
@@ -353,7 +352,7 @@ impl Receiver {
     pub fn pairs_one(&self) -> &[Pair]
         requires { 0 < frame_count self.now }
         ensures { (bytes : List ℕ) (earlier : List FrameOf) (last : FrameOf) → HasReceived bytes self.now
-            → AreFramesOf services_say (earlier ++ last ∷ []) bytes → result.now ≡ field_pairs false (packet_triplets last) }
+            → AreFramesOf services_say (earlier ++ last ∷ []) bytes → result.now ≡ field_pairs One (packet_triplets last) }
     {
         self.captions.last.pairs_one.as_slice()
     }

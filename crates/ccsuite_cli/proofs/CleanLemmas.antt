@@ -24,6 +24,7 @@ use Rattle.frame_carrier.specs.Carried.{AreCarried}
 use Rattle.frame_carrier.specs.Carrying.{channel_packet_of, column_packets, frame_packet}
 use Rattle.frame_scheduler.specs.Columns.{Columns}
 use Rattle.frame_scheduler.specs.Planned.{Placement, columns_of}
+use Rattle.line21_codes.specs.declared.channels.FieldNumber.TheVariants.{One, Two}
 use Rattle.line21_codes.specs.declared.channels.Chan.{Chan}
 use Rattle.line21_codes.specs.declared.channels.Chan.TheVariants.{Cc1, Cc2, Cc3, Cc4}
 use Rattle.line21_screen.specs.Grid.{Grid}
@@ -82,7 +83,7 @@ counts_on n = omega arith
 module _ (list : Listing) (placed : Placement) (formed : IsFormed list) (carried : AreCarried list.rate (columns_of list placed) list.frames)
     (fills : BuffersNeverFill (column_packets list.rate (columns_of list placed) 0 list.frames))
     (shown : (frame : ℕ) → frame < list.frames
-    → ShowsList list (λ second_field. received_at second_field (column_packets list.rate (columns_of list placed) 0 list.frames) frame) frame)
+    → ShowsList list (λ in_field. received_at in_field (column_packets list.rate (columns_of list placed) 0 list.frames) frame) frame)
     (windows : (frame : ℕ) → frame < list.frames → ShowAuthoredWindows list.cues (column_packets list.rate (columns_of list placed) 0 list.frames) frame)
     (earlier : List Frame) (last : Frame) (later : List Frame) (split : column_packets list.rate (columns_of list placed) 0 list.frames ≡ earlier ++ last ∷ later) where
   abbrev columns : Columns
@@ -137,17 +138,17 @@ module _ (list : Listing) (placed : Placement) (formed : IsFormed list) (carried
   -- each channel shows what is authored, where the frame is settled for it
   no_other_grid : (channel : Chan) → ShowsOther list.cues (length earlier) (received_grids (earlier ++ last ∷ [])) channel → ⊥
   no_other_grid Cc1 shows =
-      let now = ap (λ (fs : List Frame). received_grids fs Cc1) (sym front) ∙ (shown (length earlier) below false).first shows.settled in
+      let now = ap (λ (fs : List Frame). received_grids fs Cc1) (sym front) ∙ (shown (length earlier) below One).first shows.settled in
       shows.other.other (ap (λ (g : Grid). g shows.other.row shows.other.col) now)
   no_other_grid Cc2 shows =
-      let now = ap (λ (fs : List Frame). received_grids fs Cc2) (sym front) ∙ (shown (length earlier) below false).second
+      let now = ap (λ (fs : List Frame). received_grids fs Cc2) (sym front) ∙ (shown (length earlier) below One).second
       ∙ sym (nothing_authored Cc2 (λ a. a) list.cues (length earlier) formed.cues) in
       shows.other.other (ap (λ (g : Grid). g shows.other.row shows.other.col) now)
   no_other_grid Cc3 shows =
-      let now = ap (λ (fs : List Frame). received_grids fs Cc3) (sym front) ∙ (shown (length earlier) below true).first shows.settled in
+      let now = ap (λ (fs : List Frame). received_grids fs Cc3) (sym front) ∙ (shown (length earlier) below Two).first shows.settled in
       shows.other.other (ap (λ (g : Grid). g shows.other.row shows.other.col) now)
   no_other_grid Cc4 shows =
-      let now = ap (λ (fs : List Frame). received_grids fs Cc4) (sym front) ∙ (shown (length earlier) below true).second
+      let now = ap (λ (fs : List Frame). received_grids fs Cc4) (sym front) ∙ (shown (length earlier) below Two).second
       ∙ sym (nothing_authored Cc4 (λ a. a) list.cues (length earlier) formed.cues) in
       shows.other.other (ap (λ (g : Grid). g shows.other.row shows.other.col) now)
 
@@ -168,7 +169,7 @@ module _ (list : Listing) (placed : Placement) (formed : IsFormed list) (carried
 pub nothing_found : (list : Listing) (placed : Placement) → IsFormed list → AreCarried list.rate (columns_of list placed) list.frames
     → BuffersNeverFill (column_packets list.rate (columns_of list placed) 0 list.frames)
     → ((frame : ℕ) → frame < list.frames
-    → ShowsList list (λ second_field. received_at second_field (column_packets list.rate (columns_of list placed) 0 list.frames) frame) frame)
+    → ShowsList list (λ in_field. received_at in_field (column_packets list.rate (columns_of list placed) 0 list.frames) frame) frame)
     → ((frame : ℕ) → frame < list.frames → ShowAuthoredWindows list.cues (column_packets list.rate (columns_of list placed) 0 list.frames) frame)
     → AreClean list (column_packets list.rate (columns_of list placed) 0 list.frames)
 nothing_found list placed formed carried fills shown windows =

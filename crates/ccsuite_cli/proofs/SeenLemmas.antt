@@ -1,8 +1,9 @@
 -- A receiver that is fed the words that were built shows what was authored.
-use Rattle.std.proofs.Common.{◌≡◌, ◌∙◌, ◌++◌, ◌∷◌, ◌+◌, add-one, ap, append_assoc, arith, length, length-append, subst, suc, sym, take, ℕ, List, false, true}
+use Rattle.std.proofs.Common.{◌≡◌, ◌∙◌, ◌++◌, ◌∷◌, ◌+◌, add-one, ap, append_assoc, arith, length, length-append, subst, suc, sym, take, ℕ, List}
 use Rattle.std.proofs.lemmas.List.{take-append-le, take_all}
 use Rattle.cdp_packets.specs.Packets.{Packet as Frame}
 use Rattle.frame_scheduler.specs.Planned.{Placement, columns_of}
+use Rattle.line21_codes.specs.declared.channels.FieldNumber.TheVariants.{One, Two}
 use Rattle.line21_codes.specs.declared.channels.Chan.TheVariants.{Cc1, Cc2, Cc3, Cc4}
 use Rattle.services_files.specs.Services.{services_say}
 use Rattle.services_files.proofs.WholeFileLemmas.{whole-under}
@@ -48,8 +49,8 @@ built_seen bytes list placed words rest receiver frame accepted output had count
     let front : take (suc frame) packets ≡ frames = front_is packets frames behind (suc frame) grown (sym (add-one frame) ∙ count) in
     let size : length packets ≡ length frames + length behind = ap length grown ∙ length-append frames behind in
     let all : length packets ≡ list.frames = packets_count list.rate (columns_of list placed) 0 list.frames in
-    let one = sound.shown frame (omega arith) false in
-    let two = sound.shown frame (omega arith) true in
+    let one = sound.shown frame (omega arith) One in
+    let two = sound.shown frame (omega arith) Two in
     let cc1 = shown_received frames words receiver Cc1 had gotten.are ∙ ap (λ (f : List Frame). received_grids f Cc1) (sym front) in
     let cc2 = shown_received frames words receiver Cc2 had gotten.are ∙ ap (λ (f : List Frame). received_grids f Cc2) (sym front) in
     let cc3 = shown_received frames words receiver Cc3 had gotten.are ∙ ap (λ (f : List Frame). received_grids f Cc3) (sym front) in

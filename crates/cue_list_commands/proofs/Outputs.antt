@@ -1,7 +1,12 @@
 -- What holds of the output of an accepted list.
-use Rattle.std.proofs.Common.{◌≡◌, ◌∙◌, sym, subst, true, false, ℕ, suc, List, reverse, arith, Option, Some, None}
+use Rattle.std.proofs.Common.{◌≡◌, ◌∙◌, sym, subst, ℕ, suc, List, reverse, arith, Option, Some, None}
 use Rattle.std.specs.Prelude.{IfSome}
 use Rattle.cc_base.specs.Streams.{Puts}
+<<<<<<< HEAD
+=======
+use Rattle.cc_base.specs.declared.streams.Put.TheVariants as put
+use Rattle.line21_codes.specs.declared.channels.FieldNumber.TheVariants.{One, Two}
+>>>>>>> 66e2336 (DRAFT: the upper crates say the field and the data channel of line 21 by enums)
 use Rattle.line21_codes.specs.declared.pairs.Pair.{Pair}
 use Rattle.line21_screen.specs.Meaning.{after}
 use Rattle.cc_base.specs.declared.streams.Put.{Put}
@@ -52,9 +57,9 @@ of_bytes (Some pair) are = record { a = are.0; b = are.1 }
 
 -- the pairs of a placed list are of bytes
 pub byte_pairs : (list : Listing) (placed : Placement) → IsFormed list → AreBytePairs (columns_of list placed)
-byte_pairs list placed formed false frame =
+byte_pairs list placed formed One frame =
     of_bytes (channel_pair list Cc1 (placed (Channel Cc1)) frame) (frame_bytes list Cc1 (placed (Channel Cc1)) formed.cues frame)
-byte_pairs list placed formed true frame =
+byte_pairs list placed formed Two frame =
     of_bytes (channel_pair list Cc3 (placed (Channel Cc3)) frame) (frame_bytes list Cc3 (placed (Channel Cc3)) formed.cues frame)
 
 -- what `build` puts of an accepted list is sound
@@ -70,10 +75,10 @@ sound_words bytes list placed accepted =
       within = blocks_within list placed formed accepted.ruled accepted.placement;
       whole = programmes_whole list.rate (columns_of list placed) list.frames (has_blocks list placed formed accepted.ruled accepted.placement) carried;
       fills = buffers_never_fill list placed formed accepted.ruled accepted.placement;
-      shown = λ frame below second_field.
-          subst (λ (pairs : List Pair). ShowsField (after second_field (reverse pairs)) (authored_channel second_field) list.cues frame)
-          (sym (carried.received second_field (suc frame) (omega arith)))
-          (authored_seen list placed formed accepted.ruled accepted.placement frame second_field);
+      shown = λ frame below in_field.
+          subst (λ (pairs : List Pair). ShowsField (after in_field (reverse pairs)) (authored_channel in_field) list.cues frame)
+          (sym (carried.received in_field (suc frame) (omega arith)))
+          (authored_seen list placed formed accepted.ruled accepted.placement frame in_field);
       windows = authored_windows_seen list placed formed accepted.ruled accepted.placement;
       delayed = delays_sent list placed formed accepted.ruled;
     }

@@ -1,5 +1,6 @@
 -- What the commands that read a cue list put of an accepted one, and what holds of it.
-use Rattle.std.specs.Prelude.{◌<◌, ℕ, Bool, List}
+use Rattle.std.specs.Prelude.{◌<◌, ℕ, List}
+use Rattle.line21_codes.specs.declared.channels.FieldNumber.{FieldNumber}
 use Rattle.cdp_packets.specs.Packets.{Packet as Frame}
 use Rattle.words_files.specs.Received.{received_at}
 use Rattle.cue_lists.specs.Listing.{Listing}
@@ -31,14 +32,14 @@ built_packets list placed = column_packets list.rate (columns_of list placed) 0 
 
 -- in each field every longest stretch of equal control pairs has an even number of pairs
 abbrev pub AreDoubled : Listing → Columns → Type 0
-AreDoubled list columns = (second_field : Bool) → IsDoubled (first_pairs second_field columns list.frames)
+AreDoubled list columns = (in_field : FieldNumber) → IsDoubled (first_pairs in_field columns list.frames)
 
 -- what holds of the pairs that `pairs` puts: control pairs are doubled, and at every settled frame a receiver that was reset
 -- before the first one shows the authored grids
 pub record IsSoundPairs (list : Listing) (placed : Placement) : Type 0 where
   pub doubled : AreDoubled list (columns_of list placed)
   pub shown : (frame : ℕ) → frame < list.frames
-      → ShowsList list (λ second_field. state_at second_field (columns_of list placed) frame) frame
+      → ShowsList list (λ in_field. state_at in_field (columns_of list placed) frame) frame
 
 -- what holds of the words that `build` puts: they are a words file of the frames' packets, each frame keeps to its room, and
 -- its service blocks to theirs; the packets carry a whole caption channel, of which no byte fills the buffer of a service;
@@ -51,6 +52,6 @@ pub record IsSoundWords (list : Listing) (placed : Placement) : Type 0 where
   pub whole : CarryChannel (built_packets list placed)
   pub fills : BuffersNeverFill (built_packets list placed)
   pub shown : (frame : ℕ) → frame < list.frames
-      → ShowsList list (λ second_field. received_at second_field (built_packets list placed) frame) frame
+      → ShowsList list (λ in_field. received_at in_field (built_packets list placed) frame) frame
   pub windows : (frame : ℕ) → frame < list.frames → ShowAuthoredWindows list.cues (built_packets list placed) frame
   pub delayed : AreDelaysSent list placed

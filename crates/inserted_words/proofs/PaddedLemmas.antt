@@ -11,6 +11,8 @@ use Rattle.frame_carrier.proofs.CarriedLemmas.{frames_carried}
 use Rattle.frame_carrier.proofs.CarryingLemmas.{front_few, triplets_many}
 use Rattle.frame_scheduler.specs.Columns.{pair_in}
 use Rattle.frame_scheduler.specs.declared.frames.FrameBytes.{FrameBytes}
+use Rattle.line21_codes.specs.declared.channels.FieldNumber.{FieldNumber}
+use Rattle.line21_codes.specs.declared.channels.FieldNumber.TheVariants.{One, Two}
 use Rattle.line21_codes.specs.declared.channels.Chan.TheVariants.{Cc1, Cc3}
 use Rattle.line21_slots.specs.Cadences.{cadence_of, has_slot_in}
 use Rattle.dtvcc_screen.specs.Meaning.{Byte, Event, Tick, after, start}
@@ -73,9 +75,9 @@ silent_bytes : (slot : Bool) → IfSome (if slot then Some (record { a = 0x80; b
 silent_bytes true = record { a = omega arith; b = omega arith }
 silent_bytes false = tt
 
-silent_pairs : (rate : Rate) (second_field : Bool) (frame : ℕ) → IfSome (pair_in second_field (silent_frame rate frame)) IsBytePair
-silent_pairs rate false frame = silent_bytes (has_slot_in (cadence_of rate Cc1) frame)
-silent_pairs rate true frame = silent_bytes (has_slot_in (cadence_of rate Cc3) frame)
+silent_pairs : (rate : Rate) (in_field : FieldNumber) (frame : ℕ) → IfSome (pair_in in_field (silent_frame rate frame)) IsBytePair
+silent_pairs rate One frame = silent_bytes (has_slot_in (cadence_of rate Cc1) frame)
+silent_pairs rate Two frame = silent_bytes (has_slot_in (cadence_of rate Cc3) frame)
 
 -- it has room for its pairs
 silent_roomy : (rate : Rate) (frame count : ℕ) → length (front_triplets (silent_frame rate frame) (channel_packet count (silent_frame rate frame).blocks.items)) ≤ triplets_in_frame rate
@@ -86,8 +88,8 @@ silent_roomy rate frame count =
 
 module _ (list : Captioning) (pairs : AreBytePairs list.columns) (bytes : AreByteBlocks list.columns) (roomy : AreRoomy list.rate list.columns) where
   pub padded_pairs : AreBytePairs (padded list)
-  padded_pairs second_field frame =
-      by_end list (λ n b. IfSome (pair_in second_field b) IsBytePair) (λ n below. pairs second_field n) (silent_pairs list.rate second_field) frame
+  padded_pairs in_field frame =
+      by_end list (λ n b. IfSome (pair_in in_field b) IsBytePair) (λ n below. pairs in_field n) (silent_pairs list.rate in_field) frame
 
   pub padded_bytes : AreByteBlocks (padded list)
   padded_bytes frame = by_end list (λ n b. All (λ byte. byte < 256) b.blocks.items) (λ n below. bytes n) (λ n. All-nil (λ byte. byte < 256)) frame

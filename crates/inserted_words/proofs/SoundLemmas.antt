@@ -82,10 +82,10 @@ module _ (list : Listing) (placed : Placement) (news : List Frame) (sound : IsSo
       (like_frames (take (suc frame) (take list.frames news)) (take (suc frame) (built_packets list placed))
       (fronts_alike (suc frame) (take list.frames news) (built_packets list placed) alike))
 
-  pub grids_shown : ShowsList list (λ second_field. received_at second_field news frame) frame
-  grids_shown second_field =
-      subst (λ (pairs : List Pair). ShowsField (after_pairs second_field (reverse pairs)) (authored_channel second_field) list.cues frame)
-      (sym (says.pairs second_field)) (sound.shown frame below second_field)
+  pub grids_shown : ShowsList list (λ in_field. received_at in_field news frame) frame
+  grids_shown in_field =
+      subst (λ (pairs : List Pair). ShowsField (after_pairs in_field (reverse pairs)) (authored_channel in_field) list.cues frame)
+      (sym (says.pairs in_field)) (sound.shown frame below in_field)
 
   pub windows_seen : ShowAuthoredWindows list.cues news frame
   windows_seen service id numbered low =

@@ -38,7 +38,7 @@ pub record IsSoundInsertion (list : Listing) (placed : Placement) (frames : List
   pub whole : IsWhole news text
   pub alike : AreAlike (take list.frames news) (built_packets list placed)
   pub fills : BuffersNeverFill news
-  pub shown : (frame : ℕ) → frame < list.frames → ShowsList list (λ second_field. received_at second_field news frame) frame
+  pub shown : (frame : ℕ) → frame < list.frames → ShowsList list (λ in_field. received_at in_field news frame) frame
   pub windows : (frame : ℕ) → frame < list.frames → ShowAuthoredWindows list.cues news frame
 
 -- so it is where the list is accepted and the frames have its rate, and are as many as it has, at least

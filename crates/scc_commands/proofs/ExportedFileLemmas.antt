@@ -7,6 +7,7 @@ use Rattle.cc_data.specs.Triplets.{triplets_of}
 use Rattle.cc_data.specs.declared.triplet.Triplet.{Triplet}
 use Rattle.cdp_packets.specs.PacketTriplets.{packet_triplets, section_triplets}
 use Rattle.cdp_packets.specs.Packets.{IsCdp, Packet as Frame}
+use Rattle.line21_codes.specs.declared.channels.FieldNumber.TheVariants.{One}
 use Rattle.line21_codes.specs.declared.pairs.Pair.{Pair}
 use Rattle.scc_files.specs.SccFiles.{IsSccFile}
 use Rattle.scc_files.specs.Written.{AreWritable, counted, pairs_not_null}
@@ -87,16 +88,16 @@ section_are (id ∷ second ∷ rest) are = by_id (id == 0x72) refl
     by_id true is = rw is (triplets_are rest are.1.1)
     by_id false is = rw is tt
 
-pair_is : (t : Triplet) → (t.a < 256) × (t.b < 256) → ArePairs (field_pair false t)
+pair_is : (t : Triplet) → (t.a < 256) × (t.b < 256) → ArePairs (field_pair One t)
 pair_is t are = by_kind (t.valid && (t.kind == 0)) refl
   where
-    by_kind : (test : Bool) → (t.valid && (t.kind == 0)) ≡ test → ArePairs (field_pair false t)
+    by_kind : (test : Bool) → (t.valid && (t.kind == 0)) ≡ test → ArePairs (field_pair One t)
     by_kind true is = rw is (are, tt)
     by_kind false is = rw is tt
 
 pairs_are : (frame : Frame) → AllByRecursion AreBytes frame.sections → ArePairs (pairs_of frame)
 pairs_are frame are =
-    all_mapped (λ (t : Triplet). (t.a < 256) × (t.b < 256)) (λ (pair : Pair). (pair.a < 256) × (pair.b < 256)) (field_pair false) pair_is (packet_triplets frame)
+    all_mapped (λ (t : Triplet). (t.a < 256) × (t.b < 256)) (λ (pair : Pair). (pair.a < 256) × (pair.b < 256)) (field_pair One) pair_is (packet_triplets frame)
     (all_mapped AreBytes (λ (t : Triplet). (t.a < 256) × (t.b < 256)) section_triplets section_are frame.sections are)
 
 -- what is exported can be written: the pairs are bytes, one a frame at most, none past the day

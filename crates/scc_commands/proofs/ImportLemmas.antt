@@ -8,6 +8,7 @@ use Rattle.cc_base.specs.declared.streams.Put.{Put}
 use Rattle.cc_base.specs.declared.streams.Put.TheVariants as put
 use Rattle.text_output.specs.Gathered.{Flushes, Gathers, IsGathered}
 use Rattle.words_commands.proofs.WayLemmas.{all_put, way_flushed, way_unwritten}
+use Rattle.line21_codes.specs.declared.channels.FieldNumber.TheVariants.{One, Two}
 use Rattle.line21_codes.specs.declared.pairs.Pair.{Pair}
 use Rattle.line21_codes.specs.NullPairs.{null_pair}
 use Rattle.frame_scheduler.specs.declared.frames.FrameBytes.{FrameBytes}
@@ -197,8 +198,8 @@ pair_bytes (placed ∷ pairs) frame (a, b, are) = chosen (placed.0 == frame) pla
     chosen false one other is isnt = isnt
 
 pub columns_bytes : (pairs : Placed) → AreBytes pairs → AreBytePairs (import_columns pairs)
-columns_bytes pairs are false frame = pair_bytes pairs frame are
-columns_bytes pairs are true frame = record { a = omega arith; b = omega arith }
+columns_bytes pairs are One frame = pair_bytes pairs frame are
+columns_bytes pairs are Two frame = record { a = omega arith; b = omega arith }
 
 -- the words of a file were put
 pub import_put : (left old new : Option (List ℕ)) (pairs : Placed) → IfSome left (λ bytes. IsImport bytes pairs) → Puts old new put.Done (import_words pairs)

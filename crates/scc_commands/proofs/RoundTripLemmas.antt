@@ -5,6 +5,7 @@ use Rattle.cc_base.specs.declared.rate.Rate.TheVariants as rate
 use Rattle.frame_carrier.proofs.CarriedLemmas.{frames_carried}
 use Rattle.frame_carrier.proofs.CarryingLemmas.{quiet_bytes, quiet_roomy}
 use Rattle.frame_carrier.specs.Carrying.{column_packets}
+use Rattle.line21_codes.specs.declared.channels.FieldNumber.TheVariants.{One}
 use Rattle.line21_codes.specs.declared.pairs.Pair.{Pair}
 use Rattle.line21_codes.specs.NullPairs.{null_pair}
 use Rattle.scc_files.specs.Reading.{frames_of, frames_to}
@@ -90,7 +91,7 @@ packets_filled pairs frame zero are = refl
 packets_filled pairs frame (suc n) are =
     let room = (frames_carried rate.F2997 (import_columns pairs) 0 (columns_bytes pairs are)
     (quiet_bytes (import_columns pairs) (λ frame. refl)) (quiet_roomy rate.F2997 (import_columns pairs) (λ frame. refl))).room frame in
-    ap (λ l. at_number frame l ++ exported_from (suc frame) (column_packets rate.F2997 (import_columns pairs) (suc frame) n)) (room.pairs false)
+    ap (λ l. at_number frame l ++ exported_from (suc frame) (column_packets rate.F2997 (import_columns pairs) (suc frame) n)) (room.pairs One)
     ∙ ap (λ l. (frame, pair_at pairs frame) ∷ l) (packets_filled pairs (suc frame) n are)
 
 pub exported_again : (time : TimeCode) (pairs : Placed) → AreRising 0 pairs → AreBytes pairs

@@ -11,6 +11,7 @@ use Rattle.cc_base.specs.Streams.{Puts}
 use Rattle.cc_base.specs.declared.streams.Put.TheVariants as put
 use Rattle.cdp_packets.specs.Packets.{Packet as Frame}
 use Rattle.text_output.specs.Gathered.{Gathers, IsGathered}
+use Rattle.line21_codes.specs.declared.channels.FieldNumber.TheVariants.{One}
 use Rattle.line21_codes.specs.declared.pairs.Pair.{Pair}
 use Rattle.line21_codes.specs.NullPairs.{is_null}
 use Rattle.scc_files.proofs.Complete.{number_is}
@@ -156,12 +157,12 @@ one_or_none : (test : Bool) (pair : Pair) → length (if test then pair ∷ [] e
 one_or_none true pair = omega arith
 one_or_none false pair = omega arith
 
-few_pairs : (ts : List Triplet) → length (field_pairs false ts) ≤ length ts
+few_pairs : (ts : List Triplet) → length (field_pairs One ts) ≤ length ts
 few_pairs [] = omega arith
 few_pairs (t ∷ ts) =
     let one = one_or_none (t.valid && (t.kind == 0)) (record { a = t.a; b = t.b }) in
     let more = few_pairs ts in
-    let sum = length-append (field_pair false t) (field_pairs false ts) in omega arith
+    let sum = length-append (field_pair One t) (field_pairs One ts) in omega arith
 
 pub pairs_counted : (frame : Frame) (pairs most least : ℕ) → pairs ≡ length (pairs_of frame) → most ≡ length (packet_triplets frame) → least ≡ min pairs most
     → least ≡ length (pairs_of frame)

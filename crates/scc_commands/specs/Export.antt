@@ -7,6 +7,7 @@ use Rattle.cc_base.specs.declared.limit_of.LimitOf.TheVariants as limit
 use Rattle.cc_base.specs.declared.rate.Rate.TheVariants as rate
 use Rattle.cc_base.specs.declared.streams.Put.{Put}
 use Rattle.cc_base.specs.declared.streams.Put.TheVariants as put
+use Rattle.line21_codes.specs.declared.channels.FieldNumber.TheVariants.{One}
 use Rattle.line21_codes.specs.declared.pairs.Pair.{Pair}
 use Rattle.findings.specs.declared.finding.Finding.{Finding}
 use Rattle.findings.specs.declared.finding.Kind45.{Kind45}
@@ -30,7 +31,7 @@ use Rattle.scc_commands.specs.Import.{Placed}
 
 -- the field 1 pairs of a frame: those of its triplets that count
 abbrev pub pairs_of : Frame → List Pair
-pairs_of frame = field_pairs false (packet_triplets frame)
+pairs_of frame = field_pairs One (packet_triplets frame)
 
 -- pairs at one frame
 abbrev pub at_number : ℕ → List Pair → Placed

@@ -3,6 +3,7 @@ use Rattle.std.proofs.Common.{◌≡◌, ◌∙◌, ℕ, zero, suc, ◌+◌, ◌
 use Rattle.std.proofs.lemmas.Grind.{flat_map-append}
 use Rattle.std.proofs.lemmas.List.{append_cancel_left, map-append}
 use Rattle.cc_base.specs.declared.rate.Rate.{Rate}
+use Rattle.line21_codes.specs.declared.channels.FieldNumber.{FieldNumber}
 use Rattle.cc_data.specs.declared.triplet.Triplet.{Triplet}
 use Rattle.cdp_packets.specs.Packets.{Packet as Frame}
 use Rattle.cdp_packets.specs.PacketTriplets.{packet_triplets}
@@ -129,19 +130,19 @@ behind_alike service before (frame ∷ frames) (other ∷ others) alike =
     ∙ ap (λ ts. (Tick other.rate ∷ events_of service (said_behind before ts)) ++ events_behind service (before ++ ts) frames) own
     ∙ ap (λ es. frame_events service before other ++ es) rest
 
-pairs_alike : (second_field : Bool) (frames others : List Frame) → map packet_triplets frames ≡ map packet_triplets others
-    → received_pairs second_field frames ≡ received_pairs second_field others
-pairs_alike second_field [] [] same = refl
-pairs_alike second_field [] (other ∷ others) same = absurd cc
-pairs_alike second_field (frame ∷ frames) [] same = absurd cc
-pairs_alike second_field (frame ∷ frames) (other ∷ others) same =
+pairs_alike : (in_field : FieldNumber) (frames others : List Frame) → map packet_triplets frames ≡ map packet_triplets others
+    → received_pairs in_field frames ≡ received_pairs in_field others
+pairs_alike in_field [] [] same = refl
+pairs_alike in_field [] (other ∷ others) same = absurd cc
+pairs_alike in_field (frame ∷ frames) [] same = absurd cc
+pairs_alike in_field (frame ∷ frames) (other ∷ others) same =
     let own : packet_triplets frame ≡ packet_triplets other = cc in
-    let rest = pairs_alike second_field frames others cc in
-    ap (λ ts. field_pairs second_field ts ++ received_pairs second_field frames) own
-    ∙ ap (λ ps. field_pairs second_field (packet_triplets other) ++ ps) rest
+    let rest = pairs_alike in_field frames others cc in
+    ap (λ ts. field_pairs in_field ts ++ received_pairs in_field frames) own
+    ∙ ap (λ ps. field_pairs in_field (packet_triplets other) ++ ps) rest
 
 pub like_frames : LikeFramesSayAlike
 like_frames frames others alike = record {
   events = λ service. behind_alike service [] frames others alike;
-  pairs = λ second_field. pairs_alike second_field frames others alike.triplets;
+  pairs = λ in_field. pairs_alike in_field frames others alike.triplets;
 }

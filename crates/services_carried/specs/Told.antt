@@ -1,8 +1,9 @@
 -- What the services of a caption channel are told by frames: in each a tick of the frame's rate, then the bytes that the service is sent
 -- there, and no reset. What else the frames carry says nothing to them.
-use Rattle.std.specs.Prelude.{◌≡◌, ℕ, zero, suc, ◌<◌, ◌≤◌, ◌==◌, if◌then◌else◌, Bool, List, [], ◌∷◌, ◌++◌, None, map, take}
+use Rattle.std.specs.Prelude.{◌≡◌, ℕ, zero, suc, ◌<◌, ◌≤◌, ◌==◌, if◌then◌else◌, List, [], ◌∷◌, ◌++◌, None, map, take}
 use Rattle.std.specs.List.{flat_map}
 use Rattle.cc_base.specs.declared.rate.Rate.{Rate}
+use Rattle.line21_codes.specs.declared.channels.FieldNumber.{FieldNumber}
 use Rattle.cdp_packets.specs.Packets.{Packet as Frame}
 use Rattle.cdp_packets.specs.PacketTriplets.{packet_triplets}
 use Rattle.cue_lists.specs.Listing.{IsFormed, Listing, share_of}
@@ -57,7 +58,7 @@ pub record AreAlike (frames others : List Frame) : Type 0 where
 -- all services are told the same by both, and both fields have the same pairs
 pub record SayAlike (frames others : List Frame) : Type 0 where
   pub events : (service : ℕ) → service_events service frames ≡ service_events service others
-  pub pairs : (second_field : Bool) → received_pairs second_field frames ≡ received_pairs second_field others
+  pub pairs : (in_field : FieldNumber) → received_pairs in_field frames ≡ received_pairs in_field others
 
 -- frames say nothing but their rates and triplets
 abbrev pub LikeFramesSayAlike : Type 0

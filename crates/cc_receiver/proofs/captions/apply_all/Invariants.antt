@@ -1,8 +1,9 @@
-use Rattle.std.proofs.Common.{◌++◌, Bool, List, reverse, take}
+use Rattle.std.proofs.Common.{◌++◌, List, reverse, take}
+use Rattle.line21_codes.specs.declared.channels.FieldNumber.{FieldNumber}
 use Rattle.line21_codes.specs.declared.pairs.Pair.{Pair as PairOf}
 use Rattle.line21_screen.specs.Objects.{Leads}
 use Rattle.cc_receiver.proofs.captions.apply_all.Given as goal
 
 abbrev pub invariant-loop-pair : goal.invariant-loop-pair
-invariant-loop-pair l = (second_field : Bool) (before : List PairOf) → Leads second_field before l.fn.field
-    → Leads second_field (reverse (take l.pair-index l.pairs) ++ before) l.field
+invariant-loop-pair l = (in_field : FieldNumber) (before : List PairOf) → Leads in_field before l.fn.field
+    → Leads in_field (reverse (take l.pair-index l.pairs) ++ before) l.field

@@ -1,4 +1,5 @@
-use Rattle.std.proofs.Common.{false, true, ap, refl, ◌∙◌}
+use Rattle.std.proofs.Common.{ap, refl, ◌∙◌}
+use Rattle.line21_codes.specs.declared.channels.FieldNumber.TheVariants.{One, Two}
 use Rattle.words_files.specs.Received.{field_pair}
 use Rattle.cc_receiver.specs.Gathering.{pair_more}
 use Rattle.cc_receiver.proofs.frame.Frame.triplet.Goals as goal
@@ -12,6 +13,6 @@ returns c g holds =
       counter = holds.counter;
       sections = holds.sections;
       triplets = c.push.ensures g.triplets holds.triplets;
-      pairs_one = c.put_pair.ensures false refl ∙ ap (λ ps. pair_more ps (field_pair false t)) holds.pairs_one;
-      pairs_two = c.put_pair-2.ensures true refl ∙ ap (λ ps. pair_more ps (field_pair true t)) holds.pairs_two;
+      pairs_one = c.put_pair.ensures One refl ∙ ap (λ ps. pair_more ps (field_pair One t)) holds.pairs_one;
+      pairs_two = c.put_pair-2.ensures Two refl ∙ ap (λ ps. pair_more ps (field_pair Two t)) holds.pairs_two;
     }
