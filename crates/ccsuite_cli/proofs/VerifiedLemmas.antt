@@ -13,11 +13,11 @@ use Rattle.ccsuite_cli.proofs.SizeLemmas.{columns_size}
 
 pub built_verified : BuiltWordsAreVerified
 built_verified bytes list placed accepted =
-    let formed : IsFormed list = accepted.spelled.formed in
+    let formed : IsFormed list = accepted.good.spelled.formed in
     let sound = sound_words bytes list placed accepted in
     let most : list.frames ≤ 1000000 = formed.frames in
     let size : length (build_output list placed) ≤ 190 * list.frames =
-    columns_size list.rate (columns_of list placed) 0 list.frames (frames_roomy list placed formed accepted.ruled accepted.placement) in
+    columns_size list.rate (columns_of list placed) 0 list.frames (frames_roomy list placed formed accepted.good.ruled accepted.placement) in
     let count = packets_count list.rate (columns_of list placed) 0 list.frames in
     record {
       frames = built_packets list placed;

@@ -11,7 +11,7 @@ use Rattle.frame_scheduler.specs.Planned.{Placement}
 use Rattle.cue_list_commands.specs.Accepted.{IsAccepted, IsGoodList, IsRefused, IsRefusedList}
 use Rattle.cue_list_commands.specs.ListAnswer.{BuildAnswer, CuesAnswer, PairsAnswer, PutsList, PutsOutput}
 use Rattle.cue_list_commands.specs.Output.{IsSoundPairs, IsSoundWords, build_output, pairs_output}
-use Rattle.cue_list_commands.proofs.ListVerdictLemmas.{accepted_good, accepted_not_refused, good_not_refused, refused_once}
+use Rattle.cue_list_commands.proofs.ListVerdictLemmas.{accepted_not_refused, good_not_refused, refused_once}
 use Rattle.cue_list_commands.proofs.Refusals.{refused_list}
 
 -- an accepted list
@@ -37,7 +37,7 @@ good_cues bytes list old new answer good read is =
 pub accepted_cues : (bytes : List ℕ) (list : Listing) (placed : Placement) (old new : Ends) (answer : Status) → IsAccepted bytes list placed → IsReadOf bytes old new
     → CuesAnswer old new answer → (answer ≡ status.Ok) ⊎ (answer ≡ status.Memory)
 accepted_cues bytes list placed old new answer accepted read is =
-    good_cues bytes list old new answer (accepted_good bytes list placed accepted) read is
+    good_cues bytes list old new answer accepted.good read is
 
 -- a refused list
 pub refused_pairs : (bytes : List ℕ) (refusal : Status) (old new : Ends) (answer : Status) → IsRefused bytes refusal → IsReadOf bytes old new

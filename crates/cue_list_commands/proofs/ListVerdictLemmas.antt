@@ -65,23 +65,18 @@ good_not_refused bytes list (status.Rule fault) good breaks =
     spelled_unbroken bytes list fault good.spelled good.ruled breaks
 good_not_refused bytes list _ good refused = refused
 
--- an accepted list keeps the rules
-pub accepted_good : (bytes : List ℕ) (list : Listing) (placed : Placement) → IsAccepted bytes list placed → IsGoodList bytes list
-accepted_good bytes list placed accepted =
-    record { within = accepted.within; spelled = accepted.spelled; ruled = accepted.ruled }
-
 -- an accepted list is refused with no status
 pub accepted_not_refused : AcceptedIsNotRefused
 accepted_not_refused bytes list placed (status.NoRoom cue) accepted lacks =
-    let same = spelled_one bytes lacks.list list lacks.good.spelled accepted.spelled in
+    let same = good_once bytes lacks.list list lacks.good accepted.good in
     placed_has_room list placed cue accepted.placement (subst (λ l. IsFirstWithoutRoom l cue) same lacks.first)
 accepted_not_refused bytes list placed answer accepted refused =
-    good_not_refused bytes list answer (accepted_good bytes list placed accepted) refused
+    good_not_refused bytes list answer accepted.good refused
 
 -- bytes are accepted as one list, with one placement
 pub accepted_once : AcceptanceIsOne
 accepted_once bytes one other placed moved first second =
-    let same = spelled_one bytes other one second.spelled first.spelled in
+    let same = good_once bytes other one second.good first.good in
     (sym same, one_placement one placed moved first.placement (subst (λ l. IsListPlaced l moved) same second.placement))
 
 -- why a list is refused
@@ -114,7 +109,7 @@ one_rule_fault bytes a b first second =
 
 one_cue : (bytes : List ℕ) (a b : ℕ) → LacksRoom bytes a → LacksRoom bytes b → a ≡ b
 one_cue bytes a b first second =
-    let same = spelled_one bytes second.list first.list second.good.spelled first.good.spelled in
+    let same = good_once bytes second.list first.list second.good first.good in
     first_without_room first.list a b first.first (subst (λ l. IsFirstWithoutRoom l b) same second.first)
 
 -- two causes are one
@@ -169,10 +164,12 @@ Judged bytes = ((list : Listing) × (placed : Placement) × IsAccepted bytes lis
 list_judged : (bytes : List ℕ) (list : Listing) → length bytes ≤ list_limit → SpellsList (records_of bytes) list → Judged bytes
 list_judged bytes list within spelled =
     elim (ruled_or_broken list) [
-      | inl ruled ↦ elim (list_decided list spelled.formed ruled) [
-        | inl there ↦ inl (list, there.0, record { within = within; spelled = spelled; ruled = ruled; placement = there.1 })
-        | inr without ↦ inr (status.NoRoom without.0, record { list = list; good = record { within = within; spelled = spelled; ruled = ruled }; first = without.1 })
-      ]
+      | inl ruled ↦
+          let good : IsGoodList bytes list = record { within = within; spelled = spelled; ruled = ruled } in
+          elim (list_decided list spelled.formed ruled) [
+            | inl there ↦ inl (list, there.0, record { good = good; placement = there.1 })
+            | inr without ↦ inr (status.NoRoom without.0, record { list = list; good = good; first = without.1 })
+          ]
       | inr broken ↦ inr (status.Rule broken.0, record { list = list; within = within; spelled = spelled; broken = broken.1 })
     ]
 

@@ -24,15 +24,17 @@ placed_in_order list placed formed (Service service) is =
 pub written_is_built_alike : WrittenIsBuiltAlike
 written_is_built_alike bytes list placed accepted within = record {
   accepted = record {
-    within = within;
-    spelled = record {
-      version = version.Two;
-      are = records_of-bytes version.Two (in_order list);
-      formed = in_order_formed list accepted.spelled.formed;
-      allowed = tt;
+    good = record {
+      within = within;
+      spelled = record {
+        version = version.Two;
+        are = records_of-bytes version.Two (in_order list);
+        formed = in_order_formed list accepted.good.spelled.formed;
+        allowed = tt;
+      };
+      ruled = in_order_ruled list accepted.good.spelled.formed accepted.good.ruled;
     };
-    ruled = in_order_ruled list accepted.spelled.formed accepted.ruled;
-    placement = λ on. placed_in_order list placed accepted.spelled.formed on (accepted.placement on);
+    placement = λ on. placed_in_order list placed accepted.good.spelled.formed on (accepted.placement on);
   };
   pairs = refl;
   build = refl;

@@ -2,11 +2,7 @@
 use Rattle.std.proofs.Common.{◌≡◌, ◌∙◌, sym, subst, ℕ, suc, List, reverse, arith, Option, Some, None}
 use Rattle.std.specs.Prelude.{IfSome}
 use Rattle.cc_base.specs.Streams.{Puts}
-<<<<<<< HEAD
-=======
-use Rattle.cc_base.specs.declared.streams.Put.TheVariants as put
 use Rattle.line21_codes.specs.declared.channels.FieldNumber.TheVariants.{One, Two}
->>>>>>> 66e2336 (DRAFT: the upper crates say the field and the data channel of line 21 by enums)
 use Rattle.line21_codes.specs.declared.pairs.Pair.{Pair}
 use Rattle.line21_screen.specs.Meaning.{after}
 use Rattle.cc_base.specs.declared.streams.Put.{Put}
@@ -41,13 +37,13 @@ use Rattle.cue_list_commands.specs.declared.programme.Programme.{Programme}
 
 -- control pairs of an accepted list are doubled
 doubled_columns : (bytes : List ℕ) (list : Listing) (placed : Placement) → IsAccepted bytes list placed → AreDoubled list (columns_of list placed)
-doubled_columns bytes list placed accepted = columns_doubled list placed accepted.spelled.formed accepted.ruled accepted.placement
+doubled_columns bytes list placed accepted = columns_doubled list placed accepted.good.spelled.formed accepted.good.ruled accepted.placement
 
 -- what `pairs` puts of an accepted list is sound
 sound_pairs : (bytes : List ℕ) (list : Listing) (placed : Placement) → IsAccepted bytes list placed → IsSoundPairs list placed
 sound_pairs bytes list placed accepted = record {
   doubled = doubled_columns bytes list placed accepted;
-  shown = λ frame below. authored_seen list placed accepted.spelled.formed accepted.ruled accepted.placement frame;
+  shown = λ frame below. authored_seen list placed accepted.good.spelled.formed accepted.good.ruled accepted.placement frame;
 }
 
 -- a pair that is of bytes, where there is one
@@ -65,22 +61,22 @@ byte_pairs list placed formed Two frame =
 -- what `build` puts of an accepted list is sound
 pub sound_words : (bytes : List ℕ) (list : Listing) (placed : Placement) → IsAccepted bytes list placed → IsSoundWords list placed
 sound_words bytes list placed accepted =
-    let formed : IsFormed list = accepted.spelled.formed in
+    let formed : IsFormed list = accepted.good.spelled.formed in
     let carried : AreCarried list.rate (columns_of list placed) list.frames =
-    frames_carried list.rate (columns_of list placed) list.frames (byte_pairs list placed formed) (blocks_bytes list placed formed accepted.ruled accepted.placement)
-    (frames_roomy list placed formed accepted.ruled accepted.placement) in
+    frames_carried list.rate (columns_of list placed) list.frames (byte_pairs list placed formed) (blocks_bytes list placed formed accepted.good.ruled accepted.placement)
+    (frames_roomy list placed formed accepted.good.ruled accepted.placement) in
     record {
       doubled = doubled_columns bytes list placed accepted;
       carried = carried;
-      within = blocks_within list placed formed accepted.ruled accepted.placement;
-      whole = programmes_whole list.rate (columns_of list placed) list.frames (has_blocks list placed formed accepted.ruled accepted.placement) carried;
-      fills = buffers_never_fill list placed formed accepted.ruled accepted.placement;
+      within = blocks_within list placed formed accepted.good.ruled accepted.placement;
+      whole = programmes_whole list.rate (columns_of list placed) list.frames (has_blocks list placed formed accepted.good.ruled accepted.placement) carried;
+      fills = buffers_never_fill list placed formed accepted.good.ruled accepted.placement;
       shown = λ frame below in_field.
           subst (λ (pairs : List Pair). ShowsField (after in_field (reverse pairs)) (authored_channel in_field) list.cues frame)
           (sym (carried.received in_field (suc frame) (omega arith)))
-          (authored_seen list placed formed accepted.ruled accepted.placement frame in_field);
-      windows = authored_windows_seen list placed formed accepted.ruled accepted.placement;
-      delayed = delays_sent list placed formed accepted.ruled;
+          (authored_seen list placed formed accepted.good.ruled accepted.placement frame in_field);
+      windows = authored_windows_seen list placed formed accepted.good.ruled accepted.placement;
+      delayed = delays_sent list placed formed accepted.good.ruled;
     }
 
 -- the output of a programme was put, or a front of it: it is that of its list

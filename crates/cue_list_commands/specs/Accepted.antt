@@ -11,17 +11,26 @@ use Rattle.cue_lists.specs.declared.fault.CueFault.{CueFault}
 use Rattle.cue_lists.specs.declared.fault.CueFault.TheVariants as fault
 use Rattle.cue_lists.specs.declared.rules.RuleFault.{RuleFault}
 use Rattle.frame_scheduler.specs.Planned.{IsFirstWithoutRoom, IsListPlaced, Placement}
-use Rattle.command_base.specs.declared.status.Place.TheVariants.{Byte, Field}
+use Rattle.command_base.specs.declared.status.Place.TheVariants.{Field}
 use Rattle.command_base.specs.declared.status.Status.{Status}
 use Rattle.command_base.specs.declared.status.Status.TheVariants as status
 
--- the records of the bytes spell a cue list that keeps the rules, and whose units have their earliest placement in these
--- frames
-pub record IsAccepted (bytes : List ℕ) (list : Listing) (placed : Placement) : Type 0 where
+-- the records of the bytes spell a cue list that keeps the rules; whether it can be placed isn't asked
+pub record IsGoodList (bytes : List ℕ) (list : Listing) : Type 0 where
   pub within : length bytes ≤ list_limit
   pub spelled : SpellsList (records_of bytes) list
   pub ruled : IsRuled list
+
+-- they spell such a list, and its units have their earliest placement in these frames
+pub record IsAccepted (bytes : List ℕ) (list : Listing) (placed : Placement) : Type 0 where
+  pub good : IsGoodList bytes list
   pub placement : IsListPlaced list placed
+
+-- they spell such a list, and this cue is its first without a placement
+pub record LacksRoom (bytes : List ℕ) (cue : ℕ) : Type 0 where
+  pub list : Listing
+  pub good : IsGoodList bytes list
+  pub first : IsFirstWithoutRoom list cue
 
 -- the records of the bytes spell no list, and this is their first fault
 pub record IsFaulty (bytes : List ℕ) (fault : CueFault) : Type 0 where
@@ -34,18 +43,6 @@ pub record BreaksRule (bytes : List ℕ) (fault : RuleFault) : Type 0 where
   pub within : length bytes ≤ list_limit
   pub spelled : SpellsList (records_of bytes) list
   pub broken : HasFault list fault
-
--- the records of the bytes spell a cue list that keeps the rules; whether it can be placed isn't asked
-pub record IsGoodList (bytes : List ℕ) (list : Listing) : Type 0 where
-  pub within : length bytes ≤ list_limit
-  pub spelled : SpellsList (records_of bytes) list
-  pub ruled : IsRuled list
-
--- they spell such a list, and this cue is its first without a placement
-pub record LacksRoom (bytes : List ℕ) (cue : ℕ) : Type 0 where
-  pub list : Listing
-  pub good : IsGoodList bytes list
-  pub first : IsFirstWithoutRoom list cue
 
 -- the bytes are refused with this status, and with no other, where it isn't asked whether their list can be placed
 abbrev pub IsRefusedList : List ℕ → Status → Type 0

@@ -93,8 +93,8 @@ module _ (list : Listing) (placed : Placement) (news : List Frame) (sound : IsSo
 
 pub insertions_sound : InsertionsAreSound
 insertions_sound bytes list placed frames file text accepted inserted rates enough =
-    let formed : IsFormed list = accepted.spelled.formed in
-    let ruled : IsRuled list = accepted.ruled in
+    let formed : IsFormed list = accepted.good.spelled.formed in
+    let ruled : IsRuled list = accepted.good.ruled in
     let is : IsListPlaced list placed = accepted.placement in
     let captions = captioning_of list placed in
     let pairs = byte_pairs list placed formed in

@@ -30,8 +30,8 @@ programme_sendable bytes programme is = record {
   gives = is.gives;
   whole = λ count within.
       subst (λ rate. AreWhole rate (columns_of is.list is.placed) count) (sym is.rate)
-      (frames_whole is.list is.placed is.accepted.spelled.formed is.accepted.ruled is.accepted.placement count);
-  within = let frames = is.frames in let most = is.accepted.spelled.formed.frames in omega (arith, frames, most);
+      (frames_whole is.list is.placed is.accepted.good.spelled.formed is.accepted.good.ruled is.accepted.placement count);
+  within = let frames = is.frames in let most = is.accepted.good.spelled.formed.frames in omega (arith, frames, most);
 }
 
 module _ (count : ℕ) (some : 1 ≤ count) (most : count ≤ most_load) where
@@ -40,9 +40,7 @@ module _ (count : ℕ) (some : 1 ≤ count) (most : count ≤ most_load) where
   list_accepted =
       let written = list_written count some most in
       record {
-        within = written.within;
-        spelled = written.spelled;
-        ruled = list_ruled count;
+        good = record { within = written.within; spelled = written.spelled; ruled = list_ruled count };
         placement = (list_placed count some most).1;
       }
 
@@ -76,7 +74,7 @@ module _ (count : ℕ) (some : 1 ≤ count) (most : count ≤ most_load) where
   done programme reception is takes =
       let columns = columns_of is.list is.placed in
       let whole = subst (λ rate. AreAllWhole rate columns (frames_left programme.plan)) (sym is.rate)
-      (λ first within. frames_whole is.list is.placed is.accepted.spelled.formed is.accepted.ruled is.accepted.placement first) in
+      (λ first within. frames_whole is.list is.placed is.accepted.good.spelled.formed is.accepted.good.ruled is.accepted.placement first) in
       let taken = subst (λ n. HasReceivedColumns is.list.rate columns n reception) is.frames
       (subst (λ rate. HasReceivedColumns rate columns (frames_left programme.plan) reception) is.rate (takes columns is.gives whole)) in
       (taken.bytes, taken.changes)
