@@ -1,5 +1,5 @@
 -- In each window of a service the caption that was loaded last before a frame, and the events of the frame by that.
-use Rattle.std.specs.Prelude.{◌≡◌, ℕ, ◌<◌, ◌≤◌, ◌==◌, Bool, false, if◌then◌else◌, List, [], ◌∷◌, Option, Some, None, length, option_map, take, drop, slice_index_or}
+use Rattle.std.specs.Prelude.{◌≡◌, ℕ, ◌<◌, ◌≤◌, ◌==◌, false, if◌then◌else◌, List, [], ◌∷◌, Option, Some, None, length, option_map, take, drop, slice_index_or}
 use Rattle.std.specs.List.{AllByRecursion, list_any}
 use Rattle.cc_base.specs.Options.{passes}
 use Rattle.dtvcc_author.specs.FrameEvents.{delayed_at, has_event_at, is_hidden_at, is_shown_at, names, windows_byte}

@@ -1,8 +1,7 @@
 -- The frames of a programme are carried: each packet is one by the definitions of its layers, and a receiver gets its pairs.
 use Rattle.std.proofs.Common.{◌≡◌, ℕ, zero, suc, ◌+◌, ◌-◌, ◌*◌, ◌/◌, ◌%◌, ◌<◌, ◌≤◌, Bool, true, false, Option, Some, None, List, [], ◌∷◌, ◌++◌, All, length, replicate, take, refl, sym, ap, ◌∙◌, subst, arith, append-nil, append_assoc}
-use Rattle.std.specs.Prelude.{if◌then◌else◌, IfSome, nat_le, option_to_list, ◌&&◌, ◌||◌, ◌==◌}
+use Rattle.std.specs.Prelude.{if◌then◌else◌, IfSome, option_to_list, ◌&&◌, ◌||◌, ◌==◌}
 use Rattle.std.proofs.lemmas.List.{length-append}
-use Rattle.std.specs.List.{filter}
 use Rattle.std.proofs.lemmas.Bool.Decides.{nat_tests}
 use Rattle.std.proofs.lemmas.List.Concat.{flat_map-append}
 use Rattle.std.proofs.lemmas.List.Elements.{All-append, All-cons, All-from_recursion, All-head, All-nil, All-tail, All-weaker, filter-append}
@@ -29,7 +28,7 @@ use Rattle.words_files.proofs.FrameLemmas.{joined}
 use Rattle.frame_scheduler.specs.Columns.{Columns, first_pairs, pair_in}
 use Rattle.frame_scheduler.specs.declared.frames.FrameBytes.{FrameBytes}
 use Rattle.channel_packets.specs.ChannelPackets.{channel_triplets, continues_packet, starts}
-use Rattle.channel_packets.specs.Written.{bytes_written, continuing, header_for, packet_written, starting}
+use Rattle.channel_packets.specs.Written.{bytes_written, continuing, header_for, starting}
 use Rattle.frame_carrier.specs.Carried.{AreByteBlocks, AreBytePairs, AreRoomy, FramesAreCarried, IsBytePair, IsCarriedInRoom}
 use Rattle.frame_carrier.specs.CarriedBytes.{caption_flags}
 use Rattle.frame_carrier.specs.Carrying.{channel_packet_of, channel_packet, packets_before, column_bytes, column_packets, counter_of, frame_bytes, frame_packet}

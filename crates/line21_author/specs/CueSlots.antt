@@ -1,5 +1,5 @@
 -- Cues with their times in slots of their channel's field.
-use Rattle.std.specs.Prelude.{ℕ, List, map}
+use Rattle.std.specs.Prelude.{List, map}
 use Rattle.std.specs.Option.{option_map}
 use Rattle.line21_slots.specs.Cadences.{slot_from}
 use Rattle.line21_slots.specs.declared.cadence.Cadence.{Cadence}

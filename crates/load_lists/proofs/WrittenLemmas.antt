@@ -12,7 +12,7 @@ use Rattle.csv.specs.declared.writer.QuoteStyle.TheVariants.{Necessary}
 use Rattle.cue_types.specs.declared.head.Version.TheVariants.{Two}
 use Rattle.cue_form.specs.Records.{Field, Record, list_limit}
 use Rattle.cue_form.specs.Spelling.{cue_records}
-use Rattle.cue_print.specs.Printing.{flexible_writer, in_order, list_bytes, record_bytes}
+use Rattle.cue_print.specs.Printing.{flexible_writer, list_bytes, record_bytes}
 use Rattle.cue_print.proofs.PrintedFacts.{records_of-bytes}
 use Rattle.load_lists.specs.LoadLaws.{IsListWritten}
 use Rattle.load_lists.specs.LoadList.{letter, load_cue, load_kind, load_list, load_run, load_text, most_load}

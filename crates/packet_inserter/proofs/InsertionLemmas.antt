@@ -1,5 +1,5 @@
 -- The sections of a packet with a new one among them: where it stands, and how long they are.
-use Rattle.std.proofs.Common.{◌≡◌, ℕ, ◌+◌, ◌*◌, ◌≤◌, ◌++◌, ◌⊎◌, inl, inr, not, bit_or, Bool, true, false, List, [], ◌∷◌, length, take, drop, filter, All, refl, sym, ap, subst, ◌∙◌, append_assoc, append-nil, length-append, length-take, length-drop, if◌then◌else◌, arith}
+use Rattle.std.proofs.Common.{◌≡◌, ℕ, ◌+◌, ◌*◌, ◌≤◌, ◌++◌, inl, inr, not, bit_or, Bool, true, false, List, [], ◌∷◌, length, take, drop, filter, All, refl, sym, ap, subst, ◌∙◌, append_assoc, append-nil, length-append, length-take, length-drop, if◌then◌else◌, arith}
 use Rattle.std.proofs.Math.Seq.{take-append_seam, drop-append_seam}
 use Rattle.std.proofs.lemmas.List.Elements.{All-head, All-tail, All-weaker, filter-append}
 use Rattle.std.proofs.lemmas.List.Folds.{concat-append}
@@ -10,7 +10,6 @@ use Rattle.cdp_packets.specs.Packets.{Packet}
 use Rattle.cdp_packets.specs.Sections.{AreSections, IsSection}
 use Rattle.cdp_packets.specs.Written.{cc_data_section}
 use Rattle.packet_inserter.specs.Insertion.{IsInserted, IsPlace, is_kept, is_time_code_section, packet_length}
-use Rattle.packet_inserter.specs.Walks.{StandsBehindTimeCodes}
 
 -- sections that are all kept
 filter-all : (sections : List (List ℕ)) → All (λ section. is_kept section ≡ true) sections → filter is_kept sections ≡ sections

@@ -1,4 +1,4 @@
-use Rattle.std.proofs.Common.{◌≡◌, ◌∙◌, ◌-◌, ◌++◌, ◌<◌, ◌≤◌, [], ◌∷◌, ap, arith, length, replicate, sym, subst}
+use Rattle.std.proofs.Common.{◌≡◌, ◌∙◌, ◌-◌, ◌++◌, ◌<◌, [], ◌∷◌, ap, arith, length, replicate, sym, subst}
 use Rattle.cc_data.specs.Triplets.{filler}
 use Rattle.frame_carrier.proofs.CarryingLemmas.{fill_more}
 use Rattle.frame_carrier.proofs.triplets.fill.Goals as goal

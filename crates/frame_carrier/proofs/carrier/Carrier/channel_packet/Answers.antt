@@ -1,4 +1,4 @@
-use Rattle.std.proofs.Common.{◌≡◌, ◌∙◌, ◌≤◌, length, ap, sym, subst, arith, rules, List, [], ◌∷◌, ℕ}
+use Rattle.std.proofs.Common.{◌≡◌, ◌∙◌, ◌≤◌, length, ap, sym, subst, arith, rules}
 use Rattle.std.specs.Prelude.{All}
 use Rattle.frame_carrier.specs.Carrying.{channel_packet}
 use Rattle.frame_carrier.proofs.CarryingLemmas.{IsKind, packet_few, packet_kinds, written_is}

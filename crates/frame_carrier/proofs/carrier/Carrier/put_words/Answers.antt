@@ -1,6 +1,6 @@
 use Rattle.std.proofs.Common.{◌≡◌, ◌∙◌, ◌+◌, [], ap, sym, subst}
 use Rattle.frame_carrier.specs.CarriedBytes.{carried_bytes}
-use Rattle.frame_carrier.specs.Carrying.{IsAt, channel_packet, frame_bytes, packet_count}
+use Rattle.frame_carrier.specs.Carrying.{IsAt, channel_packet, packet_count}
 use Rattle.frame_carrier.specs.FrameTriplets.{frame_triplets}
 use Rattle.frame_carrier.proofs.CarryingLemmas.{none_of, words_are}
 use Rattle.frame_carrier.proofs.carrier.Carrier.put_words.Goals as goal
