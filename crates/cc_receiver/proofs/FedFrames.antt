@@ -9,13 +9,14 @@ use Rattle.cc_receiver.specs.declared.receiver.Receiver.{Receiver}
 use Rattle.cc_receiver.proofs.ReceivedLemmas.{shown_received}
 use Rattle.cc_receiver.proofs.TakenLemmas.{frames_count}
 use Rattle.cdp_packets.specs.Packets.{Packet as Frame}
-use Rattle.services_files.specs.Services.{services_say}
 use Rattle.words_files.specs.Frames.CarryFrames.{none}
 use Rattle.words_files.specs.FramesOf.{AreFramesOf}
 use Rattle.words_files.specs.Offences.{IsFileUnder, IsUnoffending}
 use Rattle.words_files.specs.Received.{received_grids}
+use Rattle.services_files.specs.CaptionChannel.{caption_channel}
+use Rattle.services_files.proofs.ChannelFiles.{got_frames}
+use Rattle.services_files.proofs.WholeFileLemmas.{taken-carry}
 use Rattle.words_files.proofs.FramesOfLemmas.{file_frames, frames_grow}
-use Rattle.words_files.proofs.GotLemmas.{got}
 
 -- a list of one item, and one of none
 one_item : {A : Type 0} (items : List A) → length items ≡ 1 → (item : A) × (items ≡ item ∷ [])
@@ -30,14 +31,14 @@ no_item (item ∷ items) is = absurd (omega arith)
 -- a frame more came
 pub record IsNextFrame (frames : List Frame) (bytes : List ℕ) : Type 0 where
   pub frame : Frame
-  pub frames_are : AreFramesOf services_say (frames ++ frame ∷ []) bytes
+  pub frames_are : AreFramesOf caption_channel (frames ++ frame ∷ []) bytes
 
 -- where a receiver counted a frame more, the bytes brought one more
-pub frame_more : (before more : List ℕ) (old new : Receiver) (frames : List Frame) → AreFramesOf services_say frames before → HasReceived before old
+pub frame_more : (before more : List ℕ) (old new : Receiver) (frames : List Frame) → AreFramesOf caption_channel frames before → HasReceived before old
     → HasReceived (before ++ more) new → frame_count new ≡ frame_count old + 1 → IsNextFrame frames (before ++ more)
 frame_more before more old new frames are was now counted =
-    let all = got services_say (before ++ more) now.bytes_are in
-    let (rest, is) = frames_grow services_say frames all.frames before more are all.are in
+    let all = got_frames (before ++ more) now.bytes_are in
+    let (rest, is) = frames_grow caption_channel frames all.frames before more are all.are in
     let one : frame_count old ≡ length frames = frames_count frames before old was are in
     let two : frame_count new ≡ length all.frames = frames_count all.frames (before ++ more) new now all.are in
     let sum : length all.frames ≡ length frames + length rest = ap length is ∙ length-append frames rest in
@@ -45,31 +46,31 @@ frame_more before more old new frames are was now counted =
     let spelled : all.frames ≡ frames ++ frame ∷ [] = is ∙ ap (λ r. frames ++ r) only in
     record {
       frame = frame;
-      frames_are = subst (λ l. AreFramesOf services_say l (before ++ more)) spelled all.are;
+      frames_are = subst (λ l. AreFramesOf caption_channel l (before ++ more)) spelled all.are;
     }
 
 -- where it counted none more, they brought none
-pub frames_still : (before more : List ℕ) (old new : Receiver) (frames : List Frame) → AreFramesOf services_say frames before → HasReceived before old
-    → HasReceived (before ++ more) new → frame_count new ≡ frame_count old → AreFramesOf services_say frames (before ++ more)
+pub frames_still : (before more : List ℕ) (old new : Receiver) (frames : List Frame) → AreFramesOf caption_channel frames before → HasReceived before old
+    → HasReceived (before ++ more) new → frame_count new ≡ frame_count old → AreFramesOf caption_channel frames (before ++ more)
 frames_still before more old new frames are was now counted =
-    let all = got services_say (before ++ more) now.bytes_are in
-    let (rest, is) = frames_grow services_say frames all.frames before more are all.are in
+    let all = got_frames (before ++ more) now.bytes_are in
+    let (rest, is) = frames_grow caption_channel frames all.frames before more are all.are in
     let one : frame_count old ≡ length frames = frames_count frames before old was are in
     let two : frame_count new ≡ length all.frames = frames_count all.frames (before ++ more) new now all.are in
     let sum : length all.frames ≡ length frames + length rest = ap length is ∙ length-append frames rest in
     let only : rest ≡ [] = no_item rest (omega arith) in
     let spelled : all.frames ≡ frames = is ∙ ap (λ r. frames ++ r) only ∙ append-nil frames in
-    subst (λ l. AreFramesOf services_say l (before ++ more)) spelled all.are
+    subst (λ l. AreFramesOf caption_channel l (before ++ more)) spelled all.are
 
 -- no byte is a file of no frame
-pub nothing_is_file : IsFileUnder services_say [] []
+pub nothing_is_file : IsFileUnder caption_channel [] []
 nothing_is_file = record {
   file = record { packets = []; file = record { words = []; spelled = tt; are_packets = refl }; carried = none };
-  accepted = tt;
+  accepted = taken-carry [] tt;
 }
 
 -- no word of no bytes offends
-pub nothing_offends : IsUnoffending services_say []
+pub nothing_offends : IsUnoffending caption_channel []
 nothing_offends = record {
   words = [];
   half = [];
@@ -81,10 +82,10 @@ nothing_offends = record {
 
 -- a receiver that was fed nothing counted nothing
 pub counted_nothing : (receiver : Receiver) → HasReceived [] receiver → frame_count receiver ≡ 0
-counted_nothing receiver received = frames_count [] [] receiver received (file_frames services_say [] [] nothing_is_file)
+counted_nothing receiver received = frames_count [] [] receiver received (file_frames caption_channel [] [] nothing_is_file)
 
 -- a receiver shows what the pairs of the frames leave
-pub frames_shown : (bytes : List ℕ) (frames : List Frame) (receiver : Receiver) → HasReceived bytes receiver → AreFramesOf services_say frames bytes
+pub frames_shown : (bytes : List ℕ) (frames : List Frame) (receiver : Receiver) → HasReceived bytes receiver → AreFramesOf caption_channel frames bytes
     → displayed_grid receiver ≡ received_grids frames
 frames_shown bytes frames receiver had are = fun_ext (λ chan. shown_received frames bytes receiver chan had are)
 

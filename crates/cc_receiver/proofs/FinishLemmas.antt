@@ -13,11 +13,9 @@ use Rattle.anc_words.proofs.ByteLemmas.{file_is_read, what_is_read_is_file}
 use Rattle.cdp_packets.specs.Packets.{Packet as Frame}
 use Rattle.words_files.specs.Catching.{refusal_of}
 use Rattle.services_files.specs.Services.{services_say}
+use Rattle.services_files.specs.CaptionChannel.{caption_channel}
+use Rattle.services_files.proofs.ChannelFiles.{caught_channel, channel_caught, open_cut_short, refused_offence}
 use Rattle.words_files.specs.Offences.{FirstOffendingWord, IsFileUnder, IsMalformed}
-use Rattle.words_files.proofs.CaughtLemmas.{caught_file, file_caught}
-use Rattle.words_files.proofs.EndingLemmas.{open_is_cut_short}
-use Rattle.words_files.proofs.OffenceLemmas.{refused_offends}
-use Rattle.services_files.proofs.FillingLemmas.{takes_filling}
 use Rattle.cc_receiver.specs.declared.receiver.Receiver.{Receiver}
 use Rattle.cc_receiver.specs.Receivers.{HasReceived, receiver_refusal}
 
@@ -34,35 +32,35 @@ kept_refusal_is_err refused (Ok value) is ok = let clash : None ≡ Some refused
 kept_refusal_is_err refused (Err other) is ok = cc
 
 pub finish_whole : (bytes : List ℕ) (receiver : Receiver) (answer : Result (Unit {0}) Refusal) → HasReceived bytes receiver → Finishes bytes receiver answer → IsOk answer
-    → (frames : List Frame) × IsFileUnder services_say frames bytes
+    → (frames : List Frame) × IsFileUnder caption_channel frames bytes
 finish_whole bytes receiver answer had finishes ok =
-    let cases : (refusal : Option Refusal) → refusal_of services_say bytes ≡ refusal → (frames : List Frame) × IsFileUnder services_say frames bytes = elim [
+    let cases : (refusal : Option Refusal) → refusal_of services_say bytes ≡ refusal → (frames : List Frame) × IsFileUnder caption_channel frames bytes = elim [
       | None ↦ λ none.
           let (packets, file) = finishes.whole (had.reached.leads none) ok in
-          caught_file services_say bytes had.bytes_are none (file_is_read packets bytes file).leads
+          caught_channel bytes had.bytes_are none (file_is_read packets bytes file).leads
       | Some refused ↦ λ some. absurd (kept_refusal_is_err refused answer (finishes.kept refused (had.reached.kept refused some)) ok)
     ] in cases _ refl
 
 -- where the bytes are a file it is Ok
 pub finish_file : (bytes : List ℕ) (frames : List Frame) (receiver : Receiver) (answer : Result (Unit {0}) Refusal) → HasReceived bytes receiver
-    → Finishes bytes receiver answer → IsFileUnder services_say frames bytes → IsOk answer
+    → Finishes bytes receiver answer → IsFileUnder caption_channel frames bytes → IsOk answer
 finish_file bytes frames receiver answer had finishes is =
-    finishes.file is.file.packets (had.reached.leads (file_caught services_say frames bytes is).1) is.file.file
+    finishes.file is.file.packets (had.reached.leads (channel_caught frames bytes is).1) is.file.file
 
 -- where it isn't, they are malformed
 pub finish_malformed : (bytes : List ℕ) (receiver : Receiver) (answer : Result (Unit {0}) Refusal) → HasReceived bytes receiver → Finishes bytes receiver answer
-    → IfErr answer (λ refused. IsMalformed services_say bytes refused)
+    → IfErr answer (λ refused. IsMalformed caption_channel bytes refused)
 finish_malformed bytes receiver (Ok value) had finishes = tt
 finish_malformed bytes receiver (Err refused) had finishes =
-    let cases : (refusal : Option Refusal) → refusal_of services_say bytes ≡ refusal → IsMalformed services_say bytes refused = elim [
+    let cases : (refusal : Option Refusal) → refusal_of services_say bytes ≡ refusal → IsMalformed caption_channel bytes refused = elim [
       | None ↦ λ none.
           let led = had.reached.leads none in
           let opens : open_behind anc_syntax bytes ≡ nothing_open → ⊥ = λ closed.
           let (packets, file) = what_is_read_is_file bytes led.0 led.1.all closed in (let ok = finishes.file packets led file in cc) in
-          let short = open_is_cut_short services_say takes_filling bytes had.bytes_are none opens in
+          let short = open_cut_short bytes had.bytes_are none opens in
           let cut = finishes.cut led in
           inr (record { unoffending = short.unoffending; no_file = short.no_file; place_is = cut.1; why_is = cut.0 })
       | Some other ↦ λ some.
           let same : refused ≡ other = (let e : Some refused ≡ Some other = finishes.kept other (had.reached.kept other some) in cc) in
-          inl (subst (FirstOffendingWord services_say bytes) (sym same) (refused_offends services_say takes_filling bytes other had.bytes_are some))
+          inl (subst (FirstOffendingWord caption_channel bytes) (sym same) (refused_offence bytes other had.bytes_are some))
     ] in cases _ refl

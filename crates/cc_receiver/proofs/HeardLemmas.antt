@@ -2,7 +2,6 @@
 use Rattle.std.proofs.Common.{arith, ◌≡◌, ℕ, ◌%◌, ◌<◌, ◌≤◌, ◌++◌, List, [], ◌∷◌, length, map, reverse, refl, ap, sym, ◌∙◌, append_assoc, append-nil, length-append}
 use Rattle.std.proofs.lemmas.List.{length-map, reverse-append}
 use Rattle.std.specs.List.{concat}
-use Rattle.cc_base.specs.Feeding.{Verdict}
 use Rattle.line21_codes.specs.declared.channels.FieldNumber.{FieldNumber}
 use Rattle.line21_codes.specs.declared.channels.FieldNumber.TheVariants.{One, Two}
 use Rattle.anc_words.specs.Packets.{AncillaryPacket, IsPacket, user_bytes}
@@ -14,6 +13,7 @@ use Rattle.cdp_packets.specs.Packets.{IsCdp, Packet as Frame}
 use Rattle.cdp_packets.specs.Sections.{AreSections}
 use Rattle.words_files.specs.Frames.{CarryFrames, none, caption, foreign}
 use Rattle.words_files.specs.FramesOf.{AreFramesOf}
+use Rattle.words_files.specs.Layers.{Layers}
 use Rattle.words_files.specs.Received.{field_pairs, received_pairs}
 use Rattle.cc_receiver.specs.Gathering.{Gathered}
 use Rattle.cc_receiver.specs.Hearing.{heard, parts_pairs}
@@ -51,8 +51,8 @@ frames_fit _ _ (caption packet packets frame frames is_caption carries carried) 
 frames_fit _ _ (foreign packet packets frames isnt carried) words are = frames_fit packets frames carried are.1 are.4
 
 -- the frames of bytes
-pub frames_of_fit : (v : Verdict CdpPart) (frames : List Frame) (bytes : List ℕ) → AreFramesOf v frames bytes → AllFit frames
-frames_of_fit v frames bytes are =
+pub frames_of_fit : (layers : Layers) (frames : List Frame) (bytes : List ℕ) → AreFramesOf layers frames bytes → AllFit frames
+frames_of_fit layers frames bytes are =
     let file = are.is_file.file in
     frames_fit file.packets frames file.carried file.file.words file.file.are_packets
 

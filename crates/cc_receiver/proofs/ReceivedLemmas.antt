@@ -16,9 +16,10 @@ use Rattle.line21_screen.specs.Meaning.{after}
 use Rattle.line21_screen.specs.Objects.{field_of}
 use Rattle.words_files.specs.Catching.{caught_in, refusal_of}
 use Rattle.services_files.specs.Services.{services_say}
+use Rattle.services_files.specs.CaptionChannel.{caption_channel}
+use Rattle.services_files.proofs.ChannelFiles.{frames_caught}
 use Rattle.words_files.specs.FramesOf.{AreFramesOf}
 use Rattle.words_files.specs.Received.{field_pairs, received, received_grids, received_pairs}
-use Rattle.words_files.proofs.GotLemmas.{frames_are_caught}
 use Rattle.cc_receiver.specs.declared.receiver.Receiver.{Receiver}
 use Rattle.cc_receiver.specs.Gathering.{Gathered}
 use Rattle.cc_receiver.specs.Gatherers.{Holds}
@@ -37,19 +38,19 @@ kept_is bytes receiver had =
     ] in cases _ refl
 
 -- what is heard of bytes are the pairs of their frames
-heard_of : (in_field : FieldNumber) (frames : List Frame) (bytes : List ℕ) (receiver : Receiver) → HasReceived bytes receiver → AreFramesOf services_say frames bytes
+heard_of : (in_field : FieldNumber) (frames : List Frame) (bytes : List ℕ) (receiver : Receiver) → HasReceived bytes receiver → AreFramesOf caption_channel frames bytes
     → heard in_field (caught_in services_say bytes).frames ≡ reverse (received_pairs in_field frames)
 heard_of in_field frames bytes receiver had are =
-    ap (heard in_field) (frames_are_caught services_say frames bytes had.bytes_are are) ∙ heard_frames in_field frames (frames_of_fit services_say frames bytes are)
+    ap (heard in_field) (frames_caught frames bytes had.bytes_are are) ∙ heard_frames in_field frames (frames_of_fit caption_channel frames bytes are)
 
 -- the state of a field
-field_received : (in_field : FieldNumber) (frames : List Frame) (bytes : List ℕ) (receiver : Receiver) → HasReceived bytes receiver → AreFramesOf services_say frames bytes
+field_received : (in_field : FieldNumber) (frames : List Frame) (bytes : List ℕ) (receiver : Receiver) → HasReceived bytes receiver → AreFramesOf caption_channel frames bytes
     → field_of (field_in in_field receiver) ≡ received in_field frames
 field_received One frames bytes receiver had are = had.reached.took.first.state ∙ ap (after One) (heard_of One frames bytes receiver had are)
 field_received Two frames bytes receiver had are = had.reached.took.second.state ∙ ap (after Two) (heard_of Two frames bytes receiver had are)
 
 -- a receiver shows what its frames leave on the screens
-pub shown_received : (frames : List Frame) (bytes : List ℕ) (receiver : Receiver) (chan : Chan) → HasReceived bytes receiver → AreFramesOf services_say frames bytes
+pub shown_received : (frames : List Frame) (bytes : List ℕ) (receiver : Receiver) (chan : Chan) → HasReceived bytes receiver → AreFramesOf caption_channel frames bytes
     → displayed_grid receiver chan ≡ received_grids frames chan
 shown_received frames bytes receiver chan had are =
     ap (λ (s : FieldState). (channel (data_channel_of chan) s).displayed) (field_received (field_of_channel chan) frames bytes receiver had are)
@@ -73,10 +74,10 @@ said frame = record {
 
 -- the last frame is kept
 pub last_received : (earlier : List Frame) (last : Frame) (bytes : List ℕ) (receiver : Receiver) → HasReceived bytes receiver
-    → AreFramesOf services_say (earlier ++ last ∷ []) bytes → Holds (said last) receiver.captions.last
+    → AreFramesOf caption_channel (earlier ++ last ∷ []) bytes → Holds (said last) receiver.captions.last
 last_received earlier last bytes receiver had are =
     let newest : reverse (map packet_parts (earlier ++ last ∷ [])) ≡ packet_parts last ∷ reverse (map packet_parts earlier) =
     ap reverse (map-append packet_parts earlier (last ∷ [])) ∙ reverse-append (map packet_parts earlier) (packet_parts last ∷ []) in
-    let kept = subst (λ (fs : List (List CdpPart)). KeepsLast fs receiver.captions.last) (frames_are_caught services_say (earlier ++ last ∷ []) bytes had.bytes_are are ∙ newest) had.reached.took.last in
-    let fits = last_fits earlier last (frames_of_fit services_say (earlier ++ last ∷ []) bytes are) in
+    let kept = subst (λ (fs : List (List CdpPart)). KeepsLast fs receiver.captions.last) (frames_caught (earlier ++ last ∷ []) bytes had.bytes_are are ∙ newest) had.reached.took.last in
+    let fits = last_fits earlier last (frames_of_fit caption_channel (earlier ++ last ∷ []) bytes are) in
     subst (λ (g : Gathered). Holds g receiver.captions.last) (packet_gathered last fits.are fits.few) kept

@@ -8,8 +8,8 @@ use Rattle.dtvcc_screen.specs.Screens.{ScreenState}
 use Rattle.dtvcc_screen.specs.Shown.{grids}
 use Rattle.dtvcc_services.specs.Numbers.{IsService}
 use Rattle.dtvcc_services.specs.declared.members.Member.{Member}
-use Rattle.services_files.specs.Services.{services_say}
 use Rattle.words_files.specs.FramesOf.{AreFramesOf}
+use Rattle.services_files.specs.CaptionChannel.{caption_channel}
 use Rattle.cc_receiver.specs.declared.receiver.Receiver.{Receiver}
 use Rattle.cc_receiver.specs.ReceivedServices.{received_windows}
 use Rattle.cc_receiver.specs.Receivers.{HasReceived}
@@ -25,7 +25,7 @@ there members place within none = at (slice_get_cases members place).1
     at (inr (past, is)) = omega (arith, past, within)
 
 pub windows_received : (frames : List Frame) (bytes : List ℕ) (receiver : Receiver) (service id : ℕ) → HasReceived bytes receiver
-    → AreFramesOf services_say frames bytes → IsService service → seen_windows receiver service id ≡ received_windows frames service id
+    → AreFramesOf caption_channel frames bytes → IsService service → seen_windows receiver service id ≡ received_windows frames service id
 windows_received frames bytes receiver service id had are numbered = at (slice_get receiver.captions.served.services.members.items (service - 1)) refl
   where
     served : IsServed frames receiver

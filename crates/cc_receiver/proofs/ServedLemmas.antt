@@ -11,12 +11,12 @@ use Rattle.service_blocks.specs.Channels.{IsHeard}
 use Rattle.service_blocks.proofs.ChannelLemmas.{channel_heard}
 use Rattle.words_files.specs.Catching.{caught_in}
 use Rattle.words_files.specs.FramesOf.{AreFramesOf}
-use Rattle.words_files.proofs.GotLemmas.{frames_are_caught}
 use Rattle.services_files.specs.Events.{frame_events, service_events}
 use Rattle.services_files.specs.Services.{services_say}
 use Rattle.services_files.specs.WholeFiles.{file_triplets}
+use Rattle.services_files.specs.CaptionChannel.{caption_channel}
 use Rattle.services_files.proofs.EventLemmas.{events_more, frame_events-heard}
-use Rattle.services_files.proofs.WholeFileLemmas.{under-whole}
+use Rattle.services_files.proofs.ChannelFiles.{frames_caught}
 use Rattle.cc_receiver.specs.declared.receiver.Receiver.{Receiver}
 use Rattle.cc_receiver.specs.Gathering.{Gathered}
 use Rattle.cc_receiver.specs.Receivers.{HasReceived}
@@ -72,12 +72,12 @@ reverse-twice (frame ∷ frames) =
     ap reverse (reverse-append (frame ∷ []) frames) ∙ reverse-append (reverse frames) (frame ∷ []) ∙ ap (λ fs. frame ∷ fs) (reverse-twice frames)
 
 -- the services of a receiver took its frames
-pub received_frames : (frames : List Frame) (bytes : List ℕ) (receiver : Receiver) → HasReceived bytes receiver → AreFramesOf services_say frames bytes
+pub received_frames : (frames : List Frame) (bytes : List ℕ) (receiver : Receiver) → HasReceived bytes receiver → AreFramesOf caption_channel frames bytes
     → ServesFrames (map packet_parts (reverse frames)) receiver.captions.served
 received_frames frames bytes receiver had are =
-    let caught = frames_are_caught services_say frames bytes had.bytes_are are ∙ sym (map-reverse frames) in
-    let fit = fit-reverse frames (frames_of_fit services_say frames bytes are) in
-    let channel = (under-whole frames are.file are.is_file).channel in
+    let caught = frames_caught frames bytes had.bytes_are are ∙ sym (map-reverse frames) in
+    let fit = fit-reverse frames (frames_of_fit caption_channel frames bytes are) in
+    let channel = are.is_file.accepted in
     let heard = (channel_heard channel.packets channel.blocks (file_triplets frames) channel.channel).is in
     let triplets : said_triplets (caught_in services_say bytes).frames ≡ file_triplets frames =
     ap said_triplets caught ∙ said_of (reverse frames) fit ∙ ap file_triplets (reverse-twice frames) in
@@ -94,11 +94,11 @@ pub record IsServed (frames : List Frame) (receiver : Receiver) : Type 0 where
   pub leads : Leads earlier last receiver.captions.served.services
   pub all : (service : ℕ) → earlier service ++ last service ≡ service_events service frames
 
-pub received_events : (frames : List Frame) (bytes : List ℕ) (receiver : Receiver) → HasReceived bytes receiver → AreFramesOf services_say frames bytes → IsServed frames receiver
+pub received_events : (frames : List Frame) (bytes : List ℕ) (receiver : Receiver) → HasReceived bytes receiver → AreFramesOf caption_channel frames bytes → IsServed frames receiver
 received_events frames bytes receiver had are =
     let newest = map packet_parts (reverse frames) in
     let serves = received_frames frames bytes receiver had are in
-    let fit = fit-reverse frames (frames_of_fit services_say frames bytes are) in
+    let fit = fit-reverse frames (frames_of_fit caption_channel frames bytes are) in
     record {
       earlier = earlier_events newest;
       last = last_events newest;
@@ -108,13 +108,13 @@ received_events frames bytes receiver had are =
 
 -- the last of its frames
 pub received_last : (earlier : List Frame) (last : Frame) (bytes : List ℕ) (receiver : Receiver) → HasReceived bytes receiver
-    → AreFramesOf services_say (earlier ++ last ∷ []) bytes
+    → AreFramesOf caption_channel (earlier ++ last ∷ []) bytes
     → Leads (λ service. service_events service earlier) (λ service. frame_events service (file_triplets earlier) last) receiver.captions.served.services
 received_last earlier last bytes receiver had are =
     let newest : map packet_parts (reverse (earlier ++ last ∷ [])) ≡ packet_parts last ∷ map packet_parts (reverse earlier) =
     ap (map packet_parts) (reverse-append earlier (last ∷ [])) in
     let leads = (subst (λ fs. ServesFrames fs receiver.captions.served) newest (received_frames (earlier ++ last ∷ []) bytes receiver had are)).led.leads in
-    let (fits, fit) = subst AllFit (reverse-append earlier (last ∷ [])) (fit-reverse (earlier ++ last ∷ []) (frames_of_fit services_say (earlier ++ last ∷ []) bytes are)) in
+    let (fits, fit) = subst AllFit (reverse-append earlier (last ∷ [])) (fit-reverse (earlier ++ last ∷ []) (frames_of_fit caption_channel (earlier ++ last ∷ []) bytes are)) in
     subst (λ events. Leads events (λ service. frame_events service (file_triplets earlier) last) receiver.captions.served.services)
     (fun_ext (λ service. events_are (reverse earlier) service fit ∙ ap (service_events service) (reverse-twice earlier)))
     (subst (λ events. Leads (said_events (map packet_parts (reverse earlier))) events receiver.captions.served.services)

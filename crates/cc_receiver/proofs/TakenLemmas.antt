@@ -18,14 +18,13 @@ use Rattle.line21_codes.specs.declared.channels.Chan.{Chan}
 use Rattle.words_files.specs.Received.{received_grids}
 use Rattle.words_files.specs.Catching.{caption_verdict, caught_in, refusal_of}
 use Rattle.services_files.specs.Services.{services_say}
+use Rattle.services_files.specs.CaptionChannel.{caption_channel}
+use Rattle.services_files.proofs.ChannelFiles.{bring_at_most_one, caught_channel, channel_caught, channel_or_none, ends_channel_bringing, frames_caught, got_frames, no_channel_end}
 use Rattle.words_files.specs.FramesOf.{AreFramesOf}
 use Rattle.words_files.specs.Offences.{IsFileUnder}
 use Rattle.anc_words.proofs.ByteLemmas.{file_is_read}
-use Rattle.words_files.proofs.CaughtLemmas.{caught_file, file_caught}
 use Rattle.words_files.proofs.FramesOfLemmas.{file_frames, frames_grow}
-use Rattle.words_files.proofs.GotLemmas.{file_or_none, frames_are_caught, got}
 use Rattle.words_files.proofs.OffenceLemmas.{some_or_none}
-use Rattle.words_files.proofs.LastPacketLemmas.{at_most_one, ends_bringing, no_end}
 use Rattle.cc_receiver.specs.declared.receiver.Receiver.{Receiver}
 use Rattle.cc_receiver.specs.declared.receiver.Ended.TheVariants as ended
 use Rattle.cc_receiver.specs.Catchers.{HasCaught}
@@ -46,10 +45,10 @@ same_count old new modulo is one few =
     omega (arith, is, least, most, few)
 
 -- as many frames are caught as there are
-pub caught_count : (frames : List Frame) (bytes : List ℕ) → All (λ b. b < 256) bytes → AreFramesOf services_say frames bytes
+pub caught_count : (frames : List Frame) (bytes : List ℕ) → All (λ b. b < 256) bytes → AreFramesOf caption_channel frames bytes
     → length (caught_in services_say bytes).frames ≡ length frames
 caught_count frames bytes all are =
-    ap length (frames_are_caught services_say frames bytes all are) ∙ length-reverse (map packet_parts frames) ∙ length-map frames packet_parts
+    ap length (frames_caught frames bytes all are) ∙ length-reverse (map packet_parts frames) ∙ length-map frames packet_parts
 
 one_more : (frames more : List Frame) → (more ≡ frames) ⊎ ((frame : Frame) × (more ≡ frames ++ frame ∷ [])) → OneMore (length frames) (length more)
 one_more frames more (inl same) = let e = ap length same in record { least = omega (arith, e); most = omega (arith, e) }
@@ -62,8 +61,8 @@ one_more frames more (inr (frame, spelled)) =
 caught_more : (before piece : List ℕ) → 0 < length piece → length piece ≤ bytes_to_end (open_behind anc_syntax before) → All (λ b. b < 256) before
     → All (λ b. b < 256) (before ++ piece) → OneMore (length (caught_in services_say before).frames) (length (caught_in services_say (before ++ piece)).frames)
 caught_more before piece some few all whole =
-    let first = got services_say before all in
-    let one = at_most_one services_say first.frames before piece some few whole first.are in
+    let first = got_frames before all in
+    let one = bring_at_most_one first.frames before piece some few whole first.are in
     let was = caught_count first.frames before all first.are in
     let is = caught_count one.more (before ++ piece) whole one.are in
     subst (λ n. OneMore n (length (caught_in services_say (before ++ piece)).frames)) (sym was)
@@ -97,7 +96,7 @@ pub record PieceEnds (bytes : List ℕ) (old new : ℕ) : Type 0 where
   pub one : new ≢ old → new ≡ old + 1
 
 -- the count of frames
-pub frames_count : (frames : List Frame) (bytes : List ℕ) (receiver : Receiver) → HasReceived bytes receiver → AreFramesOf services_say frames bytes
+pub frames_count : (frames : List Frame) (bytes : List ℕ) (receiver : Receiver) → HasReceived bytes receiver → AreFramesOf caption_channel frames bytes
     → frame_count receiver ≡ length frames
 frames_count frames bytes receiver had are = had.counted ∙ caught_count frames bytes had.bytes_are are
 
@@ -125,19 +124,19 @@ ends_by frames more bytes earlier packet old new was is are (inr (other, same)) 
 pub piece_ends : (before piece : List ℕ) (old new : Receiver) → 0 < length piece → length piece ≤ bytes_to_end (open_behind anc_syntax before)
     → HasReceived before old → HasReceived (before ++ piece) new → PieceEnds (before ++ piece) (frame_count old) (frame_count new)
 piece_ends before piece old new some few had has =
-    let first = got services_say before had.bytes_are in
+    let first = got_frames before had.bytes_are in
     let was = frames_count first.frames before old had first.are in
-    elim (file_or_none services_say (before ++ piece) has.bytes_are) [
+    elim (channel_or_none (before ++ piece) has.bytes_are) [
       | inl (frames, file) ↦
-          let ends = ends_bringing services_say first.frames frames before piece some few first.are file in
-          let is = frames_count frames (before ++ piece) new has (file_frames services_say frames (before ++ piece) file) in
+          let ends = ends_channel_bringing first.frames frames before piece some few first.are file in
+          let is = frames_count frames (before ++ piece) new has (file_frames caption_channel frames (before ++ piece) file) in
           ends_by first.frames frames (before ++ piece) ends.earlier ends.packet (frame_count old) (frame_count new) was is ends.are ends.brings.brings
       | inr no_file ↦
-          let is = frames_count first.frames (before ++ piece) new has (no_end services_say first.frames before piece few no_file first.are) in
+          let is = frames_count first.frames (before ++ piece) new has (no_channel_end first.frames before piece few no_file first.are) in
           record {
             caption = λ differs. absurd (differs (is ∙ sym was));
             foreign = λ same packets file none.
-                let (frames, whole) = caught_file services_say (before ++ piece) has.bytes_are none (file_is_read packets (before ++ piece) file).leads in
+                let (frames, whole) = caught_channel (before ++ piece) has.bytes_are none (file_is_read packets (before ++ piece) file).leads in
                 absurd (no_file frames whole);
             one = λ differs. absurd (differs (is ∙ sym was));
           }
@@ -147,19 +146,19 @@ piece_ends before piece old new some few had has =
 pub refused_counts : (before piece : List ℕ) (refusal : Refusal) (old new : Receiver) → length piece ≤ bytes_to_end (open_behind anc_syntax before)
     → refusal_of services_say (before ++ piece) ≡ Some refusal → HasReceived before old → HasReceived (before ++ piece) new → frame_count new ≡ frame_count old
 refused_counts before piece refusal old new few some had has =
-    let first = got services_say before had.bytes_are in
-    let no_file : (others : List Frame) → IsFileUnder services_say others (before ++ piece) → ⊥ =
-    λ others is. some_or_none (refusal_of services_say (before ++ piece)) refusal some (file_caught services_say others (before ++ piece) is).1 in
-    let are = no_end services_say first.frames before piece few no_file first.are in
+    let first = got_frames before had.bytes_are in
+    let no_file : (others : List Frame) → IsFileUnder caption_channel others (before ++ piece) → ⊥ =
+    λ others is. some_or_none (refusal_of services_say (before ++ piece)) refusal some (channel_caught others (before ++ piece) is).1 in
+    let are = no_channel_end first.frames before piece few no_file first.are in
     frames_count first.frames (before ++ piece) new has are ∙ sym (frames_count first.frames before old had first.are)
 
 -- more bytes that bring no frame leave the screens
 pub screens_stay : (before more : List ℕ) (old new : Receiver) (chan : Chan) → HasReceived before old → HasReceived (before ++ more) new
     → frame_count new ≡ frame_count old → displayed_grid new chan ≡ displayed_grid old chan
 screens_stay before more old new chan had has same =
-    let first = got services_say before had.bytes_are in
-    let next = got services_say (before ++ more) has.bytes_are in
-    let (behind, spelled) = frames_grow services_say first.frames next.frames before more first.are next.are in
+    let first = got_frames before had.bytes_are in
+    let next = got_frames (before ++ more) has.bytes_are in
+    let (behind, spelled) = frames_grow caption_channel first.frames next.frames before more first.are next.are in
     let was = frames_count first.frames before old had first.are in
     let is = frames_count next.frames (before ++ more) new has next.are in
     let long = ap length spelled ∙ length-append first.frames behind in

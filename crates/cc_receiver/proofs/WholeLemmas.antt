@@ -14,15 +14,17 @@ use Rattle.anc_words.proofs.WordsFileLemmas.{IsWordsFile-append, IsWordsFile-fir
 use Rattle.cdp_packets.specs.PacketParts.{packet_parts}
 use Rattle.cdp_packets.specs.Packets.{IsCdp, Packet as Frame}
 use Rattle.words_files.specs.Catching.{Caught, caught_in, refusal_of}
+use Rattle.words_files.specs.Offences.{IsFileUnder}
+use Rattle.services_files.specs.CaptionChannel.{caption_channel}
 use Rattle.services_files.specs.Services.{services_say}
 use Rattle.words_files.specs.Frames.{IsFileOf, none, caption}
-use Rattle.words_files.proofs.CaughtLemmas.{caught_file, file_caught}
 use Rattle.words_files.proofs.FrameLemmas.{joined}
 use Rattle.service_blocks.specs.Channels.{IsHeard}
 use Rattle.service_blocks.proofs.ChannelLemmas.{heard_channel}
 use Rattle.services_files.specs.Services.{whole_triplets}
 use Rattle.services_files.specs.WholeFiles.{file_triplets}
-use Rattle.services_files.proofs.WholeFileLemmas.{frames_whole, whole-under}
+use Rattle.services_files.proofs.WholeFileLemmas.{frames_whole}
+use Rattle.services_files.proofs.ChannelFiles.{caught_channel, channel_caught}
 use Rattle.cc_receiver.specs.Channels.{frames_parts}
 use Rattle.cc_receiver.proofs.JudgingLemmas.{packets_parts}
 use Rattle.words_files.proofs.FramesOfLemmas.{empty_file, file_front}
@@ -56,21 +58,21 @@ pub record CatchesWhole (before piece : List ℕ) (packet : AncillaryPacket) (fr
 
 pub catches_whole : (before piece : List ℕ) (packet : AncillaryPacket) (frame : Frame) → IsWhole before piece packet frame → CatchesWhole before piece packet frame
 catches_whole before piece packet frame is =
-    let (frames, file) = caught_file services_say before is.bytes_are is.unrefused is.closed in
+    let (frames, file) = caught_channel before is.bytes_are is.unrefused is.closed in
     let one : IsFileOf (frame ∷ []) piece =
     record { packets = packet ∷ []; file = IsWordsFile-one packet piece is.is_packet; carried = caption packet [] frame [] is.is_caption is.is_cdp none } in
-    let was = (file_caught services_say frames before file).0 in
+    let was = (channel_caught frames before file).0 in
     let newest : reverse (map packet_parts (frames ++ frame ∷ [])) ≡ packet_parts frame ∷ reverse (map packet_parts frames) =
     ap reverse (map-append packet_parts frames (frame ∷ [])) ∙ reverse-append (map packet_parts frames) (packet_parts frame ∷ []) in
     let triplets : whole_triplets (frames_parts (packet_parts frame ∷ (caught_in services_say before).frames)) ≡ file_triplets (frames ++ frame ∷ []) =
     ap (λ (c : Caught). whole_triplets (frames_parts (packet_parts frame ∷ c.frames))) was
     ∙ ap (λ fs. whole_triplets (frames_parts fs)) (sym newest) ∙ ap whole_triplets (packets_parts (frames ++ frame ∷ [])) ∙ frames_whole (frames ++ frame ∷ []) in
     let (packets, (blocks, channel)) = heard_channel (file_triplets (frames ++ frame ∷ [])) (subst IsHeard triplets is.is_heard) in
-    let whole = whole-under (frames ++ frame ∷ []) (before ++ piece) (record {
+    let whole : IsFileUnder caption_channel (frames ++ frame ∷ []) (before ++ piece) = record {
       file = joined frames (frame ∷ []) before piece file.file one;
-      channel = record { packets = packets; blocks = blocks; channel = channel };
-    }) in
-    let (now, unrefused) = file_caught services_say (frames ++ frame ∷ []) (before ++ piece) whole in
+      accepted = record { packets = packets; blocks = blocks; channel = channel };
+    } in
+    let (now, unrefused) = channel_caught (frames ++ frame ∷ []) (before ++ piece) whole in
     record {
       caught = now ∙ ap (λ fs. let c : Caught = record { open_caption = None; frames = fs; refused = None } in c) newest ∙ sym (ap (with_frame (packet_parts frame)) was);
       unrefused = unrefused;

@@ -3,8 +3,8 @@ use Rattle.std.specs.Prelude.{◌≡◌, ℕ, ◌+◌, ◌<◌, ◌++◌, List, 
 use Rattle.cc_base.specs.declared.refusal.Refusal.{Refusal}
 use Rattle.anc_words.specs.Packets.{AncillaryPacket}
 use Rattle.anc_words.specs.WordsFiles.{IsWordsFile}
-use Rattle.services_files.specs.Services.{services_say}
 use Rattle.words_files.specs.Offences.{FirstOffendingWord, IsUnoffending}
+use Rattle.services_files.specs.CaptionChannel.{caption_channel}
 use Rattle.cc_receiver.specs.declared.receiver.Ended.{Ended}
 use Rattle.cc_receiver.specs.declared.receiver.Ended.TheVariants as ended
 use Rattle.cc_receiver.specs.declared.receiver.Fed.{Fed}
@@ -21,7 +21,7 @@ Counts before now _ = now ≡ before
 -- frames are counted
 pub record HasFed (before bytes : List ℕ) (old new : Receiver) (fed : Fed) : Type 0 where
   pub received : HasReceived (before ++ take fed.used bytes) new
-  pub unoffending : IsUnoffending services_say (before ++ take fed.used bytes)
+  pub unoffending : IsUnoffending caption_channel (before ++ take fed.used bytes)
   pub ends : 0 < fed.used → EndsBy fed.ended (before ++ take fed.used bytes)
   pub first : (packets : List AncillaryPacket) (fewer : ℕ) → 0 < fewer → fewer < fed.used → IsWordsFile packets (before ++ take fewer bytes) → ⊥
   pub counts : Counts (frame_count old) (frame_count new) fed.ended
@@ -29,7 +29,7 @@ pub record HasFed (before bytes : List ℕ) (old new : Receiver) (fed : Fed) : T
 -- it was fed all of the bytes, of which this word is the first that offends, and counts the frames that it counted
 pub record HasRefused (before bytes : List ℕ) (old new : Receiver) (refusal : Refusal) : Type 0 where
   pub received : HasReceived (before ++ bytes) new
-  pub offence : FirstOffendingWord services_say (before ++ bytes) refusal
+  pub offence : FirstOffendingWord caption_channel (before ++ bytes) refusal
   pub stays : frame_count new ≡ frame_count old
 
 -- the one or the other

@@ -3,9 +3,9 @@
 ghost use Rattle.std.specs.Prelude.{◌≡◌, ◌++◌, ℕ, List, length};
 ghost use Rattle.cdp_packets.specs.Packets.{Packet as FrameOf};
 ghost use Rattle.line21_codes.specs.declared.channels.Chan.{Chan};
-ghost use Rattle.services_files.specs.Services.{services_say};
 ghost use Rattle.words_files.specs.FramesOf.{AreFramesOf};
 ghost use Rattle.words_files.specs.Received.{received_grids};
+ghost use Rattle.services_files.specs.CaptionChannel.{caption_channel};
 ghost use Rattle.dtvcc_services.specs.Numbers.{IsService};
 ghost use Rattle.cc_receiver.specs.ReceivedServices.{received_windows};
 ghost use Rattle.cc_receiver.specs.SeenServices.{seen_windows};
@@ -16,12 +16,12 @@ ghost use Rattle.cc_receiver.specs.Receivers.{HasReceived, displayed_grid, frame
 /// receiver that was reset before the first one, and of the windows of its services.
 pub fn receiver_equals_meaning()
     ensures count { (bytes : List ℕ) (frames : List FrameOf) (receiver : ReceiverOf) → HasReceived bytes receiver
-        → AreFramesOf services_say frames bytes → frame_count receiver ≡ length frames }
+        → AreFramesOf caption_channel frames bytes → frame_count receiver ≡ length frames }
     ensures shown { (bytes : List ℕ) (frames : List FrameOf) (receiver : ReceiverOf) (chan : Chan) → HasReceived bytes receiver
-        → AreFramesOf services_say frames bytes
+        → AreFramesOf caption_channel frames bytes
         → displayed_grid receiver chan ≡ received_grids frames chan }
     ensures windows { (bytes : List ℕ) (frames : List FrameOf) (receiver : ReceiverOf) (service id : ℕ) → HasReceived bytes receiver
-        → AreFramesOf services_say frames bytes → IsService service
+        → AreFramesOf caption_channel frames bytes → IsService service
         → seen_windows receiver service id ≡ received_windows frames service id }
 {}
 

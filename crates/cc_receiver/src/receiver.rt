@@ -11,6 +11,7 @@ ghost use Rattle.cdp_packets.specs.Packets.{Packet as FrameOf};
 ghost use Rattle.cdp_packets.specs.PacketTriplets.{packet_triplets};
 ghost use Rattle.words_files.specs.Catching.{refusal_of};
 ghost use Rattle.services_files.specs.Services.{services_say};
+ghost use Rattle.services_files.specs.CaptionChannel.{caption_channel};
 ghost use Rattle.words_files.specs.FramesOf.{AreFramesOf};
 ghost use Rattle.words_files.specs.Offences.{IsFileUnder, IsMalformed};
 ghost use Rattle.words_files.specs.Received.{field_pairs, received_grids};
@@ -187,10 +188,10 @@ impl Receiver {
     pub fn finish(&self) -> Result<(), Refusal>
         ensures kept { (refused : Refused) → receiver_refusal self.now ≡ Some refused → result_err result ≡ Some refused }
         ensures whole { (bytes : List ℕ) → HasReceived bytes self.now → IsOk result
-            → (frames : List FrameOf) × IsFileUnder services_say frames bytes }
-        ensures file { (bytes : List ℕ) (frames : List FrameOf) → HasReceived bytes self.now → IsFileUnder services_say frames bytes
+            → (frames : List FrameOf) × IsFileUnder caption_channel frames bytes }
+        ensures file { (bytes : List ℕ) (frames : List FrameOf) → HasReceived bytes self.now → IsFileUnder caption_channel frames bytes
             → IsOk result }
-        ensures malformed { (bytes : List ℕ) → HasReceived bytes self.now → IfErr result (λ refused. IsMalformed services_say bytes refused) }
+        ensures malformed { (bytes : List ℕ) → HasReceived bytes self.now → IfErr result (λ refused. IsMalformed caption_channel bytes refused) }
     {
         self.words.finish()
     }
@@ -198,7 +199,7 @@ impl Receiver {
     /// The number of whole frames.
     pub fn frames(&self) -> u32
         ensures count { result ≡ frame_count self.now }
-        ensures frames { (bytes : List ℕ) (frames : List FrameOf) → HasReceived bytes self.now → AreFramesOf services_say frames bytes
+        ensures frames { (bytes : List ℕ) (frames : List FrameOf) → HasReceived bytes self.now → AreFramesOf caption_channel frames bytes
             → result ≡ length frames }
     {
         self.captions.frames
@@ -211,7 +212,7 @@ impl Receiver {
         requires row_to { row ≤ 15 }
         requires col { col < 32 }
         ensures shown { result ≡ displayed_grid self.now chan row col }
-        ensures received { (bytes : List ℕ) (frames : List FrameOf) → HasReceived bytes self.now → AreFramesOf services_say frames bytes
+        ensures received { (bytes : List ℕ) (frames : List FrameOf) → HasReceived bytes self.now → AreFramesOf caption_channel frames bytes
             → result ≡ received_grids frames chan row col }
     {
         self.displayed(chan).cell(row, col)
@@ -231,9 +232,9 @@ impl Receiver {
     pub fn is_idle(&self) -> bool
         requires { 0 < frame_count self.now }
         ensures idle { (bytes : List ℕ) (earlier : List FrameOf) (last : FrameOf) → HasReceived bytes self.now
-            → AreFramesOf services_say (earlier ++ last ∷ []) bytes → result ≡ is_idle last }
+            → AreFramesOf caption_channel (earlier ++ last ∷ []) bytes → result ≡ is_idle last }
         ensures still { (bytes : List ℕ) (earlier : List FrameOf) (last : FrameOf) → HasReceived bytes self.now
-            → AreFramesOf services_say (earlier ++ last ∷ []) bytes → IsTrue result → (chan : Channel)
+            → AreFramesOf caption_channel (earlier ++ last ∷ []) bytes → IsTrue result → (chan : Channel)
             → displayed_grid self.now chan ≡ received_grids earlier chan }
     {
         self.captions.last.is_idle()
@@ -242,7 +243,7 @@ impl Receiver {
     /// The window of an id of a service, 1 to 63, behind the last whole frame, where there is one (CTA-708-E).
     pub fn window(&self, service: u8, id: u8) -> Option<&Window>
         requires { IsService service }
-        ensures received { (bytes : List ℕ) (frames : List FrameOf) → HasReceived bytes self.now → AreFramesOf services_say frames bytes
+        ensures received { (bytes : List ℕ) (frames : List FrameOf) → HasReceived bytes self.now → AreFramesOf caption_channel frames bytes
             → let windows = (received_service frames service).screen.windows in
             MatchOption result (windows id ≡ None) (λ window. window_of window.now ≡ windows id) }
         ensures live { IfSome result (λ window. IsTrue (is_live window.now)) }
@@ -253,7 +254,7 @@ impl Receiver {
     /// The number of bytes that a delay of a service, 1 to 63, holds behind the last whole frame, at most 127 (CTA-708-E, Delay).
     pub fn held(&self, service: u8) -> u8
         requires { IsService service }
-        ensures received { (bytes : List ℕ) (frames : List FrameOf) → HasReceived bytes self.now → AreFramesOf services_say frames bytes
+        ensures received { (bytes : List ℕ) (frames : List FrameOf) → HasReceived bytes self.now → AreFramesOf caption_channel frames bytes
             → result ≡ length (received_service frames service).held }
         ensures most { result ≤ 127 }
     {
@@ -264,7 +265,7 @@ impl Receiver {
     /// reset, and it has none.
     pub fn is_used(&self, service: u8) -> bool
         requires { IsService service }
-        ensures { (bytes : List ℕ) (frames : List FrameOf) → HasReceived bytes self.now → AreFramesOf services_say frames bytes
+        ensures { (bytes : List ℕ) (frames : List FrameOf) → HasReceived bytes self.now → AreFramesOf caption_channel frames bytes
             → result ≡ false → (id : ℕ) → received_windows frames service id ≡ None }
     {
         self.captions.served.services.is_used(service)
@@ -275,7 +276,7 @@ impl Receiver {
     pub fn is_touched(&self) -> bool
         requires { 0 < frame_count self.now }
         ensures { (bytes : List ℕ) (earlier : List FrameOf) (last : FrameOf) → HasReceived bytes self.now
-            → AreFramesOf services_say (earlier ++ last ∷ []) bytes → result ≡ false → (service id : ℕ) → IsService service
+            → AreFramesOf caption_channel (earlier ++ last ∷ []) bytes → result ≡ false → (service id : ℕ) → IsService service
             → received_windows (earlier ++ last ∷ []) service id ≡ received_windows earlier service id }
     {
         self.captions.served.services.is_touched()
@@ -286,7 +287,7 @@ impl Receiver {
     pub fn filled(&self) -> Option<u8>
         requires { 0 < frame_count self.now }
         ensures { (bytes : List ℕ) (earlier : List FrameOf) (last : FrameOf) → HasReceived bytes self.now
-            → AreFramesOf services_say (earlier ++ last ∷ []) bytes → IsLowest (fills_in earlier last) result }
+            → AreFramesOf caption_channel (earlier ++ last ∷ []) bytes → IsLowest (fills_in earlier last) result }
     {
         self.captions.served.services.filled()
     }
@@ -295,7 +296,7 @@ impl Receiver {
     pub fn rate(&self) -> Rate
         requires { 0 < frame_count self.now }
         ensures { (bytes : List ℕ) (earlier : List FrameOf) (last : FrameOf) → HasReceived bytes self.now
-            → AreFramesOf services_say (earlier ++ last ∷ []) bytes → result ≡ last.rate }
+            → AreFramesOf caption_channel (earlier ++ last ∷ []) bytes → result ≡ last.rate }
     {
         self.captions.last.rate
     }
@@ -304,7 +305,7 @@ impl Receiver {
     pub fn flags(&self) -> u8
         requires { 0 < frame_count self.now }
         ensures { (bytes : List ℕ) (earlier : List FrameOf) (last : FrameOf) → HasReceived bytes self.now
-            → AreFramesOf services_say (earlier ++ last ∷ []) bytes → result ≡ last.flags }
+            → AreFramesOf caption_channel (earlier ++ last ∷ []) bytes → result ≡ last.flags }
     {
         self.captions.last.flags
     }
@@ -313,7 +314,7 @@ impl Receiver {
     pub fn counter(&self) -> u16
         requires { 0 < frame_count self.now }
         ensures { (bytes : List ℕ) (earlier : List FrameOf) (last : FrameOf) → HasReceived bytes self.now
-            → AreFramesOf services_say (earlier ++ last ∷ []) bytes → result ≡ last.counter }
+            → AreFramesOf caption_channel (earlier ++ last ∷ []) bytes → result ≡ last.counter }
     {
         self.captions.last.counter
     }
@@ -323,7 +324,7 @@ impl Receiver {
     pub fn triplet_count(&self) -> u16
         requires { 0 < frame_count self.now }
         ensures { (bytes : List ℕ) (earlier : List FrameOf) (last : FrameOf) → HasReceived bytes self.now
-            → AreFramesOf services_say (earlier ++ last ∷ []) bytes → result ≡ length (packet_triplets last) }
+            → AreFramesOf caption_channel (earlier ++ last ∷ []) bytes → result ≡ length (packet_triplets last) }
     {
         self.captions.last.triplets.as_slice().len() as u16
     }
@@ -332,7 +333,7 @@ impl Receiver {
     pub fn sections(&self) -> &[u8]
         requires { 0 < frame_count self.now }
         ensures { (bytes : List ℕ) (earlier : List FrameOf) (last : FrameOf) → HasReceived bytes self.now
-            → AreFramesOf services_say (earlier ++ last ∷ []) bytes → result.now ≡ concat last.sections }
+            → AreFramesOf caption_channel (earlier ++ last ∷ []) bytes → result.now ≡ concat last.sections }
     {
         self.captions.last.sections.as_slice()
     }
@@ -342,7 +343,7 @@ impl Receiver {
     pub fn triplets(&self) -> &[Triplet]
         requires { 0 < frame_count self.now }
         ensures { (bytes : List ℕ) (earlier : List FrameOf) (last : FrameOf) → HasReceived bytes self.now
-            → AreFramesOf services_say (earlier ++ last ∷ []) bytes → result.now ≡ packet_triplets last }
+            → AreFramesOf caption_channel (earlier ++ last ∷ []) bytes → result.now ≡ packet_triplets last }
     {
         self.captions.last.triplets.as_slice()
     }
@@ -352,7 +353,7 @@ impl Receiver {
     pub fn pairs_one(&self) -> &[Pair]
         requires { 0 < frame_count self.now }
         ensures { (bytes : List ℕ) (earlier : List FrameOf) (last : FrameOf) → HasReceived bytes self.now
-            → AreFramesOf services_say (earlier ++ last ∷ []) bytes → result.now ≡ field_pairs One (packet_triplets last) }
+            → AreFramesOf caption_channel (earlier ++ last ∷ []) bytes → result.now ≡ field_pairs One (packet_triplets last) }
     {
         self.captions.last.pairs_one.as_slice()
     }

@@ -5,8 +5,8 @@ use Rattle.cc_receiver.specs.Receivers.{HasReceived, frame_count}
 use Rattle.cc_receiver.specs.declared.receiver.Receiver.{Receiver}
 use Rattle.cc_receiver.proofs.FedFrames.{frames_still}
 use Rattle.cdp_packets.specs.Packets.{Packet as Frame}
-use Rattle.services_files.specs.Services.{services_say}
 use Rattle.words_files.specs.Offences.{IsFileUnder}
+use Rattle.services_files.specs.CaptionChannel.{caption_channel}
 use Rattle.words_files.proofs.FramesOfLemmas.{file_frames, frames_of_once}
 use Rattle.findings.specs.declared.finding.Finding.{Finding}
 use Rattle.cc_verifier.specs.Findings.{AreClean, FirstFinding}
@@ -33,10 +33,10 @@ verified_still before more old new had now counted = record {
 }
 
 -- a file is that of the frames
-pub file_is : (bytes : List ℕ) (verifier : Verifier) (had : HasVerified bytes verifier) → ((frames : List Frame) × IsFileUnder services_say frames bytes)
-    → IsFileUnder services_say had.frames bytes
+pub file_is : (bytes : List ℕ) (verifier : Verifier) (had : HasVerified bytes verifier) → ((frames : List Frame) × IsFileUnder caption_channel frames bytes)
+    → IsFileUnder caption_channel had.frames bytes
 file_is bytes verifier had (frames, file) =
-    subst (λ (fs : List Frame). IsFileUnder services_say fs bytes) (frames_of_once services_say frames had.frames bytes (file_frames services_say frames bytes file) had.frames_are) file
+    subst (λ (fs : List Frame). IsFileUnder caption_channel fs bytes) (frames_of_once caption_channel frames had.frames bytes (file_frames caption_channel frames bytes file) had.frames_are) file
 
 -- nothing was found
 pub found_none : (bytes : List ℕ) (verifier : Verifier) (had : HasVerified bytes verifier) → verifier.finding ≡ None → AreClean verifier.list had.frames

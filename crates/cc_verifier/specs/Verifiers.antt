@@ -14,11 +14,11 @@ use Rattle.line21_screen.specs.Grid.{Grid}
 use Rattle.screen_checks.specs.Channels.{AreReady, KnowAll}
 use Rattle.screen_checks.specs.Differing.{AllSeenWindows}
 use Rattle.screen_checks.specs.Services.{KnowServices, StandAt}
-use Rattle.services_files.specs.Services.{services_say}
 use Rattle.window_places.specs.Turns.{AreAllInTurn}
 use Rattle.words_files.specs.FramesOf.{AreFramesOf}
 use Rattle.words_files.specs.Offences.{IsFileUnder, IsMalformed}
 use Rattle.words_files.specs.Received.{received_grids}
+use Rattle.services_files.specs.CaptionChannel.{caption_channel}
 use Rattle.cc_verifier.specs.Findings.{AreClean, FirstFinding, IsClean, IsFirstFound}
 use Rattle.cc_verifier.specs.declared.verifier.Verdict.{Verdict}
 use Rattle.cc_verifier.specs.declared.verifier.Verdict.TheVariants as verdict
@@ -65,7 +65,7 @@ pub record GoesOn (frames : List Frame) (verifier : Verifier) : Type 0 where
 pub record HasVerified (bytes : List ℕ) (verifier : Verifier) : Type 0 where
   pub received : HasReceived bytes verifier.receiver
   pub frames : List Frame
-  pub frames_are : AreFramesOf services_say frames bytes
+  pub frames_are : AreFramesOf caption_channel frames bytes
   pub found : Found verifier.list frames verifier.finding
   pub goes_on : verifier.finding ≡ None → GoesOn frames verifier
 
@@ -102,12 +102,12 @@ pub record HasJudgedFrame (list : Listing) (earlier : List Frame) (last : Frame)
 
 -- how the frames are judged that it was fed
 abbrev pub JudgedAs : Listing → List ℕ → Verdict → Type 0
-JudgedAs list bytes verdict.Ok = (frames : List Frame) × IsFileUnder services_say frames bytes × AreClean list frames × (list.frames ≤ length frames)
-JudgedAs list bytes (verdict.Differs finding) = (frames : List Frame) × AreFramesOf services_say frames bytes × FirstFinding list frames finding
+JudgedAs list bytes verdict.Ok = (frames : List Frame) × IsFileUnder caption_channel frames bytes × AreClean list frames × (list.frames ≤ length frames)
+JudgedAs list bytes (verdict.Differs finding) = (frames : List Frame) × AreFramesOf caption_channel frames bytes × FirstFinding list frames finding
 JudgedAs list bytes (verdict.Short count) =
-    (frames : List Frame) × IsFileUnder services_say frames bytes × AreClean list frames × (count ≡ length frames) × (length frames < list.frames)
+    (frames : List Frame) × IsFileUnder caption_channel frames bytes × AreClean list frames × (count ≡ length frames) × (length frames < list.frames)
 
 -- or the words may not end here, and nothing is found before
 abbrev pub JudgesFile : Listing → List ℕ → Result Verdict Refusal → Type 0
 JudgesFile list bytes (Ok answer) = JudgedAs list bytes answer
-JudgesFile list bytes (Err refusal) = (frames : List Frame) × AreFramesOf services_say frames bytes × AreClean list frames × IsMalformed services_say bytes refusal
+JudgesFile list bytes (Err refusal) = (frames : List Frame) × AreFramesOf caption_channel frames bytes × AreClean list frames × IsMalformed caption_channel bytes refusal

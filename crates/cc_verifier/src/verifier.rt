@@ -5,9 +5,9 @@ ghost use Rattle.cue_rules.specs.Rules.{IsRuled};
 ghost use Rattle.screen_checks.specs.Differing.{AllSeenWindows};
 ghost use Rattle.cc_verifier.specs.Findings.{AreClean, Tried};
 ghost use Rattle.line21_screen.specs.Grid.{Grid as GridOf};
-ghost use Rattle.services_files.specs.Services.{services_say};
 ghost use Rattle.words_files.specs.FramesOf.{AreFramesOf};
 ghost use Rattle.words_files.specs.Offences.{IsFileUnder};
+ghost use Rattle.services_files.specs.CaptionChannel.{caption_channel};
 
 use cc_base::Refusal;
 use cc_receiver::{Ended, Fed, Receiver};
@@ -99,7 +99,7 @@ impl Verifier {
         ensures receiver { self.new.receiver ≡ self.old.receiver }
         ensures list { list_of self.new ≡ list_of self.old }
         ensures judged { (bytes : List ℕ) (earlier : List Frame) (last : Frame) → HasReceived bytes self.old.receiver
-            → AreFramesOf services_say (earlier ++ last ∷ []) bytes → self.old.finding ≡ None → AreClean self.old.list earlier → GoesOn earlier self.old
+            → AreFramesOf caption_channel (earlier ++ last ∷ []) bytes → self.old.finding ≡ None → AreClean self.old.list earlier → GoesOn earlier self.old
             → HasJudgedFrame self.old.list earlier last self.new }
     {
         let frame = self.receiver.frames() - 1;
@@ -116,7 +116,7 @@ impl Verifier {
         ensures same { IsSameBeside self.old self.new }
         ensures ready { IsReadyAt frame self.new }
         ensures finds { (bytes : List ℕ) (earlier : List Frame) (last : Frame) → HasReceived bytes self.old.receiver
-            → AreFramesOf services_say (earlier ++ last ∷ []) bytes → frame ≡ length earlier → GoesOn earlier self.old
+            → AreFramesOf caption_channel (earlier ++ last ∷ []) bytes → frame ≡ length earlier → GoesOn earlier self.old
             → Finds self.old.list earlier last self.new result }
     {
         if let Some(kind) = self.find_in_packet() {
@@ -132,7 +132,7 @@ impl Verifier {
     fn find_in_packet(&self) -> Option<Kind45>
         requires { 0 < verified_frames self.now }
         ensures { (bytes : List ℕ) (earlier : List Frame) (last : Frame) → HasReceived bytes self.now.receiver
-            → AreFramesOf services_say (earlier ++ last ∷ []) bytes → IsLastCounter earlier self.now.counter
+            → AreFramesOf caption_channel (earlier ++ last ∷ []) bytes → IsLastCounter earlier self.now.counter
             → Tried 3 self.now.list earlier last result }
     {
         if let Some(kind) = self.find_jump() {
@@ -158,7 +158,7 @@ impl Verifier {
     fn find_jump(&self) -> Option<Kind45>
         requires { 0 < verified_frames self.now }
         ensures { (bytes : List ℕ) (earlier : List Frame) (last : Frame) → HasReceived bytes self.now.receiver
-            → AreFramesOf services_say (earlier ++ last ∷ []) bytes → IsLastCounter earlier self.now.counter
+            → AreFramesOf caption_channel (earlier ++ last ∷ []) bytes → IsLastCounter earlier self.now.counter
             → Tried 1 self.now.list earlier last result }
     {
         let seen = self.receiver.counter();
@@ -182,7 +182,7 @@ impl Verifier {
         ensures same { IsSameBeside self.old self.new }
         ensures ready { IsReadyAt frame self.new }
         ensures finds { (bytes : List ℕ) (earlier : List Frame) (last : Frame) → HasReceived bytes self.old.receiver
-            → AreFramesOf services_say (earlier ++ last ∷ []) bytes → frame ≡ length earlier → GoesOn earlier self.old
+            → AreFramesOf caption_channel (earlier ++ last ∷ []) bytes → frame ≡ length earlier → GoesOn earlier self.old
             → Tried 66 self.old.list earlier last None → Finds self.old.list earlier last self.new result }
     {
         let is_idle = self.receiver.is_idle();
@@ -203,7 +203,7 @@ impl Verifier {
         ensures same { IsSameBeside self.old self.new }
         ensures ready { IsReadyAt frame self.new }
         ensures counter { (bytes : List ℕ) (earlier : List Frame) (last : Frame) → HasReceived bytes self.old.receiver
-            → AreFramesOf services_say (earlier ++ last ∷ []) bytes → IsLastCounter (earlier ++ last ∷ []) self.new.counter }
+            → AreFramesOf caption_channel (earlier ++ last ∷ []) bytes → IsLastCounter (earlier ++ last ∷ []) self.new.counter }
         ensures knows { (former : ℕ) (screens : Chan → GridOf) (windows : AllSeenWindows) → frame ≡ former + 1 → IsReadyAt former self.old
             → KnowsAt former screens windows self.old → KnowsAt frame screens windows self.new }
     {
@@ -243,7 +243,7 @@ impl Verifier {
 
     /// How the frames of a words file at which nothing is found are judged by their number.
     fn count(&self) -> Verdict
-        ensures { (bytes : List ℕ) (frames : List Frame) → HasVerified bytes self.now → finding_of self.now ≡ None → IsFileUnder services_say frames bytes
+        ensures { (bytes : List ℕ) (frames : List Frame) → HasVerified bytes self.now → finding_of self.now ≡ None → IsFileUnder caption_channel frames bytes
             → JudgedAs (list_of self.now) bytes result }
     {
         let frames = self.receiver.frames();

@@ -5,13 +5,10 @@ use Rattle.cdp_packets.specs.Packets.{Packet as Frame}
 use Rattle.frame_scheduler.specs.Planned.{Placement, columns_of}
 use Rattle.line21_codes.specs.declared.channels.FieldNumber.TheVariants.{One, Two}
 use Rattle.line21_codes.specs.declared.channels.Chan.TheVariants.{Cc1, Cc2, Cc3, Cc4}
-use Rattle.services_files.specs.Services.{services_say}
-use Rattle.services_files.proofs.WholeFileLemmas.{whole-under}
 use Rattle.words_files.specs.Offences.{IsFileUnder}
 use Rattle.words_files.specs.FramesOf.{AreFramesOf}
 use Rattle.words_files.specs.Received.{received_grids}
 use Rattle.words_files.proofs.FramesOfLemmas.{file_frames, frames_grow, frames_of_once}
-use Rattle.words_files.proofs.GotLemmas.{got}
 use Rattle.services_shown.proofs.ToldLemmas.{packets_count}
 use Rattle.cc_receiver.specs.ReceivedServices.{received_windows}
 use Rattle.cc_receiver.proofs.ReceivedLemmas.{shown_received}
@@ -20,6 +17,8 @@ use Rattle.cc_receiver.proofs.TakenLemmas.{frames_count}
 use Rattle.dtvcc_screen.specs.Meaning.{start}
 use Rattle.dtvcc_shown.specs.Filling.{AllFill}
 use Rattle.services_files.specs.Events.{service_events}
+use Rattle.services_files.specs.CaptionChannel.{caption_channel}
+use Rattle.services_files.proofs.ChannelFiles.{got_frames}
 use Rattle.cue_list_commands.proofs.Outputs.{sound_words}
 use Rattle.cue_lists.specs.Listing.{Listing}
 use Rattle.cue_list_commands.specs.Output.{IsSoundWords, build_output, built_packets}
@@ -27,9 +26,8 @@ use Rattle.ccsuite_cli.specs.Seen.{BuiltWordsAreSeen}
 use Rattle.ccsuite_cli.proofs.FilledLemmas.{none_filled}
 
 -- what is built is a words file whose caption channel is whole
-pub built_file : (list : Listing) (placed : Placement) → IsSoundWords list placed → IsFileUnder services_say (built_packets list placed) (build_output list placed)
-built_file list placed sound =
-    whole-under (built_packets list placed) (build_output list placed) (record { file = sound.carried.file; channel = sound.whole })
+pub built_file : (list : Listing) (placed : Placement) → IsSoundWords list placed → IsFileUnder caption_channel (built_packets list placed) (build_output list placed)
+built_file list placed sound = record { file = sound.carried.file; accepted = sound.whole }
 
 -- so many frames, and others behind them
 pub front_is : (packets frames behind : List Frame) (n : ℕ) → packets ≡ frames ++ behind → n ≡ length frames → take n packets ≡ frames
@@ -40,11 +38,11 @@ pub built_seen : BuiltWordsAreSeen
 built_seen bytes list placed words rest receiver frame accepted output had counted =
     let sound = sound_words bytes list placed accepted in
     let packets = built_packets list placed in
-    let gotten = got services_say words had.bytes_are in
+    let gotten = got_frames words had.bytes_are in
     let frames = gotten.frames in
-    let whole : AreFramesOf services_say packets (words ++ rest) =
-    subst (AreFramesOf services_say packets) output (file_frames services_say packets (build_output list placed) (built_file list placed sound)) in
-    let (behind, grown) = frames_grow services_say frames packets words rest gotten.are whole in
+    let whole : AreFramesOf caption_channel packets (words ++ rest) =
+    subst (AreFramesOf caption_channel packets) output (file_frames caption_channel packets (build_output list placed) (built_file list placed sound)) in
+    let (behind, grown) = frames_grow caption_channel frames packets words rest gotten.are whole in
     let count : frame + 1 ≡ length frames = sym counted ∙ frames_count frames words receiver had gotten.are in
     let front : take (suc frame) packets ≡ frames = front_is packets frames behind (suc frame) grown (sym (add-one frame) ∙ count) in
     let size : length packets ≡ length frames + length behind = ap length grown ∙ length-append frames behind in
@@ -66,7 +64,7 @@ built_seen bytes list placed words rest receiver frame accepted output had count
           ∙ sound.windows frame (omega arith) service id numbered low;
       unfilled = λ service earlier last later numbered are.
           let same : packets ≡ earlier ++ last ∷ (later ++ behind) =
-          grown ∙ ap (λ (f : List Frame). f ++ behind) (frames_of_once services_say frames (earlier ++ last ∷ later) words gotten.are are)
+          grown ∙ ap (λ (f : List Frame). f ++ behind) (frames_of_once caption_channel frames (earlier ++ last ∷ later) words gotten.are are)
           ∙ append_assoc earlier (last ∷ later) behind in
           none_filled service earlier last (later ++ behind)
           (subst (λ (f : List Frame). AllFill 127 start (service_events service f)) same (sound.fills service numbered));

@@ -12,8 +12,8 @@ use Rattle.cue_lists.specs.Listing.{Listing}
 use Rattle.dtvcc_services.specs.Numbers.{IsService}
 use Rattle.frame_scheduler.specs.Planned.{Placement}
 use Rattle.line21_codes.specs.declared.channels.Chan.TheVariants.{Cc1, Cc2, Cc3, Cc4}
-use Rattle.services_files.specs.Services.{services_say}
 use Rattle.words_files.specs.FramesOf.{AreFramesOf}
+use Rattle.services_files.specs.CaptionChannel.{caption_channel}
 use Rattle.cue_list_commands.specs.Accepted.{IsAccepted}
 use Rattle.cue_list_commands.specs.Output.{build_output}
 
@@ -28,7 +28,7 @@ pub record IsSeenAsAuthored (list : Listing) (frame : ℕ) (words : List ℕ) (r
   pub windows : (service id : ℕ) → IsService service → id < 8
       → seen_windows receiver service id ≡ authored_windows service list.cues frame id
   pub unfilled : (service : ℕ) (earlier : List Frame) (last : Frame) (later : List Frame) → IsService service
-      → AreFramesOf services_say (earlier ++ last ∷ later) words → fills_in earlier last service ≡ false
+      → AreFramesOf caption_channel (earlier ++ last ∷ later) words → fills_in earlier last service ≡ false
 
 -- a receiver that was fed a front of the words that `build` puts of an accepted list, in whatever pieces, shows what the list
 -- authors at the last frame that it counts, which are frames 0 to `frame`

@@ -6,8 +6,8 @@ use Rattle.cc_base.specs.declared.refusal.Refusal.{Refusal}
 use Rattle.cdp_packets.specs.Packets.{Packet as Frame}
 use Rattle.cue_lists.specs.Listing.{Listing}
 use Rattle.frame_scheduler.specs.Planned.{Placement}
-use Rattle.services_files.specs.Services.{services_say}
 use Rattle.words_files.specs.Offences.{IsFileUnder, IsMalformed}
+use Rattle.services_files.specs.CaptionChannel.{caption_channel}
 use Rattle.command_base.specs.Counts.{IsReadOf, TellsFaults}
 use Rattle.command_base.specs.Ends.{Ends}
 use Rattle.command_base.specs.declared.status.Place.TheVariants.{Byte}
@@ -57,13 +57,13 @@ RefusedListIsAnswered = (bytes : List ℕ) (refusal : Status) (command : Command
 -- `decode` answers a words file Ok, or want of memory
 abbrev pub FileIsDecoded : Type 0
 FileIsDecoded = (bytes : List ℕ) (frames : List Frame) (old new : Ends) (answer : Status)
-    → IsFileUnder services_say frames bytes → length bytes ≤ words_limit → IsReadOf bytes old new → Answer (Some Decode) old new answer
+    → IsFileUnder caption_channel frames bytes → length bytes ≤ words_limit → IsReadOf bytes old new → Answer (Some Decode) old new answer
     → (answer ≡ status.Ok) ⊎ (answer ≡ status.Memory)
 
 -- `show` answers a words file by the number of its frames, or want of memory
 abbrev pub FileIsShown : Type 0
 FileIsShown = (frame : ℕ) (bytes : List ℕ) (frames : List Frame) (old new : Ends) (answer : Status)
-    → IsFileUnder services_say frames bytes → length bytes ≤ words_limit → IsReadOf bytes old new → Answer (Some (Show frame)) old new answer
+    → IsFileUnder caption_channel frames bytes → length bytes ≤ words_limit → IsReadOf bytes old new → Answer (Some (Show frame)) old new answer
     → IsShown frame (length frames) answer ⊎ (answer ≡ status.Memory)
 
 -- the commands that read words
@@ -75,7 +75,7 @@ ReadsWordsFile _ = ⊥
 -- they answer words that are malformed so, or want of memory
 abbrev pub MalformedIsRefused : Type 0
 MalformedIsRefused = (bytes : List ℕ) (refusal : Refusal) (command : Command) (old new : Ends) (answer : Status)
-    → ReadsWordsFile command → IsMalformed services_say bytes refusal → length bytes ≤ words_limit → IsReadOf bytes old new
+    → ReadsWordsFile command → IsMalformed caption_channel bytes refusal → length bytes ≤ words_limit → IsReadOf bytes old new
     → Answer (Some command) old new answer → (answer ≡ status.Malformed (Byte refusal.place) refusal.why) ⊎ (answer ≡ status.Memory)
 
 -- and more bytes than the limit by the first offending word within it, or by the limit, or want of memory

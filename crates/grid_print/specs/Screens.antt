@@ -8,9 +8,9 @@ use Rattle.dtvcc_services.specs.Numbers.{IsService}
 use Rattle.dtvcc_windows.specs.Showing.{ShownWindow}
 use Rattle.line21_codes.specs.declared.channels.Chan.{Chan}
 use Rattle.line21_screen.specs.Grid.{Grid}
-use Rattle.services_files.specs.Services.{services_say}
 use Rattle.words_files.specs.FramesOf.{AreFramesOf}
 use Rattle.words_files.specs.Received.{received_grids}
+use Rattle.services_files.specs.CaptionChannel.{caption_channel}
 
 -- the grid of each channel, and what is seen of the window of each id of each service
 pub record Screens : Type 0 where
@@ -25,7 +25,7 @@ received_screens frames = record { grids = received_grids frames; windows = rece
 pub record IsBehind (frames : List Frame) (receiver : Receiver) : Type 0 where
   pub bytes : List ℕ
   pub received : HasReceived bytes receiver
-  pub frames_are : AreFramesOf services_say frames bytes
+  pub frames_are : AreFramesOf caption_channel frames bytes
 
 -- the same is seen of the windows 0 to 7 of the services 1 to 63
 abbrev pub HaveSameWindows : (ℕ → ℕ → Option ShownWindow) → (ℕ → ℕ → Option ShownWindow) → Type 0

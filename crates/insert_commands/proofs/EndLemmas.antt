@@ -10,19 +10,18 @@ use Rattle.anc_words.specs.WordsFiles.{IsPacketBytes, IsWordsFile}
 use Rattle.anc_words.proofs.ByteLemmas.{file_is_read, what_is_read_is_file}
 use Rattle.anc_words.proofs.WordsFileLemmas.{IsWordsFile-append, IsWordsFile-first, IsWordsFile-one, IsWordsFile-unique}
 use Rattle.cdp_packets.specs.Packets.{IsCdp, Packet as Frame}
-use Rattle.services_files.specs.Services.{services_say}
 use Rattle.words_files.specs.Frames.{CarryFrames}
 use Rattle.words_files.specs.Frames.CarryFrames.{none, caption, foreign}
 use Rattle.words_files.specs.FramesOf.{AreFramesOf}
 use Rattle.words_files.specs.Offences.{IsFileUnder, IsUnoffending}
-use Rattle.words_files.proofs.CaughtLemmas.{caught_file}
+use Rattle.services_files.specs.CaptionChannel.{caption_channel}
+use Rattle.services_files.proofs.ChannelFiles.{caught_channel, unoffending_unrefused}
 use Rattle.words_files.proofs.FramesOfLemmas.{carry_front, empty_file, file_front, some_packet}
-use Rattle.words_files.proofs.OffenceLemmas.{unoffending_is_unrefused}
 use Rattle.words_files.proofs.WordLemmas.{front_of}
 use Rattle.insert_commands.specs.OpenPackets.{NoPacketEnds}
 
 -- bytes with which others begin, of which no word offends, and behind which nothing is open, are a file
-pub closed_file : (bytes front rest : List ℕ) → bytes ≡ front ++ rest → 0 < length rest → IsUnoffending services_say bytes → All (λ b. b < 256) front
+pub closed_file : (bytes front rest : List ℕ) → bytes ≡ front ++ rest → 0 < length rest → IsUnoffending caption_channel bytes → All (λ b. b < 256) front
     → open_behind anc_syntax front ≡ nothing_open → (packets : List AncillaryPacket) × IsWordsFile packets front
 closed_file bytes front rest spelled some is are closed =
     let begins = is.begins in
@@ -36,10 +35,10 @@ closed_file bytes front rest spelled some is are closed =
     what_is_read_is_file front are front_read closed
 
 -- a file of which no word offends has frames
-pub file_under : (packets : List AncillaryPacket) (bytes : List ℕ) → IsWordsFile packets bytes → IsUnoffending services_say bytes → All (λ b. b < 256) bytes
-    → (frames : List Frame) × IsFileUnder services_say frames bytes
+pub file_under : (packets : List AncillaryPacket) (bytes : List ℕ) → IsWordsFile packets bytes → IsUnoffending caption_channel bytes → All (λ b. b < 256) bytes
+    → (frames : List Frame) × IsFileUnder caption_channel frames bytes
 file_under packets bytes file is are =
-    caught_file services_say bytes are (unoffending_is_unrefused services_say bytes is) (file_is_read packets bytes file).leads
+    caught_channel bytes are (unoffending_unrefused bytes is) (file_is_read packets bytes file).leads
 
 -- the last of packets
 last_same : (front : List AncillaryPacket) (earlier : List AncillaryPacket) (p q : AncillaryPacket) → earlier ++ p ∷ [] ≡ front ++ q ∷ [] → p ≡ q
@@ -87,8 +86,8 @@ pub record Brings (packet : AncillaryPacket) (frames more : List Frame) : Type 0
   pub foreign_brings : (IsCaption packet → ⊥) → more ≡ frames
   pub caption_brings : IsCaption packet → (frame : Frame) × IsCdp frame (user_bytes packet) × (more ≡ frames ++ frame ∷ [])
 
-pub brings : (packet : AncillaryPacket) (frames more : List Frame) (file behind : List ℕ) → IsFileUnder services_say frames file
-    → IsFileUnder services_say more (file ++ behind) → IsPacketBytes packet behind → Brings packet frames more
+pub brings : (packet : AncillaryPacket) (frames more : List Frame) (file behind : List ℕ) → IsFileUnder caption_channel frames file
+    → IsFileUnder caption_channel more (file ++ behind) → IsPacketBytes packet behind → Brings packet frames more
 brings packet frames more file behind was now is =
     let whole = IsWordsFile-append was.file.packets (packet ∷ []) file behind was.file.file (IsWordsFile-one packet behind is) in
     let same = IsWordsFile-unique now.file.packets (was.file.packets ++ packet ∷ []) (file ++ behind) now.file.file whole in
@@ -120,8 +119,8 @@ tail_same [] xs ys same = same
 tail_same (f ∷ front) xs ys same = tail_same front xs ys cc
 
 -- a file, and bytes behind it with which no packet ends, have the file's frames
-pub frames_here : (frames : List Frame) (file behind : List ℕ) → IsFileUnder services_say frames file → NoPacketEnds file behind
-    → AreFramesOf services_say frames (file ++ behind)
+pub frames_here : (frames : List Frame) (file behind : List ℕ) → IsFileUnder caption_channel frames file → NoPacketEnds file behind
+    → AreFramesOf caption_channel frames (file ++ behind)
 frames_here frames file behind under quiet = record {
   file = file;
   behind = behind;

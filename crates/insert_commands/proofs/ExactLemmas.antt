@@ -23,7 +23,6 @@ use Rattle.inserted_words.specs.Captioning.{captioning_of}
 use Rattle.inserted_words.proofs.FileLemmas.{foreign_file}
 use Rattle.inserted_words.specs.InsertedFile.{AreInserted, BringsFrame}
 use Rattle.inserted_words.specs.InsertedFile.AreInserted.{nothing, foreign as copied, caption as replaced}
-use Rattle.services_files.specs.Services.{services_say}
 use Rattle.words_commands.proofs.WordsVerdictLemmas.{known_judged, known_whole}
 use Rattle.words_files.proofs.EndingLemmas.{file_has_no_offence, offence_stays}
 use Rattle.words_files.proofs.FrameLemmas.{joined, one_list}
@@ -31,7 +30,8 @@ use Rattle.words_files.proofs.FramesOfLemmas.{carry_front, file_front}
 use Rattle.words_files.specs.Frames.{CarryFrames, IsFileOf}
 use Rattle.words_files.specs.Frames.CarryFrames.{none, caption}
 use Rattle.words_files.specs.Offences.{FirstOffendingWord, IsFileUnder}
-use Rattle.insert_commands.specs.InsertAnswer.{Cause, ExceedsPacketLength, IsFoundAt, IsRefusedWith, IsShort, OfList, PassesLimit, RefusesList, Stops}
+use Rattle.services_files.specs.CaptionChannel.{caption_channel}
+use Rattle.insert_commands.specs.InsertAnswer.{Cause, ExceedsPacketLength, IsFoundAt, IsRefusedBehind, IsShort, OfList, PassesLimitBehind, RefusesList, Stops}
 use Rattle.insert_commands.specs.InsertVerdict.{CanTake, InsertedIsAnswered, RefusedSideIsAnswered}
 
 -- what holds of the list of a side file holds of every accepted list that it spells
@@ -68,7 +68,7 @@ taken_file _ _ _ _ (replaced captions frames more old new file text bytes whole 
     (subst (IsFileOf (frames ++ old ∷ [])) (sym whole_is) (joined frames (old ∷ []) file bytes (taken_file captions frames file text before) (brought_file old bytes brings)))
 
 -- frames of bytes that are a file begin with those that a front of the bytes brings
-front_frames : (some all : List Frame) (front rest : List ℕ) → IsFileOf some front → IsFileUnder services_say all (front ++ rest) → (behind : List Frame) × (all ≡ some ++ behind)
+front_frames : (some all : List Frame) (front rest : List ℕ) → IsFileOf some front → IsFileUnder caption_channel all (front ++ rest) → (behind : List Frame) × (all ≡ some ++ behind)
 front_frames some all front rest is whole =
     let file = whole.file in
     let packets = file_front is.packets file.packets front rest is.file file.file in
@@ -77,7 +77,7 @@ front_frames some all front rest is whole =
 
 -- a packet behind those that were put brings the next frame
 module _ (list : Listing) (placed : Placement) (Why : Cause) (bytes : List ℕ) (old new : Ends) (answer : Put) (known : old.left ≡ Some bytes)
-    (stops : Stops (captioning_of list placed) Why answer old new) (all : List Frame) (file : IsFileUnder services_say all bytes) where
+    (stops : Stops (captioning_of list placed) Why answer old new) (all : List Frame) (file : IsFileUnder caption_channel all bytes) where
   judged_front : (rest : List ℕ) × (bytes ≡ (stops.file ++ stops.behind) ++ (stops.unjudged ++ rest))
   judged_front = known_judged old.left new.left bytes (stops.file ++ stops.behind) stops.unjudged known stops.taken
 
@@ -89,16 +89,16 @@ module _ (list : Listing) (placed : Placement) (Why : Cause) (bytes : List ℕ) 
       let (rest, is) = judged_front in
       let front = joined stops.frames (last ∷ []) stops.file stops.behind put_file (brought_file last stops.behind brings) in
       let (behind, same) = front_frames (stops.frames ++ last ∷ []) all (stops.file ++ stops.behind) (stops.unjudged ++ rest) front
-      (subst (IsFileUnder services_say all) is file) in
+      (subst (IsFileUnder caption_channel all) is file) in
       (behind, same ∙ append_assoc stops.frames (last ∷ []) behind)
 
   -- no word of a file offends
-  pub never_offends : (refusal : Refusal) → FirstOffendingWord services_say ((stops.file ++ stops.behind) ++ stops.unjudged) refusal → ⊥
+  pub never_offends : (refusal : Refusal) → FirstOffendingWord caption_channel ((stops.file ++ stops.behind) ++ stops.unjudged) refusal → ⊥
   never_offends refusal offends =
       let (rest, is) = judged_front in
-      file_has_no_offence services_say all bytes refusal file
-      (subst (λ b. FirstOffendingWord services_say b refusal) (append_assoc (stops.file ++ stops.behind) stops.unjudged rest ∙ sym is)
-      (offence_stays services_say ((stops.file ++ stops.behind) ++ stops.unjudged) rest refusal offends))
+      file_has_no_offence caption_channel all bytes refusal file
+      (subst (λ b. FirstOffendingWord caption_channel b refusal) (append_assoc (stops.file ++ stops.behind) stops.unjudged rest ∙ sym is)
+      (offence_stays caption_channel ((stops.file ++ stops.behind) ++ stops.unjudged) rest refusal offends))
 
   -- bytes within a number are judged in part
   pub never_past : (limit : ℕ) → length bytes ≤ limit → length (stops.file ++ stops.behind) ≡ limit → 0 < length stops.unjudged → ⊥
@@ -114,8 +114,8 @@ frame_has P (f ∷ front) frame behind all = frame_has P front frame behind (All
 
 -- the causes don't hold of words that can take the captions
 module _ (list : Listing) (placed : Placement) (bytes : List ℕ) (old new : Ends) (can : CanTake list placed bytes) (known : old.left ≡ Some bytes) where
-  never_passes : Stops (captioning_of list placed) PassesLimit put.Done old new → ⊥
-  never_passes stops = never_past list placed PassesLimit bytes old new put.Done known stops can.frames can.file _ can.within stops.cause.full stops.cause.past
+  never_passes : Stops (captioning_of list placed) PassesLimitBehind put.Done old new → ⊥
+  never_passes stops = never_past list placed PassesLimitBehind bytes old new put.Done known stops can.frames can.file _ can.within stops.cause.full stops.cause.past
 
   never_long : Stops (captioning_of list placed) ExceedsPacketLength put.Done old new → ⊥
   never_long stops =
@@ -131,12 +131,12 @@ module _ (list : Listing) (placed : Placement) (bytes : List ℕ) (old new : End
       let (behind, same) = next_frame list placed (IsFoundAt finding) bytes old new put.Done known stops can.frames can.file cause.last cause.brings in
       cause.other (frame_has (λ f. f.rate ≡ list.rate) stops.frames cause.last behind (subst (All (λ f. f.rate ≡ list.rate)) same can.rates))
 
-  never_malformed : (refusal : Refusal) → Stops (captioning_of list placed) (IsRefusedWith refusal old.left) put.Done old new → ⊥
+  never_malformed : (refusal : Refusal) → Stops (captioning_of list placed) (IsRefusedBehind refusal old.left) put.Done old new → ⊥
   never_malformed refusal stops = elim stops.cause [
-    | inl is ↦ never_offends list placed (IsRefusedWith refusal old.left) bytes old new put.Done known stops can.frames can.file refusal is.stands.offends
+    | inl is ↦ never_offends list placed (IsRefusedBehind refusal old.left) bytes old new put.Done known stops can.frames can.file refusal is.stands.offends
     | inr is ↦
         is.cut.no_file can.frames
-        (subst (IsFileUnder services_say can.frames) (known_whole old.left bytes (stops.file ++ stops.behind) known is.whole.0) can.file)
+        (subst (IsFileUnder caption_channel can.frames) (known_whole old.left bytes (stops.file ++ stops.behind) known is.whole.0) can.file)
   ]
 
   never_short : (count : ℕ) → Stops (captioning_of list placed) (IsShort old.left count) put.Done old new → ⊥
@@ -144,7 +144,7 @@ module _ (list : Listing) (placed : Placement) (bytes : List ℕ) (old new : End
       let cause = stops.cause in
       let whole = cause.whole in
       let same = one_list stops.frames can.frames bytes
-      (subst (λ b. IsFileUnder services_say stops.frames b) (sym (known_whole old.left bytes stops.file known whole.whole.0)) whole.is_file).file can.file.file in
+      (subst (λ b. IsFileUnder caption_channel stops.frames b) (sym (known_whole old.left bytes stops.file known whole.whole.0)) whole.is_file).file can.file.file in
       let size = ap length same in
       let few = cause.few in
       let enough = can.enough in
@@ -161,13 +161,13 @@ inserted_answered text bytes list placed side later old new (status.Limit limit.
     absurd (never_refused text list placed side later old new (status.Limit limit.Bytes) known accepted is)
 inserted_answered text bytes list placed side later old new (status.Limit limit.Bytes) accepted can known steady read (inr is) =
     absurd (never_passes list placed bytes old new can read.left
-    (list_known text side list placed (λ l p. Stops (captioning_of l p) PassesLimit put.Done old new) known accepted is.2))
+    (list_known text side list placed (λ l p. Stops (captioning_of l p) PassesLimitBehind put.Done old new) known accepted is.2))
 inserted_answered text bytes list placed side later old new (status.Limit limit.Packet) accepted can known steady read is =
     absurd (never_long list placed bytes old new can read.left
     (list_known text side list placed (λ l p. Stops (captioning_of l p) ExceedsPacketLength put.Done old new) known accepted is.2))
 inserted_answered text bytes list placed side later old new (status.Malformed (Byte place) why) accepted can known steady read is =
     absurd (never_malformed list placed bytes old new can read.left (record { place = place; why = why })
-    (list_known text side list placed (λ l p. Stops (captioning_of l p) (IsRefusedWith (record { place = place; why = why }) old.left) put.Done old new) known accepted is.2))
+    (list_known text side list placed (λ l p. Stops (captioning_of l p) (IsRefusedBehind (record { place = place; why = why }) old.left) put.Done old new) known accepted is.2))
 inserted_answered text bytes list placed side later old new (status.Differs finding) accepted can known steady read is =
     absurd (never_other list placed bytes old new can read.left finding
     (list_known text side list placed (λ l p. Stops (captioning_of l p) (IsFoundAt finding) put.Done old new) known accepted is.2))

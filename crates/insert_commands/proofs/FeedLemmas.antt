@@ -19,8 +19,8 @@ use Rattle.cc_receiver.specs.declared.receiver.Fed.{Fed}
 use Rattle.cc_receiver.specs.declared.receiver.Receiver.{Receiver}
 use Rattle.cc_receiver.proofs.FedFrames.{counted_nothing, counts_one, moves_by, nothing_is_file, nothing_offends}
 use Rattle.cdp_packets.specs.Packets.{Packet as Frame}
-use Rattle.services_files.specs.Services.{services_say}
 use Rattle.words_files.specs.Offences.{IsFileUnder, IsUnoffending}
+use Rattle.services_files.specs.CaptionChannel.{caption_channel}
 use Rattle.insert_commands.specs.OpenPackets.{EndsCaption, EndsForeign, HasRead, IsEndedAs, NoPacketEnds, ReadsFront, open_bytes}
 use Rattle.insert_commands.specs.declared.packets.Packets.{Packets}
 use Rattle.insert_commands.proofs.EndLemmas.{brings, closed_file, file_under, no_more, one_packet}
@@ -45,7 +45,7 @@ nothing_read packets received none =
     record {
       received = subst (λ b. HasReceived b packets.receiver) (sym none) received;
       few = omega (arith, count);
-      unoffending = subst (IsUnoffending services_say) (sym none) nothing_offends;
+      unoffending = subst (IsUnoffending caption_channel) (sym none) nothing_offends;
       under = nothing_is_file;
       none = λ others n some few is. absurd (omega (arith, some, few, ap length none));
     }
@@ -77,8 +77,8 @@ module _ (frames : List Frame) (file bytes : List ℕ) (old : Packets) (new : Re
         (subst (IsWordsFile packets) (ap (λ b. file ++ b) front ∙ sym (append_assoc file (open_bytes old) (take k bytes))) is)
   ]
 
-  unoffending_whole : IsUnoffending services_say (file ++ more)
-  unoffending_whole = subst (IsUnoffending services_say) whole feeds.unoffending
+  unoffending_whole : IsUnoffending caption_channel (file ++ more)
+  unoffending_whole = subst (IsUnoffending caption_channel) whole feeds.unoffending
 
   received_whole : HasReceived (file ++ more) new
   received_whole = subst (λ b. HasReceived b new) whole feeds.received
@@ -124,7 +124,7 @@ module _ (frames : List Frame) (file bytes : List ℕ) (old : Packets) (new : Re
         few = subst (λ r. frame_count r ≤ length (file ++ open_bytes packets)) (sym receiver)
             (subst (λ b. frame_count new ≤ length (file ++ b)) (sym kept)
             (omega (arith, count, few, length-append file (open_bytes old), length-append file more, long)));
-        unoffending = subst (λ b. IsUnoffending services_say (file ++ b)) (sym kept) unoffending_whole;
+        unoffending = subst (λ b. IsUnoffending caption_channel (file ++ b)) (sym kept) unoffending_whole;
         under = had.under;
         none = subst (NoPacketEnds file) (sym kept) none;
       }
@@ -136,7 +136,7 @@ module _ (frames : List Frame) (file bytes : List ℕ) (old : Packets) (new : Re
       (omega (arith, some, long)) no_sooner
 
   under_now : (packet : AncillaryPacket) → EndsWithPacket packet ((file ++ open_bytes old) ++ take fed.used bytes)
-      → (now : List Frame) × IsFileUnder services_say now (file ++ more)
+      → (now : List Frame) × IsFileUnder caption_channel now (file ++ more)
   under_now packet with =
       file_under (with.earlier ++ packet ∷ []) (file ++ more) (subst (IsWordsFile (with.earlier ++ packet ∷ [])) whole with.are) unoffending_whole received_whole.bytes_are
 
@@ -153,7 +153,7 @@ module _ (frames : List Frame) (file bytes : List ℕ) (old : Packets) (new : Re
         received = subst (HasReceived (file ++ more)) (sym receiver) received_whole;
         few = subst (λ r. frame_count r ≤ length (file ++ more)) (sym receiver) (few_now some);
         unoffending = unoffending_whole;
-        under = subst (λ f. IsFileUnder services_say f (file ++ more)) same under;
+        under = subst (λ f. IsFileUnder caption_channel f (file ++ more)) same under;
       }
 
   pub fed_caption : (packets : Packets) → packets.receiver ≡ new → 0 < fed.used → fed.ended ≡ ended.Caption → EndsCaption frames file more packets
@@ -171,7 +171,7 @@ module _ (frames : List Frame) (file bytes : List ℕ) (old : Packets) (new : Re
         received = subst (HasReceived (file ++ more)) (sym receiver) received_whole;
         few = subst (λ r. frame_count r ≤ length (file ++ more)) (sym receiver) (few_now some);
         unoffending = unoffending_whole;
-        under = subst (λ f. IsFileUnder services_say f (file ++ more)) same under;
+        under = subst (λ f. IsFileUnder caption_channel f (file ++ more)) same under;
       }
 
   pub fed_ends : (packets : Packets) → packets.receiver ≡ new → open_bytes packets ≡ more → (answer : Ended) → fed.ended ≡ answer

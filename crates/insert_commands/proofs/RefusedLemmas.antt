@@ -7,8 +7,8 @@ use Rattle.anc_words.specs.WordsFiles.{IsPacketBytes, IsWordsFile}
 use Rattle.anc_words.proofs.WordsFileLemmas.{IsWordsFile-append, IsWordsFile-first, IsWordsFile-one}
 use Rattle.cc_base.specs.declared.refusal.Refusal.{Refusal}
 use Rattle.cdp_packets.specs.Packets.{Packet as Frame}
-use Rattle.services_files.specs.Services.{services_say}
 use Rattle.words_files.specs.Offences.{AreWholeWords, Begins, FirstOffendingWord, IsFileUnder}
+use Rattle.services_files.specs.CaptionChannel.{caption_channel}
 use Rattle.words_files.proofs.FramesOfLemmas.{empty_file, file_front}
 use Rattle.words_files.proofs.OffenceLemmas.{past_offence}
 use Rattle.words_files.proofs.WordLemmas.{AreWords-whole, front_of}
@@ -61,13 +61,13 @@ even_file : (packets : List AncillaryPacket) (file : List ℕ) → IsWordsFile p
 even_file packets file is = AreWords-whole file is.words is.spelled
 
 -- a file begins with itself
-file_begins : (frames : List Frame) (file : List ℕ) → IsFileUnder services_say frames file → Begins services_say file
-file_begins frames file is = record { more = []; frames = frames; is_file = subst (IsFileUnder services_say frames) (sym (append-nil file)) is }
+file_begins : (frames : List Frame) (file : List ℕ) → IsFileUnder caption_channel frames file → Begins caption_channel file
+file_begins frames file is = record { more = []; frames = frames; is_file = subst (IsFileUnder caption_channel frames) (sym (append-nil file)) is }
 
 -- a word was refused in bytes up to a packet's end
-pub refused_behind : (frames : List Frame) (file held bytes : List ℕ) (more : ℕ) (refusal : Refusal) → IsFileUnder services_say frames file
+pub refused_behind : (frames : List Frame) (file held bytes : List ℕ) (more : ℕ) (refusal : Refusal) → IsFileUnder caption_channel frames file
     → NoPacketEnds file held → EndsNoSooner held bytes more → more ≤ length bytes
-    → FirstOffendingWord services_say ((file ++ held) ++ take more bytes) refusal → RefusesWord file (held ++ bytes) refusal
+    → FirstOffendingWord caption_channel ((file ++ held) ++ take more bytes) refusal → RefusesWord file (held ++ bytes) refusal
 refused_behind frames file held bytes more refusal under none sooner within offends =
     let packets = under.file.packets in
     let before = offends.before in
@@ -75,7 +75,7 @@ refused_behind frames file held bytes more refusal under none sooner within offe
     let front = held ++ take more bytes in
     let spelled : file ++ front ≡ before ++ word = sym (append_assoc file held (take more bytes)) ∙ offends.spelled in
     let not_before : length before + 2 ≤ length file → ⊥ = λ long.
-    past_offence services_say file front ((file ++ held) ++ take more bytes) refusal offends (sym (append_assoc file held (take more bytes))) long (file_begins frames file under) in
+    past_offence caption_channel file front ((file ++ held) ++ take more bytes) refusal offends (sym (append_assoc file held (take more bytes))) long (file_begins frames file under) in
     let whole = offends.whole in
     let even = even_file packets file under.file.file in
     let long : length file ≤ length before = omega (arith, not_before, whole, even) in

@@ -18,8 +18,8 @@ use Rattle.cc_receiver.proofs.TakenLemmas.{frames_count}
 use Rattle.cdp_packets.specs.Packets.{Packet as Frame}
 use Rattle.cdp_packets.proofs.PacketLemmas.{rate_of-code}
 use Rattle.packet_inserter.specs.Insertion.{IsInserted, packet_length}
-use Rattle.services_files.specs.Services.{services_say}
 use Rattle.words_files.specs.Offences.{IsFileUnder, IsUnoffending}
+use Rattle.services_files.specs.CaptionChannel.{caption_channel}
 use Rattle.words_files.proofs.FramesOfLemmas.{file_frames}
 use Rattle.text_output.proofs.PageLemmas.{gathered_more}
 use Rattle.text_output.specs.Gathered.{Gathers, held_of}
@@ -46,14 +46,14 @@ nothing_ends : (file kept : List ℕ) → kept ≡ [] → NoPacketEnds file kept
 nothing_ends file kept none others n some few is = absurd (omega (arith, some, few, ap length none))
 
 pub begun : (frames : List Frame) (file bytes : List ℕ) (receiver : Receiver) (new : Packets) → HasReceived (file ++ bytes) receiver
-    → frame_count receiver ≤ length (file ++ bytes) → IsUnoffending services_say (file ++ bytes) → IsFileUnder services_say frames (file ++ bytes)
+    → frame_count receiver ≤ length (file ++ bytes) → IsUnoffending caption_channel (file ++ bytes) → IsFileUnder caption_channel frames (file ++ bytes)
     → new.receiver ≡ receiver → open_bytes new ≡ [] → HasRead frames (file ++ bytes) new
 begun frames file bytes receiver new received few unoffending under same none =
     let all : (file ++ bytes) ++ open_bytes new ≡ file ++ bytes = ap (λ b. (file ++ bytes) ++ b) none ∙ append-nil (file ++ bytes) in
     record {
       received = subst (λ r. HasReceived ((file ++ bytes) ++ open_bytes new) r) (sym same) (subst (λ b. HasReceived b receiver) (sym all) received);
       few = subst (λ r. frame_count r ≤ length ((file ++ bytes) ++ open_bytes new)) (sym same) (subst (λ b. frame_count receiver ≤ length b) (sym all) few);
-      unoffending = subst (IsUnoffending services_say) (sym all) unoffending;
+      unoffending = subst (IsUnoffending caption_channel) (sym all) unoffending;
       under = under;
       none = nothing_ends (file ++ bytes) (open_bytes new) none;
     }
@@ -204,7 +204,7 @@ module _ (list : Captioning) (start now : Option (List ℕ)) (before bytes : Lis
 -- a packet of captions that ended brought a frame, whose sections fit
 pub has_frame : (frames : List Frame) (file bytes : List ℕ) (packets : Packets) → EndsCaption frames file bytes packets → HasLastFrame packets.receiver
 has_frame frames file bytes packets is =
-    let are = file_frames services_say (frames ++ is.frame ∷ []) (file ++ bytes) is.under in
+    let are = file_frames caption_channel (frames ++ is.frame ∷ []) (file ++ bytes) is.under in
     let count : frame_count packets.receiver ≡ length (frames ++ is.frame ∷ []) = frames_count (frames ++ is.frame ∷ []) (file ++ bytes) packets.receiver is.received are in
     let carries = is.carries in
     let low = is.is.is_packet.has_count.low_bits in

@@ -15,10 +15,10 @@ use Rattle.command_base.specs.Ends.{Ends, ends}
 use Rattle.command_base.specs.declared.status.Place.TheVariants as place
 use Rattle.command_base.specs.declared.status.Status.{Status}
 use Rattle.command_base.specs.declared.status.Status.TheVariants as status
-use Rattle.services_files.specs.Services.{services_say}
 use Rattle.words_commands.proofs.PieceLemmas.{IsPiece, all_taken, nothing_taken, whole_piece, with_piece}
 use Rattle.words_commands.specs.WordsAnswer.{words_limit}
 use Rattle.words_files.specs.Offences.{IsFileUnder}
+use Rattle.services_files.specs.CaptionChannel.{caption_channel}
 use Rattle.text_output.specs.Gathered.{held_of}
 use Rattle.insert_commands.proofs.FlushLemmas.{inserted_put, was_put}
 use Rattle.insert_commands.specs.InsertAnswer.{Cause, PutsInserted, Stops}
@@ -33,7 +33,7 @@ use Rattle.insert_commands.specs.declared.inserting.Stop.TheVariants as stop
 use Rattle.insert_commands.specs.declared.packets.Packets.{Packets}
 
 -- where a file ends behind a file, nothing is open
-pub nothing_left : (frames : List Frame) (file behind : List ℕ) → NoPacketEnds file behind → IsFileUnder services_say frames (file ++ behind) → behind ≡ []
+pub nothing_left : (frames : List Frame) (file behind : List ℕ) → NoPacketEnds file behind → IsFileUnder caption_channel frames (file ++ behind) → behind ≡ []
 nothing_left frames file [] none is = refl
 nothing_left frames file (b ∷ behind) none is =
     absurd (none is.file.packets (length (b ∷ behind)) (omega arith) (omega arith)

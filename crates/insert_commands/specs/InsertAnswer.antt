@@ -21,9 +21,9 @@ use Rattle.findings.specs.declared.finding.Finding.{Finding}
 use Rattle.findings.specs.declared.finding.Kind45.TheVariants as kind
 use Rattle.frame_scheduler.specs.Planned.{Placement}
 use Rattle.packet_inserter.specs.Insertion.{IsInserted, packet_length}
-use Rattle.services_files.specs.Services.{services_say}
 use Rattle.words_commands.specs.WordsAnswer.{IsSteady, IsWholeInput, words_limit}
 use Rattle.words_files.specs.Offences.{IsCutShort, IsFileUnder, IsUnoffending}
+use Rattle.services_files.specs.CaptionChannel.{caption_channel}
 use Rattle.inserted_words.specs.InsertedFile.{AreInserted, BringsFrame}
 use Rattle.inserted_words.specs.Captioning.{Captioning, captioning_of, captions_of}
 use Rattle.inserted_words.specs.Soundness.{HaveRate, IsSoundInsertion}
@@ -54,37 +54,37 @@ pub record Stops (list : Captioning) (Why : Cause) (answer : Put) (old new : End
   pub cause : Why list frames file behind unjudged
 
 -- the whole input is a words file of the frames, and all of it was put
-pub record IsWholeFile (left : Option (List ℕ)) (frames : List Frame) (file behind unjudged : List ℕ) : Type 0 where
+pub record IsAllPut (left : Option (List ℕ)) (frames : List Frame) (file behind unjudged : List ℕ) : Type 0 where
   pub whole : IsWholeInput left file unjudged
-  pub is_file : IsFileUnder services_say frames file
+  pub is_file : IsFileUnder caption_channel frames file
   pub all : behind ≡ []
 
 -- so it is, and there are as many frames as the list has, at least
 pub record HasFrames (left : Option (List ℕ)) (list : Captioning) (frames : List Frame) (file behind unjudged : List ℕ) : Type 0 where
-  pub whole : IsWholeFile left frames file behind unjudged
+  pub whole : IsAllPut left frames file behind unjudged
   pub enough : list.count ≤ length frames
 
 -- so it is, and there are so many frames, fewer than the list has
 pub record IsShort (left : Option (List ℕ)) (count : ℕ) (list : Captioning) (frames : List Frame) (file behind unjudged : List ℕ) : Type 0 where
-  pub whole : IsWholeFile left frames file behind unjudged
+  pub whole : IsAllPut left frames file behind unjudged
   pub count_is : count ≡ length frames
   pub few : length frames < list.count
 
 -- no word of the bytes judged offends, and no packet ends behind the file
-pub record HasNoOffence (file behind : List ℕ) : Type 0 where
-  pub unoffending : IsUnoffending services_say (file ++ behind)
+pub record HasNoOffenceBehind (file behind : List ℕ) : Type 0 where
+  pub unoffending : IsUnoffending caption_channel (file ++ behind)
   pub none : NoPacketEnds file behind
 
 -- all bytes taken were judged
 pub record IsJudged (list : Captioning) (frames : List Frame) (file behind unjudged : List ℕ) : Type 0 where
   pub all : unjudged ≡ []
-  pub no_offence : HasNoOffence file behind
+  pub no_offence : HasNoOffenceBehind file behind
 
 -- there is a byte past the limit
-pub record PassesLimit (list : Captioning) (frames : List Frame) (file behind unjudged : List ℕ) : Type 0 where
+pub record PassesLimitBehind (list : Captioning) (frames : List Frame) (file behind unjudged : List ℕ) : Type 0 where
   pub full : length (file ++ behind) ≡ words_limit
   pub past : 0 < length unjudged
-  pub no_offence : HasNoOffence file behind
+  pub no_offence : HasNoOffenceBehind file behind
 
 -- behind the bytes judged stands the first word that offends, within the limit, and no packet ends before it behind the file
 pub record IsOffence (refusal : Refusal) (file behind unjudged : List ℕ) : Type 0 where
@@ -94,19 +94,19 @@ pub record IsOffence (refusal : Refusal) (file behind unjudged : List ℕ) : Typ
 -- the whole input was judged, and is cut short
 pub record IsInputCutShort (refusal : Refusal) (left : Option (List ℕ)) (file behind unjudged : List ℕ) : Type 0 where
   pub whole : IsWholeInput left (file ++ behind) unjudged
-  pub cut : IsCutShort services_say (file ++ behind) refusal
+  pub cut : IsCutShort caption_channel (file ++ behind) refusal
   pub none : NoPacketEnds file behind
 
 -- a word offends, or the whole input is cut short
-abbrev pub IsRefusedWith : Refusal → Option (List ℕ) → Cause
-IsRefusedWith refusal left list frames file behind unjudged =
+abbrev pub IsRefusedBehind : Refusal → Option (List ℕ) → Cause
+IsRefusedBehind refusal left list frames file behind unjudged =
     IsOffence refusal file behind unjudged ⊎ IsInputCutShort refusal left file behind unjudged
 
 -- the frame behind the file has another rate than the list, and no word offends
 pub record IsFoundAt (finding : Finding) (list : Captioning) (frames : List Frame) (file behind unjudged : List ℕ) : Type 0 where
   pub last : Frame
   pub brings : BringsFrame last behind
-  pub unoffending : IsUnoffending services_say (file ++ behind)
+  pub unoffending : IsUnoffending caption_channel (file ++ behind)
   pub other : last.rate ≢ list.rate
   pub is : finding ≡ record { frame = length frames; kind = kind.WrongRate list.rate last.rate }
 
@@ -114,7 +114,7 @@ pub record IsFoundAt (finding : Finding) (list : Captioning) (frames : List Fram
 pub record ExceedsPacketLength (list : Captioning) (frames : List Frame) (file behind unjudged : List ℕ) : Type 0 where
   pub last : Frame
   pub brings : BringsFrame last behind
-  pub unoffending : IsUnoffending services_say (file ++ behind)
+  pub unoffending : IsUnoffending caption_channel (file ++ behind)
   pub rate_is : last.rate ≡ list.rate
   pub new : Frame
   pub inserted : IsInserted (captions_of list (length frames)) last new
@@ -159,10 +159,10 @@ InsertAnswer side later old new status.WriteFault =
     × StopsInserting IsAnyhow put.Failed side old new
 InsertAnswer side later old new status.Memory = (later.faults ≡ side.faults) × (new ≡ old)
 InsertAnswer side later old new (status.Limit limit.Bytes) =
-    RefusesList side later old new (status.Limit limit.Bytes) ⊎ JudgesWords PassesLimit side later old new
+    RefusesList side later old new (status.Limit limit.Bytes) ⊎ JudgesWords PassesLimitBehind side later old new
 InsertAnswer side later old new (status.Limit limit.Packet) = JudgesWords ExceedsPacketLength side later old new
 InsertAnswer side later old new (status.Malformed (Byte place) why) =
-    JudgesWords (IsRefusedWith (record { place = place; why = why }) old.left) side later old new
+    JudgesWords (IsRefusedBehind (record { place = place; why = why }) old.left) side later old new
 InsertAnswer side later old new (status.Differs finding) = JudgesWords (IsFoundAt finding) side later old new
 InsertAnswer side later old new (status.Short count) = JudgesWords (IsShort old.left count) side later old new
 InsertAnswer side later old new answer = RefusesList side later old new answer

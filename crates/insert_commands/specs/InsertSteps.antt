@@ -15,12 +15,12 @@ use Rattle.command_base.specs.declared.status.Status.{Status}
 use Rattle.command_base.specs.declared.status.Status.TheVariants as status
 use Rattle.findings.specs.declared.finding.Kind45.TheVariants as kind
 use Rattle.packet_inserter.specs.Insertion.{IsInserted, packet_length}
-use Rattle.services_files.specs.Services.{services_say}
 use Rattle.words_files.specs.FramesOf.{AreFramesOf}
 use Rattle.words_commands.specs.WordsAnswer.{IsSteady}
 use Rattle.words_files.specs.Offences.{IsCutShort}
+use Rattle.services_files.specs.CaptionChannel.{caption_channel}
 use Rattle.text_output.specs.Gathered.{Gathers, GathersText, held_of}
-use Rattle.insert_commands.specs.InsertAnswer.{Cause, ExceedsPacketLength, HasFrames, IsAnyhow, IsFoundAt, IsJudged, IsRefusedWith, IsShort, PassesLimit, Stops}
+use Rattle.insert_commands.specs.InsertAnswer.{Cause, ExceedsPacketLength, HasFrames, IsAnyhow, IsFoundAt, IsJudged, IsRefusedBehind, IsShort, PassesLimitBehind, Stops}
 use Rattle.inserted_words.specs.InsertedFile.{AreInserted, carried_words}
 use Rattle.inserted_words.specs.Captioning.{Captioning, captions_of}
 use Rattle.inserted_words.specs.Soundness.{HaveRate}
@@ -37,7 +37,7 @@ pub record HasLastFrame (receiver : Receiver) : Type 0 where
   pub earlier : List Frame
   pub last : Frame
   pub received : HasReceived bytes receiver
-  pub frames_are : AreFramesOf services_say (earlier ++ last ∷ []) bytes
+  pub frames_are : AreFramesOf caption_channel (earlier ++ last ∷ []) bytes
   pub counted : 0 < frame_count receiver
   pub sections : AreSections last.sections
   pub short : length (concat last.sections) ≤ 244
@@ -137,7 +137,7 @@ stop_status stop.Packet = status.Limit limit.Packet
 abbrev pub EndsAs : Captioning → List Frame → List ℕ → List ℕ → Status → Type 0
 EndsAs list frames file behind status.Ok = (behind ≡ []) × (list.count ≤ length frames)
 EndsAs list frames file behind (status.Short count) = (behind ≡ []) × (count ≡ length frames) × (length frames < list.count)
-EndsAs list frames file behind (status.Malformed (Byte place) why) = IsCutShort services_say (file ++ behind) (record { place = place; why = why })
+EndsAs list frames file behind (status.Malformed (Byte place) why) = IsCutShort caption_channel (file ++ behind) (record { place = place; why = why })
 EndsAs list frames file behind _ = ⊥
 
 -- the counts of faults where words end a run: that of the input rose, or that of the output, or neither
@@ -157,9 +157,9 @@ abbrev pub InsertsWords : Captioning → Ends → Ends → Status → Type 0
 InsertsWords list old new status.Ok = Stops list (HasFrames old.left) put.Done old new
 InsertsWords list old new status.ReadFault = Stops list IsJudged put.Done old new
 InsertsWords list old new status.WriteFault = Stops list IsAnyhow put.Failed old new
-InsertsWords list old new (status.Limit limit.Bytes) = Stops list PassesLimit put.Done old new
+InsertsWords list old new (status.Limit limit.Bytes) = Stops list PassesLimitBehind put.Done old new
 InsertsWords list old new (status.Limit limit.Packet) = Stops list ExceedsPacketLength put.Done old new
-InsertsWords list old new (status.Malformed (Byte place) why) = Stops list (IsRefusedWith (record { place = place; why = why }) old.left) put.Done old new
+InsertsWords list old new (status.Malformed (Byte place) why) = Stops list (IsRefusedBehind (record { place = place; why = why }) old.left) put.Done old new
 InsertsWords list old new (status.Differs finding) = Stops list (IsFoundAt finding) put.Done old new
 InsertsWords list old new (status.Short count) = Stops list (IsShort old.left count) put.Done old new
 InsertsWords list old new _ = ⊥

@@ -14,16 +14,16 @@ use Rattle.frame_scheduler.specs.Planned.{Placement}
 use Rattle.inserted_words.specs.Captioning.{captioning_of, captions_of}
 use Rattle.inserted_words.specs.Soundness.{HaveRate}
 use Rattle.packet_inserter.specs.Insertion.{IsInserted, packet_length}
-use Rattle.services_files.specs.Services.{services_say}
 use Rattle.words_commands.specs.WordsAnswer.{words_limit}
 use Rattle.words_files.specs.Offences.{IsFileUnder}
+use Rattle.services_files.specs.CaptionChannel.{caption_channel}
 use Rattle.insert_commands.specs.InsertAnswer.{InsertAnswer}
 
 -- the words are a file within the limit, of frames of the list's rate, as many as it has at least, and with the captions of its frame
 -- no packet would have more than 255 bytes
 pub record CanTake (list : Listing) (placed : Placement) (bytes : List ℕ) : Type 0 where
   pub frames : List Frame
-  pub file : IsFileUnder services_say frames bytes
+  pub file : IsFileUnder caption_channel frames bytes
   pub within : length bytes ≤ words_limit
   pub rates : HaveRate list.rate frames
   pub enough : list.frames ≤ length frames

@@ -8,8 +8,8 @@ use Rattle.cc_receiver.specs.declared.receiver.Ended.{Ended}
 use Rattle.cc_receiver.specs.declared.receiver.Ended.TheVariants as ended
 use Rattle.cc_receiver.specs.declared.receiver.Fed.{Fed}
 use Rattle.cdp_packets.specs.Packets.{IsCdp, Packet as Frame}
-use Rattle.services_files.specs.Services.{services_say}
 use Rattle.words_files.specs.Offences.{FirstOffendingWord, IsFileUnder, IsUnoffending}
+use Rattle.services_files.specs.CaptionChannel.{caption_channel}
 use Rattle.insert_commands.specs.declared.packets.Packets.{Packets}
 
 -- no packet ends among the bytes behind a file
@@ -18,7 +18,7 @@ NoPacketEnds file behind = (packets : List AncillaryPacket) (n : ℕ) → 0 < n 
 
 -- behind these bytes, with which no packet ends behind a file, stands the first word that offends
 pub record OffendsBehind (refusal : Refusal) (file behind rest : List ℕ) : Type 0 where
-  pub offends : FirstOffendingWord services_say ((file ++ behind) ++ rest) refusal
+  pub offends : FirstOffendingWord caption_channel ((file ++ behind) ++ rest) refusal
   pub before : offends.before ≡ file ++ behind
   pub none : NoPacketEnds file behind
 
@@ -39,8 +39,8 @@ open_bytes packets = packets.held.items
 pub record HasRead (frames : List Frame) (file : List ℕ) (packets : Packets) : Type 0 where
   pub received : HasReceived (file ++ open_bytes packets) packets.receiver
   pub few : frame_count packets.receiver ≤ length (file ++ open_bytes packets)
-  pub unoffending : IsUnoffending services_say (file ++ open_bytes packets)
-  pub under : IsFileUnder services_say frames file
+  pub unoffending : IsUnoffending caption_channel (file ++ open_bytes packets)
+  pub under : IsFileUnder caption_channel frames file
   pub none : NoPacketEnds file (open_bytes packets)
 
 -- so many bytes may follow within the limit
@@ -57,8 +57,8 @@ pub record EndsForeign (frames : List Frame) (file bytes : List ℕ) (packets : 
   pub is_foreign : IsCaption packet → ⊥
   pub received : HasReceived (file ++ bytes) packets.receiver
   pub few : frame_count packets.receiver ≤ length (file ++ bytes)
-  pub unoffending : IsUnoffending services_say (file ++ bytes)
-  pub under : IsFileUnder services_say frames (file ++ bytes)
+  pub unoffending : IsUnoffending caption_channel (file ++ bytes)
+  pub under : IsFileUnder caption_channel frames (file ++ bytes)
 
 -- or one that brought this frame
 pub record EndsCaption (frames : List Frame) (file bytes : List ℕ) (packets : Packets) : Type 0 where
@@ -69,8 +69,8 @@ pub record EndsCaption (frames : List Frame) (file bytes : List ℕ) (packets : 
   pub carries : IsCdp frame (user_bytes packet)
   pub received : HasReceived (file ++ bytes) packets.receiver
   pub few : frame_count packets.receiver ≤ length (file ++ bytes)
-  pub unoffending : IsUnoffending services_say (file ++ bytes)
-  pub under : IsFileUnder services_say (frames ++ frame ∷ []) (file ++ bytes)
+  pub unoffending : IsUnoffending caption_channel (file ++ bytes)
+  pub under : IsFileUnder caption_channel (frames ++ frame ∷ []) (file ++ bytes)
 
 abbrev pub IsEndedAs : Ended → List Frame → List ℕ → Packets → Type 0
 IsEndedAs ended.No frames file packets = HasRead frames file packets

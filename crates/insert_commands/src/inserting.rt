@@ -3,8 +3,8 @@ ghost use Rattle.insert_commands.specs.declared.inserting.Stop.TheVariants as st
 ghost use Rattle.cc_receiver.specs.Receivers.{HasReceived, frame_count};
 ghost use Rattle.cdp_packets.specs.Packets.{Packet as Frame};
 ghost use Rattle.cdp_packets.specs.Sections.{AreSections};
-ghost use Rattle.services_files.specs.Services.{services_say};
 ghost use Rattle.words_files.specs.FramesOf.{AreFramesOf};
+ghost use Rattle.services_files.specs.CaptionChannel.{caption_channel};
 ghost use Rattle.command_base.specs.Ends.{Ends};
 ghost use Rattle.words_commands.specs.WordsAnswer.{IsSteady, words_limit};
 ghost use Rattle.text_output.specs.Gathered.{held_of};
@@ -217,7 +217,7 @@ fn replace(
     requires frame { HasLastFrame receiver.now }
     requires empty { words.old.items ≡ [] }
     ensures replaces { (list : Captioning) (bytes : List ℕ) (earlier : List Frame) (last : Frame) → HasReceived bytes receiver.now
-        → AreFramesOf services_say (earlier ++ last ∷ []) bytes → AreSections last.sections → GivesCaptions list frame captions.old
+        → AreFramesOf caption_channel (earlier ++ last ∷ []) bytes → AreSections last.sections → GivesCaptions list frame captions.old
         → Replaces list frame last captions.new words.new.items result }
     ensures written { IfErr result (λ why. why ≢ stop.Unwritten) }
 {

@@ -114,7 +114,7 @@ insertions_sound bytes list placed frames file text accepted inserted rates enou
       have = new.have;
       whole = record {
         file = new.file;
-        channel = same_channel new.news packets alike
+        accepted = same_channel new.news packets alike
             (programmes_whole list.rate (padded captions) (length frames) (padded_blocks captions has) (carried (length frames)));
       };
       alike = built;

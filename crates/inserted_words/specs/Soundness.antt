@@ -10,11 +10,12 @@ use Rattle.cue_lists.specs.Listing.{Listing}
 use Rattle.frame_scheduler.specs.Planned.{Placement}
 use Rattle.line21_shown.specs.Shown.{ShowsList}
 use Rattle.packet_inserter.specs.Insertion.{IsInserted}
-use Rattle.services_files.specs.WholeFiles.{IsWhole}
 use Rattle.services_carried.specs.Told.{AreAlike}
 use Rattle.services_shown.specs.Buffers.{BuffersNeverFill}
 use Rattle.services_shown.specs.SeenWindows.{ShowAuthoredWindows}
 use Rattle.words_files.specs.Received.{received_at}
+use Rattle.words_files.specs.Offences.{IsFileUnder}
+use Rattle.services_files.specs.CaptionChannel.{caption_channel}
 use Rattle.inserted_words.specs.Captioning.{captioning_of, captions_of}
 use Rattle.inserted_words.specs.InsertedFile.{AreInserted}
 
@@ -35,7 +36,7 @@ pub data HaveCaptions : (ℕ → List Triplet) → List Frame → List Frame →
 pub record IsSoundInsertion (list : Listing) (placed : Placement) (frames : List Frame) (text : List ℕ) : Type 0 where
   pub news : List Frame
   pub have : HaveCaptions (captions_of (captioning_of list placed)) frames news
-  pub whole : IsWhole news text
+  pub whole : IsFileUnder caption_channel news text
   pub alike : AreAlike (take list.frames news) (built_packets list placed)
   pub fills : BuffersNeverFill news
   pub shown : (frame : ℕ) → frame < list.frames → ShowsList list (λ in_field. received_at in_field news frame) frame

@@ -15,9 +15,9 @@ use Rattle.grid_print.specs.declared.shown.Shown.{Shown}
 use Rattle.grid_print.proofs.ScreenLemmas.{differ_alike}
 use Rattle.line21_screen.specs.Grid.{empty_grid}
 use Rattle.services_files.specs.Services.{services_say}
-use Rattle.services_files.proofs.WholeFileLemmas.{whole-under}
+use Rattle.services_files.specs.CaptionChannel.{caption_channel}
+use Rattle.services_files.proofs.ChannelFiles.{channel_caught}
 use Rattle.words_files.specs.Catching.{refusal_of}
-use Rattle.words_files.proofs.CaughtLemmas.{file_caught}
 use Rattle.words_files.proofs.FramesOfLemmas.{file_frames}
 use Rattle.words_commands.proofs.PrintingLemmas.{nothing_shown}
 use Rattle.load_commands.specs.LoadOutput.{change_count}
@@ -41,16 +41,16 @@ pub behind_whole : (rate : Rate) (columns : Columns) (count : ℕ) (receiver : R
 behind_whole rate columns count receiver whole received = record {
   bytes = column_bytes rate columns 0 count;
   received = received;
-  frames_are = file_frames services_say (column_packets rate columns 0 count) (column_bytes rate columns 0 count)
-      (whole-under (column_packets rate columns 0 count) (column_bytes rate columns 0 count) whole);
+  frames_are = file_frames caption_channel (column_packets rate columns 0 count) (column_bytes rate columns 0 count)
+      whole;
 }
 
 -- no word of a whole file is refused
 pub whole_unrefused : (rate : Rate) (columns : Columns) (count : ℕ) → AreWhole rate columns count
     → refusal_of services_say (column_bytes rate columns 0 count) ≡ None
 whole_unrefused rate columns count whole =
-    (file_caught services_say (column_packets rate columns 0 count) (column_bytes rate columns 0 count)
-    (whole-under (column_packets rate columns 0 count) (column_bytes rate columns 0 count) whole)).1
+    (channel_caught (column_packets rate columns 0 count) (column_bytes rate columns 0 count)
+    whole).1
 
 -- the words of the next frame may be fed
 pub may_take : (rate : Rate) (columns : Columns) (count : ℕ) (frame : FrameBytes) (reception : Reception) (words : List ℕ) → HasReceivedColumns rate columns count reception

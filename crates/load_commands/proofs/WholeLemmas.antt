@@ -9,10 +9,10 @@ use Rattle.frame_scheduler.specs.Planned.{IsListPlaced, Placement, columns_of}
 use Rattle.services_carried.proofs.ChannelLemmas.{programmes_whole}
 use Rattle.services_carried.proofs.RoomLemmas.{blocks_bytes, frames_roomy, has_blocks}
 use Rattle.services_files.specs.Services.{services_say}
-use Rattle.services_files.proofs.FillingLemmas.{takes_filling}
+use Rattle.services_files.specs.CaptionChannel.{caption_channel}
+use Rattle.services_files.proofs.ChannelFiles.{offence_is_refused}
 use Rattle.words_files.specs.Catching.{refusal_of}
 use Rattle.words_files.specs.Offences.{FirstOffendingWord}
-use Rattle.words_files.proofs.OffenceLemmas.{offence_refused}
 use Rattle.load_commands.specs.Receiving.{AreWhole}
 
 pub frames_whole : (list : Listing) (placed : Placement) → IsFormed list → IsRuled list → IsListPlaced list placed → (count : ℕ)
@@ -22,12 +22,12 @@ frames_whole list placed formed ruled placement count =
     (blocks_bytes list placed formed ruled placement) (frames_roomy list placed formed ruled placement) in
     record {
       file = carried.file;
-      channel = programmes_whole list.rate (columns_of list placed) count (has_blocks list placed formed ruled placement) carried;
+      accepted = programmes_whole list.rate (columns_of list placed) count (has_blocks list placed formed ruled placement) carried;
     }
 
 -- a word that offends is refused
-pub unrefused : (bytes : List ℕ) (refusal : Refusal) → refusal_of services_say bytes ≡ None → FirstOffendingWord services_say bytes refusal → ⊥
+pub unrefused : (bytes : List ℕ) (refusal : Refusal) → refusal_of services_say bytes ≡ None → FirstOffendingWord caption_channel bytes refusal → ⊥
 unrefused bytes refusal none offends =
-    let some = offence_refused services_say takes_filling bytes refusal offends in
+    let some = offence_is_refused bytes refusal offends in
     let both : Some refusal ≡ None = sym some ∙ none in
     cc

@@ -12,14 +12,15 @@ use Rattle.cue_types.specs.Listing.{most_frames}
 use Rattle.grid_print.specs.Screens.{LookAlike, received_screens}
 use Rattle.grid_print.specs.Shown.{last_shown}
 use Rattle.services_files.specs.Services.{services_say}
-use Rattle.services_files.specs.WholeFiles.{IsWhole}
+use Rattle.services_files.specs.CaptionChannel.{caption_channel}
 use Rattle.words_files.specs.Catching.{refusal_of}
+use Rattle.words_files.specs.Offences.{IsFileUnder}
 use Rattle.load_commands.specs.LoadOutput.{change_count}
 use Rattle.load_commands.specs.declared.reception.Reception.{Reception}
 
 -- so many frames of columns are a whole words file
 abbrev pub AreWhole : Rate → Columns → ℕ → Type 0
-AreWhole rate columns count = IsWhole (column_packets rate columns 0 count) (column_bytes rate columns 0 count)
+AreWhole rate columns count = IsFileUnder caption_channel (column_packets rate columns 0 count) (column_bytes rate columns 0 count)
 
 -- so are the first of them, however many
 abbrev pub AreAllWhole : Rate → Columns → ℕ → Type 0

@@ -16,9 +16,9 @@ use Rattle.scc_files.specs.Writing.{is_past_day}
 use Rattle.time_codes.specs.declared.time_code.TimeCode.{TimeCode}
 use Rattle.words_files.proofs.EndingLemmas.{offence_stays}
 use Rattle.words_files.proofs.FramesOfLemmas.{file_frames, frames_grow}
-use Rattle.services_files.specs.Services.{services_say}
 use Rattle.words_files.specs.FramesOf.{AreFramesOf}
 use Rattle.words_files.specs.Offences.{FirstOffendingWord, IsCutShort, IsFileUnder, IsMalformed}
+use Rattle.services_files.specs.CaptionChannel.{caption_channel}
 use Rattle.words_commands.proofs.WordsVerdictLemmas.{known_judged, known_whole, malformed_no_file, one_malformed}
 use Rattle.words_commands.specs.WordsAnswer.{IsRefusedWith, PassesLimit, words_limit}
 use Rattle.scc_commands.specs.Export.{AreExported, AreWithinDay, AtNone, HasFinding, HasNoFinding, HaveNoFinding, IsFoundAt, PassesDay, Stops, StopsEarly, at_number, export_front, exported, exported_from, first_standing, pairs_of}
@@ -60,21 +60,21 @@ not_found frame (kind.TwoPairs seen) none finding = let one = none.one in let mo
 not_found frame _ none finding = absurd finding
 
 -- no export of bytes whose frames are exported stops at a frame
-never_at : (time : TimeCode) (bytes more : List ℕ) (all frames at : List Frame) (last : Frame) (judged : List ℕ) → AreFramesOf services_say all bytes → bytes ≡ judged ++ more
-    → AreFramesOf services_say (frames ++ at) judged → at ≡ last ∷ []
+never_at : (time : TimeCode) (bytes more : List ℕ) (all frames at : List Frame) (last : Frame) (judged : List ℕ) → AreFramesOf caption_channel all bytes → bytes ≡ judged ++ more
+    → AreFramesOf caption_channel (frames ++ at) judged → at ≡ last ∷ []
     → (behind : List Frame) × (all ≡ (frames ++ last ∷ []) ++ behind)
 never_at time bytes more all frames at last judged are is front is_last =
-    let (behind, grown) = frames_grow services_say (frames ++ at) all judged more front (subst (AreFramesOf services_say all) is are) in
+    let (behind, grown) = frames_grow caption_channel (frames ++ at) all judged more front (subst (AreFramesOf caption_channel all) is are) in
     (behind, grown ∙ ap (λ l. (frames ++ l) ++ behind) is_last)
 
-never_found : (time : TimeCode) (bytes : List ℕ) (all : List Frame) (finding : Finding) (answer : Put) (old new : Ends) → AreFramesOf services_say all bytes → AreExported time all
+never_found : (time : TimeCode) (bytes : List ℕ) (all : List Frame) (finding : Finding) (answer : Put) (old new : Ends) → AreFramesOf caption_channel all bytes → AreExported time all
     → IsReadOf bytes old new → Stops time (export_front time) (IsFoundAt finding) answer old new → ⊥
 never_found time bytes all finding answer old new are good read stops =
     let (rest, is) = known_judged old.left new.left bytes stops.judged stops.unjudged read.left stops.taken in
     let (behind, grown) = never_at time bytes (stops.unjudged ++ rest) all stops.frames stops.at stops.cause.last stops.judged are is stops.frames_are stops.cause.is_last in
     not_found stops.cause.last finding.kind (no_finding_at stops.frames stops.cause.last behind (subst HaveNoFinding grown good.no_finding)) stops.cause.found
 
-never_past : (time : TimeCode) (bytes : List ℕ) (all : List Frame) (answer : Put) (old new : Ends) → AreFramesOf services_say all bytes → AreExported time all
+never_past : (time : TimeCode) (bytes : List ℕ) (all : List Frame) (answer : Put) (old new : Ends) → AreFramesOf caption_channel all bytes → AreExported time all
     → IsReadOf bytes old new → Stops time (export_front time) (PassesDay time) answer old new → ⊥
 never_past time bytes all answer old new are good read stops =
     let (rest, is) = known_judged old.left new.left bytes stops.judged stops.unjudged read.left stops.taken in
@@ -98,26 +98,26 @@ never_passes time bytes answer old new within read stops =
 
 -- a refusal is one of the bytes
 refused_so : (time : TimeCode) (bytes : List ℕ) (refusal : Refusal) (answer : Put) (old new : Ends) → IsReadOf bytes old new
-    → Stops time (export_front time) (AtNone (IsRefusedWith refusal old.left)) answer old new → IsMalformed services_say bytes refusal
+    → Stops time (export_front time) (AtNone (IsRefusedWith refusal old.left)) answer old new → IsMalformed caption_channel bytes refusal
 refused_so time bytes refusal answer old new read stops =
     let (rest, is) = known_judged old.left new.left bytes stops.judged stops.unjudged read.left stops.taken in
     elim stops.cause.1 [
-      | inl offence ↦ inl (subst (λ l. FirstOffendingWord services_say l refusal) (sym is) (offence_stays services_say stops.judged (stops.unjudged ++ rest) refusal offence))
-      | inr cut ↦ inr (subst (λ l. IsCutShort services_say l refusal) (sym (known_whole old.left bytes stops.judged read.left cut.0.0)) cut.1)
+      | inl offence ↦ inl (subst (λ l. FirstOffendingWord caption_channel l refusal) (sym is) (offence_stays caption_channel stops.judged (stops.unjudged ++ rest) refusal offence))
+      | inr cut ↦ inr (subst (λ l. IsCutShort caption_channel l refusal) (sym (known_whole old.left bytes stops.judged read.left cut.0.0)) cut.1)
     ]
 
 -- a file that is exported stops for nothing
-file_early : (time : TimeCode) (bytes : List ℕ) (frames : List Frame) (old new : Ends) (answer : Status) → IsFileUnder services_say frames bytes → AreExported time frames
+file_early : (time : TimeCode) (bytes : List ℕ) (frames : List Frame) (old new : Ends) (answer : Status) → IsFileUnder caption_channel frames bytes → AreExported time frames
     → length bytes ≤ words_limit → IsReadOf bytes old new → StopsEarly time old new answer → ⊥
 file_early time bytes frames old new status.ReadFault file good within read stops = read.reads stops.0
 file_early time bytes frames old new status.WriteFault file good within read stops = read.writes stops.1
 file_early time bytes frames old new (status.Limit limit.Bytes) file good within read stops = never_passes time bytes _ old new within read stops.1
 file_early time bytes frames old new (status.Limit limit.Day) file good within read stops =
-    never_past time bytes frames _ old new (file_frames services_say frames bytes file) good read stops.1
+    never_past time bytes frames _ old new (file_frames caption_channel frames bytes file) good read stops.1
 file_early time bytes frames old new (status.Malformed (Byte place) why) file good within read stops =
     malformed_no_file bytes (record { place = place; why = why }) frames (refused_so time bytes (record { place = place; why = why }) _ old new read stops.1) file
 file_early time bytes frames old new (status.Differs finding) file good within read stops =
-    never_found time bytes frames finding _ old new (file_frames services_say frames bytes file) good read stops.1
+    never_found time bytes frames finding _ old new (file_frames caption_channel frames bytes file) good read stops.1
 file_early time bytes frames old new _ file good within read stops = absurd stops
 
 pub file_exported : FileIsExported
@@ -129,8 +129,8 @@ file_exported time bytes frames old new answer file good within read answered =
     absurd (file_early time bytes frames old new answer file good within read answered)
 
 -- what stops early for malformed words is their refusal
-malformed_early : (time : TimeCode) (bytes : List ℕ) (frames : List Frame) (refusal : Refusal) (old new : Ends) (answer : Status) → AreFramesOf services_say frames bytes
-    → AreExported time frames → IsMalformed services_say bytes refusal → length bytes ≤ words_limit → IsReadOf bytes old new → StopsEarly time old new answer
+malformed_early : (time : TimeCode) (bytes : List ℕ) (frames : List Frame) (refusal : Refusal) (old new : Ends) (answer : Status) → AreFramesOf caption_channel frames bytes
+    → AreExported time frames → IsMalformed caption_channel bytes refusal → length bytes ≤ words_limit → IsReadOf bytes old new → StopsEarly time old new answer
     → answer ≡ status.Malformed (Byte refusal.place) refusal.why
 malformed_early time bytes frames refusal old new status.ReadFault are good malformed within read stops = absurd (read.reads stops.0)
 malformed_early time bytes frames refusal old new status.WriteFault are good malformed within read stops = absurd (read.writes stops.1)
@@ -149,7 +149,7 @@ pub malformed_not_exported : MalformedIsNotExported
 malformed_not_exported time bytes frames refusal old new status.Ok are good malformed within read answered =
     let (whole, file) = answered.1.cause.1 in
     absurd (malformed_no_file bytes refusal answered.1.frames malformed
-    (subst (λ l. IsFileUnder services_say answered.1.frames l) (sym (known_whole old.left bytes answered.1.judged read.left whole.0)) file))
+    (subst (λ l. IsFileUnder caption_channel answered.1.frames l) (sym (known_whole old.left bytes answered.1.judged read.left whole.0)) file))
 malformed_not_exported time bytes frames refusal old new status.Memory are good malformed within read answered = inr refl
 malformed_not_exported time bytes frames refusal old new status.WriteFault are good malformed within read (inl answered) = absurd (read.writes answered.1)
 malformed_not_exported time bytes frames refusal old new status.WriteFault are good malformed within read (inr answered) = absurd (read.writes answered.1)

@@ -13,8 +13,8 @@ use Rattle.cc_receiver.proofs.FedFrames.{IsNextFrame, counted_nothing, counts_no
 use Rattle.cdp_packets.specs.Packets.{Packet as Frame}
 use Rattle.scc_files.specs.Writing.{head_text, standing_of}
 use Rattle.time_codes.specs.declared.time_code.TimeCode.{TimeCode}
-use Rattle.services_files.specs.Services.{services_say}
 use Rattle.words_files.specs.FramesOf.{AreFramesOf}
+use Rattle.services_files.specs.CaptionChannel.{caption_channel}
 use Rattle.words_files.proofs.FramesOfLemmas.{file_frames}
 use Rattle.text_output.specs.Gathered.{Flushes, IsGathered, held_of}
 use Rattle.text_output.specs.declared.gathered.Gathered.{Gathered}
@@ -38,7 +38,7 @@ judged_nothing time start now export begun appended =
         received = begun.received;
         few = omega arith;
         unoffending = nothing_offends;
-        frames_are = file_frames services_say [] [] nothing_is_file;
+        frames_are = file_frames caption_channel [] [] nothing_is_file;
         are_exported = record { no_finding = tt; within_day = tt };
         writer = begun.writer;
         way = record { sent = head_text; appended = appended; whole = ap (λ h. head_text ++ h) begun.none_held };
@@ -47,8 +47,8 @@ judged_nothing time start now export begun appended =
     }
 
 -- the frames of bytes at none of which the run stopped
-pub at_none : (frames : List Frame) (bytes : List ℕ) → AreFramesOf services_say frames bytes → AreFramesOf services_say (frames ++ []) bytes
-at_none frames bytes are = subst (λ f. AreFramesOf services_say f bytes) (sym (append-nil frames)) are
+pub at_none : (frames : List Frame) (bytes : List ℕ) → AreFramesOf caption_channel frames bytes → AreFramesOf caption_channel (frames ++ []) bytes
+at_none frames bytes are = subst (λ f. AreFramesOf caption_channel f bytes) (sym (append-nil frames)) are
 
 -- a word was refused
 pub step_refused : (time : TimeCode) (start now : Option (List ℕ)) (before bytes : List ℕ) (old new : Exporting) (refusal : Refusal)

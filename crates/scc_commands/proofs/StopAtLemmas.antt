@@ -14,13 +14,13 @@ use Rattle.findings.specs.declared.finding.Finding.{Finding}
 use Rattle.findings.specs.declared.finding.Kind45.{Kind45}
 use Rattle.findings.specs.declared.finding.Kind45.TheVariants as kind
 use Rattle.scc_files.specs.Writing.{is_past_day}
-use Rattle.services_files.specs.Services.{services_say}
 use Rattle.time_codes.specs.declared.time_code.TimeCode.{TimeCode}
 use Rattle.words_files.proofs.EndingLemmas.{file_has_no_offence, offence_stays}
 use Rattle.words_files.proofs.FramesOfLemmas.{file_frames, frames_grow, frames_of_once}
 use Rattle.words_files.proofs.WordLemmas.{front_of}
 use Rattle.words_files.specs.FramesOf.{AreFramesOf}
 use Rattle.words_files.specs.Offences.{FirstOffendingWord, IsFileUnder}
+use Rattle.services_files.specs.CaptionChannel.{caption_channel}
 use Rattle.words_commands.proofs.WordsVerdictLemmas.{known_judged, known_whole}
 use Rattle.words_commands.specs.WordsAnswer.{IsRefusedWith, IsWholeFile, words_limit}
 use Rattle.scc_commands.proofs.ExportVerdictLemmas.{never_passes, no_finding_at, not_found, within_at}
@@ -97,7 +97,7 @@ pub record StopsIn (time : TimeCode) (bytes : List ℕ) (stop : Status) : Type 0
   pub frames : List Frame
   pub last : Frame
   pub behind : List Frame
-  pub are : AreFramesOf services_say ((frames ++ last ∷ []) ++ behind) bytes
+  pub are : AreFramesOf caption_channel ((frames ++ last ∷ []) ++ behind) bytes
   pub good : AreExported time frames
   pub stops : StopsAt time (length frames) last stop
 
@@ -123,18 +123,18 @@ same_frame time bytes stop answer has frames last rest good stops (before_it nex
     (subst (λ f. AreExported time ((frames ++ f ∷ []) ++ more)) (sym frame) (subst (AreExported time) is has.good)))
 
 stops_same : (time : TimeCode) (bytes : List ℕ) (stop answer : Status) → StopsIn time bytes stop → (frames at : List Frame) (last : Frame) (judged more : List ℕ)
-    → bytes ≡ judged ++ more → AreFramesOf services_say (frames ++ at) judged → at ≡ last ∷ [] → AreExported time frames → StopsAt time (length frames) last answer
+    → bytes ≡ judged ++ more → AreFramesOf caption_channel (frames ++ at) judged → at ≡ last ∷ [] → AreExported time frames → StopsAt time (length frames) last answer
     → answer ≡ stop
 stops_same time bytes stop answer has frames at last judged more is are is_last good stops =
-    let (behind, grown) = frames_grow services_say (frames ++ at) ((has.frames ++ has.last ∷ []) ++ has.behind) judged more are
-    (subst (AreFramesOf services_say ((has.frames ++ has.last ∷ []) ++ has.behind)) is has.are) in
+    let (behind, grown) = frames_grow caption_channel (frames ++ at) ((has.frames ++ has.last ∷ []) ++ has.behind) judged more are
+    (subst (AreFramesOf caption_channel ((has.frames ++ has.last ∷ []) ++ has.behind)) is has.are) in
     let spelled : frames ++ (last ∷ behind) ≡ (has.frames ++ has.last ∷ []) ++ has.behind =
     sym (append_assoc frames (last ∷ []) behind) ∙ sym (grown ∙ ap (λ l. (frames ++ l) ++ behind) is_last) in
     same_frame time bytes stop answer has frames last behind good stops (two_fronts frames (last ∷ behind) has.frames has.behind has.last spelled)
 
 -- a run that exported the frames of what it judged stops for no word
 no_offence : (time : TimeCode) (bytes : List ℕ) (stop : Status) (refusal : Refusal) → StopsIn time bytes stop → (frames : List Frame) (judged more : List ℕ)
-    → bytes ≡ judged ++ more → AreFramesOf services_say frames judged → AreExported time frames → FirstOffendingWord services_say judged refusal → ⊥
+    → bytes ≡ judged ++ more → AreFramesOf caption_channel frames judged → AreExported time frames → FirstOffendingWord caption_channel judged refusal → ⊥
 no_offence time bytes stop refusal has frames judged more is are good offence =
     by_size (nat_le (length has.are.file) (length judged)) refl
   where
@@ -147,24 +147,24 @@ no_offence time bytes stop refusal has frames judged more is are good offence =
     by_size : (test : Bool) → nat_le (length has.are.file) (length judged) ≡ test → ⊥
     by_size true within =
         let (rest, longer) = front_of has.are.file judged has.are.behind more spelled (grind (arith, within)) in
-        let (behind, grown) = frames_grow services_say all frames has.are.file rest (file_frames services_say all has.are.file has.are.is_file)
-        (subst (AreFramesOf services_say frames) longer are) in
+        let (behind, grown) = frames_grow caption_channel all frames has.are.file rest (file_frames caption_channel all has.are.file has.are.is_file)
+        (subst (AreFramesOf caption_channel frames) longer are) in
         not_all time bytes frames behind stop has grown good
     by_size false past =
         let (rest, longer) = front_of judged has.are.file more has.are.behind (sym spelled) (grind (arith, past)) in
-        file_has_no_offence services_say all has.are.file refusal has.are.is_file
-        (subst (λ l. FirstOffendingWord services_say l refusal) (sym longer) (offence_stays services_say judged rest refusal offence))
+        file_has_no_offence caption_channel all has.are.file refusal has.are.is_file
+        (subst (λ l. FirstOffendingWord caption_channel l refusal) (sym longer) (offence_stays caption_channel judged rest refusal offence))
 
 never_refused : (time : TimeCode) (bytes : List ℕ) (stop : Status) (refusal : Refusal) (answer : Put) (old new : Ends) → StopsIn time bytes stop → IsReadOf bytes old new
     → Stops time (export_front time) (AtNone (IsRefusedWith refusal old.left)) answer old new → ⊥
 never_refused time bytes stop refusal answer old new has read stops =
     let (rest, is) = known_judged old.left new.left bytes stops.judged stops.unjudged read.left stops.taken in
-    let are = subst (λ l. AreFramesOf services_say l stops.judged) (ap (λ l. stops.frames ++ l) stops.cause.0 ∙ append-nil stops.frames) stops.frames_are in
+    let are = subst (λ l. AreFramesOf caption_channel l stops.judged) (ap (λ l. stops.frames ++ l) stops.cause.0 ∙ append-nil stops.frames) stops.frames_are in
     elim stops.cause.1 [
       | inl offence ↦ no_offence time bytes stop refusal has stops.frames stops.judged (stops.unjudged ++ rest) is are stops.are_exported offence
       | inr cut ↦
           let whole = known_whole old.left bytes stops.judged read.left cut.0.0 in
-          let same = frames_of_once services_say stops.frames ((has.frames ++ has.last ∷ []) ++ has.behind) bytes (subst (AreFramesOf services_say stops.frames) (sym whole) are) has.are in
+          let same = frames_of_once caption_channel stops.frames ((has.frames ++ has.last ∷ []) ++ has.behind) bytes (subst (AreFramesOf caption_channel stops.frames) (sym whole) are) has.are in
           not_all time bytes stops.frames [] stop has (same ∙ sym (append-nil ((has.frames ++ has.last ∷ []) ++ has.behind))) stops.are_exported
     ]
 
@@ -174,8 +174,8 @@ never_whole : (time : TimeCode) (bytes : List ℕ) (stop : Status) (text : List 
 never_whole time bytes stop text answer old new has read stops =
     let (whole, file) = stops.cause.1 in
     let is = known_whole old.left bytes stops.judged read.left whole.0 in
-    let same = frames_of_once services_say stops.frames ((has.frames ++ has.last ∷ []) ++ has.behind) bytes
-    (file_frames services_say stops.frames bytes (subst (IsFileUnder services_say stops.frames) (sym is) file)) has.are in
+    let same = frames_of_once caption_channel stops.frames ((has.frames ++ has.last ∷ []) ++ has.behind) bytes
+    (file_frames caption_channel stops.frames bytes (subst (IsFileUnder caption_channel stops.frames) (sym is) file)) has.are in
     not_all time bytes stops.frames [] stop has (same ∙ sym (append-nil ((has.frames ++ has.last ∷ []) ++ has.behind))) stops.are_exported
 
 stop_early : (time : TimeCode) (bytes : List ℕ) (stop answer : Status) (old new : Ends) → StopsIn time bytes stop → length bytes ≤ words_limit → IsReadOf bytes old new

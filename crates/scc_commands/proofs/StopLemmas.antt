@@ -13,8 +13,8 @@ use Rattle.cc_receiver.proofs.FedFrames.{nothing_is_file}
 use Rattle.scc_files.specs.Writing.{end_text, head_text}
 use Rattle.time_codes.specs.declared.time_code.TimeCode.{TimeCode}
 use Rattle.words_files.proofs.FramesOfLemmas.{file_frames, frames_of_once}
-use Rattle.services_files.specs.Services.{services_say}
 use Rattle.words_files.specs.Offences.{IsFileUnder, IsUnoffending}
+use Rattle.services_files.specs.CaptionChannel.{caption_channel}
 use Rattle.command_base.specs.Ends.{Ends, ends}
 use Rattle.text_output.specs.Gathered.{held_of}
 use Rattle.command_base.specs.declared.status.Status.{Status}
@@ -72,15 +72,15 @@ take_failed time first left after start now reads later writes still export take
 pub file_ended : (time : TimeCode) (first left after start now : Option (List ℕ)) (reads later writes still : ℕ) (export : Exporting) (taken : List ℕ) (room : ℕ) (ending : Bor (List ℕ))
     → HasPut time start now taken export → Consumes first left taken → length taken + room ≡ words_limit
     → IsAtEnd left × Keeps left after → later ≡ reads → still ≡ writes
-    → ((bytes : List ℕ) → HasReceived bytes export.receiver → IsUnoffending services_say bytes → EndsAt bytes (Ok tt))
+    → ((bytes : List ℕ) → HasReceived bytes export.receiver → IsUnoffending caption_channel bytes → EndsAt bytes (Ok tt))
     → ending.now ≡ end_text export.writer.behind
     → ReadsWords time (ends first reads start writes) (ends after later now still) (Ok ending)
 file_ended time first left after start now reads later writes still export taken room ending had consumed within (ended, keeps) steady same file ending_is =
     let (frames, is_file) = file taken had.judged.received had.judged.unoffending in
-    let frames_is = frames_of_once services_say frames had.judged.frames taken (file_frames services_say frames taken is_file) had.judged.frames_are in (
+    let frames_is = frames_of_once caption_channel frames had.judged.frames taken (file_frames caption_channel frames taken is_file) had.judged.frames_are in (
       record { reads = steady; writes = same },
       judged_stops time _ first left after start now reads later writes still export taken room had consumed within keeps (
-        (refl, ((all_taken first left taken consumed ended, refl), subst (λ f. IsFileUnder services_say f taken) frames_is is_file)),
+        (refl, ((all_taken first left taken consumed ended, refl), subst (λ f. IsFileUnder caption_channel f taken) frames_is is_file)),
         ending_is ∙ ap (λ w. end_text w.behind) had.judged.writer,
       ),
     )
@@ -89,7 +89,7 @@ file_ended time first left after start now reads later writes still export taken
 pub file_cut : (time : TimeCode) (first left after start now : Option (List ℕ)) (reads later writes still : ℕ) (export : Exporting) (taken : List ℕ) (room : ℕ) (why : Stop)
     → HasPut time start now taken export → Consumes first left taken → length taken + room ≡ words_limit
     → IsAtEnd left × Keeps left after → later ≡ reads → still ≡ writes
-    → ((bytes : List ℕ) → HasReceived bytes export.receiver → IsUnoffending services_say bytes → EndsAt bytes (Err why))
+    → ((bytes : List ℕ) → HasReceived bytes export.receiver → IsUnoffending caption_channel bytes → EndsAt bytes (Err why))
     → StopsEarly time (ends first reads start writes) (ends after later now still) (stop_status why)
 file_cut time first left after start now reads later writes still export taken room (stop.Refused refusal) had consumed within (ended, keeps) steady same file = (
   record { reads = steady; writes = same },
@@ -239,7 +239,7 @@ head_failed time first start then reads writes still failed rose =
         unjudged = [];
         taken = nothing_taken first;
         within = omega arith;
-        frames_are = file_frames services_say [] [] nothing_is_file;
+        frames_are = file_frames caption_channel [] [] nothing_is_file;
         are_exported = record { no_finding = tt; within_day = tt };
         cause = tt;
         output = puts_stop start then head_text [] failed;

@@ -18,10 +18,10 @@ use Rattle.scc_files.specs.Writing.{Standing, head_text, is_past_day, piece_of, 
 use Rattle.scc_files.specs.Written.{written_file}
 use Rattle.cdp_packets.specs.Packets.{Packet as Frame}
 use Rattle.cdp_packets.specs.PacketTriplets.{packet_triplets}
-use Rattle.services_files.specs.Services.{services_say}
 use Rattle.words_files.specs.FramesOf.{AreFramesOf}
 use Rattle.words_files.specs.Offences.{IsUnoffending}
 use Rattle.words_files.specs.Received.{field_pairs}
+use Rattle.services_files.specs.CaptionChannel.{caption_channel}
 use Rattle.command_base.specs.Ends.{Ends}
 use Rattle.command_base.specs.declared.status.Place.TheVariants.{Byte}
 use Rattle.command_base.specs.declared.status.Status.{Status}
@@ -107,7 +107,7 @@ pub record Stops (time : TimeCode) (text : List Frame → List ℕ) (Why : Cause
   pub unjudged : List ℕ
   pub taken : Consumes old.left new.left (judged ++ unjudged)
   pub within : length judged ≤ words_limit
-  pub frames_are : AreFramesOf services_say (frames ++ at) judged
+  pub frames_are : AreFramesOf caption_channel (frames ++ at) judged
   pub are_exported : AreExported time frames
   pub cause : Why frames at judged unjudged
   pub output : Puts old.written new.written answer (text frames)
@@ -122,7 +122,7 @@ pub record IsFoundAt (finding : Finding) (frames at : List Frame) (judged unjudg
   pub is_last : at ≡ last ∷ []
   pub number : finding.frame ≡ length frames
   pub found : HasFinding last finding.kind
-  pub unoffending : IsUnoffending services_say judged
+  pub unoffending : IsUnoffending caption_channel judged
 
 -- nothing is found at the frame of this number, and its pair isn't null and stands at or past the end of the day
 pub record StandsPastDay (time : TimeCode) (number : ℕ) (frame : Frame) : Type 0 where
@@ -136,7 +136,7 @@ pub record PassesDay (time : TimeCode) (frames at : List Frame) (judged unjudged
   pub last : Frame
   pub is_last : at ≡ last ∷ []
   pub stands : StandsPastDay time (length frames) last
-  pub unoffending : IsUnoffending services_say judged
+  pub unoffending : IsUnoffending caption_channel judged
 
 -- nothing more is said
 abbrev pub IsAnyhow : Cause

@@ -6,9 +6,9 @@ use Rattle.cc_base.specs.declared.limit_of.LimitOf.TheVariants as limit
 use Rattle.cc_base.specs.declared.streams.Put.TheVariants as put
 use Rattle.cc_receiver.specs.Receivers.{HasReceived, frame_count}
 use Rattle.cdp_packets.specs.Packets.{Packet as Frame}
-use Rattle.services_files.specs.Services.{services_say}
 use Rattle.words_files.specs.FramesOf.{AreFramesOf}
 use Rattle.words_files.specs.Offences.{FirstOffendingWord, IsCutShort, IsFileUnder, IsUnoffending}
+use Rattle.services_files.specs.CaptionChannel.{caption_channel}
 use Rattle.findings.specs.declared.finding.Kind45.{Kind45}
 use Rattle.time_codes.specs.declared.time_code.TimeCode.{TimeCode}
 use Rattle.scc_files.specs.Writing.{end_text, standing_of}
@@ -39,8 +39,8 @@ pub record HasJudged (time : TimeCode) (start now : Option (List ℕ)) (bytes : 
   pub frames : List Frame
   pub received : HasReceived bytes export.receiver
   pub few : frame_count export.receiver ≤ length bytes
-  pub unoffending : IsUnoffending services_say bytes
-  pub frames_are : AreFramesOf services_say frames bytes
+  pub unoffending : IsUnoffending caption_channel bytes
+  pub frames_are : AreFramesOf caption_channel frames bytes
   pub are_exported : AreExported time frames
   pub writer : standing_of export.writer ≡ stand_after (first_standing time) (exported frames)
   pub way : IsGathered start now (held_of export.text) (export_front time frames)
@@ -52,7 +52,7 @@ pub record HasPut (time : TimeCode) (start now : Option (List ℕ)) (bytes : Lis
 
 -- why an export stopped, of the frames before, of that at which it stopped, of the bytes judged and of those behind them
 abbrev pub StopsFor : TimeCode → Stop → Cause
-StopsFor time (stop.Refused refusal) frames at judged unjudged = (at ≡ []) × (unjudged ≡ []) × FirstOffendingWord services_say judged refusal
+StopsFor time (stop.Refused refusal) frames at judged unjudged = (at ≡ []) × (unjudged ≡ []) × FirstOffendingWord caption_channel judged refusal
 StopsFor time stop.Unwritten frames at judged unjudged = IsAnyhow frames at judged unjudged
 StopsFor time (stop.Found finding) frames at judged unjudged = IsFoundAt finding frames at judged unjudged
 StopsFor time stop.Day frames at judged unjudged = PassesDay time frames at judged unjudged
@@ -69,7 +69,7 @@ pub record HasStopped (time : TimeCode) (start now : Option (List ℕ)) (bytes h
   pub judged : List ℕ
   pub unjudged : List ℕ
   pub spelled : bytes ≡ judged ++ unjudged
-  pub frames_are : AreFramesOf services_say (frames ++ at) judged
+  pub frames_are : AreFramesOf caption_channel (frames ++ at) judged
   pub are_exported : AreExported time frames
   pub cause : StopsFor time why frames at judged unjudged
   pub way : GathersBefore why start now held (export_front time frames)
@@ -87,7 +87,7 @@ WritesFrame time start now frames last export (Err (stop.Refused refusal)) = ⊥
 WritesFrame time start now frames last export (Err stop.Unwritten) =
     (AreExported time frames → AreExported time (frames ++ last ∷ [])) × Puts start now put.Failed (export_front time (frames ++ last ∷ []))
 WritesFrame time start now frames last export (Err why) =
-    ((judged unjudged : List ℕ) → IsUnoffending services_say judged → StopsFor time why frames (last ∷ []) judged unjudged)
+    ((judged unjudged : List ℕ) → IsUnoffending caption_channel judged → StopsFor time why frames (last ∷ []) judged unjudged)
     × IsGathered start now (held_of export.text) (export_front time frames)
 
 -- what an export makes of the next of these bytes, behind those before
@@ -133,6 +133,6 @@ ReadsWords time old new (Err answer) = StopsEarly time old new answer
 
 -- the bytes fed are a words file, or they are cut short
 abbrev pub EndsAt : List ℕ → Result (Unit {0}) Stop → Type 0
-EndsAt bytes (Ok done) = (frames : List Frame) × IsFileUnder services_say frames bytes
-EndsAt bytes (Err (stop.Refused refusal)) = IsCutShort services_say bytes refusal
+EndsAt bytes (Ok done) = (frames : List Frame) × IsFileUnder caption_channel frames bytes
+EndsAt bytes (Err (stop.Refused refusal)) = IsCutShort caption_channel bytes refusal
 EndsAt bytes (Err _) = ⊥

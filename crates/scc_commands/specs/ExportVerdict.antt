@@ -10,22 +10,22 @@ use Rattle.command_base.specs.declared.status.Place.TheVariants.{Byte}
 use Rattle.command_base.specs.declared.status.Status.{Status}
 use Rattle.command_base.specs.declared.status.Status.TheVariants as status
 use Rattle.time_codes.specs.declared.time_code.TimeCode.{TimeCode}
-use Rattle.services_files.specs.Services.{services_say}
 use Rattle.words_files.specs.FramesOf.{AreFramesOf}
 use Rattle.words_files.specs.Offences.{IsFileUnder, IsMalformed}
+use Rattle.services_files.specs.CaptionChannel.{caption_channel}
 use Rattle.words_commands.specs.WordsAnswer.{words_limit}
 use Rattle.scc_commands.specs.Export.{AreExported, ExportAnswer, HasFinding, StandsPastDay}
 
 -- a words file within the limit, at none of whose frames anything is found, and none of whose pairs stands past the day
 abbrev pub FileIsExported : Type 0
 FileIsExported = (time : TimeCode) (bytes : List ℕ) (frames : List Frame) (old new : Ends) (answer : Status)
-    → IsFileUnder services_say frames bytes → AreExported time frames → length bytes ≤ words_limit → IsReadOf bytes old new → ExportAnswer time old new answer
+    → IsFileUnder caption_channel frames bytes → AreExported time frames → length bytes ≤ words_limit → IsReadOf bytes old new → ExportAnswer time old new answer
     → (answer ≡ status.Ok) ⊎ (answer ≡ status.Memory)
 
 -- malformed words whose frames are so
 abbrev pub MalformedIsNotExported : Type 0
 MalformedIsNotExported = (time : TimeCode) (bytes : List ℕ) (frames : List Frame) (refusal : Refusal) (old new : Ends) (answer : Status)
-    → AreFramesOf services_say frames bytes → AreExported time frames → IsMalformed services_say bytes refusal → length bytes ≤ words_limit → IsReadOf bytes old new
+    → AreFramesOf caption_channel frames bytes → AreExported time frames → IsMalformed caption_channel bytes refusal → length bytes ≤ words_limit → IsReadOf bytes old new
     → ExportAnswer time old new answer → (answer ≡ status.Malformed (Byte refusal.place) refusal.why) ⊎ (answer ≡ status.Memory)
 
 -- an export stops at the frame of this number with this status: something is found at it, or its pair stands past the day
@@ -37,6 +37,6 @@ StopsAt time number frame _ = ⊥
 -- words with such a frame, where those before it are exported, whatever follows it
 abbrev pub StopIsAnswered : Type 0
 StopIsAnswered = (time : TimeCode) (bytes : List ℕ) (frames behind : List Frame) (last : Frame) (stop answer : Status) (old new : Ends)
-    → AreFramesOf services_say ((frames ++ last ∷ []) ++ behind) bytes → AreExported time frames → StopsAt time (length frames) last stop
+    → AreFramesOf caption_channel ((frames ++ last ∷ []) ++ behind) bytes → AreExported time frames → StopsAt time (length frames) last stop
     → length bytes ≤ words_limit → IsReadOf bytes old new → ExportAnswer time old new answer
     → (answer ≡ stop) ⊎ (answer ≡ status.Memory)

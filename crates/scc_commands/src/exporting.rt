@@ -5,9 +5,9 @@ ghost use Rattle.text_output.specs.Gathered.{IsGathered, held_of};
 ghost use Rattle.scc_files.specs.Writing.{StandsFirst, end_text, standing_of};
 ghost use Rattle.time_codes.specs.TimeCodes.{is_time_code};
 ghost use Rattle.time_codes.specs.declared.time_code.TimeCode.{TimeCode as Time};
-ghost use Rattle.services_files.specs.Services.{services_say};
 ghost use Rattle.words_files.specs.FramesOf.{AreFramesOf};
 ghost use Rattle.words_files.specs.Offences.{IsUnoffending};
+ghost use Rattle.services_files.specs.CaptionChannel.{caption_channel};
 ghost use Rattle.words_commands.specs.WordsAnswer.{words_limit};
 ghost use Rattle.words_commands.specs.WordsReading.{MayBeFed, Receives};
 ghost use Rattle.scc_commands.specs.Export.{export_front, exported, first_standing, stand_after};
@@ -95,7 +95,7 @@ impl Exporting {
     fn write_frame<O: Sink>(&mut self, frame: u32, out: &mut O) -> Result<(), Stop>
         requires { 0 < frame_count self.now.receiver }
         ensures writes { (time : Time) (start : Option (List ℕ)) (bytes : List ℕ) (frames : List Frame) (last : Frame)
-            → HasReceived bytes self.old.receiver → AreFramesOf services_say (frames ++ last ∷ []) bytes → frame ≡ length frames
+            → HasReceived bytes self.old.receiver → AreFramesOf caption_channel (frames ++ last ∷ []) bytes → frame ≡ length frames
             → standing_of self.old.writer ≡ stand_after (first_standing time) (exported frames)
             → IsGathered start (O.written out.old) (held_of self.old.text) (export_front time frames)
             → WritesFrame time start (O.written out.new) frames last self.new result }
@@ -201,7 +201,7 @@ impl Exporting {
 
     /// Says whether the bytes may end here.
     pub fn end(&self) -> Result<(), Stop>
-        ensures { (bytes : List ℕ) → HasReceived bytes self.now.receiver → IsUnoffending services_say bytes → EndsAt bytes result }
+        ensures { (bytes : List ℕ) → HasReceived bytes self.now.receiver → IsUnoffending caption_channel bytes → EndsAt bytes result }
     {
         match self.receiver.finish() {
             Ok(()) => Ok(()),

@@ -5,12 +5,12 @@ ghost use Rattle.cc_receiver.specs.Receivers.{HasReceived, frame_count};
 ghost use Rattle.cdp_packets.specs.Packets.{Packet as Frame};
 ghost use Rattle.cue_types.specs.Cues.{IsCueFormed};
 ghost use Rattle.dtvcc_services.specs.Numbers.{IsService};
-ghost use Rattle.services_files.specs.Services.{services_say};
 ghost use Rattle.window_places.specs.Cursors.{AreAt};
 ghost use Rattle.window_places.specs.Places.{IsAuthoredBy};
 ghost use Rattle.window_places.specs.Seen.{IsFormedCue};
 ghost use Rattle.window_places.specs.Turns.{AreAllInTurn};
 ghost use Rattle.words_files.specs.FramesOf.{AreFramesOf};
+ghost use Rattle.services_files.specs.CaptionChannel.{caption_channel};
 ghost use Rattle.screen_checks.specs.Differing.{AllSeenWindows, ShowsItsWindows, ShowsOtherWindow};
 ghost use Rattle.screen_checks.specs.Services.{IsFirstOtherService, KnowServices, StandAt};
 
@@ -52,10 +52,10 @@ impl ServiceChecks {
         requires at { StandAt cues.now frame self.now }
         ensures at { StandAt cues.now frame self.new }
         ensures first { (bytes : List ℕ) (earlier : List Frame) (last : Frame) → HasReceived bytes receiver.now
-            → AreFramesOf services_say (earlier ++ last ∷ []) bytes → KnowServices cues.now frame (received_windows earlier) self.old
+            → AreFramesOf caption_channel (earlier ++ last ∷ []) bytes → KnowServices cues.now frame (received_windows earlier) self.old
             → IsFirstOtherService cues.now frame (received_windows (earlier ++ last ∷ [])) result }
         ensures knows { (bytes : List ℕ) (earlier : List Frame) (last : Frame) → HasReceived bytes receiver.now
-            → AreFramesOf services_say (earlier ++ last ∷ []) bytes → KnowServices cues.now frame (received_windows earlier) self.old
+            → AreFramesOf caption_channel (earlier ++ last ∷ []) bytes → KnowServices cues.now frame (received_windows earlier) self.old
             → result ≡ None → KnowServices cues.now frame (received_windows (earlier ++ last ∷ [])) self.new }
     {
         if self.still_agrees(receiver) {
@@ -72,7 +72,7 @@ impl ServiceChecks {
         requires { 0 < frame_count receiver.now }
         ensures agrees { result ≡ true → self.now.agrees ≡ true }
         ensures same { (bytes : List ℕ) (earlier : List Frame) (last : Frame) → HasReceived bytes receiver.now
-            → AreFramesOf services_say (earlier ++ last ∷ []) bytes → result ≡ true → (service id : ℕ) → IsService service
+            → AreFramesOf caption_channel (earlier ++ last ∷ []) bytes → result ≡ true → (service id : ℕ) → IsService service
             → received_windows (earlier ++ last ∷ []) service id ≡ received_windows earlier service id }
     {
         self.agrees && !receiver.is_touched()
@@ -98,7 +98,7 @@ fn first_other(receiver: &Receiver, cursors: &WindowCursors, cues: &[Cue], frame
     requires turn { AreAllInTurn cues.now }
     requires formed { All IsCueFormed cues.now }
     requires at { AreAt cues.now frame cursors.now }
-    ensures { (bytes : List ℕ) (frames : List Frame) → HasReceived bytes receiver.now → AreFramesOf services_say frames bytes
+    ensures { (bytes : List ℕ) (frames : List Frame) → HasReceived bytes receiver.now → AreFramesOf caption_channel frames bytes
         → IsFirstOtherService cues.now frame (received_windows frames) result }
 {
     for service in 1..64u8 {
@@ -121,9 +121,9 @@ fn has_other_window(
     requires turn { AreAllInTurn cues.now }
     requires formed { All IsCueFormed cues.now }
     requires at { AreAt cues.now frame cursors.now }
-    ensures other { (bytes : List ℕ) (frames : List Frame) → HasReceived bytes receiver.now → AreFramesOf services_say frames bytes
+    ensures other { (bytes : List ℕ) (frames : List Frame) → HasReceived bytes receiver.now → AreFramesOf caption_channel frames bytes
         → result ≡ true → ShowsOtherWindow cues.now frame (received_windows frames) service }
-    ensures same { (bytes : List ℕ) (frames : List Frame) → HasReceived bytes receiver.now → AreFramesOf services_say frames bytes
+    ensures same { (bytes : List ℕ) (frames : List Frame) → HasReceived bytes receiver.now → AreFramesOf caption_channel frames bytes
         → result ≡ false → ShowsItsWindows cues.now frame (received_windows frames) service }
 {
     if LAST_AUTHORED < service && !receiver.is_used(service) {

@@ -6,10 +6,10 @@ use Rattle.std.specs.List.{All}
 use Rattle.cc_base.specs.declared.refusal.Refusal.{Refusal}
 use Rattle.words_files.specs.Catching.{refusal_of}
 use Rattle.words_files.specs.Offences.{FirstOffendingWord}
-use Rattle.words_files.proofs.OffenceLemmas.{refused_offends}
 use Rattle.words_files.proofs.TestWords.{IsByte, are_bytes}
+use Rattle.services_files.specs.CaptionChannel.{caption_channel}
 use Rattle.services_files.specs.Services.{services_say}
-use Rattle.services_files.proofs.FillingLemmas.{takes_filling}
+use Rattle.services_files.proofs.ChannelFiles.{refused_offence}
 
 both_true : (b c : Bool) → (b && c) ≡ true → (b ≡ true) × (c ≡ true)
 both_true true c both = (refl, both)
@@ -22,5 +22,5 @@ bytes-are (byte ∷ bytes) test =
     All-cons IsByte byte bytes (grind (arith, nat_tests)) (bytes-are bytes rest)
 
 pub offends : (bytes : List ℕ) (refusal : Refusal) → are_bytes bytes ≡ true → refusal_of services_say bytes ≡ Some refusal
-    → FirstOffendingWord services_say bytes refusal
-offends bytes refusal test some = refused_offends services_say takes_filling bytes refusal (bytes-are bytes test) some
+    → FirstOffendingWord caption_channel bytes refusal
+offends bytes refusal test some = refused_offence bytes refusal (bytes-are bytes test) some

@@ -10,7 +10,7 @@ use Rattle.cdp_packets.specs.declared.parts.CdpPart.TheVariants as part
 use Rattle.cdp_packets.specs.Reading.{IsFilling, cdp_syntax, nothing_open}
 use Rattle.service_blocks.specs.Channels.{IsHeard, IsHeardBehind}
 use Rattle.service_blocks.proofs.ChannelLemmas.{half, heard_pieces, zero_heard}
-use Rattle.words_files.specs.Offences.{TakesFilling}
+use Rattle.words_files.specs.Verdicts.{TakesFilling}
 use Rattle.services_files.specs.Services.{services_say, tried_at, whole_triplet, whole_triplets}
 use Rattle.services_files.proofs.TakenLemmas.{AreKept, AreTaken, accepted-taken, kept_after, pending_after, taken-accepted, whole_triplets-append}
 use Rattle.services_files.proofs.PendingLemmas.{AreInOrder, FollowsHalf, pending_from, reads_order}

@@ -9,3 +9,4 @@ pub mod FrontLemmas
 pub mod OverrunLemmas
 pub mod ExampleLemmas
 pub mod ReasonLemmas
+pub mod ChannelFiles

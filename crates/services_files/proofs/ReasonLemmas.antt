@@ -5,11 +5,13 @@ use Rattle.cc_base.specs.declared.step.Step.{Step}
 use Rattle.cc_base.specs.declared.step.Step.TheVariants.{Nothing, One, Two, Refuse}
 use Rattle.cc_base.specs.declared.why.Why.{Why}
 use Rattle.cc_base.specs.declared.why.Why.TheVariants as why
+use Rattle.cc_base.specs.Feeding.{Verdict}
 use Rattle.cc_base.specs.Steps.{AreAccepted, step_why}
 use Rattle.cc_base.specs.Syntax.{open_behind, parts_from, parts_of}
-use Rattle.cc_base.proofs.StepLemmas.{AreAccepted-split}
+use Rattle.cc_base.proofs.StepLemmas.{AreAccepted-append, AreAccepted-split}
 use Rattle.cc_data.specs.declared.triplet.Triplet.{Triplet}
 use Rattle.cc_data.specs.Triplets.{triplet_of, triplets_of}
+use Rattle.cdp_packets.specs.declared.parts.CdpPart.{CdpPart}
 use Rattle.cdp_packets.specs.PacketParts.{packet_parts}
 use Rattle.cdp_packets.specs.PacketTriplets.{packet_triplets, section_triplets}
 use Rattle.cdp_packets.specs.Packets.{Packet as Frame}
@@ -17,16 +19,16 @@ use Rattle.channel_packets.specs.declared.parts.PacketPart.{PacketPart}
 use Rattle.channel_packets.specs.Reading.{packet_syntax}
 use Rattle.service_blocks.specs.Channels.{IsHeard}
 use Rattle.service_blocks.specs.Reading.{Open, block_syntax, judge_part, open_after}
-use Rattle.service_blocks.proofs.ChannelLemmas.{heard_channel, heard_joined, refused_part}
-use Rattle.words_files.specs.Frames.{IsFileOf}
-use Rattle.words_files.specs.Reasons.{HasReason, IsRefusedFor, by_its_packet, by_layers_above}
-use Rattle.services_files.specs.Overruns.{HaveOverrun, OffendsOverAll}
-use Rattle.services_files.specs.Overruns as overruns
+use Rattle.service_blocks.proofs.ChannelLemmas.{channel_heard, half_heard, heard_channel, heard_first, heard_joined, heard_pieces, refused_part}
+use Rattle.words_files.specs.Verdicts.{IsRefusedFor, layers_of}
+use Rattle.words_files.proofs.AlikeLemmas.{JudgeAlike}
+use Rattle.services_files.specs.CaptionChannel.{caption_channel}
+use Rattle.services_files.specs.Overruns.{HaveOverrun, Overruns}
 use Rattle.services_files.specs.Services.{first_why, services_say, tried_at, whole_triplets, why_refused, why_unheard}
 use Rattle.services_files.specs.WholeFiles.{file_triplets}
-use Rattle.services_files.proofs.OverrunLemmas.{refused-second, refused-third}
-use Rattle.services_files.proofs.TakenLemmas.{unheard-none}
-use Rattle.services_files.proofs.WholeFileLemmas.{whole-under}
+use Rattle.services_files.proofs.OverrunLemmas.{refused-second, refused-third, second-refused, third-refused}
+use Rattle.services_files.proofs.TakenLemmas.{heard-none, unheard-none}
+use Rattle.services_files.proofs.WholeFileLemmas.{carry-taken, taken-carry}
 
 -- a reason of the reader of blocks is Overrun
 step_overrun : (front : Open) (item : PacketPart) (reason : Why) (step : Step _) → judge_part front item ≡ step → step_why step ≡ Some reason → reason ≡ why.Overrun
@@ -83,6 +85,7 @@ frames_spelled (frame ∷ frames) = spelled-append (packet_triplets frame) (file
 overrun_in : (before rest : List Triplet) (first second third : ℕ) (reason : Why) → IsHeard before
     → why_unheard before (triplet_of first second third ∷ []) ≡ Some reason → HaveOverrun (before ++ triplet_of first second third ∷ rest)
 overrun_in before rest first second third reason heard some =
+    let (packets, (blocks, channel)) = heard_channel before heard in
     let cases : (w : Option Why) → why_unheard before (triplet_of first second 0 ∷ []) ≡ w → HaveOverrun (before ++ triplet_of first second third ∷ rest) = elim [
       | None ↦ λ none. record {
         before = before;
@@ -91,7 +94,9 @@ overrun_in before rest first second third reason heard some =
         third = third;
         rest = rest;
         spelled = refl;
-        heard = heard;
+        packets = packets;
+        blocks = blocks;
+        channel = channel;
         overruns = inr (refused-third before first second third reason none some).1;
       }
       | Some other ↦ λ is. record {
@@ -101,7 +106,9 @@ overrun_in before rest first second third reason heard some =
         third = third;
         rest = rest;
         spelled = refl;
-        heard = heard;
+        packets = packets;
+        blocks = blocks;
+        channel = channel;
         overruns = inl (refused-second before first second other is).1;
       }
     ] in cases _ refl
@@ -117,25 +124,63 @@ heard_or_not before _ heard (more first second third triplets are) =
       | Some reason ↦ λ is. inr (overrun_in before triplets first second third reason heard is)
     ] in cases _ refl
 
--- frames of a file that the services refuse have an overrun, and that is the reason
-refused_overrun : (frames : List Frame) (bytes : List ℕ) (reason : Why) → IsFileOf frames bytes → IsRefusedFor services_say (flat_map packet_parts frames) reason
+-- frames that the services refuse have an overrun, and that is the reason
+refused_overrun : (frames : List Frame) (reason : Why) → IsRefusedFor services_say (flat_map packet_parts frames) reason
     → (reason ≡ why.Overrun) × HaveOverrun (file_triplets frames)
-refused_overrun frames bytes reason file refused =
+refused_overrun frames reason refused =
     let reason_is = reason_overrun (open_behind block_syntax (parts_of packet_syntax (whole_triplets refused.taken)))
     (parts_from packet_syntax (open_behind packet_syntax (whole_triplets refused.taken)) (tried_at refused.part)) reason refused.refused in
     elim (heard_or_not [] (file_triplets frames) tt (frames_spelled frames)) [
       | inr over ↦ (reason_is, over)
       | inl heard ↦
           let (packets, (blocks, channel)) = heard_channel (file_triplets frames) heard in
-          let under = whole-under frames bytes (record { file = file; channel = record { packets = packets; blocks = blocks; channel = channel } }) in
-          let all = subst (AreAccepted services_say []) refused.spelled under.accepted in
+          let taken = carry-taken frames (record { packets = packets; blocks = blocks; channel = channel }) in
+          let all = subst (AreAccepted services_say []) refused.spelled taken in
           let none = (AreAccepted-split services_say [] refused.taken (refused.part ∷ refused.rest) all).1.0 in
           let wrong : Some reason ≡ None = sym refused.refused ∙ none in absurd cc
     ]
 
-pub offends_over_all : (before : List ℕ) (high low : ℕ) (reason : Why) → HasReason services_say before high low reason → OffendsOverAll before high low reason
-offends_over_all before high low _ (by_its_packet reason words opens offends) = overruns.by_its_packet reason words opens offends
-offends_over_all before high low _ (by_layers_above reason others frames file refused) =
-    let one = refused_overrun frames (before ++ high ∷ low ∷ others) reason file (refused others frames file) in
-    subst (OffendsOverAll before high low) (sym one.0)
-    (overruns.by_a_header others frames file (λ bytes said is. (refused_overrun said (before ++ high ∷ low ∷ bytes) reason is (refused bytes said is)).1))
+-- parts are all taken, or one is refused first
+taken_or_refused : (v : Verdict CdpPart) (taken parts : List CdpPart) → AreAccepted v [] taken
+    → AreAccepted v [] (taken ++ parts) ⊎ ((reason : Why) × IsRefusedFor v (taken ++ parts) reason)
+taken_or_refused v taken [] accepted = inl (subst (AreAccepted v []) (sym (append-nil taken)) accepted)
+taken_or_refused v taken (part ∷ parts) accepted =
+    let Either = λ (ps : List CdpPart). AreAccepted v [] ps ⊎ ((reason : Why) × IsRefusedFor v ps reason) in
+    let cases : (w : Option Why) → v taken part ≡ w → Either (taken ++ part ∷ parts) = elim [
+      | None ↦ λ none.
+          let next = AreAccepted-append v [] taken (part ∷ []) accepted (none, tt) in
+          subst Either (append_assoc taken (part ∷ []) parts) (taken_or_refused v (taken ++ part ∷ []) parts next)
+      | Some reason ↦ λ is. inr (reason, record { taken = taken; part = part; rest = parts; spelled = refl; accepted = accepted; refused = is })
+    ] in cases _ refl
+
+-- triplets of which a byte is a header that passes its packet aren't heard
+overrun_unheard : (before rest : List Triplet) (first second third : ℕ)
+    → Overruns before (first ∷ []) second ⊎ Overruns before (first ∷ second ∷ []) third → IsHeard (before ++ triplet_of first second third ∷ rest) → ⊥
+overrun_unheard before rest first second third over heard =
+    let triplet = triplet_of first second third in
+    let one = heard_first (before ++ triplet ∷ []) rest (subst IsHeard (sym (append_assoc before (triplet ∷ []) rest)) heard) in
+    let half = heard-none before (triplet_of first second 0 ∷ []) (heard_pieces before (triplet_of first second 0 ∷ []) (half_heard before triplet one)).1 in
+    let whole = heard-none before (triplet ∷ []) (heard_pieces before (triplet ∷ []) one).1 in
+    elim over [
+      | inl at_second ↦ let clash : Some why.Overrun ≡ None = sym (second-refused before first second at_second) ∙ half in absurd cc
+      | inr at_third ↦ let clash : Some why.Overrun ≡ None = sym (third-refused before first second third half at_third) ∙ whole in absurd cc
+    ]
+
+-- so the services refuse frames that have one, for that
+overrun_refused : (frames : List Frame) (reason : Why) → (reason ≡ why.Overrun) × HaveOverrun (file_triplets frames)
+    → IsRefusedFor services_say (flat_map packet_parts frames) reason
+overrun_refused frames reason (is, over) = elim (taken_or_refused services_say [] (flat_map packet_parts frames) tt) [
+  | inl taken ↦
+      let carry = taken-carry frames taken in
+      let heard = (channel_heard carry.packets carry.blocks (file_triplets frames) carry.channel).is in
+      absurd (overrun_unheard over.before over.rest over.first over.second over.third over.overruns (subst IsHeard over.spelled heard))
+  | inr (other, refused) ↦
+      subst (IsRefusedFor services_say (flat_map packet_parts frames)) ((refused_overrun frames other refused).0 ∙ sym is) refused
+]
+
+-- what the services say is the caption channel
+pub channel_said : JudgeAlike (layers_of services_say) caption_channel
+channel_said = record { takes = taken-carry; taken = carry-taken; refuses = λ frames bytes reason file. refused_overrun frames reason }
+
+pub said_channel : JudgeAlike caption_channel (layers_of services_say)
+said_channel = record { takes = carry-taken; taken = taken-carry; refuses = λ frames bytes reason file. overrun_refused frames reason }

@@ -1,6 +1,7 @@
--- Files under the services' layer are those whose frames carry a caption channel.
+-- The services take the parts of just those frames that carry a caption channel.
 use Rattle.std.proofs.Common.{◌≡◌, ℕ, List, [], ◌∷◌, ◌++◌, map, Bool, true, false, ◌==◌, if◌then◌else◌, refl, ap, sym, subst, ◌∙◌, append_assoc, append-nil}
 use Rattle.std.specs.List.{flat_map}
+use Rattle.cc_base.specs.Steps.{AreAccepted}
 use Rattle.cc_data.specs.declared.triplet.Triplet.{Triplet}
 use Rattle.cc_data.specs.Triplets.{triplet_of, triplets_of}
 use Rattle.cdp_packets.specs.declared.parts.CdpPart.{CdpPart}
@@ -10,9 +11,8 @@ use Rattle.cdp_packets.specs.Packets.{Packet as Frame}
 use Rattle.cdp_packets.specs.PacketTriplets.{packet_triplets, section_triplets}
 use Rattle.service_blocks.specs.Channels.{IsHeard}
 use Rattle.service_blocks.proofs.ChannelLemmas.{channel_heard, half_heard, heard_channel, heard_first, heard_pieces}
-use Rattle.words_files.specs.Offences.{Begins, IsFileUnder}
 use Rattle.services_files.specs.Services.{services_say, whole_triplets}
-use Rattle.services_files.specs.WholeFiles.{BeginsWhole, IsWhole, file_triplets}
+use Rattle.services_files.specs.WholeFiles.{CarryChannel, file_triplets}
 use Rattle.services_files.proofs.FillingLemmas.{accepted_heard}
 use Rattle.services_files.proofs.TakenLemmas.{AreTaken, taken-accepted, taken-append, whole_triplets-append}
 
@@ -131,24 +131,14 @@ frames_taken : (frames : List Frame) → AreTakenWhole (flat_map packet_parts fr
 frames_taken [] = nothing_taken
 frames_taken (frame ∷ frames) = whole-append (packet_parts frame) (flat_map packet_parts frames) (packet_taken frame) (frames_taken frames)
 
--- files under the services carry a caption channel, and the other way round
-pub under-whole : (frames : List Frame) (bytes : List ℕ) → IsFileUnder services_say frames bytes → IsWhole frames bytes
-under-whole frames bytes is =
-    let heard = subst IsHeard (frames_whole frames) (accepted_heard (flat_map packet_parts frames) is.accepted) in
+-- frames of which the services take all parts carry a caption channel, and the other way round
+pub taken-carry : (frames : List Frame) → AreAccepted services_say [] (flat_map packet_parts frames) → CarryChannel frames
+taken-carry frames accepted =
+    let heard = subst IsHeard (frames_whole frames) (accepted_heard (flat_map packet_parts frames) accepted) in
     let (packets, (blocks, channel)) = heard_channel (file_triplets frames) heard in
-    record { file = is.file; channel = record { packets = packets; blocks = blocks; channel = channel } }
+    record { packets = packets; blocks = blocks; channel = channel }
 
-pub whole-under : (frames : List Frame) (bytes : List ℕ) → IsWhole frames bytes → IsFileUnder services_say frames bytes
-whole-under frames bytes is =
-    let channel = is.channel in
-    let heard = (channel_heard channel.packets channel.blocks (file_triplets frames) channel.channel).is in
-    record {
-      file = is.file;
-      accepted = taken-accepted [] (flat_map packet_parts frames) (frames_taken frames [] (subst IsHeard (sym (frames_whole frames)) heard));
-    }
-
-pub begins-whole : (bytes : List ℕ) → Begins services_say bytes → BeginsWhole bytes
-begins-whole bytes begins = record { more = begins.more; frames = begins.frames; is_file = under-whole begins.frames (bytes ++ begins.more) begins.is_file }
-
-pub whole-begins : (bytes : List ℕ) → BeginsWhole bytes → Begins services_say bytes
-whole-begins bytes begins = record { more = begins.more; frames = begins.frames; is_file = whole-under begins.frames (bytes ++ begins.more) begins.is_file }
+pub carry-taken : (frames : List Frame) → CarryChannel frames → AreAccepted services_say [] (flat_map packet_parts frames)
+carry-taken frames is =
+    let heard = (channel_heard is.packets is.blocks (file_triplets frames) is.channel).is in
+    taken-accepted [] (flat_map packet_parts frames) (frames_taken frames [] (subst IsHeard (sym (frames_whole frames)) heard))

@@ -4,3 +4,4 @@ pub mod Said
 pub mod Events
 pub mod Overruns
 pub mod Examples
+pub mod CaptionChannel

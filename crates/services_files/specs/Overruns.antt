@@ -1,19 +1,13 @@
 -- At which byte of a triplet a header of a service block is refused (CTA-708-E, sections 5 and 6.2). A header says how many bytes its
 -- block has behind it; where the channel packet's size leaves fewer, the header's own byte is refused. In a triplet that starts a
 -- packet the third byte can be a header, since the second one is the packet's; in one that goes on with a packet, each of both.
-use Rattle.std.specs.Prelude.{◌≡◌, ℕ, ◌+◌, ◌*◌, ◌<◌, ◌==◌, ◌&&◌, ◌⊎◌, not, Bool, true, List, [], ◌∷◌, ◌++◌, length}
+use Rattle.std.specs.Prelude.{◌≡◌, ℕ, ◌+◌, ◌<◌, ◌==◌, ◌&&◌, ◌⊎◌, not, Bool, true, List, [], ◌∷◌, ◌++◌, length}
 use Rattle.std.specs.List.{flat_map, list_all}
-use Rattle.cc_base.specs.declared.why.Why.{Why}
-use Rattle.cc_base.specs.declared.why.Why.TheVariants as why
 use Rattle.cc_data.specs.declared.triplet.Triplet.{Triplet}
 use Rattle.cc_data.specs.Triplets.{triplet_of}
-use Rattle.cdp_packets.specs.Packets.{Packet as Frame}
 use Rattle.channel_packets.specs.ChannelPackets.{AreChannelPackets, ChannelPacket, continues_packet, size_of, starts}
-use Rattle.service_blocks.specs.Channels.{IsHeard}
+use Rattle.service_blocks.specs.Channels.{AreChannel}
 use Rattle.service_blocks.specs.ServiceBlocks.{Block, rest_of}
-use Rattle.words_files.specs.Frames.{IsFileOf}
-use Rattle.words_files.specs.Reasons.{AreOpenBehind, OffendsFor}
-use Rattle.services_files.specs.WholeFiles.{file_triplets}
 
 -- a block has all bytes that its header says; a header 00 is none
 abbrev pub is_whole_block : Block → Bool
@@ -49,7 +43,8 @@ Overruns triplets (first ∷ second ∷ []) next =
     ⊎ (continues_packet (triplet_of first second next) ≡ true) × PassesLastPacket triplets (second ∷ []) next
 Overruns _ _ _ = ⊥
 
--- in triplets one stands, behind others that have none, of which a byte is a header that passes its packet: its second byte, or its third
+-- in triplets one stands, behind others that are a caption channel, of which a byte is a header that passes its packet: its second byte,
+-- or its third
 pub record HaveOverrun (triplets : List Triplet) : Type 0 where
   pub before : List Triplet
   pub first : ℕ
@@ -57,14 +52,7 @@ pub record HaveOverrun (triplets : List Triplet) : Type 0 where
   pub third : ℕ
   pub rest : List Triplet
   pub spelled : triplets ≡ before ++ triplet_of first second third ∷ rest
-  pub heard : IsHeard before
+  pub packets : List ChannelPacket
+  pub blocks : List (List Block)
+  pub channel : AreChannel packets blocks before
   pub overruns : Overruns before (first ∷ []) second ⊎ Overruns before (first ∷ second ∷ []) third
-
--- over all layers, behind these bytes the word of these two bytes offends for this reason: by the words of the open packet before it; or
--- some file of frames goes on with it, and in the triplets of whatever file does, a header passes its packet
-pub data OffendsOverAll (before : List ℕ) (high low : ℕ) : Why → Type 0 where
-  by_its_packet : (reason : Why) (words : List ℕ) → AreOpenBehind words before → OffendsFor words (256 * high + low) reason
-      → OffendsOverAll before high low reason
-  by_a_header : (more : List ℕ) (frames : List Frame) → IsFileOf frames (before ++ high ∷ low ∷ more)
-      → ((others : List ℕ) (said : List Frame) → IsFileOf said (before ++ high ∷ low ∷ others) → HaveOverrun (file_triplets said))
-      → OffendsOverAll before high low why.Overrun

@@ -1,6 +1,5 @@
--- Words files over all layers (SMPTE ST 291-1, ST 334-1 and ST 334-2; CTA-708-E, sections 5 and 6): bytes that are a words file of
--- frames, whose triplets, one frame after another, are a caption channel.
-use Rattle.std.specs.Prelude.{ℕ, List, ◌++◌}
+-- Frames whose triplets, one frame after another, are a caption channel (SMPTE ST 334-2; CTA-708-E, sections 5 and 6).
+use Rattle.std.specs.Prelude.{List}
 use Rattle.std.specs.List.{flat_map}
 use Rattle.cc_data.specs.declared.triplet.Triplet.{Triplet}
 use Rattle.cdp_packets.specs.Packets.{Packet as Frame}
@@ -8,7 +7,6 @@ use Rattle.cdp_packets.specs.PacketTriplets.{packet_triplets}
 use Rattle.channel_packets.specs.ChannelPackets.{ChannelPacket}
 use Rattle.service_blocks.specs.Channels.{AreChannel}
 use Rattle.service_blocks.specs.ServiceBlocks.{Block}
-use Rattle.words_files.specs.Frames.{IsFileOf}
 
 -- the triplets of frames, in order
 abbrev pub file_triplets : List Frame → List Triplet
@@ -20,14 +18,3 @@ pub record CarryChannel (frames : List Frame) : Type 0 where
   pub packets : List ChannelPacket
   pub blocks : List (List Block)
   pub channel : AreChannel packets blocks (file_triplets frames)
-
--- the bytes are a words file of the frames, which carry a caption channel
-pub record IsWhole (frames : List Frame) (bytes : List ℕ) : Type 0 where
-  pub file : IsFileOf frames bytes
-  pub channel : CarryChannel frames
-
--- some such file begins with the bytes
-pub record BeginsWhole (bytes : List ℕ) : Type 0 where
-  pub more : List ℕ
-  pub frames : List Frame
-  pub is_file : IsWhole frames (bytes ++ more)

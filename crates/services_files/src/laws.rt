@@ -1,6 +1,6 @@
 //! Laws of the definitions: functions without a body, whose contract is the law.
 
-ghost use Rattle.std.specs.Prelude.{◌≡◌, ◌↔◌, ℕ, ◌%◌, ◌^◌, ◌<◌, List, [], ◌∷◌, ◌++◌, All, None, Some, length, map, reverse};
+ghost use Rattle.std.specs.Prelude.{◌≡◌, ◌↔◌, ℕ, ◌%◌, ◌^◌, ◌<◌, ◌⊎◌, List, [], ◌∷◌, ◌++◌, All, None, Some, length, map, reverse};
 ghost use Rattle.std.specs.List.{flat_map};
 ghost use Rattle.cc_base.specs.declared.refusal.Refusal.{Refusal as Refused};
 ghost use Rattle.cc_base.specs.declared.why.Why.{Why as Reason};
@@ -18,13 +18,15 @@ ghost use Rattle.channel_packets.specs.ChannelPackets.{AreChannelPackets, Channe
 ghost use Rattle.service_blocks.specs.Channels.{AreChannel, IsHeard, IsHeardBehind, heard_behind, heard_parts, said};
 ghost use Rattle.service_blocks.specs.ServiceBlocks.{AreBlocks, Block};
 ghost use Rattle.words_files.specs.Catching.{caught_in, refusal_of};
-ghost use Rattle.words_files.specs.Offences.{Begins, FirstOffendingWord, IsCutShort, IsFileUnder, IsUnoffending, TakesFilling};
+ghost use Rattle.words_files.specs.Offences.{Begins, FirstOffendingWord, IsCutShort, IsFileUnder, IsMalformed, IsUnoffending};
 ghost use Rattle.words_files.specs.Reasons.{HasReason};
+ghost use Rattle.words_files.specs.Verdicts.{TakesFilling, layers_of};
+ghost use Rattle.services_files.specs.CaptionChannel.{caption_channel};
 ghost use Rattle.services_files.specs.Events.{events_of, frame_events, rates_of, service_events, untimed};
-ghost use Rattle.services_files.specs.Overruns.{OffendsOverAll, Overruns};
+ghost use Rattle.services_files.specs.Overruns.{Overruns};
 ghost use Rattle.services_files.specs.Said.{blocks_in, channel_packets_in, said_behind, said_in};
 ghost use Rattle.services_files.specs.Services.{services_say, tried_at, whole_triplets};
-ghost use Rattle.services_files.specs.WholeFiles.{BeginsWhole, IsWhole, file_triplets};
+ghost use Rattle.services_files.specs.WholeFiles.{file_triplets};
 
 /// The services take a part exactly where the triplet that it tries is heard behind the whole triplets before it. Parts that are
 /// all taken have whole triplets that are heard, and those of frames' parts are the frames' triplets.
@@ -41,12 +43,14 @@ pub fn filling_is_taken()
     ensures { TakesFilling services_say }
 {}
 
-/// Files under the services are exactly the words files whose frames carry a caption channel: no part of a packet, no half of a
-/// triplet and no reader stands in this.
-pub fn files_carry_channels()
-    ensures whole { (frames : List Frame) (bytes : List ℕ) → IsFileUnder services_say frames bytes → IsWhole frames bytes }
-    ensures file { (frames : List Frame) (bytes : List ℕ) → IsWhole frames bytes → IsFileUnder services_say frames bytes }
-    ensures begins { (bytes : List ℕ) → Begins services_say bytes ↔ BeginsWhole bytes }
+/// The services take the parts of just those words files whose frames carry a caption channel, and they refuse the others for the reason
+/// for which a word of them offends: no part of a packet, no half of a triplet and no reader stands in this.
+pub fn services_say_what_the_channel_is()
+    ensures whole { (frames : List Frame) (bytes : List ℕ) → IsFileUnder (layers_of services_say) frames bytes → IsFileUnder caption_channel frames bytes }
+    ensures file { (frames : List Frame) (bytes : List ℕ) → IsFileUnder caption_channel frames bytes → IsFileUnder (layers_of services_say) frames bytes }
+    ensures begins { (bytes : List ℕ) → Begins (layers_of services_say) bytes ↔ Begins caption_channel bytes }
+    ensures reason { (before : List ℕ) (high low : ℕ) (reason : Reason)
+        → HasReason (layers_of services_say) before high low reason ↔ HasReason caption_channel before high low reason }
 {}
 
 /// Over all layers, bytes are refused exactly where they have an offending word, at the place of the first and for its reason, and
@@ -54,27 +58,41 @@ pub fn files_carry_channels()
 /// are cut short.
 pub fn first_offence_over_all_layers()
     ensures refused { (bytes : List ℕ) (refused : Refused) → All (λ byte. byte < 256) bytes
-        → refusal_of services_say bytes ≡ Some refused → FirstOffendingWord services_say bytes refused }
-    ensures offends { (bytes : List ℕ) (refused : Refused) → FirstOffendingWord services_say bytes refused
+        → refusal_of services_say bytes ≡ Some refused → FirstOffendingWord caption_channel bytes refused }
+    ensures offends { (bytes : List ℕ) (refused : Refused) → FirstOffendingWord caption_channel bytes refused
         → refusal_of services_say bytes ≡ Some refused }
     ensures unrefused { (bytes : List ℕ) → All (λ byte. byte < 256) bytes
-        → refusal_of services_say bytes ≡ None → IsUnoffending services_say bytes }
-    ensures unoffending { (bytes : List ℕ) → IsUnoffending services_say bytes → refusal_of services_say bytes ≡ None }
+        → refusal_of services_say bytes ≡ None → IsUnoffending caption_channel bytes }
+    ensures unoffending { (bytes : List ℕ) → IsUnoffending caption_channel bytes → refusal_of services_say bytes ≡ None }
     ensures cut_short { (bytes : List ℕ) → All (λ byte. byte < 256) bytes
         → refusal_of services_say bytes ≡ None → (open_behind anc_syntax bytes ≡ nothing_open → ⊥)
-        → IsCutShort services_say bytes (record { place = length bytes % 2 ^ 64; why = why.Truncated }) }
+        → IsCutShort caption_channel bytes (record { place = length bytes % 2 ^ 64; why = why.Truncated }) }
+{}
+
+/// Over all layers, bytes are a file, or cut short, or they have an offending word, which is one, with one place and one reason, and never
+/// two of these.
+pub fn every_input_is_whole_or_cut_short_or_offends()
+    ensures each { (bytes : List ℕ) → All (λ byte. byte < 256) bytes
+        → ((frames : List Frame) × IsFileUnder caption_channel frames bytes)
+        ⊎ (((refused : Refused) × IsCutShort caption_channel bytes refused) ⊎ ((refused : Refused) × FirstOffendingWord caption_channel bytes refused)) }
+    ensures file { (frames : List Frame) (bytes : List ℕ) (refused : Refused) → IsFileUnder caption_channel frames bytes
+        → IsMalformed caption_channel bytes refused → ⊥ }
+    ensures cut_short { (bytes : List ℕ) (refused other : Refused) → IsCutShort caption_channel bytes refused
+        → FirstOffendingWord caption_channel bytes other → ⊥ }
+    ensures one { (bytes : List ℕ) (refused other : Refused) → FirstOffendingWord caption_channel bytes refused
+        → FirstOffendingWord caption_channel bytes other → refused ≡ other }
 {}
 
 /// A whole file is caught to its end: the parts of its frames, nothing that is open, and no refusal. And bytes that aren't refused
 /// and leave nothing open are a whole file.
 pub fn whole_files_are_caught()
-    ensures caught { (frames : List Frame) (bytes : List ℕ) → IsWhole frames bytes
+    ensures caught { (frames : List Frame) (bytes : List ℕ) → IsFileUnder caption_channel frames bytes
         → caught_in services_say bytes ≡ record { open_caption = None; frames = reverse (map packet_parts frames); refused = None } }
-    ensures unrefused { (frames : List Frame) (bytes : List ℕ) → IsWhole frames bytes
+    ensures unrefused { (frames : List Frame) (bytes : List ℕ) → IsFileUnder caption_channel frames bytes
         → (refusal_of services_say bytes ≡ None) × (open_behind anc_syntax bytes ≡ nothing_open) }
     ensures file { (bytes : List ℕ) → All (λ byte. byte < 256) bytes
         → refusal_of services_say bytes ≡ None → open_behind anc_syntax bytes ≡ nothing_open
-        → (frames : List Frame) × IsWhole frames bytes }
+        → (frames : List Frame) × IsFileUnder caption_channel frames bytes }
 {}
 
 /// What the readers of packets and of blocks make of any triplets, refused or not, is what the triplets say; and behind others it is what
@@ -119,11 +137,4 @@ pub fn overrun_stands_at_its_own_byte()
         → (services_say before (part.Triplet (triplet_of first second next)) ≡ Some reason)
         ↔ ((reason ≡ why.Overrun) × Overruns (whole_triplets before) (first ∷ second ∷ []) next) }
     ensures others { (before : List Part) (next : Part) → tried_at next ≡ [] → services_say before next ≡ None }
-{}
-
-/// Over all layers, a word is refused for what stands in its own packet, or since in whatever file goes on with it a header of a
-/// service block passes its packet. The layers above refuse nothing else.
-pub fn words_offend_for_these_reasons()
-    ensures { (before : List ℕ) (high low : ℕ) (reason : Reason) → HasReason services_say before high low reason
-        → OffendsOverAll before high low reason }
 {}

@@ -12,20 +12,20 @@ ghost use Rattle.dtvcc_screen.specs.Meaning.{Byte, Reset, Tick};
 ghost use Rattle.service_blocks.specs.declared.parts.BlockPart.TheVariants as part;
 ghost use Rattle.services_files.specs.Events.{service_events};
 ghost use Rattle.services_files.specs.Examples.{example_frame};
+ghost use Rattle.services_files.specs.CaptionChannel.{caption_channel};
 ghost use Rattle.services_files.specs.Said.{said_behind, said_in};
-ghost use Rattle.services_files.specs.Services.{services_say};
 
 // The third triplet of the frame is FF 02 3F: it starts a packet with three bytes behind its header, and the first of these is the
 // header of a block of 31 bytes. It offends in its own word, the third of the triplet.
 fn a_header_overruns_in_a_third_byte()
-    ensures { FirstOffendingWord services_say (take 42 frame_without_captions ++ flat_map word_bytes (0x2FF ∷ 0x102 ∷ 0x23F ∷ []))
+    ensures { FirstOffendingWord caption_channel (take 42 frame_without_captions ++ flat_map word_bytes (0x2FF ∷ 0x102 ∷ 0x23F ∷ []))
         (record { place = 46; why = why.Overrun }) }
 {}
 
 // Behind FF 02 20, a packet with three bytes of which the first is a header without a block, FE 22 goes on: 22 is the header of a
 // block of two bytes where one is left. It offends in its own word, the second of the triplet.
 fn a_header_overruns_in_a_second_byte()
-    ensures { FirstOffendingWord services_say (take 42 frame_without_captions ++ flat_map word_bytes (0x2FF ∷ 0x102 ∷ 0x120 ∷ 0x1FE ∷ 0x222 ∷ []))
+    ensures { FirstOffendingWord caption_channel (take 42 frame_without_captions ++ flat_map word_bytes (0x2FF ∷ 0x102 ∷ 0x120 ∷ 0x1FE ∷ 0x222 ∷ []))
         (record { place = 50; why = why.Overrun }) }
 {}
 

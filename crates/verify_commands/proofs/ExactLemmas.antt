@@ -13,7 +13,6 @@ use Rattle.cue_list_commands.specs.Accepted.{IsGoodList, IsRefusedList}
 use Rattle.cue_list_commands.specs.SideEnds.{SideEnds}
 use Rattle.cue_types.specs.Listing.{Listing}
 use Rattle.findings.specs.declared.finding.Finding.{Finding}
-use Rattle.services_files.specs.Services.{services_say}
 use Rattle.words_commands.proofs.WordsVerdictLemmas.{known_judged, known_whole}
 use Rattle.words_commands.specs.WordsAnswer.{words_limit}
 use Rattle.words_files.proofs.EndingLemmas.{file_has_no_offence, offence_stays}
@@ -21,6 +20,7 @@ use Rattle.words_files.proofs.FrameLemmas.{one_list}
 use Rattle.words_files.proofs.FramesOfLemmas.{file_frames, frames_grow}
 use Rattle.words_files.specs.FramesOf.{AreFramesOf}
 use Rattle.words_files.specs.Offences.{FirstOffendingWord, IsFileUnder}
+use Rattle.services_files.specs.CaptionChannel.{caption_channel}
 use Rattle.verify_commands.specs.VerifyAnswer.{IsFoundIn, IsRefusedClean, IsShort, IsVerified, OfList, PassesClean, RefusesList, Stops}
 use Rattle.verify_commands.specs.VerifyVerdict.{OkIsVerified, RefusedSideIsAnswered, VerifiedIsAnswered}
 
@@ -48,34 +48,34 @@ never_passes list bytes old new within known stops =
     omega arith
 
 -- a file isn't refused
-never_malformed : (list : Listing) (bytes : List ℕ) (frames : List Frame) (refusal : Refusal) (old new : Option (List ℕ)) → IsFileUnder services_say frames bytes
+never_malformed : (list : Listing) (bytes : List ℕ) (frames : List Frame) (refusal : Refusal) (old new : Option (List ℕ)) → IsFileUnder caption_channel frames bytes
     → old ≡ Some bytes → Stops list (IsRefusedClean refusal old) old new → ⊥
 never_malformed list bytes frames refusal old new file known stops =
     let (rest, is) = known_judged old new bytes stops.judged stops.unjudged known stops.taken in
     elim stops.cause.refused [
-      | inl offence ↦ file_has_no_offence services_say frames bytes refusal file
-          (subst (λ l. FirstOffendingWord services_say l refusal) (sym is) (offence_stays services_say stops.judged (stops.unjudged ++ rest) refusal offence))
-      | inr cut ↦ cut.1.no_file frames (subst (IsFileUnder services_say frames) (known_whole old bytes stops.judged known cut.0.0) file)
+      | inl offence ↦ file_has_no_offence caption_channel frames bytes refusal file
+          (subst (λ l. FirstOffendingWord caption_channel l refusal) (sym is) (offence_stays caption_channel stops.judged (stops.unjudged ++ rest) refusal offence))
+      | inr cut ↦ cut.1.no_file frames (subst (IsFileUnder caption_channel frames) (known_whole old bytes stops.judged known cut.0.0) file)
     ]
 
 -- where nothing is found at the frames of a file, nothing is found on the way
-never_found : (list : Listing) (bytes : List ℕ) (frames : List Frame) (finding : Finding) (old new : Option (List ℕ)) → IsFileUnder services_say frames bytes
+never_found : (list : Listing) (bytes : List ℕ) (frames : List Frame) (finding : Finding) (old new : Option (List ℕ)) → IsFileUnder caption_channel frames bytes
     → AreClean list frames → old ≡ Some bytes → Stops list (IsFoundIn finding) old new → ⊥
 never_found list bytes frames finding old new file clean known stops =
     let (rest, is) = known_judged old new bytes stops.judged stops.unjudged known stops.taken in
     let first = stops.cause.first in
-    let (behind, grown) = frames_grow services_say stops.frames frames stops.judged (stops.unjudged ++ rest) stops.frames_are
-    (subst (AreFramesOf services_say frames) is (file_frames services_say frames bytes file)) in
+    let (behind, grown) = frames_grow caption_channel stops.frames frames stops.judged (stops.unjudged ++ rest) stops.frames_are
+    (subst (AreFramesOf caption_channel frames) is (file_frames caption_channel frames bytes file)) in
     clean first.earlier first.last (first.later ++ behind)
     (grown ∙ ap (λ (f : List Frame). f ++ behind) first.split ∙ append_assoc first.earlier (first.last ∷ first.later) behind) finding.kind first.first.is
 
 -- and there are frames enough
-never_short : (list : Listing) (bytes : List ℕ) (frames : List Frame) (count : ℕ) (old new : Option (List ℕ)) → IsFileUnder services_say frames bytes
+never_short : (list : Listing) (bytes : List ℕ) (frames : List Frame) (count : ℕ) (old new : Option (List ℕ)) → IsFileUnder caption_channel frames bytes
     → list.frames ≤ length frames → old ≡ Some bytes → Stops list (IsShort old count) old new → ⊥
 never_short list bytes frames count old new file enough known stops =
     let whole = stops.cause.whole in
     let same = one_list stops.frames frames bytes
-    (subst (λ l. IsFileUnder services_say stops.frames l) (sym (known_whole old bytes stops.judged known whole.0.0)) whole.1).file file.file in
+    (subst (λ l. IsFileUnder caption_channel stops.frames l) (sym (known_whole old bytes stops.judged known whole.0.0)) whole.1).file file.file in
     let size = ap length same in
     let few = stops.cause.few in
     omega arith
@@ -125,7 +125,7 @@ ok_verified text bytes list side later old new good side_left left is =
     let same = known_whole old.left bytes stops.judged left whole.0.0 in
     record {
       frames = stops.frames;
-      file = subst (λ l. IsFileUnder services_say stops.frames l) (sym same) whole.1;
+      file = subst (λ l. IsFileUnder caption_channel stops.frames l) (sym same) whole.1;
       within = subst (λ l. length l ≤ words_limit) (sym same) stops.within;
       enough = stops.cause.enough;
       clean = stops.cause.clean;

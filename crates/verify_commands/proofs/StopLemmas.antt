@@ -15,10 +15,10 @@ use Rattle.command_base.specs.declared.status.Status.{Status}
 use Rattle.command_base.specs.declared.status.Status.TheVariants as status
 use Rattle.cue_types.specs.Listing.{Listing}
 use Rattle.findings.specs.declared.finding.Finding.{Finding}
-use Rattle.services_files.specs.Services.{services_say}
 use Rattle.words_commands.proofs.PieceLemmas.{IsPiece, all_taken, cut_short, nothing_taken, whole_piece, with_piece}
 use Rattle.words_commands.specs.WordsAnswer.{words_limit}
 use Rattle.words_files.specs.FramesOf.{AreFramesOf}
+use Rattle.services_files.specs.CaptionChannel.{caption_channel}
 use Rattle.words_files.proofs.FramesOfLemmas.{file_frames, frames_of_once}
 use Rattle.verify_commands.specs.VerifyAnswer.{Cause, Stops}
 use Rattle.verify_commands.specs.Verifying.{EndsAt, HasJudged, HasStopped, StopsEarly, VerifiesWords, stop_status}
@@ -43,7 +43,7 @@ clean_so_far list bytes verifier had =
 
 -- what a run stops for, where the bytes judged are all that was taken
 judged_stops : (Why : Cause) (first left after : Option (List ℕ)) (list : Listing) (verifier : Verifier) (room : ℕ) (frames : List Frame)
-    → (on : IsUnderway first left list verifier room) → Keeps left after → AreFramesOf services_say frames on.taken → Why list frames on.taken []
+    → (on : IsUnderway first left list verifier room) → Keeps left after → AreFramesOf caption_channel frames on.taken → Why list frames on.taken []
     → Stops list Why first after
 judged_stops Why first left after list verifier room frames on keeps are cause =
     let within = on.within in
@@ -71,7 +71,7 @@ pub file_ended : (first left after : Option (List ℕ)) (before now : ℕ) (list
     → IsAtEnd left × Keeps left after → now ≡ before → EndsAt list on.taken (Ok tt) → VerifiesWords list first after before now (Ok tt)
 file_ended first left after before now list verifier room on (ended, keeps) steady (frames, file, clean, enough) = (
   steady,
-  judged_stops _ first left after list verifier room frames on keeps (file_frames services_say frames on.taken file)
+  judged_stops _ first left after list verifier room frames on keeps (file_frames caption_channel frames on.taken file)
       (record { whole = ((all_taken first left on.taken on.consumed ended, refl), file); clean = clean; enough = enough }),
 )
 
@@ -87,7 +87,7 @@ file_stopped first left after before now list verifier room (stop.Refused refusa
 file_stopped first left after before now list verifier room (stop.Found finding) on ends steady never = absurd never
 file_stopped first left after before now list verifier room (stop.Short count) on (ended, keeps) steady (frames, file, clean, is, few) = (
   steady,
-  judged_stops _ first left after list verifier room frames on keeps (file_frames services_say frames on.taken file)
+  judged_stops _ first left after list verifier room frames on keeps (file_frames caption_channel frames on.taken file)
       (record { whole = ((all_taken first left on.taken on.consumed ended, refl), file); clean = clean; count_is = is; few = few }),
 )
 
@@ -182,7 +182,7 @@ ends_short list bytes verifier count had judges = subst (λ (l : Listing). Judge
 pub ends_differing : (list : Listing) (bytes : List ℕ) (verifier : Verifier) (finding : Finding) → HasJudged list bytes verifier
     → JudgesFile (list_of verifier) bytes (Ok (verdict.Differs finding)) → ⊥
 ends_differing list bytes verifier finding had (frames, are, first) =
-    let same = frames_of_once services_say frames had.verified.frames bytes are had.verified.frames_are in
+    let same = frames_of_once caption_channel frames had.verified.frames bytes are had.verified.frames_are in
     let clean = subst (λ fs. AreClean (list_of verifier) fs) (sym same) (found_none bytes verifier had.verified had.nothing) in
     clean first.earlier first.last first.later first.split finding.kind first.first.is
 

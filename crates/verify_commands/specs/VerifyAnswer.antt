@@ -16,11 +16,11 @@ use Rattle.command_base.specs.declared.status.Status.TheVariants as status
 use Rattle.cue_list_commands.specs.Accepted.{IsGoodList, IsRefusedList}
 use Rattle.cue_types.specs.Listing.{Listing}
 use Rattle.findings.specs.declared.finding.Finding.{Finding}
-use Rattle.services_files.specs.Services.{services_say}
 use Rattle.cue_list_commands.specs.SideEnds.{SideEnds}
 use Rattle.words_commands.specs.WordsAnswer.{HasNoOffence, IsRefusedWith, IsSteady, IsWholeFile, PassesLimit, words_limit}
 use Rattle.words_files.specs.FramesOf.{AreFramesOf}
 use Rattle.words_files.specs.Offences.{IsUnoffending}
+use Rattle.services_files.specs.CaptionChannel.{caption_channel}
 
 -- what may hold where a run stops: of the list, of the frames met, of the bytes judged, and of those taken behind them and not judged
 abbrev pub Cause : Type 1
@@ -33,7 +33,7 @@ pub record Stops (list : Listing) (Why : Cause) (old new : Option (List ℕ)) : 
   pub unjudged : List ℕ
   pub taken : Consumes old new (judged ++ unjudged)
   pub within : length judged ≤ words_limit
-  pub frames_are : AreFramesOf services_say frames judged
+  pub frames_are : AreFramesOf caption_channel frames judged
   pub cause : Why list frames judged unjudged
 
 -- the whole input is a words file with as many frames as the list, at least, and nothing is found at any
@@ -67,7 +67,7 @@ pub record IsRefusedClean (refusal : Refusal) (left : Option (List ℕ)) (list :
 -- this is the first finding of the frames, at the last of them, and no word offends
 pub record IsFoundIn (finding : Finding) (list : Listing) (frames : List Frame) (judged unjudged : List ℕ) : Type 0 where
   pub first : FirstFinding list frames finding
-  pub unoffending : IsUnoffending services_say judged
+  pub unoffending : IsUnoffending caption_channel judged
 
 -- the side file is a cue list that keeps the rules, of which this holds
 abbrev pub OfList : SideEnds → (Listing → Type 0) → Type 0

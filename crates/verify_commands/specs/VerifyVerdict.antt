@@ -11,9 +11,9 @@ use Rattle.command_base.specs.declared.status.Status.TheVariants as status
 use Rattle.cue_list_commands.specs.Accepted.{IsGoodList, IsRefusedList}
 use Rattle.cue_list_commands.specs.SideEnds.{SideEnds}
 use Rattle.cue_types.specs.Listing.{Listing}
-use Rattle.services_files.specs.Services.{services_say}
 use Rattle.words_commands.specs.WordsAnswer.{words_limit}
 use Rattle.words_files.specs.Offences.{IsFileUnder}
+use Rattle.services_files.specs.CaptionChannel.{caption_channel}
 use Rattle.verify_commands.specs.VerifyAnswer.{VerifyAnswer}
 
 -- the side file had these bytes, and its count of faults didn't rise
@@ -24,7 +24,7 @@ pub record IsSideOf (text : List ℕ) (side later : SideEnds) : Type 0 where
 -- the words are a file within the limit with as many frames as the list, at least, and nothing is found at any
 pub record AreVerified (list : Listing) (bytes : List ℕ) : Type 0 where
   pub frames : List Frame
-  pub file : IsFileUnder services_say frames bytes
+  pub file : IsFileUnder caption_channel frames bytes
   pub within : length bytes ≤ words_limit
   pub enough : list.frames ≤ length frames
   pub clean : AreClean list frames

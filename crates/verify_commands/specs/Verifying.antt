@@ -12,10 +12,10 @@ use Rattle.command_base.specs.declared.status.Status.{Status}
 use Rattle.command_base.specs.declared.status.Status.TheVariants as status
 use Rattle.cue_types.specs.Listing.{Listing}
 use Rattle.findings.specs.declared.finding.Finding.{Finding}
-use Rattle.services_files.specs.Services.{services_say}
 use Rattle.words_commands.specs.WordsAnswer.{words_limit}
 use Rattle.words_files.specs.FramesOf.{AreFramesOf}
 use Rattle.words_files.specs.Offences.{FirstOffendingWord, IsCutShort, IsFileUnder, IsUnoffending}
+use Rattle.services_files.specs.CaptionChannel.{caption_channel}
 use Rattle.verify_commands.specs.VerifyAnswer.{HasNoEvent, IsFoundIn, IsRefusedClean, IsShort, IsVerified, PassesClean, Stops}
 use Rattle.verify_commands.specs.declared.words.Stop.{Stop}
 use Rattle.verify_commands.specs.declared.words.Stop.TheVariants as stop
@@ -25,7 +25,7 @@ pub record HasJudged (list : Listing) (bytes : List ℕ) (verifier : Verifier) :
   pub verified : HasVerified bytes verifier
   pub list_is : list_of verifier ≡ list
   pub nothing : finding_of verifier ≡ None
-  pub unoffending : IsUnoffending services_say bytes
+  pub unoffending : IsUnoffending caption_channel bytes
   pub few : verified_frames verifier ≤ length bytes
 
 -- it judged some bytes, and so many may follow within the limit
@@ -37,9 +37,9 @@ pub record MayBeFed (verifier : Verifier) (more : ℕ) : Type 0 where
 -- a word of the bytes offends, and nothing is found at a frame before
 pub record HasOffended (list : Listing) (bytes : List ℕ) (refusal : Refusal) : Type 0 where
   pub frames : List Frame
-  pub frames_are : AreFramesOf services_say frames bytes
+  pub frames_are : AreFramesOf caption_channel frames bytes
   pub clean : AreClean list frames
-  pub offends : FirstOffendingWord services_say bytes refusal
+  pub offends : FirstOffendingWord caption_channel bytes refusal
 
 -- this is found first in a front of the bytes
 pub record HasFound (list : Listing) (bytes : List ℕ) (finding : Finding) : Type 0 where
@@ -47,9 +47,9 @@ pub record HasFound (list : Listing) (bytes : List ℕ) (finding : Finding) : Ty
   pub judged : List ℕ
   pub unjudged : List ℕ
   pub spelled : bytes ≡ judged ++ unjudged
-  pub frames_are : AreFramesOf services_say frames judged
+  pub frames_are : AreFramesOf caption_channel frames judged
   pub first : FirstFinding list frames finding
-  pub unoffending : IsUnoffending services_say judged
+  pub unoffending : IsUnoffending caption_channel judged
 
 -- a verifier stopped in these bytes
 abbrev pub HasStopped : Listing → List ℕ → Stop → Type 0
@@ -69,10 +69,10 @@ Judges list bytes verifier (Err stop) = HasStopped list bytes stop
 
 -- the bytes are a words file with frames enough, or with too few, or they are cut short
 abbrev pub EndsAt : Listing → List ℕ → Result (Unit {0}) Stop → Type 0
-EndsAt list bytes (Ok done) = (frames : List Frame) × IsFileUnder services_say frames bytes × AreClean list frames × (list.frames ≤ length frames)
+EndsAt list bytes (Ok done) = (frames : List Frame) × IsFileUnder caption_channel frames bytes × AreClean list frames × (list.frames ≤ length frames)
 EndsAt list bytes (Err (stop.Short count)) =
-    (frames : List Frame) × IsFileUnder services_say frames bytes × AreClean list frames × (count ≡ length frames) × (length frames < list.frames)
-EndsAt list bytes (Err (stop.Refused refusal)) = (frames : List Frame) × AreFramesOf services_say frames bytes × AreClean list frames × IsCutShort services_say bytes refusal
+    (frames : List Frame) × IsFileUnder caption_channel frames bytes × AreClean list frames × (count ≡ length frames) × (length frames < list.frames)
+EndsAt list bytes (Err (stop.Refused refusal)) = (frames : List Frame) × AreFramesOf caption_channel frames bytes × AreClean list frames × IsCutShort caption_channel bytes refusal
 EndsAt list bytes (Err (stop.Found finding)) = ⊥
 
 -- the status of a run that stopped so

@@ -8,8 +8,8 @@ use Rattle.cc_base.specs.declared.streams.Put.{Put}
 use Rattle.cc_base.specs.declared.streams.Put.TheVariants as put
 use Rattle.cdp_packets.specs.Packets.{Packet as Frame}
 use Rattle.words_files.proofs.EndingLemmas.{offence_stays}
-use Rattle.services_files.specs.Services.{services_say}
 use Rattle.words_files.specs.Offences.{FirstOffendingWord, IsUnoffending}
+use Rattle.services_files.specs.CaptionChannel.{caption_channel}
 use Rattle.command_base.specs.Ends.{Ends}
 use Rattle.words_commands.specs.Screens.{changes_of, decode_output, show_output}
 use Rattle.words_commands.specs.WordsAnswer.{Cause, DecodeAnswer, IsRefusedWith, IsWholeFile, IsWholeInput, PassesLimit, ShowAnswer, Stops, StopsEarly, words_limit}
@@ -37,26 +37,26 @@ front_within judged rest limit within =
 
 -- a word within the limit offends
 long_offends : (text : List Frame → List ℕ) (bytes : List ℕ) (refusal : Refusal) (old new : Ends) → words_limit < length bytes → IsReadOf bytes old new
-    → Stops text (IsRefusedWith refusal old.left) put.Done old new → FirstOffendingWord services_say (take words_limit bytes) refusal
+    → Stops text (IsRefusedWith refusal old.left) put.Done old new → FirstOffendingWord caption_channel (take words_limit bytes) refusal
 long_offends text bytes refusal old new past read stops =
     let (rest, is) = known_judged old.left new.left bytes stops.judged stops.unjudged read.left stops.taken in
     let front = ap (take words_limit) is ∙ front_within stops.judged (stops.unjudged ++ rest) words_limit stops.within in
     elim stops.cause [
-      | inl offence ↦ subst (λ l. FirstOffendingWord services_say l refusal) (sym front)
-          (offence_stays services_say stops.judged (take (words_limit - length stops.judged) (stops.unjudged ++ rest)) refusal offence)
+      | inl offence ↦ subst (λ l. FirstOffendingWord caption_channel l refusal) (sym front)
+          (offence_stays caption_channel stops.judged (take (words_limit - length stops.judged) (stops.unjudged ++ rest)) refusal offence)
       | inr cut ↦ absurd (never_whole text (IsRefusedWith refusal old.left) put.Done bytes old new past read stops cut.0)
     ]
 
 -- no word within it does
 long_passes : (text : List Frame → List ℕ) (bytes : List ℕ) (old new : Ends) → words_limit < length bytes → IsReadOf bytes old new → Stops text PassesLimit put.Done old new
-    → IsUnoffending services_say (take words_limit bytes)
+    → IsUnoffending caption_channel (take words_limit bytes)
 long_passes text bytes old new past read stops =
     let (rest, is) = known_judged old.left new.left bytes stops.judged stops.unjudged read.left stops.taken in
     let (at_limit, some, fine) = stops.cause in
     let none : words_limit - length stops.judged ≡ 0 = omega arith in
     let front = ap (take words_limit) is ∙ front_within stops.judged (stops.unjudged ++ rest) words_limit stops.within
     ∙ ap (λ n. stops.judged ++ take n (stops.unjudged ++ rest)) none ∙ append-nil stops.judged in
-    subst (IsUnoffending services_say) (sym front) fine
+    subst (IsUnoffending caption_channel) (sym front) fine
 
 -- what stops early
 long_early : (text : List Frame → List ℕ) (bytes : List ℕ) (old new : Ends) (answer : Status) → words_limit < length bytes → IsReadOf bytes old new → StopsEarly text old new answer

@@ -7,10 +7,11 @@ use Rattle.std.specs.Io.KnownBytes.{Consumes, IsAtEnd}
 use Rattle.cc_base.specs.declared.refusal.Refusal.{Refusal}
 use Rattle.cc_receiver.proofs.FedFrames.{no_item}
 use Rattle.services_files.specs.Services.{services_say}
-use Rattle.services_files.proofs.FillingLemmas.{takes_filling}
+use Rattle.services_files.specs.CaptionChannel.{caption_channel}
+use Rattle.services_files.proofs.ChannelFiles.{offence_is_refused, unoffending_unrefused}
 use Rattle.words_files.specs.Catching.{refusal_of}
 use Rattle.words_files.specs.Offences.{IsCutShort, IsMalformed, IsUnoffending}
-use Rattle.words_files.proofs.OffenceLemmas.{offence_refused, some_or_none, unoffending_is_unrefused}
+use Rattle.words_files.proofs.OffenceLemmas.{some_or_none}
 
 -- what is left of bytes from a place on
 pub rest_is : (at : ℕ) (bytes : List ℕ) → at ≤ length bytes → take (length bytes - at) (drop at bytes) ≡ drop at bytes
@@ -87,7 +88,7 @@ all_taken (Some all) None taken consumed ended = absurd consumed
 all_taken (Some all) (Some rest) taken consumed ended = consumed ∙ ap (λ l. taken ++ l) ended ∙ append-nil taken
 
 -- bytes of which no word offends are cut short where they are no file
-pub cut_short : (bytes : List ℕ) (refusal : Refusal) → IsUnoffending services_say bytes → IsMalformed services_say bytes refusal → IsCutShort services_say bytes refusal
+pub cut_short : (bytes : List ℕ) (refusal : Refusal) → IsUnoffending caption_channel bytes → IsMalformed caption_channel bytes refusal → IsCutShort caption_channel bytes refusal
 cut_short bytes refusal unoffending (inl offence) =
-    absurd (some_or_none (refusal_of services_say bytes) refusal (offence_refused services_say takes_filling bytes refusal offence) (unoffending_is_unrefused services_say bytes unoffending))
+    absurd (some_or_none (refusal_of services_say bytes) refusal (offence_is_refused bytes refusal offence) (unoffending_unrefused bytes unoffending))
 cut_short bytes refusal unoffending (inr cut) = cut

@@ -11,8 +11,8 @@ use Rattle.cc_receiver.specs.declared.receiver.Fed.{Fed}
 use Rattle.cc_receiver.specs.declared.receiver.Receiver.{Receiver}
 use Rattle.cc_receiver.proofs.FedFrames.{IsNextFrame, counted_nothing, counts_none, frame_more, frames_still, nothing_is_file, nothing_offends}
 use Rattle.cdp_packets.specs.Packets.{Packet as Frame}
-use Rattle.services_files.specs.Services.{services_say}
 use Rattle.words_files.specs.FramesOf.{AreFramesOf}
+use Rattle.services_files.specs.CaptionChannel.{caption_channel}
 use Rattle.words_files.proofs.FramesOfLemmas.{file_frames}
 use Rattle.text_output.specs.Gathered.{Flushes, IsGathered, held_of}
 use Rattle.text_output.specs.declared.gathered.Gathered.{Gathered}
@@ -39,7 +39,7 @@ judged_nothing text start reading received held prints none =
         received = received;
         few = omega arith;
         unoffending = nothing_offends;
-        frames_are = file_frames services_say [] [] nothing_is_file;
+        frames_are = file_frames caption_channel [] [] nothing_is_file;
         prints = prints;
         way = record { sent = []; appended = nothing_put start; whole = held ∙ sym none };
       };
@@ -106,7 +106,7 @@ step_done text start now then before bytes old new fed printer kept had read cap
 
 -- a put of its text failed
 pub step_failed : (text : List Frame → List ℕ) (start then : Option (List ℕ)) (before bytes : List ℕ) (used : ℕ) (frames : List Frame)
-    → AreFramesOf services_say frames (before ++ take used bytes) → Puts start then put.Failed (text frames) → HasFailed text start then (before ++ bytes)
+    → AreFramesOf caption_channel frames (before ++ take used bytes) → Puts start then put.Failed (text frames) → HasFailed text start then (before ++ bytes)
 step_failed text start then before bytes used frames are failed = record {
   frames = frames;
   judged = before ++ take used bytes;

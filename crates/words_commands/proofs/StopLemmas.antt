@@ -9,8 +9,8 @@ use Rattle.cc_receiver.specs.Receivers.{HasReceived}
 use Rattle.cc_receiver.proofs.TakenLemmas.{frames_count}
 use Rattle.cdp_packets.specs.Packets.{Packet as Frame}
 use Rattle.words_files.proofs.FramesOfLemmas.{file_frames, frames_of_once}
-use Rattle.services_files.specs.Services.{services_say}
 use Rattle.words_files.specs.Offences.{IsFileUnder, IsUnoffending}
+use Rattle.services_files.specs.CaptionChannel.{caption_channel}
 use Rattle.command_base.specs.Ends.{Ends, ends}
 use Rattle.text_output.specs.Gathered.{held_of}
 use Rattle.words_commands.specs.Printing.{Prints}
@@ -65,15 +65,15 @@ take_failed text first left after start now reads later writes still printer rea
 -- the input is a words file
 pub file_ended : (text : List Frame → List ℕ) (first left after start now : Option (List ℕ)) (reads later writes still : ℕ) (printer : Printer) (reading : Reading) (room count : ℕ)
     → IsUnderway first left start now printer reading room → Prints text [] printer → text [] ≡ [] → IsAtEnd left × Keeps left after → later ≡ reads → still ≡ writes
-    → ((bytes : List ℕ) → HasReceived bytes reading.receiver → IsUnoffending services_say bytes → EndsAt bytes reading.receiver (Ok count))
+    → ((bytes : List ℕ) → HasReceived bytes reading.receiver → IsUnoffending caption_channel bytes → EndsAt bytes reading.receiver (Ok count))
     → ReadsWords text (ends first reads start writes) (ends after later now still) (Ok count)
 file_ended text first left after start now reads later writes still printer reading room count on prints none (ended, keeps) steady same file =
     let had = on.put_all text prints none in
     let (is, (frames, is_file)) = file on.taken had.judged.received had.judged.unoffending in
-    let frames_is = frames_of_once services_say frames had.judged.frames on.taken (file_frames services_say frames on.taken is_file) had.judged.frames_are in (
+    let frames_is = frames_of_once caption_channel frames had.judged.frames on.taken (file_frames caption_channel frames on.taken is_file) had.judged.frames_are in (
       record { reads = steady; writes = same },
       judged_stops text _ first left after start now reads later writes still printer reading room on had keeps (
-        ((all_taken first left on.taken on.consumed ended, refl), subst (λ f. IsFileUnder services_say f on.taken) frames_is is_file),
+        ((all_taken first left on.taken on.consumed ended, refl), subst (λ f. IsFileUnder caption_channel f on.taken) frames_is is_file),
         is ∙ frames_count had.judged.frames on.taken reading.receiver had.judged.received had.judged.frames_are,
       ),
     )
@@ -81,7 +81,7 @@ file_ended text first left after start now reads later writes still printer read
 -- the input is cut short
 pub file_cut : (text : List Frame → List ℕ) (first left after start now : Option (List ℕ)) (reads later writes still : ℕ) (printer : Printer) (reading : Reading) (room : ℕ) (why : Stop)
     → IsUnderway first left start now printer reading room → Prints text [] printer → text [] ≡ [] → IsAtEnd left × Keeps left after → later ≡ reads → still ≡ writes
-    → ((bytes : List ℕ) → HasReceived bytes reading.receiver → IsUnoffending services_say bytes → EndsAt bytes reading.receiver (Err why))
+    → ((bytes : List ℕ) → HasReceived bytes reading.receiver → IsUnoffending caption_channel bytes → EndsAt bytes reading.receiver (Err why))
     → StopsEarly text (ends first reads start writes) (ends after later now still) (stop_status why)
 file_cut text first left after start now reads later writes still printer reading room (stop.Refused refusal) on prints none (ended, keeps) steady same file =
     let had = on.put_all text prints none in (

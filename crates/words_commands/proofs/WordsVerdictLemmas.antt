@@ -8,10 +8,10 @@ use Rattle.cc_base.specs.declared.streams.Put.{Put}
 use Rattle.cc_base.specs.declared.streams.Put.TheVariants as put
 use Rattle.cdp_packets.specs.Packets.{Packet as Frame}
 use Rattle.words_files.proofs.EndingLemmas.{cut_short_has_no_offence, file_has_no_offence, offence_stays}
-use Rattle.words_files.proofs.OffenceLemmas.{offence_is_one}
 use Rattle.words_files.proofs.FrameLemmas.{one_list}
-use Rattle.services_files.specs.Services.{services_say}
 use Rattle.words_files.specs.Offences.{FirstOffendingWord, IsCutShort, IsFileUnder, IsMalformed}
+use Rattle.services_files.specs.CaptionChannel.{caption_channel}
+use Rattle.services_files.proofs.ChannelFiles.{offence_is_once}
 use Rattle.command_base.specs.Ends.{Ends}
 use Rattle.words_commands.specs.Screens.{changes_of, decode_output, show_output}
 use Rattle.words_commands.specs.WordsAnswer.{DecodeAnswer, HasFrame, IsRefusedWith, IsWholeFile, LacksFrame, PassesLimit, ShowAnswer, Stops, StopsEarly, words_limit}
@@ -66,18 +66,18 @@ within_passes text bytes old new within read stops =
     omega arith
 
 -- a file isn't refused
-file_refused : (text : List Frame → List ℕ) (bytes : List ℕ) (frames : List Frame) (refusal : Refusal) (old new : Ends) → IsFileUnder services_say frames bytes
+file_refused : (text : List Frame → List ℕ) (bytes : List ℕ) (frames : List Frame) (refusal : Refusal) (old new : Ends) → IsFileUnder caption_channel frames bytes
     → IsReadOf bytes old new → Stops text (IsRefusedWith refusal old.left) put.Done old new → ⊥
 file_refused text bytes frames refusal old new file read stops =
     let (rest, is) = known_judged old.left new.left bytes stops.judged stops.unjudged read.left stops.taken in
     elim stops.cause [
-      | inl offence ↦ file_has_no_offence services_say frames bytes refusal file
-          (subst (λ l. FirstOffendingWord services_say l refusal) (sym is) (offence_stays services_say stops.judged (stops.unjudged ++ rest) refusal offence))
-      | inr cut ↦ cut.1.no_file frames (subst (IsFileUnder services_say frames) (known_whole old.left bytes stops.judged read.left cut.0.0) file)
+      | inl offence ↦ file_has_no_offence caption_channel frames bytes refusal file
+          (subst (λ l. FirstOffendingWord caption_channel l refusal) (sym is) (offence_stays caption_channel stops.judged (stops.unjudged ++ rest) refusal offence))
+      | inr cut ↦ cut.1.no_file frames (subst (IsFileUnder caption_channel frames) (known_whole old.left bytes stops.judged read.left cut.0.0) file)
     ]
 
 -- the reading of a file doesn't stop before its end
-file_early : (text : List Frame → List ℕ) (bytes : List ℕ) (frames : List Frame) (old new : Ends) (answer : Status) → IsFileUnder services_say frames bytes
+file_early : (text : List Frame → List ℕ) (bytes : List ℕ) (frames : List Frame) (old new : Ends) (answer : Status) → IsFileUnder caption_channel frames bytes
     → length bytes ≤ words_limit → IsReadOf bytes old new → StopsEarly text old new answer → ⊥
 file_early text bytes frames old new status.ReadFault file within read stops = read.reads stops.0
 file_early text bytes frames old new status.WriteFault file within read stops = read.writes stops.1
@@ -87,7 +87,7 @@ file_early text bytes frames old new (status.Malformed (Byte place) why) file wi
 file_early text bytes frames old new _ file within read stops = stops
 
 -- a file is decoded
-pub file_decoded : (bytes : List ℕ) (frames : List Frame) (old new : Ends) (answer : Status) → IsFileUnder services_say frames bytes
+pub file_decoded : (bytes : List ℕ) (frames : List Frame) (old new : Ends) (answer : Status) → IsFileUnder caption_channel frames bytes
     → length bytes ≤ words_limit → IsReadOf bytes old new → DecodeAnswer old new answer → (answer ≡ status.Ok) ⊎ (answer ≡ status.Memory)
 file_decoded bytes frames old new status.Ok file within read answered = inl refl
 file_decoded bytes frames old new status.Memory file within read answered = inr refl
@@ -97,12 +97,12 @@ file_decoded bytes frames old new answer file within read answered = absurd (fil
 
 -- the frames of a file that was read to its end are those of the input
 known_frames : (bytes judged : List ℕ) (frames others : List Frame) (left : Option (List ℕ)) → left ≡ Some bytes → IfSome left (λ all. all ≡ judged)
-    → IsFileUnder services_say frames bytes → IsFileUnder services_say others judged → others ≡ frames
+    → IsFileUnder caption_channel frames bytes → IsFileUnder caption_channel others judged → others ≡ frames
 known_frames bytes judged frames others left known whole file other =
-    one_list others frames bytes (subst (λ l. IsFileUnder services_say others l) (sym (known_whole left bytes judged known whole)) other).file file.file
+    one_list others frames bytes (subst (λ l. IsFileUnder caption_channel others l) (sym (known_whole left bytes judged known whole)) other).file file.file
 
 -- a file is shown
-pub file_shown : (frame : ℕ) (bytes : List ℕ) (frames : List Frame) (old new : Ends) (answer : Status) → IsFileUnder services_say frames bytes
+pub file_shown : (frame : ℕ) (bytes : List ℕ) (frames : List Frame) (old new : Ends) (answer : Status) → IsFileUnder caption_channel frames bytes
     → length bytes ≤ words_limit → IsReadOf bytes old new → ShowAnswer frame old new answer → IsShown frame (length frames) answer ⊎ (answer ≡ status.Memory)
 file_shown frame bytes frames old new status.Ok file within read (steady, stops) =
     let ((whole, is_file), below) = stops.cause in
@@ -117,15 +117,15 @@ file_shown frame bytes frames old new status.Memory file within read answered = 
 file_shown frame bytes frames old new answer file within read answered = absurd (file_early (show_output frame) bytes frames old new answer file within read answered)
 
 -- what is malformed is no file
-pub malformed_no_file : (bytes : List ℕ) (refusal : Refusal) (frames : List Frame) → IsMalformed services_say bytes refusal → IsFileUnder services_say frames bytes → ⊥
-malformed_no_file bytes refusal frames (inl offence) file = file_has_no_offence services_say frames bytes refusal file offence
+pub malformed_no_file : (bytes : List ℕ) (refusal : Refusal) (frames : List Frame) → IsMalformed caption_channel bytes refusal → IsFileUnder caption_channel frames bytes → ⊥
+malformed_no_file bytes refusal frames (inl offence) file = file_has_no_offence caption_channel frames bytes refusal file offence
 malformed_no_file bytes refusal frames (inr cut) file = cut.no_file frames file
 
 -- bytes are malformed in one way
-pub one_malformed : (bytes : List ℕ) (refusal other : Refusal) → IsMalformed services_say bytes refusal → IsMalformed services_say bytes other → refusal ≡ other
-one_malformed bytes refusal other (inl offence) (inl more) = offence_is_one services_say bytes refusal other offence more
-one_malformed bytes refusal other (inl offence) (inr cut) = absurd (cut_short_has_no_offence services_say bytes other refusal cut offence)
-one_malformed bytes refusal other (inr cut) (inl offence) = absurd (cut_short_has_no_offence services_say bytes refusal other cut offence)
+pub one_malformed : (bytes : List ℕ) (refusal other : Refusal) → IsMalformed caption_channel bytes refusal → IsMalformed caption_channel bytes other → refusal ≡ other
+one_malformed bytes refusal other (inl offence) (inl more) = offence_is_once bytes refusal other offence more
+one_malformed bytes refusal other (inl offence) (inr cut) = absurd (cut_short_has_no_offence caption_channel bytes other refusal cut offence)
+one_malformed bytes refusal other (inr cut) (inl offence) = absurd (cut_short_has_no_offence caption_channel bytes refusal other cut offence)
 one_malformed bytes refusal other (inr cut) (inr more) = same_refusal refusal other (cut.place_is ∙ sym more.place_is) (cut.why_is ∙ sym more.why_is)
   where
     same_refusal : (one other : Refusal) → one.place ≡ other.place → one.why ≡ other.why → one ≡ other
@@ -134,24 +134,24 @@ one_malformed bytes refusal other (inr cut) (inr more) = same_refusal refusal ot
 
 -- where a run refused, its whole input is malformed so
 refused_so : (text : List Frame → List ℕ) (bytes : List ℕ) (refusal : Refusal) (old new : Ends) → IsReadOf bytes old new
-    → Stops text (IsRefusedWith refusal old.left) put.Done old new → IsMalformed services_say bytes refusal
+    → Stops text (IsRefusedWith refusal old.left) put.Done old new → IsMalformed caption_channel bytes refusal
 refused_so text bytes refusal old new read stops =
     let (rest, is) = known_judged old.left new.left bytes stops.judged stops.unjudged read.left stops.taken in
     elim stops.cause [
-      | inl offence ↦ inl (subst (λ l. FirstOffendingWord services_say l refusal) (sym is) (offence_stays services_say stops.judged (stops.unjudged ++ rest) refusal offence))
-      | inr cut ↦ inr (subst (λ l. IsCutShort services_say l refusal) (sym (known_whole old.left bytes stops.judged read.left cut.0.0)) cut.1)
+      | inl offence ↦ inl (subst (λ l. FirstOffendingWord caption_channel l refusal) (sym is) (offence_stays caption_channel stops.judged (stops.unjudged ++ rest) refusal offence))
+      | inr cut ↦ inr (subst (λ l. IsCutShort caption_channel l refusal) (sym (known_whole old.left bytes stops.judged read.left cut.0.0)) cut.1)
     ]
 
 -- a file was read to its end, so the input isn't malformed
-read_unmalformed : (text : List Frame → List ℕ) (bytes : List ℕ) (refusal : Refusal) (answer : Put) (old new : Ends) → IsMalformed services_say bytes refusal → IsReadOf bytes old new
+read_unmalformed : (text : List Frame → List ℕ) (bytes : List ℕ) (refusal : Refusal) (answer : Put) (old new : Ends) → IsMalformed caption_channel bytes refusal → IsReadOf bytes old new
     → Stops text (IsWholeFile old.left) answer old new → ⊥
 read_unmalformed text bytes refusal answer old new malformed read stops =
     let (whole, is_file) = stops.cause in
     malformed_no_file bytes refusal stops.frames malformed
-    (subst (λ l. IsFileUnder services_say stops.frames l) (sym (known_whole old.left bytes stops.judged read.left whole.0)) is_file)
+    (subst (λ l. IsFileUnder caption_channel stops.frames l) (sym (known_whole old.left bytes stops.judged read.left whole.0)) is_file)
 
 -- what stops early for a malformed input is its refusal
-malformed_early : (text : List Frame → List ℕ) (bytes : List ℕ) (refusal : Refusal) (old new : Ends) (answer : Status) → IsMalformed services_say bytes refusal
+malformed_early : (text : List Frame → List ℕ) (bytes : List ℕ) (refusal : Refusal) (old new : Ends) (answer : Status) → IsMalformed caption_channel bytes refusal
     → length bytes ≤ words_limit → IsReadOf bytes old new → StopsEarly text old new answer → answer ≡ status.Malformed (Byte refusal.place) refusal.why
 malformed_early text bytes refusal old new status.ReadFault malformed within read stops = absurd (read.reads stops.0)
 malformed_early text bytes refusal old new status.WriteFault malformed within read stops = absurd (read.writes stops.1)
@@ -161,7 +161,7 @@ malformed_early text bytes refusal old new (status.Malformed (Byte place) why) m
     (one_malformed bytes (record { place = place; why = why }) refusal (refused_so text bytes (record { place = place; why = why }) old new read stops.1) malformed)
 malformed_early text bytes refusal old new _ malformed within read stops = absurd stops
 
-pub decode_refused : (bytes : List ℕ) (refusal : Refusal) (old new : Ends) (answer : Status) → IsMalformed services_say bytes refusal → length bytes ≤ words_limit → IsReadOf bytes old new
+pub decode_refused : (bytes : List ℕ) (refusal : Refusal) (old new : Ends) (answer : Status) → IsMalformed caption_channel bytes refusal → length bytes ≤ words_limit → IsReadOf bytes old new
     → DecodeAnswer old new answer → (answer ≡ status.Malformed (Byte refusal.place) refusal.why) ⊎ (answer ≡ status.Memory)
 decode_refused bytes refusal old new status.Ok malformed within read answered =
     absurd (read_unmalformed decode_output bytes refusal put.Done old new malformed read answered.1)
@@ -170,7 +170,7 @@ decode_refused bytes refusal old new status.WriteFault malformed within read (in
 decode_refused bytes refusal old new status.WriteFault malformed within read (inr answered) = absurd (read.writes answered.1)
 decode_refused bytes refusal old new answer malformed within read answered = inl (malformed_early changes_of bytes refusal old new answer malformed within read answered)
 
-pub show_refused : (frame : ℕ) (bytes : List ℕ) (refusal : Refusal) (old new : Ends) (answer : Status) → IsMalformed services_say bytes refusal → length bytes ≤ words_limit → IsReadOf bytes old new
+pub show_refused : (frame : ℕ) (bytes : List ℕ) (refusal : Refusal) (old new : Ends) (answer : Status) → IsMalformed caption_channel bytes refusal → length bytes ≤ words_limit → IsReadOf bytes old new
     → ShowAnswer frame old new answer → (answer ≡ status.Malformed (Byte refusal.place) refusal.why) ⊎ (answer ≡ status.Memory)
 show_refused frame bytes refusal old new status.Ok malformed within read answered =
     absurd (read_unmalformed (show_output frame) bytes refusal put.Done old new malformed read

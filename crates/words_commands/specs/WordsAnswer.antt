@@ -8,9 +8,9 @@ use Rattle.cc_base.specs.declared.refusal.Refusal.{Refusal}
 use Rattle.cc_base.specs.declared.streams.Put.{Put}
 use Rattle.cc_base.specs.declared.streams.Put.TheVariants as put
 use Rattle.cdp_packets.specs.Packets.{Packet as Frame}
-use Rattle.services_files.specs.Services.{services_say}
 use Rattle.words_files.specs.FramesOf.{AreFramesOf}
 use Rattle.words_files.specs.Offences.{FirstOffendingWord, IsCutShort, IsFileUnder, IsUnoffending}
+use Rattle.services_files.specs.CaptionChannel.{caption_channel}
 use Rattle.command_base.specs.Ends.{Ends}
 use Rattle.words_commands.specs.Screens.{changes_of, decode_output, show_output}
 use Rattle.command_base.specs.declared.status.Place.TheVariants.{Byte}
@@ -38,7 +38,7 @@ pub record Stops (text : List Frame → List ℕ) (Why : Cause) (answer : Put) (
   pub unjudged : List ℕ
   pub taken : Consumes old.left new.left (judged ++ unjudged)
   pub within : length judged ≤ words_limit
-  pub frames_are : AreFramesOf services_say frames judged
+  pub frames_are : AreFramesOf caption_channel frames judged
   pub cause : Why frames judged unjudged
   pub output : Puts old.written new.written answer (text frames)
 
@@ -48,20 +48,20 @@ IsWholeInput left judged unjudged = IfSome left (λ bytes. bytes ≡ judged) × 
 
 -- the whole input is a words file of the frames
 abbrev pub IsWholeFile : Option (List ℕ) → Cause
-IsWholeFile left frames judged unjudged = IsWholeInput left judged unjudged × IsFileUnder services_say frames judged
+IsWholeFile left frames judged unjudged = IsWholeInput left judged unjudged × IsFileUnder caption_channel frames judged
 
 -- no word of the bytes taken offends
 abbrev pub HasNoOffence : Cause
-HasNoOffence frames judged unjudged = (unjudged ≡ []) × IsUnoffending services_say judged
+HasNoOffence frames judged unjudged = (unjudged ≡ []) × IsUnoffending caption_channel judged
 
 -- there is a byte past the limit, and no word within it offends
 abbrev pub PassesLimit : Cause
-PassesLimit frames judged unjudged = (length judged ≡ words_limit) × (0 < length unjudged) × IsUnoffending services_say judged
+PassesLimit frames judged unjudged = (length judged ≡ words_limit) × (0 < length unjudged) × IsUnoffending caption_channel judged
 
 -- a word offends, or the whole input is cut short
 abbrev pub IsRefusedWith : Refusal → Option (List ℕ) → Cause
 IsRefusedWith refusal left frames judged unjudged =
-    FirstOffendingWord services_say judged refusal ⊎ (IsWholeInput left judged unjudged × IsCutShort services_say judged refusal)
+    FirstOffendingWord caption_channel judged refusal ⊎ (IsWholeInput left judged unjudged × IsCutShort caption_channel judged refusal)
 
 -- nothing more is said
 abbrev pub IsAnyhow : Cause

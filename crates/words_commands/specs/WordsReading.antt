@@ -8,9 +8,9 @@ use Rattle.cc_receiver.specs.Receivers.{HasReceived, frame_count}
 use Rattle.cc_receiver.specs.declared.receiver.Fed.{Fed}
 use Rattle.cc_receiver.specs.declared.receiver.Receiver.{Receiver}
 use Rattle.cdp_packets.specs.Packets.{Packet as Frame}
-use Rattle.services_files.specs.Services.{services_say}
 use Rattle.words_files.specs.FramesOf.{AreFramesOf}
 use Rattle.words_files.specs.Offences.{FirstOffendingWord, IsCutShort, IsFileUnder, IsUnoffending}
+use Rattle.services_files.specs.CaptionChannel.{caption_channel}
 use Rattle.command_base.specs.Ends.{Ends}
 use Rattle.text_output.specs.Gathered.{IsGathered, held_of}
 use Rattle.words_commands.specs.Printing.{Prints}
@@ -32,7 +32,7 @@ pub record MayBeFed (receiver : Receiver) (more : ℕ) : Type 0 where
 -- a receiver read a front of the bytes behind those before: it stopped behind the end of a packet, or read all of them
 pub record HasRead (before bytes : List ℕ) (old new : Receiver) (fed : Fed) : Type 0 where
   pub received : HasReceived (before ++ take fed.used bytes) new
-  pub unoffending : IsUnoffending services_say (before ++ take fed.used bytes)
+  pub unoffending : IsUnoffending caption_channel (before ++ take fed.used bytes)
   pub within : fed.used ≤ length bytes
   pub moves : 0 < length bytes → 0 < fed.used
   pub counts : Counts (frame_count old) (frame_count new) fed.ended
@@ -42,8 +42,8 @@ pub record HasJudged (text : List Frame → List ℕ) (start now : Option (List 
   pub frames : List Frame
   pub received : HasReceived bytes reading.receiver
   pub few : frame_count reading.receiver ≤ length bytes
-  pub unoffending : IsUnoffending services_say bytes
-  pub frames_are : AreFramesOf services_say frames bytes
+  pub unoffending : IsUnoffending caption_channel bytes
+  pub frames_are : AreFramesOf caption_channel frames bytes
   pub prints : Prints text frames reading.printer
   pub way : IsGathered start now (held_of reading.text) (text frames)
 
@@ -55,8 +55,8 @@ pub record HasPut (text : List Frame → List ℕ) (start now : Option (List ℕ
 -- a word of the bytes offends, and the text of the frames before it was gathered
 pub record HasOffended (text : List Frame → List ℕ) (start now : Option (List ℕ)) (bytes held : List ℕ) (refusal : Refusal) : Type 0 where
   pub frames : List Frame
-  pub offends : FirstOffendingWord services_say bytes refusal
-  pub frames_are : AreFramesOf services_say frames bytes
+  pub offends : FirstOffendingWord caption_channel bytes refusal
+  pub frames_are : AreFramesOf caption_channel frames bytes
   pub way : IsGathered start now held (text frames)
 
 -- a put of the text of the frames that a front of the bytes brought failed
@@ -65,14 +65,14 @@ pub record HasFailed (text : List Frame → List ℕ) (start now : Option (List 
   pub judged : List ℕ
   pub unjudged : List ℕ
   pub spelled : bytes ≡ judged ++ unjudged
-  pub frames_are : AreFramesOf services_say frames judged
+  pub frames_are : AreFramesOf caption_channel frames judged
   pub output : Puts start now put.Failed (text frames)
 
 -- what a receiver answers for more bytes behind these
 abbrev pub Receives : List ℕ → List ℕ → Receiver → Receiver → Result Fed Refusal → Type 0
 Receives before bytes old new (Ok fed) = HasRead before bytes old new fed
 Receives before bytes old new (Err refusal) =
-    HasReceived (before ++ bytes) new × FirstOffendingWord services_say (before ++ bytes) refusal × (frame_count new ≡ frame_count old)
+    HasReceived (before ++ bytes) new × FirstOffendingWord caption_channel (before ++ bytes) refusal × (frame_count new ≡ frame_count old)
 
 -- a reading stopped in these bytes
 abbrev pub HasStopped : (List Frame → List ℕ) → Option (List ℕ) → Option (List ℕ) → List ℕ → List ℕ → Stop → Type 0
@@ -117,6 +117,6 @@ ReadsWords text old new (Err answer) = StopsEarly text old new answer
 
 -- the bytes fed are a words file of so many frames, or they are cut short
 abbrev pub EndsAt : List ℕ → Receiver → Result ℕ Stop → Type 0
-EndsAt bytes receiver (Ok count) = (count ≡ frame_count receiver) × ((frames : List Frame) × IsFileUnder services_say frames bytes)
-EndsAt bytes receiver (Err (stop.Refused refusal)) = IsCutShort services_say bytes refusal
+EndsAt bytes receiver (Ok count) = (count ≡ frame_count receiver) × ((frames : List Frame) × IsFileUnder caption_channel frames bytes)
+EndsAt bytes receiver (Err (stop.Refused refusal)) = IsCutShort caption_channel bytes refusal
 EndsAt bytes receiver (Err stop.Unwritten) = ⊥

@@ -3,8 +3,8 @@
 use Rattle.std.specs.Prelude.{◌≡◌, ◌<◌, ◌≤◌, ◌⊎◌, ℕ, List, take}
 use Rattle.cc_base.specs.declared.limit_of.LimitOf.TheVariants as limit
 use Rattle.cc_base.specs.declared.refusal.Refusal.{Refusal}
-use Rattle.services_files.specs.Services.{services_say}
 use Rattle.words_files.specs.Offences.{FirstOffendingWord, IsUnoffending}
+use Rattle.services_files.specs.CaptionChannel.{caption_channel}
 use Rattle.command_base.specs.declared.status.Place.TheVariants.{Byte}
 use Rattle.command_base.specs.declared.status.Status.{Status}
 use Rattle.command_base.specs.declared.status.Status.TheVariants as status
@@ -17,6 +17,6 @@ IsShown frame count answer = ((frame < count) × (answer ≡ status.Ok)) ⊎ ((c
 -- an input past the limit is malformed where a word within the limit offends, and else it passes the limit
 abbrev pub IsPastLimit : List ℕ → Status → Type 0
 IsPastLimit bytes answer =
-    ((refusal : Refusal) × FirstOffendingWord services_say (take words_limit bytes) refusal
+    ((refusal : Refusal) × FirstOffendingWord caption_channel (take words_limit bytes) refusal
     × (answer ≡ status.Malformed (Byte refusal.place) refusal.why))
-    ⊎ (IsUnoffending services_say (take words_limit bytes) × (answer ≡ status.Limit limit.Bytes))
+    ⊎ (IsUnoffending caption_channel (take words_limit bytes) × (answer ≡ status.Limit limit.Bytes))

@@ -4,8 +4,8 @@ ghost use Rattle.cdp_packets.specs.Packets.{Packet as Frame};
 ghost use Rattle.cc_receiver.specs.Receivers.{HasReceived, frame_count};
 ghost use Rattle.text_output.specs.Gathered.{GathersText, IsGathered, held_of};
 ghost use Rattle.words_commands.specs.Printing.{Prints};
-ghost use Rattle.services_files.specs.Services.{services_say};
 ghost use Rattle.words_files.specs.FramesOf.{AreFramesOf};
+ghost use Rattle.services_files.specs.CaptionChannel.{caption_channel};
 
 use cc_base::{Put, Sink};
 use cc_receiver::Receiver;
@@ -32,9 +32,9 @@ impl Printer {
     ) -> Put
         requires { 0 < frame_count receiver.now }
         ensures prints { (texts : List Frame → List ℕ) (bytes : List ℕ) (frames : List Frame) (next : Frame) → Prints texts frames self.old
-            → HasReceived bytes receiver.now → AreFramesOf services_say (frames ++ next ∷ []) bytes → Prints texts (frames ++ next ∷ []) self.new }
+            → HasReceived bytes receiver.now → AreFramesOf caption_channel (frames ++ next ∷ []) bytes → Prints texts (frames ++ next ∷ []) self.new }
         ensures text { (texts : List Frame → List ℕ) (start : Option (List ℕ)) (bytes : List ℕ) (frames : List Frame) (next : Frame)
-            → Prints texts frames self.old → HasReceived bytes receiver.now → AreFramesOf services_say (frames ++ next ∷ []) bytes
+            → Prints texts frames self.old → HasReceived bytes receiver.now → AreFramesOf caption_channel (frames ++ next ∷ []) bytes
             → frame ≡ length frames → IsGathered start (O.written out.old) (held_of text.old) (texts frames)
             → GathersText start (O.written out.new) (held_of text.new) (texts (frames ++ next ∷ [])) result }
         ensures cause { PutCause (O.faults out.old) (O.faults out.new) result }

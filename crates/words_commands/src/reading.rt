@@ -1,8 +1,8 @@
 ghost use Rattle.std.specs.Prelude.{◌≡◌, ◌<◌, ◌≤◌, ◌+◌, ◌-◌, ◌++◌, ℕ, List, [], Option, length, IfOk};
 ghost use Rattle.cc_receiver.specs.Receivers.{HasReceived};
 ghost use Rattle.cdp_packets.specs.Packets.{Packet as Frame};
-ghost use Rattle.services_files.specs.Services.{services_say};
 ghost use Rattle.words_files.specs.Offences.{IsUnoffending};
+ghost use Rattle.services_files.specs.CaptionChannel.{caption_channel};
 ghost use Rattle.words_commands.specs.Printing.{Prints};
 ghost use Rattle.words_commands.specs.WordsAnswer.{words_limit};
 ghost use Rattle.words_commands.specs.WordsReading.{EndsAt, HasJudged, HasPut, Judges, JudgesAndPuts, MayBeFed, Receives, StepJudges, StopCause, stop_status};
@@ -144,7 +144,7 @@ impl Reading {
 
     /// Says whether the bytes may end here, and gives the number of their frames.
     pub fn end(&self) -> Result<u32, Stop>
-        ensures { (bytes : List ℕ) → HasReceived bytes self.now.receiver → IsUnoffending services_say bytes
+        ensures { (bytes : List ℕ) → HasReceived bytes self.now.receiver → IsUnoffending caption_channel bytes
             → EndsAt bytes self.now.receiver result }
     {
         match self.receiver.finish() {

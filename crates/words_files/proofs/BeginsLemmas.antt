@@ -22,7 +22,8 @@ use Rattle.cdp_packets.specs.PacketParts.{packet_parts}
 use Rattle.cdp_packets.specs.Packets.{Packet as Frame}
 use Rattle.words_files.specs.Catching.{Caught, caught_after, caught_of, refusal_of}
 use Rattle.words_files.specs.Frames.{CarryFrames}
-use Rattle.words_files.specs.Offences.{AreWholeWords, Begins, TakesFilling}
+use Rattle.words_files.specs.Offences.{AreWholeWords, Begins}
+use Rattle.words_files.specs.Verdicts.{TakesFilling, layers_of}
 use Rattle.words_files.proofs.CatchingLemmas.{caught_read, handed-packets, idle, unrefused_first}
 use Rattle.words_files.proofs.CaughtLemmas.{newest_first, packets_caught, packets_kept}
 use Rattle.words_files.proofs.FinishLemmas.{Finishes, finishes}
@@ -41,7 +42,7 @@ parts-split bytes whole behind packets spelled are =
 -- whole packets that carry frames, and the begin of one that goes on to packets, begin a file
 begins_by : (v : Verdict CdpPart) (bytes whole behind : List ℕ) (packets : List AncillaryPacket) (frames : List Frame) → AreWords bytes (whole ++ behind)
     → ArePackets packets whole → CarryFrames packets frames → AreAccepted v [] (flat_map packet_parts frames)
-    → Finishes v (newest_first frames) behind → Begins v bytes
+    → Finishes v (newest_first frames) behind → Begins (layers_of v) bytes
 begins_by v bytes whole behind packets frames spelled are carried accepted rest =
     let words : whole ++ (behind ++ rest.more) ≡ (whole ++ behind) ++ rest.more = sym (append_assoc whole behind rest.more) in
     let (_, small) = All-split (λ word. word < 1024) behind rest.more (packets-ten_bits rest.packets (behind ++ rest.more) rest.are) in
@@ -62,7 +63,7 @@ begins_by v bytes whole behind packets frames spelled are carried accepted rest 
 
 -- whole words that aren't refused begin a file
 pub goes_on : (v : Verdict CdpPart) → TakesFilling v → (bytes : List ℕ) → All (λ byte. byte < 256) bytes → AreWholeWords bytes → refusal_of v bytes ≡ None
-    → Begins v bytes
+    → Begins (layers_of v) bytes
 goes_on v takes bytes are whole unrefused =
     let (read, kept_all) = caught_read v bytes unrefused in
     let behind = front_from words_after [] (words_of bytes) in

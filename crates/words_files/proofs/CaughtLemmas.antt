@@ -21,6 +21,7 @@ use Rattle.cdp_packets.proofs.SoundLemmas.{sound}
 use Rattle.words_files.specs.Catching.{Caught, caught_after, caught_in, caught_of, is_packet_length, refusal_of, verdict_behind}
 use Rattle.words_files.specs.Frames.{CarryFrames, none, caption, foreign}
 use Rattle.words_files.specs.Offences.{IsFileUnder}
+use Rattle.words_files.specs.Verdicts.{layers_of}
 use Rattle.words_files.proofs.CatchingLemmas.{accepted_behind, behind_accepted, caught_read, foreign_users, handed, handed-cons, idle, lows, open_of, opened, read_caught, unrefused_before, unrefused_first, users_caught, users_kept}
 
 -- the identifiers are those of captions
@@ -214,7 +215,7 @@ packets_kept v before (p ∷ packets) unrefused =
     ] in cases _ refl
 
 -- a file is caught to its end, with the parts of its frames
-pub file_caught : (v : Verdict CdpPart) (frames : List Frame) (bytes : List ℕ) → IsFileUnder v frames bytes
+pub file_caught : (v : Verdict CdpPart) (frames : List Frame) (bytes : List ℕ) → IsFileUnder (layers_of v) frames bytes
     → (caught_in v bytes ≡ record { open_caption = None; frames = reverse (map packet_parts frames); refused = None }) × (refusal_of v bytes ≡ None)
 file_caught v frames bytes is =
     let reads = file_is_read is.file.packets bytes is.file.file in
@@ -225,7 +226,7 @@ file_caught v frames bytes is =
 
 -- bytes that aren't refused, and leave nothing open, are a file
 pub caught_file : (v : Verdict CdpPart) (bytes : List ℕ) → All (λ byte. byte < 256) bytes → refusal_of v bytes ≡ None → open_behind anc_syntax bytes ≡ no_word
-    → (frames : List Frame) × IsFileUnder v frames bytes
+    → (frames : List Frame) × IsFileUnder (layers_of v) frames bytes
 caught_file v bytes are unrefused nothing =
     let (read, kept_all) = caught_read v bytes unrefused in
     let (packets, file) = what_is_read_is_file bytes are read nothing in

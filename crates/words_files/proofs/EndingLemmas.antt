@@ -10,17 +10,19 @@ use Rattle.anc_words.proofs.ByteLemmas.{file_is_read}
 use Rattle.cdp_packets.specs.declared.parts.CdpPart.{CdpPart}
 use Rattle.cdp_packets.specs.Packets.{Packet as Frame}
 use Rattle.words_files.specs.Catching.{refusal_of}
-use Rattle.words_files.specs.Offences.{AreWholeWords, FirstOffendingWord, IsCutShort, IsFileUnder, TakesFilling}
+use Rattle.words_files.specs.Offences.{AreWholeWords, FirstOffendingWord, IsCutShort, IsFileUnder}
+use Rattle.words_files.specs.Layers.{Layers}
+use Rattle.words_files.specs.Verdicts.{TakesFilling, layers_of}
 use Rattle.words_files.proofs.CaughtLemmas.{caught_file}
 use Rattle.words_files.proofs.OffenceLemmas.{past_offence, refused_offends, unoffending_is_unrefused, unrefused_is_unoffending}
 use Rattle.words_files.proofs.WordLemmas.{AreWords-whole}
 
 -- the bytes of a file are whole words, and leave nothing open
-pub file_whole : (v : Verdict CdpPart) (frames : List Frame) (bytes : List ℕ) → IsFileUnder v frames bytes → AreWholeWords bytes
-file_whole v frames bytes is = AreWords-whole bytes is.file.file.words is.file.file.spelled
+pub file_whole : (layers : Layers) (frames : List Frame) (bytes : List ℕ) → IsFileUnder layers frames bytes → AreWholeWords bytes
+file_whole layers frames bytes is = AreWords-whole bytes is.file.file.words is.file.file.spelled
 
-pub file_closed : (v : Verdict CdpPart) (frames : List Frame) (bytes : List ℕ) → IsFileUnder v frames bytes → open_behind anc_syntax bytes ≡ nothing_open
-file_closed v frames bytes is = (file_is_read is.file.packets bytes is.file.file).leads
+pub file_closed : (layers : Layers) (frames : List Frame) (bytes : List ℕ) → IsFileUnder layers frames bytes → open_behind anc_syntax bytes ≡ nothing_open
+file_closed layers frames bytes is = (file_is_read is.file.packets bytes is.file.file).leads
 
 -- where the bytes are cut short
 abbrev pub truncated : List ℕ → Refusal
@@ -28,16 +30,16 @@ truncated bytes = record { place = length bytes % 2 ^ 64; why = why.Truncated }
 
 -- bytes that aren't refused and leave something open are cut short
 pub open_is_cut_short : (v : Verdict CdpPart) → TakesFilling v → (bytes : List ℕ) → All (λ byte. byte < 256) bytes → refusal_of v bytes ≡ None
-    → (open_behind anc_syntax bytes ≡ nothing_open → ⊥) → IsCutShort v bytes (truncated bytes)
+    → (open_behind anc_syntax bytes ≡ nothing_open → ⊥) → IsCutShort (layers_of v) bytes (truncated bytes)
 open_is_cut_short v takes bytes are none opens = record {
   unoffending = unrefused_is_unoffending v takes bytes are none;
-  no_file = λ frames is. opens (file_closed v frames bytes is);
+  no_file = λ frames is. opens (file_closed (layers_of v) frames bytes is);
   place_is = refl;
   why_is = refl;
 }
 
 -- and the other way round
-pub cut_short_is_open : (v : Verdict CdpPart) (bytes : List ℕ) (refusal : Refusal) → All (λ byte. byte < 256) bytes → IsCutShort v bytes refusal
+pub cut_short_is_open : (v : Verdict CdpPart) (bytes : List ℕ) (refusal : Refusal) → All (λ byte. byte < 256) bytes → IsCutShort (layers_of v) bytes refusal
     → (refusal_of v bytes ≡ None) × (open_behind anc_syntax bytes ≡ nothing_open → ⊥) × (refusal ≡ truncated bytes)
 cut_short_is_open v bytes refusal are is =
     let none = unoffending_is_unrefused v bytes is.unoffending in (
@@ -61,10 +63,10 @@ nothing_or_some front =
 
 -- bytes are a file, cut short, or have an offending word
 pub each_ends : (v : Verdict CdpPart) → TakesFilling v → (bytes : List ℕ) → All (λ byte. byte < 256) bytes
-    → ((frames : List Frame) × IsFileUnder v frames bytes) ⊎ (((refusal : Refusal) × IsCutShort v bytes refusal) ⊎ ((refusal : Refusal) × FirstOffendingWord v bytes refusal))
+    → ((frames : List Frame) × IsFileUnder (layers_of v) frames bytes) ⊎ (((refusal : Refusal) × IsCutShort (layers_of v) bytes refusal) ⊎ ((refusal : Refusal) × FirstOffendingWord (layers_of v) bytes refusal))
 each_ends v takes bytes are =
     let cases : (r : Option Refusal) → refusal_of v bytes ≡ r
-    → ((frames : List Frame) × IsFileUnder v frames bytes) ⊎ (((refusal : Refusal) × IsCutShort v bytes refusal) ⊎ ((refusal : Refusal) × FirstOffendingWord v bytes refusal)) = elim [
+    → ((frames : List Frame) × IsFileUnder (layers_of v) frames bytes) ⊎ (((refusal : Refusal) × IsCutShort (layers_of v) bytes refusal) ⊎ ((refusal : Refusal) × FirstOffendingWord (layers_of v) bytes refusal)) = elim [
       | None ↦ λ none. elim (nothing_or_some (open_behind anc_syntax bytes)) [
         | inl nothing ↦ inl (caught_file v bytes are none nothing)
         | inr some ↦ inr (inl (truncated bytes, open_is_cut_short v takes bytes are none some))
@@ -73,21 +75,21 @@ each_ends v takes bytes are =
     ] in cases _ refl
 
 -- never two of these
-pub file_has_no_offence : (v : Verdict CdpPart) (frames : List Frame) (bytes : List ℕ) (refusal : Refusal) → IsFileUnder v frames bytes → FirstOffendingWord v bytes refusal → ⊥
-file_has_no_offence v frames bytes refusal file has =
+pub file_has_no_offence : (layers : Layers) (frames : List Frame) (bytes : List ℕ) (refusal : Refusal) → IsFileUnder layers frames bytes → FirstOffendingWord layers bytes refusal → ⊥
+file_has_no_offence layers frames bytes refusal file has =
     let long = ap length has.spelled ∙ length-append has.before (has.high ∷ has.low ∷ has.rest) in
-    past_offence v bytes [] bytes refusal has (append-nil bytes) (omega (arith, long))
-    (record { more = []; frames = frames; is_file = subst (IsFileUnder v frames) (sym (append-nil bytes)) file })
+    past_offence layers bytes [] bytes refusal has (append-nil bytes) (omega (arith, long))
+    (record { more = []; frames = frames; is_file = subst (IsFileUnder layers frames) (sym (append-nil bytes)) file })
 
-pub cut_short_has_no_offence : (v : Verdict CdpPart) (bytes : List ℕ) (refusal other : Refusal) → IsCutShort v bytes refusal → FirstOffendingWord v bytes other → ⊥
-cut_short_has_no_offence v bytes refusal other cut has =
+pub cut_short_has_no_offence : (layers : Layers) (bytes : List ℕ) (refusal other : Refusal) → IsCutShort layers bytes refusal → FirstOffendingWord layers bytes other → ⊥
+cut_short_has_no_offence layers bytes refusal other cut has =
     let is = cut.unoffending in
     let long = sym (length-append is.words is.half) ∙ ap length (sym is.spelled ∙ has.spelled) ∙ length-append has.before (has.high ∷ has.low ∷ has.rest) in
-    past_offence v is.words is.half bytes other has (sym is.spelled) (omega (arith, long, is.single, is.whole, has.whole)) is.begins
+    past_offence layers is.words is.half bytes other has (sym is.spelled) (omega (arith, long, is.single, is.whole, has.whole)) is.begins
 
 -- an offence is one, whatever bytes follow
-pub offence_stays : (v : Verdict CdpPart) (bytes more : List ℕ) (refusal : Refusal) → FirstOffendingWord v bytes refusal → FirstOffendingWord v (bytes ++ more) refusal
-offence_stays v bytes more refusal has = record {
+pub offence_stays : (layers : Layers) (bytes more : List ℕ) (refusal : Refusal) → FirstOffendingWord layers bytes refusal → FirstOffendingWord layers (bytes ++ more) refusal
+offence_stays layers bytes more refusal has = record {
   before = has.before;
   high = has.high;
   low = has.low;

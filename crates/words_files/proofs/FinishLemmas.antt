@@ -27,7 +27,7 @@ use Rattle.cdp_packets.specs.Reading.{IsPacketLength, cdp_syntax, judge_cdp, not
 use Rattle.cdp_packets.proofs.FillLemmas.{goes_on}
 use Rattle.words_files.specs.Catching.{Caught, caught_after}
 use Rattle.words_files.specs.Frames.{CarryFrames, none, caption, foreign}
-use Rattle.words_files.specs.Offences.{TakesFilling}
+use Rattle.words_files.specs.Verdicts.{TakesFilling}
 use Rattle.words_files.proofs.CatchingLemmas.{accepted_behind, handed, idle, lows, unrefused_before, users_kept}
 use Rattle.words_files.proofs.CaughtLemmas.{begun_length, caption_begun, captions-is, captions-no, carried_read, has_captions}
 

@@ -1,17 +1,16 @@
 -- The frames that bytes have brought: every list of bytes has some, they are one list, and more bytes bring more.
 use Rattle.std.proofs.Common.{◌≡◌, ℕ, ◌⊎◌, inl, inr, List, [], ◌∷◌, ◌++◌, length, refl, ap, sym, subst, ◌∙◌, append_assoc, append-nil, length-append, arith}
-use Rattle.cc_base.specs.Feeding.{Verdict}
 use Rattle.anc_words.specs.Packets.{AncillaryPacket}
 use Rattle.anc_words.specs.WordsFiles.{IsPacketBytes, IsWordsFile}
 use Rattle.anc_words.proofs.PacketLemmas.{IsPacketBytes-unique}
 use Rattle.anc_words.proofs.WordsFileLemmas.{IsWordsFile-first}
-use Rattle.cdp_packets.specs.declared.parts.CdpPart.{CdpPart}
 use Rattle.cdp_packets.specs.Packets.{Packet as Frame}
 use Rattle.cdp_packets.proofs.SectionLemmas.{split_same}
 use Rattle.words_files.specs.Frames.{CarryFrames, IsFileOf, none, caption, foreign}
 use Rattle.anc_words.specs.Words.{AreWords}
 use Rattle.words_files.specs.FramesOf.{AreFramesOf}
 use Rattle.words_files.specs.Offences.{IsFileUnder}
+use Rattle.words_files.specs.Layers.{Layers}
 use Rattle.words_files.proofs.FrameLemmas.{carry_once, one_list}
 use Rattle.words_files.proofs.WordLemmas.{front_of}
 
@@ -88,17 +87,17 @@ carry_front _ rest _ _ (foreign packet packets frames isnt behind) (foreign _ _ 
     carry_front packets rest frames others behind whole
 
 -- the frames of bytes are one list
-pub frames_of_once : (v : Verdict CdpPart) (frames others : List Frame) (bytes : List ℕ) → AreFramesOf v frames bytes → AreFramesOf v others bytes → frames ≡ others
-frames_of_once v frames others bytes are also =
+pub frames_of_once : (layers : Layers) (frames others : List Frame) (bytes : List ℕ) → AreFramesOf layers frames bytes → AreFramesOf layers others bytes → frames ≡ others
+frames_of_once layers frames others bytes are also =
     let most = also.longest frames are.file are.behind are.spelled are.is_file in
     let least = are.longest others also.file also.behind also.spelled also.is_file in
     let same = split_same are.file also.file are.behind also.behind (omega (arith, most, least)) (sym are.spelled ∙ also.spelled) in
     one_list frames others are.file are.is_file.file (subst (IsFileOf others) (sym same.heads) also.is_file.file)
 
 -- more bytes bring these frames and more
-pub frames_grow : (v : Verdict CdpPart) (frames others : List Frame) (bytes more : List ℕ) → AreFramesOf v frames bytes → AreFramesOf v others (bytes ++ more)
+pub frames_grow : (layers : Layers) (frames others : List Frame) (bytes more : List ℕ) → AreFramesOf layers frames bytes → AreFramesOf layers others (bytes ++ more)
     → (behind : List Frame) × (others ≡ frames ++ behind)
-frames_grow v frames others bytes more are also =
+frames_grow layers frames others bytes more are also =
     let spelled : are.file ++ (are.behind ++ more) ≡ bytes ++ more = sym (append_assoc are.file are.behind more) ∙ ap (λ bs. bs ++ more) (sym are.spelled) in
     let few = also.longest frames are.file (are.behind ++ more) (sym spelled) are.is_file in
     let (rest, longer) = front_of are.file also.file (are.behind ++ more) also.behind (spelled ∙ also.spelled) few in
@@ -109,8 +108,8 @@ frames_grow v frames others bytes more are also =
     (carries.behind, carries.spelled)
 
 -- a file is all of its frames
-pub file_frames : (v : Verdict CdpPart) (frames : List Frame) (bytes : List ℕ) → IsFileUnder v frames bytes → AreFramesOf v frames bytes
-file_frames v frames bytes is = record {
+pub file_frames : (layers : Layers) (frames : List Frame) (bytes : List ℕ) → IsFileUnder layers frames bytes → AreFramesOf layers frames bytes
+file_frames layers frames bytes is = record {
   file = bytes;
   behind = [];
   spelled = sym (append-nil bytes);

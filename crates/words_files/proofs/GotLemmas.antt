@@ -24,6 +24,7 @@ use Rattle.words_files.specs.Catching.{Caught, OpenCaption, caption_verdict, cau
 use Rattle.words_files.specs.Frames.{none}
 use Rattle.words_files.specs.FramesOf.{AreFramesOf}
 use Rattle.words_files.specs.Offences.{IsFileUnder}
+use Rattle.words_files.specs.Verdicts.{layers_of}
 use Rattle.words_files.proofs.CatchingLemmas.{caught_read, read_caught}
 use Rattle.words_files.proofs.CaughtLemmas.{caught_file, file_caught}
 use Rattle.words_files.proofs.EndingLemmas.{file_closed, nothing_or_some}
@@ -136,7 +137,7 @@ inside_byte v bytes byte inside =
 -- the frames of bytes, and that they are what is caught
 pub record Got (v : Verdict CdpPart) (bytes : List ℕ) : Type 0 where
   pub frames : List Frame
-  pub are : AreFramesOf v frames bytes
+  pub are : AreFramesOf (layers_of v) frames bytes
   pub caught : (caught_in v bytes).frames ≡ reverse (map packet_parts frames)
 
 got_nothing : (v : Verdict CdpPart) → Got v []
@@ -153,15 +154,15 @@ got_nothing v = record {
 }
 
 -- a file is all of its frames
-got_file : (v : Verdict CdpPart) (frames : List Frame) (bytes : List ℕ) → IsFileUnder v frames bytes → Got v bytes
+got_file : (v : Verdict CdpPart) (frames : List Frame) (bytes : List ℕ) → IsFileUnder (layers_of v) frames bytes → Got v bytes
 got_file v frames bytes is = record {
   frames = frames;
-  are = file_frames v frames bytes is;
+  are = file_frames (layers_of v) frames bytes is;
   caught = ap (λ (c : Caught). c.frames) (file_caught v frames bytes is).0;
 }
 
 -- one more byte, with which they are no file
-got_same : (v : Verdict CdpPart) (bytes : List ℕ) (byte : ℕ) → Got v bytes → ((frames : List Frame) → IsFileUnder v frames (bytes ++ byte ∷ []) → ⊥)
+got_same : (v : Verdict CdpPart) (bytes : List ℕ) (byte : ℕ) → Got v bytes → ((frames : List Frame) → IsFileUnder (layers_of v) frames (bytes ++ byte ∷ []) → ⊥)
     → (caught_in v (bytes ++ byte ∷ [])).frames ≡ (caught_in v bytes).frames → Got v (bytes ++ byte ∷ [])
 got_same v bytes byte got no_file same = record {
   frames = got.frames;
@@ -171,7 +172,7 @@ got_same v bytes byte got no_file same = record {
     spelled = ap (λ bs. bs ++ byte ∷ []) got.are.spelled ∙ append_assoc got.are.file got.are.behind (byte ∷ []);
     is_file = got.are.is_file;
     longest = λ others other rest is file. elim (split_last bytes byte other rest is) [
-      | inl last ↦ absurd (no_file others (subst (IsFileUnder v others) (sym (append-nil other) ∙ ap (λ r. other ++ r) (sym last) ∙ sym is) file))
+      | inl last ↦ absurd (no_file others (subst (IsFileUnder (layers_of v) others) (sym (append-nil other) ∙ ap (λ r. other ++ r) (sym last) ∙ sym is) file))
       | inr (some, shorter) ↦ got.are.longest others other some shorter file
     ];
   };
@@ -228,11 +229,11 @@ refused_before v bytes byte refusal some ends =
     ] in before _ refl
 
 -- refused bytes are no file, nor are bytes that leave something open
-refused_no_file : (v : Verdict CdpPart) (bytes : List ℕ) (refusal : Refusal) → refusal_of v bytes ≡ Some refusal → (frames : List Frame) → IsFileUnder v frames bytes → ⊥
+refused_no_file : (v : Verdict CdpPart) (bytes : List ℕ) (refusal : Refusal) → refusal_of v bytes ≡ Some refusal → (frames : List Frame) → IsFileUnder (layers_of v) frames bytes → ⊥
 refused_no_file v bytes refusal some frames is = let clash = sym some ∙ (file_caught v frames bytes is).1 in cc
 
-open_no_file : (v : Verdict CdpPart) (bytes : List ℕ) → (open_behind anc_syntax bytes ≡ nothing_open → ⊥) → (frames : List Frame) → IsFileUnder v frames bytes → ⊥
-open_no_file v bytes some frames is = some (file_closed v frames bytes is)
+open_no_file : (v : Verdict CdpPart) (bytes : List ℕ) → (open_behind anc_syntax bytes ≡ nothing_open → ⊥) → (frames : List Frame) → IsFileUnder (layers_of v) frames bytes → ⊥
+open_no_file v bytes some frames is = some (file_closed (layers_of v) frames bytes is)
 
 -- bytes that aren't refused, where nothing is open or no frame came
 got_unrefused : (v : Verdict CdpPart) (bytes : List ℕ) (byte : ℕ) → All (λ b. b < 256) (bytes ++ byte ∷ []) → Got v bytes
@@ -277,11 +278,11 @@ got v bytes are = got_from v [] bytes (All-nil (λ b. b < 256)) are (got_nothing
 
 -- bytes are a file, or none
 pub file_or_none : (v : Verdict CdpPart) (bytes : List ℕ) → All (λ b. b < 256) bytes
-    → ((frames : List Frame) × IsFileUnder v frames bytes) ⊎ ((frames : List Frame) → IsFileUnder v frames bytes → ⊥)
+    → ((frames : List Frame) × IsFileUnder (layers_of v) frames bytes) ⊎ ((frames : List Frame) → IsFileUnder (layers_of v) frames bytes → ⊥)
 file_or_none v bytes are =
     let front = open_behind anc_syntax bytes in
     let refused : (refusal : Option Refusal) → refusal_of v bytes ≡ refusal
-    → ((frames : List Frame) × IsFileUnder v frames bytes) ⊎ ((frames : List Frame) → IsFileUnder v frames bytes → ⊥) = elim [
+    → ((frames : List Frame) × IsFileUnder (layers_of v) frames bytes) ⊎ ((frames : List Frame) → IsFileUnder (layers_of v) frames bytes → ⊥) = elim [
       | None ↦ λ unrefused. elim (nothing_or_some front) [
         | inl closed ↦ inl (caught_file v bytes are unrefused closed)
         | inr some ↦ inr (open_no_file v bytes some)
@@ -290,8 +291,8 @@ file_or_none v bytes are =
     ] in refused _ refl
 
 -- so the frames of bytes are what is caught of them
-pub frames_are_caught : (v : Verdict CdpPart) (frames : List Frame) (bytes : List ℕ) → All (λ b. b < 256) bytes → AreFramesOf v frames bytes
+pub frames_are_caught : (v : Verdict CdpPart) (frames : List Frame) (bytes : List ℕ) → All (λ b. b < 256) bytes → AreFramesOf (layers_of v) frames bytes
     → (caught_in v bytes).frames ≡ reverse (map packet_parts frames)
 frames_are_caught v frames bytes all are =
     let g = got v bytes all in
-    g.caught ∙ ap (λ fs. reverse (map packet_parts fs)) (frames_of_once v g.frames frames bytes g.are are)
+    g.caught ∙ ap (λ fs. reverse (map packet_parts fs)) (frames_of_once (layers_of v) g.frames frames bytes g.are are)

@@ -19,6 +19,7 @@ use Rattle.cdp_packets.specs.Packets.{Packet as Frame}
 use Rattle.words_files.specs.Frames.{CarryFrames, none, caption, foreign}
 use Rattle.words_files.specs.FramesOf.{AreFramesOf}
 use Rattle.words_files.specs.Offences.{IsFileUnder}
+use Rattle.words_files.specs.Verdicts.{layers_of}
 use Rattle.words_files.proofs.FramesOfLemmas.{empty_file, file_frames, file_front, frames_of_once, some_packet}
 use Rattle.words_files.proofs.WordLemmas.{front_of}
 use Rattle.words_files.proofs.GotLemmas.{file_or_none}
@@ -40,10 +41,10 @@ part_at (f ∷ front) more (b ∷ other) rest is = elim (part_at front more othe
 
 -- no file ends past the bytes before
 past_end : (v : Verdict CdpPart) (before more other rest : List ℕ) → length more ≤ bytes_to_end (open_behind anc_syntax before)
-    → ((frames : List Frame) → IsFileUnder v frames (before ++ more) → ⊥) → Past before more other rest → (frames : List Frame) → IsFileUnder v frames other → ⊥
+    → ((frames : List Frame) → IsFileUnder (layers_of v) frames (before ++ more) → ⊥) → Past before more other rest → (frames : List Frame) → IsFileUnder (layers_of v) frames other → ⊥
 past_end v before more other [] few no_file past frames is =
     let whole : past.some ≡ more = sym (past.parts ∙ append-nil past.some) in
-    no_file frames (subst (IsFileUnder v frames) (past.longer ∙ ap (λ bs. before ++ bs) whole) is)
+    no_file frames (subst (IsFileUnder (layers_of v) frames) (past.longer ∙ ap (λ bs. before ++ bs) whole) is)
 past_end v before more other (b ∷ rest) few no_file past frames is =
     let e = ap length past.parts in
     let long = length-append past.some (b ∷ rest) in
@@ -52,7 +53,7 @@ past_end v before more other (b ∷ rest) few no_file past frames is =
 
 -- bytes that are no file bring no frame
 pub no_end : (v : Verdict CdpPart) (frames : List Frame) (before more : List ℕ) → length more ≤ bytes_to_end (open_behind anc_syntax before)
-    → ((others : List Frame) → IsFileUnder v others (before ++ more) → ⊥) → AreFramesOf v frames before → AreFramesOf v frames (before ++ more)
+    → ((others : List Frame) → IsFileUnder (layers_of v) others (before ++ more) → ⊥) → AreFramesOf (layers_of v) frames before → AreFramesOf (layers_of v) frames (before ++ more)
 no_end v frames before more few no_file are = record {
   file = are.file;
   behind = are.behind ++ more;
@@ -164,7 +165,7 @@ shorter qs os earlier q e z other rest more spelled any file is longer whole =
 
 -- the frames before the last packet are those of the packets before it
 before_last : (v : Verdict CdpPart) (first : List Frame) (qs earlier : List AncillaryPacket) (q : AncillaryPacket) (e some before more : List ℕ) → qs ≡ earlier ++ q ∷ []
-    → 0 < length more → IsFileUnder v first e → IsWordsFile earlier e → before ≡ e ++ some → IsWordsFile qs (before ++ more) → AreFramesOf v first before
+    → 0 < length more → IsFileUnder (layers_of v) first e → IsWordsFile earlier e → before ≡ e ++ some → IsWordsFile qs (before ++ more) → AreFramesOf (layers_of v) first before
 before_last v first qs earlier q e some before more spelled any file earlier_file parted whole = record {
   file = e;
   behind = some;
@@ -197,19 +198,19 @@ pub record EndsBringing (frames more : List Frame) (bytes : List ℕ) : Type 0 w
 
 -- the packets of a file, of which there is one
 ends_last : (v : Verdict CdpPart) (frames more_frames : List Frame) (before more : List ℕ) → 0 < length more → length more ≤ bytes_to_end (open_behind anc_syntax before)
-    → AreFramesOf v frames before → IsFileUnder v more_frames (before ++ more) → (qs : List AncillaryPacket) → IsWordsFile qs (before ++ more) → CarryFrames qs more_frames
+    → AreFramesOf (layers_of v) frames before → IsFileUnder (layers_of v) more_frames (before ++ more) → (qs : List AncillaryPacket) → IsWordsFile qs (before ++ more) → CarryFrames qs more_frames
     → Last qs (before ++ more) → EndsBringing frames more_frames (before ++ more)
 ends_last v frames more_frames before more any few are is qs file carried last =
     let carries = carry_split last.earlier (last.packet ∷ []) more_frames (subst (λ ps. CarryFrames ps more_frames) last.spelled carried) in
     let accepted = AreAccepted-split v [] (flat_map packet_parts carries.first) (flat_map packet_parts carries.behind)
     (subst (AreAccepted v []) (ap (flat_map packet_parts) carries.spelled ∙ flat_map-append packet_parts carries.first carries.behind) is.accepted) in
-    let first : IsFileUnder v carries.first last.front =
+    let first : IsFileUnder (layers_of v) carries.first last.front =
     record { file = record { packets = last.earlier; file = last.file; carried = carries.carried }; accepted = accepted.0 } in
     let parts : (some : List ℕ) × (before ≡ last.front ++ some) = elim (part_at before more last.front last.own last.parted) [
       | inl inside ↦ inside
       | inr past ↦ absurd (past_last before more last.front last.own last.packet few past last.earlier last.file last.is_packet)
     ] in
-    let same = frames_of_once v carries.first frames before
+    let same = frames_of_once (layers_of v) carries.first frames before
     (before_last v carries.first qs last.earlier last.packet last.front parts.0 before more last.spelled any first last.file parts.1 file) are in
     record {
       earlier = last.earlier;
@@ -220,7 +221,7 @@ ends_last v frames more_frames before more any few are is qs file carried last =
 
 -- bytes up to the end of a packet, of which no packet ends sooner
 pub ends_bringing : (v : Verdict CdpPart) (frames more_frames : List Frame) (before more : List ℕ) → 0 < length more
-    → length more ≤ bytes_to_end (open_behind anc_syntax before) → AreFramesOf v frames before → IsFileUnder v more_frames (before ++ more)
+    → length more ≤ bytes_to_end (open_behind anc_syntax before) → AreFramesOf (layers_of v) frames before → IsFileUnder (layers_of v) more_frames (before ++ more)
     → EndsBringing frames more_frames (before ++ more)
 ends_bringing v frames more_frames before more any few are is =
     let cases : (qs : List AncillaryPacket) → IsWordsFile qs (before ++ more) → CarryFrames qs more_frames → EndsBringing frames more_frames (before ++ more) = elim [
@@ -232,19 +233,19 @@ ends_bringing v frames more_frames before more any few are is =
 -- bytes that bring no frame, whether they end a packet or not, or one that does
 pub record AtMostOne (v : Verdict CdpPart) (frames : List Frame) (bytes : List ℕ) : Type 0 where
   pub more : List Frame
-  pub are : AreFramesOf v more bytes
+  pub are : AreFramesOf (layers_of v) more bytes
   pub brings : (more ≡ frames) ⊎ ((frame : Frame) × (more ≡ frames ++ frame ∷ []))
 
-at_most : (v : Verdict CdpPart) (frames more_frames : List Frame) (bytes : List ℕ) (packet : AncillaryPacket) → IsFileUnder v more_frames bytes
+at_most : (v : Verdict CdpPart) (frames more_frames : List Frame) (bytes : List ℕ) (packet : AncillaryPacket) → IsFileUnder (layers_of v) more_frames bytes
     → (IsCaption packet × ((frame : Frame) × (more_frames ≡ frames ++ frame ∷ []))) ⊎ ((IsCaption packet → ⊥) × (more_frames ≡ frames))
     → AtMostOne v frames bytes
 at_most v frames more_frames bytes packet is (inl (_, (frame, spelled))) =
-    record { more = more_frames; are = file_frames v more_frames bytes is; brings = inr (frame, spelled) }
-at_most v frames more_frames bytes packet is (inr (_, same)) = record { more = more_frames; are = file_frames v more_frames bytes is; brings = inl same }
+    record { more = more_frames; are = file_frames (layers_of v) more_frames bytes is; brings = inr (frame, spelled) }
+at_most v frames more_frames bytes packet is (inr (_, same)) = record { more = more_frames; are = file_frames (layers_of v) more_frames bytes is; brings = inl same }
 
 -- after at most the bytes that come before the end of a packet
 pub at_most_one : (v : Verdict CdpPart) (frames : List Frame) (before more : List ℕ) → 0 < length more → length more ≤ bytes_to_end (open_behind anc_syntax before)
-    → All (λ byte. byte < 256) (before ++ more) → AreFramesOf v frames before → AtMostOne v frames (before ++ more)
+    → All (λ byte. byte < 256) (before ++ more) → AreFramesOf (layers_of v) frames before → AtMostOne v frames (before ++ more)
 at_most_one v frames before more any few bytes are = elim (file_or_none v (before ++ more) bytes) [
   | inl (others, is) ↦ let ends = ends_bringing v frames others before more any few are is in at_most v frames others (before ++ more) ends.packet is ends.brings.brings
   | inr no_file ↦ record { more = frames; are = no_end v frames before more few no_file are; brings = inl refl }

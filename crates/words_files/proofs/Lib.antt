@@ -1,3 +1,4 @@
+pub mod AlikeLemmas
 pub mod BeginsLemmas
 pub mod CatchingLemmas
 pub mod CaughtLemmas

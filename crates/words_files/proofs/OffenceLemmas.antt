@@ -21,8 +21,10 @@ use Rattle.cdp_packets.specs.Packets.{Packet as Frame}
 use Rattle.cdp_packets.specs.Reading.{cdp_syntax}
 use Rattle.words_files.specs.Catching.{caption_verdict, never, reason_of, refusal_of}
 use Rattle.words_files.specs.Frames.{IsFileOf}
-use Rattle.words_files.specs.Offences.{AreWholeWords, Begins, FirstOffendingWord, IsFileUnder, IsUnoffending, TakesFilling}
-use Rattle.words_files.specs.Reasons.{AreOpenBehind, HasReason, OffendsFor, RefusesNone, by_its_packet, by_layers_above}
+use Rattle.words_files.specs.Offences.{AreWholeWords, Begins, FirstOffendingWord, IsFileUnder, IsUnoffending}
+use Rattle.words_files.specs.Reasons.{AreOpenBehind, HasReason, OffendsFor, by_its_packet, by_layers_above}
+use Rattle.words_files.specs.Layers.{Layers}
+use Rattle.words_files.specs.Verdicts.{RefusesNone, TakesFilling, layers_of}
 use Rattle.words_files.proofs.BeginsLemmas.{goes_on}
 use Rattle.words_files.proofs.CatchingLemmas.{caught_read}
 use Rattle.words_files.proofs.CaughtLemmas.{file_caught}
@@ -63,15 +65,15 @@ refusal-before v before more none =
     (read_first-none one.refusal one.parts (reading judge_of (caption_verdict v) (place_by 2) before one.parts more) (sym whole ∙ none)).0
 
 -- bytes that begin a file aren't refused
-pub begins_unrefused : (v : Verdict CdpPart) (bytes : List ℕ) → Begins v bytes → refusal_of v bytes ≡ None
+pub begins_unrefused : (v : Verdict CdpPart) (bytes : List ℕ) → Begins (layers_of v) bytes → refusal_of v bytes ≡ None
 begins_unrefused v bytes begins = refusal-before v bytes begins.more (file_caught v begins.frames (bytes ++ begins.more) begins.is_file).1
 
 -- the first bytes of those that begin a file begin it
-pub Begins-before : (v : Verdict CdpPart) (bytes more : List ℕ) → Begins v (bytes ++ more) → Begins v bytes
-Begins-before v bytes more begins = record {
+pub Begins-before : (layers : Layers) (bytes more : List ℕ) → Begins layers (bytes ++ more) → Begins layers bytes
+Begins-before layers bytes more begins = record {
   more = more ++ begins.more;
   frames = begins.frames;
-  is_file = subst (IsFileUnder v begins.frames) (append_assoc bytes more begins.more) begins.is_file;
+  is_file = subst (IsFileUnder layers begins.frames) (append_assoc bytes more begins.more) begins.is_file;
 }
 
 -- whole words leave no high byte
@@ -204,7 +206,7 @@ first-from v before (high ∷ low ∷ rest) refusal whole none some =
 
 -- no file goes on with a word that is refused
 nowhere : (v : Verdict CdpPart) (before : List ℕ) (high low : ℕ) (why : Why) → AreWholeWords before → refusal_of v before ≡ None
-    → reason_of v before (256 * high + low) ≡ Some why → Begins v (before ++ high ∷ low ∷ []) → ⊥
+    → reason_of v before (256 * high + low) ≡ Some why → Begins (layers_of v) (before ++ high ∷ low ∷ []) → ⊥
 nowhere v before high low why whole none reason begins =
     some_or_none (refusal_of v (before ++ high ∷ low ∷ [])) (refusal_at (length before % 2 ^ 64) why)
     (word_read v before high low whole none ∙ ap (refused_at (length before % 2 ^ 64)) reason) (begins_unrefused v (before ++ high ∷ low ∷ []) begins)
@@ -218,10 +220,10 @@ pub never_takes : TakesFilling never
 never_takes size handed bytes more all read accepted filling =
     never_refuses (handed ++ parts_of (cdp_syntax size) bytes) (parts_from (cdp_syntax size) (open_behind (cdp_syntax size) bytes) more)
 
-pub file_under_never : (frames : List Frame) (bytes : List ℕ) → IsFileOf frames bytes → IsFileUnder never frames bytes
+pub file_under_never : (frames : List Frame) (bytes : List ℕ) → IsFileOf frames bytes → IsFileUnder (layers_of never) frames bytes
 file_under_never frames bytes file = record { file = file; accepted = never_refuses [] (flat_map packet_parts frames) }
 
-begins_under_never : (v : Verdict CdpPart) (bytes : List ℕ) → Begins v bytes → Begins never bytes
+begins_under_never : (v : Verdict CdpPart) (bytes : List ℕ) → Begins (layers_of v) bytes → Begins (layers_of never) bytes
 begins_under_never v bytes begins =
     record { more = begins.more; frames = begins.frames; is_file = file_under_never begins.frames (bytes ++ begins.more) begins.is_file.file }
 
@@ -236,18 +238,18 @@ reason_stays v before high low more why whole none reason =
 
 -- a word is refused for the reason for which it offends
 pub reason_is : (v : Verdict CdpPart) (before : List ℕ) (high low : ℕ) (why : Why) → All (λ byte. byte < 256) (before ++ high ∷ low ∷ []) → AreWholeWords before
-    → Begins v before → reason_of v before (256 * high + low) ≡ Some why → HasReason v before high low why
+    → Begins (layers_of v) before → reason_of v before (256 * high + low) ≡ Some why → HasReason (layers_of v) before high low why
 reason_is v before high low why are whole begins reason =
     let none = begins_unrefused v before begins in
     let quiet = begins_unrefused never before (begins_under_never v before begins) in
     let word = 256 * high + low in
     let place = length before % 2 ^ 64 in
-    let cases : (w : Option Why) → reason_of never before word ≡ w → HasReason v before high low why = elim [
+    let cases : (w : Option Why) → reason_of never before word ≡ w → HasReason (layers_of v) before high low why = elim [
       | Some other ↦ λ said.
           let offends = reason_offends never (λ above p. refl) before word other quiet said in
           let same : Some other ≡ Some why = sym (offends_given v before word other none offends) ∙ reason in
           let opens = open_exists before (All-split (λ byte. byte < 256) before (high ∷ low ∷ []) are).0 (caught_read v before none).0 whole in
-          subst (HasReason v before high low) (same_why other why same) (by_its_packet other (open_behind anc_syntax before).words opens offends)
+          subst (HasReason (layers_of v) before high low) (same_why other why same) (by_its_packet other (open_behind anc_syntax before).words opens offends)
       | None ↦ λ taken.
           let go = goes_on never never_takes (before ++ high ∷ low ∷ []) are (whole-word before high low whole)
           (word_read never before high low whole quiet ∙ ap (refused_at place) taken) in
@@ -257,7 +259,7 @@ reason_is v before high low why are whole begins reason =
 
 -- a refusal is that of the first offending word
 pub refused_offends : (v : Verdict CdpPart) → TakesFilling v → (bytes : List ℕ) (refusal : Refusal) → All (λ byte. byte < 256) bytes
-    → refusal_of v bytes ≡ Some refusal → FirstOffendingWord v bytes refusal
+    → refusal_of v bytes ≡ Some refusal → FirstOffendingWord (layers_of v) bytes refusal
 refused_offends v takes bytes refusal are some =
     let first = first-from v [] bytes refusal refl refl some in
     let all = subst (All (λ byte. byte < 256)) (first.spelled ∙ sym (append_assoc first.before (first.high ∷ first.low ∷ []) first.rest)) are in
@@ -286,8 +288,8 @@ words-bytes (high ∷ low ∷ bytes) (word ∷ words) (is, are) =
     All-cons (λ byte. byte < 256) high (low ∷ bytes) (omega (arith, is.zeros)) (All-cons (λ byte. byte < 256) low bytes is.byte (words-bytes bytes words are))
 
 -- and the other way round: a word that offends for a reason is refused for it
-pub reason_said : (v : Verdict CdpPart) → TakesFilling v → (before : List ℕ) (high low : ℕ) (reason : Why) → AreWholeWords before → Begins v before
-    → (Begins v (before ++ high ∷ low ∷ []) → ⊥) → HasReason v before high low reason → reason_of v before (256 * high + low) ≡ Some reason
+pub reason_said : (v : Verdict CdpPart) → TakesFilling v → (before : List ℕ) (high low : ℕ) (reason : Why) → AreWholeWords before → Begins (layers_of v) before
+    → (Begins (layers_of v) (before ++ high ∷ low ∷ []) → ⊥) → HasReason (layers_of v) before high low reason → reason_of v before (256 * high + low) ≡ Some reason
 reason_said v takes before high low _ whole begins nowhere_on (by_its_packet reason words opens offends) =
     let none = begins_unrefused v before begins in
     let kept = open_once words before opens (caught_read v before none).0 in
@@ -306,7 +308,7 @@ reason_said v takes before high low _ whole begins nowhere_on (by_layers_above r
     ] in cases _ refl
 
 -- a word that offends by the words of its packet goes on to no file
-never_goes_on : (v : Verdict CdpPart) (before : List ℕ) (high low : ℕ) (reason : Why) (words more : List ℕ) (frames : List Frame) → AreWholeWords before → Begins v before
+never_goes_on : (v : Verdict CdpPart) (before : List ℕ) (high low : ℕ) (reason : Why) (words more : List ℕ) (frames : List Frame) → AreWholeWords before → Begins (layers_of v) before
     → AreOpenBehind words before → OffendsFor words (256 * high + low) reason → IsFileOf frames (before ++ high ∷ low ∷ more) → ⊥
 never_goes_on v before high low reason words more frames whole begins opens offends file =
     let quiet = begins_unrefused never before (begins_under_never v before begins) in
@@ -318,8 +320,8 @@ never_goes_on v before high low reason words more frames whole begins opens offe
     absurd cc
 
 -- there is one reason
-pub reason_once : (v : Verdict CdpPart) (before : List ℕ) (high low : ℕ) (reason other : Why) → AreWholeWords before → Begins v before
-    → HasReason v before high low reason → HasReason v before high low other → reason ≡ other
+pub reason_once : (v : Verdict CdpPart) (before : List ℕ) (high low : ℕ) (reason other : Why) → AreWholeWords before → Begins (layers_of v) before
+    → HasReason (layers_of v) before high low reason → HasReason (layers_of v) before high low other → reason ≡ other
 reason_once v before high low _ _ whole begins (by_its_packet reason words opens offends) (by_its_packet other others also too) =
     let read = (caught_read v before (begins_unrefused v before begins)).0 in
     let same : others ≡ words = sym (open_once others before also read) ∙ open_once words before opens read in
@@ -332,7 +334,7 @@ reason_once v before high low _ _ whole begins (by_layers_above reason more fram
     refused_for_one v (flat_map packet_parts frames) reason other (all more frames file) (too more frames file)
 
 -- where no layer above refuses a part, it is by the words of the packet
-pub reason_of_packet : (v : Verdict CdpPart) → RefusesNone v → (before : List ℕ) (high low : ℕ) (reason : Why) → HasReason v before high low reason
+pub reason_of_packet : (v : Verdict CdpPart) → RefusesNone v → (before : List ℕ) (high low : ℕ) (reason : Why) → HasReason (layers_of v) before high low reason
     → (words : List ℕ) × AreOpenBehind words before × OffendsFor words (256 * high + low) reason
 reason_of_packet v quiet before high low _ (by_its_packet reason words opens offends) = (words, opens, offends)
 reason_of_packet v quiet before high low _ (by_layers_above reason more frames file all) =
@@ -341,7 +343,7 @@ reason_of_packet v quiet before high low _ (by_layers_above reason more frames f
     absurd cc
 
 -- the first offending word is refused
-pub offence_refused : (v : Verdict CdpPart) → TakesFilling v → (bytes : List ℕ) (refusal : Refusal) → FirstOffendingWord v bytes refusal → refusal_of v bytes ≡ Some refusal
+pub offence_refused : (v : Verdict CdpPart) → TakesFilling v → (bytes : List ℕ) (refusal : Refusal) → FirstOffendingWord (layers_of v) bytes refusal → refusal_of v bytes ≡ Some refusal
 offence_refused v takes bytes refusal has =
     let place = length has.before % 2 ^ 64 in
     let none = begins_unrefused v has.before has.begins in
@@ -353,31 +355,31 @@ offence_refused v takes bytes refusal has =
     ∙ ap (λ n. Some (refusal_at n refusal.why)) (sym has.place_is)
 
 -- no file begins with bytes and an offending word of theirs
-pub past_offence : (v : Verdict CdpPart) (front tail bytes : List ℕ) (refusal : Refusal) (has : FirstOffendingWord v bytes refusal) → front ++ tail ≡ bytes
-    → length has.before + 2 ≤ length front → Begins v front → ⊥
-past_offence v front tail bytes refusal has spelled long begins =
+pub past_offence : (layers : Layers) (front tail bytes : List ℕ) (refusal : Refusal) (has : FirstOffendingWord layers bytes refusal) → front ++ tail ≡ bytes
+    → length has.before + 2 ≤ length front → Begins layers front → ⊥
+past_offence layers front tail bytes refusal has spelled long begins =
     let word = has.before ++ has.high ∷ has.low ∷ [] in
     let same : word ++ has.rest ≡ front ++ tail = append_assoc has.before (has.high ∷ has.low ∷ []) has.rest ∙ sym has.spelled ∙ sym spelled in
     let (more, is) = front_of word front has.rest tail same (omega (arith, length-append has.before (has.high ∷ has.low ∷ []), long)) in
-    has.offends (Begins-before v word more (subst (Begins v) is begins))
+    has.offends (Begins-before layers word more (subst (Begins layers) is begins))
 
 -- even numbers that differ by less than 2
 even_near : (m n : ℕ) → m % 2 ≡ 0 → n % 2 ≡ 0 → (m + 2 ≤ n → ⊥) → (n + 2 ≤ m → ⊥) → m ≡ n
 even_near m n one two below above = omega arith
 
 -- so bytes have one first offending word
-pub offence_is_one : (v : Verdict CdpPart) (bytes : List ℕ) (refusal other : Refusal) → FirstOffendingWord v bytes refusal → FirstOffendingWord v bytes other → refusal ≡ other
+pub offence_is_one : (v : Verdict CdpPart) (bytes : List ℕ) (refusal other : Refusal) → FirstOffendingWord (layers_of v) bytes refusal → FirstOffendingWord (layers_of v) bytes other → refusal ≡ other
 offence_is_one v bytes refusal other has also =
     let past : length has.before + 2 ≤ length also.before → ⊥ = λ long.
-    past_offence v also.before (also.high ∷ also.low ∷ also.rest) bytes refusal has (sym also.spelled) long also.begins in
+    past_offence (layers_of v) also.before (also.high ∷ also.low ∷ also.rest) bytes refusal has (sym also.spelled) long also.begins in
     let beyond : length also.before + 2 ≤ length has.before → ⊥ = λ long.
-    past_offence v has.before (has.high ∷ has.low ∷ has.rest) bytes other also (sym has.spelled) long has.begins in
+    past_offence (layers_of v) has.before (has.high ∷ has.low ∷ has.rest) bytes other also (sym has.spelled) long has.begins in
     let long : length has.before ≡ length also.before = even_near (length has.before) (length also.before) has.whole also.whole past beyond in
     let (same, behind) = same_heads has.before also.before (has.high ∷ has.low ∷ has.rest) (also.high ∷ also.low ∷ also.rest) long (sym has.spelled ∙ also.spelled) in
     let high : has.high ≡ also.high = cc in
     let low : has.low ≡ also.low = cc in
-    let there = subst (λ bs. HasReason v bs also.high also.low other.why) (sym same) also.why_is in
-    let here = subst (λ n. HasReason v has.before has.high n other.why) (sym low) (subst (λ n. HasReason v has.before n also.low other.why) (sym high) there) in
+    let there = subst (λ bs. HasReason (layers_of v) bs also.high also.low other.why) (sym same) also.why_is in
+    let here = subst (λ n. HasReason (layers_of v) has.before has.high n other.why) (sym low) (subst (λ n. HasReason (layers_of v) has.before n also.low other.why) (sym high) there) in
     let whys = reason_once v has.before has.high has.low refusal.why other.why has.whole has.begins has.why_is here in
     let places = has.place_is ∙ ap (λ n. n % 2 ^ 64) long ∙ sym also.place_is in
     ap (λ n. refusal_at n refusal.why) places ∙ ap (refusal_at other.place) whys
@@ -404,7 +406,7 @@ halves (high ∷ low ∷ bytes) =
     }
 
 -- bytes that aren't refused have no offending word
-pub unrefused_is_unoffending : (v : Verdict CdpPart) → TakesFilling v → (bytes : List ℕ) → All (λ byte. byte < 256) bytes → refusal_of v bytes ≡ None → IsUnoffending v bytes
+pub unrefused_is_unoffending : (v : Verdict CdpPart) → TakesFilling v → (bytes : List ℕ) → All (λ byte. byte < 256) bytes → refusal_of v bytes ≡ None → IsUnoffending (layers_of v) bytes
 unrefused_is_unoffending v takes bytes are none =
     let cut = halves bytes in
     let (words_are, _) = All-split (λ byte. byte < 256) cut.words cut.half (subst (All (λ byte. byte < 256)) cut.spelled are) in record {
@@ -422,6 +424,6 @@ half_unrefused v words [] whole single none = ap (refusal_of v) (append-nil word
 half_unrefused v words (high ∷ []) whole single none = high_unrefused v words high whole none
 half_unrefused v words (high ∷ low ∷ rest) whole single none = absurd (omega (arith, single))
 
-pub unoffending_is_unrefused : (v : Verdict CdpPart) (bytes : List ℕ) → IsUnoffending v bytes → refusal_of v bytes ≡ None
+pub unoffending_is_unrefused : (v : Verdict CdpPart) (bytes : List ℕ) → IsUnoffending (layers_of v) bytes → refusal_of v bytes ≡ None
 unoffending_is_unrefused v bytes is =
     ap (refusal_of v) is.spelled ∙ half_unrefused v is.words is.half is.whole is.single (begins_unrefused v is.words is.begins)

@@ -30,7 +30,8 @@ use Rattle.cdp_packets.specs.Refusals.{StandsAt}
 use Rattle.cdp_packets.proofs.PlaceLemmas.{refusal_stands}
 use Rattle.cdp_packets.proofs.StandingLemmas.{StandsAt-one}
 use Rattle.words_files.specs.Catching.{Caught, caption_verdict, caught_after, caught_of, is_packet_length, nothing_caught, packet_gone_on as goes_on_with, reading_behind, reason_of, refusal_of, verdict_behind}
-use Rattle.words_files.specs.Reasons.{CaptionCarries, CaptionCountIsNext, GoesNowhere, OffendsFor, RefusesNone, in_packet, as_length, as_byte}
+use Rattle.words_files.specs.Reasons.{CaptionCarries, CaptionCountIsNext, GoesNowhere, OffendsFor, in_packet, as_length, as_byte}
+use Rattle.words_files.specs.Verdicts.{RefusesNone}
 use Rattle.words_files.proofs.BeginsLemmas.{parts-split}
 use Rattle.words_files.proofs.CatchingLemmas.{behind_accepted, caught_read, foreign_users, handed, idle, lows, open_of, opened, unrefused_first, users_caught}
 use Rattle.words_files.proofs.CaughtLemmas.{begun_by, caption_begun, captions-is, captions-no, captions-true, foreign_begun, has_captions, length-is, length-true, newest_first, packets_caught, packets_kept}

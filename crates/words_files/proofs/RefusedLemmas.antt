@@ -21,7 +21,7 @@ use Rattle.cdp_packets.specs.Reading.{cdp_syntax, judge_cdp, nothing_open, open_
 use Rattle.cdp_packets.proofs.PacketLemmas.{packet_once}
 use Rattle.words_files.specs.Catching.{Caught, OpenCaption, caption_verdict, caught_after, caught_of, ended_with, nothing_caught, packet_gone_on, reading_behind, refusal_of, unless_refused, verdict_behind}
 use Rattle.words_files.specs.Frames.{CarryFrames, IsFileOf, none as no_packet, caption, foreign}
-use Rattle.words_files.specs.Reasons.{IsRefusedFor}
+use Rattle.words_files.specs.Verdicts.{IsRefusedFor}
 use Rattle.words_files.proofs.CatchingLemmas.{caught-refused, handed, handed-cons, idle, lows, open_of, opened, user_kept, user_step}
 use Rattle.words_files.proofs.CaughtLemmas.{caption_begun, caption_caught, caption_kept, carried_read, foreign_caught}
 

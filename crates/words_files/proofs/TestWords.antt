@@ -14,6 +14,7 @@ use Rattle.cdp_packets.specs.Packets.{Packet as Frame}
 use Rattle.words_files.specs.Catching.{Caught, caught_in, never, refusal_of}
 use Rattle.words_files.specs.Examples.{frame_without_captions}
 use Rattle.words_files.specs.Offences.{FirstOffendingWord, IsCutShort, IsFileUnder}
+use Rattle.words_files.specs.Verdicts.{layers_of}
 use Rattle.words_files.proofs.CaughtLemmas.{caught_file, file_caught}
 use Rattle.words_files.proofs.EndingLemmas.{open_is_cut_short, truncated}
 use Rattle.words_files.proofs.OffenceLemmas.{never_takes, refusal-before, refused_offends}
@@ -35,7 +36,7 @@ bytes-are (byte ∷ bytes) test =
     let (one, rest) = both_true (nat_lt byte 256) (are_bytes bytes) test in
     All-cons IsByte byte bytes (grind (arith, nat_tests)) (bytes-are bytes rest)
 
-pub offends : (bytes : List ℕ) (refusal : Refusal) → are_bytes bytes ≡ true → refusal_of never bytes ≡ Some refusal → FirstOffendingWord never bytes refusal
+pub offends : (bytes : List ℕ) (refusal : Refusal) → are_bytes bytes ≡ true → refusal_of never bytes ≡ Some refusal → FirstOffendingWord (layers_of never) bytes refusal
 offends bytes refusal test some = refused_offends never never_takes bytes refusal (bytes-are bytes test) some
 
 -- half a word is open, or words of a packet
@@ -44,13 +45,13 @@ some_open None [] = false
 some_open _ _ = true
 
 open_cut_short : (bytes : List ℕ) → All IsByte bytes → refusal_of never bytes ≡ None
-    → some_open (open_behind anc_syntax bytes).high (open_behind anc_syntax bytes).words ≡ true → IsCutShort never bytes (truncated bytes)
+    → some_open (open_behind anc_syntax bytes).high (open_behind anc_syntax bytes).words ≡ true → IsCutShort (layers_of never) bytes (truncated bytes)
 open_cut_short bytes are none opens =
     open_is_cut_short never never_takes bytes are none (λ same.
     let clash : true ≡ false = sym opens ∙ ap (λ (o : Open). some_open o.high o.words) same in absurd cc)
 
 pub is_cut_short : (bytes : List ℕ) → are_bytes bytes ≡ true → refusal_of never bytes ≡ None
-    → some_open (open_behind anc_syntax bytes).high (open_behind anc_syntax bytes).words ≡ true → IsCutShort never bytes (truncated bytes)
+    → some_open (open_behind anc_syntax bytes).high (open_behind anc_syntax bytes).words ≡ true → IsCutShort (layers_of never) bytes (truncated bytes)
 is_cut_short bytes test none opens = open_cut_short bytes (bytes-are bytes test) none opens
 
 -- something is open behind each number of bytes from 1 up to this one
@@ -89,7 +90,7 @@ unfolding lib.Count.ones
 opens = refl
 
 -- it is a file of one frame
-pub is_file : (frames : List Frame) × IsFileUnder never frames frame_without_captions × (length frames ≡ 1)
+pub is_file : (frames : List Frame) × IsFileUnder (layers_of never) frames frame_without_captions × (length frames ≡ 1)
 is_file =
     let (frames, file) = caught_file never frame_without_captions (bytes-are frame_without_captions refl) unrefused closed in
     let caught = (file_caught never frames frame_without_captions file).0 in
@@ -97,7 +98,7 @@ is_file =
     (frames, file, many ∙ one_frame)
 
 -- and cut short, wherever it is cut
-pub cut_anywhere : (k : ℕ) → 0 < k → k < 160 → IsCutShort never (take k frame_without_captions) (record { place = k; why = why.Truncated })
+pub cut_anywhere : (k : ℕ) → 0 < k → k < 160 → IsCutShort (layers_of never) (take k frame_without_captions) (record { place = k; why = why.Truncated })
 cut_anywhere k some below =
     let front = take k frame_without_captions in
     let are = All-take IsByte k frame_without_captions (bytes-are frame_without_captions refl) in
@@ -105,5 +106,5 @@ cut_anywhere k some below =
     let none = refusal-before never front (drop k frame_without_captions) (ap (refusal_of never) whole ∙ unrefused) in
     let long : length front ≡ k = length-take-le k frame_without_captions (omega arith) in
     let place : length front % 2 ^ 64 ≡ k = ap (λ n. n % 2 ^ 64) long ∙ omega arith in
-    subst (λ n. IsCutShort never front (record { place = n; why = why.Truncated })) place
+    subst (λ n. IsCutShort (layers_of never) front (record { place = n; why = why.Truncated })) place
     (open_cut_short front are none (opens_at frame_without_captions 159 k opens some (omega arith)))

@@ -1,16 +1,15 @@
 -- The frames that bytes have brought so far: those of the longest words file with which they begin (SMPTE ST 291-1, ST 334-1
 -- and ST 334-2). Bytes behind it, of a packet that isn't whole or that is refused, say nothing yet.
 use Rattle.std.specs.Prelude.{◌≡◌, ℕ, ◌≤◌, List, ◌++◌, length}
-use Rattle.cc_base.specs.Feeding.{Verdict}
-use Rattle.cdp_packets.specs.declared.parts.CdpPart.{CdpPart}
 use Rattle.cdp_packets.specs.Packets.{Packet as Frame}
+use Rattle.words_files.specs.Layers.{Layers}
 use Rattle.words_files.specs.Offences.{IsFileUnder}
 
 -- the frames are those of the longest words file with which the bytes begin
-pub record AreFramesOf (verdict : Verdict CdpPart) (frames : List Frame) (bytes : List ℕ) : Type 0 where
+pub record AreFramesOf (layers : Layers) (frames : List Frame) (bytes : List ℕ) : Type 0 where
   pub file : List ℕ
   pub behind : List ℕ
   pub spelled : bytes ≡ file ++ behind
-  pub is_file : IsFileUnder verdict frames file
-  pub longest : (others : List Frame) (other rest : List ℕ) → bytes ≡ other ++ rest → IsFileUnder verdict others other
+  pub is_file : IsFileUnder layers frames file
+  pub longest : (others : List Frame) (other rest : List ℕ) → bytes ≡ other ++ rest → IsFileUnder layers others other
       → length other ≤ length file

@@ -5,3 +5,5 @@ pub mod Catching
 pub mod Offences
 pub mod FramesOf
 pub mod Reasons
+pub mod Layers
+pub mod Verdicts

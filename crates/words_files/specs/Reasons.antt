@@ -1,22 +1,18 @@
 -- For what reason a word of a words file offends, by the words of the open packet before it and by what it is (SMPTE ST 291-1,
 -- ST 334-1 and ST 334-2); or else by what the layers above distribution packets refuse.
-use Rattle.std.specs.Prelude.{◌≡◌, ℕ, ◌+◌, ◌*◌, ◌%◌, ◌<◌, List, [], ◌∷◌, ◌++◌, length, map, Some, None}
-use Rattle.std.specs.List.{flat_map}
+use Rattle.std.specs.Prelude.{◌≡◌, ℕ, ◌+◌, ◌*◌, ◌%◌, ◌<◌, List, [], ◌∷◌, ◌++◌, length, map}
 use Rattle.cc_base.specs.declared.why.Why.{Why}
 use Rattle.cc_base.specs.declared.why.Why.TheVariants as why
-use Rattle.cc_base.specs.Feeding.{Verdict}
-use Rattle.cc_base.specs.Steps.{AreAccepted}
 use Rattle.anc_words.specs.EightBitWords.{IsEightBit}
 use Rattle.anc_words.specs.Packets.{AncillaryPacket, IsPacket}
 use Rattle.anc_words.specs.Refusals.{WordOffends}
 use Rattle.anc_words.specs.Words.{AreWords}
 use Rattle.anc_words.specs.WordsFiles.{IsWordsFile}
-use Rattle.cdp_packets.specs.declared.parts.CdpPart.{CdpPart}
-use Rattle.cdp_packets.specs.PacketParts.{packet_parts}
 use Rattle.cdp_packets.specs.Packets.{IsCdp, Packet as Frame}
 use Rattle.cdp_packets.specs.Reading.{IsPacketLength}
 use Rattle.cdp_packets.specs.Refusals.{StandsAt}
 use Rattle.words_files.specs.Frames.{IsFileOf}
+use Rattle.words_files.specs.Layers.{Layers}
 
 -- these words are open behind the bytes: the bytes are whole packets, and behind them these words, with which no whole packet
 -- begins
@@ -54,25 +50,11 @@ pub data OffendsFor (words : List ℕ) (word : ℕ) : Why → Type 0 where
   as_byte : (reason : Why) (size : ℕ) (bytes : List ℕ) → CaptionCarries words size bytes → IsPacketLength size → IsEightBit (word % 256) word
       → GoesNowhere size bytes (word % 256) → StandsAt size bytes reason → OffendsFor words word reason
 
--- the layers above take the first of these parts, and refuse the next one for this reason
-pub record IsRefusedFor (verdict : Verdict CdpPart) (parts : List CdpPart) (reason : Why) : Type 0 where
-  pub taken : List CdpPart
-  pub part : CdpPart
-  pub rest : List CdpPart
-  pub spelled : parts ≡ taken ++ part ∷ rest
-  pub accepted : AreAccepted verdict [] taken
-  pub refused : verdict taken part ≡ Some reason
-
 -- behind these bytes the word of these two bytes offends for this reason: by the words of the open packet before it; or some file goes
--- on with it, and of whatever file does, the layers above refuse a part of what the frames say for this reason, and none before it
-pub data HasReason (verdict : Verdict CdpPart) (before : List ℕ) (high low : ℕ) : Why → Type 0 where
+-- on with it, and of whatever file does, the layers above refuse something that the frames say for this reason, and nothing before it
+pub data HasReason (layers : Layers) (before : List ℕ) (high low : ℕ) : Why → Type 0 where
   by_its_packet : (reason : Why) (words : List ℕ) → AreOpenBehind words before → OffendsFor words (256 * high + low) reason
-      → HasReason verdict before high low reason
+      → HasReason layers before high low reason
   by_layers_above : (reason : Why) (more : List ℕ) (frames : List Frame) → IsFileOf frames (before ++ high ∷ low ∷ more)
-      → ((others : List ℕ) (said : List Frame) → IsFileOf said (before ++ high ∷ low ∷ others)
-      → IsRefusedFor verdict (flat_map packet_parts said) reason)
-      → HasReason verdict before high low reason
-
--- a layer that refuses no part
-abbrev pub RefusesNone : Verdict CdpPart → Type 0
-RefusesNone verdict = (above : List CdpPart) (part : CdpPart) → verdict above part ≡ None
+      → ((others : List ℕ) (said : List Frame) → IsFileOf said (before ++ high ∷ low ∷ others) → layers.Refuse said reason)
+      → HasReason layers before high low reason

@@ -5,8 +5,7 @@ use Rattle.anc_words.specs.Ending.{bytes_to_end}
 use Rattle.anc_words.specs.Reading.{anc_syntax}
 use Rattle.words_files.specs.Catching.{refusal_of}
 use Rattle.services_files.specs.Services.{services_say}
-use Rattle.words_files.proofs.OffenceLemmas.{refused_offends, unrefused_is_unoffending}
-use Rattle.services_files.proofs.FillingLemmas.{takes_filling}
+use Rattle.services_files.proofs.ChannelFiles.{refused_offence, unrefused_unoffending}
 use Rattle.cc_receiver.specs.declared.receiver.Ended.TheVariants as ended
 use Rattle.cc_receiver.specs.Feeds.{Feeds}
 use Rattle.cc_receiver.specs.Receiving.{EndsBy}
@@ -23,7 +22,7 @@ returns-in-Some-clause-feeds c = λ before had.
     let fit = bytes_fit c.args.bytes.now (λ k below. omega (arith, c.type_inv.bytes k)) in
     let received = received-refused before c.args.bytes.now c.in-Some.refusal c.args.self.now some fit had in record {
       received = received;
-      offence = refused_offends services_say takes_filling (before ++ c.args.bytes.now) c.in-Some.refusal received.bytes_are
+      offence = refused_offence (before ++ c.args.bytes.now) c.in-Some.refusal received.bytes_are
           (refusal-stays before c.args.bytes.now c.in-Some.refusal some);
       stays = refl;
     }
@@ -40,7 +39,7 @@ returns-then-ne-clause-feeds c = λ before had.
     let now = subst (λ (bs : List ℕ). HasReceived bs c.read.new.self) is (c.read.ensures.received behind u.received few) in
     let frames = c.loop-used.invariant.frames in record {
       received = now;
-      unoffending = unrefused_is_unoffending services_say takes_filling (before ++ take (c.loop-used.used + c.min.result) c.args.bytes.now) now.bytes_are
+      unoffending = unrefused_unoffending (before ++ take (c.loop-used.used + c.min.result) c.args.bytes.now) now.bytes_are
           (sym (ap (refusal_of services_say) is) ∙ sym (c.in_ok-ended.ensures.refusal behind u.received few));
       ends = λ some. subst (EndsBy c.in_ok-ended.ended) is (c.in_ok-ended.ensures.ended behind u.received few);
       first = λ packets fewer some less is_file.
@@ -79,7 +78,7 @@ pub returns-clause-feeds : goal.returns-clause-feeds
 returns-clause-feeds c = λ before had.
     let u = c.loop-used.invariant.underway before had in record {
       received = u.received;
-      unoffending = unrefused_is_unoffending services_say takes_filling (before ++ take c.loop-used.used c.args.bytes.now) u.received.bytes_are u.none;
+      unoffending = unrefused_unoffending (before ++ take c.loop-used.used c.args.bytes.now) u.received.bytes_are u.none;
       ends = λ some packets is. u.within packets c.loop-used.used some (omega arith) is;
       first = λ packets fewer some less is. u.within packets fewer some (omega (arith, less)) is;
       counts = c.loop-used.invariant.frames;
@@ -101,7 +100,7 @@ returns-in_err-ended-clause-feeds c = λ before had.
     let stays = subst (λ (bs : List ℕ). HasReceived bs c.read.new.self) cut
     (received-refused front back c.in_err-ended.field-0.0 c.read.new.self refused (All-drop (λ b. b < 256) (c.loop-used.used + c.min.result) c.args.bytes.now fit) received) in
     let whole = ap (refusal_of services_say) (sym cut) ∙ refusal-stays front back c.in_err-ended.field-0.0 refused in
-    let offence = refused_offends services_say takes_filling (before ++ c.args.bytes.now) c.in_err-ended.field-0.0 (All-append (λ b. b < 256) before c.args.bytes.now had.bytes_are fit) whole in
+    let offence = refused_offence (before ++ c.args.bytes.now) c.in_err-ended.field-0.0 (All-append (λ b. b < 256) before c.args.bytes.now had.bytes_are fit) whole in
     let counts = refused_counts behind _ c.in_err-ended.field-0.0 c.loop-used.self c.read.new.self few (sym (c.in_err-ended.ensures.refusal behind u.received few)) u.received
     (c.read.ensures.received behind u.received few) in
     let same = counts ∙ c.loop-used.invariant.frames in
@@ -112,7 +111,7 @@ pub returns-in-Some-whole-clause-feeds : goal.returns-in-Some-whole-clause-feeds
 returns-in-Some-whole-clause-feeds c = λ before had.
     let reads = c.in-Some-whole.ensures.reads before had in record {
       received = reads.received;
-      unoffending = unrefused_is_unoffending services_say takes_filling (before ++ take c.in-Some-whole.used c.args.bytes.now) reads.received.bytes_are reads.unrefused;
+      unoffending = unrefused_unoffending (before ++ take c.in-Some-whole.used c.args.bytes.now) reads.received.bytes_are reads.unrefused;
       ends = λ some. reads.ends;
       first = reads.first;
       counts = reads.counts;

@@ -3,10 +3,10 @@ use Rattle.cc_receiver.specs.ReceivedServices.{received_windows}
 use Rattle.cue_types.specs.declared.cue.Cue.{Cue}
 use Rattle.screen_checks.specs.Channels.{AreReady, AreTimedAll, KnowAll}
 use Rattle.screen_checks.specs.Services.{KnowServices, StandAt}
-use Rattle.services_files.specs.Services.{services_say}
 use Rattle.window_places.proofs.TurnLemmas.{ruled_in_turn}
 use Rattle.words_files.proofs.FramesOfLemmas.{file_frames}
 use Rattle.words_files.specs.Received.{received_grids}
+use Rattle.services_files.specs.CaptionChannel.{caption_channel}
 use Rattle.cc_verifier.proofs.FindingLemmas.{clean_none}
 use Rattle.cc_verifier.proofs.KeptLemmas.{ruled_timed}
 use Rattle.cc_receiver.proofs.FedFrames.{nothing_is_file}
@@ -19,7 +19,7 @@ pub returns-clause-verified : goal.returns-clause-verified
 returns-clause-verified c = record {
   received = c.in_ok-new.ensures;
   frames = [];
-  frames_are = file_frames services_say [] [] nothing_is_file;
+  frames_are = file_frames caption_channel [] [] nothing_is_file;
   found = clean_none c.args.list;
   goes_on = λ nothing. record {
     counter = refl;

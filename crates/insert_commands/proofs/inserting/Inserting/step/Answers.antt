@@ -1,6 +1,5 @@
 use Rattle.std.proofs.Common.{◌++◌, ◌∷◌, [], Ok, Err, refl, sym, subst}
 use Rattle.cc_base.specs.declared.streams.Put.TheVariants as put
-use Rattle.services_files.specs.Services.{services_say}
 use Rattle.words_files.proofs.FramesOfLemmas.{file_frames}
 use Rattle.text_output.specs.Gathered.{Gathers, held_of}
 use Rattle.insert_commands.specs.InsertSteps.{HasStopped, Replaces}
@@ -8,6 +7,7 @@ use Rattle.insert_commands.specs.ListCaptions.{GivesCaptions}
 use Rattle.insert_commands.specs.OpenPackets.{open_bytes}
 use Rattle.insert_commands.proofs.StepLemmas.{ends_caption, ends_foreign, has_frame, more_caption, more_foreign, more_no, step_copied, step_refused, step_replaced, step_still, step_stopped, step_unwritten, stops_by}
 use Rattle.insert_commands.proofs.inserting.Inserting.step.Goals as goal
+use Rattle.services_files.specs.CaptionChannel.{caption_channel}
 
 pub returns-in-Err-clause-judges : goal.returns-in-Err-clause-judges
 returns-in-Err-clause-judges g c list start before had =
@@ -70,7 +70,7 @@ returns-in-Ok-gather-2-clause-judges g c list start before had =
     let number = c.frames-frame.ensures had.frames had.file had.read in
     let replaces = subst (λ n. Replaces list n ends.frame c.replace.new.captions c.replace.new.words.items (Ok tt)) number
     (c.in-Ok-replace.ensures.replaces list (had.file ++ open_bytes c.feed.new.self) had.frames ends.frame ends.received
-    (file_frames services_say (had.frames ++ ends.frame ∷ []) (had.file ++ open_bytes c.feed.new.self) ends.under) ends.carries.sections
+    (file_frames caption_channel (had.frames ++ ends.frame ∷ []) (had.file ++ open_bytes c.feed.new.self) ends.under) ends.carries.sections
     (subst (λ n. GivesCaptions list n c.args.self.now.captions) (sym number) had.gives)) in
     step_replaced list start _ before c.args.bytes.now c.args.self.now had c.feed.new.self c.in-Ok.fed read (g.O.Sink.written c.gather-in-Ok-replace.new.out)
     (record { packets = c.begin-in-Ok-gather-2.new.self; captions = c.replace.new.captions; gathered = c.gather-in-Ok-replace.new.gathered })
@@ -106,7 +106,7 @@ returns-in-Err-replace-clause-judges g c list start before had =
     let number = c.frames-frame.ensures had.frames had.file had.read in
     let replaces = subst (λ n. Replaces list n ends.frame c.replace.new.captions c.replace.new.words.items (Err c.in-Err-replace.stop)) number
     (c.in-Err-replace.ensures.replaces list (had.file ++ open_bytes c.feed.new.self) had.frames ends.frame ends.received
-    (file_frames services_say (had.frames ++ ends.frame ∷ []) (had.file ++ open_bytes c.feed.new.self) ends.under) ends.carries.sections
+    (file_frames caption_channel (had.frames ++ ends.frame ∷ []) (had.file ++ open_bytes c.feed.new.self) ends.under) ends.carries.sections
     (subst (λ n. GivesCaptions list n c.args.self.now.captions) (sym number) had.gives)) in
     step_stopped list start _ before c.args.bytes.now c.args.self.now had c.feed.new.self c.in-Ok.fed read c.replace.new.captions c.replace.new.words.items c.in-Err-replace.stop
     ends replaces
