@@ -9,6 +9,7 @@ use Rattle.dtvcc_windows.specs.Places.{Cells}
 use Rattle.dtvcc_windows.specs.Showing.{ShownWindow}
 use Rattle.dtvcc_windows.specs.Styles.{pen_style, window_style}
 use Rattle.dtvcc_windows.specs.declared.cells.DCell.{DCell}
+use Rattle.cue_types.specs.Channels.{uses_window}
 use Rattle.cue_types.specs.declared.cue.Cue.{Cue}
 use Rattle.cue_types.specs.declared.cue.Kind.{Kind}
 use Rattle.cue_types.specs.declared.cue.Kind.TheVariants as kind
@@ -56,13 +57,6 @@ authored_window window runs = record {
   attributes = unwrap_or window.attr (window_style window.ws);
   cells = written_cells window.ps runs;
 }
-
--- the cue has the window of this id of the service
-abbrev pub uses_window : ℕ → ℕ → Kind → Bool
-uses_window service id (kind.Pop channel) = false
-uses_window service id (kind.Paint channel) = false
-uses_window service id (kind.Roll channel rows) = false
-uses_window service id (kind.Win window) = (service == window.service) && (id == window.id)
 
 -- the frame is before the HIDE
 abbrev pub is_before : ℕ → Option ℕ → Bool

@@ -6,9 +6,10 @@ ghost use Rattle.authored_places.specs.Newest.{newest};
 ghost use Rattle.authored_places.specs.Timed.{AreCuesTimed};
 ghost use Rattle.cue_types.specs.Channels.{cues_on};
 
-use crate::chain::{base_row, chain_cue, is_on, last_on};
+use crate::chain::{chain_cue, last_on};
 use crate::line::Line;
 use cue_types::lane::is_pop;
+use cue_types::line21::{base_row, is_on};
 use cue_types::{Cue, Kind};
 use line21_codes::Chan;
 

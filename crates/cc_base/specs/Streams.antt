@@ -41,6 +41,10 @@ PutsEmpty old new answer piece = length piece ≡ 0 → (answer ≡ put.Done) ×
 abbrev pub TakesWithin : ℕ → Option (List ℕ) → Option (List ℕ) → Type 0
 TakesWithin limit old new = (taken : List ℕ) × Consumes old new taken × (length taken ≤ limit)
 
+-- the most bytes of an input that is read whole: a cue list or an SCC file
+abbrev pub whole_limit : ℕ
+whole_limit = 67108864
+
 -- these are all bytes that a source had, taken from it within a limit
 pub record IsWhole (limit : ℕ) (old new : Option (List ℕ)) (whole : List ℕ) : Type 0 where
   -- they are what was left, where that is told

@@ -13,7 +13,7 @@ use Rattle.words_files.specs.Catching.{caught_in}
 use Rattle.words_files.specs.FramesOf.{AreFramesOf}
 use Rattle.services_files.specs.Events.{frame_events, service_events}
 use Rattle.services_files.specs.Services.{services_say}
-use Rattle.services_files.specs.WholeFiles.{file_triplets}
+use Rattle.services_files.specs.CarriedChannel.{file_triplets}
 use Rattle.services_files.specs.CaptionChannel.{caption_channel}
 use Rattle.services_files.proofs.EventLemmas.{events_more, frame_events-heard}
 use Rattle.services_files.proofs.ChannelFiles.{frames_caught}

@@ -22,7 +22,7 @@ use Rattle.words_files.proofs.FrameLemmas.{joined}
 use Rattle.service_blocks.specs.Channels.{IsHeard}
 use Rattle.service_blocks.proofs.ChannelLemmas.{heard_channel}
 use Rattle.services_files.specs.Services.{whole_triplets}
-use Rattle.services_files.specs.WholeFiles.{file_triplets}
+use Rattle.services_files.specs.CarriedChannel.{file_triplets}
 use Rattle.services_files.proofs.WholeFileLemmas.{frames_whole}
 use Rattle.services_files.proofs.ChannelFiles.{caught_channel, channel_caught}
 use Rattle.cc_receiver.specs.Channels.{frames_parts}

@@ -8,7 +8,7 @@ use Rattle.dtvcc_screen.specs.Shown.{grids}
 use Rattle.dtvcc_services.specs.Filling.{is_filled}
 use Rattle.dtvcc_windows.specs.Showing.{ShownWindow}
 use Rattle.services_files.specs.Events.{frame_events, service_events}
-use Rattle.services_files.specs.WholeFiles.{file_triplets}
+use Rattle.services_files.specs.CarriedChannel.{file_triplets}
 
 -- a service behind frames
 abbrev pub received_service : List Frame → ℕ → CoreState

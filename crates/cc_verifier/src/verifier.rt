@@ -80,10 +80,7 @@ impl Verifier {
         ensures within { IfOk result (λ fed. fed.used ≤ length bytes.now) }
         ensures moves { 0 < length bytes.now → IfOk result (λ fed. 0 < fed.used) }
     {
-        let fed = match self.receiver.feed(bytes) {
-            Ok(fed) => fed,
-            Err(refusal) => return Err(refusal),
-        };
+        let fed = self.receiver.feed(bytes)?;
         match fed.ended {
             Ended::Caption => {
                 self.judge();
@@ -235,10 +232,8 @@ impl Verifier {
         if let Some(finding) = self.finding {
             return Ok(Verdict::Differs(finding));
         }
-        match self.receiver.finish() {
-            Ok(()) => Ok(self.count()),
-            Err(refusal) => Err(refusal),
-        }
+        self.receiver.finish()?;
+        Ok(self.count())
     }
 
     /// How the frames of a words file at which nothing is found are judged by their number.

@@ -11,7 +11,7 @@ use Rattle.dtvcc_services.specs.Filling.{is_filled}
 use Rattle.dtvcc_shown.specs.Filling.{AllFill}
 use Rattle.dtvcc_shown.proofs.FrameLemmas.{after_append}
 use Rattle.services_files.specs.Events.{events_behind, frame_events, service_events}
-use Rattle.services_files.specs.WholeFiles.{file_triplets}
+use Rattle.services_files.specs.CarriedChannel.{file_triplets}
 
 -- events that are followed by more
 first_fill : (s : Served) (events more : List Event) → AllFill 127 s (events ++ more) → AllFill 127 s events

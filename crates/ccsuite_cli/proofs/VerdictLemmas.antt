@@ -1,16 +1,18 @@
 -- The verdict of a run, command by command.
-use Rattle.std.proofs.Common.{◌≡◌, Some, None, ap, arith}
+use Rattle.std.proofs.Common.{◌≡◌, Some, None, ap}
 use Rattle.command_base.proofs.CountLemmas.{same_told}
 use Rattle.cue_list_commands.proofs.ListAnswerLemmas.{accepted_build, accepted_cues, accepted_pairs, refused_build, refused_cues, refused_pairs, told_build, told_cues, told_pairs}
 use Rattle.scc_commands.proofs.SccVerdictLemmas.{told_export, told_import}
 use Rattle.command_base.specs.declared.status.Status.{Status}
 use Rattle.cue_list_commands.specs.SideEnds.{SideEnds}
+use Rattle.cue_list_commands.specs.SideLists.{TellsSideFaults}
+use Rattle.cue_list_commands.proofs.SideLemmas.{side_kept}
 use Rattle.insert_commands.proofs.VerdictLemmas.{insert_told}
 use Rattle.load_commands.proofs.VerdictLemmas.{load_told}
 use Rattle.verify_commands.proofs.VerdictLemmas.{verify_told}
 use Rattle.words_commands.proofs.LongWordsLemmas.{decode_long, show_long}
 use Rattle.words_commands.proofs.WordsVerdictLemmas.{decode_refused, decode_told, show_refused, show_told}
-use Rattle.ccsuite_cli.specs.Verdict.{AcceptedIsAnswered, FaultsAreTold, LongWordsAreRefused, MalformedIsRefused, RefusedListIsAnswered, TellsSideFaults}
+use Rattle.ccsuite_cli.specs.Verdict.{AcceptedIsAnswered, FaultsAreTold, LongWordsAreRefused, MalformedIsRefused, RefusedListIsAnswered}
 use Rattle.ccsuite_cli.specs.declared.command.Command.TheVariants.{Build, Cues, Decode, Export, Import, Insert, Load, Pairs, Show, Verify}
 
 -- an accepted list
@@ -39,20 +41,20 @@ long_refused bytes Decode old new answer reads past read is = decode_long bytes 
 long_refused bytes (Show frame) old new answer reads past read is = show_long frame bytes old new answer past read is
 long_refused bytes _ old new answer reads past read is = absurd reads
 
--- the side file's count isn't greater where the side file is as it was
-side_kept : (side later : SideEnds) (answer : Status) → later ≡ side → TellsSideFaults side later answer
-side_kept side later answer same rose = let e = ap (λ (s : SideEnds). s.faults) same in absurd (omega arith)
+-- the side file is as it was
+side_same : (side later : SideEnds) (answer : Status) → later ≡ side → TellsSideFaults side later answer
+side_same side later answer same = side_kept side later answer (ap (λ (s : SideEnds). s.faults) same)
 
 -- a count that is greater than before
 pub faults_told : FaultsAreTold
-faults_told None side later old new answer is = (side_kept side later answer is.0, same_told old new answer is.1.1)
-faults_told (Some Pairs) side later old new answer is = (side_kept side later answer is.0, told_pairs old new answer is.1)
-faults_told (Some Build) side later old new answer is = (side_kept side later answer is.0, told_build old new answer is.1)
-faults_told (Some Cues) side later old new answer is = (side_kept side later answer is.0, told_cues old new answer is.1)
-faults_told (Some Decode) side later old new answer is = (side_kept side later answer is.0, decode_told old new answer is.1)
-faults_told (Some (Show frame)) side later old new answer is = (side_kept side later answer is.0, show_told frame old new answer is.1)
+faults_told None side later old new answer is = (side_same side later answer is.0, same_told old new answer is.1.1)
+faults_told (Some Pairs) side later old new answer is = (side_same side later answer is.0, told_pairs old new answer is.1)
+faults_told (Some Build) side later old new answer is = (side_same side later answer is.0, told_build old new answer is.1)
+faults_told (Some Cues) side later old new answer is = (side_same side later answer is.0, told_cues old new answer is.1)
+faults_told (Some Decode) side later old new answer is = (side_same side later answer is.0, decode_told old new answer is.1)
+faults_told (Some (Show frame)) side later old new answer is = (side_same side later answer is.0, show_told frame old new answer is.1)
 faults_told (Some Verify) side later old new answer is = verify_told side later old new answer is
 faults_told (Some Insert) side later old new answer is = insert_told side later old new answer is
-faults_told (Some Import) side later old new answer is = (side_kept side later answer is.0, told_import old new answer is.1)
-faults_told (Some (Export time)) side later old new answer is = (side_kept side later answer is.0, told_export time old new answer is.1)
-faults_told (Some (Load count)) side later old new answer is = (side_kept side later answer is.0, load_told count old new answer is.1)
+faults_told (Some Import) side later old new answer is = (side_same side later answer is.0, told_import old new answer is.1)
+faults_told (Some (Export time)) side later old new answer is = (side_same side later answer is.0, told_export time old new answer is.1)
+faults_told (Some (Load count)) side later old new answer is = (side_same side later answer is.0, load_told count old new answer is.1)

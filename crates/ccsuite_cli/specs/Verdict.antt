@@ -8,7 +8,7 @@ use Rattle.cue_lists.specs.Listing.{Listing}
 use Rattle.frame_scheduler.specs.Planned.{Placement}
 use Rattle.words_files.specs.Offences.{IsFileUnder, IsMalformed}
 use Rattle.services_files.specs.CaptionChannel.{caption_channel}
-use Rattle.command_base.specs.Counts.{IsReadOf, TellsFaults}
+use Rattle.command_base.specs.Counts.{IsReadOf}
 use Rattle.command_base.specs.Ends.{Ends}
 use Rattle.command_base.specs.declared.status.Place.TheVariants.{Byte}
 use Rattle.command_base.specs.declared.status.Status.{Status}
@@ -18,6 +18,7 @@ use Rattle.words_commands.specs.WordsAnswer.{words_limit}
 use Rattle.words_commands.specs.WordsVerdict.{IsPastLimit, IsShown}
 use Rattle.scc_commands.specs.Import.{IsImport, IsRefusedImport, Placed}
 use Rattle.cue_list_commands.specs.SideEnds.{SideEnds}
+use Rattle.cue_list_commands.specs.SideLists.{TellsAllFaults}
 use Rattle.ccsuite_cli.specs.Answer.{Answer, RunAnswer}
 use Rattle.ccsuite_cli.specs.declared.command.Command.{Command}
 use Rattle.ccsuite_cli.specs.declared.command.Command.TheVariants.{Build, Cues, Decode, Import, Load, Pairs, Show}
@@ -99,11 +100,7 @@ abbrev pub LoadIsAnswered : Type 0
 LoadIsAnswered = (count : ℕ) (old new : Ends) (answer : Status) → (Rose old.write_faults new.write_faults → ⊥)
     → Answer (Some (Load count)) old new answer → (answer ≡ status.Ok) ⊎ (answer ≡ status.Memory)
 
--- where the side file's count of faults is greater than before, that is the answer
-abbrev pub TellsSideFaults : SideEnds → SideEnds → Status → Type 0
-TellsSideFaults side later answer = side.faults < later.faults → answer ≡ status.ReadFault
-
 -- every run tells faults
 abbrev pub FaultsAreTold : Type 0
 FaultsAreTold = (command : Option Command) (side later : SideEnds) (old new : Ends) (answer : Status) → RunAnswer command side later old new answer
-    → TellsSideFaults side later answer × TellsFaults old new answer
+    → TellsAllFaults side later old new answer

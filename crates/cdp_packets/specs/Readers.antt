@@ -71,7 +71,7 @@ pub record Keeps (size : ℕ) (front : Open) (packet : OpenPacket) : Type 0 wher
   pub total : packet.total ≡ front.total % 256
 
 -- what is kept behind one more byte, where this one comes next
-pub record IsBehind (old : OpenPacket) (byte : ℕ) (following : Place) (new : OpenPacket) : Type 0 where
+pub record GoesOn (old : OpenPacket) (byte : ℕ) (following : Place) (new : OpenPacket) : Type 0 where
   pub next : new.next ≡ following
   -- one byte fewer is left
   pub left : new.left ≡ old.left - 1

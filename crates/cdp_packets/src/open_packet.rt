@@ -85,7 +85,7 @@ fn sections_or_footer(left: u8, within: Within) -> Place
 }
 
 impl OpenPacket {
-    ghost use Rattle.cdp_packets.specs.Readers.{IsBehind, Keeps};
+    ghost use Rattle.cdp_packets.specs.Readers.{GoesOn, Keeps};
 
     /// No byte of a packet of this length has come.
     pub(crate) fn new(length: u8) -> OpenPacket
@@ -105,7 +105,7 @@ impl OpenPacket {
     // Goes on behind a byte.
     fn go_on(&mut self, item: u8, next: Place, step: Step<CdpPart>) -> Step<CdpPart>
         ensures says { result ≡ step }
-        ensures behind { IsBehind self.old item next self.new }
+        ensures behind { GoesOn self.old item next self.new }
     {
         self.next = next;
         self.left = self.left.saturating_sub(1);
@@ -116,7 +116,7 @@ impl OpenPacket {
     // Judges a byte that has to be this one, and goes on behind it.
     fn fixed(&mut self, item: u8, expected: u8, why: Why, next: Place) -> Step<CdpPart>
         ensures says { result ≡ (if item == expected then Nothing else Refuse why) }
-        ensures behind { IsBehind self.old item next self.new }
+        ensures behind { GoesOn self.old item next self.new }
     {
         let step = match item == expected {
             true => Step::Nothing,

@@ -6,7 +6,8 @@ use Rattle.cc_base.specs.declared.limit_of.LimitOf.TheVariants as limit
 use Rattle.command_base.proofs.CountLemmas.{read_told, steady_told, write_told}
 use Rattle.command_base.specs.Counts.{IsReadOf, TellsFaults}
 use Rattle.command_base.specs.Ends.{Ends, ends}
-use Rattle.command_base.specs.WholeInput.{IsRefusal, IsTooLong, JudgesInput, Putting, ReadsInput, WholeAnswer, whole_limit}
+use Rattle.cc_base.specs.Streams.{whole_limit}
+use Rattle.command_base.specs.WholeInput.{IsRefusal, IsTooLong, JudgesInput, Putting, ReadsInput, WholeAnswer}
 use Rattle.command_base.specs.declared.status.Status.{Status}
 use Rattle.command_base.specs.declared.status.Status.TheVariants as status
 

@@ -13,6 +13,11 @@ abbrev pub ends : Option (List ℕ) → ℕ → Option (List ℕ) → ℕ → En
 ends left read_faults written write_faults =
     record { left = left; read_faults = read_faults; written = written; write_faults = write_faults }
 
+-- neither count of faults rose
+pub record IsSteady (old new : Ends) : Type 0 where
+  pub reads : new.read_faults ≡ old.read_faults
+  pub writes : new.write_faults ≡ old.write_faults
+
 -- nothing was put
 abbrev pub PutsNothing : Ends → Ends → Type 0
 PutsNothing old new = (new.write_faults ≡ old.write_faults) × Keeps old.written new.written

@@ -1,15 +1,11 @@
 -- Commands that read their input to its end and judge it before they put anything: how bytes are judged, how an input is read, and
 -- what such a command answers, each status with its cause and with what was put.
 use Rattle.std.specs.Prelude.{◌≡◌, ◌<◌, ℕ, List, length, IfSome, Option, Result, Ok, Err, ⊤}
-use Rattle.cc_base.specs.Streams.{Rose, TakesWithin}
+use Rattle.cc_base.specs.Streams.{Rose, TakesWithin, whole_limit}
 use Rattle.cc_base.specs.declared.limit_of.LimitOf.TheVariants as limit
 use Rattle.command_base.specs.Ends.{Ends, PutsNothing}
 use Rattle.command_base.specs.declared.status.Status.{Status}
 use Rattle.command_base.specs.declared.status.Status.TheVariants as status
-
--- the most bytes of such an input, a cue list or an SCC file
-abbrev pub whole_limit : ℕ
-whole_limit = 67108864
 
 -- bytes are judged to be this value, or refused
 abbrev pub JudgesInput : {A : Type 0} → (List ℕ → A → Type 0) → (List ℕ → Status → Type 0) → List ℕ → Result A Status → Type 0

@@ -1,5 +1,6 @@
 ghost use Rattle.std.specs.Prelude.{◌≡◌, ◌≤◌, IfOk, length};
-ghost use Rattle.command_base.specs.WholeInput.{IsTooLong, ReadsInput, whole_limit};
+ghost use Rattle.cc_base.specs.Streams.{whole_limit};
+ghost use Rattle.command_base.specs.WholeInput.{IsTooLong, ReadsInput};
 
 use crate::status::Status;
 use cc_base::{LimitOf, ReadError, Source, read_whole};

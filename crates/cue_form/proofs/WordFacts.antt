@@ -9,7 +9,7 @@ use Rattle.line21_codes.specs.declared.styles.Colour.{Colour}
 use Rattle.line21_codes.specs.declared.styles.Colour.TheVariants as colour
 use Rattle.line21_codes.specs.declared.styles.Style.{Style}
 use Rattle.line21_codes.specs.PenWords.{colour_word, italic_mark}
-use Rattle.cue_form.specs.Fields.{channel_field, channel_words, named, pen_field, plain_pen_field, plain_words, rate_field, rate_words}
+use Rattle.cue_form.specs.Fields.{channel_field, channel_words, line21_words, named, pen_field, plain_pen_field, plain_words, rate_field, rate_words}
 use Rattle.cue_types.specs.Line21Cues.{IsAuthoredChannel, IsLine21Pen}
 use Rattle.cue_types.specs.Listing.{IsListRate}
 use Rattle.cue_form.specs.Records.{Field}
@@ -21,6 +21,7 @@ use Rattle.cue_types.specs.declared.cue.Pen.TheVariants as pen
 use Rattle.cue_types.specs.declared.head.Version.{Version}
 use Rattle.cue_form.specs.declared.record_kind.RecordKind.{RecordKind}
 use Rattle.cue_form.specs.declared.record_kind.RecordKind.TheVariants as record_kind
+use Rattle.cue_form.proofs.Passing.{with_value}
 
 -- a field that passed the test for a word is the word
 pub is_word : (text word : Field) → bytes_eq text word ≡ true → text ≡ word
@@ -68,39 +69,29 @@ window_pen_passed text p e =
 abbrev plain_word : Colour → Bool → Field
 plain_word colour italic = colour_word colour ++ italic_mark italic
 
--- the pen's colour and italics in a word, with the underlining that was told
-record IsPlainPen (underline : Bool) (text : Field) (style : Style) : Type 0 where
+-- a word spells a pen's colour and italics, of which white alone has these
+abbrev IsPlainPen : Field → Colour × Bool → Type 0
+IsPlainPen text plain = (text ≡ plain_word plain.0 plain.1) × (plain.1 ≡ true → plain.0 ≡ colour.White)
+
+plain_pen_named : (text : Field) (plain : Colour × Bool) → named line21_words text ≡ Some plain → IsPlainPen text plain
+plain_pen_named =
+    of_named IsPlainPen line21_words
+    ((refl, λ i. refl), ((refl, λ i. cc), ((refl, λ i. cc), ((refl, λ i. cc), ((refl, λ i. cc), ((refl, λ i. cc), ((refl, λ i. cc), ((refl, λ i. refl), tt))))))))
+
+-- the style of a word, with the underlining that was told
+record IsPlainStyle (underline : Bool) (text : Field) (style : Style) : Type 0 where
   word : text ≡ plain_word style.colour style.italic
   underlined : style.underline ≡ underline
   white : style.italic ≡ true → style.colour ≡ colour.White
 
 -- a pen without its underlining
-plain_pen_passed : (u : Bool) (text : Field) (style : Style) → plain_pen_field u text ≡ Some style → IsPlainPen u text style
-plain_pen_passed u text style e0 = elim (cases_Bool (bytes_eq text (codes "white"))) [
-  | inl is ↦ let q = rw is at e0 in let same : record { colour = colour.White; italic = false; underline = u } ≡ style = cc in rw (← same) (record { word = is_word text _ is; underlined = refl; white = λ i. refl })
-  | inr other ↦ let e1 = rw other at e0 in elim (cases_Bool (bytes_eq text (codes "green"))) [
-    | inl is ↦ let q = rw is at e1 in let same : record { colour = colour.Green; italic = false; underline = u } ≡ style = cc in rw (← same) (record { word = is_word text _ is; underlined = refl; white = λ i. cc })
-    | inr other ↦ let e2 = rw other at e1 in elim (cases_Bool (bytes_eq text (codes "blue"))) [
-      | inl is ↦ let q = rw is at e2 in let same : record { colour = colour.Blue; italic = false; underline = u } ≡ style = cc in rw (← same) (record { word = is_word text _ is; underlined = refl; white = λ i. cc })
-      | inr other ↦ let e3 = rw other at e2 in elim (cases_Bool (bytes_eq text (codes "cyan"))) [
-        | inl is ↦ let q = rw is at e3 in let same : record { colour = colour.Cyan; italic = false; underline = u } ≡ style = cc in rw (← same) (record { word = is_word text _ is; underlined = refl; white = λ i. cc })
-        | inr other ↦ let e4 = rw other at e3 in elim (cases_Bool (bytes_eq text (codes "red"))) [
-          | inl is ↦ let q = rw is at e4 in let same : record { colour = colour.Red; italic = false; underline = u } ≡ style = cc in rw (← same) (record { word = is_word text _ is; underlined = refl; white = λ i. cc })
-          | inr other ↦ let e5 = rw other at e4 in elim (cases_Bool (bytes_eq text (codes "yellow"))) [
-            | inl is ↦ let q = rw is at e5 in let same : record { colour = colour.Yellow; italic = false; underline = u } ≡ style = cc in rw (← same) (record { word = is_word text _ is; underlined = refl; white = λ i. cc })
-            | inr other ↦ let e6 = rw other at e5 in elim (cases_Bool (bytes_eq text (codes "magenta"))) [
-              | inl is ↦ let q = rw is at e6 in let same : record { colour = colour.Magenta; italic = false; underline = u } ≡ style = cc in rw (← same) (record { word = is_word text _ is; underlined = refl; white = λ i. cc })
-              | inr other ↦ let e7 = rw other at e6 in elim (cases_Bool (bytes_eq text (codes "white-i"))) [
-                | inl is ↦ let q = rw is at e7 in let same : record { colour = colour.White; italic = true; underline = u } ≡ style = cc in rw (← same) (record { word = is_word text _ is; underlined = refl; white = λ i. refl })
-                | inr other ↦ let q = rw other at e7 in cc
-              ]
-            ]
-          ]
-        ]
-      ]
-    ]
-  ]
-]
+plain_pen_passed : (u : Bool) (text : Field) (style : Style) → plain_pen_field u text ≡ Some style → IsPlainStyle u text style
+plain_pen_passed u text style e =
+    with_value _ (named line21_words text) (λ none. let q = rw none at e in cc) (λ plain is.
+    let passed = plain_pen_named text plain is in
+    let q = rw is at e in
+    let same : record { colour = plain.0; italic = plain.1; underline = u } ≡ style = cc in
+    rw (← same) (record { word = passed.0; underlined = refl; white = passed.1 }))
 
 -- a pen
 pub pen_passed : (text : Field) (style : Style) → pen_field text ≡ Some style → IsLine21Pen (pen.Line21 style) × (text ≡ pen_word (pen.Line21 style))

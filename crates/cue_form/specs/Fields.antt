@@ -1,11 +1,12 @@
 -- The values of fields: numbers, rates, channels and pens.
-use Rattle.std.specs.Prelude.{ℕ, ◌+◌, ◌-◌, ◌*◌, ◌==◌, Bool, true, false, not, ◌&&◌, ◌||◌, nat_le, if◌then◌else◌, List, [], ◌∷◌, length, take, drop, slice_index, codes, bytes_eq, Option, Some, None, option_and_then}
+use Rattle.std.specs.Prelude.{ℕ, ◌+◌, ◌-◌, ◌*◌, ◌==◌, Bool, true, false, not, ◌&&◌, ◌||◌, nat_le, if◌then◌else◌, List, [], ◌∷◌, length, take, drop, slice_index, codes, bytes_eq, Option, Some, None, option_map, option_and_then}
 use Rattle.std.specs.List.{list_all}
 use Rattle.std.specs.Char.{is_ascii_digit}
 use Rattle.cc_base.specs.declared.rate.Rate.{Rate}
 use Rattle.cc_base.specs.declared.rate.Rate.TheVariants as rate
 use Rattle.line21_codes.specs.declared.channels.Chan.{Chan}
 use Rattle.line21_codes.specs.declared.channels.Chan.TheVariants as chan
+use Rattle.line21_codes.specs.declared.styles.Colour.{Colour}
 use Rattle.line21_codes.specs.declared.styles.Colour.TheVariants as colour
 use Rattle.line21_codes.specs.declared.styles.Style.{Style}
 use Rattle.dtvcc_codes.specs.declared.pens.Fill.{Fill}
@@ -55,18 +56,23 @@ channel_words = (codes "CC1", chan.Cc1) ∷ (codes "CC3", chan.Cc3) ∷ []
 abbrev pub channel_field : Field → Option Chan
 channel_field text = named channel_words text
 
--- the style of a pen's colour or italics, underlined or not
+-- the pens of line 21 before their underline, each by its word: a colour, and whether it is in italics
+abbrev pub line21_words : List (Field × (Colour × Bool))
+line21_words =
+    (codes "white", (colour.White, false))
+    ∷ (codes "green", (colour.Green, false))
+    ∷ (codes "blue", (colour.Blue, false))
+    ∷ (codes "cyan", (colour.Cyan, false))
+    ∷ (codes "red", (colour.Red, false))
+    ∷ (codes "yellow", (colour.Yellow, false))
+    ∷ (codes "magenta", (colour.Magenta, false))
+    ∷ (codes "white-i", (colour.White, true))
+    ∷ []
+
+-- the style of such a pen, underlined or not
 abbrev pub plain_pen_field : Bool → Field → Option Style
 plain_pen_field underline text =
-    if bytes_eq text (codes "white") then Some (record { colour = colour.White; italic = false; underline = underline })
-    else if bytes_eq text (codes "green") then Some (record { colour = colour.Green; italic = false; underline = underline })
-    else if bytes_eq text (codes "blue") then Some (record { colour = colour.Blue; italic = false; underline = underline })
-    else if bytes_eq text (codes "cyan") then Some (record { colour = colour.Cyan; italic = false; underline = underline })
-    else if bytes_eq text (codes "red") then Some (record { colour = colour.Red; italic = false; underline = underline })
-    else if bytes_eq text (codes "yellow") then Some (record { colour = colour.Yellow; italic = false; underline = underline })
-    else if bytes_eq text (codes "magenta") then Some (record { colour = colour.Magenta; italic = false; underline = underline })
-    else if bytes_eq text (codes "white-i") then Some (record { colour = colour.White; italic = true; underline = underline })
-    else None
+    option_map (λ plain. record { colour = plain.0; italic = plain.1; underline = underline }) (named line21_words text)
 
 -- the style of a line 21 pen; -u at the end underlines
 abbrev pub pen_field : Field → Option Style

@@ -2,10 +2,6 @@
 use Rattle.std.specs.Prelude.{ℕ, zero, suc, List, [], ◌∷◌}
 use Rattle.csv.specs.Reading.{records, default_config, strip_bom}
 
--- the most bytes of a list
-abbrev pub list_limit : ℕ
-list_limit = 67108864
-
 -- the bytes of a field
 abbrev pub Field : Type 0
 Field = List ℕ

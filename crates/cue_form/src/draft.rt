@@ -166,28 +166,19 @@ impl Draft {
     fn add_head(&mut self, row: &ByteRecord) -> Result<(), Offence>
         ensures { GivesBegun (adds self.old RecordKind.Ccsuite (fields_of row.now)) result self.new }
     {
-        match read_head(row) {
-            Ok(head) => {
-                self.head = Some(head);
-                Ok(())
-            }
-            Err(offence) => Err(offence),
-        }
+        self.head = Some(read_head(row)?);
+        Ok(())
     }
 
     /// Adds a share: `share,SERVICE,BYTES`.
     fn add_share(&mut self, row: &ByteRecord) -> Result<(), Offence>
         ensures { GivesBegun (adds self.old RecordKind.Share (fields_of row.now)) result self.new }
     {
-        match read_share(&self.shares, self.room(), row) {
-            Ok(share) => {
-                if self.shares.push(share).is_err() {
-                    return Err(Offence::Memory(AllocError));
-                }
-                Ok(())
-            }
-            Err(offence) => Err(offence),
+        let share = read_share(&self.shares, self.room(), row)?;
+        if self.shares.push(share).is_err() {
+            return Err(Offence::Memory(AllocError));
         }
+        Ok(())
     }
 
     /// The bytes of a frame that shares may take, at the rate of the head.
@@ -205,32 +196,24 @@ impl Draft {
     fn add_attributes(&mut self, row: &ByteRecord) -> Result<(), Offence>
         ensures { GivesBegun (adds self.old RecordKind.Attr (fields_of row.now)) result self.new }
     {
-        match read_attributes(row) {
-            Ok(attributes) => {
-                if let Some(cue) = &mut self.last {
-                    if let Kind::Win(window) = &mut cue.kind {
-                        window.attr = Some(attributes);
-                    }
-                }
-                Ok(())
+        let attributes = read_attributes(row)?;
+        if let Some(cue) = &mut self.last {
+            if let Kind::Win(window) = &mut cue.kind {
+                window.attr = Some(attributes);
             }
-            Err(offence) => Err(offence),
         }
+        Ok(())
     }
 
     /// Gives the last run colours of its own.
     fn add_colours(&mut self, row: &ByteRecord) -> Result<(), Offence>
         ensures { GivesBegun (adds self.old RecordKind.Colour (fields_of row.now)) result self.new }
     {
-        match read_colours(row) {
-            Ok(colours) => {
-                if let Some(cue) = &mut self.last {
-                    cue.runs.colour_last(colours);
-                }
-                Ok(())
-            }
-            Err(offence) => Err(offence),
+        let colours = read_colours(row)?;
+        if let Some(cue) = &mut self.last {
+            cue.runs.colour_last(colours);
         }
+        Ok(())
     }
 
     /// Adds a cue, of which there are 20,000 at most.
@@ -240,10 +223,7 @@ impl Draft {
         if self.is_full() {
             return Err(Offence::Limit(LimitOf::Cues));
         }
-        match read_cue(alloc, kind, row) {
-            Ok(cue) => self.push_cue(cue),
-            Err(offence) => Err(offence),
-        }
+        self.push_cue(read_cue(alloc, kind, row)?)
     }
 
     /// Adds a run to the last cue.
@@ -253,10 +233,7 @@ impl Draft {
         let Some(mut cue) = self.last.take() else {
             return Err(out_of_form(1));
         };
-        let run = match read_run(alloc, &cue, row) {
-            Ok(run) => run,
-            Err(offence) => return Err(offence),
-        };
+        let run = read_run(alloc, &cue, row)?;
         if cue.runs.push(run).is_err() {
             return Err(Offence::Memory(AllocError));
         }

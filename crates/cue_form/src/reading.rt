@@ -2,7 +2,8 @@ ghost use Rattle.std.specs.Prelude.{◌≤◌, IfErr, IfOk, length};
 ghost use Rattle.cue_form.specs.Answers.{Answers};
 ghost use Rattle.cue_form.specs.FirstFault.{FaultsFirst};
 ghost use Rattle.cue_form.specs.Reading.{read_list};
-ghost use Rattle.cue_form.specs.Records.{list_limit, records_of};
+ghost use Rattle.cc_base.specs.Streams.{whole_limit};
+ghost use Rattle.cue_form.specs.Records.{records_of};
 ghost use Rattle.cue_form.specs.Spelling.{SpellsList};
 
 use crate::draft::Draft;
@@ -19,7 +20,7 @@ use std::alloc::{AllocError, Global};
 /// where the list has more than 1,000,000 frames or 20,000 cues. Want of memory may come at any record, in place of what is due; so is
 /// any error of the CSV reader answered, which over bytes in memory has no other.
 pub fn parse(alloc: Global, bytes: &[u8]) -> Result<CueList, CueFault>
-    requires { length bytes.now ≤ list_limit }
+    requires { length bytes.now ≤ whole_limit }
     ensures answer { Answers (read_list bytes.now) result }
 
     // The records spell the list that they gave.

@@ -234,16 +234,14 @@ pub fn read_run(alloc: Global, cue: &Cue, row: &ByteRecord) -> Result<Run, Offen
     let last = u64::from(columns_of(cue.kind).saturating_sub(1));
     let col = value!(read_within(0, last, field(row, 2)), 3) as u8;
     let pen = value!(read_run_pen(cue.kind, field(row, 3)), 4);
-    match read_text(alloc, cue.kind, col, field(row, 4)) {
-        Ok(text) => Ok(Run {
-            row: on_row,
-            col,
-            pen,
-            text,
-            colors: None,
-        }),
-        Err(offence) => Err(offence),
-    }
+    let text = read_text(alloc, cue.kind, col, field(row, 4))?;
+    Ok(Run {
+        row: on_row,
+        col,
+        pen,
+        text,
+        colors: None,
+    })
 }
 
 /// The first row of a cue's runs.

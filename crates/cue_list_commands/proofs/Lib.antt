@@ -4,4 +4,5 @@ pub mod ListVerdictLemmas
 mod Migrated
 pub mod Outputs
 mod Refusals
+pub mod SideLemmas
 mod WordsLemmas

@@ -18,7 +18,8 @@ use Rattle.cue_lists.proofs.Unique.{first_fault_read}
 use Rattle.frame_scheduler.specs.Planned.{IsFirstWithoutRoom, IsListPlaced, Placement}
 use Rattle.frame_scheduler.proofs.LanesLemmas.{first_without_room, one_placement, placed_has_room}
 use Rattle.frame_scheduler.proofs.RoomDecided.{list_decided}
-use Rattle.cue_list_commands.specs.Accepted.{BreaksRule, IsAccepted, IsFaulty, IsGoodList, IsRefused, IsRefusedList, LacksRoom, list_limit}
+use Rattle.cc_base.specs.Streams.{whole_limit}
+use Rattle.cue_list_commands.specs.Accepted.{BreaksRule, IsAccepted, IsFaulty, IsGoodList, IsRefused, IsRefusedList, LacksRoom}
 use Rattle.cue_list_commands.specs.Reads.{form_status}
 use Rattle.cue_list_commands.specs.ListVerdict.{AcceptanceIsOne, AcceptedIsNotRefused, EveryListIsJudged, RefusalIsOne}
 use Rattle.command_base.specs.declared.status.Place.TheVariants.{Field}
@@ -81,7 +82,7 @@ accepted_once bytes one other placed moved first second =
 
 -- why a list is refused
 abbrev Cause : List ℕ → Status → Type 0
-Cause bytes answer = ((list_limit < length bytes) × (answer ≡ status.Limit limit.Bytes))
+Cause bytes answer = ((whole_limit < length bytes) × (answer ≡ status.Limit limit.Bytes))
     ⊎ ((f : CueFault) × IsFaulty bytes f × (answer ≡ form_status f))
     ⊎ ((fault : RuleFault) × BreaksRule bytes fault × (answer ≡ status.Rule fault))
     ⊎ ((cue : ℕ) × LacksRoom bytes cue × (answer ≡ status.NoRoom cue))
@@ -150,7 +151,7 @@ list_refused_once bytes one other refused again =
     refused_once bytes one other (refused_list bytes one refused) (refused_list bytes other again)
 
 -- what isn't read as a list is refused with its fault
-fault_refused : (bytes : List ℕ) (f : CueFault) → length bytes ≤ list_limit → read_list bytes ≡ Err f → IsRefused bytes (form_status f)
+fault_refused : (bytes : List ℕ) (f : CueFault) → length bytes ≤ whole_limit → read_list bytes ≡ Err f → IsRefused bytes (form_status f)
 fault_refused bytes (fault.Memory error) within is = absurd (no_want_of_memory bytes error is)
 fault_refused bytes (fault.Limit which) within is =
     refused_list bytes (status.Limit which) (form_refused bytes (fault.Limit which) within is (answered_fault (records_of bytes) (fault.Limit which) is))
@@ -161,7 +162,7 @@ fault_refused bytes (fault.Malformed rec field why) within is =
 abbrev Judged : List ℕ → Type 0
 Judged bytes = ((list : Listing) × (placed : Placement) × IsAccepted bytes list placed) ⊎ ((answer : Status) × IsRefused bytes answer)
 
-list_judged : (bytes : List ℕ) (list : Listing) → length bytes ≤ list_limit → SpellsList (records_of bytes) list → Judged bytes
+list_judged : (bytes : List ℕ) (list : Listing) → length bytes ≤ whole_limit → SpellsList (records_of bytes) list → Judged bytes
 list_judged bytes list within spelled =
     elim (ruled_or_broken list) [
       | inl ruled ↦
@@ -173,7 +174,7 @@ list_judged bytes list within spelled =
       | inr broken ↦ inr (status.Rule broken.0, record { list = list; within = within; spelled = spelled; broken = broken.1 })
     ]
 
-read_judged : (bytes : List ℕ) (r : Result Listing CueFault) → length bytes ≤ list_limit → read_list bytes ≡ r → Judged bytes
+read_judged : (bytes : List ℕ) (r : Result Listing CueFault) → length bytes ≤ whole_limit → read_list bytes ≡ r → Judged bytes
 read_judged bytes (Ok list) within is =
     list_judged bytes list within (answered_list (records_of bytes) list is)
 read_judged bytes (Err f) within is = inr (form_status f, fault_refused bytes f within is)
@@ -181,7 +182,7 @@ read_judged bytes (Err f) within is = inr (form_status f, fault_refused bytes f 
 -- every list is accepted or refused
 pub every_list_judged : EveryListIsJudged
 every_list_judged bytes =
-    elim (cases_lt list_limit (length bytes)) [
+    elim (cases_lt whole_limit (length bytes)) [
       | inl long ↦ inr (status.Limit limit.Bytes, long)
       | inr within ↦ read_judged bytes (read_list bytes) within refl
     ]

@@ -11,7 +11,8 @@ use Rattle.cue_lists.specs.Rules.{IsRuled}
 use Rattle.cue_lists.specs.declared.fault.CueFault.{CueFault}
 use Rattle.cue_lists.specs.declared.fault.CueFault.TheVariants as fault
 use Rattle.cue_lists.proofs.ListLimits.{limit_of_records}
-use Rattle.cue_list_commands.specs.Accepted.{IsGoodList, IsRefused, IsRefusedList, list_limit}
+use Rattle.cc_base.specs.Streams.{whole_limit}
+use Rattle.cue_list_commands.specs.Accepted.{IsGoodList, IsRefused, IsRefusedList}
 use Rattle.command_base.proofs.WholeInputLemmas.{AreRefusals}
 use Rattle.command_base.specs.WholeInput.{JudgesInput}
 use Rattle.cue_list_commands.specs.Reads.{IsProgrammeOf, form_status}
@@ -19,7 +20,7 @@ use Rattle.command_base.specs.declared.status.Status.{Status}
 use Rattle.command_base.specs.declared.status.Status.TheVariants as status
 
 -- a list whose form is at fault is refused with the fault's status
-pub form_refused : (bytes : List ℕ) (f : CueFault) → length bytes ≤ list_limit → Answers (read_list bytes) (Err f) → FaultsFirst (records_of bytes) f
+pub form_refused : (bytes : List ℕ) (f : CueFault) → length bytes ≤ whole_limit → Answers (read_list bytes) (Err f) → FaultsFirst (records_of bytes) f
     → JudgesInput IsGoodList IsRefusedList bytes (Err (form_status f))
 form_refused bytes (fault.Memory error) within due first = tt
 form_refused bytes (fault.Limit limit.Bytes) within due first = absurd (limit_of_records bytes limit.Bytes due)

@@ -6,3 +6,4 @@ pub mod Migration
 pub mod Output
 pub mod Reads
 pub mod SideEnds
+pub mod SideLists

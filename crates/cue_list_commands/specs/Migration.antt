@@ -3,7 +3,8 @@ use Rattle.std.specs.Prelude.{◌≡◌, ◌≤◌, ℕ, List, length}
 use Rattle.cue_lists.specs.Listing.{Listing}
 use Rattle.cue_lists.specs.Printing.{in_order, list_bytes}
 use Rattle.frame_scheduler.specs.Planned.{Placement}
-use Rattle.cue_list_commands.specs.Accepted.{IsAccepted, list_limit}
+use Rattle.cc_base.specs.Streams.{whole_limit}
+use Rattle.cue_list_commands.specs.Accepted.{IsAccepted}
 use Rattle.cue_list_commands.specs.Output.{build_output, pairs_output}
 
 -- what is written of a list is accepted with the same placement, and `pairs` and `build` put the same of both
@@ -15,4 +16,4 @@ pub record IsBuiltAlike (list : Listing) (placed : Placement) : Type 0 where
 -- so it is for every list that is accepted, where what is written of it keeps to the limit of a list's bytes
 abbrev pub WrittenIsBuiltAlike : Type 0
 WrittenIsBuiltAlike = (bytes : List ℕ) (list : Listing) (placed : Placement) → IsAccepted bytes list placed
-    → length (list_bytes list) ≤ list_limit → IsBuiltAlike list placed
+    → length (list_bytes list) ≤ whole_limit → IsBuiltAlike list placed

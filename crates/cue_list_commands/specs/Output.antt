@@ -11,7 +11,7 @@ use Rattle.frame_carrier.specs.Carried.{AreCarried}
 use Rattle.frame_carrier.specs.Carrying.{column_bytes, column_packets}
 use Rattle.cue_lists.specs.Shares.{share_room}
 use Rattle.services_carried.specs.ServicesCarried.{AreWithin}
-use Rattle.services_files.specs.WholeFiles.{CarryChannel}
+use Rattle.services_files.specs.CarriedChannel.{CarryChannel}
 use Rattle.services_shown.specs.Buffers.{BuffersNeverFill}
 use Rattle.services_shown.specs.Delays.{AreDelaysSent}
 use Rattle.services_shown.specs.SeenWindows.{ShowAuthoredWindows}

@@ -1,5 +1,6 @@
 ghost use Rattle.std.specs.Prelude.{◌≡◌, ◌≤◌, IfOk, length};
-ghost use Rattle.cue_list_commands.specs.Accepted.{IsGoodList, IsRefused, IsRefusedList, list_limit};
+ghost use Rattle.cc_base.specs.Streams.{whole_limit};
+ghost use Rattle.cue_list_commands.specs.Accepted.{IsGoodList, IsRefused, IsRefusedList};
 ghost use Rattle.command_base.specs.WholeInput.{JudgesInput};
 ghost use Rattle.cue_lists.specs.Rules.{IsRuled};
 ghost use Rattle.cue_list_commands.specs.Reads.{IsProgrammeOf, ReadsList, ReadsProgramme, form_status};
@@ -15,10 +16,8 @@ use std::alloc::Global;
 pub fn read_programme<M: Source>(alloc: Global, input: &mut M) -> Result<Programme, Status>
     ensures { ReadsProgramme (M.left input.old) (M.left input.new) (M.faults input.old) (M.faults input.new) result }
 {
-    match read_input(alloc, input) {
-        Ok(bytes) => judge(alloc, &bytes),
-        Err(status) => Err(status),
-    }
+    let bytes = read_input(alloc, input)?;
+    judge(alloc, &bytes)
 }
 
 /// Reads a cue list to its end and judges all but its placement. Gives the list, or the status with which it is refused.
@@ -26,21 +25,16 @@ pub fn read_list<M: Source>(alloc: Global, input: &mut M) -> Result<CueList, Sta
     ensures reads { ReadsList (M.left input.old) (M.left input.new) (M.faults input.old) (M.faults input.new) result }
     ensures ruled { IfOk result (λ list. IsRuled list) }
 {
-    match read_input(alloc, input) {
-        Ok(bytes) => judge_list(alloc, &bytes),
-        Err(status) => Err(status),
-    }
+    let bytes = read_input(alloc, input)?;
+    judge_list(alloc, &bytes)
 }
 
 /// Judges the bytes of a cue list.
 fn judge(alloc: Global, bytes: &[u8]) -> Result<Programme, Status>
-    requires { length bytes.now ≤ list_limit }
+    requires { length bytes.now ≤ whole_limit }
     ensures { JudgesInput IsProgrammeOf IsRefused bytes.now result }
 {
-    let list = match judge_list(alloc, bytes) {
-        Ok(list) => list,
-        Err(status) => return Err(status),
-    };
+    let list = judge_list(alloc, bytes)?;
     match plan(alloc, &list) {
         Ok(plan) => Ok(Programme {
             rate: list.rate(),
@@ -53,7 +47,7 @@ fn judge(alloc: Global, bytes: &[u8]) -> Result<Programme, Status>
 
 /// Judges all but the placement of a cue list.
 fn judge_list(alloc: Global, bytes: &[u8]) -> Result<CueList, Status>
-    requires { length bytes.now ≤ list_limit }
+    requires { length bytes.now ≤ whole_limit }
     ensures { JudgesInput IsGoodList IsRefusedList bytes.now result }
 {
     let list = match parse(alloc, bytes) {

@@ -7,6 +7,7 @@ pub use Rattle.cue_form.proofs.Unique
 pub use Rattle.cue_print.proofs.InOrder
 pub use Rattle.cue_print.proofs.PrintedFacts
 pub use Rattle.cue_rules.proofs.ChannelCues
+pub use Rattle.cue_rules.proofs.LaneCues
 pub use Rattle.cue_rules.proofs.ChannelKept
 pub use Rattle.cue_rules.proofs.ChannelRules
 pub use Rattle.cue_rules.proofs.RuleLists

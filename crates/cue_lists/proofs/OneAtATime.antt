@@ -5,8 +5,8 @@ use Rattle.std.specs.List.{AllByRecursion}
 use Rattle.std.proofs.lemmas.Bool.{eqb-true}
 use Rattle.std.proofs.lemmas.Bool.Decides.{leb_tells}
 use Rattle.std.proofs.lemmas.List.Elements.{recursion_from_All}
-use Rattle.authored_grids.specs.AuthoredServiceGrid.{AreOneAtATime, is_before, shows_in, uses_window}
-use Rattle.cue_types.specs.Channels.{cues_of_service, is_of_service}
+use Rattle.authored_grids.specs.AuthoredServiceGrid.{AreOneAtATime, is_before, shows_in}
+use Rattle.cue_types.specs.Channels.{cues_of_service, is_of_service, uses_window}
 use Rattle.cue_types.specs.Cues.{IsCueFormed}
 use Rattle.cue_types.specs.Listing.{IsFormed, Listing}
 use Rattle.cue_types.specs.declared.cue.Cue.{Cue}

@@ -18,7 +18,9 @@ use Rattle.line21_slots.specs.Cadences.{cadence_of, has_slot_in, slot_step}
 use Rattle.cue_types.specs.declared.cue.Cue.{Cue}
 use Rattle.cue_types.specs.declared.cue.Kind.{Kind}
 use Rattle.cue_types.specs.declared.cue.Kind.TheVariants as kind
-use Rattle.cue_rules.proofs.ChannelCues.{All-reverse, cues_on-reverse, newest, same_channel_is, line21_on, former_on, cues_on_are_on, reverse-cons, cues_on_back}
+use Rattle.cue_rules.proofs.ChannelCues.{All-reverse, same_channel_is, line21_on, former_on, cues_on_are_on}
+use Rattle.cue_types.specs.declared.lane.Lane.TheVariants as lane
+use Rattle.cue_rules.proofs.LaneCues.{lane_back, lane_reverse, newest, reverse-cons}
 use Rattle.cue_rules.proofs.RuleKept.{KeepsRules, keeps_rules, load_below_show, show_below_hide, load_from_former_show, runs_share_none, show_from_former_hide, hide_not_next, show_not_next, load_from_former_hide, continues_unhidden, hide_within, show_within, show_on_slot, hide_on_slot}
 use Rattle.cue_rules.proofs.ChannelKept.{slot_of_kind}
 
@@ -197,10 +199,10 @@ faultless_on_slots list channel (cue ∷ earlier) faultless =
 pub all_on_from_back : (P : Cue → Type 0) (channel : Chan) (cues : List Cue) → All P (cues_on channel (reverse cues)) → All P (cues_on channel cues)
 all_on_from_back P channel cues all =
     subst (All P) (reverse-reverse (cues_on channel cues))
-    (All-reverse P (reverse (cues_on channel cues)) (subst (All P) (cues_on-reverse channel cues) all))
+    (All-reverse P (reverse (cues_on channel cues)) (subst (All P) (lane_reverse (lane.Channel channel) cues) all))
 
 pub all_on_back : (P : Cue → Type 0) (channel : Chan) (cues : List Cue) → All P (cues_on channel cues) → All P (cues_on channel (reverse cues))
-all_on_back P channel cues all = subst (All P) (sym (cues_on-reverse channel cues)) (All-reverse P (cues_on channel cues) all)
+all_on_back P channel cues all = subst (All P) (sym (lane_reverse (lane.Channel channel) cues)) (All-reverse P (cues_on channel cues) all)
 
 -- one more cue at the front
 in_sequence-cons : (step frames : ℕ) (cue : Cue) (later : List Cue) → IsSound step frames cue → IsBefore step cue later
@@ -252,14 +254,14 @@ turned_back step frames (cue ∷ earlier) later sequence =
 pub sequence_from_back : (step frames : ℕ) (channel : Chan) (cues : List Cue)
     → AreInSequenceBack step frames (cues_on channel (reverse cues)) → AreInSequence step frames (cues_on channel cues)
 sequence_from_back step frames channel cues back =
-    subst (λ (cues : List Cue). AreInSequence step frames cues) (cues_on_back channel cues)
+    subst (λ (cues : List Cue). AreInSequence step frames cues) (lane_back (lane.Channel channel) cues)
     (turned step frames (cues_on channel (reverse cues)) [] back (joined_end step (cues_on channel (reverse cues))) tt)
 
 pub sequence_back : (step frames : ℕ) (channel : Chan) (cues : List Cue)
     → AreInSequence step frames (cues_on channel cues) → AreInSequenceBack step frames (cues_on channel (reverse cues))
 sequence_back step frames channel cues sequence =
     (turned_back step frames (cues_on channel (reverse cues)) []
-    (subst (λ (cues : List Cue). AreInSequence step frames cues) (sym (cues_on_back channel cues)) sequence)).0
+    (subst (λ (cues : List Cue). AreInSequence step frames cues) (sym (lane_back (lane.Channel channel) cues)) sequence)).0
 
 -- each of the cues in sequence is sound
 pub in_sequence_sound : (step frames : ℕ) (cues : List Cue) → AreInSequence step frames cues → AllByRecursion (IsSound step frames) cues

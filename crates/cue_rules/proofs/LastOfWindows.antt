@@ -10,7 +10,7 @@ use Rattle.std.proofs.lemmas.List.{reverse-reverse}
 use Rattle.std.proofs.lemmas.List.Elements.{recursion_from_All}
 use Rattle.cc_base.specs.Rate.{delay_frames_of}
 use Rattle.cc_base.specs.declared.rate.Rate.{Rate}
-use Rattle.cue_types.specs.Channels.{cues_of_service, is_of_service}
+use Rattle.cue_types.specs.Channels.{cues_of_service, is_of_service, uses_window}
 use Rattle.cue_types.specs.Cues.{IsCueFormed, IsOfKind}
 use Rattle.cue_types.specs.Windows.{IsWindow}
 use Rattle.cue_types.specs.Listing.{Listing}
@@ -24,7 +24,7 @@ use Rattle.cue_rules.specs.Rules.Alternatives.{first_broken, hide_is}
 use Rattle.cue_rules.specs.Rules.Delay.{delay_of, delay_start, event_frames}
 use Rattle.cue_rules.specs.Rules.DelayCovers.{delays_cross, same_service}
 use Rattle.cue_rules.specs.Rules.Former.{former_cue, nearest, nearest_number}
-use Rattle.cue_rules.specs.Rules.Formers.{Remembers, is_in_window, last_below, last_in, later, number_if, numbered_cue}
+use Rattle.cue_rules.specs.Rules.Formers.{Remembers, last_below, last_in, later, number_if, numbered_cue}
 use Rattle.cue_rules.specs.declared.rules.formers.Formers.{Formers}
 use Rattle.cue_rules.specs.Rules.Order.{loads_before_it_loads, order}
 use Rattle.cue_rules.specs.Rules.Sentences.{KeepsClear}
@@ -155,7 +155,7 @@ nearest_below k cues last w (suc n) are faded =
     each (c ∷ cs) = (shared (passes_below n w c) (w n c) (k c), each cs)
 
 -- window cues: a cue in a window is one, of its service
-window_in : (service id : ℕ) (k : Kind) → is_in_window service id k ≡ true → is_of_service service k ≡ true
+window_in : (service id : ℕ) (k : Kind) → uses_window service id k ≡ true → is_of_service service k ≡ true
 window_in service id (kind.Pop channel) is = cc
 window_in service id (kind.Paint channel) is = cc
 window_in service id (kind.Roll channel rows) is = cc
@@ -166,7 +166,7 @@ window_in service id (kind.Win w) is = first_of (service == w.service) (id == w.
     first_of false b is = cc
 
 -- two cues in one window
-both_in : (service id : ℕ) (a b : Kind) → is_in_window service id a ≡ true → is_in_window service id b ≡ true → same_window a b ≡ true
+both_in : (service id : ℕ) (a b : Kind) → uses_window service id a ≡ true → uses_window service id b ≡ true → same_window a b ≡ true
 both_in service id (kind.Pop channel) b is at = cc
 both_in service id (kind.Paint channel) b is at = cc
 both_in service id (kind.Roll channel rows) b is at = cc
@@ -195,25 +195,25 @@ if_some P None hide fact is = cc
 if_some P (Some h) hide fact is = let same : h ≡ hide = cc in subst P same fact
 
 -- a cue in a window, behind cues that keep the rules, loads when those in its window are hidden
-module _ (list : Listing) (service id : ℕ) (cue : Cue) (earlier : List Cue) (formed : IsCueFormed cue) (on : is_in_window service id cue.kind ≡ true)
+module _ (list : Listing) (service id : ℕ) (cue : Cue) (earlier : List Cue) (formed : IsCueFormed cue) (on : uses_window service id cue.kind ≡ true)
     (keeps : KeepsRules list earlier cue) where
   its_hide : IsSome cue.hide
   its_hide = window_hides cue.kind cue (window_of_service service cue.kind (window_in service id cue.kind on)) formed.kind
 
-  hidden_before : AllByRecursion (λ (e : Cue). is_in_window service id e.kind ≡ true → IfSome e.hide (λ hide. hide ≤ cue.load)) earlier
+  hidden_before : AllByRecursion (λ (e : Cue). uses_window service id e.kind ≡ true → IfSome e.hide (λ hide. hide ≤ cue.load)) earlier
   hidden_before =
-      each_of (λ (e : Cue). keeps_window cue e ≡ false) (λ (e : Cue). is_in_window service id e.kind ≡ true → IfSome e.hide (λ hide. hide ≤ cue.load)) earlier
+      each_of (λ (e : Cue). keeps_window cue e ≡ false) (λ (e : Cue). uses_window service id e.kind ≡ true → IfSome e.hide (λ hide. hide ≤ cue.load)) earlier
       (λ e fails in_it. vacates e cue fails (both_in service id cue.kind e.kind on in_it))
       (all_fail (keeps_window cue) earlier (no_number _ keeps.window_busy.0))
 
 -- where the last cue in a window has left it, all have
-windows_faded : (list : Listing) (service id : ℕ) (cue : Cue) (cues : List Cue) → is_in_window service id cue.kind ≡ true
-    → AllByRecursion IsCueFormed cues → AreFaultless list cues → Faded (λ c. is_in_window service id c.kind) (keeps_window cue) cues
+windows_faded : (list : Listing) (service id : ℕ) (cue : Cue) (cues : List Cue) → uses_window service id cue.kind ≡ true
+    → AllByRecursion IsCueFormed cues → AreFaultless list cues → Faded (λ c. uses_window service id c.kind) (keeps_window cue) cues
 windows_faded list service id cue [] on formed kept = tt
 windows_faded list service id cue (c ∷ cues) on formed kept = (faded, windows_faded list service id cue cues on formed.1 kept.1)
   where
-    faded : is_in_window service id c.kind ≡ true → keeps_window cue c ≡ false
-        → AllByRecursion (λ (e : Cue). is_in_window service id e.kind ≡ true → keeps_window cue e ≡ false) cues
+    faded : uses_window service id c.kind ≡ true → keeps_window cue c ≡ false
+        → AllByRecursion (λ (e : Cue). uses_window service id e.kind ≡ true → keeps_window cue e ≡ false) cues
     faded in_it left =
         let keeps = keeps_rules list cues c kept.0 in
         let gone : IfSome c.hide (λ hide. hide ≤ cue.load) = vacates c cue left (both_in service id cue.kind c.kind on in_it) in
@@ -222,8 +222,8 @@ windows_faded list service id cue (c ∷ cues) on formed kept = (faded, windows_
         (λ h is.
         let shown : c.show < h = show_below_hide list cues c keeps h is in
         let until : h ≤ cue.load = if_some (λ hide. hide ≤ cue.load) c.hide h gone is in
-        each_of (λ (e : Cue). is_in_window service id e.kind ≡ true → IfSome e.hide (λ hide. hide ≤ c.load))
-        (λ (e : Cue). is_in_window service id e.kind ≡ true → keeps_window cue e ≡ false) cues
+        each_of (λ (e : Cue). uses_window service id e.kind ≡ true → IfSome e.hide (λ hide. hide ≤ c.load))
+        (λ (e : Cue). uses_window service id e.kind ≡ true → keeps_window cue e ≡ false) cues
         (λ e before there.
         guarded (same_window cue.kind e.kind) (hide_is e.hide (λ hide. nat_lt cue.load hide))
         (λ same. hide_test_fails e.hide (λ hide. nat_lt cue.load hide) (λ hide. hide ≤ c.load)
@@ -231,7 +231,7 @@ windows_faded list service id cue (c ∷ cues) on formed kept = (faded, windows_
         (hidden_before list service id c cues formed.0 in_it keeps))
 
 -- two windows of which one is the other's
-in_window_is : (w : WinCue) (k : Kind) → same_window (kind.Win w) k ≡ is_in_window w.service w.id k
+in_window_is : (w : WinCue) (k : Kind) → same_window (kind.Win w) k ≡ uses_window w.service w.id k
 in_window_is w (kind.Pop channel) = refl
 in_window_is w (kind.Paint channel) = refl
 in_window_is w (kind.Roll channel rows) = refl
@@ -239,23 +239,23 @@ in_window_is w (kind.Win v) = refl
 
 -- so the last cue in the window of a cue tells whether it is busy
 pub window_tells : (list : Listing) (w : WinCue) (cue : Cue) (cues : List Cue) (last : Option ℕ) → cue.kind ≡ kind.Win w
-    → is_in_window w.service w.id cue.kind ≡ true
-    → AllByRecursion IsCueFormed cues → AreFaultless list cues → last ≡ nearest_number (λ c. is_in_window w.service w.id c.kind) cues
+    → uses_window w.service w.id cue.kind ≡ true
+    → AllByRecursion IsCueFormed cues → AreFaultless list cues → last ≡ nearest_number (λ c. uses_window w.service w.id c.kind) cues
     → number_if (keeps_window cue) last (numbered_cue (reverse cues) last) ≡ nearest_number (keeps_window cue) cues
 window_tells list w cue cues last is on formed kept remembered =
-    rw (remembered, ← nearest_at (λ c. is_in_window w.service w.id c.kind) cues)
-    (last_stands (λ c. is_in_window w.service w.id c.kind) (keeps_window cue) cues (windows_faded list w.service w.id cue cues on formed kept))
-    ∙ nearest_same (λ c. is_in_window w.service w.id c.kind && keeps_window cue c) (keeps_window cue) cues (each cues)
+    rw (remembered, ← nearest_at (λ c. uses_window w.service w.id c.kind) cues)
+    (last_stands (λ c. uses_window w.service w.id c.kind) (keeps_window cue) cues (windows_faded list w.service w.id cue cues on formed kept))
+    ∙ nearest_same (λ c. uses_window w.service w.id c.kind && keeps_window cue c) (keeps_window cue) cues (each cues)
   where
     absorbed : (a b : Bool) → (a && (a && b)) ≡ (a && b)
     absorbed true b = refl
     absorbed false b = refl
 
-    each : (cs : List Cue) → AllByRecursion (λ (c : Cue). (is_in_window w.service w.id c.kind && keeps_window cue c) ≡ keeps_window cue c) cs
+    each : (cs : List Cue) → AllByRecursion (λ (c : Cue). (uses_window w.service w.id c.kind && keeps_window cue c) ≡ keeps_window cue c) cs
     each [] = tt
     each (c ∷ cs) =
-        let same : same_window cue.kind c.kind ≡ is_in_window w.service w.id c.kind = ap (λ k. same_window k c.kind) is ∙ in_window_is w c.kind in
-        (rw same (absorbed (is_in_window w.service w.id c.kind) (hide_is c.hide (λ hide. nat_lt cue.load hide))), each cs)
+        let same : same_window cue.kind c.kind ≡ uses_window w.service w.id c.kind = ap (λ k. same_window k c.kind) is ∙ in_window_is w c.kind in
+        (rw same (absorbed (uses_window w.service w.id c.kind) (hide_is c.hide (λ hide. nat_lt cue.load hide))), each cs)
 
 -- a window in its ranges, and what is remembered of it
 pub window_formed : (cue : Cue) (w : WinCue) → IsCueFormed cue → cue.kind ≡ kind.Win w → IsWindow w
@@ -267,13 +267,13 @@ not_window (kind.Paint channel) other = refl
 not_window (kind.Roll channel rows) other = refl
 not_window (kind.Win w) other = absurd (other w refl)
 
-pub its_window : (w : WinCue) (k : Kind) → k ≡ kind.Win w → is_in_window w.service w.id k ≡ true
+pub its_window : (w : WinCue) (k : Kind) → k ≡ kind.Win w → uses_window w.service w.id k ≡ true
 its_window w k is = rw (is, equal_itself w.service, equal_itself w.id) refl
 
 pub last_number : (formers : Formers) (cues : List Cue) (service id n : ℕ) (last : Option ℕ) → Remembers formers cues → service < 8 → id < 8
     → last ≡ last_in formers service id → last ≡ Some n → 1 ≤ n
 last_number formers cues service id n last remembers one two is at =
-    let number = nearest_is_number (λ c. is_in_window service id c.kind) cues n (sym (is ∙ remembers.windows service id one two) ∙ at) in
+    let number = nearest_is_number (λ c. uses_window service id c.kind) cues n (sym (is ∙ remembers.windows service id one two) ∙ at) in
     number.from_one
 
 pub formed_back : (cues : List Cue) → All IsCueFormed cues → AllByRecursion IsCueFormed (reverse cues)
@@ -409,15 +409,15 @@ both_of_each P Q (x ∷ xs) first second = ((first.0, second.0), both_of_each P 
 delays_faded : (list : Listing) (service id : ℕ) (cue : Cue) (cues : List Cue) → is_of_service service cue.kind ≡ true
     → AllByRecursion IsCueFormed cues → AreFaultless list cues → IsOrdered list.rate cue
     → AllByRecursion (λ (c : Cue). is_of_service service c.kind ≡ true → c.load ≤ cue.load) cues
-    → Faded (λ c. is_in_window service id c.kind) (delays_cross list.rate cue) cues
+    → Faded (λ c. uses_window service id c.kind) (delays_cross list.rate cue) cues
 delays_faded list service id cue [] on formed kept ordered loads = tt
 delays_faded list service id cue (c ∷ cues) on formed kept ordered loads =
     (faded, delays_faded list service id cue cues on formed.1 kept.1 ordered loads.1)
   where
-    over : is_in_window service id c.kind ≡ true → (e : Cue)
-        → (is_in_window service id e.kind ≡ true → IfSome e.hide (λ hide. hide ≤ c.load))
+    over : uses_window service id c.kind ≡ true → (e : Cue)
+        → (uses_window service id e.kind ≡ true → IfSome e.hide (λ hide. hide ≤ c.load))
         → ((hide : ℕ) → e.hide ≡ Some hide → e.show < hide) → IsCueFormed e → (is_of_service service e.kind ≡ true → e.load ≤ cue.load)
-        → is_in_window service id e.kind ≡ true → IsOver list.rate cue e
+        → uses_window service id e.kind ≡ true → IsOver list.rate cue e
     over in_it e hides shows its first there =
         let of : is_of_service service e.kind ≡ true = window_in service id e.kind there in
         let loaded : c.load ≤ cue.load = loads.0 (window_in service id c.kind in_it) in
@@ -432,11 +432,11 @@ delays_faded list service id cue (c ∷ cues) on formed kept ordered loads =
           hidden = rw is (omega arith);
         })
 
-    faded : is_in_window service id c.kind ≡ true → delays_cross list.rate cue c ≡ false
-        → AllByRecursion (λ (e : Cue). is_in_window service id e.kind ≡ true → delays_cross list.rate cue e ≡ false) cues
+    faded : uses_window service id c.kind ≡ true → delays_cross list.rate cue c ≡ false
+        → AllByRecursion (λ (e : Cue). uses_window service id e.kind ≡ true → delays_cross list.rate cue e ≡ false) cues
     faded in_it left =
         let keeps = keeps_rules list cues c kept.0 in
-        each_of _ (λ (e : Cue). is_in_window service id e.kind ≡ true → delays_cross list.rate cue e ≡ false) cues
+        each_of _ (λ (e : Cue). uses_window service id e.kind ≡ true → delays_cross list.rate cue e ≡ false) cues
         (λ e facts there. delays_apart list.rate e cue (over_clear list.rate cue e ordered (over in_it e facts.0 facts.1.0 facts.1.1.0 facts.1.1.1 there)))
         (both_of_each _ _ cues (hidden_before list service id c cues formed.0 in_it keeps)
         (both_of_each _ _ cues (shown_before_hidden list cues kept.1) (both_of_each _ _ cues formed.1 loads.1)))
@@ -444,13 +444,13 @@ delays_faded list service id cue (c ∷ cues) on formed kept ordered loads =
 -- so of the last cues in the windows of its service, the nearest that crosses with it is the nearest of all
 pub delays_tell : (list : Listing) (w : WinCue) (cue : Cue) (cues : List Cue) (last : ℕ → Option ℕ) → cue.kind ≡ kind.Win w
     → AllByRecursion IsCueFormed cues → AreFaultless list cues → AllKept (order list.rate cue (former_cue cue cues))
-    → ((id : ℕ) → id < 8 → last id ≡ nearest_number (λ c. is_in_window w.service id c.kind) cues)
+    → ((id : ℕ) → id < 8 → last id ≡ nearest_number (λ c. uses_window w.service id c.kind) cues)
     → last_below (delays_cross list.rate cue) (reverse cues) last 8 ≡ nearest_number (delays_cross list.rate cue) cues
 delays_tell list w cue cues last is formed kept order_kept remembered =
-    nearest_below (delays_cross list.rate cue) cues last (λ id c. is_in_window w.service id c.kind) 8 remembered
+    nearest_below (delays_cross list.rate cue) cues last (λ id c. uses_window w.service id c.kind) 8 remembered
     (λ id. delays_faded list w.service id cue cues on formed kept (ordered_by list.rate cue (former_cue cue cues) order_kept)
     (loads_in_order list w.service cue cues on kept order_kept))
-    ∙ nearest_same (λ c. passes_below 8 (λ id e. is_in_window w.service id e.kind) c && delays_cross list.rate cue c) (delays_cross list.rate cue) cues
+    ∙ nearest_same (λ c. passes_below 8 (λ id e. uses_window w.service id e.kind) c && delays_cross list.rate cue c) (delays_cross list.rate cue) cues
     (each_of IsCueFormed _ cues each formed)
   where
     on : is_of_service w.service cue.kind ≡ true
@@ -462,22 +462,22 @@ delays_tell list w cue cues last is formed kept order_kept remembered =
     needless false false passes = refl
 
     in_some : (c : Cue) (k : Kind) → c.kind ≡ k → IsOfKind k c.hide c.runs → same_service (kind.Win w) k ≡ true
-        → passes_below 8 (λ id e. is_in_window w.service id e.kind) c ≡ true
+        → passes_below 8 (λ id e. uses_window w.service id e.kind) c ≡ true
     in_some c (kind.Pop channel) at its same = cc
     in_some c (kind.Paint channel) at its same = cc
     in_some c (kind.Roll channel rows) at its same = cc
     in_some c (kind.Win v) at its same =
         let window : IsWindow v = its.0 in
-        one_passes 8 v.id (λ id e. is_in_window w.service id e.kind) c (omega (arith, window.id)) (rw (at, same, equal_itself v.id) refl)
+        one_passes 8 v.id (λ id e. uses_window w.service id e.kind) c (omega (arith, window.id)) (rw (at, same, equal_itself v.id) refl)
 
     first_of : (a b : Bool) → (a && b) ≡ true → a ≡ true
     first_of true b both = refl
     first_of false b both = cc
 
     each : (c : Cue) → IsCueFormed c
-        → (passes_below 8 (λ id e. is_in_window w.service id e.kind) c && delays_cross list.rate cue c) ≡ delays_cross list.rate cue c
+        → (passes_below 8 (λ id e. uses_window w.service id e.kind) c && delays_cross list.rate cue c) ≡ delays_cross list.rate cue c
     each c its =
-        needless (passes_below 8 (λ id e. is_in_window w.service id e.kind) c) (delays_cross list.rate cue c)
+        needless (passes_below 8 (λ id e. uses_window w.service id e.kind) c) (delays_cross list.rate cue c)
         (λ crosses. in_some c c.kind refl its.kind (ap (λ k. same_service k c.kind) (sym is) ∙ first_of (same_service cue.kind c.kind) _ crosses))
 
 -- the number that is found is that of the nearest that crosses

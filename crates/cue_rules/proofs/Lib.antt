@@ -3,6 +3,7 @@ pub mod ChannelKept
 pub mod ChannelRules
 pub mod DelayTests
 pub mod FormersLemmas
+pub mod LaneCues
 pub mod LastOfWindows
 pub mod RuleCells
 pub mod RuleJudging

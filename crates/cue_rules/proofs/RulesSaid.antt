@@ -4,7 +4,8 @@ use Rattle.std.specs.List.{AllByRecursion}
 use Rattle.std.proofs.lemmas.List.Elements.{All-head, All-tail, recursion_from_All}
 use Rattle.line21_codes.specs.declared.channels.Chan.{Chan}
 use Rattle.line21_codes.specs.declared.channels.Chan.TheVariants as chan
-use Rattle.cue_types.specs.Channels.{cues_of_service, cues_on, is_of_service, is_on, same_channel}
+use Rattle.cue_types.specs.Lane.{same_channel}
+use Rattle.cue_types.specs.Channels.{cues_of_service, cues_on, is_of_service, is_on}
 use Rattle.cue_types.specs.Cues.{IsCueFormed}
 use Rattle.cue_types.specs.Listing.{IsFormed, Listing}
 use Rattle.cue_rules.specs.Rules.{AreFaultless, IsRuled, fault_of}
@@ -13,7 +14,8 @@ use Rattle.line21_slots.specs.Cadences.{cadence_of, slot_step}
 use Rattle.cue_types.specs.declared.cue.Cue.{Cue}
 use Rattle.cue_types.specs.declared.cue.Kind.{Kind}
 use Rattle.cue_types.specs.declared.cue.Kind.TheVariants as kind
-use Rattle.cue_rules.proofs.ChannelCues.{All-reverse, former_on, line21_on, newest}
+use Rattle.cue_rules.proofs.ChannelCues.{All-reverse, former_on, line21_on}
+use Rattle.cue_rules.proofs.LaneCues.{newest}
 use Rattle.cue_rules.proofs.ChannelKept.{channel_cue_faultless}
 use Rattle.cue_rules.proofs.ChannelRules.{AreInSequenceBack, all_on_back, all_on_from_back, faultless_on_slots, IsBehind, faultless_sequence, sequence_back, sequence_from_back}
 use Rattle.cue_rules.proofs.RuleTests.{equal_itself}

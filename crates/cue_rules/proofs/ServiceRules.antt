@@ -28,11 +28,12 @@ use Rattle.cue_rules.specs.Rules.WindowBusy.{keeps_window, same_window, window_b
 use Rattle.cue_types.specs.declared.cue.Cue.{Cue}
 use Rattle.cue_types.specs.declared.cue.Kind.{Kind}
 use Rattle.cue_types.specs.declared.cue.Kind.TheVariants as kind
-use Rattle.cue_rules.proofs.ChannelCues.{newest, reverse-cons}
+use Rattle.cue_types.specs.declared.lane.Lane.TheVariants as lane
+use Rattle.cue_rules.proofs.LaneCues.{lane_back, newest, reverse-cons}
 use Rattle.cue_rules.proofs.DelayTests.{crossing_none, delays_apart, lt_holds, lt_passes, vacates, window_vacated}
 use Rattle.cue_rules.proofs.RuleKept.{AllKept, KeepsRules, former_fails, hide_fails, keeps_rules, kept_faultless, load_below_show, not_le, not_lt, runs_share_none, second_fails, show_below_hide}
 use Rattle.cue_rules.proofs.RuleTests.{former_test_fails, guarded, hide_test_fails, le_fails, lt_fails}
-use Rattle.cue_rules.proofs.ServiceCues.{cues_are_of_service, former_of_service, service_back, window_of_service}
+use Rattle.cue_rules.proofs.ServiceCues.{cues_are_of_service, former_of_service, window_of_service}
 
 -- what holds of a window cue's kind
 no_line21 : (k : Kind) → is_win k ≡ true → is_line21 k ≡ false
@@ -471,11 +472,11 @@ turned_back list service (cue ∷ earlier) later are =
 pub service_from_back : (list : Listing) (service : ℕ) (cues : List Cue)
     → AreInServiceBack list service (cues_of_service service (reverse cues)) → AreInService list service (cues_of_service service cues)
 service_from_back list service cues back =
-    subst (λ (cues : List Cue). AreInService list service cues) (service_back service cues)
+    subst (λ (cues : List Cue). AreInService list service cues) (lane_back (lane.Service service) cues)
     (turned list service (cues_of_service service (reverse cues)) [] back (clear_none list (cues_of_service service (reverse cues))) tt)
 
 pub service_to_back : (list : Listing) (service : ℕ) (cues : List Cue) → AreInService list service (cues_of_service service cues)
     → AreInServiceBack list service (cues_of_service service (reverse cues))
 service_to_back list service cues are =
     (turned_back list service (cues_of_service service (reverse cues)) []
-    (subst (λ (cues : List Cue). AreInService list service cues) (sym (service_back service cues)) are)).0
+    (subst (λ (cues : List Cue). AreInService list service cues) (sym (lane_back (lane.Service service) cues)) are)).0

@@ -22,9 +22,17 @@ channel_number chan.Cc2 = 2
 channel_number chan.Cc3 = 3
 channel_number chan.Cc4 = 4
 
+-- one channel, or two
+abbrev pub same_channel : Chan → Chan → Bool
+same_channel chan.Cc1 chan.Cc1 = true
+same_channel chan.Cc2 chan.Cc2 = true
+same_channel chan.Cc3 chan.Cc3 = true
+same_channel chan.Cc4 chan.Cc4 = true
+same_channel _ _ = false
+
 -- one lane, or two
 abbrev pub same_lane : Lane → Lane → Bool
-same_lane (lane.Channel a) (lane.Channel b) = channel_number a == channel_number b
+same_lane (lane.Channel a) (lane.Channel b) = same_channel a b
 same_lane (lane.Channel a) (lane.Service b) = false
 same_lane (lane.Service a) (lane.Channel b) = false
 same_lane (lane.Service a) (lane.Service b) = a == b

@@ -10,6 +10,7 @@ pub use crate::text::Text;
 pub mod cue;
 pub mod head;
 pub mod lane;
+pub mod line21;
 pub mod list;
 pub mod runs;
 pub mod text;

@@ -21,7 +21,7 @@ use Rattle.dtvcc_author.specs.Kept.{AreKept, IsUncovered}
 use Rattle.dtvcc_author.specs.Latest.{caption_delay}
 use Rattle.dtvcc_author.proofs.LatestLemmas.{Has, delays_written, kept_sound}
 use Rattle.placements.specs.Placing.{IsPlaced}
-use Rattle.service_lanes.specs.declared.chunk.Chunk.{Chunk}
+use Rattle.service_lanes.specs.Chunks.{Chunk}
 use Rattle.service_lanes.specs.ServiceBytes.{bytes_in, loads_at}
 use Rattle.service_lanes.specs.ServiceChunks.{service_chunks}
 use Rattle.service_lanes.specs.ServiceLane.{service_lane}

@@ -5,7 +5,7 @@ use Rattle.std.specs.List.{zip}
 use Rattle.std.proofs.lemmas.Bool.Decides.{nat_tests}
 use Rattle.std.proofs.lemmas.List.Elements.{All-head, All-tail}
 use Rattle.std.proofs.lemmas.List.Sums.{sum_by-cons}
-use Rattle.service_lanes.specs.declared.chunk.Chunk.{Chunk}
+use Rattle.service_lanes.specs.Chunks.{Chunk}
 use Rattle.service_lanes.specs.ServiceBytes.{loads_at}
 use Rattle.service_lanes.specs.ServiceLane.{bytes_between, chunk_size, is_between, used}
 use Rattle.service_lanes.proofs.ServiceLaneLemmas.{placed_within}
@@ -17,16 +17,16 @@ use Rattle.dtvcc_shown.proofs.PlainLemmas.{nothing_plain, plain_both}
 
 -- what holds of no bytes, and of bytes one behind another, holds of the units of a frame together
 module _ (P : List ℕ → Type 0) (none : P []) (both : (bytes more : List ℕ) → P bytes → P more → P (bytes ++ more)) where
-  pub loads_hold : (chunks : List Chunk) (frames : List ℕ) (frame : ℕ) → All (λ (chunk : Chunk). P chunk.unit.items) chunks
+  pub loads_hold : (chunks : List Chunk) (frames : List ℕ) (frame : ℕ) → All (λ (chunk : Chunk). P chunk.unit) chunks
       → P (loads_at (zip chunks frames) frame)
   loads_hold [] frames frame each = none
   loads_hold (u ∷ us) [] frame each = none
   loads_hold (u ∷ us) (f ∷ fs) frame each =
-      both (if f == frame then u.unit.items else []) (loads_at (zip us fs) frame)
-      (at (f == frame)) (loads_hold us fs frame (All-tail (λ (chunk : Chunk). P chunk.unit.items) u us each))
+      both (if f == frame then u.unit else []) (loads_at (zip us fs) frame)
+      (at (f == frame)) (loads_hold us fs frame (All-tail (λ (chunk : Chunk). P chunk.unit) u us each))
     where
-      at : (here : Bool) → P (if here then u.unit.items else [])
-      at true = All-head (λ (chunk : Chunk). P chunk.unit.items) u us each
+      at : (here : Bool) → P (if here then u.unit else [])
+      at true = All-head (λ (chunk : Chunk). P chunk.unit) u us each
       at false = none
 
 -- one frame more has what stands in it
@@ -44,11 +44,11 @@ between_never : (from count f : ℕ) → (f == from + count) ≡ false → is_be
 between_never from count f other out = grind (arith, nat_tests)
 
 piece_more : (from count : ℕ) (u : Chunk) (f : ℕ)
-    → bytes_between from (from + suc count) (u, f) ≡ bytes_between from (from + count) (u, f) + length (if f == from + count then u.unit.items else [])
+    → bytes_between from (from + suc count) (u, f) ≡ bytes_between from (from + count) (u, f) + length (if f == from + count then u.unit else [])
 piece_more from count u f = at (f == from + count) (is_between from (from + count) f) refl refl
   where
     at : (here before : Bool) → (f == from + count) ≡ here → is_between from (from + count) f ≡ before
-        → bytes_between from (from + suc count) (u, f) ≡ (if before then chunk_size u else 0) + length (if here then u.unit.items else [])
+        → bytes_between from (from + suc count) (u, f) ≡ (if before then chunk_size u else 0) + length (if here then u.unit else [])
     at true true is was = absurd (let none = between_not_yet from count f is in let both : true ≡ false = sym was ∙ none in cc)
     at true false is was =
         ap (λ (b : Bool). if b then chunk_size u else 0) (between_last from count f is)
@@ -68,7 +68,7 @@ used_more from count (u ∷ us) (f ∷ fs) =
     let here = piece_more from count u f in
     let more = sum_by-cons (bytes_between from (from + suc count)) (u, f) (zip us fs) in
     let less = sum_by-cons (bytes_between from (from + count)) (u, f) (zip us fs) in
-    let parts = length-append (if f == from + count then u.unit.items else []) (loads_at (zip us fs) (from + count)) in
+    let parts = length-append (if f == from + count then u.unit else []) (loads_at (zip us fs) (from + count)) in
     rw (more, less, parts) (omega (arith, rest, here))
 
 used_none : (from to : ℕ) (chunks : List Chunk) (frames : List ℕ) → to ≤ from → used from to (zip chunks frames) ≡ 0

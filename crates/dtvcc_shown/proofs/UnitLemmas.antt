@@ -22,7 +22,7 @@ use Rattle.dtvcc_author.specs.Captions.{caption_of}
 use Rattle.dtvcc_author.specs.CueUnits.{IsWritable, window_cue_units}
 use Rattle.dtvcc_author.specs.WindowCommands.{are_coloured, attribute_commands, character_commands, color_commands, commands_of, commands_with, run_commands, window_commands}
 use Rattle.dtvcc_author.proofs.WritableLemmas.{commands_writable}
-use Rattle.service_lanes.specs.declared.chunk.Chunk.{Chunk}
+use Rattle.service_lanes.specs.Chunks.{Chunk}
 use Rattle.service_lanes.specs.ServiceChunks.{chunk_of, chunks_from, chunks_with, service_chunks}
 use Rattle.dtvcc_shown.specs.Soundness.{ArePlain, is_plain}
 use Rattle.dtvcc_shown.proofs.WrittenLemmas.{written_plain}
@@ -89,7 +89,7 @@ cue_loading cue = kind_loading cue.kind cue.runs
 -- what holds of all that is written of such commands holds of the units of formed cues
 module _ (P : List ℕ → Type 0) (holds : (command : Command) → IsWritable command → is_loading command ≡ true → P (written command)) where
   abbrev IsUnit : Chunk → Type 0
-  IsUnit chunk = P chunk.unit.items
+  IsUnit chunk = P chunk.unit
 
   own_hold : (number : ℕ) (c : Caption) (commands : List Command) → All IsWritable commands → AreLoading commands
       → All IsUnit (map (chunk_of number c) (map written commands))
@@ -111,7 +111,7 @@ module _ (P : List ℕ → Type 0) (holds : (command : Command) → IsWritable c
       at (Some c) = own_hold number c (commands_of cue) (commands_writable cue (All-head IsCueFormed cue cues formed)) (cue_loading cue)
 
   pub units_hold : (rate : Rate) (service : ℕ) (cues : List Cue) → All IsCueFormed cues
-      → All (λ (chunk : Chunk). P chunk.unit.items) (service_chunks rate service cues)
+      → All (λ (chunk : Chunk). P chunk.unit) (service_chunks rate service cues)
   units_hold rate service cues formed = hold_from rate service 1 cues formed
 
 -- so they are plain
@@ -125,6 +125,6 @@ loading_plain (Df definition) loads = refl
 loading_plain _ loads = cc
 
 pub units_plain : (rate : Rate) (service : ℕ) (cues : List Cue) → All IsCueFormed cues
-    → All (λ (chunk : Chunk). ArePlain chunk.unit.items) (service_chunks rate service cues)
+    → All (λ (chunk : Chunk). ArePlain chunk.unit) (service_chunks rate service cues)
 units_plain rate service cues formed =
     units_hold ArePlain (λ command is loads. written_plain command is (loading_plain command loads)) rate service cues formed

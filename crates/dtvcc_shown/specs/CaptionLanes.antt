@@ -8,7 +8,7 @@ use Rattle.dtvcc_codes.specs.Writing.{written}
 use Rattle.dtvcc_author.specs.declared.caption.Caption.{Caption}
 use Rattle.dtvcc_author.specs.FrameEvents.{delayed_at, is_hidden_at, is_shown_at, windows_command}
 use Rattle.dtvcc_author.specs.Latest.{caption_delay}
-use Rattle.service_lanes.specs.declared.chunk.Chunk.{Chunk}
+use Rattle.service_lanes.specs.Chunks.{Chunk}
 use Rattle.service_lanes.specs.ServiceBytes.{loads_at}
 use Rattle.dtvcc_shown.specs.ServiceLanes.{Lane}
 

@@ -1,6 +1,6 @@
 -- The lane of a service whose units are placed: each frame is loaded with the units that stand in it.
 use Rattle.std.specs.Prelude.{ℕ, List, [], All, Option, option_map}
-use Rattle.service_lanes.specs.declared.chunk.Chunk.{Chunk}
+use Rattle.service_lanes.specs.Chunks.{Chunk}
 use Rattle.placements.specs.Placing.{IsPlaced}
 use Rattle.service_lanes.specs.ServiceBytes.{loads_at}
 use Rattle.service_lanes.specs.ServiceLane.{service_lane}
@@ -22,5 +22,5 @@ delay_ends lane start = option_map (λ (delay : Delay). delay.ends) (lane.delay 
 -- units of plain commands, placed in a lane whose events and delays are sound by themselves
 pub record IsPlacedLane (lane : Lane) (room : ℕ → ℕ) (chunks : List Chunk) (frames : List ℕ) : Type 0 where
   pub sound : IsSoundLane (unloaded lane)
-  pub plain : All (λ chunk. ArePlain chunk.unit.items) chunks
+  pub plain : All (λ chunk. ArePlain chunk.unit) chunks
   pub placed : IsPlaced (service_lane room (delay_ends lane)) [] chunks frames

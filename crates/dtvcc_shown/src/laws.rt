@@ -10,7 +10,7 @@ ghost use Rattle.dtvcc_author.specs.declared.caption.Caption.{Caption};
 ghost use Rattle.dtvcc_author.specs.Captions.{service_captions};
 ghost use Rattle.dtvcc_author.specs.Kept.{AreKept};
 ghost use Rattle.placements.specs.Placing.{IsPlaced};
-ghost use Rattle.service_lanes.specs.declared.chunk.Chunk.{Chunk};
+ghost use Rattle.service_lanes.specs.Chunks.{Chunk};
 ghost use Rattle.service_lanes.specs.ServiceBytes.{bytes_in};
 ghost use Rattle.service_lanes.specs.ServiceChunks.{service_chunks};
 ghost use Rattle.service_lanes.specs.ServiceRoom.{caption_lane};
@@ -57,7 +57,7 @@ pub fn law_of_caption_lanes()
     ensures captions { (rate : Rate) (frames : ℕ) (cs : List Caption) (placed : List (Chunk × ℕ)) → AreKept rate frames cs
         → IsSoundLane (unloaded (lane_of rate cs placed)) }
     ensures units { (rate : Rate) (service : ℕ) (cues : List Cue) → All IsCueFormed cues
-        → All (λ chunk. ArePlain chunk.unit.items) (service_chunks rate service cues) }
+        → All (λ chunk. ArePlain chunk.unit) (service_chunks rate service cues) }
     ensures placed { (rate : Rate) (share service frames : ℕ) (cues : List Cue) (placed : List ℕ)
         → All IsCueFormed cues → let cs = service_captions rate service cues in let chunks = service_chunks rate service cues in
         AreKept rate frames cs → IsPlaced (caption_lane share cs) [] chunks placed → IsSoundLane (lane_of rate cs (zip chunks placed)) }

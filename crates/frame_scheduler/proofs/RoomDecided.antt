@@ -27,7 +27,7 @@ use Rattle.placements.specs.declared.planning.PlanFault.TheVariants.{NoRoom}
 use Rattle.service_lanes.specs.ServiceChunks.{chunk_cue}
 use Rattle.service_lanes.specs.ServiceLane.{AreUpTo, chunk_size, most_in_delay, service_lane, used}
 use Rattle.service_lanes.specs.ServiceRoom.{frame_room}
-use Rattle.service_lanes.specs.declared.chunk.Chunk.{Chunk}
+use Rattle.service_lanes.specs.Chunks.{Chunk}
 use Rattle.service_lanes.proofs.ChunkOrderLemmas.{chunks_in_order}
 use Rattle.service_lanes.proofs.ServiceLaneLemmas.{chunks_fit_earlier}
 use Rattle.frame_scheduler.specs.LaneSets.{IsField, IsFirstIn, IsServiceBelow}

@@ -23,7 +23,7 @@ use Rattle.placements.specs.Placing.{IsEarliest}
 use Rattle.service_lanes.specs.ServiceBytes.{bytes_in}
 use Rattle.service_lanes.specs.ServiceChunks.{chunk_cue, service_chunks}
 use Rattle.service_lanes.specs.ServiceRoom.{caption_lane}
-use Rattle.service_lanes.specs.declared.chunk.Chunk.{Chunk}
+use Rattle.service_lanes.specs.Chunks.{Chunk}
 use Rattle.frame_scheduler.specs.Blocks.{service_block}
 use Rattle.frame_scheduler.specs.SlotLists.{slot_cues}
 

@@ -1,11 +1,13 @@
 ghost use Rattle.std.specs.Prelude.{◌≡◌, ◌≤◌, ◌++◌, All, IfOk, OnOk, length};
 ghost use Rattle.cue_lists.specs.Cues.{IsCueFormed};
+ghost use Rattle.cue_lists.specs.Listing.{most_cues};
 ghost use Rattle.line21_author.specs.CueSlots.{cues_in_slots, timed_in_slots};
 ghost use Rattle.frame_scheduler.specs.ChannelLane.{channel_pieces, cue_pieces};
 
 use crate::lane::piece::Piece;
 use cue_lists::Cue;
-use line21_author::{is_on, units};
+use cue_lists::line21::is_on;
+use line21_author::units;
 use line21_codes::Chan;
 use line21_slots::Cadence;
 use std::alloc::{AllocError, Global};
@@ -18,7 +20,7 @@ pub(crate) fn pieces(
     cadence: Cadence,
 ) -> Result<Vec<Piece>, AllocError>
     requires formed { All IsCueFormed cues.now }
-    requires few { length cues.now ≤ 20000 }
+    requires few { length cues.now ≤ most_cues }
     ensures { IfOk result (λ pieces. pieces.items ≡ channel_pieces channel (cues_in_slots cadence cues.now)) }
 {
     let mut pieces = Vec::new(alloc);

@@ -1,6 +1,6 @@
 ghost use Rattle.std.specs.Prelude.{◌≡◌, ℕ, ◌≤◌, All, IfErr, IfOk, length};
 ghost use Rattle.cue_lists.specs.Cues.{IsCueFormed};
-ghost use Rattle.cue_lists.specs.Listing.{IsFormed};
+ghost use Rattle.cue_lists.specs.Listing.{IsFormed, most_cues};
 ghost use Rattle.cue_lists.specs.Rules.{IsRuled};
 ghost use Rattle.dtvcc_author.specs.Captions.{service_captions};
 ghost use Rattle.dtvcc_author.specs.Kept.{AreKept};
@@ -41,10 +41,7 @@ pub fn plan(alloc: Global, list: &CueList) -> Result<Plan, PlanFault>
 {
     let services = placed_services(alloc, list);
     match placed_fields(alloc, list) {
-        Ok((one, two)) => match services {
-            Ok(services) => Ok(Plan::new(one, two, services, list.rate(), list.frames())),
-            Err(fault) => Err(fault),
-        },
+        Ok((one, two)) => Ok(Plan::new(one, two, services?, list.rate(), list.frames())),
         Err(fault) => Err(fault_beside(fault, services.err())),
     }
 }
@@ -58,10 +55,7 @@ fn placed_fields(alloc: Global, list: &CueList) -> Result<(PlacedLane, PlacedLan
     let one = placed_channel(alloc, list.cues(), Chan::Cc1, list.rate());
     let two = placed_channel(alloc, list.cues(), Chan::Cc3, list.rate());
     match one {
-        Ok(one) => match two {
-            Ok(two) => Ok((one, two)),
-            Err(fault) => Err(fault),
-        },
+        Ok(one) => Ok((one, two?)),
         Err(fault) => Err(fault_beside(fault, two.err())),
     }
 }
@@ -92,7 +86,7 @@ fn placed_service(
     share: u8,
 ) -> Result<PlacedService, PlanFault>
     requires formed { All IsCueFormed cues.now }
-    requires few { length cues.now ≤ 20000 }
+    requires few { length cues.now ≤ most_cues }
     requires kept { (frames : ℕ) × AreKept rate frames (service_captions rate service cues.now) }
     requires least { 8 ≤ share }
     requires most { share ≤ 31 }
@@ -163,7 +157,7 @@ fn placed_channel(
     rate: Rate,
 ) -> Result<PlacedLane, PlanFault>
     requires formed { All IsCueFormed cues.now }
-    requires few { length cues.now ≤ 20000 }
+    requires few { length cues.now ≤ most_cues }
     requires apart { AreApart (channel_events channel (cues_in_slots (cadence_of rate channel) cues.now)) }
     ensures placed { IfOk result (IsPlanOf (channel_events channel (cues_in_slots (cadence_of rate channel) cues.now))
         (channel_pieces channel (cues_in_slots (cadence_of rate channel) cues.now))) }

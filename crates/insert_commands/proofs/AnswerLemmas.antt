@@ -10,7 +10,7 @@ use Rattle.command_base.specs.declared.status.Status.TheVariants as status
 use Rattle.cue_list_commands.specs.Reads.{IsProgrammeOf, ReadsProgramme}
 use Rattle.cue_list_commands.specs.SideEnds.{side_ends}
 use Rattle.cue_list_commands.specs.declared.programme.Programme.{Programme}
-use Rattle.insert_commands.specs.InsertAnswer.{Cause, HasFrames, InsertAnswer, InsertsWhole, OfList, Stops, StopsInserting}
+use Rattle.insert_commands.specs.InsertAnswer.{Cause, HasFrames, InsertAnswer, InsertsWhole, OfAcceptedList, Stops, StopsInserting}
 use Rattle.insert_commands.specs.InsertSteps.{CountsBy, InsertsWords}
 use Rattle.cue_lists.specs.Listing.{Listing}
 use Rattle.frame_scheduler.specs.Planned.{Placement}
@@ -45,7 +45,7 @@ list_refused left later before now old (status.Short count) h = (h.0, record { r
 
 -- what holds of the list of a programme
 of_list : (left : Option (List ℕ)) (faults : ℕ) (programme : Programme) (Holds : Listing → Placement → Type 0) → IfSome left (λ text. IsProgrammeOf text programme)
-    → ((text : List ℕ) (is : IsProgrammeOf text programme) → Holds is.list is.placed) → OfList (side_ends left faults) Holds
+    → ((text : List ℕ) (is : IsProgrammeOf text programme) → Holds is.list is.placed) → OfAcceptedList (side_ends left faults) Holds
 of_list None faults programme Holds is holds = tt
 of_list (Some text) faults programme Holds is holds = (is.list, is.placed, is.accepted, holds text is)
 

@@ -16,6 +16,7 @@ use Rattle.command_base.specs.declared.status.Status.TheVariants as status
 use Rattle.cue_list_commands.proofs.ListVerdictLemmas.{accepted_not_refused, accepted_once, refused_once}
 use Rattle.cue_list_commands.specs.Accepted.{IsAccepted, IsRefused}
 use Rattle.cue_list_commands.specs.SideEnds.{SideEnds}
+use Rattle.cue_list_commands.specs.SideLists.{RefusedSideIsAnswered, RefusesSide}
 use Rattle.cue_lists.specs.Listing.{Listing}
 use Rattle.findings.specs.declared.finding.Finding.{Finding}
 use Rattle.frame_scheduler.specs.Planned.{Placement}
@@ -31,12 +32,12 @@ use Rattle.words_files.specs.Frames.{CarryFrames, IsFileOf}
 use Rattle.words_files.specs.Frames.CarryFrames.{none, caption}
 use Rattle.words_files.specs.Offences.{FirstOffendingWord, IsFileUnder}
 use Rattle.services_files.specs.CaptionChannel.{caption_channel}
-use Rattle.insert_commands.specs.InsertAnswer.{Cause, ExceedsPacketLength, IsFoundAt, IsRefusedBehind, IsShort, OfList, PassesLimitBehind, RefusesList, Stops}
-use Rattle.insert_commands.specs.InsertVerdict.{CanTake, InsertedIsAnswered, RefusedSideIsAnswered}
+use Rattle.insert_commands.specs.InsertAnswer.{Cause, ExceedsPacketLength, IsFoundAt, IsRefusedBehind, InsertAnswer, IsShort, OfAcceptedList, PassesLimitBehind, Stops}
+use Rattle.insert_commands.specs.InsertVerdict.{CanTake, InsertedIsAnswered}
 
 -- what holds of the list of a side file holds of every accepted list that it spells
 list_known : (text : List ℕ) (side : SideEnds) (list : Listing) (placed : Placement) (Holds : Listing → Placement → Type 0) → side.left ≡ Some text
-    → IsAccepted text list placed → OfList side Holds → Holds list placed
+    → IsAccepted text list placed → OfAcceptedList side Holds → Holds list placed
 list_known text side list placed Holds known accepted is =
     let (other, moved, is_accepted, holds) =
     subst (λ (l : Option (List ℕ)). IfSome l (λ t. (other : Listing) × (moved : Placement) × IsAccepted t other moved × Holds other moved)) known is in
@@ -45,7 +46,7 @@ list_known text side list placed Holds known accepted is =
 
 -- an accepted list isn't refused
 never_refused : (text : List ℕ) (list : Listing) (placed : Placement) (side later : SideEnds) (old new : Ends) (answer : Status) → side.left ≡ Some text
-    → IsAccepted text list placed → RefusesList side later old new answer → ⊥
+    → IsAccepted text list placed → RefusesSide IsRefused side later old new answer → ⊥
 never_refused text list placed side later old new answer known accepted is =
     accepted_not_refused text list placed answer accepted (subst (λ (l : Option (List ℕ)). IfSome l (λ t. IsRefused t answer)) known is.2)
 
@@ -151,45 +152,45 @@ module _ (list : Listing) (placed : Placement) (bytes : List ℕ) (old new : End
       omega (arith, size, few, enough)
 
 pub inserted_answered : InsertedIsAnswered
-inserted_answered text bytes list placed side later old new status.Ok accepted can known steady read is = inl refl
-inserted_answered text bytes list placed side later old new status.Memory accepted can known steady read is = inr refl
-inserted_answered text bytes list placed side later old new status.Usage accepted can known steady read is = absurd is
-inserted_answered text bytes list placed side later old new status.ReadFault accepted can known steady read (inl is) = absurd (steady is.0)
-inserted_answered text bytes list placed side later old new status.ReadFault accepted can known steady read (inr is) = absurd (read.reads is.1)
-inserted_answered text bytes list placed side later old new status.WriteFault accepted can known steady read is = absurd (read.writes is.2)
-inserted_answered text bytes list placed side later old new (status.Limit limit.Bytes) accepted can known steady read (inl is) =
-    absurd (never_refused text list placed side later old new (status.Limit limit.Bytes) known accepted is)
-inserted_answered text bytes list placed side later old new (status.Limit limit.Bytes) accepted can known steady read (inr is) =
+inserted_answered text bytes list placed side later old new status.Ok accepted can side_is read is = inl refl
+inserted_answered text bytes list placed side later old new status.Memory accepted can side_is read is = inr refl
+inserted_answered text bytes list placed side later old new status.Usage accepted can side_is read is = absurd is
+inserted_answered text bytes list placed side later old new status.ReadFault accepted can side_is read (inl is) = absurd (side_is.faults is.0)
+inserted_answered text bytes list placed side later old new status.ReadFault accepted can side_is read (inr is) = absurd (read.reads is.1)
+inserted_answered text bytes list placed side later old new status.WriteFault accepted can side_is read is = absurd (read.writes is.2)
+inserted_answered text bytes list placed side later old new (status.Limit limit.Bytes) accepted can side_is read (inl is) =
+    absurd (never_refused text list placed side later old new (status.Limit limit.Bytes) side_is.left accepted is)
+inserted_answered text bytes list placed side later old new (status.Limit limit.Bytes) accepted can side_is read (inr is) =
     absurd (never_passes list placed bytes old new can read.left
-    (list_known text side list placed (λ l p. Stops (captioning_of l p) PassesLimitBehind put.Done old new) known accepted is.2))
-inserted_answered text bytes list placed side later old new (status.Limit limit.Packet) accepted can known steady read is =
+    (list_known text side list placed (λ l p. Stops (captioning_of l p) PassesLimitBehind put.Done old new) side_is.left accepted is.2))
+inserted_answered text bytes list placed side later old new (status.Limit limit.Packet) accepted can side_is read is =
     absurd (never_long list placed bytes old new can read.left
-    (list_known text side list placed (λ l p. Stops (captioning_of l p) ExceedsPacketLength put.Done old new) known accepted is.2))
-inserted_answered text bytes list placed side later old new (status.Malformed (Byte place) why) accepted can known steady read is =
+    (list_known text side list placed (λ l p. Stops (captioning_of l p) ExceedsPacketLength put.Done old new) side_is.left accepted is.2))
+inserted_answered text bytes list placed side later old new (status.Malformed (Byte place) why) accepted can side_is read is =
     absurd (never_malformed list placed bytes old new can read.left (record { place = place; why = why })
-    (list_known text side list placed (λ l p. Stops (captioning_of l p) (IsRefusedBehind (record { place = place; why = why }) old.left) put.Done old new) known accepted is.2))
-inserted_answered text bytes list placed side later old new (status.Differs finding) accepted can known steady read is =
+    (list_known text side list placed (λ l p. Stops (captioning_of l p) (IsRefusedBehind (record { place = place; why = why }) old.left) put.Done old new) side_is.left accepted is.2))
+inserted_answered text bytes list placed side later old new (status.Differs finding) accepted can side_is read is =
     absurd (never_other list placed bytes old new can read.left finding
-    (list_known text side list placed (λ l p. Stops (captioning_of l p) (IsFoundAt finding) put.Done old new) known accepted is.2))
-inserted_answered text bytes list placed side later old new (status.Short count) accepted can known steady read is =
+    (list_known text side list placed (λ l p. Stops (captioning_of l p) (IsFoundAt finding) put.Done old new) side_is.left accepted is.2))
+inserted_answered text bytes list placed side later old new (status.Short count) accepted can side_is read is =
     absurd (never_short list placed bytes old new can read.left count
-    (list_known text side list placed (λ l p. Stops (captioning_of l p) (IsShort old.left count) put.Done old new) known accepted is.2))
-inserted_answered text bytes list placed side later old new (status.Limit limit.Frames) accepted can known steady read is =
-    absurd (never_refused text list placed side later old new (status.Limit limit.Frames) known accepted is)
-inserted_answered text bytes list placed side later old new (status.Limit limit.Cues) accepted can known steady read is =
-    absurd (never_refused text list placed side later old new (status.Limit limit.Cues) known accepted is)
-inserted_answered text bytes list placed side later old new (status.Limit limit.Day) accepted can known steady read is =
-    absurd (never_refused text list placed side later old new (status.Limit limit.Day) known accepted is)
-inserted_answered text bytes list placed side later old new (status.Malformed (Field rec field) why) accepted can known steady read is =
-    absurd (never_refused text list placed side later old new (status.Malformed (Field rec field) why) known accepted is)
-inserted_answered text bytes list placed side later old new (status.Rule fault) accepted can known steady read is =
-    absurd (never_refused text list placed side later old new (status.Rule fault) known accepted is)
-inserted_answered text bytes list placed side later old new (status.NoRoom cue) accepted can known steady read is =
-    absurd (never_refused text list placed side later old new (status.NoRoom cue) known accepted is)
+    (list_known text side list placed (λ l p. Stops (captioning_of l p) (IsShort old.left count) put.Done old new) side_is.left accepted is.2))
+inserted_answered text bytes list placed side later old new (status.Limit limit.Frames) accepted can side_is read is =
+    absurd (never_refused text list placed side later old new (status.Limit limit.Frames) side_is.left accepted is)
+inserted_answered text bytes list placed side later old new (status.Limit limit.Cues) accepted can side_is read is =
+    absurd (never_refused text list placed side later old new (status.Limit limit.Cues) side_is.left accepted is)
+inserted_answered text bytes list placed side later old new (status.Limit limit.Day) accepted can side_is read is =
+    absurd (never_refused text list placed side later old new (status.Limit limit.Day) side_is.left accepted is)
+inserted_answered text bytes list placed side later old new (status.Malformed (Field rec field) why) accepted can side_is read is =
+    absurd (never_refused text list placed side later old new (status.Malformed (Field rec field) why) side_is.left accepted is)
+inserted_answered text bytes list placed side later old new (status.Rule fault) accepted can side_is read is =
+    absurd (never_refused text list placed side later old new (status.Rule fault) side_is.left accepted is)
+inserted_answered text bytes list placed side later old new (status.NoRoom cue) accepted can side_is read is =
+    absurd (never_refused text list placed side later old new (status.NoRoom cue) side_is.left accepted is)
 
 -- a side file that is refused has no accepted list
 no_list : (text : List ℕ) (refusal : Status) (side : SideEnds) (Holds : Listing → Placement → Type 0) → side.left ≡ Some text → IsRefused text refusal
-    → OfList side Holds → ⊥
+    → OfAcceptedList side Holds → ⊥
 no_list text refusal side Holds known refused is =
     let (list, placed, accepted, holds) =
     subst (λ (l : Option (List ℕ)). IfSome l (λ t. (list : Listing) × (placed : Placement) × IsAccepted t list placed × Holds list placed)) known is in
@@ -197,33 +198,33 @@ no_list text refusal side Holds known refused is =
 
 -- it is refused so
 refused_so : (text : List ℕ) (refusal : Status) (side later : SideEnds) (old new : Ends) (answer : Status) → side.left ≡ Some text → IsRefused text refusal
-    → RefusesList side later old new answer → answer ≡ refusal
+    → RefusesSide IsRefused side later old new answer → answer ≡ refusal
 refused_so text refusal side later old new answer known refused is =
     refused_once text answer refusal (subst (λ (l : Option (List ℕ)). IfSome l (λ t. IsRefused t answer)) known is.2) refused
 
-pub refused_side : RefusedSideIsAnswered
-refused_side text refusal side later old new status.Ok refused known steady is = absurd (no_list text refusal side _ known refused is.2)
-refused_side text refusal side later old new status.Memory refused known steady is = inr refl
-refused_side text refusal side later old new status.Usage refused known steady is = absurd is
-refused_side text refusal side later old new status.ReadFault refused known steady (inl is) = absurd (steady is.0)
-refused_side text refusal side later old new status.ReadFault refused known steady (inr is) = absurd (no_list text refusal side _ known refused is.3)
-refused_side text refusal side later old new status.WriteFault refused known steady is = absurd (no_list text refusal side _ known refused is.3)
-refused_side text refusal side later old new (status.Limit limit.Bytes) refused known steady (inl is) =
-    inl (refused_so text refusal side later old new (status.Limit limit.Bytes) known refused is)
-refused_side text refusal side later old new (status.Limit limit.Bytes) refused known steady (inr is) = absurd (no_list text refusal side _ known refused is.2)
-refused_side text refusal side later old new (status.Limit limit.Packet) refused known steady is = absurd (no_list text refusal side _ known refused is.2)
-refused_side text refusal side later old new (status.Malformed (Byte place) why) refused known steady is = absurd (no_list text refusal side _ known refused is.2)
-refused_side text refusal side later old new (status.Differs finding) refused known steady is = absurd (no_list text refusal side _ known refused is.2)
-refused_side text refusal side later old new (status.Short count) refused known steady is = absurd (no_list text refusal side _ known refused is.2)
-refused_side text refusal side later old new (status.Limit limit.Frames) refused known steady is =
-    inl (refused_so text refusal side later old new (status.Limit limit.Frames) known refused is)
-refused_side text refusal side later old new (status.Limit limit.Cues) refused known steady is =
-    inl (refused_so text refusal side later old new (status.Limit limit.Cues) known refused is)
-refused_side text refusal side later old new (status.Limit limit.Day) refused known steady is =
-    inl (refused_so text refusal side later old new (status.Limit limit.Day) known refused is)
-refused_side text refusal side later old new (status.Malformed (Field rec field) why) refused known steady is =
-    inl (refused_so text refusal side later old new (status.Malformed (Field rec field) why) known refused is)
-refused_side text refusal side later old new (status.Rule fault) refused known steady is =
-    inl (refused_so text refusal side later old new (status.Rule fault) known refused is)
-refused_side text refusal side later old new (status.NoRoom cue) refused known steady is =
-    inl (refused_so text refusal side later old new (status.NoRoom cue) known refused is)
+pub refused_side : RefusedSideIsAnswered IsRefused InsertAnswer
+refused_side text refusal side later old new status.Ok refused side_is is = absurd (no_list text refusal side _ side_is.left refused is.2)
+refused_side text refusal side later old new status.Memory refused side_is is = inr refl
+refused_side text refusal side later old new status.Usage refused side_is is = absurd is
+refused_side text refusal side later old new status.ReadFault refused side_is (inl is) = absurd (side_is.faults is.0)
+refused_side text refusal side later old new status.ReadFault refused side_is (inr is) = absurd (no_list text refusal side _ side_is.left refused is.3)
+refused_side text refusal side later old new status.WriteFault refused side_is is = absurd (no_list text refusal side _ side_is.left refused is.3)
+refused_side text refusal side later old new (status.Limit limit.Bytes) refused side_is (inl is) =
+    inl (refused_so text refusal side later old new (status.Limit limit.Bytes) side_is.left refused is)
+refused_side text refusal side later old new (status.Limit limit.Bytes) refused side_is (inr is) = absurd (no_list text refusal side _ side_is.left refused is.2)
+refused_side text refusal side later old new (status.Limit limit.Packet) refused side_is is = absurd (no_list text refusal side _ side_is.left refused is.2)
+refused_side text refusal side later old new (status.Malformed (Byte place) why) refused side_is is = absurd (no_list text refusal side _ side_is.left refused is.2)
+refused_side text refusal side later old new (status.Differs finding) refused side_is is = absurd (no_list text refusal side _ side_is.left refused is.2)
+refused_side text refusal side later old new (status.Short count) refused side_is is = absurd (no_list text refusal side _ side_is.left refused is.2)
+refused_side text refusal side later old new (status.Limit limit.Frames) refused side_is is =
+    inl (refused_so text refusal side later old new (status.Limit limit.Frames) side_is.left refused is)
+refused_side text refusal side later old new (status.Limit limit.Cues) refused side_is is =
+    inl (refused_so text refusal side later old new (status.Limit limit.Cues) side_is.left refused is)
+refused_side text refusal side later old new (status.Limit limit.Day) refused side_is is =
+    inl (refused_so text refusal side later old new (status.Limit limit.Day) side_is.left refused is)
+refused_side text refusal side later old new (status.Malformed (Field rec field) why) refused side_is is =
+    inl (refused_so text refusal side later old new (status.Malformed (Field rec field) why) side_is.left refused is)
+refused_side text refusal side later old new (status.Rule fault) refused side_is is =
+    inl (refused_so text refusal side later old new (status.Rule fault) side_is.left refused is)
+refused_side text refusal side later old new (status.NoRoom cue) refused side_is is =
+    inl (refused_so text refusal side later old new (status.NoRoom cue) side_is.left refused is)

@@ -3,25 +3,25 @@
 -- packet is put before more are taken.
 use Rattle.std.specs.Prelude.{◌≡◌, ◌≢◌, ◌<◌, ◌≤◌, ◌+◌, ◌⊎◌, ℕ, List, [], ◌++◌, length, Option, IfSome}
 use Rattle.std.specs.Io.KnownBytes.{Consumes}
-use Rattle.cc_base.specs.Streams.{Puts, Rose, TakesWithin}
+use Rattle.cc_base.specs.Streams.{Puts, Rose, TakesWithin, whole_limit}
 use Rattle.cc_base.specs.declared.limit_of.LimitOf.TheVariants as limit
 use Rattle.cc_base.specs.declared.refusal.Refusal.{Refusal}
 use Rattle.cc_base.specs.declared.streams.Put.{Put}
 use Rattle.cc_base.specs.declared.streams.Put.TheVariants as put
 use Rattle.cdp_packets.specs.Packets.{Packet as Frame}
-use Rattle.command_base.specs.Ends.{Ends}
-use Rattle.command_base.specs.WholeInput.{whole_limit}
+use Rattle.command_base.specs.Ends.{Ends, IsSteady}
 use Rattle.command_base.specs.declared.status.Place.TheVariants.{Byte}
 use Rattle.command_base.specs.declared.status.Status.{Status}
 use Rattle.command_base.specs.declared.status.Status.TheVariants as status
 use Rattle.cue_list_commands.specs.Accepted.{IsAccepted, IsRefused}
 use Rattle.cue_list_commands.specs.SideEnds.{SideEnds}
+use Rattle.cue_list_commands.specs.SideLists.{RefusesSide}
 use Rattle.cue_lists.specs.Listing.{Listing}
 use Rattle.findings.specs.declared.finding.Finding.{Finding}
 use Rattle.findings.specs.declared.finding.Kind45.TheVariants as kind
 use Rattle.frame_scheduler.specs.Planned.{Placement}
 use Rattle.packet_inserter.specs.Insertion.{IsInserted, packet_length}
-use Rattle.words_commands.specs.WordsAnswer.{IsSteady, IsWholeInput, words_limit}
+use Rattle.words_commands.specs.WordsAnswer.{IsWholeInput, words_limit}
 use Rattle.words_files.specs.Offences.{IsCutShort, IsFileUnder, IsUnoffending}
 use Rattle.services_files.specs.CaptionChannel.{caption_channel}
 use Rattle.inserted_words.specs.InsertedFile.{AreInserted, BringsFrame}
@@ -130,16 +130,12 @@ pub record InsertsWhole (list : Listing) (placed : Placement) (old new : Ends) :
   pub sound : IsSoundInsertion list placed stops.frames stops.puts.text
 
 -- the side file is an accepted cue list, of which in its placement this holds
-abbrev pub OfList : SideEnds → (Listing → Placement → Type 0) → Type 0
-OfList side Holds = IfSome side.left (λ text. (list : Listing) × (placed : Placement) × IsAccepted text list placed × Holds list placed)
+abbrev pub OfAcceptedList : SideEnds → (Listing → Placement → Type 0) → Type 0
+OfAcceptedList side Holds = IfSome side.left (λ text. (list : Listing) × (placed : Placement) × IsAccepted text list placed × Holds list placed)
 
 -- so it is, and the words stopped the run for this cause
 abbrev pub StopsInserting : Cause → Put → SideEnds → Ends → Ends → Type 0
-StopsInserting Why answer side old new = OfList side (λ list placed. Stops (captioning_of list placed) Why answer old new)
-
--- the side file is refused, and nothing else was touched
-abbrev pub RefusesList : SideEnds → SideEnds → Ends → Ends → Status → Type 0
-RefusesList side later old new answer = (later.faults ≡ side.faults) × (new ≡ old) × IfSome side.left (λ text. IsRefused text answer)
+StopsInserting Why answer side old new = OfAcceptedList side (λ list placed. Stops (captioning_of list placed) Why answer old new)
 
 -- no count of faults rose, and the words stopped the run for this cause
 abbrev pub JudgesWords : Cause → SideEnds → SideEnds → Ends → Ends → Type 0
@@ -148,7 +144,7 @@ JudgesWords Why side later old new = (later.faults ≡ side.faults) × IsSteady 
 -- what `insert` answers
 abbrev pub InsertAnswer : SideEnds → SideEnds → Ends → Ends → Status → Type 0
 InsertAnswer side later old new status.Ok =
-    (later.faults ≡ side.faults) × IsSteady old new × OfList side (λ list placed. InsertsWhole list placed old new)
+    (later.faults ≡ side.faults) × IsSteady old new × OfAcceptedList side (λ list placed. InsertsWhole list placed old new)
 InsertAnswer side later old new status.Usage = ⊥
 InsertAnswer side later old new status.ReadFault =
     (Rose side.faults later.faults × TakesWithin whole_limit side.left later.left × (new ≡ old))
@@ -159,10 +155,10 @@ InsertAnswer side later old new status.WriteFault =
     × StopsInserting IsAnyhow put.Failed side old new
 InsertAnswer side later old new status.Memory = (later.faults ≡ side.faults) × (new ≡ old)
 InsertAnswer side later old new (status.Limit limit.Bytes) =
-    RefusesList side later old new (status.Limit limit.Bytes) ⊎ JudgesWords PassesLimitBehind side later old new
+    RefusesSide IsRefused side later old new (status.Limit limit.Bytes) ⊎ JudgesWords PassesLimitBehind side later old new
 InsertAnswer side later old new (status.Limit limit.Packet) = JudgesWords ExceedsPacketLength side later old new
 InsertAnswer side later old new (status.Malformed (Byte place) why) =
     JudgesWords (IsRefusedBehind (record { place = place; why = why }) old.left) side later old new
 InsertAnswer side later old new (status.Differs finding) = JudgesWords (IsFoundAt finding) side later old new
 InsertAnswer side later old new (status.Short count) = JudgesWords (IsShort old.left count) side later old new
-InsertAnswer side later old new answer = RefusesList side later old new answer
+InsertAnswer side later old new answer = RefusesSide IsRefused side later old new answer

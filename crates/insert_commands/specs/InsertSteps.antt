@@ -9,14 +9,13 @@ use Rattle.cc_receiver.specs.declared.receiver.Receiver.{Receiver}
 use Rattle.cdp_packets.specs.Packets.{Packet as Frame}
 use Rattle.cdp_packets.specs.Sections.{AreSections}
 use Rattle.std.specs.List.{concat}
-use Rattle.command_base.specs.Ends.{Ends}
+use Rattle.command_base.specs.Ends.{Ends, IsSteady}
 use Rattle.command_base.specs.declared.status.Place.TheVariants.{Byte}
 use Rattle.command_base.specs.declared.status.Status.{Status}
 use Rattle.command_base.specs.declared.status.Status.TheVariants as status
 use Rattle.findings.specs.declared.finding.Kind45.TheVariants as kind
 use Rattle.packet_inserter.specs.Insertion.{IsInserted, packet_length}
 use Rattle.words_files.specs.FramesOf.{AreFramesOf}
-use Rattle.words_commands.specs.WordsAnswer.{IsSteady}
 use Rattle.words_files.specs.Offences.{IsCutShort}
 use Rattle.services_files.specs.CaptionChannel.{caption_channel}
 use Rattle.text_output.specs.Gathered.{Gathers, GathersText, held_of}

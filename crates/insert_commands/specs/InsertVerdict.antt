@@ -1,14 +1,14 @@
 -- The verdict of an insertion where no count of faults rose: words that can take the captions of an accepted list are answered Ok, or
--- want of memory; and a refused list is answered with its one refusal.
-use Rattle.std.specs.Prelude.{◌≡◌, ◌≤◌, ◌⊎◌, ℕ, List, ◌∷◌, ◌++◌, length, Some}
-use Rattle.cc_base.specs.Streams.{Rose}
+-- want of memory.
+use Rattle.std.specs.Prelude.{◌≡◌, ◌≤◌, ◌⊎◌, ℕ, List, ◌∷◌, ◌++◌, length}
 use Rattle.cdp_packets.specs.Packets.{Packet as Frame}
 use Rattle.command_base.specs.Counts.{IsReadOf}
 use Rattle.command_base.specs.Ends.{Ends}
 use Rattle.command_base.specs.declared.status.Status.{Status}
 use Rattle.command_base.specs.declared.status.Status.TheVariants as status
-use Rattle.cue_list_commands.specs.Accepted.{IsAccepted, IsRefused}
+use Rattle.cue_list_commands.specs.Accepted.{IsAccepted}
 use Rattle.cue_list_commands.specs.SideEnds.{SideEnds}
+use Rattle.cue_list_commands.specs.SideLists.{IsSideOf}
 use Rattle.cue_lists.specs.Listing.{Listing}
 use Rattle.frame_scheduler.specs.Planned.{Placement}
 use Rattle.inserted_words.specs.Captioning.{captioning_of, captions_of}
@@ -33,11 +33,5 @@ pub record CanTake (list : Listing) (placed : Placement) (bytes : List ℕ) : Ty
 -- such words are answered Ok, or want of memory
 abbrev pub InsertedIsAnswered : Type 0
 InsertedIsAnswered = (text bytes : List ℕ) (list : Listing) (placed : Placement) (side later : SideEnds) (old new : Ends) (answer : Status)
-    → IsAccepted text list placed → CanTake list placed bytes → side.left ≡ Some text → (Rose side.faults later.faults → ⊥) → IsReadOf bytes old new
+    → IsAccepted text list placed → CanTake list placed bytes → IsSideOf text side later → IsReadOf bytes old new
     → InsertAnswer side later old new answer → (answer ≡ status.Ok) ⊎ (answer ≡ status.Memory)
-
--- a refused list is answered with its one refusal, or want of memory
-abbrev pub RefusedSideIsAnswered : Type 0
-RefusedSideIsAnswered = (text : List ℕ) (refusal : Status) (side later : SideEnds) (old new : Ends) (answer : Status)
-    → IsRefused text refusal → side.left ≡ Some text → (Rose side.faults later.faults → ⊥) → InsertAnswer side later old new answer
-    → (answer ≡ refusal) ⊎ (answer ≡ status.Memory)

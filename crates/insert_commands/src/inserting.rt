@@ -5,8 +5,8 @@ ghost use Rattle.cdp_packets.specs.Packets.{Packet as Frame};
 ghost use Rattle.cdp_packets.specs.Sections.{AreSections};
 ghost use Rattle.words_files.specs.FramesOf.{AreFramesOf};
 ghost use Rattle.services_files.specs.CaptionChannel.{caption_channel};
-ghost use Rattle.command_base.specs.Ends.{Ends};
-ghost use Rattle.words_commands.specs.WordsAnswer.{IsSteady, words_limit};
+ghost use Rattle.command_base.specs.Ends.{Ends, IsSteady};
+ghost use Rattle.words_commands.specs.WordsAnswer.{words_limit};
 ghost use Rattle.text_output.specs.Gathered.{held_of};
 ghost use Rattle.insert_commands.specs.InsertSteps.{CountsBy, EndsAs, GathersWords, HasJudged, HasLastFrame, HasStopped, Judges, JudgesAndPuts, Replaces, StepJudges, StopCause, StopsBy, stop_status};
 ghost use Rattle.inserted_words.specs.Captioning.{Captioning};
@@ -77,12 +77,8 @@ impl Inserting {
         ensures may { IfOk result (λ inserting. MayFollow words_limit inserting.packets words_limit) }
         ensures gives { (list : Captioning) → HasCaptions list programme → IfOk result (λ inserting. GivesCaptions list 0 inserting.captions) }
     {
-        let packets = match Packets::new(alloc) {
-            Ok(packets) => packets,
-            Err(error) => return Err(error),
-        };
         Ok(Inserting {
-            packets,
+            packets: Packets::new(alloc)?,
             captions: Captions::new(programme),
             gathered: Gathered::new(),
         })
@@ -107,30 +103,22 @@ impl Inserting {
         };
         match fed.ended {
             Ended::No => Ok(fed.used),
-            Ended::Foreign => match gather(self.packets.bytes(), &mut self.gathered, out) {
-                Ok(()) => {
-                    self.packets.begin();
-                    Ok(fed.used)
-                }
-                Err(stop) => Err(stop),
-            },
+            Ended::Foreign => {
+                gather(self.packets.bytes(), &mut self.gathered, out)?;
+                self.packets.begin();
+                Ok(fed.used)
+            }
             Ended::Caption => {
                 let mut words = ArrayVec::new();
-                match replace(
+                replace(
                     &self.packets.receiver,
                     &mut self.captions,
                     frame,
                     &mut words,
-                ) {
-                    Ok(()) => match gather(&words, &mut self.gathered, out) {
-                        Ok(()) => {
-                            self.packets.begin();
-                            Ok(fed.used)
-                        }
-                        Err(stop) => Err(stop),
-                    },
-                    Err(stop) => Err(stop),
-                }
+                )?;
+                gather(&words, &mut self.gathered, out)?;
+                self.packets.begin();
+                Ok(fed.used)
             }
         }
     }
@@ -146,10 +134,7 @@ impl Inserting {
     {
         let mut at = 0;
         while at < bytes.len() {
-            match self.step(&bytes[at..], out) {
-                Ok(used) => at += used,
-                Err(stop) => return Err(stop),
-            }
+            at += self.step(&bytes[at..], out)?;
         }
         Ok(())
     }

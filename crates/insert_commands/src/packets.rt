@@ -1,5 +1,6 @@
 ghost use Rattle.std.specs.Prelude.{◌≡◌, ◌<◌, ◌≤◌, ◌+◌, ◌++◌, ℕ, [], List, IfOk, length};
 ghost use Rattle.cdp_packets.specs.Packets.{Packet as Frame};
+ghost use Rattle.words_commands.specs.WordsAnswer.{words_limit};
 ghost use Rattle.insert_commands.specs.OpenPackets.{EndsNoSooner, HasRead, IsCount, MayFollow, Receives, open_bytes};
 
 use arrayvec::ArrayVec;
@@ -37,7 +38,7 @@ impl Packets {
 
     /// Reads the next bytes, up to the end of a packet, and keeps them behind those of the open packet.
     pub(crate) fn feed(&mut self, bytes: &[u8]) -> Result<Fed, Refusal>
-        requires { MayFollow 2147483647 self.now (length bytes.now) }
+        requires { MayFollow words_limit self.now (length bytes.now) }
         ensures { (frames : List Frame) (file : List ℕ) → HasRead frames file self.old
             → Receives frames file bytes.now self.old self.new result }
     {

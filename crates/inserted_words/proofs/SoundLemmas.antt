@@ -29,7 +29,7 @@ use Rattle.dtvcc_screen.specs.Shown.{grids}
 use Rattle.cue_lists.specs.declared.lane.Lane.TheVariants.{Service}
 use Rattle.dtvcc_shown.specs.Filling.{AllFill}
 use Rattle.service_blocks.specs.Channels.{AreChannel}
-use Rattle.services_files.specs.WholeFiles.{CarryChannel, file_triplets}
+use Rattle.services_files.specs.CarriedChannel.{CarryChannel, file_triplets}
 use Rattle.words_files.specs.Received.{received_at}
 use Rattle.inserted_words.specs.Captioning.{captioning_of, captions_of, padded}
 use Rattle.inserted_words.specs.Soundness.{InsertionsAreSound}

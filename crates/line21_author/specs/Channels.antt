@@ -2,7 +2,8 @@
 use Rattle.line21_codes.specs.declared.channels.FieldNumber.{FieldNumber}
 use Rattle.line21_codes.specs.declared.channels.FieldNumber.TheVariants.{One}
 use Rattle.line21_codes.specs.Channels.{field_of_channel}
-pub use Rattle.cue_lists.specs.Channels.{cues_on, is_on, same_channel}
+pub use Rattle.cue_lists.specs.Channels.{cues_on, is_on}
+pub use Rattle.cue_lists.specs.Lane.{same_channel}
 use Rattle.cue_lists.specs.declared.cue.Kind.{Kind}
 use Rattle.cue_lists.specs.declared.cue.Kind.TheVariants.{Pop, Paint, Roll, Win}
 

@@ -2,10 +2,10 @@ ghost use Rattle.std.specs.Prelude.{◌≡◌};
 ghost use Rattle.line21_codes.specs.Writable.{IsWritable};
 ghost use Rattle.line21_codes.specs.Writing.{written};
 ghost use Rattle.line21_author.specs.FirstChannel.{first_channel};
-ghost use Rattle.line21_author.specs.Channels.{field_of_kind, same_channel, is_on};
+ghost use Rattle.line21_author.specs.Channels.{field_of_kind};
 
 use cue_lists::Kind;
-use line21_codes::{Chan, Code, Control, FieldNumber, Pair, write_code};
+use line21_codes::{Code, Control, FieldNumber, Pair, write_code};
 
 /// The code of a control code for data channel 1.
 pub(crate) fn first_channel(control: Control) -> Code
@@ -36,21 +36,4 @@ pub(crate) fn write_in(in_field: FieldNumber, code: Code) -> Pair
         FieldNumber::One => write_code(code, false),
         FieldNumber::Two => write_code(code, true),
     }
-}
-
-/// Whether a cue of the kind is on a channel; a window cue is on none.
-pub fn is_on(channel: Chan, kind: Kind) -> bool
-    ensures { result ≡ is_on channel kind }
-{
-    match kind {
-        Kind::Pop(own) | Kind::Paint(own) | Kind::Roll(own, _) => same_channel(channel, own),
-        Kind::Win(_) => false,
-    }
-}
-
-// Whether two channels are one.
-fn same_channel(channel: Chan, other: Chan) -> bool
-    ensures { result ≡ same_channel channel other }
-{
-    channel == other
 }

@@ -10,7 +10,8 @@ ghost use Rattle.line21_author.specs.CueEvents.{control_event, show_events, hide
 ghost use Rattle.line21_author.specs.EventOrder.{AreApart};
 ghost use Rattle.line21_author.specs.EventPairs.{IsControlEvent};
 
-use crate::channel::{first_channel, is_on, write_in};
+use crate::channel::{first_channel, write_in};
+use cue_lists::line21::is_on;
 use cue_lists::{Cue, Kind};
 use line21_codes::{Chan, Control, FieldNumber, Pair};
 use line21_slots::Cadence;

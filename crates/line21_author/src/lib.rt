@@ -2,7 +2,6 @@
 //! into a receiver's memory, and the events of a channel, which show and erase it.
 #![tactic(auto)]
 
-pub use crate::channel::is_on;
 pub use crate::cue::units;
 pub use crate::event::{Event, events};
 pub use crate::unit::{Unit, Units};

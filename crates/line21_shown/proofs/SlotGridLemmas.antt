@@ -17,7 +17,8 @@ use Rattle.cue_lists.specs.Rules.Sentences.{IsOnSlots}
 use Rattle.cue_lists.specs.declared.cue.Cue.{Cue}
 use Rattle.cue_lists.specs.declared.cue.Kind.{Kind}
 use Rattle.cue_lists.specs.declared.cue.Kind.TheVariants as kind
-use Rattle.cue_lists.proofs.ChannelCues.{All-reverse, reverse-cons}
+use Rattle.cue_lists.proofs.ChannelCues.{All-reverse}
+use Rattle.cue_lists.proofs.LaneCues.{reverse-cons}
 use Rattle.line21_slots.specs.Cadences.{has_slot_in, slot_frame, slot_from}
 use Rattle.line21_author.specs.CueSlots.{cues_in_slots, timed_in_slots}
 use Rattle.line21_slots.specs.declared.cadence.Cadence.{Cadence}

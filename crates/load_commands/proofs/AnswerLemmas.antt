@@ -1,5 +1,5 @@
 -- The list of a load is accepted: it is read as a programme, or memory ran out, and what came of the programme is the summary.
-use Rattle.std.proofs.Common.{◌≡◌, ◌≢◌, ◌∙◌, ℕ, ◌≤◌, List, length, Option, Some, Result, Ok, Err, ap, refl, sym, subst, arith}
+use Rattle.std.proofs.Common.{◌≡◌, ◌≢◌, ◌∙◌, ℕ, ◌≤◌, List, length, Option, Some, Err, ap, refl, sym, subst, arith}
 use Rattle.command_base.specs.WholeInput.{ReadsInput}
 use Rattle.command_base.specs.declared.status.Status.{Status}
 use Rattle.command_base.specs.declared.status.Status.TheVariants as status
@@ -12,7 +12,7 @@ use Rattle.cue_list_commands.proofs.ListVerdictLemmas.{accepted_not_refused, acc
 use Rattle.cue_lists.specs.Listing.{Listing}
 use Rattle.frame_scheduler.specs.Columns.{Columns}
 use Rattle.frame_scheduler.specs.Frames.{GivesFrom, frames_left}
-use Rattle.frame_scheduler.specs.Planned.{IsListPlaced, Placement, columns_of}
+use Rattle.frame_scheduler.specs.Planned.{Placement, columns_of}
 use Rattle.load_lists.specs.LoadList.{load_list, most_load}
 use Rattle.load_lists.proofs.RuledLemmas.{list_ruled}
 use Rattle.load_lists.proofs.WrittenLemmas.{list_written}

@@ -1,5 +1,5 @@
 -- One more frame: its packet and its bytes stand behind those of the frames before, and its change is counted.
-use Rattle.std.proofs.Common.{◌≡◌, ◌∙◌, ℕ, zero, suc, ◌+◌, Bool, if◌then◌else◌, List, [], ◌∷◌, ◌++◌, ap, refl, sym, subst, arith, add-one, append_assoc, append-nil}
+use Rattle.std.proofs.Common.{◌≡◌, ◌∙◌, ℕ, zero, suc, ◌+◌, if◌then◌else◌, List, [], ◌∷◌, ◌++◌, ap, sym, arith, append_assoc, append-nil}
 use Rattle.cc_base.specs.declared.rate.Rate.{Rate}
 use Rattle.cdp_packets.specs.Packets.{Packet as Frame}
 use Rattle.frame_carrier.specs.Carrying.{channel_packet_of, column_bytes, column_packets, frame_bytes, frame_packet}

@@ -1,10 +1,10 @@
 -- One more frame is taken.
-use Rattle.std.proofs.Common.{◌≡◌, ◌∙◌, ℕ, suc, ◌+◌, ◌*◌, ◌≤◌, Bool, true, false, if◌then◌else◌, List, [], ◌∷◌, ◌++◌, length, None, ap, refl, sym, subst, arith, add-one, length-append}
+use Rattle.std.proofs.Common.{◌≡◌, ◌∙◌, ℕ, ◌+◌, ◌≤◌, Bool, true, false, if◌then◌else◌, List, [], ◌∷◌, ◌++◌, length, None, ap, refl, sym, subst, arith, add-one, length-append}
 use Rattle.cc_base.specs.declared.rate.Rate.{Rate}
 use Rattle.cc_receiver.specs.Receivers.{HasReceived, frame_count}
 use Rattle.cc_receiver.specs.declared.receiver.Receiver.{Receiver}
 use Rattle.cdp_packets.specs.Packets.{Packet as Frame}
-use Rattle.frame_carrier.specs.Carrying.{IsAt, channel_packet, channel_packet_of, column_bytes, column_packets, frame_bytes, packet_count, packets_before}
+use Rattle.frame_carrier.specs.Carrying.{IsAt, channel_packet, column_bytes, column_packets, frame_bytes, packet_count, packets_before}
 use Rattle.frame_carrier.specs.declared.carrier.Carrier.{Carrier}
 use Rattle.frame_scheduler.specs.Columns.{Columns}
 use Rattle.frame_scheduler.specs.declared.frames.FrameBytes.{FrameBytes}
@@ -21,7 +21,7 @@ use Rattle.words_files.specs.Catching.{refusal_of}
 use Rattle.words_files.proofs.FramesOfLemmas.{file_frames}
 use Rattle.words_commands.proofs.PrintingLemmas.{nothing_shown}
 use Rattle.load_commands.specs.LoadOutput.{change_count}
-use Rattle.load_commands.specs.Receiving.{AreWhole, HasReceivedColumns, MayTake, MayTakeFrame}
+use Rattle.load_commands.specs.Receiving.{AreWhole, HasReceivedColumns, MayTake}
 use Rattle.load_commands.specs.declared.reception.Reception.{Reception}
 use Rattle.load_commands.proofs.CountLemmas.{bytes_at, bytes_more, changes_more, packet_at, packets_more}
 

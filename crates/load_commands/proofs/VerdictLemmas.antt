@@ -1,6 +1,6 @@
 -- The verdict of `load`: where the output's count of faults didn't rise, it answers Ok, or memory ran out; and where it rose, the answer
 -- says so.
-use Rattle.std.proofs.Common.{◌≡◌, ◌⊎◌, ℕ, ap, inl, inr, refl, arith}
+use Rattle.std.proofs.Common.{◌≡◌, ◌⊎◌, ℕ, inl, inr, refl, arith}
 use Rattle.cc_base.specs.Streams.{Rose}
 use Rattle.command_base.specs.Counts.{TellsFaults}
 use Rattle.command_base.specs.Ends.{Ends}

@@ -10,7 +10,8 @@ use Rattle.std.proofs.lemmas.Str.Ascii.{IsAscii-from_all}
 use Rattle.csv.specs.Writing.{by_style, escaped, field_text, fields_text, is_blank, needs_quotes, row_body, row_text}
 use Rattle.csv.specs.declared.writer.QuoteStyle.TheVariants.{Necessary}
 use Rattle.cue_types.specs.declared.head.Version.TheVariants.{Two}
-use Rattle.cue_form.specs.Records.{Field, Record, list_limit}
+use Rattle.cc_base.specs.Streams.{whole_limit}
+use Rattle.cue_form.specs.Records.{Field, Record}
 use Rattle.cue_form.specs.Spelling.{cue_records}
 use Rattle.cue_print.specs.Printing.{flexible_writer, list_bytes, record_bytes}
 use Rattle.cue_print.proofs.PrintedFacts.{records_of-bytes}
@@ -163,7 +164,7 @@ first_short count most = (
   (record { short = (omega arith, (digits 1 (omega arith), (digits 31 (omega arith), tt))); few = omega arith }, tt),
 )
 
-bytes_most : (count : ℕ) → count ≤ most_load → length (list_bytes (load_list count)) ≤ list_limit
+bytes_most : (count : ℕ) → count ≤ most_load → length (list_bytes (load_list count)) ≤ whole_limit
 bytes_most count most =
     let cues = flat_map cue_records (map load_cue (range_with_len 0 count)) in
     let first = records_most (first_records count) (first_short count most) in

@@ -1,6 +1,7 @@
 -- What holds of the list of every load.
 use Rattle.std.specs.Prelude.{ℕ, ◌≤◌, length}
-use Rattle.cue_form.specs.Records.{list_limit, records_of}
+use Rattle.cc_base.specs.Streams.{whole_limit}
+use Rattle.cue_form.specs.Records.{records_of}
 use Rattle.cue_form.specs.Spelling.{SpellsList}
 use Rattle.cue_print.specs.Printing.{list_bytes}
 use Rattle.cue_types.specs.Listing.{IsFormed, Listing}
@@ -17,7 +18,7 @@ LoadsAreRuled = (count : ℕ) → IsRuled (load_list count)
 
 -- what is written of a list is within the limit of a list's bytes, and spells it
 pub record IsListWritten (list : Listing) : Type 0 where
-  pub within : length (list_bytes list) ≤ list_limit
+  pub within : length (list_bytes list) ≤ whole_limit
   pub spelled : SpellsList (records_of (list_bytes list)) list
 
 -- so is what is written of the list of a load

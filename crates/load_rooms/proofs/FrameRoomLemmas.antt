@@ -6,7 +6,7 @@ use Rattle.std.proofs.lemmas.Bool.Decides.{nat_tests}
 use Rattle.std.proofs.lemmas.List.Sums.{sum_by-cons}
 use Rattle.placements.specs.Placing.{IsPlaced}
 use Rattle.service_lanes.specs.ServiceLane.{AreUpTo, bytes_between, chunk_size, is_between, service_lane, used}
-use Rattle.service_lanes.specs.declared.chunk.Chunk.{Chunk}
+use Rattle.service_lanes.specs.Chunks.{Chunk}
 
 -- all stand before a frame
 abbrev pub AreBefore : ℕ → List (Chunk × ℕ) → Type 0

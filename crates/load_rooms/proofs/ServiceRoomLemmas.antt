@@ -13,7 +13,7 @@ use Rattle.dtvcc_author.proofs.LatestLemmas.{all_has}
 use Rattle.placements.specs.Placing.{HasPlacement}
 use Rattle.service_lanes.specs.ServiceChunks.{chunk_of, chunks_from, cue_chunks}
 use Rattle.service_lanes.specs.ServiceRoom.{frame_room}
-use Rattle.service_lanes.specs.declared.chunk.Chunk.{Chunk}
+use Rattle.service_lanes.specs.Chunks.{Chunk}
 use Rattle.service_lanes.proofs.DelayLemmas.{delay_is_of}
 use Rattle.service_lanes.proofs.PlaceLemmas.{events_few}
 use Rattle.frame_scheduler.specs.Planned.{captions_in, chunks_in, service_lane_of}

@@ -2,7 +2,7 @@
 use Rattle.std.proofs.Common.{◌==◌, if◌then◌else◌, Bool, IfOk, Some, None, length, ◌≡◌, ◌≢◌, ◌∙◌, ◌+◌, ◌-◌, ◌<◌, ◌≤◌, ◌++◌, add-one, ap, append-nil, append_assoc, arith, refl, subst, suc, sym, ℕ, List, [], ◌∷◌, Option, Ok, Err, Result, false, true}
 use Rattle.std.specs.Prelude.{IfSome, nat_eq}
 use Rattle.cc_base.specs.declared.limit_of.LimitOf.TheVariants as limit
-use Rattle.cc_base.specs.Streams.{Puts}
+use Rattle.cc_base.specs.Streams.{Puts, whole_limit}
 use Rattle.cc_base.specs.declared.rate.Rate.TheVariants as rate
 use Rattle.cc_base.specs.declared.streams.Put.{Put}
 use Rattle.cc_base.specs.declared.streams.Put.TheVariants as put
@@ -24,7 +24,7 @@ use Rattle.scc_files.specs.SccFiles.{AreBytes, AreRising}
 use Rattle.scc_files.specs.declared.fault.SccFault.{SccFault}
 use Rattle.scc_files.specs.declared.fault.SccFault.TheVariants as fault
 use Rattle.command_base.proofs.WholeInputLemmas.{AreRefusals}
-use Rattle.command_base.specs.WholeInput.{JudgesInput, whole_limit}
+use Rattle.command_base.specs.WholeInput.{JudgesInput}
 use Rattle.command_base.specs.declared.status.Status.{Status}
 use Rattle.command_base.specs.declared.status.Status.TheVariants as status
 use Rattle.scc_commands.specs.Cursors.{Passes}

@@ -22,11 +22,11 @@ use Rattle.words_files.specs.FramesOf.{AreFramesOf}
 use Rattle.words_files.specs.Offences.{IsUnoffending}
 use Rattle.words_files.specs.Received.{field_pairs}
 use Rattle.services_files.specs.CaptionChannel.{caption_channel}
-use Rattle.command_base.specs.Ends.{Ends}
+use Rattle.command_base.specs.Ends.{Ends, IsSteady}
 use Rattle.command_base.specs.declared.status.Place.TheVariants.{Byte}
 use Rattle.command_base.specs.declared.status.Status.{Status}
 use Rattle.command_base.specs.declared.status.Status.TheVariants as status
-use Rattle.words_commands.specs.WordsAnswer.{Cause as WordsCause, HasNoOffence, IsRefusedWith, IsSteady, IsWholeFile, PassesLimit, words_limit}
+use Rattle.words_commands.specs.WordsAnswer.{Cause as WordsCause, HasNoOffence, IsRefusedWith, IsWholeFile, PassesLimit, words_limit}
 use Rattle.scc_commands.specs.Import.{Placed}
 
 -- the field 1 pairs of a frame: those of its triplets that count

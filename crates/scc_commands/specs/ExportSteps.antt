@@ -12,12 +12,12 @@ use Rattle.services_files.specs.CaptionChannel.{caption_channel}
 use Rattle.findings.specs.declared.finding.Kind45.{Kind45}
 use Rattle.time_codes.specs.declared.time_code.TimeCode.{TimeCode}
 use Rattle.scc_files.specs.Writing.{end_text, standing_of}
-use Rattle.command_base.specs.Ends.{Ends}
+use Rattle.command_base.specs.Ends.{Ends, IsSteady}
 use Rattle.text_output.specs.Gathered.{IsGathered, held_of}
 use Rattle.command_base.specs.declared.status.Place.TheVariants.{Byte}
 use Rattle.command_base.specs.declared.status.Status.{Status}
 use Rattle.command_base.specs.declared.status.Status.TheVariants as status
-use Rattle.words_commands.specs.WordsAnswer.{IsSteady, IsWholeFile}
+use Rattle.words_commands.specs.WordsAnswer.{IsWholeFile}
 use Rattle.scc_commands.specs.Export.{AreExported, AtNone, Cause, HasFinding, HasNoFinding, IsAnyhow, IsFoundAt, PassesDay, Stops, StopsEarly, export_front, exported, first_standing, stand_after}
 use Rattle.scc_commands.specs.declared.exporting.Exporting.{Exporting}
 use Rattle.scc_commands.specs.declared.exporting.Stop.{Stop}

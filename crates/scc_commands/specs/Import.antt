@@ -1,7 +1,7 @@
 -- What `import` answers: the words that carry the pairs of an SCC file, or why its bytes are refused.
 use Rattle.std.specs.Prelude.{ℕ, ◌<◌, ◌≤◌, ◌==◌, if◌then◌else◌, List, [], ◌∷◌, length, Option, Some, Result}
 use Rattle.std.specs.Io.KnownBytes.{Appends}
-use Rattle.cc_base.specs.Streams.{Puts}
+use Rattle.cc_base.specs.Streams.{Puts, whole_limit}
 use Rattle.cc_base.specs.declared.limit_of.LimitOf.TheVariants as limit
 use Rattle.cc_base.specs.declared.rate.Rate.TheVariants as rate
 use Rattle.cc_base.specs.declared.streams.Put.TheVariants as put
@@ -15,7 +15,7 @@ use Rattle.scc_files.specs.Offences.{IsFirstOffence}
 use Rattle.scc_files.specs.Reading.{frames_of}
 use Rattle.scc_files.specs.SccFiles.{IsSccFile}
 use Rattle.command_base.specs.Ends.{Ends}
-use Rattle.command_base.specs.WholeInput.{ReadsInput, WholeAnswer, whole_limit}
+use Rattle.command_base.specs.WholeInput.{ReadsInput, WholeAnswer}
 use Rattle.command_base.specs.declared.status.Place.TheVariants.{Byte}
 use Rattle.command_base.specs.declared.status.Status.{Status}
 use Rattle.command_base.specs.declared.status.Status.TheVariants as status

@@ -136,10 +136,10 @@ impl Exporting {
             Err(refusal) => return Err(Stop::Refused(refusal)),
         };
         match fed.ended {
-            Ended::Caption => match self.write_frame(frame, out) {
-                Ok(()) => Ok(fed.used),
-                Err(stop) => Err(stop),
-            },
+            Ended::Caption => {
+                self.write_frame(frame, out)?;
+                Ok(fed.used)
+            }
             _ => Ok(fed.used),
         }
     }
@@ -156,10 +156,7 @@ impl Exporting {
     {
         let mut at = 0;
         while at < bytes.len() {
-            match self.step(&bytes[at..], out) {
-                Ok(used) => at += used,
-                Err(stop) => return Err(stop),
-            }
+            at += self.step(&bytes[at..], out)?;
         }
         Ok(())
     }

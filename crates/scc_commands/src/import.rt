@@ -1,7 +1,7 @@
 ghost use Rattle.std.specs.Prelude.{◌≡◌, ◌≤◌, IfOk, length};
-ghost use Rattle.cc_base.specs.Streams.{PutCause, Puts};
+ghost use Rattle.cc_base.specs.Streams.{PutCause, Puts, whole_limit};
 ghost use Rattle.command_base.specs.Ends.{ends};
-ghost use Rattle.command_base.specs.WholeInput.{JudgesInput, whole_limit};
+ghost use Rattle.command_base.specs.WholeInput.{JudgesInput};
 ghost use Rattle.scc_files.specs.Reading.{frames_of};
 ghost use Rattle.scc_commands.specs.Import.{ImportAnswer, IsImport, IsRefusedImport, ReadsImport, import_words, most_import_frames};
 ghost use Rattle.scc_commands.specs.ImportSteps.{ArePlaced, fault_status, frame_with};
@@ -42,10 +42,8 @@ fn read_pairs<M: Source>(alloc: Global, input: &mut M) -> Result<SccPairs, Statu
     ensures reads { ReadsImport (M.left input.old) (M.left input.new) (M.faults input.old) (M.faults input.new) result }
     ensures placed { IfOk result ArePlaced }
 {
-    match read_input(alloc, input) {
-        Ok(bytes) => judge(alloc, &bytes),
-        Err(status) => Err(status),
-    }
+    let bytes = read_input(alloc, input)?;
+    judge(alloc, &bytes)
 }
 
 /// Judges the bytes of an SCC file.

@@ -47,6 +47,11 @@ abbrev pub first_text_moved : ℕ → ℕ → Option Phase
 first_text_moved at byte =
     if byte == slice_index first_text at then (if at == 17 then Some phase.FirstSpaces else Some (phase.First (at + 1))) else None
 
+-- behind the first line's text
+abbrev pub first_text_ended : ℕ → Option Phase
+first_text_ended byte =
+    if byte == 32 then Some phase.FirstSpaces else if byte == 10 then Some phase.Start else if byte == 13 then Some phase.FirstEnd else None
+
 -- at the start of a line
 abbrev pub started : ℕ → Option Phase
 started byte =
@@ -69,8 +74,7 @@ word_or_end byte (Some value) = Some (phase.One value)
 -- what a byte leads to, if some line goes on with it
 abbrev pub phase_after : Phase → ℕ → Option Phase
 phase_after (phase.First at) byte = first_text_moved at byte
-phase_after phase.FirstSpaces byte =
-    if byte == 32 then Some phase.FirstSpaces else if byte == 10 then Some phase.Start else if byte == 13 then Some phase.FirstEnd else None
+phase_after phase.FirstSpaces byte = first_text_ended byte
 phase_after phase.FirstEnd byte = if byte == 10 then Some phase.Start else None
 phase_after phase.Start byte = started byte
 phase_after phase.Blank byte = if byte == 32 then Some phase.Blank else ended byte

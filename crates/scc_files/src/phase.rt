@@ -1,5 +1,5 @@
-ghost use Rattle.std.specs.Prelude.{◌≡◌, ◌<◌, IfSome};
-ghost use Rattle.scc_files.specs.Phases.{HasNumbersInRange, ended, first_text_moved, fits, hex_value, may_end, phase_after, started, text_moved, why_in};
+ghost use Rattle.std.specs.Prelude.{◌≡◌, ◌<◌, ◌==◌, if◌then◌else◌, IfSome, Some, None};
+ghost use Rattle.scc_files.specs.Phases.{HasNumbersInRange, ended, first_text_ended, first_text_moved, fits, hex_value, may_end, phase_after, started, text_moved, why_in, word_or_end};
 
 use cc_base::Why;
 use line21_codes::Pair;
@@ -88,6 +88,37 @@ fn ended(byte: u8) -> Option<Phase>
     }
 }
 
+/// A phase to which one byte alone leads.
+fn only(wanted: u8, phase: Phase, byte: u8) -> Option<Phase>
+    ensures { result ≡ (if byte == wanted then Some phase else None) }
+{
+    if byte == wanted { Some(phase) } else { None }
+}
+
+/// What a byte leads to behind the first line's text.
+fn first_line_end(byte: u8) -> Option<Phase>
+    ensures moved { result ≡ first_text_ended byte }
+    ensures within { IfSome result HasNumbersInRange }
+{
+    match byte {
+        SPACE => Some(Phase::FirstSpaces),
+        LF => Some(Phase::Start),
+        CR => Some(Phase::FirstEnd),
+        _ => None,
+    }
+}
+
+/// What a byte that is no space leads to behind spaces that follow a word: a further word, or the line's end.
+fn word_or_end(byte: u8) -> Option<Phase>
+    ensures moved { result ≡ word_or_end byte (hex_value byte) }
+    ensures within { IfSome result HasNumbersInRange }
+{
+    match hex_value(byte) {
+        Some(value) => Some(Phase::One(value)),
+        None => ended(byte),
+    }
+}
+
 /// What a byte leads to within the first line's text.
 fn first_text(at: u8, byte: u8) -> Option<Phase>
     requires { at < 18 }
@@ -145,61 +176,25 @@ impl Phase {
     {
         match self {
             Phase::First(at) => first_text(at, byte),
-            Phase::FirstSpaces => match byte {
-                SPACE => Some(Phase::FirstSpaces),
-                LF => Some(Phase::Start),
-                CR => Some(Phase::FirstEnd),
-                _ => None,
-            },
-            Phase::FirstEnd | Phase::End => { if byte == LF { Some(Phase::Start) } else { None } }
+            Phase::FirstSpaces => first_line_end(byte),
+            Phase::FirstEnd | Phase::End => only(LF, Phase::Start, byte),
             Phase::Start => line_start(byte),
-            Phase::Blank => {
-                if byte == SPACE {
-                    Some(Phase::Blank)
-                } else {
-                    ended(byte)
-                }
-            }
+            Phase::Blank if byte == SPACE => Some(Phase::Blank),
+            Phase::Blank => ended(byte),
             Phase::Text { at, text } => time_text(at, text, byte),
-            Phase::Timed(_) => {
-                if byte == TAB || byte == SPACE {
-                    Some(Phase::Gap)
-                } else {
-                    None
-                }
-            }
-            Phase::Gap => {
-                if byte == TAB || byte == SPACE {
-                    Some(Phase::Gap)
-                } else {
-                    Some(Phase::One(hex_value(byte)?))
-                }
-            }
+            Phase::Timed(_) if byte == TAB || byte == SPACE => Some(Phase::Gap),
+            Phase::Timed(_) => None,
+            Phase::Gap if byte == TAB || byte == SPACE => Some(Phase::Gap),
+            Phase::Gap => Some(Phase::One(hex_value(byte)?)),
             Phase::One(value) => Some(Phase::Two(16 * value + hex_value(byte)?)),
             Phase::Two(first) => Some(Phase::Three(first, hex_value(byte)?)),
-            Phase::Three(first, value) => {
-                let second = 16 * value + hex_value(byte)?;
-                Some(Phase::Whole(Pair {
-                    a: first,
-                    b: second,
-                }))
+            Phase::Three(a, value) => {
+                let b = 16 * value + hex_value(byte)?;
+                Some(Phase::Whole(Pair { a, b }))
             }
-            Phase::Whole(_) => {
-                if byte == SPACE {
-                    Some(Phase::Between)
-                } else {
-                    ended(byte)
-                }
-            }
-            Phase::Between => {
-                if byte == SPACE {
-                    return Some(Phase::Between);
-                }
-                match hex_value(byte) {
-                    Some(value) => Some(Phase::One(value)),
-                    None => ended(byte),
-                }
-            }
+            Phase::Whole(_) | Phase::Between if byte == SPACE => Some(Phase::Between),
+            Phase::Whole(_) => ended(byte),
+            Phase::Between => word_or_end(byte),
         }
     }
 

@@ -1,4 +1,5 @@
 ghost use Rattle.std.specs.Prelude.{◌+◌, ◌-◌, ◌≤◌, ◌<◌, ◌^◌, IfOk, length, max};
+ghost use Rattle.cc_base.specs.Streams.{whole_limit};
 ghost use Rattle.scc_files.specs.Phases.{HasNumbersInRange};
 ghost use Rattle.scc_files.specs.Gathering.{GathersByte};
 ghost use Rattle.scc_files.specs.Offences.{FileAnswers};
@@ -64,7 +65,7 @@ impl Gathered {
 /// ends too soon; NoSuchTime and Backwards at the first byte of a time code's text, which is judged when it is whole. Limit (Frames)
 /// comes exactly where the bytes are an SCC file of more than 2,592,000 frames.
 pub fn read_scc(alloc: Global, bytes: &[u8]) -> Result<SccPairs, SccFault>
-    requires { length bytes.now ≤ 67108864 }
+    requires { length bytes.now ≤ whole_limit }
     ensures answers { AnswersPairs (read_file bytes.now) result }
     ensures file { FileAnswers bytes.now result }
 {
@@ -73,7 +74,7 @@ pub fn read_scc(alloc: Global, bytes: &[u8]) -> Result<SccPairs, SccFault>
 
 // Reads them byte by byte.
 fn read_bytes(alloc: Global, bytes: &[u8]) -> Result<SccPairs, SccFault>
-    requires { length bytes.now ≤ 67108864 }
+    requires { length bytes.now ≤ whole_limit }
     ensures { AnswersPairs (read_file bytes.now) result }
 {
     let mut gathered = Gathered {

@@ -6,7 +6,8 @@ use Rattle.std.proofs.lemmas.List.Elements.{All-head, All-tail}
 use Rattle.std.specs.Borrow.{Bor}
 use Rattle.std.specs.Option.{option_and_then}
 use Rattle.std.specs.Prelude.{◌&&◌, All, MatchOption, None, Option, Some, if◌then◌else◌}
-use Rattle.authored_grids.specs.AuthoredServiceGrid.{authored_windows, cue_window as authored_of, is_before, shows_in, uses_window}
+use Rattle.cue_types.specs.Channels.{uses_window}
+use Rattle.authored_grids.specs.AuthoredServiceGrid.{authored_windows, cue_window as authored_of, is_before, shows_in}
 use Rattle.cue_types.specs.Cues.{IsCueFormed, IsOfKind}
 use Rattle.cue_types.specs.declared.cue.Cue.{Cue}
 use Rattle.cue_types.specs.declared.cue.Kind.{Kind}

@@ -7,7 +7,7 @@ use Rattle.std.proofs.lemmas.List.Concat.{flat_map-append}
 use Rattle.service_lanes.specs.CueChunks.{chunk_bytes}
 use Rattle.service_lanes.specs.ServiceBytes.{AreFramesFrom}
 use Rattle.service_lanes.specs.Batches.{AreBatches, bytes_of_first, frames_from}
-use Rattle.service_lanes.specs.declared.chunk.Chunk.{Chunk}
+use Rattle.service_lanes.specs.Chunks.{Chunk}
 use Rattle.service_lanes.specs.declared.batch.Batch.{Batch}
 
 -- the units up to the last of the batches

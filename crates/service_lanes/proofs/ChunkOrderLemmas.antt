@@ -16,7 +16,7 @@ use Rattle.dtvcc_author.specs.CueUnits.{window_cue_units}
 use Rattle.dtvcc_author.specs.declared.caption.Caption.{Caption}
 use Rattle.placements.specs.LaneRoom.{AreInCueOrder, AreOfCuesFrom}
 use Rattle.service_lanes.specs.ServiceChunks.{chunk_cue, chunk_of, chunks_from, chunks_with, service_chunks}
-use Rattle.service_lanes.specs.declared.chunk.Chunk.{Chunk}
+use Rattle.service_lanes.specs.Chunks.{Chunk}
 use Rattle.service_lanes.proofs.CaptionsKept.{eqb_turned}
 
 -- the units stand in the order of their cues, none of which is before the cue of this number

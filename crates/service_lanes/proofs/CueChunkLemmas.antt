@@ -5,8 +5,8 @@ use Rattle.std.proofs.lemmas.List.{append-nil, drop_all, drop_at, drop_more, dro
 use Rattle.std.proofs.lemmas.List.Concat.{flat_map-append}
 use Rattle.service_lanes.specs.CueChunks.{AreCounted, chunk_bytes, chunk_in, chunks_of}
 use Rattle.service_lanes.specs.ServicePlacing.{AreOfCue, IsOfCue}
-use Rattle.service_lanes.specs.declared.chunk.Chunk.{Chunk}
-use Rattle.service_lanes.specs.declared.chunk.CueLoad.{CueLoad}
+use Rattle.service_lanes.specs.Chunks.{Chunk}
+use Rattle.service_lanes.specs.declared.cue_load.CueLoad.{CueLoad}
 
 -- one more cue has the units behind those of the others
 pub counted_push : (cues : List CueLoad) (cue : CueLoad) (units more : List (List ℕ)) → AreCounted cues units → cue.count ≡ length more

@@ -11,8 +11,8 @@ use Rattle.dtvcc_author.specs.declared.caption.Caption.{Caption}
 use Rattle.service_lanes.specs.CueChunks.{chunk_in}
 use Rattle.service_lanes.specs.ServicePlacing.{FillsFrame, IsPlacing}
 use Rattle.service_lanes.specs.ServiceRoom.{IsFront, behind_taking, has_left, spent_of, takes}
-use Rattle.service_lanes.specs.declared.chunk.Chunk.{Chunk}
-use Rattle.service_lanes.specs.declared.chunk.CueLoad.{CueLoad}
+use Rattle.service_lanes.specs.Chunks.{Chunk}
+use Rattle.service_lanes.specs.declared.cue_load.CueLoad.{CueLoad}
 use Rattle.service_lanes.specs.declared.front.Front.{Front}
 use Rattle.service_lanes.specs.declared.placing.Placing.{Placing}
 use Rattle.service_lanes.proofs.FrontLemmas.{allowed_now, front_push}

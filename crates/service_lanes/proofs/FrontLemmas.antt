@@ -12,7 +12,7 @@ use Rattle.dtvcc_author.specs.Latest.{IsLatestAt}
 use Rattle.dtvcc_author.specs.declared.caption.Caption.{Caption}
 use Rattle.service_lanes.specs.ServiceLane.{AreUpTo, bytes_between, chunk_size, is_between, most_in_delay, used}
 use Rattle.service_lanes.specs.ServiceRoom.{IsBudgetAt, IsFirstBehind, IsFront, IsSpent, IsUndelayed, behind_taking, budget_in, caption_lane, frame_room, has_left, spent_of, takes}
-use Rattle.service_lanes.specs.declared.chunk.Chunk.{Chunk}
+use Rattle.service_lanes.specs.Chunks.{Chunk}
 use Rattle.service_lanes.specs.declared.front.Front.{Front}
 use Rattle.service_lanes.proofs.DelayLemmas.{delay_some, one_delay}
 

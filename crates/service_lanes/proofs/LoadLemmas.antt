@@ -10,7 +10,7 @@ use Rattle.std.proofs.lemmas.List.Concat.{flat_map-append}
 use Rattle.service_lanes.specs.CueChunks.{chunk_bytes}
 use Rattle.service_lanes.specs.ServiceBytes.{AreFramesFrom, IsLoading, loads_at}
 use Rattle.service_lanes.specs.Batches.{AreBatches, bytes_of_first, frames_from, batch_frames}
-use Rattle.service_lanes.specs.declared.chunk.Chunk.{Chunk}
+use Rattle.service_lanes.specs.Chunks.{Chunk}
 use Rattle.service_lanes.specs.declared.cursor.Cursor.{Cursor}
 use Rattle.service_lanes.specs.declared.batch.Batch.{Batch}
 use Rattle.service_lanes.proofs.BatchLemmas.{frames_ascend}
@@ -41,11 +41,11 @@ loads_batch zero f frame us gs few = at (f == frame)
     at false = refl
 loads_batch (suc count) f frame [] gs few = absurd (omega arith)
 loads_batch (suc count) f frame (u ∷ us) gs few =
-    ap (λ l. (if f == frame then u.unit.items else []) ++ l) (loads_batch count f frame us gs (omega arith)) ∙ join (f == frame)
+    ap (λ l. (if f == frame then u.unit else []) ++ l) (loads_batch count f frame us gs (omega arith)) ∙ join (f == frame)
   where
-    join : (b : Bool) → (if b then u.unit.items else []) ++ ((if b then flat_map chunk_bytes (take count us) else []) ++ loads_at (zip (drop count us) gs) frame)
-        ≡ (if b then u.unit.items ++ flat_map chunk_bytes (take count us) else []) ++ loads_at (zip (drop count us) gs) frame
-    join true = sym (append_assoc u.unit.items (flat_map chunk_bytes (take count us)) (loads_at (zip (drop count us) gs) frame))
+    join : (b : Bool) → (if b then u.unit else []) ++ ((if b then flat_map chunk_bytes (take count us) else []) ++ loads_at (zip (drop count us) gs) frame)
+        ≡ (if b then u.unit ++ flat_map chunk_bytes (take count us) else []) ++ loads_at (zip (drop count us) gs) frame
+    join true = sym (append_assoc u.unit (flat_map chunk_bytes (take count us)) (loads_at (zip (drop count us) gs) frame))
     join false = refl
 
 -- the bytes of the units from one place to another stand together

@@ -21,7 +21,7 @@ use Rattle.service_lanes.specs.ServiceLane.{AreUpTo, bytes_between, chunk_size, 
 use Rattle.service_lanes.specs.ServicePlacing.{Reaches}
 use Rattle.service_lanes.specs.ServicePlan.{IsWithinShare}
 use Rattle.service_lanes.specs.ServiceRoom.{IsFirstBehind, IsFront, caption_lane, frame_room}
-use Rattle.service_lanes.specs.declared.chunk.Chunk.{Chunk}
+use Rattle.service_lanes.specs.Chunks.{Chunk}
 use Rattle.service_lanes.specs.declared.front.Front.{Front}
 use Rattle.service_lanes.proofs.FrontLemmas.{last_is_first}
 use Rattle.service_lanes.proofs.ServiceLaneLemmas.{chunks_fit_earlier, chunks_one_more, placed_within}
@@ -112,12 +112,12 @@ loads_used [] frame = refl
 loads_used ((u, f) ∷ placed) frame =
     let rest = loads_used placed frame in
     let whole = sum_by-cons (bytes_between frame (frame + 1)) (u, f) placed in
-    let joined = length-append (if f == frame then u.unit.items else []) (loads_at placed frame) in
-    let here : bytes_between frame (frame + 1) (u, f) ≡ length (if f == frame then u.unit.items else []) =
+    let joined = length-append (if f == frame then u.unit else []) (loads_at placed frame) in
+    let here : bytes_between frame (frame + 1) (u, f) ≡ length (if f == frame then u.unit else []) =
     ap (λ b. if b then chunk_size u else 0) (between_frame f frame) ∙ size (f == frame) in
     omega (arith, rest, whole, joined, here)
   where
-    size : (b : Bool) → (if b then chunk_size u else 0) ≡ length (if b then u.unit.items else [])
+    size : (b : Bool) → (if b then chunk_size u else 0) ≡ length (if b then u.unit else [])
     size true = refl
     size false = refl
 

@@ -11,8 +11,8 @@ use Rattle.service_lanes.specs.ServiceChunks.{chunk_cue}
 use Rattle.service_lanes.specs.ServicePlacing.{IsOfCue, IsPlacing, Reaches, batches_of}
 use Rattle.service_lanes.specs.ServiceRoom.{IsFirstBehind, IsFront, caption_lane}
 use Rattle.service_lanes.specs.Batches.{AreBatches, bytes_of_first, batch_frames}
-use Rattle.service_lanes.specs.declared.chunk.Chunk.{Chunk}
-use Rattle.service_lanes.specs.declared.chunk.CueLoad.{CueLoad}
+use Rattle.service_lanes.specs.Chunks.{Chunk}
+use Rattle.service_lanes.specs.declared.cue_load.CueLoad.{CueLoad}
 use Rattle.service_lanes.specs.declared.front.Front.{Front}
 use Rattle.service_lanes.specs.declared.placing.Placing.{Placing}
 use Rattle.service_lanes.specs.declared.batch.Batch.{Batch}
@@ -43,7 +43,7 @@ module _ (share : ℕ) (cs : List Caption) (us : List Chunk) (cue : CueLoad) (un
   sized : t.bytes ≡ bytes_of_first t.units us
   sized =
       let d = chunk_in cue (get_or units s.units []) in
-      let unit : length (get_or us s.units d).unit.items ≡ length (get_or units s.units []) = ap (λ (c : Chunk). length c.unit.items) (of_cue.is d) in
+      let unit : length (get_or us s.units d).unit ≡ length (get_or units s.units []) = ap (λ (c : Chunk). length c.unit) (of_cue.is d) in
       let last = is_last us 0 0 ss s are in
       bytes ∙ ap (λ n. n + length (get_or units s.units [])) last.bytes
       ∙ ap (λ n. bytes_of_first s.units us + n) (sym unit) ∙ sym (bytes_of_more us s.units d of_cue.within) ∙ ap (λ n. bytes_of_first n us) (sym more)

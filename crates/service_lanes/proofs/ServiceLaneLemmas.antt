@@ -4,7 +4,7 @@ use Rattle.std.specs.Prelude.{Option, Some, if◌then◌else◌}
 use Rattle.std.specs.List.{zip}
 use Rattle.std.proofs.lemmas.Bool.Decides.{nat_tests}
 use Rattle.std.proofs.lemmas.List.Sums.{sum_by-cons, sum_by_push}
-use Rattle.service_lanes.specs.declared.chunk.Chunk.{Chunk}
+use Rattle.service_lanes.specs.Chunks.{Chunk}
 use Rattle.placements.specs.FirstFit.{EarliestIsFirstFit}
 use Rattle.placements.specs.OneMore.{FitsEarlier, OneMore}
 use Rattle.placements.specs.Placing.{IsPlaced, IsEarliest, NoLater}

@@ -2,7 +2,7 @@
 use Rattle.std.specs.Prelude.{◌≡◌, ℕ, ◌+◌, ◌-◌, ◌≤◌, List, [], ◌∷◌, ◌++◌, ⊤, length, replicate, take}
 use Rattle.std.specs.List.{flat_map}
 use Rattle.service_lanes.specs.CueChunks.{chunk_bytes}
-use Rattle.service_lanes.specs.declared.chunk.Chunk.{Chunk}
+use Rattle.service_lanes.specs.Chunks.{Chunk}
 use Rattle.service_lanes.specs.declared.batch.Batch.{Batch}
 
 -- the frame of each unit, where so many units stand before

@@ -1,11 +1,11 @@
 -- The units of a service as they are kept: the units themselves, and once a cue what it asks of their places.
 use Rattle.std.specs.Prelude.{◌≡◌, ℕ, ◌≤◌, List, [], ◌∷◌, ◌++◌, drop, length, map, take}
-use Rattle.service_lanes.specs.declared.chunk.Chunk.{Chunk}
-use Rattle.service_lanes.specs.declared.chunk.CueLoad.{CueLoad}
+use Rattle.service_lanes.specs.Chunks.{Chunk}
+use Rattle.service_lanes.specs.declared.cue_load.CueLoad.{CueLoad}
 
 -- a unit of the cue
 abbrev pub chunk_in : CueLoad → List ℕ → Chunk
-chunk_in cue unit = record { unit = record { items = unit }; load = cue.load; until = cue.until; cue = cue.cue }
+chunk_in cue unit = record { unit = unit; load = cue.load; until = cue.until; cue = cue.cue }
 
 -- the units of these cues, each of which has as many of them as it counts
 abbrev pub chunks_of : List CueLoad → List (List ℕ) → List Chunk
@@ -19,4 +19,4 @@ AreCounted (cue ∷ cues) units = (cue.count ≤ length units) × AreCounted cue
 
 -- the bytes of a unit
 abbrev pub chunk_bytes : Chunk → List ℕ
-chunk_bytes chunk = chunk.unit.items
+chunk_bytes chunk = chunk.unit

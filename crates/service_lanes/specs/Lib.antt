@@ -1,4 +1,5 @@
 pub mod ServiceLane
+pub mod Chunks
 pub mod ServiceChunks
 pub mod ServiceRoom
 pub mod CueChunks

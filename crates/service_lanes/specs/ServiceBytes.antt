@@ -7,13 +7,13 @@ use Rattle.dtvcc_author.specs.Kept.{AreKept}
 use Rattle.dtvcc_author.specs.Latest.{IsLatestAt}
 use Rattle.dtvcc_author.specs.declared.caption.Caption.{Caption}
 use Rattle.service_lanes.specs.Batches.{AreBatches, bytes_of_first, frames_from, batch_frames}
-use Rattle.service_lanes.specs.declared.chunk.Chunk.{Chunk}
+use Rattle.service_lanes.specs.Chunks.{Chunk}
 use Rattle.service_lanes.specs.declared.cursor.Cursor.{Cursor}
 use Rattle.service_lanes.specs.declared.batch.Batch.{Batch}
 
 -- the bytes of the units that stand in a frame
 abbrev pub loads_at : List (Chunk × ℕ) → ℕ → List ℕ
-loads_at placed frame = flat_map (λ (each : Chunk × ℕ). if each.1 == frame then each.0.unit.items else []) placed
+loads_at placed frame = flat_map (λ (each : Chunk × ℕ). if each.1 == frame then each.0.unit else []) placed
 
 -- the bytes of a frame
 abbrev pub bytes_in : List Caption → List (Chunk × ℕ) → ℕ → List ℕ

@@ -5,11 +5,11 @@ use Rattle.cue_lists.specs.declared.cue.Cue.{Cue}
 use Rattle.dtvcc_author.specs.Captions.{caption_of}
 use Rattle.dtvcc_author.specs.CueUnits.{window_cue_units}
 use Rattle.dtvcc_author.specs.declared.caption.Caption.{Caption}
-use Rattle.service_lanes.specs.declared.chunk.Chunk.{Chunk}
+use Rattle.service_lanes.specs.Chunks.{Chunk}
 
 -- a unit of the caption of this number: it stands from LOAD on, and before what shows the caption
 abbrev pub chunk_of : ℕ → Caption → List ℕ → Chunk
-chunk_of number c unit = record { unit = record { items = unit }; load = c.load; until = c.starts; cue = number }
+chunk_of number c unit = record { unit = unit; load = c.load; until = c.starts; cue = number }
 
 -- the units of a caption, if there is one
 abbrev pub chunks_with : ℕ → Option Caption → List (List ℕ) → List Chunk

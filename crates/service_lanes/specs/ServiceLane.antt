@@ -4,11 +4,11 @@
 use Rattle.std.specs.Prelude.{◌≡◌, ℕ, ◌+◌, ◌<◌, ◌≤◌, ◌&&◌, nat_le, nat_lt, Bool, if◌then◌else◌, List, [], Option, Some, length, sum_by}
 use Rattle.std.specs.List.{AllByRecursion, zip}
 use Rattle.placements.specs.Placing.{IsPlaced}
-use Rattle.service_lanes.specs.declared.chunk.Chunk.{Chunk}
+use Rattle.service_lanes.specs.Chunks.{Chunk}
 
 -- the bytes of a unit
 abbrev pub chunk_size : Chunk → ℕ
-chunk_size chunk = length chunk.unit.items
+chunk_size chunk = length chunk.unit
 
 -- the most bytes of units that may come in a delay; the two of DisplayWindows are held beside them
 abbrev pub most_in_delay : ℕ

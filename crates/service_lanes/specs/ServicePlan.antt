@@ -9,7 +9,7 @@ use Rattle.placements.specs.declared.planning.PlanFault.TheVariants.{Memory, NoR
 use Rattle.service_lanes.specs.ServiceBytes.{bytes_in}
 use Rattle.service_lanes.specs.ServiceChunks.{chunk_cue}
 use Rattle.service_lanes.specs.ServiceRoom.{caption_lane}
-use Rattle.service_lanes.specs.declared.chunk.Chunk.{Chunk}
+use Rattle.service_lanes.specs.Chunks.{Chunk}
 
 -- a placed lane: its service and the share of it, its captions, its units in their frames, and the frame whose bytes come next
 pub record PlannedService : Type 0 where

@@ -5,7 +5,7 @@ use Rattle.dtvcc_author.specs.FrameEvents.{delay_end, event_bytes}
 use Rattle.dtvcc_author.specs.Latest.{IsLatestAt}
 use Rattle.dtvcc_author.specs.declared.caption.Caption.{Caption}
 use Rattle.service_lanes.specs.ServiceLane.{AreUpTo, most_in_delay, service_lane, used}
-use Rattle.service_lanes.specs.declared.chunk.Chunk.{Chunk}
+use Rattle.service_lanes.specs.Chunks.{Chunk}
 use Rattle.service_lanes.specs.declared.front.Front.{Front}
 
 -- the bytes of a frame for units: its share of the service, less its events

@@ -2,7 +2,7 @@ ghost use Rattle.std.specs.Prelude.{◌≡◌};
 ghost use Rattle.std.specs.List.{flat_map};
 ghost use Rattle.service_lanes.specs.CueChunks.{AreCounted, chunk_bytes, chunks_of};
 
-use crate::chunk::CueLoad;
+use crate::cue_load::CueLoad;
 use dtvcc_author::PackedUnits;
 use std::marker::Model;
 
@@ -16,7 +16,7 @@ pub struct ChunkList {
 impl Model for ChunkList {
     ghost use Rattle.std.specs.Prelude.{List};
     ghost use Rattle.service_lanes.specs.CueChunks.{AreCounted, chunks_of};
-    ghost use Rattle.service_lanes.specs.declared.chunk.Chunk.{Chunk};
+    ghost use Rattle.service_lanes.specs.Chunks.{Chunk};
 
     ghost Value = { List Chunk };
 

@@ -1,11 +1,12 @@
 ghost use Rattle.std.specs.Prelude.{◌≡◌, ◌≤◌, ◌++◌, All, IfOk, OnOk, length, map};
 ghost use Rattle.cue_lists.specs.Cues.{IsCueFormed};
+ghost use Rattle.cue_lists.specs.Listing.{most_cues};
 ghost use Rattle.dtvcc_author.specs.CueUnits.{window_cue_units};
 ghost use Rattle.service_lanes.specs.CueChunks.{AreCounted, chunks_of};
 ghost use Rattle.service_lanes.specs.ServiceChunks.{chunk_of, service_chunks};
 
-use crate::chunk::CueLoad;
 use crate::chunk_list::ChunkList;
+use crate::cue_load::CueLoad;
 use cc_base::Rate;
 use cue_lists::Cue;
 use dtvcc_author::{Caption, PackedUnits, caption_of, push_units};
@@ -14,7 +15,7 @@ use std::alloc::{AllocError, Global};
 /// The units of the cues of a service, in the order of the cues. `AllocError` where there is no memory for them.
 pub fn chunks(alloc: Global, rate: Rate, cues: &[Cue], service: u8) -> Result<ChunkList, AllocError>
     requires formed { All IsCueFormed cues.now }
-    requires few { length cues.now ≤ 20000 }
+    requires few { length cues.now ≤ most_cues }
     ensures { IfOk result (λ chunks. chunks ≡ service_chunks rate service cues.now) }
 {
     let mut units = PackedUnits::new(alloc);

@@ -6,10 +6,10 @@ ghost use Rattle.dtvcc_author.specs.Kept.{AreKept};
 ghost use Rattle.dtvcc_author.specs.Latest.{IsLatestAt};
 ghost use Rattle.placements.specs.FirstFit.{IsFirst};
 ghost use Rattle.service_lanes.specs.CueChunks.{chunk_in};
-ghost use Rattle.service_lanes.specs.declared.chunk.Chunk.{Chunk};
+ghost use Rattle.service_lanes.specs.Chunks.{Chunk};
 ghost use Rattle.service_lanes.specs.ServiceRoom.{IsFirstBehind, IsFront, behind_taking, budget_in, caption_lane, takes};
 
-use crate::chunk::CueLoad;
+use crate::cue_load::CueLoad;
 use buffer_bound::Budget;
 use dtvcc_author::{Caption, Delay, Latest};
 

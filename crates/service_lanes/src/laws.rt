@@ -1,6 +1,6 @@
 //! Laws of a service's lane: functions that do nothing, with the laws as their contracts.
 ghost use Rattle.std.specs.Prelude.{ℕ, List, Option};
-ghost use Rattle.service_lanes.specs.declared.chunk.Chunk.{Chunk};
+ghost use Rattle.service_lanes.specs.Chunks.{Chunk};
 ghost use Rattle.placements.specs.FirstFit.{EarliestIsFirstFit};
 ghost use Rattle.placements.specs.OneMore.{OneMore};
 ghost use Rattle.placements.specs.Placing.{IsEarliest};

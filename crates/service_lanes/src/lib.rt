@@ -2,14 +2,13 @@
 //! the delays allow; and the bytes of each frame (CTA-708-E, service blocks and Delay).
 #![tactic(auto)]
 
-pub use crate::chunk::Chunk;
 pub use crate::chunk_list::ChunkList;
 pub use crate::cues::chunks;
 pub use crate::placed::{PlacedService, ServiceLane};
 
 mod batch;
-pub mod chunk;
 mod chunk_list;
+pub mod cue_load;
 mod cues;
 mod cursor;
 mod front;

@@ -41,17 +41,15 @@ impl ServiceLane {
         ensures planned { IfOk result (IsPlanOf self.service self.share self.captions.items self.chunks) }
         ensures fault { IfErr result (IsLaneFault self.share self.captions.items self.chunks) }
     {
-        match placed_batches(alloc, &self.chunks, &self.captions, self.share) {
-            Ok(batches) => Ok(PlacedService {
-                service: self.service,
-                share: self.share,
-                captions: self.captions,
-                chunks: self.chunks,
-                batches,
-                cursor: Cursor::start(),
-            }),
-            Err(fault) => Err(fault),
-        }
+        let batches = placed_batches(alloc, &self.chunks, &self.captions, self.share)?;
+        Ok(PlacedService {
+            service: self.service,
+            share: self.share,
+            captions: self.captions,
+            chunks: self.chunks,
+            batches,
+            cursor: Cursor::start(),
+        })
     }
 }
 

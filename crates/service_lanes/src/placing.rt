@@ -7,10 +7,10 @@ ghost use Rattle.dtvcc_author.specs.declared.caption.Caption.{Caption};
 ghost use Rattle.placements.specs.LaneRoom.{AreInCueOrder};
 ghost use Rattle.service_lanes.specs.ServiceChunks.{chunk_cue};
 ghost use Rattle.service_lanes.specs.ServicePlan.{IsLaneFault};
-ghost use Rattle.service_lanes.specs.declared.chunk.Chunk.{Chunk};
+ghost use Rattle.service_lanes.specs.Chunks.{Chunk};
 
 use crate::batch::Batch;
-use crate::chunk::CueLoad;
+use crate::cue_load::CueLoad;
 use crate::front::Front;
 use dtvcc_author::{Caption, PackedUnits};
 use placements::PlanFault;

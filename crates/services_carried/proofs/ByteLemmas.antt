@@ -23,7 +23,7 @@ use Rattle.dtvcc_author.specs.declared.caption.Caption.{Caption}
 use Rattle.dtvcc_author.proofs.WritableLemmas.{commands_writable}
 use Rattle.service_lanes.specs.ServiceBytes.{bytes_in, loads_at}
 use Rattle.service_lanes.specs.ServiceChunks.{chunk_of, chunks_from, chunks_with, service_chunks}
-use Rattle.service_lanes.specs.declared.chunk.Chunk.{Chunk}
+use Rattle.service_lanes.specs.Chunks.{Chunk}
 use Rattle.frame_scheduler.specs.Blocks.{service_block}
 
 -- a byte
@@ -117,7 +117,7 @@ captions_short r service (cue ∷ cues) formed =
 
 -- the units of formed cues are bytes
 abbrev IsOfBytes : Chunk → Type 0
-IsOfBytes chunk = All IsByte chunk.unit.items
+IsOfBytes chunk = All IsByte chunk.unit
 
 units_are_bytes : (number : ℕ) (c : Caption) (commands : List Command) → All IsWritable commands → All IsOfBytes (map (chunk_of number c) (map written commands))
 units_are_bytes number c [] all = All-nil IsOfBytes
@@ -141,10 +141,10 @@ loads_are_bytes : (us : List Chunk) (frames : List ℕ) (frame : ℕ) → All Is
 loads_are_bytes [] frames frame all = All-nil IsByte
 loads_are_bytes (u ∷ us) [] frame all = All-nil IsByte
 loads_are_bytes (u ∷ us) (f ∷ fs) frame all =
-    All-append IsByte (if f == frame then u.unit.items else []) (loads_at (zip us fs) frame) (at (f == frame))
+    All-append IsByte (if f == frame then u.unit else []) (loads_at (zip us fs) frame) (at (f == frame))
     (loads_are_bytes us fs frame (All-tail IsOfBytes u us all))
   where
-    at : (b : Bool) → All IsByte (if b then u.unit.items else [])
+    at : (b : Bool) → All IsByte (if b then u.unit else [])
     at true = All-head IsOfBytes u us all
     at false = All-nil IsByte
 

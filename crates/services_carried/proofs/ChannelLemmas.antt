@@ -16,7 +16,7 @@ use Rattle.service_blocks.specs.BlockParts.{block_parts}
 use Rattle.service_blocks.specs.Channels.{AreChannel, said}
 use Rattle.service_blocks.specs.ServiceBlocks.{AreBlocks, Block, end, ended}
 use Rattle.service_blocks.specs.Written.{block_for, block_written}
-use Rattle.services_files.specs.WholeFiles.{file_triplets}
+use Rattle.services_files.specs.CarriedChannel.{file_triplets}
 use Rattle.frame_scheduler.specs.Columns.{Columns}
 use Rattle.frame_carrier.specs.Carrying.{channel_packet, channel_packet_of, column_packets, frame_packet, packet_count, packets_before}
 use Rattle.services_carried.specs.ServicesCarried.{HasBlocks, IsSent, ProgrammesAreWhole, Sent, sent_bytes}

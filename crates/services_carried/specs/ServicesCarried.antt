@@ -5,7 +5,7 @@ use Rattle.cue_lists.specs.Listing.{IsFormed, Listing}
 use Rattle.cue_lists.specs.Rules.{IsRuled}
 use Rattle.cue_lists.specs.Shares.{share_room}
 use Rattle.service_blocks.specs.Written.{block_written}
-use Rattle.services_files.specs.WholeFiles.{CarryChannel}
+use Rattle.services_files.specs.CarriedChannel.{CarryChannel}
 use Rattle.frame_scheduler.specs.Columns.{Columns}
 use Rattle.frame_scheduler.specs.Planned.{IsListPlaced, Placement, columns_of}
 use Rattle.frame_carrier.specs.Carried.{AreByteBlocks, AreCarried, AreRoomy}

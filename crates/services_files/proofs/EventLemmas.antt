@@ -19,7 +19,7 @@ use Rattle.service_blocks.specs.Reading.{block_syntax, nothing_open, open_after}
 use Rattle.service_blocks.specs.ServiceBlocks.{Block}
 use Rattle.service_blocks.proofs.ChannelLemmas.{channel_heard, heard-append}
 use Rattle.services_files.specs.Events.{event_of, events_behind, events_of, frame_events, rates_of, service_events, untimed}
-use Rattle.services_files.specs.WholeFiles.{file_triplets}
+use Rattle.services_files.specs.CarriedChannel.{file_triplets}
 use Rattle.services_files.proofs.SaidLemmas.{heard_behind-said}
 
 -- a frame's events are what is heard of its triplets behind those before

@@ -25,7 +25,7 @@ use Rattle.words_files.proofs.AlikeLemmas.{JudgeAlike}
 use Rattle.services_files.specs.CaptionChannel.{caption_channel}
 use Rattle.services_files.specs.Overruns.{HaveOverrun, Overruns}
 use Rattle.services_files.specs.Services.{first_why, services_say, tried_at, whole_triplets, why_refused, why_unheard}
-use Rattle.services_files.specs.WholeFiles.{file_triplets}
+use Rattle.services_files.specs.CarriedChannel.{file_triplets}
 use Rattle.services_files.proofs.OverrunLemmas.{refused-second, refused-third, second-refused, third-refused}
 use Rattle.services_files.proofs.TakenLemmas.{heard-none, unheard-none}
 use Rattle.services_files.proofs.WholeFileLemmas.{carry-taken, taken-carry}

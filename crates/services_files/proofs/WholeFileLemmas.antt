@@ -12,7 +12,7 @@ use Rattle.cdp_packets.specs.PacketTriplets.{packet_triplets, section_triplets}
 use Rattle.service_blocks.specs.Channels.{IsHeard}
 use Rattle.service_blocks.proofs.ChannelLemmas.{channel_heard, half_heard, heard_channel, heard_first, heard_pieces}
 use Rattle.services_files.specs.Services.{services_say, whole_triplets}
-use Rattle.services_files.specs.WholeFiles.{CarryChannel, file_triplets}
+use Rattle.services_files.specs.CarriedChannel.{CarryChannel, file_triplets}
 use Rattle.services_files.proofs.FillingLemmas.{accepted_heard}
 use Rattle.services_files.proofs.TakenLemmas.{AreTaken, taken-accepted, taken-append, whole_triplets-append}
 

@@ -3,7 +3,7 @@
 use Rattle.std.specs.Prelude.{◌≡◌}
 use Rattle.cc_base.specs.declared.why.Why.TheVariants as why
 use Rattle.services_files.specs.Overruns.{HaveOverrun}
-use Rattle.services_files.specs.WholeFiles.{CarryChannel, file_triplets}
+use Rattle.services_files.specs.CarriedChannel.{CarryChannel, file_triplets}
 use Rattle.words_files.specs.Layers.{Layers}
 
 abbrev pub caption_channel : Layers

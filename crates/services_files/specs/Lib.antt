@@ -1,5 +1,5 @@
 pub mod Services
-pub mod WholeFiles
+pub mod CarriedChannel
 pub mod Said
 pub mod Events
 pub mod Overruns

@@ -26,7 +26,7 @@ ghost use Rattle.services_files.specs.Events.{events_of, frame_events, rates_of,
 ghost use Rattle.services_files.specs.Overruns.{Overruns};
 ghost use Rattle.services_files.specs.Said.{blocks_in, channel_packets_in, said_behind, said_in};
 ghost use Rattle.services_files.specs.Services.{services_say, tried_at, whole_triplets};
-ghost use Rattle.services_files.specs.WholeFiles.{file_triplets};
+ghost use Rattle.services_files.specs.CarriedChannel.{file_triplets};
 
 /// The services take a part exactly where the triplet that it tries is heard behind the whole triplets before it. Parts that are
 /// all taken have whole triplets that are heard, and those of frames' parts are the frames' triplets.

@@ -12,7 +12,7 @@ use Rattle.cue_list_commands.specs.Accepted.{IsGoodList}
 use Rattle.cue_list_commands.specs.Reads.{ReadsList}
 use Rattle.cue_types.specs.Listing.{Listing}
 use Rattle.cue_list_commands.specs.SideEnds.{side_ends}
-use Rattle.verify_commands.specs.VerifyAnswer.{OfList, VerifyAnswer, ok_line}
+use Rattle.verify_commands.specs.VerifyAnswer.{OfGoodList, VerifyAnswer, ok_line}
 use Rattle.verify_commands.specs.Verifying.{VerifiesWords}
 
 keeps_same : (w : Option (List ℕ)) → Keeps w w
@@ -21,7 +21,7 @@ keeps_same (Some xs) = refl
 
 -- what holds of the list
 of_list : (left : Option (List ℕ)) (faults : ℕ) (list : Listing) (Holds : Listing → Type 0) → IfSome left (λ text. IsGoodList text list) → Holds list
-    → OfList (side_ends left faults) Holds
+    → OfGoodList (side_ends left faults) Holds
 of_list None faults list Holds good holds = tt
 of_list (Some text) faults list Holds good holds = (list, good, holds)
 

@@ -11,21 +11,22 @@ use Rattle.command_base.specs.declared.status.Status.TheVariants as status
 use Rattle.cue_list_commands.proofs.ListVerdictLemmas.{good_not_refused, good_once, list_refused_once}
 use Rattle.cue_list_commands.specs.Accepted.{IsGoodList, IsRefusedList}
 use Rattle.cue_list_commands.specs.SideEnds.{SideEnds}
+use Rattle.cue_list_commands.specs.SideLists.{RefusedSideIsAnswered, RefusesSide}
 use Rattle.cue_types.specs.Listing.{Listing}
 use Rattle.findings.specs.declared.finding.Finding.{Finding}
 use Rattle.words_commands.proofs.WordsVerdictLemmas.{known_judged, known_whole}
-use Rattle.words_commands.specs.WordsAnswer.{words_limit}
+use Rattle.words_commands.specs.WordsAnswer.{IsRefusedWith, PassesLimit, words_limit}
 use Rattle.words_files.proofs.EndingLemmas.{file_has_no_offence, offence_stays}
 use Rattle.words_files.proofs.FrameLemmas.{one_list}
 use Rattle.words_files.proofs.FramesOfLemmas.{file_frames, frames_grow}
 use Rattle.words_files.specs.FramesOf.{AreFramesOf}
 use Rattle.words_files.specs.Offences.{FirstOffendingWord, IsFileUnder}
 use Rattle.services_files.specs.CaptionChannel.{caption_channel}
-use Rattle.verify_commands.specs.VerifyAnswer.{IsFoundIn, IsRefusedClean, IsShort, IsVerified, OfList, PassesClean, RefusesList, Stops}
-use Rattle.verify_commands.specs.VerifyVerdict.{OkIsVerified, RefusedSideIsAnswered, VerifiedIsAnswered}
+use Rattle.verify_commands.specs.VerifyAnswer.{IsFoundIn, IsShort, IsVerified, OfGoodList, Stops, StopsClean, VerifyAnswer}
+use Rattle.verify_commands.specs.VerifyVerdict.{OkIsVerified, VerifiedIsAnswered}
 
 -- what holds of the list of a side file holds of every list that it spells and that keeps the rules
-list_known : (text : List ℕ) (side : SideEnds) (list : Listing) (Holds : Listing → Type 0) → side.left ≡ Some text → IsGoodList text list → OfList side Holds
+list_known : (text : List ℕ) (side : SideEnds) (list : Listing) (Holds : Listing → Type 0) → side.left ≡ Some text → IsGoodList text list → OfGoodList side Holds
     → Holds list
 list_known text side list Holds known good is =
     let (other, is_good, holds) = subst (λ (l : Option (List ℕ)). IfSome l (λ t. (other : Listing) × IsGoodList t other × Holds other)) known is in
@@ -33,26 +34,26 @@ list_known text side list Holds known good is =
 
 -- it isn't refused
 never_refused : (text : List ℕ) (list : Listing) (side later : SideEnds) (old new : Ends) (answer : Status) → side.left ≡ Some text → IsGoodList text list
-    → RefusesList side later old new answer → ⊥
+    → RefusesSide IsRefusedList side later old new answer → ⊥
 never_refused text list side later old new answer known good is =
     good_not_refused text list answer good (subst (λ (l : Option (List ℕ)). IfSome l (λ t. IsRefusedList t answer)) known is.2)
 
 -- no more bytes than the limit pass it
-never_passes : (list : Listing) (bytes : List ℕ) (old new : Option (List ℕ)) → length bytes ≤ words_limit → old ≡ Some bytes → Stops list PassesClean old new → ⊥
+never_passes : (list : Listing) (bytes : List ℕ) (old new : Option (List ℕ)) → length bytes ≤ words_limit → old ≡ Some bytes → Stops list (StopsClean PassesLimit) old new → ⊥
 never_passes list bytes old new within known stops =
     let (rest, is) = known_judged old new bytes stops.judged stops.unjudged known stops.taken in
-    let at_limit = stops.cause.passes.0 in
-    let more = stops.cause.passes.1 in
+    let at_limit = stops.cause.cause.0 in
+    let more = stops.cause.cause.1 in
     let size = ap length is ∙ length-append stops.judged (stops.unjudged ++ rest) in
     let behind = length-append stops.unjudged rest in
     omega arith
 
 -- a file isn't refused
 never_malformed : (list : Listing) (bytes : List ℕ) (frames : List Frame) (refusal : Refusal) (old new : Option (List ℕ)) → IsFileUnder caption_channel frames bytes
-    → old ≡ Some bytes → Stops list (IsRefusedClean refusal old) old new → ⊥
+    → old ≡ Some bytes → Stops list (StopsClean (IsRefusedWith refusal old)) old new → ⊥
 never_malformed list bytes frames refusal old new file known stops =
     let (rest, is) = known_judged old new bytes stops.judged stops.unjudged known stops.taken in
-    elim stops.cause.refused [
+    elim stops.cause.cause [
       | inl offence ↦ file_has_no_offence caption_channel frames bytes refusal file
           (subst (λ l. FirstOffendingWord caption_channel l refusal) (sym is) (offence_stays caption_channel stops.judged (stops.unjudged ++ rest) refusal offence))
       | inr cut ↦ cut.1.no_file frames (subst (IsFileUnder caption_channel frames) (known_whole old bytes stops.judged known cut.0.0) file)
@@ -92,7 +93,7 @@ verified_answered text bytes list side later old new (status.Limit limit.Bytes) 
     absurd (never_refused text list side later old new (status.Limit limit.Bytes) side_is.left good is)
 verified_answered text bytes list side later old new (status.Limit limit.Bytes) good verified side_is read (inr is) =
     absurd (never_passes list bytes old.left new.left verified.within read.left
-    (list_known text side list (λ (l : Listing). Stops l PassesClean old.left new.left) side_is.left good is.3))
+    (list_known text side list (λ (l : Listing). Stops l (StopsClean PassesLimit) old.left new.left) side_is.left good is.3))
 verified_answered text bytes list side later old new (status.Limit limit.Frames) good verified side_is read is =
     absurd (never_refused text list side later old new (status.Limit limit.Frames) side_is.left good is)
 verified_answered text bytes list side later old new (status.Limit limit.Cues) good verified side_is read is =
@@ -103,7 +104,7 @@ verified_answered text bytes list side later old new (status.Limit limit.Day) go
     absurd (never_refused text list side later old new (status.Limit limit.Day) side_is.left good is)
 verified_answered text bytes list side later old new (status.Malformed (Byte place) why) good verified side_is read is =
     absurd (never_malformed list bytes verified.frames (record { place = place; why = why }) old.left new.left verified.file read.left
-    (list_known text side list (λ (l : Listing). Stops l (IsRefusedClean (record { place = place; why = why }) old.left) old.left new.left) side_is.left good is.3))
+    (list_known text side list (λ (l : Listing). Stops l (StopsClean (IsRefusedWith (record { place = place; why = why }) old.left)) old.left new.left) side_is.left good is.3))
 verified_answered text bytes list side later old new (status.Malformed (Field rec field) why) good verified side_is read is =
     absurd (never_refused text list side later old new (status.Malformed (Field rec field) why) side_is.left good is)
 verified_answered text bytes list side later old new (status.Rule fault) good verified side_is read is =
@@ -132,18 +133,18 @@ ok_verified text bytes list side later old new good side_left left is =
     }
 
 -- a side file that is refused has no list
-no_list : (text : List ℕ) (refusal : Status) (side : SideEnds) (Holds : Listing → Type 0) → side.left ≡ Some text → IsRefusedList text refusal → OfList side Holds → ⊥
+no_list : (text : List ℕ) (refusal : Status) (side : SideEnds) (Holds : Listing → Type 0) → side.left ≡ Some text → IsRefusedList text refusal → OfGoodList side Holds → ⊥
 no_list text refusal side Holds known refused is =
     let (other, is_good, holds) = subst (λ (l : Option (List ℕ)). IfSome l (λ t. (other : Listing) × IsGoodList t other × Holds other)) known is in
     good_not_refused text other refusal is_good refused
 
 -- it is refused so
 refused_so : (text : List ℕ) (refusal : Status) (side later : SideEnds) (old new : Ends) (answer : Status) → side.left ≡ Some text → IsRefusedList text refusal
-    → RefusesList side later old new answer → answer ≡ refusal
+    → RefusesSide IsRefusedList side later old new answer → answer ≡ refusal
 refused_so text refusal side later old new answer known refused is =
     list_refused_once text answer refusal (subst (λ (l : Option (List ℕ)). IfSome l (λ t. IsRefusedList t answer)) known is.2) refused
 
-pub refused_side : RefusedSideIsAnswered
+pub refused_side : RefusedSideIsAnswered IsRefusedList VerifyAnswer
 refused_side text refusal side later old new status.Ok refused side_is is = absurd (no_list text refusal side _ side_is.left refused is.3)
 refused_side text refusal side later old new status.Memory refused side_is is = inr refl
 refused_side text refusal side later old new status.Usage refused side_is is = absurd is

@@ -63,7 +63,7 @@ pub take_failed : (first left after : Option (List ℕ)) (before now : ℕ) (lis
 take_failed first left after before now list verifier room on keeps rose = (
   rose,
   judged_stops _ first left after list verifier room on.judged.verified.frames on keeps on.judged.verified.frames_are
-      (record { no_offence = (refl, on.judged.unoffending); clean = clean_so_far list on.taken verifier on.judged }),
+      (record { cause = (refl, on.judged.unoffending); clean = clean_so_far list on.taken verifier on.judged }),
 )
 
 -- the input is verified
@@ -82,7 +82,7 @@ pub file_stopped : (first left after : Option (List ℕ)) (before now : ℕ) (li
 file_stopped first left after before now list verifier room (stop.Refused refusal) on (ended, keeps) steady (frames, are, clean, short) = (
   steady,
   judged_stops _ first left after list verifier room frames on keeps are
-      (record { refused = inr ((all_taken first left on.taken on.consumed ended, refl), short); clean = clean }),
+      (record { cause = inr ((all_taken first left on.taken on.consumed ended, refl), short); clean = clean }),
 )
 file_stopped first left after before now list verifier room (stop.Found finding) on ends steady never = absurd never
 file_stopped first left after before now list verifier room (stop.Short count) on (ended, keeps) steady (frames, file, clean, is, few) = (
@@ -107,7 +107,7 @@ piece_stopped first left after before now list verifier room count buffer piece 
         taken = with_piece first left after on.taken piece rest (take count buffer) on.consumed next is.spelled;
         within = omega arith;
         frames_are = had.frames_are;
-        cause = record { refused = inl had.offends; clean = had.clean };
+        cause = record { cause = inl had.offends; clean = had.clean };
       },
     )
 piece_stopped first left after before now list verifier room count buffer piece rest (stop.Found finding) on next is had steady =
@@ -146,7 +146,7 @@ piece_passes first left after before now list verifier later room count buffer p
         taken = with_piece first left after on.taken piece rest (take count buffer) on.consumed next is.spelled;
         within = omega arith;
         frames_are = had.verified.frames_are;
-        cause = record { passes = (omega arith, omega arith, had.unoffending); clean = clean_so_far list (on.taken ++ piece) later had };
+        cause = record { cause = (omega arith, omega arith, had.unoffending); clean = clean_so_far list (on.taken ++ piece) later had };
       },
     )
 

@@ -2,14 +2,12 @@
 -- then the bytes of a words file are judged in order, up to the limit, and before more are taken.
 use Rattle.std.specs.Prelude.{◌≡◌, ◌<◌, ◌≤◌, ◌⊎◌, ℕ, List, ◌++◌, length, Option, IfSome, codes}
 use Rattle.std.specs.Io.KnownBytes.{Appends, Consumes}
-use Rattle.cc_base.specs.Streams.{Puts, Rose, TakesWithin}
+use Rattle.cc_base.specs.Streams.{Puts, Rose, TakesWithin, whole_limit}
 use Rattle.cc_base.specs.declared.limit_of.LimitOf.TheVariants as limit
-use Rattle.cc_base.specs.declared.refusal.Refusal.{Refusal}
 use Rattle.cc_base.specs.declared.streams.Put.TheVariants as put
 use Rattle.cc_verifier.specs.Findings.{AreClean, FirstFinding}
 use Rattle.cdp_packets.specs.Packets.{Packet as Frame}
-use Rattle.command_base.specs.Ends.{Ends, PutsNothing}
-use Rattle.command_base.specs.WholeInput.{whole_limit}
+use Rattle.command_base.specs.Ends.{Ends, IsSteady, PutsNothing}
 use Rattle.command_base.specs.declared.status.Place.TheVariants.{Byte}
 use Rattle.command_base.specs.declared.status.Status.{Status}
 use Rattle.command_base.specs.declared.status.Status.TheVariants as status
@@ -17,7 +15,8 @@ use Rattle.cue_list_commands.specs.Accepted.{IsGoodList, IsRefusedList}
 use Rattle.cue_types.specs.Listing.{Listing}
 use Rattle.findings.specs.declared.finding.Finding.{Finding}
 use Rattle.cue_list_commands.specs.SideEnds.{SideEnds}
-use Rattle.words_commands.specs.WordsAnswer.{HasNoOffence, IsRefusedWith, IsSteady, IsWholeFile, PassesLimit, words_limit}
+use Rattle.cue_list_commands.specs.SideLists.{RefusesSide}
+use Rattle.words_commands.specs.WordsAnswer.{Cause as WordsCause, HasNoOffence, IsRefusedWith, IsWholeFile, PassesLimit, words_limit}
 use Rattle.words_files.specs.FramesOf.{AreFramesOf}
 use Rattle.words_files.specs.Offences.{IsUnoffending}
 use Rattle.services_files.specs.CaptionChannel.{caption_channel}
@@ -49,19 +48,9 @@ pub record IsShort (left : Option (List ℕ)) (count : ℕ) (list : Listing) (fr
   pub count_is : count ≡ length frames
   pub few : length frames < list.frames
 
--- no word of the bytes taken offends, and nothing is found at a frame
-pub record HasNoEvent (list : Listing) (frames : List Frame) (judged unjudged : List ℕ) : Type 0 where
-  pub no_offence : HasNoOffence frames judged unjudged
-  pub clean : AreClean list frames
-
--- there is a byte past the limit, no word within it offends, and nothing is found at a frame
-pub record PassesClean (list : Listing) (frames : List Frame) (judged unjudged : List ℕ) : Type 0 where
-  pub passes : PassesLimit frames judged unjudged
-  pub clean : AreClean list frames
-
--- a word offends, or the whole input is cut short, and nothing is found at a frame before
-pub record IsRefusedClean (refusal : Refusal) (left : Option (List ℕ)) (list : Listing) (frames : List Frame) (judged unjudged : List ℕ) : Type 0 where
-  pub refused : IsRefusedWith refusal left frames judged unjudged
+-- this cause holds of the words, as it may where they are decoded, and nothing is found at a frame before
+pub record StopsClean (Why : WordsCause) (list : Listing) (frames : List Frame) (judged unjudged : List ℕ) : Type 0 where
+  pub cause : Why frames judged unjudged
   pub clean : AreClean list frames
 
 -- this is the first finding of the frames, at the last of them, and no word offends
@@ -70,17 +59,13 @@ pub record IsFoundIn (finding : Finding) (list : Listing) (frames : List Frame) 
   pub unoffending : IsUnoffending caption_channel judged
 
 -- the side file is a cue list that keeps the rules, of which this holds
-abbrev pub OfList : SideEnds → (Listing → Type 0) → Type 0
-OfList side Holds = IfSome side.left (λ text. (list : Listing) × IsGoodList text list × Holds list)
-
--- the side file is refused, and nothing else was touched
-abbrev pub RefusesList : SideEnds → SideEnds → Ends → Ends → Status → Type 0
-RefusesList side later old new answer = (later.faults ≡ side.faults) × (new ≡ old) × IfSome side.left (λ text. IsRefusedList text answer)
+abbrev pub OfGoodList : SideEnds → (Listing → Type 0) → Type 0
+OfGoodList side Holds = IfSome side.left (λ text. (list : Listing) × IsGoodList text list × Holds list)
 
 -- the words stopped the run for this cause, and nothing was put
 abbrev pub JudgesWords : Cause → SideEnds → SideEnds → Ends → Ends → Type 0
 JudgesWords Why side later old new =
-    (later.faults ≡ side.faults) × (new.read_faults ≡ old.read_faults) × PutsNothing old new × OfList side (λ list. Stops list Why old.left new.left)
+    (later.faults ≡ side.faults) × (new.read_faults ≡ old.read_faults) × PutsNothing old new × OfGoodList side (λ list. Stops list Why old.left new.left)
 
 -- the line that is put
 abbrev pub ok_line : List ℕ
@@ -90,20 +75,20 @@ ok_line = codes "ok\n"
 abbrev pub VerifyAnswer : SideEnds → SideEnds → Ends → Ends → Status → Type 0
 VerifyAnswer side later old new status.Ok =
     (later.faults ≡ side.faults) × IsSteady old new × Appends old.written new.written ok_line
-    × OfList side (λ list. Stops list (IsVerified old.left) old.left new.left)
+    × OfGoodList side (λ list. Stops list (IsVerified old.left) old.left new.left)
 VerifyAnswer side later old new status.Usage = ⊥
 VerifyAnswer side later old new status.ReadFault =
     (Rose side.faults later.faults × TakesWithin whole_limit side.left later.left × (new ≡ old))
     ⊎ ((later.faults ≡ side.faults) × Rose old.read_faults new.read_faults × PutsNothing old new
-    × OfList side (λ list. Stops list HasNoEvent old.left new.left))
+    × OfGoodList side (λ list. Stops list (StopsClean HasNoOffence) old.left new.left))
 VerifyAnswer side later old new status.WriteFault =
     (later.faults ≡ side.faults) × (new.read_faults ≡ old.read_faults) × Rose old.write_faults new.write_faults
-    × Puts old.written new.written put.Failed ok_line × OfList side (λ list. Stops list (IsVerified old.left) old.left new.left)
+    × Puts old.written new.written put.Failed ok_line × OfGoodList side (λ list. Stops list (IsVerified old.left) old.left new.left)
 VerifyAnswer side later old new status.Memory = (later.faults ≡ side.faults) × (new ≡ old)
 VerifyAnswer side later old new (status.Limit limit.Bytes) =
-    RefusesList side later old new (status.Limit limit.Bytes) ⊎ JudgesWords PassesClean side later old new
+    RefusesSide IsRefusedList side later old new (status.Limit limit.Bytes) ⊎ JudgesWords (StopsClean PassesLimit) side later old new
 VerifyAnswer side later old new (status.Malformed (Byte place) why) =
-    JudgesWords (IsRefusedClean (record { place = place; why = why }) old.left) side later old new
+    JudgesWords (StopsClean (IsRefusedWith (record { place = place; why = why }) old.left)) side later old new
 VerifyAnswer side later old new (status.Differs finding) = JudgesWords (IsFoundIn finding) side later old new
 VerifyAnswer side later old new (status.Short count) = JudgesWords (IsShort old.left count) side later old new
-VerifyAnswer side later old new answer = RefusesList side later old new answer
+VerifyAnswer side later old new answer = RefusesSide IsRefusedList side later old new answer

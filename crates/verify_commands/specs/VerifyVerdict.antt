@@ -1,25 +1,20 @@
 -- The verdict of a verifying where no count of faults rose: against a list that keeps the rules Ok comes exactly where the words are
--- verified, or want of memory; and a refused list is answered with its one refusal.
+-- verified, or want of memory.
 use Rattle.std.specs.Prelude.{◌≡◌, ◌≤◌, ◌⊎◌, ℕ, List, length, Some}
-use Rattle.cc_base.specs.Streams.{Rose}
 use Rattle.cc_verifier.specs.Findings.{AreClean}
 use Rattle.cdp_packets.specs.Packets.{Packet as Frame}
 use Rattle.command_base.specs.Counts.{IsReadOf}
 use Rattle.command_base.specs.Ends.{Ends}
 use Rattle.command_base.specs.declared.status.Status.{Status}
 use Rattle.command_base.specs.declared.status.Status.TheVariants as status
-use Rattle.cue_list_commands.specs.Accepted.{IsGoodList, IsRefusedList}
+use Rattle.cue_list_commands.specs.Accepted.{IsGoodList}
 use Rattle.cue_list_commands.specs.SideEnds.{SideEnds}
+use Rattle.cue_list_commands.specs.SideLists.{IsSideOf}
 use Rattle.cue_types.specs.Listing.{Listing}
 use Rattle.words_commands.specs.WordsAnswer.{words_limit}
 use Rattle.words_files.specs.Offences.{IsFileUnder}
 use Rattle.services_files.specs.CaptionChannel.{caption_channel}
 use Rattle.verify_commands.specs.VerifyAnswer.{VerifyAnswer}
-
--- the side file had these bytes, and its count of faults didn't rise
-pub record IsSideOf (text : List ℕ) (side later : SideEnds) : Type 0 where
-  pub left : side.left ≡ Some text
-  pub faults : Rose side.faults later.faults → ⊥
 
 -- the words are a file within the limit with as many frames as the list, at least, and nothing is found at any
 pub record AreVerified (list : Listing) (bytes : List ℕ) : Type 0 where
@@ -39,9 +34,3 @@ VerifiedIsAnswered = (text bytes : List ℕ) (list : Listing) (side later : Side
 abbrev pub OkIsVerified : Type 0
 OkIsVerified = (text bytes : List ℕ) (list : Listing) (side later : SideEnds) (old new : Ends)
     → IsGoodList text list → side.left ≡ Some text → old.left ≡ Some bytes → VerifyAnswer side later old new status.Ok → AreVerified list bytes
-
--- a refused list is answered with its one refusal, or want of memory
-abbrev pub RefusedSideIsAnswered : Type 0
-RefusedSideIsAnswered = (text : List ℕ) (refusal : Status) (side later : SideEnds) (old new : Ends) (answer : Status)
-    → IsRefusedList text refusal → IsSideOf text side later → VerifyAnswer side later old new answer
-    → (answer ≡ refusal) ⊎ (answer ≡ status.Memory)

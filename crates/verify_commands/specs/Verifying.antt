@@ -12,11 +12,11 @@ use Rattle.command_base.specs.declared.status.Status.{Status}
 use Rattle.command_base.specs.declared.status.Status.TheVariants as status
 use Rattle.cue_types.specs.Listing.{Listing}
 use Rattle.findings.specs.declared.finding.Finding.{Finding}
-use Rattle.words_commands.specs.WordsAnswer.{words_limit}
+use Rattle.words_commands.specs.WordsAnswer.{HasNoOffence, IsRefusedWith, PassesLimit, words_limit}
 use Rattle.words_files.specs.FramesOf.{AreFramesOf}
 use Rattle.words_files.specs.Offences.{FirstOffendingWord, IsCutShort, IsFileUnder, IsUnoffending}
 use Rattle.services_files.specs.CaptionChannel.{caption_channel}
-use Rattle.verify_commands.specs.VerifyAnswer.{HasNoEvent, IsFoundIn, IsRefusedClean, IsShort, IsVerified, PassesClean, Stops}
+use Rattle.verify_commands.specs.VerifyAnswer.{IsFoundIn, IsShort, IsVerified, Stops, StopsClean}
 use Rattle.verify_commands.specs.declared.words.Stop.{Stop}
 use Rattle.verify_commands.specs.declared.words.Stop.TheVariants as stop
 
@@ -83,10 +83,10 @@ stop_status (stop.Short count) = status.Short count
 
 -- an input is read to its end and verified, or the run stops before
 abbrev pub StopsEarly : Listing → Option (List ℕ) → Option (List ℕ) → ℕ → ℕ → Status → Type 0
-StopsEarly list old new before now status.ReadFault = Rose before now × Stops list HasNoEvent old new
-StopsEarly list old new before now (status.Limit limit.Bytes) = (now ≡ before) × Stops list PassesClean old new
+StopsEarly list old new before now status.ReadFault = Rose before now × Stops list (StopsClean HasNoOffence) old new
+StopsEarly list old new before now (status.Limit limit.Bytes) = (now ≡ before) × Stops list (StopsClean PassesLimit) old new
 StopsEarly list old new before now (status.Malformed (Byte place) why) =
-    (now ≡ before) × Stops list (IsRefusedClean (record { place = place; why = why }) old) old new
+    (now ≡ before) × Stops list (StopsClean (IsRefusedWith (record { place = place; why = why }) old)) old new
 StopsEarly list old new before now (status.Differs finding) = (now ≡ before) × Stops list (IsFoundIn finding) old new
 StopsEarly list old new before now (status.Short count) = (now ≡ before) × Stops list (IsShort old count) old new
 StopsEarly list old new before now _ = ⊥

@@ -73,10 +73,7 @@ fn judge(verifier: &mut Verifier, bytes: &[u8]) -> Result<(), Stop>
 {
     let mut at = 0;
     while at < bytes.len() {
-        match step(verifier, &bytes[at..]) {
-            Ok(used) => at += used,
-            Err(stop) => return Err(stop),
-        }
+        at += step(verifier, &bytes[at..])?;
     }
     Ok(())
 }

@@ -4,7 +4,8 @@ use Rattle.std.specs.Prelude.{◌&&◌, None, Option, Some, IfSome, if◌then◌
 use Rattle.std.specs.List.{AllByRecursion}
 use Rattle.std.proofs.lemmas.Option.{slice_get_past, slice_get_within}
 use Rattle.std.specs.Option.{option_and_then}
-use Rattle.authored_grids.specs.AuthoredServiceGrid.{authored_windows, cue_window, is_before, shows_in, uses_window}
+use Rattle.cue_types.specs.Channels.{uses_window}
+use Rattle.authored_grids.specs.AuthoredServiceGrid.{authored_windows, cue_window, is_before, shows_in}
 use Rattle.cue_types.specs.declared.cue.Cue.{Cue}
 use Rattle.dtvcc_windows.specs.Showing.{ShownWindow}
 use Rattle.window_places.specs.Places.{HasPassed, IsOver, IsQuiet, IsToHide, StandsAtPlace, StandsUntil}

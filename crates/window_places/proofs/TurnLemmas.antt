@@ -4,11 +4,10 @@ use Rattle.std.proofs.lemmas.Bool.Decides.{nat_tests}
 use Rattle.std.proofs.lemmas.List.Elements.{All-head, All-tail}
 use Rattle.std.specs.List.{AllByRecursion}
 use Rattle.std.specs.Prelude.{All, IfSome, IsSome, None, Option, Some}
-use Rattle.authored_grids.specs.AuthoredServiceGrid.{uses_window}
 use Rattle.cue_rules.specs.Rules.{IsRuled}
 use Rattle.cue_rules.specs.Rules.Sentences.{AreInService, KeepsClear}
 use Rattle.cue_rules.specs.Rules.WindowBusy.{same_window}
-use Rattle.cue_types.specs.Channels.{cues_of_service, is_of_service}
+use Rattle.cue_types.specs.Channels.{cues_of_service, is_of_service, uses_window}
 use Rattle.cue_types.specs.Cues.{IsCueFormed, IsOfKind}
 use Rattle.cue_types.specs.Listing.{IsFormed, Listing}
 use Rattle.cue_types.specs.declared.cue.Cue.{Cue}

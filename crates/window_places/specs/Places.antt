@@ -1,7 +1,8 @@
 -- Where a caption window stands in the cues of a list at a frame.
 use Rattle.std.specs.Prelude.{◌≡◌, ◌<◌, ◌≤◌, ℕ, true, false, List, length, slice_get, Option, Some, None, IfSome}
 use Rattle.std.specs.Borrow.{Bor}
-use Rattle.authored_grids.specs.AuthoredServiceGrid.{authored_windows, cue_window, is_before, uses_window}
+use Rattle.cue_types.specs.Channels.{uses_window}
+use Rattle.authored_grids.specs.AuthoredServiceGrid.{authored_windows, cue_window, is_before}
 use Rattle.cue_types.specs.declared.cue.Cue.{Cue}
 use Rattle.dtvcc_windows.specs.Showing.{ShownWindow}
 

@@ -1,7 +1,7 @@
 -- The cues of a caption window are shown one after another (CTA-708-E, caption windows).
 use Rattle.std.specs.Prelude.{◌≡◌, ◌<◌, ℕ, true, List, [], ◌∷◌, ⊤}
 use Rattle.std.specs.List.{AllByRecursion}
-use Rattle.authored_grids.specs.AuthoredServiceGrid.{uses_window}
+use Rattle.cue_types.specs.Channels.{uses_window}
 use Rattle.cue_types.specs.declared.cue.Cue.{Cue}
 
 -- another cue, if it has the window, is shown later

@@ -1,5 +1,6 @@
 ghost use Rattle.std.specs.Prelude.{◌≡◌, ◌<◌, ◌≤◌, ◌+◌, ◌/◌, ◌%◌, ◌==◌, ◌&&◌, false, true, ℕ, All, IfSome, length, slice_get};
-ghost use Rattle.authored_grids.specs.AuthoredServiceGrid.{is_before, uses_window};
+ghost use Rattle.cue_types.specs.Channels.{uses_window};
+ghost use Rattle.authored_grids.specs.AuthoredServiceGrid.{is_before};
 ghost use Rattle.window_places.specs.Cursors.{AreAt, HavePassed};
 ghost use Rattle.window_places.specs.Places.{HasPassed, IsAuthoredBy, IsWindowId, IsQuiet, SameWindows, StandsAtPlace};
 ghost use Rattle.cue_types.specs.Cues.{IsCueFormed};

@@ -9,7 +9,7 @@ use Rattle.dtvcc_screen.specs.Screens.{ScreenState}
 use Rattle.dtvcc_author.specs.declared.caption.Caption.{Caption}
 use Rattle.dtvcc_author.specs.FrameEvents.{delayed_at, is_hidden_at, is_shown_at, names, windows_byte}
 use Rattle.dtvcc_author.specs.Latest.{caption_delay}
-use Rattle.service_lanes.specs.declared.chunk.Chunk.{Chunk}
+use Rattle.service_lanes.specs.Chunks.{Chunk}
 use Rattle.service_lanes.specs.ServiceBytes.{loads_at}
 use Rattle.dtvcc_shown.specs.CaptionLanes.{lane_of, plain_events}
 use Rattle.dtvcc_shown.specs.Undelayed.{acted_on, shows_bytes, undelayed}

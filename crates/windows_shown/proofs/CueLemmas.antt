@@ -14,14 +14,15 @@ use Rattle.dtvcc_codes.specs.declared.commands.Command.{Command}
 use Rattle.dtvcc_codes.specs.declared.windows.Definition.{Definition}
 use Rattle.dtvcc_codes.specs.Writing.{written}
 use Rattle.dtvcc_windows.specs.Showing.{ShownWindow}
-use Rattle.authored_grids.specs.AuthoredServiceGrid.{authored_windows, cue_window, is_before, shows_in, uses_window}
+use Rattle.cue_types.specs.Channels.{uses_window}
+use Rattle.authored_grids.specs.AuthoredServiceGrid.{authored_windows, cue_window, is_before, shows_in}
 use Rattle.dtvcc_author.specs.declared.caption.Caption.{Caption}
 use Rattle.dtvcc_author.specs.Captions.{caption_with, service_captions, window_caption}
 use Rattle.dtvcc_author.specs.CueUnits.{IsWritable}
 use Rattle.dtvcc_author.specs.WindowCommands.{commands_with, definition_of, window_commands}
 use Rattle.dtvcc_author.proofs.WritableLemmas.{commands_writable}
 use Rattle.placements.specs.Placing.{IsPlaced}
-use Rattle.service_lanes.specs.declared.chunk.Chunk.{Chunk}
+use Rattle.service_lanes.specs.Chunks.{Chunk}
 use Rattle.service_lanes.specs.ServiceChunks.{chunk_of, chunks_from, chunks_with}
 use Rattle.service_lanes.specs.ServiceRoom.{caption_lane}
 use Rattle.service_lanes.proofs.CaptionsKept.{eqb_turned}

@@ -18,7 +18,7 @@ use Rattle.dtvcc_screen.specs.Laws.{is_text}
 use Rattle.dtvcc_screen.specs.Screens.{ScreenState}
 use Rattle.dtvcc_author.specs.declared.caption.Caption.{Caption}
 use Rattle.dtvcc_author.specs.CueUnits.{IsWritable}
-use Rattle.service_lanes.specs.declared.chunk.Chunk.{Chunk}
+use Rattle.service_lanes.specs.Chunks.{Chunk}
 use Rattle.service_lanes.specs.ServiceBytes.{AreFramesFrom, loads_at}
 use Rattle.service_lanes.specs.ServiceChunks.{chunk_of}
 use Rattle.window_loading.specs.Loading.{edited_all, seen_behind}

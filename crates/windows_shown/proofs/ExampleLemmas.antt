@@ -19,7 +19,7 @@ use Rattle.dtvcc_author.specs.FrameEvents.{delay_end}
 use Rattle.dtvcc_author.specs.declared.caption.Caption.{Caption}
 use Rattle.frame_scheduler.specs.Planned.{captions_in, chunks_in, share_in}
 use Rattle.placements.specs.Placing.{IsPlaced}
-use Rattle.service_lanes.specs.declared.chunk.Chunk.{Chunk}
+use Rattle.service_lanes.specs.Chunks.{Chunk}
 use Rattle.service_lanes.specs.ServiceLane.{AreUpTo, IsAllowed, bytes_between, chunk_size, is_between, most_in_delay, used}
 use Rattle.service_lanes.specs.ServiceRoom.{caption_lane, frame_room}
 use Rattle.windows_shown.specs.AuthoredShown.{IsServicePlaced}

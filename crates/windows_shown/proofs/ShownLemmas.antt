@@ -17,7 +17,7 @@ use Rattle.dtvcc_author.specs.Kept.{AreKept}
 use Rattle.dtvcc_author.specs.Latest.{caption_delay}
 use Rattle.dtvcc_author.proofs.LatestLemmas.{Has}
 use Rattle.placements.specs.Placing.{IsPlaced}
-use Rattle.service_lanes.specs.declared.chunk.Chunk.{Chunk}
+use Rattle.service_lanes.specs.Chunks.{Chunk}
 use Rattle.service_lanes.specs.ServiceChunks.{service_chunks}
 use Rattle.service_lanes.specs.ServiceRoom.{caption_lane}
 use Rattle.service_lanes.proofs.CaptionsKept.{captions_kept}

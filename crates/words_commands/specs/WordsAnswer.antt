@@ -11,7 +11,7 @@ use Rattle.cdp_packets.specs.Packets.{Packet as Frame}
 use Rattle.words_files.specs.FramesOf.{AreFramesOf}
 use Rattle.words_files.specs.Offences.{FirstOffendingWord, IsCutShort, IsFileUnder, IsUnoffending}
 use Rattle.services_files.specs.CaptionChannel.{caption_channel}
-use Rattle.command_base.specs.Ends.{Ends}
+use Rattle.command_base.specs.Ends.{Ends, IsSteady}
 use Rattle.words_commands.specs.Screens.{changes_of, decode_output, show_output}
 use Rattle.command_base.specs.declared.status.Place.TheVariants.{Byte}
 use Rattle.command_base.specs.declared.status.Status.{Status}
@@ -20,11 +20,6 @@ use Rattle.command_base.specs.declared.status.Status.TheVariants as status
 -- the most bytes of a words file
 abbrev pub words_limit : ℕ
 words_limit = 2147483647
-
--- neither count of faults rose
-pub record IsSteady (old new : Ends) : Type 0 where
-  pub reads : new.read_faults ≡ old.read_faults
-  pub writes : new.write_faults ≡ old.write_faults
 
 -- what may hold where a run stops: of the frames met, of the bytes judged, and of those taken behind them and not judged
 abbrev pub Cause : Type 1

@@ -11,10 +11,10 @@ use Rattle.cdp_packets.specs.Packets.{Packet as Frame}
 use Rattle.words_files.specs.FramesOf.{AreFramesOf}
 use Rattle.words_files.specs.Offences.{FirstOffendingWord, IsCutShort, IsFileUnder, IsUnoffending}
 use Rattle.services_files.specs.CaptionChannel.{caption_channel}
-use Rattle.command_base.specs.Ends.{Ends}
+use Rattle.command_base.specs.Ends.{Ends, IsSteady}
 use Rattle.text_output.specs.Gathered.{IsGathered, held_of}
 use Rattle.words_commands.specs.Printing.{Prints}
-use Rattle.words_commands.specs.WordsAnswer.{Cause, IsSteady, IsWholeFile, Stops, StopsEarly, words_limit}
+use Rattle.words_commands.specs.WordsAnswer.{Cause, IsWholeFile, Stops, StopsEarly, words_limit}
 use Rattle.words_commands.specs.declared.reading.Reading.{Reading}
 use Rattle.words_commands.specs.declared.reading.Stop.{Stop}
 use Rattle.words_commands.specs.declared.reading.Stop.TheVariants as stop

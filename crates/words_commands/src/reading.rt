@@ -111,10 +111,7 @@ impl Reading {
     {
         let mut at = 0;
         while at < bytes.len() {
-            match self.step(&bytes[at..], out) {
-                Ok(used) => at += used,
-                Err(stop) => return Err(stop),
-            }
+            at += self.step(&bytes[at..], out)?;
         }
         Ok(())
     }

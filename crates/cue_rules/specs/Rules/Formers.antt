@@ -1,16 +1,15 @@
 -- What is remembered of the cues so far: the number of the last cue on each channel of line 21, of each service, and in each
 -- of a service's eight windows.
-use Rattle.std.specs.Prelude.{◌≡◌, ℕ, zero, suc, ◌+◌, ◌-◌, ◌*◌, ◌<◌, ◌==◌, ◌&&◌, max, Bool, false, if◌then◌else◌, List, Option, Some, None, slice_get, slice_index_or, slice_set}
+use Rattle.std.specs.Prelude.{◌≡◌, ℕ, zero, suc, ◌+◌, ◌-◌, ◌*◌, ◌<◌, max, Bool, if◌then◌else◌, List, Option, Some, None, slice_get, slice_index_or, slice_set}
 use Rattle.std.specs.Option.{option_and_then}
 use Rattle.line21_codes.specs.declared.channels.Chan.{Chan}
 use Rattle.line21_codes.specs.declared.channels.Chan.TheVariants as chan
 use Rattle.cue_types.specs.declared.cue.Cue.{Cue}
-use Rattle.cue_types.specs.declared.cue.Kind.{Kind}
-use Rattle.cue_types.specs.declared.cue.Kind.TheVariants as kind
 use Rattle.cue_types.specs.declared.cue.WinCue.{WinCue}
 use Rattle.cue_rules.specs.declared.rules.formers.Formers.{Formers}
 use Rattle.cue_types.specs.declared.lane.Lane.TheVariants as lane
 use Rattle.cue_rules.specs.Rules.Former.{nearest_number}
+use Rattle.cue_types.specs.Channels.{uses_window}
 use Rattle.cue_types.specs.Lane.{on_lane}
 
 -- the number that is remembered of a channel
@@ -41,19 +40,12 @@ with_window_former formers window number = record formers {
   windows = slice_set formers.windows (window.service * 8 + window.id) (Some number);
 }
 
--- a cue of the kind is in the window of this ID of the service
-abbrev pub is_in_window : ℕ → ℕ → Kind → Bool
-is_in_window service id (kind.Pop channel) = false
-is_in_window service id (kind.Paint channel) = false
-is_in_window service id (kind.Roll channel rows) = false
-is_in_window service id (kind.Win window) = (service == window.service) && (id == window.id)
-
 -- they are the numbers of the last cues before, the newest of which is first in the list
 pub record Remembers (formers : Formers) (earlier : List Cue) : Type 0 where
   pub last : (channel : Chan) → last_on formers channel ≡ nearest_number (on_lane (lane.Channel channel)) earlier
   pub services : (service : ℕ) → service < 8 → last_of formers service ≡ nearest_number (on_lane (lane.Service service)) earlier
   pub windows : (service id : ℕ) → service < 8 → id < 8
-      → last_in formers service id ≡ nearest_number (λ cue. is_in_window service id cue.kind) earlier
+      → last_in formers service id ≡ nearest_number (λ cue. uses_window service id cue.kind) earlier
 
 -- a number, where the cue of it passes a test
 abbrev pub number_if : (Cue → Bool) → Option ℕ → Option Cue → Option ℕ

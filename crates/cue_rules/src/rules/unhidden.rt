@@ -1,12 +1,12 @@
 ghost use Rattle.std.specs.Prelude.{◌≡◌};
 ghost use Rattle.std.specs.Option.{option_copied};
-ghost use Rattle.cue_types.specs.Line21Cues.{base_row, continues};
 ghost use Rattle.cue_rules.specs.Rules.Alternatives.{first_broken};
 ghost use Rattle.cue_rules.specs.Rules.Unhidden.{unhidden, loads_before_it_hides, leaves_unhidden};
 
 use crate::rules::against::Against;
+use cue_types::Cue;
 use cue_types::lane::{is_paint, is_roll};
-use cue_types::{Cue, Kind};
+use cue_types::line21::continues;
 
 /// Whom a cue breaks the rule Unhidden against: it loads into what the former cue still shows.
 pub fn breaks_unhidden(cue: &Cue, former: Option<&Cue>) -> Option<Against>
@@ -32,26 +32,4 @@ fn leaves_unhidden(cue: &Cue, former: &Cue) -> bool
     ensures { result ≡ leaves_unhidden cue.now former.now }
 {
     former.hide.is_none() && !continues(cue, former)
-}
-
-/// A roll-up cue continues the former cue, where that is one without a HIDE, of as many rows and the same base row.
-fn continues(cue: &Cue, former: &Cue) -> bool
-    ensures { result ≡ continues cue.now former.now }
-{
-    match (cue.kind, former.kind) {
-        (Kind::Roll(_, rows), Kind::Roll(_, former_rows)) => {
-            rows == former_rows && former.hide.is_none() && base_row(cue) == base_row(former)
-        }
-        _ => false,
-    }
-}
-
-/// The row of the first run.
-fn base_row(cue: &Cue) -> u8
-    ensures { result ≡ base_row cue.now.runs }
-{
-    match cue.runs.as_slice().first() {
-        Some(run) => run.row,
-        None => 0,
-    }
 }

@@ -35,14 +35,12 @@ impl FieldLane {
         ensures planned { IfOk result (IsPlanOf self.events.items self.pieces.items) }
         ensures fault { IfErr result (LaneFault self.events.items self.pieces.items) }
     {
-        match placed_units(alloc, &self.pieces, &self.events) {
-            Ok(units) => Ok(PlacedLane {
-                units,
-                events: self.events,
-                cursor: Cursor::start(),
-            }),
-            Err(fault) => Err(fault),
-        }
+        let units = placed_units(alloc, &self.pieces, &self.events)?;
+        Ok(PlacedLane {
+            units,
+            events: self.events,
+            cursor: Cursor::start(),
+        })
     }
 }
 

@@ -1,11 +1,10 @@
-use Rattle.std.proofs.Common.{◌≡◌, ◌∙◌, List, Some, Err, ap, subst, ℕ}
+use Rattle.std.proofs.Common.{◌∙◌, List, Some, Err, ap, subst, ℕ}
 use Rattle.cc_base.specs.MemorySource.{steady_left}
 use Rattle.command_base.specs.WholeInput.{ReadsInput}
 use Rattle.cue_lists.specs.Listing.{Listing}
 use Rattle.cue_lists.specs.Printing.{list_bytes}
 use Rattle.cue_list_commands.specs.Accepted.{IsRefused}
 use Rattle.cue_list_commands.specs.Reads.{IsProgrammeOf}
-use Rattle.load_lists.specs.LoadList.{load_list}
 use Rattle.load_commands.proofs.AnswerLemmas.{not_refused, programme_sendable, summary_is}
 use Rattle.load_commands.proofs.load.load.Goals as goal
 

@@ -1,4 +1,4 @@
-use Rattle.std.proofs.Common.{◌≡◌, ◌≢◌, ◌+◌, ◌++◌, ◌<◌, ◌≤◌, ℕ, subst, take, arith}
+use Rattle.std.proofs.Common.{◌≢◌, ◌+◌, ◌++◌, ◌<◌, ◌≤◌, ℕ, subst, take, arith}
 use Rattle.cc_receiver.specs.Feeds.{Counts}
 use Rattle.cc_receiver.specs.Receivers.{HasReceived}
 use Rattle.cc_receiver.specs.declared.receiver.Ended.{Ended}

@@ -1,7 +1,7 @@
 use Rattle.std.proofs.Common.{◌≡◌, ◌∙◌, ◌-◌, ◌++◌, ◌∷◌, [], ap, arith, length, length-append, subst, sym}
 use Rattle.dtvcc_author.specs.CueUnits.{window_cue_units}
 use Rattle.service_lanes.specs.CueChunks.{AreCounted, chunks_of}
-use Rattle.service_lanes.specs.declared.chunk.CueLoad.{CueLoad}
+use Rattle.service_lanes.specs.declared.cue_load.CueLoad.{CueLoad}
 use Rattle.service_lanes.proofs.CueChunkLemmas.{chunks_push, counted_push}
 use Rattle.service_lanes.proofs.cues.push_cue.Goals as goal
 

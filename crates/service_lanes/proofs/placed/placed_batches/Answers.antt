@@ -5,7 +5,7 @@ use Rattle.dtvcc_author.specs.Packed.{bytes_before}
 use Rattle.service_lanes.specs.ServiceRoom.{caption_lane}
 use Rattle.service_lanes.specs.ServicePlacing.{batches_of}
 use Rattle.service_lanes.specs.Batches.{AreBatches, batch_frames}
-use Rattle.service_lanes.specs.declared.chunk.CueLoad.{CueLoad}
+use Rattle.service_lanes.specs.declared.cue_load.CueLoad.{CueLoad}
 use Rattle.service_lanes.proofs.CueChunkLemmas.{AreLeft, none_left, takes_at}
 use Rattle.service_lanes.proofs.PlacingSteps.{placing_all}
 use Rattle.service_lanes.proofs.placed.placed_batches.Goals as goal

@@ -1,5 +1,5 @@
 use Rattle.services_files.specs.Events.{frame_events, service_events}
-use Rattle.services_files.specs.WholeFiles.{file_triplets}
+use Rattle.services_files.specs.CarriedChannel.{file_triplets}
 use Rattle.cc_receiver.proofs.ServedLemmas.{received_last}
 use Rattle.cc_receiver.proofs.receiver.Receiver.filled.Goals as goal
 

@@ -2,7 +2,7 @@ use Rattle.std.proofs.Common.{◌∙◌, ap}
 use Rattle.dtvcc_screen.specs.Meaning.{after, start}
 use Rattle.dtvcc_screen.specs.Shown.{grids}
 use Rattle.services_files.specs.Events.{frame_events, service_events}
-use Rattle.services_files.specs.WholeFiles.{file_triplets}
+use Rattle.services_files.specs.CarriedChannel.{file_triplets}
 use Rattle.services_files.proofs.EventLemmas.{events_more}
 use Rattle.cc_receiver.proofs.ServedLemmas.{received_last}
 use Rattle.cc_receiver.proofs.receiver.Receiver.is_touched.Goals as goal

@@ -1,4 +1,3 @@
-use Rattle.std.proofs.Common.{refl, arith}
 use Rattle.load_commands.proofs.TakingLemmas.{new_taken}
 use Rattle.load_commands.proofs.reception.Reception.new.Goals as goal
 

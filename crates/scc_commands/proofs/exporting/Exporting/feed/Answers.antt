@@ -1,4 +1,4 @@
-use Rattle.std.proofs.Common.{◌∙◌, ◌+◌, ◌++◌, ap, arith, length, subst, sym, take}
+use Rattle.std.proofs.Common.{◌∙◌, ◌+◌, ◌++◌, ap, arith, length, subst, sym, take, ◌≡◌, Err, rules}
 use Rattle.text_output.specs.Gathered.{held_of}
 use Rattle.scc_commands.specs.ExportSteps.{HasJudged, HasStopped}
 use Rattle.words_commands.proofs.FedLemmas.{may_end}
@@ -8,24 +8,25 @@ use Rattle.scc_commands.proofs.exporting.Exporting.feed.Goals as goal
 pub loop-at-preserved : goal.loop-at-preserved
 loop-at-preserved g c =
     let size = rest_size c.loop-at.at c.args.bytes.now c.loop-at.invariant.within in
-    let used = c.in-Ok.ensures.used in
+    let used = c.in_ok-at.ensures.used in
     record {
       within = omega arith;
-      steady = c.in-Ok.ensures.cause ∙ c.loop-at.invariant.steady;
+      steady = c.in_ok-at.ensures.cause ∙ c.loop-at.invariant.steady;
       more = λ more may.
           may_end c.step.new.self.receiver _ _ (omega arith)
-          (c.in-Ok.ensures.more more (may_end c.loop-at.self.receiver _ _ (ap (λ n. n + more) (sym size)) (c.loop-at.invariant.more more may)));
+          (c.in_ok-at.ensures.more more (may_end c.loop-at.self.receiver _ _ (ap (λ n. n + more) (sym size)) (c.loop-at.invariant.more more may)));
       judged = λ time start before had.
           subst (λ bytes. HasJudged time start (g.O.Sink.written c.step.new.out) bytes c.step.new.self)
-          (front_more before c.args.bytes.now c.loop-at.at c.in-Ok.used c.loop-at.invariant.within)
-          (c.in-Ok.ensures.judges time start (before ++ take c.loop-at.at c.args.bytes.now) (c.loop-at.invariant.judged time start before had));
+          (front_more before c.args.bytes.now c.loop-at.at c.in_ok-at.field-0 c.loop-at.invariant.within)
+          (c.in_ok-at.ensures.judges time start (before ++ take c.loop-at.at c.args.bytes.now) (c.loop-at.invariant.judged time start before had));
     }
 
-pub returns-in-Err-clause-judges : goal.returns-in-Err-clause-judges
-returns-in-Err-clause-judges g c time start before had =
-    subst (λ bytes. HasStopped time start (g.O.Sink.written c.step.new.out) bytes (held_of c.step.new.self.text) c.in-Err.stop)
+pub returns-in_err-at-clause-judges : goal.returns-in_err-at-clause-judges
+returns-in_err-at-clause-judges g c time start before had =
+    let answer : c.from_residual.result ≡ Err c.in_err-at.field-0.0 = search rules in
+    rw answer (subst (λ bytes. HasStopped time start (g.O.Sink.written c.step.new.out) bytes (held_of c.step.new.self.text) c.in_err-at.field-0.0)
     (front_all before c.args.bytes.now c.loop-at.at c.loop-at.invariant.within)
-    (c.in-Err.ensures.judges time start (before ++ take c.loop-at.at c.args.bytes.now) (c.loop-at.invariant.judged time start before had))
+    (c.in_err-at.ensures.judges time start (before ++ take c.loop-at.at c.args.bytes.now) (c.loop-at.invariant.judged time start before had)))
 
 pub step-requires-clause-few : goal.step-requires-clause-few
 step-requires-clause-few g c =

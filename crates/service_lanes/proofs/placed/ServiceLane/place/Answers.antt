@@ -12,14 +12,14 @@ invariant_of-result c =
     let share = c.args.self.share in
     let cs = c.args.self.captions.items in
     let chunks = c.args.self.chunks in
-    let batches = c.in-Ok.batches.items in
+    let batches = c.in_ok-batches.batches.items in
     let cursor = c.start.result in
     let earliest : IsEarliest (caption_lane share cs) chunks (batch_frames batches) =
-    subst (λ l. IsEarliest (caption_lane share l) chunks (batch_frames batches)) c.deref.ensures.value c.in-Ok.ensures.frames in (
+    subst (λ l. IsEarliest (caption_lane share l) chunks (batch_frames batches)) c.deref.ensures.value c.in_ok-batches.ensures.frames in (
       record {
         kept = c.requires.kept;
         at = subst (λ n. IsLatestAt cs n cursor.latest) (sym c.start.ensures.frame) (c.start.ensures.latest cs);
-        loading = loading_start chunks batches cursor c.in-Ok.ensures.batches c.start.ensures.frame c.start.ensures.next c.start.ensures.start;
+        loading = loading_start chunks batches cursor c.in_ok-batches.ensures.batches c.start.ensures.frame c.start.ensures.next c.start.ensures.start;
       },
       within_share share cs chunks (batch_frames batches) c.requires.least earliest.placed,
       c.requires.most,

@@ -2,8 +2,8 @@ use Rattle.std.proofs.Common.{◌≡◌, ◌+◌, ◌-◌, ◌≤◌, ℕ, List,
 use Rattle.dtvcc_author.specs.Packed.{bytes_before}
 use Rattle.dtvcc_author.specs.declared.caption.Caption.{Caption}
 use Rattle.service_lanes.specs.ServicePlacing.{FillsFrame, IsPlacing}
-use Rattle.service_lanes.specs.declared.chunk.Chunk.{Chunk}
-use Rattle.service_lanes.specs.declared.chunk.CueLoad.{CueLoad}
+use Rattle.service_lanes.specs.Chunks.{Chunk}
+use Rattle.service_lanes.specs.declared.cue_load.CueLoad.{CueLoad}
 use Rattle.service_lanes.proofs.FillLemmas.{filled}
 use Rattle.service_lanes.proofs.placing.Placing.fill.Given as goal
 

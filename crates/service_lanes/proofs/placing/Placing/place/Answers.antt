@@ -5,7 +5,7 @@ use Rattle.service_lanes.specs.CueChunks.{chunk_in}
 use Rattle.service_lanes.specs.ServiceRoom.{IsFirstBehind, IsFront, caption_lane}
 use Rattle.service_lanes.specs.ServicePlacing.{batches_of}
 use Rattle.service_lanes.specs.Batches.{batch_frames}
-use Rattle.service_lanes.specs.declared.chunk.Chunk.{Chunk}
+use Rattle.service_lanes.specs.Chunks.{Chunk}
 use Rattle.service_lanes.specs.declared.batch.Batch.{Batch}
 use Rattle.service_lanes.proofs.PlacingSteps.{IsPlaced, placing_next, placing_none}
 use Rattle.service_lanes.proofs.placing.Placing.place.Goals as goal

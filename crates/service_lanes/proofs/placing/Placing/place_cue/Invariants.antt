@@ -1,7 +1,7 @@
 use Rattle.std.proofs.Common.{◌≡◌, ◌+◌, ◌-◌, ◌≤◌, List}
 use Rattle.dtvcc_author.specs.Packed.{bytes_before}
 use Rattle.service_lanes.specs.ServicePlacing.{AreOfCue, IsPlacing}
-use Rattle.service_lanes.specs.declared.chunk.Chunk.{Chunk}
+use Rattle.service_lanes.specs.Chunks.{Chunk}
 use Rattle.service_lanes.proofs.placing.Placing.place_cue.Given as goal
 
 -- some units of the cue are placed
