@@ -101,7 +101,7 @@ impl Front {
 
     /// The most bytes that the front's frame and its delay have left.
     pub fn most(&self) -> u8
-        ensures { (size : ℕ) → size ≤ result → takes self.now size ≡ true }
+        ensures { (size : ℕ) → takes self.now size ≡ nat_le size result }
     {
         match &self.budget {
             Some(budget) => self.room.min(budget.left),

@@ -1,4 +1,4 @@
-use Rattle.std.proofs.Common.{◌≡◌, ◌∙◌, ◌+◌, ◌≤◌, ◌<◌, true, arith, get_or, length, subst, sym, []}
+use Rattle.std.proofs.Common.{◌≡◌, ◌∙◌, ◌+◌, ◌≤◌, ◌<◌, true, arith, get_or, le-leb, length, subst, sym, []}
 use Rattle.std.specs.Bool.{OnTrue}
 use Rattle.dtvcc_author.proofs.PackedLemmas.{bytes_before_next}
 use Rattle.service_lanes.specs.ServicePlacing.{IsPlacing}
@@ -35,7 +35,8 @@ loop-index-preserved c =
           let read = length_read units lengths index are low in
           subst (λ n. IsPlacing share captions chunks (filled old (size + n) (index + 1))) (sym read.1)
           (filled_next share captions chunks cue units old c.args.end size index fills c.loop-index.invariant.from c.loop-index-test.true
-          (c.most-most.ensures (size + length (get_or units index [])) (subst (λ n. size + n ≤ c.most-most.result) read.1 more))
+          (c.most-most.ensures (size + length (get_or units index []))
+          ∙ le-leb (size + length (get_or units index [])) c.most-most.result (subst (λ n. size + n ≤ c.most-most.result) read.1 more))
           (c.loop-index.invariant.placed share captions chunks units cue are fills is));
     }
 
@@ -50,7 +51,7 @@ pub returns-clause-placed : goal.returns-clause-placed
 returns-clause-placed c share captions chunks units cue are fills is =
     let old = c.args.self.now in
     let size = c.loop-index.size in
-    let has : c.take-taken.result ≡ true = c.take-taken.ensures.fits ∙ c.most-most.ensures size c.loop-index.invariant.most in
+    let has : c.take-taken.result ≡ true = c.take-taken.ensures.fits ∙ c.most-most.ensures size ∙ le-leb size c.most-most.result c.loop-index.invariant.most in
     let taken : c.take-taken.new.self ≡ behind_taking old.front size =
     subst (λ b. OnTrue b (c.take-taken.new.self ≡ behind_taking old.front size)) has c.take-taken.ensures.taken in
     subst
