@@ -13,6 +13,7 @@ mod triplets;
 
 pub use findings::{Finding, Kind45, Which};
 pub use receiver::{Ended, Fed, Receiver};
+pub use services::Served;
 
 #[cfg(test)]
 mod tests;

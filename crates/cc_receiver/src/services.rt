@@ -14,6 +14,7 @@ use cc_base::{Rate, Step};
 use cc_data::Triplet;
 use channel_packets::PacketPart;
 use dtvcc_services::Services;
+use dtvcc_windows::Window;
 use service_blocks::BlockPart;
 use std::alloc::{AllocError, Global};
 
@@ -23,7 +24,7 @@ const MOST_FRAMES: u64 = 4_294_967_295;
 /// The services of DTVCC, and the readers of the caption channel that brings them their bytes, frame by frame (CTA-708-E, sections
 /// 5 to 7).
 #[derive(Drop)]
-pub(crate) struct Served {
+pub struct Served {
     pub(crate) channel: Channel,
     pub(crate) services: Services,
 }
@@ -42,10 +43,16 @@ fn give(services: &mut Services, part: BlockPart)
 }
 
 impl Served {
+    ghost use Rattle.dtvcc_screen.specs.Screens.{empty_screen};
+    ghost use Rattle.std.specs.Prelude.{None, IfSome, IsTrue, MatchOption, false};
+    ghost use Rattle.dtvcc_screen.specs.Meaning.{Reset};
+    ghost use Rattle.dtvcc_services.specs.Numbers.{IsService};
+    ghost use Rattle.dtvcc_services.specs.Objects.{screen_at, served_now};
+    ghost use Rattle.dtvcc_windows.specs.Objects.{is_live, window_of};
     ghost use Rattle.cc_receiver.specs.Serving.{HasServed, ServesFrames, followed_by, given_by};
 
     /// Before the first frame. All memory that it ever takes is taken here.
-    pub(crate) fn new(alloc: Global) -> Result<Served, AllocError>
+    pub fn new(alloc: Global) -> Result<Served, AllocError>
         ensures { IfOk result (ServesFrames []) }
     {
         Ok(Served {
@@ -55,7 +62,7 @@ impl Served {
     }
 
     /// A frame of a rate brings its triplets. Fewer than 4,294,967,295 frames came before; a further one changes nothing.
-    pub(crate) fn frame(&mut self, rate: Rate, triplets: &[Triplet])
+    pub fn frame(&mut self, rate: Rate, triplets: &[Triplet])
         ensures served { (before : List TripletOf) (earlier last : Events) → HasServed before earlier last self.old
             → all_ticks self.old.services < 4294967295 → IsHeard (before ++ triplets.now)
             → HasServed (before ++ triplets.now) (followed_by earlier last) (given_by rate before triplets.now) self.new }
@@ -68,6 +75,36 @@ impl Served {
         for triplet in triplets {
             self.triplet(*triplet);
         }
+    }
+
+    /// Resets all services, and forgets the channel packet that is open: the next one makes no gap (CTA-708-E, Reset). The frames stay.
+    pub fn reset(&mut self)
+        ensures served { (before : List TripletOf) (earlier last : Events) → HasServed before earlier last self.old
+            → HasServed [] earlier (λ service. last service ++ Reset ∷ []) self.new }
+        ensures frames { all_ticks self.new.services ≡ all_ticks self.old.services }
+    {
+        self.channel = Channel::new();
+        self.services.reset();
+    }
+
+    /// The window of an id of a service, where there is one.
+    pub fn window(&self, service: u8, id: u8) -> Option<&Window>
+        requires { IsService service }
+        ensures window { (triplets : List TripletOf) (earlier last : Events) → HasServed triplets earlier last self.now
+            → let windows = (screen_at (served_now earlier last service)).windows in
+            MatchOption result (windows id ≡ None) (λ window. window_of window.now ≡ windows id) }
+        ensures live { IfSome result (λ window. IsTrue (is_live window.now)) }
+    {
+        self.services.window(service, id)
+    }
+
+    /// Whether a service may have a window: where it says no, it has none.
+    pub fn is_used(&self, service: u8) -> bool
+        requires { IsService service }
+        ensures { (triplets : List TripletOf) (earlier last : Events) → HasServed triplets earlier last self.now
+            → result ≡ false → screen_at (served_now earlier last service) ≡ empty_screen }
+    {
+        self.services.is_used(service)
     }
 
     // Takes the next triplet of the last frame.

@@ -345,7 +345,7 @@ blocks_few rate carried count roomy =
 
 module _ (rate : Rate) (columns : Columns) (are : AreBytePairs columns) (bytes : AreByteBlocks columns) (roomy : AreRoomy rate columns) where
   -- the bytes of frames are a file of their packets
-  columns_file : (frame n : ℕ) → IsFileOf (column_packets rate columns frame n) (column_bytes rate columns frame n)
+  pub columns_file : (frame n : ℕ) → IsFileOf (column_packets rate columns frame n) (column_bytes rate columns frame n)
   columns_file frame zero = record { packets = []; file = IsWordsFile-nil; carried = none }
   columns_file frame (suc n) =
       joined (frame_packet rate frame (columns frame) (channel_packet_of columns frame) ∷ []) (column_packets rate columns (suc frame) n)

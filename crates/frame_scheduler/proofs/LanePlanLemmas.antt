@@ -106,20 +106,24 @@ from_start : (events : List Event) → AreFrom 0 events
 from_start [] = tt
 from_start (e ∷ events) = (omega arith, from_start events)
 
--- at slot 0
-pub ready_start : (events : List Event) (pieces : List Piece) (units : List PlacedUnit) → AreApart events → AreInEarliest events pieces units
+-- at slot 0, wherever the units are placed
+pub ready_placed : (events : List Event) (pieces : List Piece) (fs : List ℕ) (units : List PlacedUnit) → AreApart events → IsPlaced (lane events) [] pieces fs → units ≡ in_slots pieces fs
     → IsReady (placed_timeline events units) events units (record { slot = 0; next_unit = 0; next_event = 0; repeat = None })
-ready_start events pieces units apart (fs, earliest, is) =
+ready_placed events pieces fs units apart placed is =
     subst (λ us. IsReady (placed_timeline events us) events us (record { slot = 0; next_unit = 0; next_event = 0; repeat = None })) (sym is) (record {
       same = λ n h. refl;
       due = refl;
-      spaced = subst IsSpaced (sym (timeline_is events pieces fs)) (lane_spaced events pieces fs apart earliest.placed);
+      spaced = subst IsSpaced (sym (timeline_is events pieces fs)) (lane_spaced events pieces fs apart placed);
       events_from = from_start events;
       events_apart = apart;
-      units_from = (rising events [] pieces fs earliest.placed).0;
-      units_rising = (rising events [] pieces fs earliest.placed).1;
-      beside = λ n u some. unit_stands pieces fs n ∙ held_none events pieces fs n earliest.placed (event_held events n u some).0;
+      units_from = (rising events [] pieces fs placed).0;
+      units_rising = (rising events [] pieces fs placed).1;
+      beside = λ n u some. unit_stands pieces fs n ∙ held_none events pieces fs n placed (event_held events n u some).0;
     })
+
+pub ready_start : (events : List Event) (pieces : List Piece) (units : List PlacedUnit) → AreApart events → AreInEarliest events pieces units
+    → IsReady (placed_timeline events units) events units (record { slot = 0; next_unit = 0; next_event = 0; repeat = None })
+ready_start events pieces units apart (fs, earliest, is) = ready_placed events pieces fs units apart earliest.placed is
 
 -- what a step gives over lists that are equal
 pub gives_at : (es events : List Event) (us units : List PlacedUnit) (old new : Cursor) (pair : Pair) → es ≡ events → us ≡ units

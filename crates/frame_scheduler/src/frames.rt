@@ -1,4 +1,4 @@
-ghost use Rattle.std.specs.Prelude.{◌≡◌, ◌+◌, ◌^◌, ◌<◌, ◌≤◌, ℕ, All, IfSome, MatchOption, Some, [], ◌∷◌, slice_get, slice_set};
+ghost use Rattle.std.specs.Prelude.{◌≡◌, ◌+◌, ◌^◌, ◌<◌, ◌≤◌, ℕ, All, IfNone, IfSome, MatchOption, Some, [], ◌∷◌, slice_get, slice_set};
 ghost use Rattle.frame_scheduler.specs.Blocks.{blocks_room};
 ghost use Rattle.frame_scheduler.specs.ServicesLeft.{HasLeft, IsNumbered};
 ghost use Rattle.frame_scheduler.specs.LanePlan.{Planned, behind_frame, given_in};
@@ -25,6 +25,23 @@ pub struct FrameBytes {
     pub blocks: ArrayVec<u8, 35>,
 }
 
+/// Frames, given one after another. None is stored, and giving them takes no memory.
+pub trait Frames {
+    ghost use Rattle.frame_scheduler.specs.Columns.{Columns};
+
+    /// How many are still to be given.
+    ghost left: { Self → ℕ };
+    /// They are these columns, of which this frame is next.
+    ghost Gives: { Columns → ℕ → Self → Type 0 };
+
+    /// What the next frame carries; None exactly after the last one.
+    fn next(&mut self) -> Option<FrameBytes>
+        ensures left { MatchOption result (left self.old ≡ 0) (λ _. left self.new + 1 ≡ left self.old) }
+        ensures ends { IfNone result (left self.new ≡ 0) }
+        ensures gives { (columns : Columns) (frame : ℕ) → Gives columns frame self.old
+            → IfSome result (λ bytes. (bytes ≡ columns frame) × Gives columns (frame + 1) self.new) };
+}
+
 /// The frames of a cue list in order, in which every unit stands in its earliest placement. No frame is stored.
 #[derive(Drop)]
 pub struct Plan {
@@ -41,11 +58,8 @@ pub struct Plan {
 }
 
 impl Plan {
-    ghost use Rattle.frame_scheduler.specs.Columns.{Columns};
-    ghost use Rattle.frame_scheduler.specs.Frames.{GivesFrom, frames_left};
-
     /// A plan of the lanes of field 1 and field 2 and of those of services, of so many frames at a rate.
-    pub(crate) fn new(
+    pub fn new(
         one: PlacedLane,
         two: PlacedLane,
         services: Vec<PlacedService>,
@@ -71,13 +85,15 @@ impl Plan {
             left: frames,
         }
     }
+}
 
-    /// What the next frame carries, from frame 0 on; None exactly after the list's last frame.
-    pub fn next(&mut self) -> Option<FrameBytes>
-        ensures left { MatchOption result (frames_left self.old ≡ 0) (λ _. frames_left self.new + 1 ≡ frames_left self.old) }
-        ensures gives { (columns : Columns) (frame : ℕ) → GivesFrom columns frame self.old
-            → IfSome result (λ bytes. (bytes ≡ columns frame) × GivesFrom columns (frame + 1) self.new) }
-    {
+impl Frames for Plan {
+    ghost use Rattle.frame_scheduler.specs.Frames.{GivesFrom, frames_left};
+
+    ghost left = { frames_left };
+    ghost Gives = { GivesFrom };
+
+    fn next(&mut self) -> Option<FrameBytes> {
         if self.left == 0 {
             return None;
         }

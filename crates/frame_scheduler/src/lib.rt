@@ -2,7 +2,7 @@
 //! pairs of each frame, in order.
 #![tactic(auto)]
 
-pub use crate::frames::{FrameBytes, Plan};
+pub use crate::frames::{FrameBytes, Frames, Plan};
 pub use crate::lanes::plan;
 pub use placements::PlanFault;
 

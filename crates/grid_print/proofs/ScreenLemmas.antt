@@ -9,7 +9,11 @@ use Rattle.cc_receiver.specs.Receivers.{displayed_grid}
 use Rattle.cc_receiver.specs.declared.receiver.Receiver.{Receiver}
 use Rattle.cc_receiver.proofs.ReceivedLemmas.{shown_received}
 use Rattle.cdp_packets.specs.Packets.{Packet as Frame}
-use Rattle.dtvcc_windows.specs.Showing.{ShownWindow}
+use Rattle.std.specs.Prelude.{MatchOption, None, Some}
+use Rattle.dtvcc_windows.specs.Objects.{window_of}
+use Rattle.dtvcc_windows.specs.Showing.{ShownWindow, shown}
+use Rattle.dtvcc_windows.specs.Windows.{WindowState}
+use Rattle.dtvcc_windows.specs.declared.window.Window.{Window}
 use Rattle.line21_codes.specs.declared.channels.Chan.{Chan}
 use Rattle.line21_codes.specs.declared.channels.Chan.TheVariants.{Cc1, Cc2, Cc3, Cc4}
 use Rattle.line21_screen.specs.Differences.{grid_differs}
@@ -227,3 +231,10 @@ no_channel_differs grids =
 pub no_changes : (frame : ℕ) (a b : Screens) → LookAlike a b → changes_text frame a b ≡ []
 no_changes frame a b alike =
     sym (nothing_changed frame a b false false (no_channel_differs a.grids ∙ ap (channels_differ a.grids) alike.grids) (same_services a.windows b.windows alike.windows) refl)
+
+-- what is seen of a window that there is
+pub seen_of_window : (A : Type 0) (state : A → Option WindowState) (result : Option A) (w : Option WindowState) (seen : Option ShownWindow) → seen ≡ shown w
+    → MatchOption result (w ≡ None) (λ (window : A). state window ≡ w)
+    → MatchOption result (seen ≡ None) (λ (window : A). seen ≡ shown (state window))
+seen_of_window A state None w seen is none = is ∙ ap shown none
+seen_of_window A state (Some window) w seen is same = is ∙ ap shown (sym same)

@@ -1,15 +1,13 @@
-ghost use Rattle.std.specs.Prelude.{◌≡◌, ◌<◌, ℕ, List, None, false, IfOk, length, vec_len};
-ghost use Rattle.cc_receiver.specs.ReceivedServices.{received_windows};
-ghost use Rattle.cdp_packets.specs.Packets.{Packet as Frame};
+ghost use Rattle.std.specs.Prelude.{◌≡◌, ◌<◌, ℕ, List, None, false, IfOk, length, vec_len, Option};
+ghost use Rattle.dtvcc_windows.specs.Showing.{ShownWindow};
 ghost use Rattle.dtvcc_services.specs.Numbers.{IsService};
 ghost use Rattle.dtvcc_windows.specs.Objects.{window_of};
 ghost use Rattle.dtvcc_windows.specs.Showing.{shown};
 ghost use Rattle.window_texts.specs.Differences.{differs};
 ghost use Rattle.grid_print.specs.Keeping.{KeepsWindows, windows_seen};
-ghost use Rattle.grid_print.specs.Screens.{IsBehind};
 
 use crate::service::{WINDOWS, seen};
-use cc_receiver::Receiver;
+use crate::grids::Grids;
 use dtvcc_windows::Window;
 use std::alloc::{AllocError, Global};
 use window_texts::differs;
@@ -52,9 +50,9 @@ impl Kept {
     }
 
     /// Keeps what is seen of a service, and says whether that differs from what was kept.
-    pub(crate) fn keep(&mut self, r: &Receiver, service: u8) -> bool
+    pub(crate) fn keep<G: Grids>(&mut self, r: &G, service: u8) -> bool
         requires { IsService service }
-        ensures kept { (frames : List Frame) → IsBehind frames r.now → HasKept (received_windows frames service) self.old self.new }
+        ensures kept { (are : ℕ → ℕ → Option ShownWindow) → G.shows r.now are → HasKept (are service) self.old self.new }
         ensures told { result ≡ self.new.changed }
     {
         if !self.used && !r.is_used(service) {
@@ -69,11 +67,11 @@ impl Kept {
 }
 
 // Keeps what is seen of a service's windows, and says whether that differs from what was kept.
-fn keep_windows(windows: &mut [Window], r: &Receiver, service: u8) -> bool
+fn keep_windows<G: Grids>(windows: &mut [Window], r: &G, service: u8) -> bool
     requires service { IsService service }
     requires eight { length windows.old ≡ 8 }
-    ensures { (frames : List Frame) → IsBehind frames r.now
-        → KeepsWindows (received_windows frames service) 8 (windows_seen windows.old) (windows_seen windows.new) result }
+    ensures { (are : ℕ → ℕ → Option ShownWindow) → G.shows r.now are
+        → KeepsWindows (are service) 8 (windows_seen windows.old) (windows_seen windows.new) result }
 {
     let mut changed = false;
     for id in 0..windows.len() {
@@ -84,10 +82,10 @@ fn keep_windows(windows: &mut [Window], r: &Receiver, service: u8) -> bool
 }
 
 // Keeps what is seen of the window of an id, and says whether that differs from what was kept.
-fn keep_window(kept: &mut Window, r: &Receiver, service: u8, id: u8) -> bool
+fn keep_window<G: Grids>(kept: &mut Window, r: &G, service: u8, id: u8) -> bool
     requires { IsService service }
-    ensures told { (frames : List Frame) → IsBehind frames r.now → result ≡ differs (shown (window_of kept.old)) (received_windows frames service id) }
-    ensures kept { (frames : List Frame) → IsBehind frames r.now → shown (window_of kept.new) ≡ received_windows frames service id }
+    ensures told { (are : ℕ → ℕ → Option ShownWindow) → G.shows r.now are → result ≡ differs (shown (window_of kept.old)) (are service id) }
+    ensures kept { (are : ℕ → ℕ → Option ShownWindow) → G.shows r.now are → shown (window_of kept.new) ≡ are service id }
 {
     match seen(r, service, id) {
         None => hide(kept),

@@ -20,7 +20,7 @@ pub fn put_all<O: Sink>(r: &Receiver, frame: u32, out: &mut O) -> Put
 {
     let mut text = Gathered::new();
     text.begin();
-    write_frame(frame, &mut text, out);
+    write_frame(u64::from(frame), &mut text, out);
     write_grid_unless_empty(Chan::Cc1, r.displayed(Chan::Cc1), &mut text, out);
     write_grid_unless_empty(Chan::Cc2, r.displayed(Chan::Cc2), &mut text, out);
     write_grid_unless_empty(Chan::Cc3, r.displayed(Chan::Cc3), &mut text, out);

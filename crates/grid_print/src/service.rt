@@ -1,17 +1,15 @@
-ghost use Rattle.std.specs.Prelude.{◌≡◌, ◌==◌, ◌<◌, ◌+◌, if◌then◌else◌, List, [], None, Some, MatchOption, IfSome, IsTrue, is_some, length};
+ghost use Rattle.std.specs.Prelude.{◌≡◌, ◌==◌, ◌<◌, ◌+◌, if◌then◌else◌, List, [], None, Some, MatchOption, IfSome, IsTrue, is_some, length, ℕ, Option};
 ghost use Rattle.std.specs.List.{flat_map};
-ghost use Rattle.cc_receiver.specs.ReceivedServices.{received_windows};
-ghost use Rattle.cdp_packets.specs.Packets.{Packet as Frame};
+ghost use Rattle.dtvcc_windows.specs.Showing.{ShownWindow};
 ghost use Rattle.dtvcc_services.specs.Numbers.{IsService};
 ghost use Rattle.dtvcc_windows.specs.Objects.{is_live, state_of, window_of};
 ghost use Rattle.dtvcc_windows.specs.Showing.{as_shown, shown};
 ghost use Rattle.text_output.specs.Pages.{Writes, WritesSome, page};
 ghost use Rattle.window_texts.specs.WindowTexts.{service_text, shown_ids, window_text};
 ghost use Rattle.grid_print.specs.GridTexts.{shown_service, shown_services};
-ghost use Rattle.grid_print.specs.Screens.{IsBehind};
 
 use cc_base::Sink;
-use cc_receiver::Receiver;
+use crate::grids::Grids;
 use dtvcc_windows::Window;
 use text_output::Gathered;
 use window_texts::write_window;
@@ -31,10 +29,10 @@ pub(crate) fn service_at(place: usize) -> u8
 }
 
 /// The window of an id of a service, where it is shown.
-pub(crate) fn seen(r: &Receiver, service: u8, id: u8) -> Option<&Window>
+pub(crate) fn seen<G: Grids>(r: &G, service: u8, id: u8) -> Option<&Window>
     requires { IsService service }
-    ensures seen { (frames : List Frame) → IsBehind frames r.now
-        → MatchOption result (received_windows frames service id ≡ None) (λ window. received_windows frames service id ≡ shown (window_of window.now)) }
+    ensures seen { (are : ℕ → ℕ → Option ShownWindow) → G.shows r.now are
+        → MatchOption result (are service id ≡ None) (λ window. are service id ≡ shown (window_of window.now)) }
     ensures shown { IfSome result (λ window. shown (window_of window.now) ≡ Some (as_shown (state_of window.now))) }
     ensures live { IfSome result (λ window. IsTrue (is_live window.now)) }
 {
@@ -51,9 +49,9 @@ pub(crate) fn seen(r: &Receiver, service: u8, id: u8) -> Option<&Window>
 }
 
 // Whether the window of an id of a service is shown.
-fn is_seen(r: &Receiver, service: u8, id: u8) -> bool
+fn is_seen<G: Grids>(r: &G, service: u8, id: u8) -> bool
     requires { IsService service }
-    ensures { (frames : List Frame) → IsBehind frames r.now → result ≡ is_some (received_windows frames service id) }
+    ensures { (are : ℕ → ℕ → Option ShownWindow) → G.shows r.now are → result ≡ is_some (are service id) }
 {
     match r.window(service, id) {
         Some(window) => window.is_shown(),
@@ -62,9 +60,9 @@ fn is_seen(r: &Receiver, service: u8, id: u8) -> bool
 }
 
 // The number of windows of a service that are shown.
-fn seen_count(r: &Receiver, service: u8) -> u32
+fn seen_count<G: Grids>(r: &G, service: u8) -> u32
     requires { IsService service }
-    ensures { (frames : List Frame) → IsBehind frames r.now → result ≡ length (shown_ids (received_windows frames service)) }
+    ensures { (are : ℕ → ℕ → Option ShownWindow) → G.shows r.now are → result ≡ length (shown_ids (are service)) }
 {
     let mut count = 0;
     for id in 0..WINDOWS {
@@ -76,11 +74,11 @@ fn seen_count(r: &Receiver, service: u8) -> u32
 }
 
 /// Writes the text of a service: its name, the number of its windows that are shown, and their texts by id.
-pub(crate) fn write_service<O: Sink>(r: &Receiver, service: u8, text: &mut Gathered, out: &mut O)
+pub(crate) fn write_service<G: Grids, O: Sink>(r: &G, service: u8, text: &mut Gathered, out: &mut O)
     requires { IsService service }
     ensures some { WritesSome (page text.old (O.written out.old) (O.faults out.old)) (page text.new (O.written out.new) (O.faults out.new)) }
-    ensures text { (frames : List Frame) → IsBehind frames r.now
-        → Writes (page text.old (O.written out.old) (O.faults out.old)) (page text.new (O.written out.new) (O.faults out.new)) (service_text service (received_windows frames service)) }
+    ensures text { (are : ℕ → ℕ → Option ShownWindow) → G.shows r.now are
+        → Writes (page text.old (O.written out.old) (O.faults out.old)) (page text.new (O.written out.new) (O.faults out.new)) (service_text service (are service)) }
 {
     text.write(b"S", out);
     text.write_number(u32::from(service), out);
@@ -91,11 +89,11 @@ pub(crate) fn write_service<O: Sink>(r: &Receiver, service: u8, text: &mut Gathe
 }
 
 // Writes the texts of a service's windows that are shown.
-fn write_windows<O: Sink>(r: &Receiver, service: u8, text: &mut Gathered, out: &mut O)
+fn write_windows<G: Grids, O: Sink>(r: &G, service: u8, text: &mut Gathered, out: &mut O)
     requires { IsService service }
     ensures some { WritesSome (page text.old (O.written out.old) (O.faults out.old)) (page text.new (O.written out.new) (O.faults out.new)) }
-    ensures text { (frames : List Frame) → IsBehind frames r.now
-        → Writes (page text.old (O.written out.old) (O.faults out.old)) (page text.new (O.written out.new) (O.faults out.new)) (flat_map (λ one. window_text one.0 one.1) (shown_ids (received_windows frames service))) }
+    ensures text { (are : ℕ → ℕ → Option ShownWindow) → G.shows r.now are
+        → Writes (page text.old (O.written out.old) (O.faults out.old)) (page text.new (O.written out.new) (O.faults out.new)) (flat_map (λ one. window_text one.0 one.1) (shown_ids (are service))) }
 {
     for id in 0..WINDOWS {
         if let Some(window) = seen(r, service, id) {
@@ -105,11 +103,11 @@ fn write_windows<O: Sink>(r: &Receiver, service: u8, text: &mut Gathered, out: &
 }
 
 // Writes the text of a service, if a window of it is shown.
-fn write_if_shown<O: Sink>(r: &Receiver, service: u8, text: &mut Gathered, out: &mut O)
+fn write_if_shown<G: Grids, O: Sink>(r: &G, service: u8, text: &mut Gathered, out: &mut O)
     requires { IsService service }
     ensures some { WritesSome (page text.old (O.written out.old) (O.faults out.old)) (page text.new (O.written out.new) (O.faults out.new)) }
-    ensures text { (frames : List Frame) → IsBehind frames r.now
-        → Writes (page text.old (O.written out.old) (O.faults out.old)) (page text.new (O.written out.new) (O.faults out.new)) (shown_service (received_windows frames) service) }
+    ensures text { (are : ℕ → ℕ → Option ShownWindow) → G.shows r.now are
+        → Writes (page text.old (O.written out.old) (O.faults out.old)) (page text.new (O.written out.new) (O.faults out.new)) (shown_service (are) service) }
 {
     if seen_count(r, service) != 0 {
         write_service(r, service, text, out);
@@ -117,10 +115,10 @@ fn write_if_shown<O: Sink>(r: &Receiver, service: u8, text: &mut Gathered, out: 
 }
 
 /// Writes the text of each service of which a window is shown.
-pub(crate) fn write_shown_services<O: Sink>(r: &Receiver, text: &mut Gathered, out: &mut O)
+pub(crate) fn write_shown_services<G: Grids, O: Sink>(r: &G, text: &mut Gathered, out: &mut O)
     ensures some { WritesSome (page text.old (O.written out.old) (O.faults out.old)) (page text.new (O.written out.new) (O.faults out.new)) }
-    ensures text { (frames : List Frame) → IsBehind frames r.now
-        → Writes (page text.old (O.written out.old) (O.faults out.old)) (page text.new (O.written out.new) (O.faults out.new)) (shown_services (received_windows frames)) }
+    ensures text { (are : ℕ → ℕ → Option ShownWindow) → G.shows r.now are
+        → Writes (page text.old (O.written out.old) (O.faults out.old)) (page text.new (O.written out.new) (O.faults out.new)) (shown_services (are)) }
 {
     for place in 0..SERVICES {
         write_if_shown(r, service_at(place), text, out);

@@ -1,8 +1,8 @@
-ghost use Rattle.std.specs.Prelude.{◌≡◌, ℕ, List, if◌then◌else◌, [], None, false, IfOk, vec_len, length};
+ghost use Rattle.std.specs.Prelude.{◌≡◌, ℕ, List, Option, if◌then◌else◌, [], None, false, IfOk, vec_len, length};
 ghost use Rattle.std.specs.List.{flat_map};
-ghost use Rattle.cc_receiver.specs.ReceivedServices.{received_windows};
-ghost use Rattle.cc_receiver.specs.Receivers.{displayed_grid};
+ghost use Rattle.dtvcc_windows.specs.Showing.{ShownWindow};
 ghost use Rattle.cdp_packets.specs.Packets.{Packet as Frame};
+ghost use Rattle.cc_receiver.specs.ReceivedServices.{received_windows};
 ghost use Rattle.line21_screen.specs.Differences.{grid_differs};
 ghost use Rattle.line21_screen.specs.Objects.{grid_in};
 ghost use Rattle.text_output.specs.Pages.{Writes, WritesSome, page};
@@ -10,12 +10,12 @@ ghost use Rattle.window_texts.specs.WindowTexts.{service_text};
 ghost use Rattle.grid_print.specs.GridTexts.{changed_channel, channels, grid_text};
 ghost use Rattle.dtvcc_services.specs.Numbers.{IsService};
 ghost use Rattle.grid_print.specs.Kept.{KeepsServices, changed_places, seen_at};
-ghost use Rattle.grid_print.specs.Screens.{IsBehind};
 
 use crate::kept::Kept;
 use crate::service::{SERVICES, service_at, write_service};
 use crate::text::{write_frame, write_grid};
 use cc_base::{Put, Sink};
+use crate::grids::Grids;
 use cc_receiver::Receiver;
 use line21_codes::Chan;
 use line21_screen::Memory;
@@ -42,7 +42,7 @@ impl Shown {
     ghost use Rattle.grid_print.specs.GridTexts.{changes_text, channels_differ, frame_line, screens_differ, service_differs, services_differ};
     ghost use Rattle.grid_print.specs.Kept.{changed_at};
     ghost use Rattle.grid_print.specs.Shown.{last_grid, last_shown};
-    ghost use Rattle.grid_print.specs.Screens.{HaveSameWindows, LookAlike, received_screens};
+    ghost use Rattle.grid_print.specs.Screens.{HaveSameWindows, LookAlike, IsBehind, received_screens, screens_of};
 
     /// Nothing was shown: all grids are empty, and no window is shown. The error comes where memory for them isn't found.
     pub fn new(alloc: Global) -> Result<Shown, AllocError>
@@ -61,6 +61,145 @@ impl Shown {
     /// Writes the text of what changed from the screens that were shown last to those of a frame, which is empty where nothing
     /// changed; these screens are then the ones that were shown last. Where `touched` says no, what is seen of the services is what
     /// was shown last, and isn't compared.
+    pub fn write_changes_of<G: Grids, O: Sink>(
+        &mut self,
+        r: &G,
+        frame: u64,
+        touched: bool,
+        text: &mut Gathered,
+        out: &mut O,
+    )
+        ensures some { WritesSome (page text.old (O.written out.old) (O.faults out.old)) (page text.new (O.written out.new) (O.faults out.new)) }
+        ensures text { (are : ℕ → ℕ → Option ShownWindow) → G.shows r.now are
+            → (touched ≡ false → HaveSameWindows (last_shown self.old).windows (are))
+            → Writes (page text.old (O.written out.old) (O.faults out.old)) (page text.new (O.written out.new) (O.faults out.new)) (changes_text frame (last_shown self.old) (screens_of (G.grids r.now) are)) }
+        ensures now { (are : ℕ → ℕ → Option ShownWindow) → G.shows r.now are
+            → (touched ≡ false → HaveSameWindows (last_shown self.old).windows (are))
+            → LookAlike (last_shown self.new) (screens_of (G.grids r.now) are) }
+    {
+        let channels = self.channels_differ(r);
+        let services = self.keep_services(r, touched);
+        let changed = channels | services;
+        if changed {
+            self.write_differing(r, frame, services, text, out);
+        }
+    }
+
+    /// Whether the screens of a frame differ from those that were shown last, so that there is something to write. They are then the
+    /// ones that were shown last.
+    pub fn pass_of<G: Grids>(&mut self, r: &G) -> bool
+        ensures told { (are : ℕ → ℕ → Option ShownWindow) → G.shows r.now are → result ≡ screens_differ (last_shown self.old) (screens_of (G.grids r.now) are) }
+        ensures now { (are : ℕ → ℕ → Option ShownWindow) → G.shows r.now are → LookAlike (last_shown self.new) (screens_of (G.grids r.now) are) }
+    {
+        let channels = self.channels_differ(r);
+        let services = self.keep_services(r, true);
+        if channels {
+            self.keep_channels(r);
+        }
+        channels | services
+    }
+
+    // Keeps the grid of each channel.
+    fn keep_channels<G: Grids>(&mut self, r: &G)
+        ensures now { last_grid self.new ≡ G.grids r.now }
+        ensures services { self.new.services ≡ self.old.services }
+    {
+        self.cc1.copy_from(r.displayed(Chan::Cc1));
+        self.cc2.copy_from(r.displayed(Chan::Cc2));
+        self.cc3.copy_from(r.displayed(Chan::Cc3));
+        self.cc4.copy_from(r.displayed(Chan::Cc4));
+    }
+
+    // Keeps what is seen of all services, and says whether that of one differs from what was kept; not so where nothing touched them.
+    fn keep_services<G: Grids>(&mut self, r: &G, touched: bool) -> bool
+        ensures some { (are : ℕ → ℕ → Option ShownWindow) → G.shows r.now are
+            → (touched ≡ false → HaveSameWindows (last_shown self.old).windows (are))
+            → result ≡ services_differ (last_shown self.old).windows (are) }
+        ensures now { (are : ℕ → ℕ → Option ShownWindow) → G.shows r.now are
+            → (touched ≡ false → HaveSameWindows (last_shown self.old).windows (are))
+            → HaveSameWindows (last_shown self.new).windows (are) }
+        ensures each { (are : ℕ → ℕ → Option ShownWindow) → G.shows r.now are → result ≡ true → (place : ℕ) → place < 63
+            → changed_at self.new.services.items place ≡ service_differs (seen_at self.old.services.items place) (are (place + 1)) }
+        ensures grids { last_grid self.new ≡ last_grid self.old }
+    {
+        touched && keep_services(&mut self.services, r)
+    }
+
+    // Writes the line of a frame, the grid of each channel whose grid differs from the one that was shown last, which is kept, and the
+    // text of each service whose windows changed, if one did.
+    fn write_differing<G: Grids, O: Sink>(
+        &mut self,
+        r: &G,
+        frame: u64,
+        services: bool,
+        text: &mut Gathered,
+        out: &mut O,
+    )
+        ensures some { WritesSome (page text.old (O.written out.old) (O.faults out.old)) (page text.new (O.written out.new) (O.faults out.new)) }
+        ensures text { (are : ℕ → ℕ → Option ShownWindow) → G.shows r.now are
+            → Writes (page text.old (O.written out.old) (O.faults out.old)) (page text.new (O.written out.new) (O.faults out.new))
+            (frame_line frame ++ flat_map (changed_channel (last_grid self.old) (G.grids r.now)) channels
+            ++ (if services then changed_places self.old.services.items (are) else [])) }
+        ensures now { last_grid self.new ≡ G.grids r.now }
+        ensures services { self.new.services ≡ self.old.services }
+    {
+        write_frame(frame, text, out);
+        self.write_channels(r, text, out);
+        if services {
+            write_changed(&self.services, r, text, out);
+        }
+    }
+
+    // Whether the grid of some channel differs from the one that was shown last.
+    fn channels_differ<G: Grids>(&self, r: &G) -> bool
+        ensures some { result ≡ channels_differ (last_grid self.now) (G.grids r.now) }
+        ensures same { result ≡ false → last_grid self.now ≡ G.grids r.now }
+    {
+        let one = self.cc1.differs(r.displayed(Chan::Cc1));
+        let two = self.cc2.differs(r.displayed(Chan::Cc2));
+        let three = self.cc3.differs(r.displayed(Chan::Cc3));
+        let four = self.cc4.differs(r.displayed(Chan::Cc4));
+        one | two | three | four
+    }
+
+    // Writes the grid of each channel whose grid differs from the one that was shown last, and keeps it.
+    fn write_channels<G: Grids, O: Sink>(&mut self, r: &G, text: &mut Gathered, out: &mut O)
+        ensures text { Writes (page text.old (O.written out.old) (O.faults out.old)) (page text.new (O.written out.new) (O.faults out.new)) (flat_map (changed_channel (last_grid self.old) (G.grids r.now)) channels) }
+        ensures now { last_grid self.new ≡ G.grids r.now }
+        ensures services { self.new.services ≡ self.old.services }
+    {
+        write_channel(&mut self.cc1, Chan::Cc1, r, text, out);
+        write_channel(&mut self.cc2, Chan::Cc2, r, text, out);
+        write_channel(&mut self.cc3, Chan::Cc3, r, text, out);
+        write_channel(&mut self.cc4, Chan::Cc4, r, text, out);
+    }
+
+    /// Puts the text of what changed from the screens that were shown last to those of a frame, which is empty where nothing
+    /// changed. These screens are then the ones that were shown last. Failed comes only where the sink's count of faults
+    /// rose, and then a front of the text was put.
+    pub fn put_changes_of<G: Grids, O: Sink>(&mut self, r: &G, frame: u64, out: &mut O) -> Put
+        ensures bytes { (are : ℕ → ℕ → Option ShownWindow) → G.shows r.now are
+            → Puts (O.written out.old) (O.written out.new) result (changes_text frame (last_shown self.old) (screens_of (G.grids r.now) are)) }
+        ensures cause { PutCause (O.faults out.old) (O.faults out.new) result }
+        ensures now { (are : ℕ → ℕ → Option ShownWindow) → G.shows r.now are → LookAlike (last_shown self.new) (screens_of (G.grids r.now) are) }
+    {
+        let mut text = Gathered::new();
+        text.begin();
+        self.write_changes_of(r, frame, true, &mut text, out);
+        text.finish(out)
+    }
+
+    /// The same of a receiver.
+    pub fn put_changes<O: Sink>(&mut self, r: &Receiver, frame: u32, out: &mut O) -> Put
+        ensures bytes { (frames : List Frame) → IsBehind frames r.now
+            → Puts (O.written out.old) (O.written out.new) result (changes_text frame (last_shown self.old) (received_screens frames)) }
+        ensures cause { PutCause (O.faults out.old) (O.faults out.new) result }
+        ensures now { (frames : List Frame) → IsBehind frames r.now → LookAlike (last_shown self.new) (received_screens frames) }
+    {
+        self.put_changes_of(r, u64::from(frame), out)
+    }
+
+    /// The same of a receiver.
     pub fn write_changes<O: Sink>(
         &mut self,
         r: &Receiver,
@@ -77,116 +216,15 @@ impl Shown {
             → (touched ≡ false → HaveSameWindows (last_shown self.old).windows (received_windows frames))
             → LookAlike (last_shown self.new) (received_screens frames) }
     {
-        let channels = self.channels_differ(r);
-        let services = self.keep_services(r, touched);
-        let changed = channels | services;
-        if changed {
-            self.write_differing(r, frame, services, text, out);
-        }
+        self.write_changes_of(r, u64::from(frame), touched, text, out)
     }
 
-    /// Whether the screens of a frame differ from those that were shown last, so that there is something to write. They are then the
-    /// ones that were shown last.
+    /// The same of a receiver.
     pub fn pass(&mut self, r: &Receiver) -> bool
         ensures told { (frames : List Frame) → IsBehind frames r.now → result ≡ screens_differ (last_shown self.old) (received_screens frames) }
         ensures now { (frames : List Frame) → IsBehind frames r.now → LookAlike (last_shown self.new) (received_screens frames) }
     {
-        let channels = self.channels_differ(r);
-        let services = self.keep_services(r, true);
-        if channels {
-            self.keep_channels(r);
-        }
-        channels | services
-    }
-
-    // Keeps the grid of each channel.
-    fn keep_channels(&mut self, r: &Receiver)
-        ensures now { last_grid self.new ≡ displayed_grid r.now }
-        ensures services { self.new.services ≡ self.old.services }
-    {
-        self.cc1.copy_from(r.displayed(Chan::Cc1));
-        self.cc2.copy_from(r.displayed(Chan::Cc2));
-        self.cc3.copy_from(r.displayed(Chan::Cc3));
-        self.cc4.copy_from(r.displayed(Chan::Cc4));
-    }
-
-    // Keeps what is seen of all services, and says whether that of one differs from what was kept; not so where nothing touched them.
-    fn keep_services(&mut self, r: &Receiver, touched: bool) -> bool
-        ensures some { (frames : List Frame) → IsBehind frames r.now
-            → (touched ≡ false → HaveSameWindows (last_shown self.old).windows (received_windows frames))
-            → result ≡ services_differ (last_shown self.old).windows (received_windows frames) }
-        ensures now { (frames : List Frame) → IsBehind frames r.now
-            → (touched ≡ false → HaveSameWindows (last_shown self.old).windows (received_windows frames))
-            → HaveSameWindows (last_shown self.new).windows (received_windows frames) }
-        ensures each { (frames : List Frame) → IsBehind frames r.now → result ≡ true → (place : ℕ) → place < 63
-            → changed_at self.new.services.items place ≡ service_differs (seen_at self.old.services.items place) (received_windows frames (place + 1)) }
-        ensures grids { last_grid self.new ≡ last_grid self.old }
-    {
-        touched && keep_services(&mut self.services, r)
-    }
-
-    // Writes the line of a frame, the grid of each channel whose grid differs from the one that was shown last, which is kept, and the
-    // text of each service whose windows changed, if one did.
-    fn write_differing<O: Sink>(
-        &mut self,
-        r: &Receiver,
-        frame: u32,
-        services: bool,
-        text: &mut Gathered,
-        out: &mut O,
-    )
-        ensures some { WritesSome (page text.old (O.written out.old) (O.faults out.old)) (page text.new (O.written out.new) (O.faults out.new)) }
-        ensures text { (frames : List Frame) → IsBehind frames r.now
-            → Writes (page text.old (O.written out.old) (O.faults out.old)) (page text.new (O.written out.new) (O.faults out.new))
-            (frame_line frame ++ flat_map (changed_channel (last_grid self.old) (displayed_grid r.now)) channels
-            ++ (if services then changed_places self.old.services.items (received_windows frames) else [])) }
-        ensures now { last_grid self.new ≡ displayed_grid r.now }
-        ensures services { self.new.services ≡ self.old.services }
-    {
-        write_frame(frame, text, out);
-        self.write_channels(r, text, out);
-        if services {
-            write_changed(&self.services, r, text, out);
-        }
-    }
-
-    // Whether the grid of some channel differs from the one that was shown last.
-    fn channels_differ(&self, r: &Receiver) -> bool
-        ensures some { result ≡ channels_differ (last_grid self.now) (displayed_grid r.now) }
-        ensures same { result ≡ false → last_grid self.now ≡ displayed_grid r.now }
-    {
-        let one = self.cc1.differs(r.displayed(Chan::Cc1));
-        let two = self.cc2.differs(r.displayed(Chan::Cc2));
-        let three = self.cc3.differs(r.displayed(Chan::Cc3));
-        let four = self.cc4.differs(r.displayed(Chan::Cc4));
-        one | two | three | four
-    }
-
-    // Writes the grid of each channel whose grid differs from the one that was shown last, and keeps it.
-    fn write_channels<O: Sink>(&mut self, r: &Receiver, text: &mut Gathered, out: &mut O)
-        ensures text { Writes (page text.old (O.written out.old) (O.faults out.old)) (page text.new (O.written out.new) (O.faults out.new)) (flat_map (changed_channel (last_grid self.old) (displayed_grid r.now)) channels) }
-        ensures now { last_grid self.new ≡ displayed_grid r.now }
-        ensures services { self.new.services ≡ self.old.services }
-    {
-        write_channel(&mut self.cc1, Chan::Cc1, r, text, out);
-        write_channel(&mut self.cc2, Chan::Cc2, r, text, out);
-        write_channel(&mut self.cc3, Chan::Cc3, r, text, out);
-        write_channel(&mut self.cc4, Chan::Cc4, r, text, out);
-    }
-
-    /// Puts the text of what changed from the screens that were shown last to those of a frame, which is empty where nothing
-    /// changed. These screens are then the ones that were shown last. Failed comes only where the sink's count of faults
-    /// rose, and then a front of the text was put.
-    pub fn put_changes<O: Sink>(&mut self, r: &Receiver, frame: u32, out: &mut O) -> Put
-        ensures bytes { (frames : List Frame) → IsBehind frames r.now
-            → Puts (O.written out.old) (O.written out.new) result (changes_text frame (last_shown self.old) (received_screens frames)) }
-        ensures cause { PutCause (O.faults out.old) (O.faults out.new) result }
-        ensures now { (frames : List Frame) → IsBehind frames r.now → LookAlike (last_shown self.new) (received_screens frames) }
-    {
-        let mut text = Gathered::new();
-        text.begin();
-        self.write_changes(r, frame, true, &mut text, out);
-        text.finish(out)
+        self.pass_of(r)
     }
 }
 
@@ -202,16 +240,16 @@ fn no_services(alloc: Global) -> Result<Vec<Kept>, AllocError>
 }
 
 // Writes a channel's grid and keeps it, if it differs from the one that is kept.
-fn write_channel<O: Sink>(
+fn write_channel<G: Grids, O: Sink>(
     kept: &mut Memory,
     chan: Chan,
-    r: &Receiver,
+    r: &G,
     text: &mut Gathered,
     out: &mut O,
 )
     ensures text { Writes (page text.old (O.written out.old) (O.faults out.old)) (page text.new (O.written out.new) (O.faults out.new))
-        (if grid_differs (grid_in kept.old) (displayed_grid r.now chan) then grid_text chan (displayed_grid r.now chan) else []) }
-    ensures kept { grid_in kept.new ≡ displayed_grid r.now chan }
+        (if grid_differs (grid_in kept.old) (G.grids r.now chan) then grid_text chan (G.grids r.now chan) else []) }
+    ensures kept { grid_in kept.new ≡ G.grids r.now chan }
 {
     let now = r.displayed(chan);
     if kept.differs(now) {
@@ -221,9 +259,9 @@ fn write_channel<O: Sink>(
 }
 
 // Keeps what is seen of all services, and says whether that of one differs from what was kept.
-fn keep_services(services: &mut [Kept], r: &Receiver) -> bool
+fn keep_services<G: Grids>(services: &mut [Kept], r: &G) -> bool
     requires { length services.old ≡ 63 }
-    ensures { (frames : List Frame) → IsBehind frames r.now → KeepsServices (received_windows frames) 63 services.old services.new result }
+    ensures { (are : ℕ → ℕ → Option ShownWindow) → G.shows r.now are → KeepsServices (are) 63 services.old services.new result }
 {
     let mut changed = false;
     for place in 0..services.len() {
@@ -234,12 +272,12 @@ fn keep_services(services: &mut [Kept], r: &Receiver) -> bool
 }
 
 // Writes the text of each service whose windows changed when they were kept last.
-fn write_changed<O: Sink>(services: &[Kept], r: &Receiver, text: &mut Gathered, out: &mut O)
+fn write_changed<G: Grids, O: Sink>(services: &[Kept], r: &G, text: &mut Gathered, out: &mut O)
     requires { length services.now ≡ 63 }
     ensures some { WritesSome (page text.old (O.written out.old) (O.faults out.old)) (page text.new (O.written out.new) (O.faults out.new)) }
-    ensures text { (frames : List Frame) → IsBehind frames r.now
+    ensures text { (are : ℕ → ℕ → Option ShownWindow) → G.shows r.now are
         → Writes (page text.old (O.written out.old) (O.faults out.old)) (page text.new (O.written out.new) (O.faults out.new))
-        (changed_places services.now (received_windows frames)) }
+        (changed_places services.now (are)) }
 {
     for place in 0..services.len() {
         write_if_changed(&services[place], r, service_at(place), text, out);
@@ -247,17 +285,17 @@ fn write_changed<O: Sink>(services: &[Kept], r: &Receiver, text: &mut Gathered, 
 }
 
 // Writes the text of a service, if its windows changed when they were kept last.
-fn write_if_changed<O: Sink>(
+fn write_if_changed<G: Grids, O: Sink>(
     kept: &Kept,
-    r: &Receiver,
+    r: &G,
     service: u8,
     text: &mut Gathered,
     out: &mut O,
 )
     requires { IsService service }
     ensures some { WritesSome (page text.old (O.written out.old) (O.faults out.old)) (page text.new (O.written out.new) (O.faults out.new)) }
-    ensures text { (frames : List Frame) → IsBehind frames r.now
-        → Writes (page text.old (O.written out.old) (O.faults out.old)) (page text.new (O.written out.new) (O.faults out.new)) (if kept.now.changed then service_text service (received_windows frames service) else []) }
+    ensures text { (are : ℕ → ℕ → Option ShownWindow) → G.shows r.now are
+        → Writes (page text.old (O.written out.old) (O.faults out.old)) (page text.new (O.written out.new) (O.faults out.new)) (if kept.now.changed then service_text service (are service) else []) }
 {
     if kept.has_changed() {
         write_service(r, service, text, out);

@@ -17,11 +17,11 @@ use line21_screen::Memory;
 use text_output::Gathered;
 
 /// Writes the line of a frame.
-pub(crate) fn write_frame<O: Sink>(frame: u32, text: &mut Gathered, out: &mut O)
+pub(crate) fn write_frame<O: Sink>(frame: u64, text: &mut Gathered, out: &mut O)
     ensures { Writes (page text.old (O.written out.old) (O.faults out.old)) (page text.new (O.written out.new) (O.faults out.new)) (frame_line frame) }
 {
     text.write(b"frame ", out);
-    text.write_number(frame, out);
+    text.write_long(frame, out);
     text.write(b"\n", out);
 }
 

@@ -62,21 +62,21 @@ without_within : (g : Grid) (rows base row from to : ℕ) → IsWithin g rows ba
 without_within g rows base row from to within r c outside = without_at (r == row && nat_le from c && nat_lt c to) (g r c) (within r c outside)
 
 -- what roll-up captions keep: the pen stands on the base row, which is a row of the window
-record Keeps (rows : ℕ) (s : ChannelState) : Type 0 where
-  within : IsWithin s.displayed rows s.base
-  on_base : s.pen.row ≡ s.base
-  from : 1 ≤ s.base
-  some : 1 ≤ rows
+pub record Keeps (rows : ℕ) (s : ChannelState) : Type 0 where
+  pub within : IsWithin s.displayed rows s.base
+  pub on_base : s.pen.row ≡ s.base
+  pub room : rows ≤ s.base
+  pub some : 1 ≤ rows
 
 -- nothing is to be kept in another mode
-abbrev Kept : Mode → ChannelState → Type 0
+abbrev pub Kept : Mode → ChannelState → Type 0
 Kept (RollUp rows) s = Keeps rows s
 Kept Off s = Unit {0}
 Kept PopOn s = Unit {0}
 Kept PaintOn s = Unit {0}
 
 -- in the channel's own mode
-abbrev IsKept : ChannelState → Type 0
+abbrev pub IsKept : ChannelState → Type 0
 IsKept s = Kept s.mode s
 
 -- a state of its parts
@@ -86,9 +86,9 @@ state d h m b t p = record { displayed = d; hidden = h; mode = m; base = b; text
 -- a cell in the pen's row
 put_parts : (d h : Grid) (m : Mode) (b : ℕ) (t : Bool) (p : PenState) (col : ℕ) (cell : Option Cell) (next : PenState) → next.row ≡ p.row → Kept m (state d h m b t p) → Kept m (with_pen next (edited (λ g. with_cell g p.row col cell) (state d h m b t p)))
 put_parts d h (RollUp rows) b t p col cell next same k = record {
-  within = put_within d rows b p.row col cell k.from k.some k.on_base k.within;
+  within = put_within d rows b p.row col cell (omega (arith, k.room, k.some)) k.some k.on_base k.within;
   on_base = same ∙ k.on_base;
-  from = k.from;
+  room = k.room;
   some = k.some;
 }
 put_parts d h Off b t p col cell next same k = tt
@@ -128,7 +128,7 @@ deleted_parts : (d h : Grid) (m : Mode) (b : ℕ) (t : Bool) (p : PenState) → 
 deleted_parts d h (RollUp rows) b t p k = record {
   within = without_within d rows b p.row p.col 32 k.within;
   on_base = k.on_base;
-  from = k.from;
+  room = k.room;
   some = k.some;
 }
 deleted_parts d h Off b t p k = tt
@@ -137,7 +137,7 @@ deleted_parts d h PaintOn b t p k = tt
 
 -- another pen in the same row
 pen_parts : (m : Mode) (s : ChannelState) (next : PenState) → next.row ≡ s.pen.row → Kept m s → Kept m (with_pen next s)
-pen_parts (RollUp rows) s next same k = record { within = k.within; on_base = same ∙ k.on_base; from = k.from; some = k.some }
+pen_parts (RollUp rows) s next same k = record { within = k.within; on_base = same ∙ k.on_base; room = k.room; some = k.some }
 pen_parts Off s next same k = tt
 pen_parts PopOn s next same k = tt
 pen_parts PaintOn s next same k = tt
@@ -152,40 +152,40 @@ tabbed-row columns pen = same_row (pen.col == 32) pen (at_column (min (pen.col +
 
 -- text mode
 text_parts : (m : Mode) (s : ChannelState) → Kept m s → Kept m (record s { text = true })
-text_parts (RollUp rows) s k = record { within = k.within; on_base = k.on_base; from = k.from; some = k.some }
+text_parts (RollUp rows) s k = record { within = k.within; on_base = k.on_base; room = k.room; some = k.some }
 text_parts Off s k = tt
 text_parts PopOn s k = tt
 text_parts PaintOn s k = tt
 
 -- the hidden memory is erased
 hidden_parts : (m : Mode) (s : ChannelState) → Kept m s → Kept m (record s { hidden = empty_grid })
-hidden_parts (RollUp rows) s k = record { within = k.within; on_base = k.on_base; from = k.from; some = k.some }
+hidden_parts (RollUp rows) s k = record { within = k.within; on_base = k.on_base; room = k.room; some = k.some }
 hidden_parts Off s k = tt
 hidden_parts PopOn s k = tt
 hidden_parts PaintOn s k = tt
 
 -- the displayed memory is erased
 displayed_parts : (m : Mode) (s : ChannelState) → Kept m s → Kept m (record s { displayed = empty_grid })
-displayed_parts (RollUp rows) s k = record { within = λ r c outside. refl; on_base = k.on_base; from = k.from; some = k.some }
+displayed_parts (RollUp rows) s k = record { within = λ r c outside. refl; on_base = k.on_base; room = k.room; some = k.some }
 displayed_parts Off s k = tt
 displayed_parts PopOn s k = tt
 displayed_parts PaintOn s k = tt
 
 -- a roll-up code
-rolled_up_keeps : (m : Mode) (rows : ℕ) (s : ChannelState) → 2 ≤ rows → IsKept (rolled_up m rows s)
-rolled_up_keeps (RollUp earlier) rows s from = record {
+rolled_up_keeps : (m : Mode) (rows : ℕ) (s : ChannelState) → 2 ≤ rows → rows ≤ 4 → IsKept (rolled_up m rows s)
+rolled_up_keeps (RollUp earlier) rows s from to = record {
   within = moved_within s.displayed rows s.base (max s.base rows);
   on_base = refl;
-  from = omega arith;
+  room = omega arith;
   some = omega arith;
 }
-rolled_up_keeps Off rows s from = record { within = λ r c outside. refl; on_base = refl; from = omega arith; some = omega arith }
-rolled_up_keeps PopOn rows s from = record { within = λ r c outside. refl; on_base = refl; from = omega arith; some = omega arith }
-rolled_up_keeps PaintOn rows s from = record { within = λ r c outside. refl; on_base = refl; from = omega arith; some = omega arith }
+rolled_up_keeps Off rows s from to = record { within = λ r c outside. refl; on_base = refl; room = omega arith; some = omega arith }
+rolled_up_keeps PopOn rows s from to = record { within = λ r c outside. refl; on_base = refl; room = omega arith; some = omega arith }
+rolled_up_keeps PaintOn rows s from to = record { within = λ r c outside. refl; on_base = refl; room = omega arith; some = omega arith }
 
 -- a carriage return
 returned_parts : (d h : Grid) (m : Mode) (b : ℕ) (t : Bool) (p : PenState) → Kept m (state d h m b t p) → IsKept (carriage_return m (state d h m b t p))
-returned_parts d h (RollUp rows) b t p k = record { within = rolled_within d rows b; on_base = refl; from = k.from; some = k.some }
+returned_parts d h (RollUp rows) b t p k = record { within = rolled_within d rows b; on_base = refl; room = k.room; some = k.some }
 returned_parts d h Off b t p k = tt
 returned_parts d h PopOn b t p k = tt
 returned_parts d h PaintOn b t p k = tt
@@ -195,7 +195,7 @@ addressed_parts : (d h : Grid) (m : Mode) (b : ℕ) (t : Bool) (p : PenState) (r
 addressed_parts d h (RollUp rows) b t p row col style from k = record {
   within = moved_within d rows b (max row rows);
   on_base = refl;
-  from = omega arith;
+  room = omega arith;
   some = k.some;
 }
 addressed_parts d h Off b t p row col style from k = tt
@@ -206,7 +206,7 @@ addressed_parts d h PaintOn b t p row col style from k = tt
 acted_keeps : (control : ControlCode) (s : ChannelState) → IsPossible control → IsKept s → IsKept (acted control s)
 acted_keeps Rcl s h k = tt
 acted_keeps Rdc s h k = tt
-acted_keeps (Ru rows) s h k = rolled_up_keeps s.mode rows s h.0
+acted_keeps (Ru rows) s h k = rolled_up_keeps s.mode rows s h.0 h.1
 acted_keeps Tr s h k = text_parts s.mode s k
 acted_keeps Rtd s h k = text_parts s.mode s k
 acted_keeps Eoc s h k = tt
@@ -226,7 +226,7 @@ acted_keeps Cr s h k = returned_parts s.displayed s.hidden s.mode s.base s.text 
 acted_keeps Skipped s h k = k
 
 -- a control code
-control_keeps : (control : ControlCode) (s : ChannelState) → IsPossible control → IsKept s → IsKept (after_control control s)
+pub control_keeps : (control : ControlCode) (s : ChannelState) → IsPossible control → IsKept s → IsKept (after_control control s)
 control_keeps control s h k = chosen_keeps (acts_always control || takes_captions s) (acted control s) s (acted_keeps control s h k) k
 
 -- a character of a text pair
@@ -235,7 +235,7 @@ character_keeps (Some ch) s k = chosen_keeps (takes_captions s) (printed ch s) s
 character_keeps None s k = k
 
 -- a text pair
-text_keeps : (first second : ℕ) (s : ChannelState) → IsKept s → IsKept (after_text first second s)
+pub text_keeps : (first second : ℕ) (s : ChannelState) → IsKept s → IsKept (after_text first second s)
 text_keeps first second s k = character_keeps (basic_of second) (after_character (basic_of first) s) (character_keeps (basic_of first) s k)
 
 -- both data channels

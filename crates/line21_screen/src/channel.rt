@@ -51,6 +51,18 @@ impl Channel {
         })
     }
 
+    // Makes it as it was before its first code.
+    pub(crate) fn reset(&mut self)
+        ensures { channel_of self.new ≡ new_channel }
+    {
+        self.displayed.clear();
+        self.hidden.clear();
+        self.mode = Mode::Off;
+        self.base = LAST_ROW;
+        self.text = false;
+        self.pen = Pen::at_row(LAST_ROW);
+    }
+
     // A control code of this channel.
     pub(crate) fn control(&mut self, control: Control)
         requires { IsPossible control }

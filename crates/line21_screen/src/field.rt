@@ -53,6 +53,17 @@ impl Field {
         })
     }
 
+    /// Makes it as it was before its first pair.
+    pub fn reset(&mut self)
+        ensures { (in_field : FieldNumber) (before : List Pair) → Leads in_field before self.old → Leads in_field [] self.new }
+    {
+        self.first.reset();
+        self.second.reset();
+        self.selected = DataChannel::One;
+        self.xds = false;
+        self.doubler = Doubler::new();
+    }
+
     /// Takes the field's next pair, of whatever bytes: one with bad parity counts as null. The repeat
     /// of a control pair is ignored, and each other pair does what its code says (CTA-608-E,
     /// 47 CFR 79.101).

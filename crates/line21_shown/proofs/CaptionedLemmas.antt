@@ -197,11 +197,11 @@ module _ (P : Pair → Type 0) (written_is : (in_field : FieldNumber) (code : Co
       at_slot None due None at = subst P (sym (rw (due, at) refl)) null
 
 -- the pair is read as a code for data channel 1
-abbrev IsFirstPair : Pair → Type 0
+abbrev pub IsFirstPair : Pair → Type 0
 IsFirstPair pair = IsForFirst (code_of pair)
 
 -- a code that is for it is written so
-written_first : (in_field : FieldNumber) (code : Code) → IsWritable code → IsForFirst code → IsFirstPair (written in_field code)
+pub written_first : (in_field : FieldNumber) (code : Code) → IsWritable code → IsForFirst code → IsFirstPair (written in_field code)
 written_first in_field code writable first = subst IsForFirst (sym (written-code_of in_field code writable)) first
 
 -- the timeline of a channel of a list that keeps the rules and is placed

@@ -87,7 +87,7 @@ codes_are in_field number cue (code ∷ codes) writable =
     let rest = codes_are in_field number cue codes (All-tail IsWritable code codes writable) in
     rw (first, rest) refl
 
-cue_codes_are : (number : ℕ) (cue : Cue) → IsCueFormed cue → piece_codes (cue_pieces number cue) ≡ cue_codes cue
+pub cue_codes_are : (number : ℕ) (cue : Cue) → IsCueFormed cue → piece_codes (cue_pieces number cue) ≡ cue_codes cue
 cue_codes_are number cue formed = codes_are (field_of_kind cue.kind) number cue (cue_codes cue) (cue_codes_writable cue formed)
 
 -- what hides the former cue, and the events of these cues

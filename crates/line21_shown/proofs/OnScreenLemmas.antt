@@ -48,7 +48,7 @@ hidden_by_load hide g [] s cue later is link plain = subst (λ o. IfSome o (λ h
 hidden_by_load hide g (former ∷ earlier) s cue later is link plain = subst (λ o. IfSome o (λ h. h ≤ cue.load)) (sym is.0) (link.cleared plain)
 
 -- nothing hides from the frame on from which the cue is written
-hides_no_more : (in_field : FieldNumber) (hide : Option ℕ) (load n : ℕ) → writes_from hide load ≤ n → erases in_field hide n ≡ None
+pub hides_no_more : (in_field : FieldNumber) (hide : Option ℕ) (load n : ℕ) → writes_from hide load ≤ n → erases in_field hide n ≡ None
 hides_no_more in_field None load n above = refl
 hides_no_more in_field (Some h) load n above = let test : (n == h) ≡ false = grind (arith, nat_tests) in rw test refl
 
@@ -62,25 +62,25 @@ to_show None load show hidden shown = omega arith
 to_show (Some h) load show hidden shown = omega arith
 
 -- the cue is written onto an empty screen, and continues none
-record IsNew (cue : Cue) (earlier : List Cue) (s : ChannelState) : Type 0 where
-  empty : s.displayed ≡ empty_grid
-  alone : chain_of cue earlier ≡ cue ∷ []
+pub record IsNew (cue : Cue) (earlier : List Cue) (s : ChannelState) : Type 0 where
+  pub empty : s.displayed ≡ empty_grid
+  pub alone : chain_of cue earlier ≡ cue ∷ []
 
 -- the cue continues the newest of the earlier ones, which is shown
-record IsOnward (cue : Cue) (earlier : List Cue) (s : ChannelState) : Type 0 where
-  former : Cue
-  before : List Cue
-  is : earlier ≡ former ∷ before
-  continued : IsContinued former cue
-  continues : continues cue former ≡ true
-  rolling : IsRollingFor former.kind (base_row former.runs) (shown_from former.kind former before) s
+pub record IsOnward (cue : Cue) (earlier : List Cue) (s : ChannelState) : Type 0 where
+  pub former : Cue
+  pub before : List Cue
+  pub is : earlier ≡ former ∷ before
+  pub continued : IsContinued former cue
+  pub continues : continues cue former ≡ true
+  pub rolling : IsRollingFor former.kind (base_row former.runs) (shown_from former.kind former before) s
 
 -- no cue continues one with a HIDE
 fails : (a b : Bool) → (a && false && b) ≡ false
 fails true b = refl
 fails false b = refl
 
-not_continued : (cue former : Cue) (h : ℕ) → former.hide ≡ Some h → continues cue former ≡ false
+pub not_continued : (cue former : Cue) (h : ℕ) → former.hide ≡ Some h → continues cue former ≡ false
 not_continued cue former h is = rw is (fails (same_roll cue.kind former.kind) (base_row cue.runs == base_row former.runs))
 
 -- what hides has hidden when the cue is written
@@ -91,7 +91,7 @@ stays : (hide : Option ℕ) (n : ℕ) (g : Grid) → hide ≡ None → until hid
 stays hide n g is = rw is refl
 
 -- one or the other
-new_or_onward : (hide : Option ℕ) (a : ℕ) (g : Grid) (earlier : List Cue) (own s : ChannelState) (cue : Cue) (later : List Cue)
+pub new_or_onward : (hide : Option ℕ) (a : ℕ) (g : Grid) (earlier : List Cue) (own s : ChannelState) (cue : Cue) (later : List Cue)
     → IsOfNewest hide g earlier own → AreBehind earlier (cue ∷ later) → own.displayed ≡ until hide a g
     → s ≡ showing (until hide (writes_from hide cue.load) g) own → IsNew cue earlier s ⊎ IsOnward cue earlier s
 new_or_onward hide a g [] own s cue later is link shown state =
@@ -119,7 +119,7 @@ new_or_onward hide a g (former ∷ before) own s cue later is link shown state =
         })
 
 -- the screen has what a cue of a kind shows, and where that is roll-up, such captions are under way
-abbrev IsOnScreen : Kind → Cue → List Cue → ChannelState → Type 0
+abbrev pub IsOnScreen : Kind → Cue → List Cue → ChannelState → Type 0
 IsOnScreen k cue earlier s = (s.displayed ≡ shown_from k cue earlier) × IsRollingFor k (base_row cue.runs) (shown_from k cue earlier) s
 
 -- a paint-on cue on an empty screen
@@ -171,7 +171,7 @@ module _ (channel : Chan) (rows : ℕ) (cue : Cue) (earlier : List Cue) (s : Cha
       has_room (run ∷ rs) some room = All-head (λ (x : Run). rows ≤ x.row) run rs room
 
 -- a cue of either kind
-on_screen_of : (k : Kind) (cue : Cue) (earlier : List Cue) (s : ChannelState) → cue.kind ≡ k → is_pop k ≡ false → is_line21 k ≡ true
+pub on_screen_of : (k : Kind) (cue : Cue) (earlier : List Cue) (s : ChannelState) → cue.kind ≡ k → is_pop k ≡ false → is_line21 k ≡ true
     → IsOfKind k cue.hide cue.runs → 1 ≤ length cue.runs → have_shared_cell cue.runs ≡ false
     → IsNew cue earlier s ⊎ IsOnward cue earlier s → IsOnScreen k cue earlier (does_all (cue_codes cue) s)
 on_screen_of (kind.Pop channel) cue earlier s is plain line21 formed several apart begins = cc
@@ -180,6 +180,58 @@ on_screen_of (kind.Paint channel) cue earlier s is plain line21 formed several a
 on_screen_of (kind.Roll channel rows) cue earlier s is plain line21 formed several apart begins =
     rolled_on channel rows cue earlier s is formed.1 formed.2 several apart begins
 on_screen_of (kind.Win window) cue earlier s is plain line21 formed several apart begins = cc
+
+-- one that isn't pop-on, whose units stand from a frame on in which nothing of the former cue is left to hide: it is new there, or goes on
+module _ (in_field : FieldNumber) (t : Timeline) (frames a start : ℕ) (hide : Option ℕ) (earlier : List Cue) (cue : Cue) (later : List Cue)
+    (plain : is_pop cue.kind ≡ false) (line21 : is_line21 cue.kind ≡ true) (formed : IsCueFormed cue) (sequence : AreInSequence 1 frames (cue ∷ later))
+    (on : Continues in_field t a hide (cue ∷ later)) (up : a ≤ start) (writes : writes_from hide cue.load ≤ start) (up_to_show : start ≤ cue.show)
+    (begins : IsNew cue earlier (acts t start) ⊎ IsOnward cue earlier (acts t start))
+    (placed : let first = head in_field t frames a cue.show hide cue later formed sequence on (λ f above free. above) in
+        ArePlacedFrom (events_on in_field hide (cue ∷ later)) start first.own first.front) where
+  its_sound : IsSound 1 frames cue
+  its_sound = first_sound 1 frames cue later sequence
+
+  abbrev its_first : Head in_field t a cue.show hide cue later
+  its_first = head in_field t frames a cue.show hide cue later formed sequence on (λ f above free. above)
+
+  -- before SHOW nothing of the events begins but what hides the former cue
+  pub plain_hides : (n : ℕ) → n < cue.show → event_at (events_on in_field hide (cue ∷ later)) n ≡ erases in_field hide n
+  plain_hides n below =
+      plain_at in_field hide cue later (cue_events in_field (cue ∷ later)) n plain
+      ∙ ap (first_of (erases in_field hide n)) (event_none cue.show n (cue_events in_field (cue ∷ later)) (events_from in_field frames cue later sequence) below)
+      ∙ or_nothing (erases in_field hide n)
+
+  its_beside : StandBeside (erases in_field hide) start cue.show its_first.own its_first.front
+  its_beside = beside in_field hide (events_on in_field hide (cue ∷ later)) start cue.show its_first.own its_first.front plain_hides its_first.ends placed
+
+  -- its units act alone
+  written : acts t cue.show ≡ does_all (cue_codes cue) (acts t start)
+  written =
+      acts_alone (erases in_field hide) t start cue.show up_to_show its_first.own its_first.front
+      (λ n from high.
+      loading in_field t a cue.show hide cue later its_first (omega arith) plain_hides n (omega arith) high
+      ∙ ap (λ u. first_of u (stands its_first.own its_first.front n)) (hides_no_more in_field hide cue.load n (omega arith)))
+      its_beside
+      ∙ ap (λ codes. does_all codes (acts t start)) its_first.codes
+
+  -- so at SHOW the screen has the cue
+  on_screen : IsOnScreen cue.kind cue earlier (acts t cue.show)
+  on_screen =
+      subst (IsOnScreen cue.kind cue earlier) (sym written)
+      (on_screen_of cue.kind cue earlier (acts t start) refl plain line21 formed.kind formed.some its_sound.apart begins)
+
+  -- behind SHOW the timeline goes on with what hides the cue
+  pub plain_continues : Continues in_field t cue.show cue.hide later
+  plain_continues =
+      continues_behind in_field t a cue.show hide cue later its_first (omega arith) (omega arith)
+      (λ n above.
+      plain_at in_field hide cue later (cue_events in_field (cue ∷ later)) n plain
+      ∙ ap (λ u. first_of u (event_at (cue_events in_field (cue ∷ later)) n)) (hides_no_more in_field hide cue.load n (omega arith))
+      ∙ ap (λ events. event_at events n) (plain_events in_field cue later plain))
+
+  -- and the screen has the cue until its HIDE
+  pub plain_shown : IsShown t cue.show cue.show cue.hide (shown_from cue.kind cue earlier) (cue ∷ earlier)
+  plain_shown = is_shown t cue.show cue earlier (omega arith) its_sound.hidden on_screen.0 on_screen.1
 
 module _ (in_field : FieldNumber) (t : Timeline) (frames a from : ℕ) (hide : Option ℕ) (g : Grid) (earlier : List Cue) (cue : Cue) (later : List Cue)
     (plain : is_pop cue.kind ≡ false) (line21 : is_line21 cue.kind ≡ true) (formed : IsCueFormed cue) (sequence : AreInSequence 1 frames (cue ∷ later))
@@ -218,9 +270,6 @@ module _ (in_field : FieldNumber) (t : Timeline) (frames a from : ℕ) (hide : O
       (λ piece f loads at free. plain_free in_field hide cue later (cue_events in_field (cue ∷ later)) f plain hidden (omega arith) free)
       first.begins first.first
 
-  stand_beside : StandBeside (erases in_field hide) start cue.show first.own first.front
-  stand_beside = beside in_field hide (events_on in_field hide (cue ∷ later)) start cue.show first.own first.front only_hides first.ends placed
-
   -- up to that frame the screen has what the earlier cues show
   waits_to : (m : ℕ) → a ≤ m → m ≤ start → acts t m ≡ showing (until hide m g) (acts t a)
   waits_to m above below =
@@ -240,33 +289,16 @@ module _ (in_field : FieldNumber) (t : Timeline) (frames a from : ℕ) (hide : O
       (λ (h : cue.load ≤ f). let wrong : cue.show ≤ f = settled plain h in absurd (omega arith))
       (cases_lt f cue.load)
 
-  -- and from it on the units of the cue act alone
-  written : acts t cue.show ≡ does_all (cue_codes cue) (acts t start)
-  written =
-      acts_alone (erases in_field hide) t start cue.show up_to_show first.own first.front
-      (λ n up high.
-      loading in_field t a cue.show hide cue later first (omega arith) only_hides n (omega (arith, behind_load)) high
-      ∙ ap (λ u. first_of u (stands first.own first.front n)) (hides_no_more in_field hide cue.load n up))
-      stand_beside
-      ∙ ap (λ codes. does_all codes (acts t start)) first.codes
+  -- there it is new or goes on
+  begins : IsNew cue earlier (acts t start) ⊎ IsOnward cue earlier (acts t start)
+  begins =
+      new_or_onward hide a g earlier (acts t a) (acts t start) cue later is.newest link is.displayed
+      (waits_to start (omega (arith, behind_load)) (omega arith))
 
-  -- so at SHOW the screen has the cue
-  on_screen : IsOnScreen cue.kind cue earlier (acts t cue.show)
-  on_screen =
-      subst (IsOnScreen cue.kind cue earlier) (sym written)
-      (on_screen_of cue.kind cue earlier (acts t start) refl plain line21 formed.kind formed.some sound.apart
-      (new_or_onward hide a g earlier (acts t a) (acts t start) cue later is.newest link is.displayed
-      (waits_to start (omega (arith, behind_load)) (omega arith))))
-
-  -- behind SHOW the timeline goes on with what hides the cue
   pub screen_continues : Continues in_field t cue.show cue.hide later
   screen_continues =
-      continues_behind in_field t a cue.show hide cue later first (omega (arith, sound.loaded)) (omega arith)
-      (λ n above.
-      plain_at in_field hide cue later (cue_events in_field (cue ∷ later)) n plain
-      ∙ ap (λ u. first_of u (event_at (cue_events in_field (cue ∷ later)) n)) (hides_no_more in_field hide cue.load n (omega (arith, up_to_show)))
-      ∙ ap (λ events. event_at events n) (plain_events in_field cue later plain))
+      plain_continues in_field t frames a start hide earlier cue later plain line21 formed sequence on (omega (arith, behind_load)) (omega arith) up_to_show begins placed
 
-  -- and the screen has the cue until its HIDE
   pub screen_shown : IsShown t cue.show cue.show cue.hide (shown_from cue.kind cue earlier) (cue ∷ earlier)
-  screen_shown = is_shown t cue.show cue earlier (omega arith) sound.hidden on_screen.0 on_screen.1
+  screen_shown =
+      plain_shown in_field t frames a start hide earlier cue later plain line21 formed sequence on (omega (arith, behind_load)) (omega arith) up_to_show begins placed

@@ -1,5 +1,6 @@
 -- A pop-on cue: its units are loaded while the former cue is displayed, at its SHOW it is displayed, and from then on it
 -- stays until its HIDE.
+use Rattle.std.specs.Prelude.{IfSome}
 use Rattle.std.proofs.Common.{◌≡◌, ℕ, suc, ◌<◌, ◌≤◌, true, List, ◌∷◌, Option, Some, None, All, refl, sym, ap, ◌∙◌, subst, arith, ⊎_elim}
 use Rattle.std.proofs.lemmas.Bool.{cases_lt}
 use Rattle.line21_codes.specs.declared.channels.FieldNumber.{FieldNumber}
@@ -37,32 +38,32 @@ use Rattle.line21_shown.proofs.ScreenLemmas.{AreBehind, IsRollingFor, IsShown, h
 use Rattle.line21_shown.proofs.SuffixLemmas.{at_show, before_show, behind_show, beside, showing_unit}
 
 -- a pop-on cue's kind
-pop_kind : (k : Kind) → is_pop k ≡ true → (channel : Chan) × (k ≡ kind.Pop channel)
+pub pop_kind : (k : Kind) → is_pop k ≡ true → (channel : Chan) × (k ≡ kind.Pop channel)
 pop_kind (kind.Pop channel) pop = (channel, refl)
 pop_kind (kind.Paint channel) pop = cc
 pop_kind (kind.Roll channel rows) pop = cc
 pop_kind (kind.Win window) pop = cc
 
 -- its runs
-pop_runs : (channel : Chan) (k : Kind) (hide : Option ℕ) (runs : List Run) → k ≡ kind.Pop channel → IsOfKind k hide runs → All IsLine21Run runs
+pub pop_runs : (channel : Chan) (k : Kind) (hide : Option ℕ) (runs : List Run) → k ≡ kind.Pop channel → IsOfKind k hide runs → All IsLine21Run runs
 pop_runs channel k hide runs is formed = (subst (λ x. IsOfKind x hide runs) is formed).2
 
 -- behind it no roll-up captions need be under way
-not_rolling : (channel : Chan) (k : Kind) (base : ℕ) (g : Grid) (s : ChannelState) → k ≡ kind.Pop channel → IsRollingFor k base g s
+pub not_rolling : (channel : Chan) (k : Kind) (base : ℕ) (g : Grid) (s : ChannelState) → k ≡ kind.Pop channel → IsRollingFor k base g s
 not_rolling channel k base g s is = subst (λ x. IsRollingFor x base g s) (sym is) tt
 
 -- what shows a cue brings the hidden memory
-shows_hidden : (in_field : FieldNumber) (s : ChannelState) → (does_unit (Some (showing_unit in_field)) s).displayed ≡ s.hidden
+pub shows_hidden : (in_field : FieldNumber) (s : ChannelState) → (does_unit (Some (showing_unit in_field)) s).displayed ≡ s.hidden
 shows_hidden in_field s = rw (written-code_of in_field (first_channel Eoc) tt) refl
 
 -- a state shows what it displays
 pub showing_own : (s : ChannelState) (g : Grid) → s.displayed ≡ g → s ≡ showing g s
 showing_own s g is = ap (λ (shown : Grid). showing shown s) is
 
-module _ (in_field : FieldNumber) (t : Timeline) (frames a from : ℕ) (hide : Option ℕ) (g : Grid) (earlier : List Cue) (cue : Cue) (later : List Cue)
+module _ (in_field : FieldNumber) (t : Timeline) (frames a : ℕ) (hide : Option ℕ) (g : Grid) (earlier : List Cue) (cue : Cue) (later : List Cue)
     (pop : is_pop cue.kind ≡ true) (formed : IsCueFormed cue) (sequence : AreInSequence 1 frames (cue ∷ later))
-    (on : Continues in_field t a hide (cue ∷ later)) (is : IsShown t a from hide g earlier) (link : AreBehind earlier (cue ∷ later))
-    (low : a ≤ suc from) (before : a ≤ cue.show) where
+    (on : Continues in_field t a hide (cue ∷ later)) (displayed : (acts t a).displayed ≡ until hide a g) (hidden : IfSome hide (λ h. h ≤ cue.show))
+    (before : a ≤ cue.show) where
   apart : AreApart (cue_events in_field (cue ∷ later))
   apart = events_of_apart in_field frames (cue ∷ later) (sequence_in_slots frames (cue ∷ later) sequence)
 
@@ -103,12 +104,13 @@ module _ (in_field : FieldNumber) (t : Timeline) (frames a from : ℕ) (hide : O
       loads in_field t hide a cue.show m from first.own first.front g (acts t a)
       (λ n up high. loading in_field t a (suc cue.show) hide cue later first (omega arith) only_hides n up (omega arith)) stand_beside
       (subst (λ codes. AreBlind codes (acts t a)) (sym first.codes) (pop_blind kind_is.0 cue (acts t a) kind_is.1))
-      (showing_own (acts t a) (until hide a g) is.displayed)
+      (showing_own (acts t a) (until hide a g) displayed)
 
   -- before SHOW the screen has what the earlier cues show
-  pub pop_before : (f : ℕ) → from ≤ f → f < cue.show → (acts t (suc f)).displayed ≡ shown_of_newest f (shown_by f (newest_first (cue ∷ later) earlier))
-  pop_before f above below =
-      ap (λ (s : ChannelState). s.displayed) (loaded_to (suc f) (omega arith) (omega arith)) ∙ sym (is.on f above)
+  pub pop_before : (from : ℕ) → ((f : ℕ) → from ≤ f → shown_of_newest f (shown_by f earlier) ≡ until hide (suc f) g) → a ≤ suc from
+      → (f : ℕ) → from ≤ f → f < cue.show → (acts t (suc f)).displayed ≡ shown_of_newest f (shown_by f (newest_first (cue ∷ later) earlier))
+  pop_before from shown low f above below =
+      ap (λ (s : ChannelState). s.displayed) (loaded_to (suc f) (omega arith) (omega arith)) ∙ sym (shown f above)
       ∙ shown_yet frames f cue later earlier sequence below
 
   -- at SHOW the hidden memory has the cells of the cue
@@ -132,7 +134,7 @@ module _ (in_field : FieldNumber) (t : Timeline) (frames a from : ℕ) (hide : O
   pub pop_continues : Continues in_field t (suc cue.show) cue.hide later
   pop_continues =
       continues_behind in_field t a (suc cue.show) hide cue later first (omega arith) (omega arith)
-      (λ n above. behind_show in_field hide cue later pop apart (hidden_by hide g earlier (acts t a) cue later is.newest link) n above)
+      (λ n above. behind_show in_field hide cue later pop apart hidden n above)
 
   -- and the screen has the cue until its HIDE
   pub pop_shown : IsShown t (suc cue.show) cue.show cue.hide (shown_from cue.kind cue earlier) (cue ∷ earlier)

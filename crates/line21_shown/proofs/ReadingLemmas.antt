@@ -21,12 +21,12 @@ use Rattle.line21_shown.specs.Doing.{does}
 use Rattle.line21_shown.specs.Reading.{pairs_before, acts, first_alone, IsForFirst, IsCaptioned, ColumnsAreRead}
 
 -- the null pair is read as null
-null_code : code_of null_pair ≡ Null
+pub null_code : code_of null_pair ≡ Null
 unfolding code_of ones
 null_code = refl
 
 -- a code of data channel 1 does to its field what it does to the channel
-code_step : (f : FieldNumber) (code : Code) (s : ChannelState) → IsForFirst code → after_code f code (first_alone s) ≡ first_alone (does code s)
+pub code_step : (f : FieldNumber) (code : Code) (s : ChannelState) → IsForFirst code → after_code f code (first_alone s) ≡ first_alone (does code s)
 code_step f Null s is = refl
 code_step f (Text first second) s is = refl
 code_step f (Xds first second) s is = absurd is
@@ -47,12 +47,12 @@ record IsRead (f : FieldNumber) (t : Timeline) (n : ℕ) : Type 0 where
   due : (pair : Pair) → repeat_at t n ≡ Some pair → IsDue (pairs_before (slot t) n) pair
 
 -- the pair of a slot
-slot_is : (t : Timeline) (n : ℕ) (r : Option Pair) (u : Option Unit) → repeat_at t n ≡ r → t n ≡ u
+pub slot_is : (t : Timeline) (n : ℕ) (r : Option Pair) (u : Option Unit) → repeat_at t n ≡ r → t n ≡ u
     → slot t n ≡ unwrap_or (first_of r (option_map (λ (unit : Unit). unit.pair) u)) null_pair
 slot_is t n r u due at = rw (due, at) refl
 
 -- nothing begins where a repeat is due
-none_begins : (t : Timeline) → IsCaptioned t → (n : ℕ) (pair : Pair) → repeat_at t n ≡ Some pair → t n ≡ None
+pub none_begins : (t : Timeline) → IsCaptioned t → (n : ℕ) (pair : Pair) → repeat_at t n ≡ Some pair → t n ≡ None
 none_begins t is zero pair due = cc
 none_begins t is (suc n) pair due = is.spaced n pair due
 

@@ -150,11 +150,11 @@ opened_at h PopOn b t p rows = new_window rows
 opened_at h PaintOn b t p rows = new_window rows
 
 -- codes begin with a preamble of a row
-record BeginsAt (row : ℕ) (codes : List Code) : Type 0 where
-  col : ℕ
-  style : Style
-  rest : List Code
-  is : codes ≡ first_channel (Preamble row col style) ∷ rest
+pub record BeginsAt (row : ℕ) (codes : List Code) : Type 0 where
+  pub col : ℕ
+  pub style : Style
+  pub rest : List Code
+  pub is : codes ≡ first_channel (Preamble row col style) ∷ rest
 
 -- the codes that lead to a place and style do, by whether the style is upright white and the column the first
 approach_begins : (plain at_left : Bool) (row col : ℕ) (style : Style) (more : List Code)
@@ -177,7 +177,7 @@ approach_begins false false row col style more = record {
 }
 
 -- so do the codes of a run
-run_begins : (pen : Pen) (run : Run) → IsLine21Pen pen → BeginsAt run.row (codes_with pen run)
+pub run_begins : (pen : Pen) (run : Run) → IsLine21Pen pen → BeginsAt run.row (codes_with pen run)
 run_begins (Line21 style) run formed =
     approach_begins (is_upright_white style) (run.col == 0) run.row run.col style (text_codes run.text)
 run_begins (Dtv italic underline) run formed = absurd formed

@@ -28,7 +28,9 @@ use Rattle.line21_screen.specs.Meaning.{after}
 use Rattle.frame_scheduler.specs.ChannelLane.{IsChannelPlaced, channel_pieces}
 use Rattle.frame_scheduler.specs.Columns.{first_pairs}
 use Rattle.cue_lists.specs.Rules.Sentences.{AreInSequence}
+use Rattle.frame_scheduler.specs.FieldLane.{lane}
 use Rattle.frame_scheduler.specs.LaneEvents.{event_at}
+use Rattle.placements.specs.Placing.{IsPlaced}
 use Rattle.frame_scheduler.specs.LaneTimeline.{lane_timeline, stands}
 use Rattle.frame_scheduler.specs.Planned.{columns_of}
 use Rattle.frame_scheduler.specs.SlotLists.{slot_cues, slots_in_list}
@@ -45,17 +47,17 @@ use Rattle.line21_shown.proofs.LoadingLemmas.{erases, loads, until}
 use Rattle.line21_shown.proofs.OnScreenLemmas.{screen_before, screen_continues, screen_shown}
 use Rattle.line21_shown.proofs.PopOnLemmas.{pop_before, pop_continues, pop_shown, showing_own}
 use Rattle.line21_shown.proofs.ReadingLemmas.{columns_read}
-use Rattle.line21_shown.proofs.ScreenLemmas.{AreBehind, IsShown, newest_first, newest_first-reverse}
+use Rattle.line21_shown.proofs.ScreenLemmas.{AreBehind, IsShown, hidden_by, newest_first, newest_first-reverse}
 use Rattle.line21_shown.proofs.SlotGridLemmas.{grid_before_slots, grid_in_slots, settled_in_slots}
 use Rattle.line21_shown.proofs.SuffixLemmas.{pieces_are, placed_from}
 
 -- a cue of line 21 in its ranges
-record IsCaption (cue : Cue) : Type 0 where
-  line21 : is_line21 cue.kind ≡ true
-  formed : IsCueFormed cue
+pub record IsCaption (cue : Cue) : Type 0 where
+  pub line21 : is_line21 cue.kind ≡ true
+  pub formed : IsCueFormed cue
 
 -- the first of the cues begins behind a frame: a pop-on cue is shown, and another one is written from it on
-abbrev BeginFrom : ℕ → List Cue → Type 0
+abbrev pub BeginFrom : ℕ → List Cue → Type 0
 BeginFrom a [] = ⊤
 BeginFrom a (cue ∷ later) = (is_pop cue.kind ≡ false → a ≤ cue.load) × (a ≤ cue.show)
 
@@ -84,7 +86,7 @@ hidden_behind None show load some later cleared = cc
 hidden_behind (Some h) show load some later cleared = omega arith
 
 -- the cues behind a cue begin behind it
-begin_behind_pop : (frames : ℕ) (cue : Cue) (later : List Cue) → is_pop cue.kind ≡ true → IsCueFormed cue → AreInSequence 1 frames (cue ∷ later)
+pub begin_behind_pop : (frames : ℕ) (cue : Cue) (later : List Cue) → is_pop cue.kind ≡ true → IsCueFormed cue → AreInSequence 1 frames (cue ∷ later)
     → BeginFrom (suc cue.show) later
 begin_behind_pop frames cue [] pop formed sequence = tt
 begin_behind_pop frames cue (next ∷ later) pop formed sequence =
@@ -94,7 +96,7 @@ begin_behind_pop frames cue (next ∷ later) pop formed sequence =
       omega arith,
     )
 
-begin_behind : (frames : ℕ) (cue : Cue) (later : List Cue) → AreInSequence 1 frames (cue ∷ later) → BeginFrom cue.show later
+pub begin_behind : (frames : ℕ) (cue : Cue) (later : List Cue) → AreInSequence 1 frames (cue ∷ later) → BeginFrom cue.show later
 begin_behind frames cue [] sequence = tt
 begin_behind frames cue (next ∷ later) sequence =
     let behind : cue.show ≤ next.load = sequence.1.loaded in
@@ -102,12 +104,12 @@ begin_behind frames cue (next ∷ later) sequence =
     (λ plain. behind, omega arith)
 
 -- and after it
-after_it : (frames : ℕ) (cue : Cue) (later earlier : List Cue) → AreInSequence 1 frames (cue ∷ later) → AreBehind (cue ∷ earlier) later
+pub after_it : (frames : ℕ) (cue : Cue) (later earlier : List Cue) → AreInSequence 1 frames (cue ∷ later) → AreBehind (cue ∷ earlier) later
 after_it frames cue [] earlier sequence = tt
 after_it frames cue (next ∷ later) earlier sequence = sequence.1
 
 -- cues in sequence: at each settled frame the screen has what they show
-cues_shown : (in_field : FieldNumber) (t : Timeline) (frames a from : ℕ) (hide : Option ℕ) (g : Grid) (cues earlier : List Cue)
+pub cues_shown : (in_field : FieldNumber) (t : Timeline) (frames a from : ℕ) (hide : Option ℕ) (g : Grid) (cues earlier : List Cue)
     → AllByRecursion IsCaption cues → AreInSequence 1 frames cues → BeginFrom a cues → AreBehind earlier cues
     → Continues in_field t a hide cues → IsShown t a from hide g earlier → a ≤ suc from
     → (f : ℕ) → from ≤ f → AllByRecursion (IsSettledFor f) cues
@@ -118,8 +120,8 @@ cues_shown in_field t frames a from hide g (cue ∷ later) earlier captions sequ
     by_kind (is_pop cue.kind) refl
     (λ pop h. cues_shown in_field t frames (suc cue.show) cue.show cue.hide (shown_from cue.kind cue earlier) later (cue ∷ earlier) captions.1
     (rest_in_sequence 1 frames cue later sequence) (begin_behind_pop frames cue later pop captions.0.formed sequence) (after_it frames cue later earlier sequence)
-    (pop_continues in_field t frames a from hide g earlier cue later pop captions.0.formed sequence on is link low begin.1)
-    (pop_shown in_field t frames a from hide g earlier cue later pop captions.0.formed sequence on is link low begin.1)
+    (pop_continues in_field t frames a hide g earlier cue later pop captions.0.formed sequence on is.displayed (hidden_by hide g earlier (acts t a) cue later is.newest link) begin.1)
+    (pop_shown in_field t frames a hide g earlier cue later pop captions.0.formed sequence on is.displayed (hidden_by hide g earlier (acts t a) cue later is.newest link) begin.1)
     (omega arith) f h settled.1)
     (λ plain h. cues_shown in_field t frames cue.show cue.show cue.hide (shown_from cue.kind cue earlier) later (cue ∷ earlier) captions.1
     (rest_in_sequence 1 frames cue later sequence) (begin_behind frames cue later sequence) (after_it frames cue later earlier sequence)
@@ -133,7 +135,7 @@ cues_shown in_field t frames a from hide g (cue ∷ later) earlier captions sequ
         → (acts t (suc f)).displayed ≡ shown_of_newest f (shown_by f (newest_first later (cue ∷ earlier)))
     by_kind true pop popped screened =
         ⊎_elim
-        (λ (h : f < cue.show). pop_before in_field t frames a from hide g earlier cue later pop captions.0.formed sequence on is link low begin.1 f above h)
+        (λ (h : f < cue.show). pop_before in_field t frames a hide g earlier cue later pop captions.0.formed sequence on is.displayed (hidden_by hide g earlier (acts t a) cue later is.newest link) begin.1 from is.on low f above h)
         (popped pop)
         (cases_lt f cue.show)
     by_kind false plain popped screened =
@@ -144,7 +146,7 @@ cues_shown in_field t frames a from hide g (cue ∷ later) earlier captions sequ
         (cases_lt f cue.show)
 
 -- the cues on a channel are captions
-captions_are : (channel : Chan) (cues : List Cue) → All IsCueFormed cues → All IsCaption (cues_on channel cues)
+pub captions_are : (channel : Chan) (cues : List Cue) → All IsCueFormed cues → All IsCaption (cues_on channel cues)
 captions_are channel cues formed k d within = record {
   line21 = line21_on channel _ (cues_on_are_on channel cues k d within);
   formed = cues_on_formed channel cues formed k d within;
@@ -157,43 +159,43 @@ authored_is channel cues f =
     (newest_first-reverse (cues_on channel cues) [] ∙ append-nil (reverse (cues_on channel cues)))
 
 -- the timeline of a channel begins with its cues
-begins : (channel : Chan) (cues : List Cue) (placed : List ℕ) → IsChannelPlaced channel cues placed
+pub begins : (channel : Chan) (cues : List Cue) (placed : List ℕ) → IsPlaced (lane (channel_events channel cues)) [] (channel_pieces channel cues) placed
     → Continues (field_of_channel channel) (lane_timeline (channel_events channel cues) (channel_pieces channel cues) placed) 0 None (cues_on channel cues)
-begins channel cues placed earliest = record {
+begins channel cues placed stand = record {
   pieces = channel_pieces channel cues;
   frames = placed;
   are = pieces_are channel 1 cues;
-  placed = placed_from (channel_events channel cues) [] 0 (channel_pieces channel cues) placed (omega arith) earliest.placed;
+  placed = placed_from (channel_events channel cues) [] 0 (channel_pieces channel cues) placed (omega arith) stand;
   same = λ n above. refl;
 }
 
 -- at first the screen is empty
-empty_first : (t : Timeline) → IsShown t 0 0 None empty_grid []
+pub empty_first : (t : Timeline) → IsShown t 0 0 None empty_grid []
 empty_first t = record { displayed = refl; newest = (refl, refl); on = λ f above. refl }
 
 -- and any cues may begin
-any_begin : (cues : List Cue) → BeginFrom 0 cues
+pub any_begin : (cues : List Cue) → BeginFrom 0 cues
 any_begin [] = tt
 any_begin (cue ∷ later) = (λ plain. omega arith, omega arith)
 
 -- each is a cue of line 21
-lines_are : (cues : List Cue) → AllByRecursion IsCaption cues → AllByRecursion (λ (cue : Cue). is_line21 cue.kind ≡ true) cues
+pub lines_are : (cues : List Cue) → AllByRecursion IsCaption cues → AllByRecursion (λ (cue : Cue). is_line21 cue.kind ≡ true) cues
 lines_are [] captions = tt
 lines_are (cue ∷ cues) captions = (captions.0.line21, lines_are cues captions.1)
 
 -- the cues of a channel that are in sequence and placed, at a slot that is settled
-channel_shown : (slots : ℕ) (channel : Chan) (cues : List Cue) (placed : List ℕ) → All IsCueFormed cues → AreInSlots slots (cues_on channel cues)
-    → IsChannelPlaced channel cues placed → (k : ℕ) → AllByRecursion (IsSettledFor k) (cues_on channel cues)
+pub channel_shown : (slots : ℕ) (channel : Chan) (cues : List Cue) (placed : List ℕ) → All IsCueFormed cues → AreInSlots slots (cues_on channel cues)
+    → IsPlaced (lane (channel_events channel cues)) [] (channel_pieces channel cues) placed → (k : ℕ) → AllByRecursion (IsSettledFor k) (cues_on channel cues)
     → (acts (lane_timeline (channel_events channel cues) (channel_pieces channel cues) placed) (suc k)).displayed ≡ authored_grid channel cues k
-channel_shown slots channel cues placed formed sequence earliest k settled =
+channel_shown slots channel cues placed formed sequence stands_so k settled =
     let t = lane_timeline (channel_events channel cues) (channel_pieces channel cues) placed in
     let captions = recursion_from_All IsCaption (cues_on channel cues) (captions_are channel cues formed) in
-    let stand = placed_from (channel_events channel cues) [] 0 (channel_pieces channel cues) placed (omega arith) earliest.placed in
+    let stand = placed_from (channel_events channel cues) [] 0 (channel_pieces channel cues) placed (omega arith) stands_so in
     let loaded = cues_loaded (cues_on channel cues) (channel_pieces channel cues) (lines_are (cues_on channel cues) captions) (pieces_are channel 1 cues)
     (all_have_time (channel_events channel cues) 0 (channel_pieces channel cues) placed stand) in
     cues_shown (field_of_channel channel) t slots 0 0 None empty_grid (cues_on channel cues) []
     captions (in_sequence slots (cues_on channel cues) sequence loaded) (any_begin (cues_on channel cues)) tt
-    (begins channel cues placed earliest) (empty_first t) (omega arith) k (omega arith) settled
+    (begins channel cues placed stands_so) (empty_first t) (omega arith) k (omega arith) settled
     ∙ authored_is channel cues k
 
 -- a channel of a placed list that keeps the rules, behind the slots that have come by a settled frame
@@ -203,12 +205,12 @@ slots_shown : (list : Listing) (channel : Chan) (placed : List ℕ) → IsFormed
 slots_shown list channel placed formed ruled earliest f zero come settled =
     sym (grid_before_slots (cadence_of list.rate channel) f come channel list.cues (ruled.on_slots channel))
 slots_shown list channel placed formed ruled earliest f (suc k) come settled =
-    channel_shown (slots_in_list list channel) channel (slot_cues list channel) placed (slot_cues_formed list formed channel) (slot_sequence list ruled channel) earliest k
+    channel_shown (slots_in_list list channel) channel (slot_cues list channel) placed (slot_cues_formed list formed channel) (slot_sequence list ruled channel) earliest.placed k
     (settled_in_slots (cadence_of list.rate channel) f k come channel list.cues (ruled.on_slots channel) settled)
     ∙ grid_in_slots (cadence_of list.rate channel) f k come channel list.cues (ruled.on_slots channel)
 
 -- the pairs of the first slots, the newest first
-newest_pairs : (t : Timeline) (n : ℕ) → reverse (column t n) ≡ pairs_before (slot t) n
+pub newest_pairs : (t : Timeline) (n : ℕ) → reverse (column t n) ≡ pairs_before (slot t) n
 newest_pairs t zero = refl
 newest_pairs t (suc n) = reverse-append (column t n) (slot t n ∷ []) ∙ ap (λ (pairs : List Pair). slot t n ∷ pairs) (newest_pairs t n)
 

@@ -84,7 +84,7 @@ nothing_sent [] none = refl
 nothing_sent (sent ∷ more) none = absurd cc
 
 -- behind so many packets the last one has this number
-abbrev IsLast : ℕ → Option ℕ → Type 0
+abbrev pub IsLast : ℕ → Option ℕ → Type 0
 IsLast count None = Unit {0}
 IsLast count (Some last) = (last + 1) % 4 ≡ count % 4
 
@@ -101,7 +101,7 @@ pub record IsChannel (last : Option ℕ) (says : List BlockPart) (triplets : Lis
   pub says_are : said last packets blocks ≡ says
 
 -- a packet in front
-with_packet : (last : Option ℕ) (count : ℕ) (sent : List Sent) (bytes : List ℕ) (says : List BlockPart) (rest : List Triplet) → IsLast count last
+pub with_packet : (last : Option ℕ) (count : ℕ) (sent : List Sent) (bytes : List ℕ) (says : List BlockPart) (rest : List Triplet) → IsLast count last
     → bytes ≡ sent_bytes sent → All IsSent sent → 1 ≤ length bytes → length bytes ≤ 35 → IsChannel (Some (count % 4)) says rest
     → IsChannel last (parts_sent sent ++ says) (packet_written (count % 4) bytes ++ rest)
 with_packet last count sent bytes says rest behind is all some few channel =
@@ -133,7 +133,7 @@ with_frame last count (byte ∷ bytes) sent says rest behind is all few channel 
     with_packet last count sent (byte ∷ bytes) says rest behind is all (omega arith) few (channel (Some (count % 4)) (omega arith))
 
 -- the triplets of channel packets are their own
-channel_twice : (triplets : List Triplet) → channel_triplets (channel_triplets triplets) ≡ channel_triplets triplets
+pub channel_twice : (triplets : List Triplet) → channel_triplets (channel_triplets triplets) ≡ channel_triplets triplets
 channel_twice [] = refl
 channel_twice (t ∷ triplets) = at (starts t || continues_packet t) refl (channel_twice triplets)
   where
@@ -158,7 +158,7 @@ module _ (rate : Rate) (columns : Columns) (has : (frame : ℕ) → HasBlocks co
       ∙ ap (λ l. l ++ channel_triplets (file_triplets (column_packets rate columns (suc frame) n))) (own frame)
 
   -- the frames from one on
-  channel_from : (frame n : ℕ) (last : Option ℕ) → IsLast (packets_before columns frame) last
+  pub channel_from : (frame n : ℕ) (last : Option ℕ) → IsLast (packets_before columns frame) last
       → IsChannel last (parts_from frame n) (channel_triplets (file_triplets (column_packets rate columns frame n)))
   channel_from frame zero last behind = record {
     packets = [];

@@ -6,7 +6,8 @@ use Rattle.std.proofs.lemmas.Grind.{flat_map-append}
 use Rattle.cue_lists.specs.Listing.{IsFormed, Listing, share_of}
 use Rattle.cue_lists.specs.Rules.{IsRuled}
 use Rattle.cue_lists.specs.declared.lane.Lane.TheVariants.{Service}
-use Rattle.frame_scheduler.specs.Planned.{IsListPlaced, Placement, columns_of, service_bytes, services}
+use Rattle.frame_scheduler.specs.Planned.{Placement, columns_of, service_bytes, services}
+use Rattle.services_carried.specs.PlacedServices.{AreServicesPlaced}
 use Rattle.frame_scheduler.proofs.ServicesLemmas.{share_is, unshared}
 use Rattle.services_carried.specs.ServicesCarried.{Sent}
 use Rattle.services_carried.specs.Told.{HighAreUnshared, ServicesAreTold, sent_to}
@@ -57,12 +58,12 @@ low_sent_to own (suc (suc (suc (suc (suc zero))))) least most = append-nil (own 
 low_sent_to own (suc (suc (suc (suc (suc (suc zero)))))) least most = append-nil (own 6)
 low_sent_to own (suc (suc (suc (suc (suc (suc (suc n))))))) least most = absurd (omega arith)
 
-module _ (l : Listing) (placed : Placement) (formed : IsFormed l) (ruled : IsRuled l) (all : IsListPlaced l placed) where
+module _ (l : Listing) (placed : Placement) (formed : IsFormed l) (ruled : IsRuled l) (all : AreServicesPlaced l placed) where
   abbrev own : ℕ → ℕ → List ℕ
   own frame service = service_bytes l service (placed (Service service)) frame
 
   -- what a service is sent in a frame is what its lane has there
-  lane_sent : (service frame : ℕ) → sent_to service (has_blocks l placed formed ruled all frame).sent ≡ own frame service
+  pub lane_sent : (service frame : ℕ) → sent_to service (has_blocks l placed formed ruled all frame).sent ≡ own frame service
   lane_sent service frame =
       ap (sent_to service) (blocks_sent l placed formed ruled all frame) ∙ all_sent_to service (own frame) services ∙ at (share_of l service) refl
     where

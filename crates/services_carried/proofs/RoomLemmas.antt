@@ -21,7 +21,8 @@ use Rattle.services_carried.specs.ServicesCarried.{HasBlocks, IsSent, Sent, sent
 use Rattle.services_carried.specs.Told.{UnsharedAreSilent}
 use Rattle.service_lanes.proofs.PlaceLemmas.{within_share}
 use Rattle.frame_scheduler.specs.Blocks.{service_block}
-use Rattle.frame_scheduler.specs.Planned.{IsListPlaced, Placement, captions_in, channel_pair, chunks_in, columns_of, frame_blocks, service_bytes, services, share_in}
+use Rattle.frame_scheduler.specs.Planned.{Placement, captions_in, channel_pair, chunks_in, columns_of, frame_blocks, service_bytes, services, share_in}
+use Rattle.services_carried.specs.PlacedServices.{AreServicesPlaced}
 use Rattle.frame_scheduler.proofs.PlanLemmas.{no_block, room_most, weight, weight_is, weights, weights_taken}
 use Rattle.frame_scheduler.proofs.ServicesLemmas.{share_is}
 use Rattle.line21_slots.specs.declared.cadence.Cadence.TheVariants.{EvenFrames, OddFrames}
@@ -48,13 +49,13 @@ block_length : (service : ℕ) (bytes : List ℕ) → service ≤ 6 → length (
 block_length service [] small = omega arith
 block_length service (byte ∷ bytes) small = let low : nat_lt service 7 ≡ true = grind (arith, nat_tests) in rw low (omega arith)
 
-module _ (l : Listing) (placed : Placement) (formed : IsFormed l) (ruled : IsRuled l) (all : IsListPlaced l placed) where
+module _ (l : Listing) (placed : Placement) (formed : IsFormed l) (ruled : IsRuled l) (all : AreServicesPlaced l placed) where
   -- the bytes of a service are within its share
   bytes_within : (service share frame : ℕ) → share_of l service ≡ Some share → length (service_bytes l service (placed (Service service)) frame) ≤ share
   bytes_within service share frame some =
       let own = share_is l formed ruled service share some in
       let is : share_in l service ≡ share = ap (λ o. unwrap_or o 0) some in
-      let within = within_share (share_in l service) (captions_in l service) (chunks_in l service) (placed (Service service)) (omega (arith, own.2, is)) (all (Service service)).placed frame in
+      let within = within_share (share_in l service) (captions_in l service) (chunks_in l service) (placed (Service service)) (omega (arith, own.2, is)) (all service).placed frame in
       omega (arith, within, is)
 
   -- so its block is
@@ -90,7 +91,7 @@ module _ (l : Listing) (placed : Placement) (formed : IsFormed l) (ruled : IsRul
       omega (arith, a, b, c, d, e, f, one, two, three, four, five, six, taken, weights_are, formed.shares.fits)
 
 -- a service's block is of bytes
-block_bytes : (l : Listing) (placed : Placement) → IsFormed l → IsRuled l → IsListPlaced l placed → (service frame : ℕ) → service ≤ 6
+block_bytes : (l : Listing) (placed : Placement) → IsFormed l → IsRuled l → AreServicesPlaced l placed → (service frame : ℕ) → service ≤ 6
     → All IsByte (service_block service (service_bytes l service (placed (Service service)) frame))
 block_bytes l placed formed ruled all service frame small = at (share_of l service) refl
   where
@@ -103,7 +104,7 @@ block_bytes l placed formed ruled all service frame small = at (share_of l servi
         (service_are_bytes l.rate service l.cues (placed (Service service)) frame formed.cues)
 
 -- all blocks of a frame are
-pub blocks_bytes : (l : Listing) (placed : Placement) → IsFormed l → IsRuled l → IsListPlaced l placed → (frame : ℕ) → All IsByte (frame_blocks l placed frame)
+pub blocks_bytes : (l : Listing) (placed : Placement) → IsFormed l → IsRuled l → AreServicesPlaced l placed → (frame : ℕ) → All IsByte (frame_blocks l placed frame)
 blocks_bytes l placed formed ruled all frame =
     let block = λ (service : ℕ). service_block service (service_bytes l service (placed (Service service)) frame) in
     let six = All-append IsByte (block 6) [] (block_bytes l placed formed ruled all 6 frame (omega arith)) (All-nil IsByte) in
@@ -164,7 +165,7 @@ roomy_rate rate.F50 is fields packet blocks few low most = absurd is
 roomy_rate rate.F5994 is fields packet blocks few low most = omega arith
 roomy_rate rate.F60 is fields packet blocks few low most = omega arith
 
-pub frames_roomy : (l : Listing) (placed : Placement) → IsFormed l → IsRuled l → IsListPlaced l placed → AreRoomy l.rate (columns_of l placed)
+pub frames_roomy : (l : Listing) (placed : Placement) → IsFormed l → IsRuled l → AreServicesPlaced l placed → AreRoomy l.rate (columns_of l placed)
 frames_roomy l placed formed ruled all frame =
     let packet = channel_packet_of (columns_of l placed) frame in
     let few = packet_few (packets_before (columns_of l placed) frame) (frame_blocks l placed frame) in
@@ -197,7 +198,7 @@ one_is service [] least most few = All-nil IsSent
 one_is service (byte ∷ bytes) least most few =
     All-cons IsSent (record { service = service; bytes = byte ∷ bytes }) [] (record { least = least; most = omega arith; some = omega arith; few = few }) (All-nil IsSent)
 
-module _ (l : Listing) (placed : Placement) (formed : IsFormed l) (ruled : IsRuled l) (all : IsListPlaced l placed) (frame : ℕ) where
+module _ (l : Listing) (placed : Placement) (formed : IsFormed l) (ruled : IsRuled l) (all : AreServicesPlaced l placed) (frame : ℕ) where
   abbrev own : ℕ → List ℕ
   own service = service_bytes l service (placed (Service service)) frame
 

@@ -36,7 +36,7 @@ bytes_told service other false is (byte ∷ bytes) =
     let rest = bytes_told service other false is bytes in
     rw is rest
 
-sent_told : (service : ℕ) (sent : List Sent) → events_of service (parts_sent sent) ≡ map Byte (sent_to service sent)
+pub sent_told : (service : ℕ) (sent : List Sent) → events_of service (parts_sent sent) ≡ map Byte (sent_to service sent)
 sent_told service [] = refl
 sent_told service (sent ∷ more) =
     let own : List ℕ = if sent.service == service then sent.bytes else [] in
@@ -53,7 +53,7 @@ take_packets rate columns frame (suc n) (suc k) below =
     ap (λ l. frame_packet rate frame (columns frame) (channel_packet_of columns frame) ∷ l) (take_packets rate columns (suc frame) n k (omega arith))
 
 -- one more of them at the end
-packets_more : (rate : Rate) (columns : Columns) (frame n last : ℕ) → last ≡ frame + n
+pub packets_more : (rate : Rate) (columns : Columns) (frame n last : ℕ) → last ≡ frame + n
     → column_packets rate columns frame (suc n) ≡ column_packets rate columns frame n ++ frame_packet rate last (columns last) (channel_packet_of columns last) ∷ []
 packets_more rate columns frame zero last is = let same : frame ≡ last = omega (arith, is) in ap (λ f. frame_packet rate f (columns f) (channel_packet_of columns f) ∷ []) same
 packets_more rate columns frame (suc n) last is =

@@ -1,2 +1,3 @@
+pub mod PlacedServices
 pub mod ServicesCarried
 pub mod Told

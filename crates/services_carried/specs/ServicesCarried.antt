@@ -7,7 +7,8 @@ use Rattle.cue_lists.specs.Shares.{share_room}
 use Rattle.service_blocks.specs.Written.{block_written}
 use Rattle.services_files.specs.CarriedChannel.{CarryChannel}
 use Rattle.frame_scheduler.specs.Columns.{Columns}
-use Rattle.frame_scheduler.specs.Planned.{IsListPlaced, Placement, columns_of}
+use Rattle.frame_scheduler.specs.Planned.{Placement, columns_of}
+use Rattle.services_carried.specs.PlacedServices.{AreServicesPlaced}
 use Rattle.frame_carrier.specs.Carried.{AreByteBlocks, AreCarried, AreRoomy}
 use Rattle.frame_carrier.specs.Carrying.{column_packets}
 
@@ -45,7 +46,7 @@ pub record HaveRoom (list : Listing) (placed : Placement) : Type 0 where
   pub blocks : (frame : ℕ) → HasBlocks (columns_of list placed) frame
 
 abbrev pub FramesHaveRoom : Type 0
-FramesHaveRoom = (list : Listing) (placed : Placement) → IsFormed list → IsRuled list → IsListPlaced list placed → HaveRoom list placed
+FramesHaveRoom = (list : Listing) (placed : Placement) → IsFormed list → IsRuled list → AreServicesPlaced list placed → HaveRoom list placed
 
 -- such columns that are carried carry a caption channel
 abbrev pub ProgrammesAreWhole : Type 0

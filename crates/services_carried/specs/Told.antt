@@ -13,7 +13,8 @@ use Rattle.dtvcc_screen.specs.Meaning.{Byte, Event, Tick}
 use Rattle.words_files.specs.Received.{received_pairs}
 use Rattle.services_files.specs.Events.{service_events}
 use Rattle.frame_scheduler.specs.Columns.{Columns}
-use Rattle.frame_scheduler.specs.Planned.{IsListPlaced, Placement, captions_in, chunks_in, columns_of, service_bytes}
+use Rattle.frame_scheduler.specs.Planned.{Placement, captions_in, chunks_in, columns_of, service_bytes}
+use Rattle.services_carried.specs.PlacedServices.{AreServicesPlaced}
 use Rattle.frame_carrier.specs.Carrying.{column_packets}
 use Rattle.services_carried.specs.ServicesCarried.{HasBlocks, Sent}
 
@@ -33,7 +34,7 @@ ColumnsAreTold = (rate : Rate) (columns : Columns) (n : ℕ) (has : (frame : ℕ
 
 -- in the first frames of a placed list each service is told the bytes of its lane
 abbrev pub ServicesAreTold : Type 0
-ServicesAreTold = (list : Listing) (placed : Placement) → IsFormed list → IsRuled list → IsListPlaced list placed → (service k : ℕ) → k ≤ list.frames
+ServicesAreTold = (list : Listing) (placed : Placement) → IsFormed list → IsRuled list → AreServicesPlaced list placed → (service k : ℕ) → k ≤ list.frames
     → service_events service (take k (column_packets list.rate (columns_of list placed) 0 list.frames))
     ≡ told list.rate (service_bytes list service (placed (Service service))) k
 

@@ -14,7 +14,8 @@ use Rattle.dtvcc_shown.proofs.CaptionLanesLemmas.{lane_bytes_are, lane_sound}
 use Rattle.dtvcc_shown.proofs.FrameLemmas.{after_append, buffer_keeps, fill_append}
 use Rattle.frame_carrier.specs.Carrying.{column_packets}
 use Rattle.frame_scheduler.specs.Columns.{Columns}
-use Rattle.frame_scheduler.specs.Planned.{IsListPlaced, Placement, captions_in, chunks_in, columns_of, service_bytes, share_in}
+use Rattle.frame_scheduler.specs.Planned.{Placement, captions_in, chunks_in, columns_of, service_bytes, share_in}
+use Rattle.services_carried.specs.PlacedServices.{AreServicesPlaced}
 use Rattle.service_lanes.proofs.CaptionsKept.{captions_kept}
 use Rattle.services_carried.specs.Told.{told}
 use Rattle.services_carried.proofs.LaneLemmas.{services_told}
@@ -37,7 +38,7 @@ told_fills lane (suc n) sound =
     (subst (λ (s : Served). AllFill 127 s (lane_frame_events lane n)) (sym (told_leads lane n)) (buffer_keeps lane sound n))
 
 -- a service is sent the bytes of its lane
-lane_told : (list : Listing) (placed : Placement) (service n : ℕ)
+pub lane_told : (list : Listing) (placed : Placement) (service n : ℕ)
     → told list.rate (service_bytes list service (placed (Service service))) n ≡ told list.rate (lane_frame_bytes (list_lane list service (placed (Service service)))) n
 lane_told list placed service n =
     told_same list.rate (service_bytes list service (placed (Service service))) (lane_frame_bytes (list_lane list service (placed (Service service))))
@@ -49,13 +50,13 @@ packets_count rate columns frame zero = refl
 packets_count rate columns frame (suc n) = ap suc (packets_count rate columns (suc frame) n)
 
 -- and in the first frames of a placed list it is told just those
-pub front_told : (list : Listing) (placed : Placement) (service k : ℕ) → IsFormed list → IsRuled list → IsListPlaced list placed → k ≤ list.frames
+pub front_told : (list : Listing) (placed : Placement) (service k : ℕ) → IsFormed list → IsRuled list → AreServicesPlaced list placed → k ≤ list.frames
     → service_events service (take k (column_packets list.rate (columns_of list placed) 0 list.frames))
     ≡ told list.rate (lane_frame_bytes (list_lane list service (placed (Service service)))) k
 front_told list placed service k formed ruled is below =
     services_told list placed formed ruled is service k below ∙ lane_told list placed service k
 
-pub whole_told : (list : Listing) (placed : Placement) (service : ℕ) → IsFormed list → IsRuled list → IsListPlaced list placed
+pub whole_told : (list : Listing) (placed : Placement) (service : ℕ) → IsFormed list → IsRuled list → AreServicesPlaced list placed
     → service_events service (column_packets list.rate (columns_of list placed) 0 list.frames)
     ≡ told list.rate (lane_frame_bytes (list_lane list service (placed (Service service)))) list.frames
 whole_told list placed service formed ruled is =
@@ -64,8 +65,8 @@ whole_told list placed service formed ruled is =
     ∙ front_told list placed service list.frames formed ruled is (omega arith)
 
 -- the lane of a service of a placed list is sound
-pub lane_is_sound : (list : Listing) (placed : Placement) (service : ℕ) → IsFormed list → IsRuled list → IsListPlaced list placed
+pub lane_is_sound : (list : Listing) (placed : Placement) (service : ℕ) → IsFormed list → IsRuled list → AreServicesPlaced list placed
     → IsSoundLane (list_lane list service (placed (Service service)))
 lane_is_sound list placed service formed ruled is =
     lane_sound list.rate (share_in list service) service list.frames list.cues (placed (Service service)) formed.cues
-    (captions_kept list service formed ruled) (is (Service service)).placed
+    (captions_kept list service formed ruled) (is service).placed

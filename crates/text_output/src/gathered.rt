@@ -139,6 +139,13 @@ impl Gathered {
         self.write(Buffer::new().format(number).as_bytes(), out);
     }
 
+    /// Writes a long number.
+    pub fn write_long<O: Sink>(&mut self, number: u64, out: &mut O)
+        ensures { Writes (page self.old (O.written out.old) (O.faults out.old)) (page self.new (O.written out.new) (O.faults out.new)) (decimal number) }
+    {
+        self.write(Buffer::new().format(number).as_bytes(), out);
+    }
+
     /// Writes a character in UTF-8.
     pub fn write_character<O: Sink>(&mut self, ch: char, out: &mut O)
         ensures { Writes (page self.old (O.written out.old) (O.faults out.old)) (page self.new (O.written out.new) (O.faults out.new)) (encode_utf8 ch) }

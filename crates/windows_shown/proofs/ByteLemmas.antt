@@ -43,7 +43,7 @@ events_act frame gs s =
     (windows_byte (names (is_hidden_at frame) (captions gs))) (windows_byte (names (is_shown_at frame) (captions gs))) s
 
 -- what a delay puts off
-delay_acts : (found : Option Caption) (s : ScreenState) → acted_on (shows_bytes (option_map caption_delay found)) s ≡ delay_shows found s
+pub delay_acts : (found : Option Caption) (s : ScreenState) → acted_on (shows_bytes (option_map caption_delay found)) s ≡ delay_shows found s
 unfolding written
 delay_acts None s = refl
 delay_acts (Some c) s = dsw_acts (windows_byte (λ id. c.id == id)) s

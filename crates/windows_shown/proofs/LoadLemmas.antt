@@ -25,14 +25,14 @@ text_up_to frame last (u ∷ us) all less =
     let other : (u.1 == frame) ≡ false = grind (arith, nat_tests) in
     ap (λ (b : Bool). b || is_text_at frame us) other ∙ text_up_to frame last us all.1 less
 
-text_from : (frame : ℕ) (g : CaptionLoad) (us : List (Command × ℕ)) → AllByRecursion (IsTextOf g) us → frame < g.first → is_text_at frame us ≡ false
+pub text_from : (frame : ℕ) (g : CaptionLoad) (us : List (Command × ℕ)) → AllByRecursion (IsTextOf g) us → frame < g.first → is_text_at frame us ≡ false
 text_from frame g [] all less = refl
 text_from frame g (u ∷ us) all less =
     let first = all.0.behind in
     let other : (u.1 == frame) ≡ false = grind (arith, nat_tests) in
     ap (λ (b : Bool). b || is_text_at frame us) other ∙ text_from frame g us all.1 less
 
-text_behind : (frame : ℕ) (g : CaptionLoad) (us : List (Command × ℕ)) → AllByRecursion (IsTextOf g) us → is_text_at frame us ≡ true
+pub text_behind : (frame : ℕ) (g : CaptionLoad) (us : List (Command × ℕ)) → AllByRecursion (IsTextOf g) us → is_text_at frame us ≡ true
     → (g.first ≤ frame) × Unfinished frame us
 text_behind frame g [] all some = cc
 text_behind frame g (u ∷ us) all some = at (u.1 == frame) refl some (text_behind frame g us all.1)
@@ -84,7 +84,7 @@ own_acts frame g s is current =
     current less behind.1)
 
 -- captions that come later than a frame
-later_idle : (frame : ℕ) (gs : List CaptionLoad) (s : ScreenState) → AreInOrder gs → AllByRecursion (λ (h : CaptionLoad). frame < h.first) gs
+pub later_idle : (frame : ℕ) (gs : List CaptionLoad) (s : ScreenState) → AreInOrder gs → AllByRecursion (λ (h : CaptionLoad). frame < h.first) gs
     → loads_act frame gs s ≡ s
 later_idle frame [] s order late = refl
 later_idle frame (h ∷ gs) s order late =
@@ -92,7 +92,7 @@ later_idle frame (h ∷ gs) s order late =
     let acts = own_acts frame h s order.0 (λ less un. absurd (omega arith)) in
     ap (loads_act frame gs) (acts.idle (none_before frame h order.0 low)) ∙ later_idle frame gs s order.2 late.1
 
-all_later : (frame : ℕ) (g : CaptionLoad) (gs : List CaptionLoad) → AllByRecursion (IsBefore g) gs → Unfinished (suc frame) g.text
+pub all_later : (frame : ℕ) (g : CaptionLoad) (gs : List CaptionLoad) → AllByRecursion (IsBefore g) gs → Unfinished (suc frame) g.text
     → AllByRecursion (λ (h : CaptionLoad). frame < h.first) gs
 all_later frame g [] all un = tt
 all_later frame g (h ∷ gs) all un =

@@ -29,7 +29,7 @@ edits_hidden test (u ∷ us) w hidden =
     at true None is = refl
     at true (Some x) is = edit_hidden u.0 x is
 
-loading_hidden : (test : ℕ → Bool) (g : CaptionLoad) → IsOrdered g → shown (own_edits test g None) ≡ None
+pub loading_hidden : (test : ℕ → Bool) (g : CaptionLoad) → IsOrdered g → shown (own_edits test g None) ≡ None
 loading_hidden test g is =
     edits_hidden test g.text (if test g.first then Some (defined g.definition None) else None) (at (test g.first))
   where
@@ -73,27 +73,27 @@ is_delaying frame (g ∷ gs) = at (one (cases_lt 0 g.caption.tenths) (cases_lt g
         nowhere h (inr among) on = none h among on
 
 -- the caption has its window before a frame: it has been loaded before, and is hidden in it or later
-abbrev has_window : ℕ → Caption → Bool
+abbrev pub has_window : ℕ → Caption → Bool
 has_window frame c = nat_lt c.load frame && nat_lt frame (suc c.hide)
 
 -- the same behind the frame's events
-abbrev keeps_window : ℕ → Caption → Bool
+abbrev pub keeps_window : ℕ → Caption → Bool
 keeps_window frame c = nat_lt c.load frame && nat_lt frame c.hide
 
-has_says : (frame : ℕ) (c : Caption) → has_window frame c ≡ true → (c.load < frame) × (frame ≤ c.hide)
+pub has_says : (frame : ℕ) (c : Caption) → has_window frame c ≡ true → (c.load < frame) × (frame ≤ c.hide)
 has_says frame c test = (grind (arith, nat_tests), grind (arith, nat_tests))
 
-has_holds : (frame : ℕ) (c : Caption) → c.load < frame → frame ≤ c.hide → has_window frame c ≡ true
+pub has_holds : (frame : ℕ) (c : Caption) → c.load < frame → frame ≤ c.hide → has_window frame c ≡ true
 has_holds frame c from to = grind (arith, nat_tests)
 
-keeps_says : (frame : ℕ) (c : Caption) → keeps_window frame c ≡ true → (c.load < frame) × (frame < c.hide)
+pub keeps_says : (frame : ℕ) (c : Caption) → keeps_window frame c ≡ true → (c.load < frame) × (frame < c.hide)
 keeps_says frame c test = (grind (arith, nat_tests), grind (arith, nat_tests))
 
-keeps_holds : (frame : ℕ) (c : Caption) → c.load < frame → frame < c.hide → keeps_window frame c ≡ true
+pub keeps_holds : (frame : ℕ) (c : Caption) → c.load < frame → frame < c.hide → keeps_window frame c ≡ true
 keeps_holds frame c from to = grind (arith, nat_tests)
 
 -- a number is 0, or more
-none_or_some : (n : ℕ) → (n ≡ 0) ⊎ (0 < n)
+pub none_or_some : (n : ℕ) → (n ≡ 0) ⊎ (0 < n)
 none_or_some zero = inl refl
 none_or_some (suc n) = inr (omega arith)
 

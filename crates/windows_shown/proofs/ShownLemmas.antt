@@ -36,7 +36,7 @@ use Rattle.windows_shown.proofs.SeenLemmas.{Delaying, IsDelaying, IsSeen, is_del
 use Rattle.windows_shown.proofs.WindowLemmas.{opening, screen_at}
 
 -- a caption of the list has what loads it
-load_of : (gs : List CaptionLoad) (c : Caption) → Has c (captions gs) → (g : CaptionLoad) × Among g gs × (g.caption ≡ c)
+pub load_of : (gs : List CaptionLoad) (c : Caption) → Has c (captions gs) → (g : CaptionLoad) × Among g gs × (g.caption ≡ c)
 load_of [] c has = absurd has
 load_of (g ∷ gs) c (inl same) = (g, inl refl, sym same)
 load_of (g ∷ gs) c (inr has) = let rest = load_of gs c has in (rest.0, inr rest.1, rest.2)

@@ -14,7 +14,7 @@ use Rattle.dtvcc_screen.specs.Screens.{ScreenState, on_current, on_window}
 use Rattle.windows_shown.proofs.CaptionLoads.{edits, in_frame, is_text_at, text_acts}
 
 -- a command of text goes to the current window
-text_goes : (command : Command) (s : ScreenState) → is_text command ≡ true → on_screen command s ≡ on_current (edited_by command) s
+pub text_goes : (command : Command) (s : ScreenState) → is_text command ≡ true → on_screen command s ≡ on_current (edited_by command) s
 text_goes (Put ch) s is = refl
 text_goes Bs s is = refl
 text_goes Ff s is = refl
@@ -78,7 +78,7 @@ acts frame id (u ∷ us) s texts current =
     }
 
 -- where no text stands in the frame
-idle_text : (frame : ℕ) (us : List (Command × ℕ)) (s : ScreenState) → is_text_at frame us ≡ false → text_acts frame us s ≡ s
+pub idle_text : (frame : ℕ) (us : List (Command × ℕ)) (s : ScreenState) → is_text_at frame us ≡ false → text_acts frame us s ≡ s
 idle_text frame [] s none = refl
 idle_text frame (u ∷ us) s none = at (u.1 == frame) none (λ rest. idle_text frame us s rest)
   where

@@ -53,11 +53,11 @@ pub record IsOpened (gs : List CaptionLoad) (id frame : ℕ) (w : Option WindowS
 
 module _ (rate : Rate) (frames : ℕ) (gs : List CaptionLoad) (kept : AreKept rate frames (captions gs)) (order : AreInOrder gs) where
   -- two captions of one window
-  apart : (g h : CaptionLoad) (id : ℕ) → Among g gs → Among h gs → g.caption.id ≡ id → h.caption.id ≡ id → Order g h
+  pub apart : (g h : CaptionLoad) (id : ℕ) → Among g gs → Among h gs → g.caption.id ≡ id → h.caption.id ≡ id → Order g h
   apart g h id in_g in_h is too = ordered rate frames gs g h kept in_g in_h (is ∙ sym too)
 
   -- from behind its LOAD up to its HIDE, which is left out, no caption of a caption's window is hidden
-  not_hidden : (id frame : ℕ) (g : CaptionLoad) → Among g gs → g.caption.id ≡ id → g.caption.load < frame → frame < g.caption.hide
+  pub not_hidden : (id frame : ℕ) (g : CaptionLoad) → Among g gs → g.caption.id ≡ id → g.caption.load < frame → frame < g.caption.hide
       → names (is_hidden_at frame) (captions gs) id ≡ false
   not_hidden id frame g among window from to =
       names_none (is_hidden_at frame) gs id
@@ -87,13 +87,13 @@ module _ (rate : Rate) (frames : ℕ) (gs : List CaptionLoad) (kept : AreKept ra
           let hidden = sound.hidden in
           omega arith
 
-  none_shown : (id frame : ℕ) (g : CaptionLoad) → Among g gs → g.caption.id ≡ id → g.caption.load ≤ frame → frame < g.caption.hide
+  pub none_shown : (id frame : ℕ) (g : CaptionLoad) → Among g gs → g.caption.id ≡ id → g.caption.load ≤ frame → frame < g.caption.hide
       → frame ≢ g.caption.starts → names (is_shown_at frame) (captions gs) id ≡ false
   none_shown id frame g among window from to other =
       names_none (is_shown_at frame) gs id
       (λ h in_h holds its. not_started id frame g h among in_h window its from to other (shown_says frame h.caption holds).1)
 
-  none_delayed : (id frame : ℕ) (g : CaptionLoad) → Among g gs → g.caption.id ≡ id → g.caption.load ≤ frame → frame < g.caption.hide
+  pub none_delayed : (id frame : ℕ) (g : CaptionLoad) → Among g gs → g.caption.id ≡ id → g.caption.load ≤ frame → frame < g.caption.hide
       → frame ≢ g.caption.starts → delay_names (delayed_at frame (captions gs)) id ≡ false
   none_delayed id frame g among window from to other = at (delay_names (delayed_at frame (captions gs)) id) refl
     where
@@ -104,7 +104,7 @@ module _ (rate : Rate) (frames : ℕ) (gs : List CaptionLoad) (kept : AreKept ra
           absurd (not_started id frame g named.load among named.among window named.window from to other (delay_says frame named.load.caption named.holds).1)
 
   -- what shows a caption is sent at once, or behind its delay
-  is_started : (id : ℕ) (g : CaptionLoad) → Among g gs → g.caption.id ≡ id
+  pub is_started : (id : ℕ) (g : CaptionLoad) → Among g gs → g.caption.id ≡ id
       → (names (is_shown_at g.caption.starts) (captions gs) id || delay_names (delayed_at g.caption.starts (captions gs)) id) ≡ true
   is_started id g among window = at g.caption.tenths refl
     where
@@ -306,7 +306,7 @@ module _ (rate : Rate) (frames : ℕ) (gs : List CaptionLoad) (kept : AreKept ra
     window_opened = record { loading = open_loading; showing = open_showing; none = open_none }
 
   -- what a frame does to each window
-  opening_windows : (frame id : ℕ) (s : ScreenState) → id < 8 → (opening frame gs s).windows id
+  pub opening_windows : (frame id : ℕ) (s : ScreenState) → id < 8 → (opening frame gs s).windows id
       ≡ if_shown (names (is_shown_at frame) (captions gs) id) (if_hidden (names (is_hidden_at frame) (captions gs) id) (s.windows id))
   opening_windows frame id s small =
       shown_windows (is_shown_at frame) (captions gs) (acted_by (windows_command Dlw (is_hidden_at frame) (captions gs)) s) id small
@@ -318,7 +318,7 @@ module _ (rate : Rate) (frames : ℕ) (gs : List CaptionLoad) (kept : AreKept ra
     current : IsCurrent frame gs (screen_at gs frame)
 
   -- text that comes no earlier than a frame comes before what shows its caption
-  unfinished_ends : (g : CaptionLoad) (frame : ℕ) → IsOrdered g → Unfinished frame g.text → frame < g.caption.starts
+  pub unfinished_ends : (g : CaptionLoad) (frame : ℕ) → IsOrdered g → Unfinished frame g.text → frame < g.caption.starts
   unfinished_ends g frame is un = at g.text is.texts un
     where
       at : (us : List (Command × ℕ)) → AllByRecursion (IsTextOf g) us → Unfinished frame us → frame < g.caption.starts

@@ -98,6 +98,22 @@ impl Model for PlacedLane {
 }
 
 impl PlacedLane {
+    ghost use Rattle.frame_scheduler.specs.LaneCursor.{IsReady};
+    ghost use Rattle.std.specs.Prelude.{None};
+
+    /// A lane of units in their slots and of events, at slot 0.
+    pub fn of(units: Vec<PlacedUnit>, events: Vec<Event>) -> PlacedLane
+        requires { IsReady (placed_timeline events.items units.items) events.items units.items
+            (record { slot = 0; next_unit = 0; next_event = 0; repeat = None }) }
+        ensures { result ≡ record { units = units.items; events = events.items; slot = 0 } }
+    {
+        PlacedLane {
+            units,
+            events,
+            cursor: Cursor::start(),
+        }
+    }
+
     /// The pair of the next slot, in order from slot 0.
     pub fn next(&mut self) -> Pair
         requires { self.old.slot + 1 < 2 ^ 32 }

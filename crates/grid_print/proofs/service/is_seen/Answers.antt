@@ -3,9 +3,9 @@ use Rattle.dtvcc_windows.specs.Showing.{shown}
 use Rattle.grid_print.proofs.service.is_seen.Goals as goal
 
 pub returns-in-Some : goal.returns-in-Some
-returns-in-Some c frames behind =
-    c.is_shown.ensures ∙ ap (λ w. is_some (shown w)) (c.in-Some.ensures.received behind.bytes frames behind.received behind.frames_are)
+returns-in-Some g c are behind =
+    c.is_shown.ensures ∙ ap is_some (sym (c.in-Some.ensures.seen are behind))
 
 pub returns-in-None : goal.returns-in-None
-returns-in-None c frames behind =
-    ap (λ w. is_some (shown w)) (sym (c.in-None.ensures.received behind.bytes frames behind.received behind.frames_are))
+returns-in-None g c are behind =
+    ap is_some (sym (c.in-None.ensures.seen are behind))

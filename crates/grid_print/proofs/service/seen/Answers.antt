@@ -4,14 +4,14 @@ use Rattle.grid_print.proofs.KeptLemmas.{none_where_unseen}
 use Rattle.grid_print.proofs.service.seen.Goals as goal
 
 pub returns-then-is_shown-clause-seen : goal.returns-then-is_shown-clause-seen
-returns-then-is_shown-clause-seen c frames behind =
-    ap shown (sym (c.in-Some.ensures.received behind.bytes frames behind.received behind.frames_are))
+returns-then-is_shown-clause-seen g c are behind =
+    c.in-Some.ensures.seen are behind
 
 pub returns-else-is_shown-clause-seen : goal.returns-else-is_shown-clause-seen
-returns-else-is_shown-clause-seen c frames behind =
-    ap shown (sym (c.in-Some.ensures.received behind.bytes frames behind.received behind.frames_are))
+returns-else-is_shown-clause-seen g c are behind =
+    c.in-Some.ensures.seen are behind
     ∙ none_where_unseen c.in-Some.window.now (sym c.is_shown.ensures ∙ c.if-is_shown.false)
 
 pub returns-in-None-clause-seen : goal.returns-in-None-clause-seen
-returns-in-None-clause-seen c frames behind =
-    ap shown (c.in-None.ensures.received behind.bytes frames behind.received behind.frames_are)
+returns-in-None-clause-seen g c are behind =
+    c.in-None.ensures.seen are behind

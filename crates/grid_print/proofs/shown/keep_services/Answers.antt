@@ -1,21 +1,20 @@
 use Rattle.std.proofs.Common.{◌≡◌, get_or, arith, refl, subst}
 use Rattle.std.proofs.lemmas.Grind.{common_steps}
-use Rattle.cc_receiver.specs.ReceivedServices.{received_windows}
 use Rattle.grid_print.specs.Kept.{HasKept, KeepsServices}
 use Rattle.grid_print.proofs.KeptLemmas.{services_more, services_none}
 use Rattle.grid_print.proofs.shown.keep_services.Goals as goal
 
 pub loop-place-init : goal.loop-place-init
-loop-place-init c frames behind = services_none (received_windows frames) c.args.services.now
+loop-place-init g c are behind = services_none (are) c.args.services.now
 
 pub loop-place-preserved : goal.loop-place-preserved
-loop-place-preserved c frames behind =
-    services_more (received_windows frames) c.loop-place.place c.args.services.now c.loop-place.services c.keep-differs.new.self c.index-services-place.result
-    c.loop-place.changed c.keep-differs.result _ (c.loop-place.invariant frames behind) (grind (arith, common_steps))
-    (subst (λ n. HasKept (received_windows frames n) (get_or c.loop-place.services c.loop-place.place c.index-services-place.result) c.keep-differs.new.self) c.service_at.ensures.number (c.keep-differs.ensures.kept frames behind))
+loop-place-preserved g c are behind =
+    services_more (are) c.loop-place.place c.args.services.now c.loop-place.services c.keep-differs.new.self c.index-services-place.result
+    c.loop-place.changed c.keep-differs.result _ (c.loop-place.invariant are behind) (grind (arith, common_steps))
+    (subst (λ n. HasKept (are n) (get_or c.loop-place.services c.loop-place.place c.index-services-place.result) c.keep-differs.new.self) c.service_at.ensures.number (c.keep-differs.ensures.kept are behind))
     c.keep-differs.ensures.told refl
 
 pub returns : goal.returns
-returns c frames behind =
+returns g c are behind =
     let all : c.loop-place.place ≡ 63 = grind (arith, common_steps) in
-    subst (λ n. KeepsServices (received_windows frames) n c.args.services.now c.loop-place.services c.loop-place.changed) all (c.loop-place.invariant frames behind)
+    subst (λ n. KeepsServices (are) n c.args.services.now c.loop-place.services c.loop-place.changed) all (c.loop-place.invariant are behind)

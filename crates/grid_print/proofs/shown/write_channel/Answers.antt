@@ -1,5 +1,4 @@
 use Rattle.std.proofs.Common.{◌∙◌, sym, ap}
-use Rattle.cc_receiver.specs.Receivers.{displayed_grid}
 use Rattle.line21_screen.specs.Differences.{grid_differs}
 use Rattle.line21_screen.specs.Objects.{grid_in}
 use Rattle.text_output.proofs.PageLemmas.{writes_none, writes_same}
@@ -9,7 +8,7 @@ use Rattle.grid_print.proofs.shown.write_channel.Goals as goal
 
 pub returns-then-differs-clause-text : goal.returns-then-differs-clause-text
 returns-then-differs-clause-text g c =
-    let grid = displayed_grid c.args.r.now c.args.chan in
+    let grid = g.G.Grids.grids c.args.r.now c.args.chan in
     writes_same _ _ _ _
     (ap (grid_text c.args.chan) c.displayed-now.ensures
     ∙ text_if (grid_differs (grid_in c.args.kept.now) grid) (grid_text c.args.chan grid)
@@ -18,7 +17,7 @@ returns-then-differs-clause-text g c =
 
 pub returns-else-differs-clause-text : goal.returns-else-differs-clause-text
 returns-else-differs-clause-text g c =
-    let grid = displayed_grid c.args.r.now c.args.chan in
+    let grid = g.G.Grids.grids c.args.r.now c.args.chan in
     writes_same _ _ _ _
     (none_if (grid_differs (grid_in c.args.kept.now) grid) (grid_text c.args.chan grid)
     (ap (grid_differs (grid_in c.args.kept.now)) (sym c.displayed-now.ensures) ∙ sym c.differs.ensures.told ∙ c.if-differs.false))

@@ -6,4 +6,4 @@ use Rattle.grid_print.proofs.text.write_frame.Goals as goal
 pub returns : goal.returns
 returns g c start faults before has =
     written_same start faults _ _ _ (simp (append_assoc, append-nil))
-    (c.write-2.ensures start faults _ (c.write_number.ensures start faults _ (c.write.ensures start faults _ has)))
+    (c.write-2.ensures start faults _ (c.write_long.ensures start faults _ (c.write.ensures start faults _ has)))

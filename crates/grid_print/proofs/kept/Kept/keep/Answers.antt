@@ -1,20 +1,19 @@
 use Rattle.std.proofs.Common.{arith, drop, length, refl, ℕ, ◌≡◌, None}
 use Rattle.std.proofs.lemmas.Grind.{common_steps}
-use Rattle.cc_receiver.specs.ReceivedServices.{received_windows}
 use Rattle.grid_print.proofs.KeptLemmas.{unused_kept, used_kept, windows_back}
 use Rattle.grid_print.specs.Kept.{seen_of}
 use Rattle.grid_print.proofs.kept.Kept.keep.Goals as goal
 
 pub returns-then-not-is_used-clause-kept : goal.returns-then-not-is_used-clause-kept
-returns-then-not-is_used-clause-kept c frames behind =
+returns-then-not-is_used-clause-kept g c are behind =
     let none : (id : ℕ) → seen_of c.args.self.now id ≡ None = c.args.self.now.unused c.if-not-self.true in
-    unused_kept (received_windows frames c.args.service) _ _ none none
-    (c.is_used.ensures behind.bytes frames behind.received behind.frames_are c.if-not-is_used.true) refl
+    unused_kept (are c.args.service) _ _ none none
+    (c.is_used.ensures are behind c.if-not-is_used.true) refl
 
 pub returns-clause-kept : goal.returns-clause-kept
-returns-clause-kept c frames behind =
-    used_kept (received_windows frames c.args.service) _ _ c.keep_windows-changed.result
-    (windows_back (received_windows frames c.args.service) c.deref_mut.result.now c.args.self.now.windows.items c.keep_windows-changed.new.windows
+returns-clause-kept g c are behind =
+    used_kept (are c.args.service) _ _ c.keep_windows-changed.result
+    (windows_back (are c.args.service) c.deref_mut.result.now c.args.self.now.windows.items c.keep_windows-changed.new.windows
     (drop (length c.keep_windows-changed.new.windows) c.args.self.now.windows.items) c.args.self.now.windows.len c.keep_windows-changed.result
-    c.deref_mut.ensures.value (grind (arith, common_steps)) (c.keep_windows-changed.ensures frames behind))
+    c.deref_mut.ensures.value (grind (arith, common_steps)) (c.keep_windows-changed.ensures are behind))
     refl

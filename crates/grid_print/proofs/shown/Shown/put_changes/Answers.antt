@@ -1,16 +1,25 @@
-use Rattle.std.proofs.Common.{◌∙◌}
-use Rattle.std.proofs.lemmas.Bool.{true≢false}
-use Rattle.text_output.proofs.PageLemmas.{put_whole}
+use Rattle.std.proofs.Common.{◌≡◌, ◌∙◌, ℕ, ap, refl, subst}
+use Rattle.cc_base.specs.Streams.{Puts}
+use Rattle.cc_receiver.specs.ReceivedServices.{received_windows}
+use Rattle.cc_receiver.specs.Receivers.{displayed_grid}
+use Rattle.line21_codes.specs.declared.channels.Chan.{Chan}
+use Rattle.line21_screen.specs.Grid.{Grid}
+use Rattle.grid_print.specs.GridTexts.{changes_text, screens_differ}
+use Rattle.grid_print.specs.Screens.{LookAlike, screens_of}
+use Rattle.grid_print.specs.Shown.{last_shown}
+use Rattle.grid_print.proofs.ScreenLemmas.{grids_behind}
 use Rattle.grid_print.proofs.shown.Shown.put_changes.Goals as goal
 
 pub returns-clause-bytes : goal.returns-clause-bytes
-returns-clause-bytes g c frames behind =
-    (put_whole _ _ _ _ _ c.finish.result c.begin.ensures.answer (c.begin.ensures.held ∙ c.new-text.ensures)
-    (c.write_changes.ensures.text frames behind (λ is. absurd (true≢false is))) c.finish.ensures).0
-
-pub returns-clause-cause : goal.returns-clause-cause
-returns-clause-cause g c =
-    (put_whole _ _ _ _ _ c.finish.result c.begin.ensures.answer (c.begin.ensures.held ∙ c.new-text.ensures) c.write_changes.ensures.some.1 c.finish.ensures).1
+returns-clause-bytes g c = λ frames behind.
+    subst (λ (grids : Chan → Grid). Puts (g.O.Sink.written c.args.out.now) (g.O.Sink.written c.put_changes_of.new.out) c.put_changes_of.result
+    (changes_text c.args.frame (last_shown c.args.self.now) (screens_of grids (received_windows frames))))
+    (grids_behind frames c.args.r.now behind)
+    (subst (λ (n : ℕ). Puts (g.O.Sink.written c.args.out.now) (g.O.Sink.written c.put_changes_of.new.out) c.put_changes_of.result
+    (changes_text n (last_shown c.args.self.now) (screens_of (displayed_grid c.args.r.now) (received_windows frames)))) c.from.ensures
+    (c.put_changes_of.ensures.bytes (received_windows frames) (frames, (behind, refl))))
 
 pub returns-clause-now : goal.returns-clause-now
-returns-clause-now g c frames behind = c.write_changes.ensures.now frames behind (λ is. absurd (true≢false is))
+returns-clause-now g c = λ frames behind.
+    subst (λ (grids : Chan → Grid). LookAlike (last_shown c.put_changes_of.new.self) (screens_of grids (received_windows frames)))
+    (grids_behind frames c.args.r.now behind) (c.put_changes_of.ensures.now (received_windows frames) (frames, (behind, refl)))

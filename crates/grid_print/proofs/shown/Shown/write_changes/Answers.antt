@@ -1,55 +1,27 @@
-use Rattle.std.proofs.Common.{◌++◌, ◌∙◌, ◌-◌, [], if◌then◌else◌, ap, subst, sym}
-use Rattle.std.specs.List.{flat_map}
+use Rattle.std.proofs.Common.{◌≡◌, ◌∙◌, ℕ, ap, refl, subst}
 use Rattle.cc_receiver.specs.ReceivedServices.{received_windows}
 use Rattle.cc_receiver.specs.Receivers.{displayed_grid}
-use Rattle.text_output.proofs.PageLemmas.{some_none, writes_none, writes_same}
-use Rattle.grid_print.specs.GridTexts.{changed_channel, channels, channels_differ, frame_line}
-use Rattle.grid_print.specs.Kept.{changed_places, seen_at}
-use Rattle.grid_print.specs.Screens.{HaveSameWindows, received_screens}
+use Rattle.line21_codes.specs.declared.channels.Chan.{Chan}
+use Rattle.line21_screen.specs.Grid.{Grid}
+use Rattle.text_output.specs.Pages.{Writes, page}
+use Rattle.grid_print.specs.GridTexts.{changes_text}
+use Rattle.grid_print.specs.Screens.{LookAlike, screens_of}
 use Rattle.grid_print.specs.Shown.{last_shown}
-use Rattle.grid_print.proofs.ScreenLemmas.{changed_texts, changes_joined, grids_behind, neither, nothing_changed}
+use Rattle.grid_print.proofs.ScreenLemmas.{grids_behind}
 use Rattle.grid_print.proofs.shown.Shown.write_changes.Goals as goal
 
-pub returns-then-changed-clause-text : goal.returns-then-changed-clause-text
-returns-then-changed-clause-text g c frames behind same =
-    let old = last_shown c.args.self.now in
-    let new = received_screens frames in
-    let now = c.keep_services-services.new.self in
-    let grids = grids_behind frames c.args.r.now behind in
-    let services = c.keep_services-services.result in
-    let texts = if services then changed_places now.services.items (received_windows frames) else [] in
-    writes_same _ _ _ _
-    (ap (λ was. frame_line c.args.frame ++ flat_map (changed_channel was (displayed_grid c.args.r.now)) channels ++ texts) c.keep_services-services.ensures.grids
-    ∙ ap (λ is. frame_line c.args.frame ++ flat_map (changed_channel old.grids is) channels ++ texts) grids
-    ∙ changes_joined c.args.frame old new c.channels_differ-channels.result services texts
-    (c.channels_differ-channels.ensures.some ∙ ap (channels_differ old.grids) grids) (c.keep_services-services.ensures.some frames behind same) c.if-changed.true
-    (changed_texts (received_windows frames) c.args.self.now.services.items now.services.items services (c.keep_services-services.ensures.some frames behind same)
-    (c.keep_services-services.ensures.each frames behind)))
-    (c.write_differing.ensures.text frames behind)
+pub returns-clause-text : goal.returns-clause-text
+returns-clause-text g c = λ frames behind same.
+    subst (λ (grids : Chan → Grid). Writes (page c.args.text.now (g.O.Sink.written c.args.out.now) (g.O.Sink.faults c.args.out.now))
+    (page c.write_changes_of.new.text (g.O.Sink.written c.write_changes_of.new.out) (g.O.Sink.faults c.write_changes_of.new.out))
+    (changes_text c.args.frame (last_shown c.args.self.now) (screens_of grids (received_windows frames))))
+    (grids_behind frames c.args.r.now behind)
+    (subst (λ (n : ℕ). Writes (page c.args.text.now (g.O.Sink.written c.args.out.now) (g.O.Sink.faults c.args.out.now))
+    (page c.write_changes_of.new.text (g.O.Sink.written c.write_changes_of.new.out) (g.O.Sink.faults c.write_changes_of.new.out))
+    (changes_text n (last_shown c.args.self.now) (screens_of (displayed_grid c.args.r.now) (received_windows frames)))) c.from.ensures
+    (c.write_changes_of.ensures.text (received_windows frames) (frames, (behind, refl)) same))
 
-pub returns-then-changed-clause-now : goal.returns-then-changed-clause-now
-returns-then-changed-clause-now g c frames behind same = record {
-  grids = c.write_differing.ensures.now ∙ grids_behind frames c.args.r.now behind;
-  windows = subst (λ k. HaveSameWindows (λ service. seen_at k.items (service - 1)) (received_windows frames)) (sym c.write_differing.ensures.services)
-      (c.keep_services-services.ensures.now frames behind same);
-}
-
-pub returns-else-changed-clause-some : goal.returns-else-changed-clause-some
-returns-else-changed-clause-some g c = some_none _
-
-pub returns-else-changed-clause-text : goal.returns-else-changed-clause-text
-returns-else-changed-clause-text g c frames behind same =
-    let old = last_shown c.args.self.now in
-    writes_same _ _ _ _
-    (nothing_changed c.args.frame old (received_screens frames) c.channels_differ-channels.result c.keep_services-services.result
-    (c.channels_differ-channels.ensures.some ∙ ap (channels_differ old.grids) (grids_behind frames c.args.r.now behind))
-    (c.keep_services-services.ensures.some frames behind same) c.if-changed.false)
-    (writes_none _)
-
-pub returns-else-changed-clause-now : goal.returns-else-changed-clause-now
-returns-else-changed-clause-now g c frames behind same =
-    let (channels_same, services_same) = neither c.channels_differ-channels.result c.keep_services-services.result c.if-changed.false in
-    record {
-      grids = c.keep_services-services.ensures.grids ∙ c.channels_differ-channels.ensures.same channels_same ∙ grids_behind frames c.args.r.now behind;
-      windows = c.keep_services-services.ensures.now frames behind same;
-    }
+pub returns-clause-now : goal.returns-clause-now
+returns-clause-now g c = λ frames behind same.
+    subst (λ (grids : Chan → Grid). LookAlike (last_shown c.write_changes_of.new.self) (screens_of grids (received_windows frames)))
+    (grids_behind frames c.args.r.now behind) (c.write_changes_of.ensures.now (received_windows frames) (frames, (behind, refl)) same)

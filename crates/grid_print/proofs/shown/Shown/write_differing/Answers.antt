@@ -1,7 +1,5 @@
 use Rattle.std.proofs.Common.{◌++◌, ◌∙◌, ap, sym, append-nil}
 use Rattle.std.specs.List.{flat_map}
-use Rattle.cc_receiver.specs.ReceivedServices.{received_windows}
-use Rattle.cc_receiver.specs.Receivers.{displayed_grid}
 use Rattle.text_output.proofs.PageLemmas.{some_then, writes_same, writes_then}
 use Rattle.grid_print.specs.GridTexts.{changed_channel, channels, frame_line}
 use Rattle.grid_print.specs.Kept.{changed_places}
@@ -14,22 +12,22 @@ returns-then-services-clause-some g c =
     some_then _ _ _ (_, c.write_frame.ensures) (some_then _ _ _ (_, c.write_channels.ensures.text) c.write_changed.ensures.some)
 
 pub returns-then-services-clause-text : goal.returns-then-services-clause-text
-returns-then-services-clause-text g c frames behind =
-    let front = frame_line c.args.frame ++ flat_map (changed_channel (last_grid c.args.self.now) (displayed_grid c.args.r.now)) channels in
+returns-then-services-clause-text g c are behind =
+    let front = frame_line c.args.frame ++ flat_map (changed_channel (last_grid c.args.self.now) (g.G.Grids.grids c.args.r.now)) channels in
     writes_same _ _ _ _
     (ap (λ t. front ++ t)
-    (text_if c.args.services (changed_places c.args.self.now.services.items (received_windows frames)) c.if-services.true))
+    (text_if c.args.services (changed_places c.args.self.now.services.items (are)) c.if-services.true))
     (writes_then _ _ _ _ _ (writes_then _ _ _ _ _ c.write_frame.ensures c.write_channels.ensures.text)
-    (writes_same _ _ _ _ (ap (λ k. changed_places k (received_windows frames)) (c.deref.ensures.value ∙ ap (λ k. k.items) c.write_channels.ensures.services))
-    (c.write_changed.ensures.text frames behind)))
+    (writes_same _ _ _ _ (ap (λ k. changed_places k (are)) (c.deref.ensures.value ∙ ap (λ k. k.items) c.write_channels.ensures.services))
+    (c.write_changed.ensures.text are behind)))
 
 pub returns-else-services-clause-some : goal.returns-else-services-clause-some
 returns-else-services-clause-some g c = some_then _ _ _ (_, c.write_frame.ensures) (_, c.write_channels.ensures.text)
 
 pub returns-else-services-clause-text : goal.returns-else-services-clause-text
-returns-else-services-clause-text g c frames behind =
-    let front = frame_line c.args.frame ++ flat_map (changed_channel (last_grid c.args.self.now) (displayed_grid c.args.r.now)) channels in
+returns-else-services-clause-text g c are behind =
+    let front = frame_line c.args.frame ++ flat_map (changed_channel (last_grid c.args.self.now) (g.G.Grids.grids c.args.r.now)) channels in
     writes_same _ _ _ _
     (sym (append-nil front) ∙ ap (λ t. front ++ t)
-    (none_if c.args.services (changed_places c.args.self.now.services.items (received_windows frames)) c.if-services.false))
+    (none_if c.args.services (changed_places c.args.self.now.services.items (are)) c.if-services.false))
     (writes_then _ _ _ _ _ c.write_frame.ensures c.write_channels.ensures.text)
