@@ -47,13 +47,18 @@ const ITALIC_UNDERLINED: Style = Style {
 // Text that stands at a row and from a column on.
 type Run = (u8, u8, Style, &'static str);
 
-// A field that was fed these pairs, each written as caption files have it: first byte, second byte.
-fn fed(alloc: Global, second_field: bool, pairs: &[u16]) -> Result<Field, AllocError> {
-    let mut field = Field::new(alloc, second_field)?;
+// Feeds a field these pairs, each written as caption files have it: first byte, second byte.
+fn feed(field: &mut Field, pairs: &[u16]) {
     for pair in pairs {
         let [a, b] = pair.to_be_bytes();
         field.apply(Pair { a, b });
     }
+}
+
+// A field that was fed these pairs.
+fn fed(alloc: Global, second_field: bool, pairs: &[u16]) -> Result<Field, AllocError> {
+    let mut field = Field::new(alloc, second_field)?;
+    feed(&mut field, pairs);
     Ok(field)
 }
 
@@ -733,5 +738,24 @@ fn copied_memory_has_the_same_cells(rt: HostRuntime) -> Result<(), AllocError> {
     assert!(rt; kept.differs(hi.displayed(DataChannel::One)));
     kept.copy_from(high.displayed(DataChannel::Two));
     assert!(rt; !kept.differs(&Memory::new(alloc)?));
+    Ok(())
+}
+
+#[test]
+fn reset_field_has_met_no_pair(rt: HostRuntime) -> Result<(), AllocError> {
+    // Roll-up captions: a red A in row 15, and last a code of paint-on captions, sent once.
+    let mut field = fed(
+        rt.alloc(),
+        false,
+        &[
+            0x9425, 0x9425, 0x94AD, 0x94AD, 0x9470, 0x9470, 0x91A8, 0x91A8, 0xC180, 0x9429,
+        ],
+    )?;
+    field.reset();
+    assert!(rt; displays(&field, false, &[]));
+    assert_eq!(rt; field.mode(false), Mode::Off);
+    // The same code is no repeat now, and the pen is white and in column 0 again.
+    feed(&mut field, &[0x9429, 0xC280]);
+    assert!(rt; displays(&field, false, &[(15, 0, WHITE, "B")]));
     Ok(())
 }

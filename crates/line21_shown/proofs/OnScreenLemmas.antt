@@ -187,7 +187,7 @@ module _ (in_field : FieldNumber) (t : Timeline) (frames a start : ℕ) (hide : 
     (on : Continues in_field t a hide (cue ∷ later)) (up : a ≤ start) (writes : writes_from hide cue.load ≤ start) (up_to_show : start ≤ cue.show)
     (begins : IsNew cue earlier (acts t start) ⊎ IsOnward cue earlier (acts t start))
     (placed : let first = head in_field t frames a cue.show hide cue later formed sequence on (λ f above free. above) in
-        ArePlacedFrom (events_on in_field hide (cue ∷ later)) start first.own first.front) where
+    ArePlacedFrom (events_on in_field hide (cue ∷ later)) start first.own first.front) where
   its_sound : IsSound 1 frames cue
   its_sound = first_sound 1 frames cue later sequence
 

@@ -34,7 +34,7 @@ use Rattle.line21_shown.proofs.BlindLemmas.{AreBlind, showing, pop_blind}
 use Rattle.line21_shown.proofs.CueWritingLemmas.{pop_written, runs_are_cells}
 use Rattle.line21_shown.proofs.HeadLemmas.{Continues, continues_behind, events_on, first_sound, Head, head, loading, sequence_in_slots}
 use Rattle.line21_shown.proofs.LoadingLemmas.{StandBeside, all_standing, erases, loads, standing, until}
-use Rattle.line21_shown.proofs.ScreenLemmas.{AreBehind, IsRollingFor, IsShown, hidden_by, is_shown, newest_first, shown_yet}
+use Rattle.line21_shown.proofs.ScreenLemmas.{IsRollingFor, IsShown, is_shown, newest_first, shown_yet}
 use Rattle.line21_shown.proofs.SuffixLemmas.{at_show, before_show, behind_show, beside, showing_unit}
 
 -- a pop-on cue's kind
