@@ -4,3 +4,4 @@ pub mod StandsLemmas
 pub mod MeaningLemmas
 pub mod LawLemmas
 pub mod HiddenLemmas
+pub mod ShiftLemmas

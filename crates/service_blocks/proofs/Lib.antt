@@ -1,3 +1,4 @@
 pub mod BlockLemmas
 pub mod ChannelLemmas
 pub mod WrittenLemmas
+pub mod SuffixLemmas
