@@ -173,11 +173,11 @@ module _ (rate : Rate) (columns : Columns) (has : (frame : ℕ) → HasBlocks co
       (with_frame last (packets_before columns frame) (columns frame).blocks.items here.sent (parts_from (suc frame) n) rest behind here.blocks here.are here.few
       (channel_from (suc frame) n))
 
-  -- all triplets of the frames up to one
-  pub channel_of_first : (n : ℕ) → IsChannel None (parts_from 0 n) (file_triplets (column_packets rate columns 0 n))
-  channel_of_first n =
-      let triplets = file_triplets (column_packets rate columns 0 n) in
-      let all = channel_from 0 n None tt in
+  -- all triplets of so many frames from one on, whose first packet makes no gap
+  pub channel_since : (since n : ℕ) → IsChannel None (parts_from since n) (file_triplets (column_packets rate columns since n))
+  channel_since since n =
+      let triplets = file_triplets (column_packets rate columns since n) in
+      let all = channel_from since n None tt in
       record {
         packets = all.packets;
         blocks = all.blocks;
@@ -190,5 +190,5 @@ module _ (rate : Rate) (columns : Columns) (has : (frame : ℕ) → HasBlocks co
 
 pub programmes_whole : ProgrammesAreWhole
 programmes_whole rate columns n has carried =
-    let all = channel_of_first rate columns has (λ frame. (carried.room frame).service) n in
+    let all = channel_since rate columns has (λ frame. (carried.room frame).service) 0 n in
     record { packets = all.packets; blocks = all.blocks; channel = all.channel }

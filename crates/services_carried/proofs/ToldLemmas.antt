@@ -21,8 +21,8 @@ use Rattle.frame_scheduler.specs.Columns.{Columns}
 use Rattle.frame_carrier.specs.Carrying.{channel_packet_of, column_packets, frame_packet, packets_before}
 use Rattle.frame_carrier.proofs.CarriedLemmas.{packet_channel_is}
 use Rattle.services_carried.specs.ServicesCarried.{HasBlocks, Sent}
-use Rattle.services_carried.specs.Told.{AreAlike, ColumnsAreTold, LikeFramesSayAlike, sent_to, told}
-use Rattle.services_carried.proofs.ChannelLemmas.{channel_of_first, parts_from, parts_sent}
+use Rattle.services_carried.specs.Told.{AreAlike, ColumnsAreTold, LikeFramesSayAlike, sent_to, told, told_since}
+use Rattle.services_carried.proofs.ChannelLemmas.{channel_since, parts_from, parts_sent}
 
 -- what is said of a service is told to it, and to no other
 bytes_told : (service other : ℕ) (b : Bool) → (other == service) ≡ b → (bytes : List ℕ)
@@ -72,40 +72,53 @@ module _ (rate : Rate) (columns : Columns) (has : (frame : ℕ) → HasBlocks co
       ap (λ ps. parts_sent (has frame).sent ++ ps) (parts_more (suc frame) n last (omega (arith, is)))
       ∙ sym (append_assoc (parts_sent (has frame).sent) (parts (suc frame) n) (parts_sent (has last).sent))
 
-  -- what is heard of the first frames
-  heard_first : (n : ℕ) → heard_parts (file_triplets (column_packets rate columns 0 n)) ≡ parts 0 n
-  heard_first n =
-      let all = channel_of_first rate columns has (λ frame. packet_channel_is rate frame (columns frame) (packets_before columns frame)) n in
-      (channel_heard all.packets all.blocks (file_triplets (column_packets rate columns 0 n)) all.channel).says ∙ all.says_are
+  -- what is heard of so many frames from one on
+  heard_since : (since n : ℕ) → heard_parts (file_triplets (column_packets rate columns since n)) ≡ parts since n
+  heard_since since n =
+      let all = channel_since rate columns has (λ frame. packet_channel_is rate frame (columns frame) (packets_before columns frame)) since n in
+      (channel_heard all.packets all.blocks (file_triplets (column_packets rate columns since n)) all.channel).says ∙ all.says_are
 
   -- so what is heard of one more
-  heard_next : (n : ℕ) → heard_behind (file_triplets (column_packets rate columns 0 n)) (packet_triplets (frame_packet rate n (columns n) (channel_packet_of columns n)))
-      ≡ parts_sent (has n).sent
-  heard_next n =
-      let before = file_triplets (column_packets rate columns 0 n) in
-      let packet = frame_packet rate n (columns n) (channel_packet_of columns n) in
+  heard_next : (since n last : ℕ) → last ≡ since + n
+      → heard_behind (file_triplets (column_packets rate columns since n)) (packet_triplets (frame_packet rate last (columns last) (channel_packet_of columns last)))
+      ≡ parts_sent (has last).sent
+  heard_next since n last is =
+      let before = file_triplets (column_packets rate columns since n) in
+      let packet = frame_packet rate last (columns last) (channel_packet_of columns last) in
       let triplets = packet_triplets packet in
-      let same : n ≡ 0 + n = omega arith in
-      let all : file_triplets (column_packets rate columns 0 (suc n)) ≡ before ++ triplets =
-      ap file_triplets (packets_more rate columns 0 n n same) ∙ flat_map-append packet_triplets (column_packets rate columns 0 n) (packet ∷ [])
+      let all : file_triplets (column_packets rate columns since (suc n)) ≡ before ++ triplets =
+      ap file_triplets (packets_more rate columns since n last is) ∙ flat_map-append packet_triplets (column_packets rate columns since n) (packet ∷ [])
       ∙ ap (λ ts. before ++ ts) (append-nil triplets) in
-      append_cancel_left (heard_parts before) (heard_behind before triplets) (parts_sent (has n).sent)
-      (sym (heard-append before triplets) ∙ ap heard_parts (sym all) ∙ heard_first (suc n) ∙ parts_more 0 n n same ∙ ap (λ ps. ps ++ parts_sent (has n).sent) (sym (heard_first n)))
+      append_cancel_left (heard_parts before) (heard_behind before triplets) (parts_sent (has last).sent)
+      (sym (heard-append before triplets) ∙ ap heard_parts (sym all) ∙ heard_since since (suc n) ∙ parts_more since n last is
+      ∙ ap (λ ps. ps ++ parts_sent (has last).sent) (sym (heard_since since n)))
 
-  -- the events of the first frames
-  first_told : (service k : ℕ) → service_events service (column_packets rate columns 0 k) ≡ told rate (λ frame. sent_to service (has frame).sent) k
-  first_told service zero = refl
-  first_told service (suc k) =
-      let frames = column_packets rate columns 0 k in
-      let packet = frame_packet rate k (columns k) (channel_packet_of columns k) in
-      ap (service_events service) (packets_more rate columns 0 k k (omega arith))
+  -- the events of so many frames from one on, as a receiver has them that was reset before it
+  pub since_told : (service since n : ℕ)
+      → service_events service (column_packets rate columns since n) ≡ told_since rate (λ frame. sent_to service (has frame).sent) since n
+  since_told service since zero = refl
+  since_told service since (suc n) =
+      let last : ℕ = since + n in
+      let frames = column_packets rate columns since n in
+      let packet = frame_packet rate last (columns last) (channel_packet_of columns last) in
+      let told_before = told_since rate (λ frame. sent_to service (has frame).sent) since n in
+      ap (service_events service) (packets_more rate columns since n last refl)
       ∙ events_more service frames packet
-      ∙ ap (λ es. es ++ frame_events service (file_triplets frames) packet) (first_told service k)
-      ∙ ap (λ es. told rate (λ frame. sent_to service (has frame).sent) k ++ es) (frame_events-heard service (file_triplets frames) packet)
-      ∙ ap (λ es. told rate (λ frame. sent_to service (has frame).sent) k ++ (Tick rate ∷ es)) (ap (events_of service) (heard_next k) ∙ sent_told service (has k).sent)
+      ∙ ap (λ es. es ++ frame_events service (file_triplets frames) packet) (since_told service since n)
+      ∙ ap (λ es. told_before ++ es) (frame_events-heard service (file_triplets frames) packet)
+      ∙ ap (λ es. told_before ++ (Tick rate ∷ es)) (ap (events_of service) (heard_next since n last refl) ∙ sent_told service (has last).sent)
+
+-- from frame 0 on that is what is told in the first frames
+told_first : (rate : Rate) (bytes : ℕ → List ℕ) (n : ℕ) → told_since rate bytes 0 n ≡ told rate bytes n
+told_first rate bytes zero = refl
+told_first rate bytes (suc n) =
+    let same : 0 + n ≡ n = omega arith in
+    ap (λ k. told_since rate bytes 0 n ++ (Tick rate ∷ map Byte (bytes k))) same ∙ ap (λ es. es ++ (Tick rate ∷ map Byte (bytes n))) (told_first rate bytes n)
 
 pub columns_told : ColumnsAreTold
-columns_told rate columns n has service k below = ap (service_events service) (take_packets rate columns 0 n k below) ∙ first_told rate columns has service k
+columns_told rate columns n has service k below =
+    ap (service_events service) (take_packets rate columns 0 n k below) ∙ since_told rate columns has service 0 k
+    ∙ told_first rate (λ frame. sent_to service (has frame).sent) k
 
 -- what is told where the same bytes are sent
 pub told_same : (rate : Rate) (sent other : ℕ → List ℕ) → ((frame : ℕ) → sent frame ≡ other frame) → (n : ℕ) → told rate sent n ≡ told rate other n

@@ -1,6 +1,6 @@
 -- What the services of a caption channel are told by frames: in each a tick of the frame's rate, then the bytes that the service is sent
 -- there, and no reset. What else the frames carry says nothing to them.
-use Rattle.std.specs.Prelude.{◌≡◌, ℕ, zero, suc, ◌<◌, ◌≤◌, ◌==◌, if◌then◌else◌, List, [], ◌∷◌, ◌++◌, None, map, take}
+use Rattle.std.specs.Prelude.{◌≡◌, ℕ, zero, suc, ◌+◌, ◌<◌, ◌≤◌, ◌==◌, if◌then◌else◌, List, [], ◌∷◌, ◌++◌, None, map, take}
 use Rattle.std.specs.List.{flat_map}
 use Rattle.cc_base.specs.declared.rate.Rate.{Rate}
 use Rattle.line21_codes.specs.declared.channels.FieldNumber.{FieldNumber}
@@ -22,6 +22,11 @@ use Rattle.services_carried.specs.ServicesCarried.{HasBlocks, Sent}
 abbrev pub told : Rate → (ℕ → List ℕ) → ℕ → List Event
 told rate bytes zero = []
 told rate bytes (suc n) = told rate bytes n ++ (Tick rate ∷ map Byte (bytes n))
+
+-- what it is told in so many frames from one on
+abbrev pub told_since : Rate → (ℕ → List ℕ) → ℕ → ℕ → List Event
+told_since rate bytes since zero = []
+told_since rate bytes since (suc n) = told_since rate bytes since n ++ (Tick rate ∷ map Byte (bytes (since + n)))
 
 -- the bytes of a service in what is sent
 abbrev pub sent_to : ℕ → List Sent → List ℕ
