@@ -19,6 +19,7 @@ use Rattle.dtvcc_screen.specs.Meaning.{Event, Tick, Byte, Reset, Served, after, 
 use Rattle.dtvcc_screen.specs.Objects.{acting_on}
 use Rattle.dtvcc_screen.specs.Screens.{ScreenState, empty_screen}
 use Rattle.dtvcc_screen.proofs.CoreLemmas.{by_byte, completions_length}
+use Rattle.dtvcc_screen.proofs.MeaningLemmas.{after_append}
 use Rattle.dtvcc_shown.specs.Filling.{AllFill}
 use Rattle.dtvcc_author.specs.declared.frame_events.Delay.{Delay}
 use Rattle.dtvcc_author.specs.EventBytes.{delay_bytes}
@@ -28,10 +29,6 @@ use Rattle.dtvcc_shown.specs.Undelayed.{acted_on, opened, shows_bytes, undelayed
 use Rattle.dtvcc_shown.proofs.PlainLemmas.{AllPlain, later, later_fill, now, now_fill, releases, served_at}
 
 -- bytes one behind another
-pub after_append : (s : Served) (events more : List Event) → after s (events ++ more) ≡ after (after s events) more
-after_append s [] more = refl
-after_append s (event ∷ events) more = after_append (on_event event s) events more
-
 after_both : (s : Served) (bytes more : List ℕ) → after s (map Byte (bytes ++ more)) ≡ after (after s (map Byte bytes)) (map Byte more)
 after_both s bytes more = ap (after s) (map-append Byte bytes more) ∙ after_append s (map Byte bytes) (map Byte more)
 

@@ -123,7 +123,7 @@ pub record Loads (cs : List Caption) (chunks : List Chunk) (fs : List ℕ) (auth
   pub order : AreInOrder loads
   pub from : (frame : ℕ) → AreFramesFrom frame fs → AllByRecursion (λ (g : CaptionLoad). frame ≤ g.first) loads
   pub acts : AreLoads (zip chunks fs) loads
-  pub seen : (id frame : ℕ) (seen : Option ShownWindow) → IsSeen loads id frame seen → seen ≡ authored id frame
+  pub seen : (id frame : ℕ) (seen : Option ShownWindow) → IsSeen 0 loads id frame seen → seen ≡ authored id frame
 
 texts_of : (g : CaptionLoad) (us : List (Command × ℕ)) → AllByRecursion (λ (u : Command × ℕ). (is_text u.0 ≡ true) × (u.1 < g.caption.starts)) us
     → AllByRecursion (λ (u : Command × ℕ). g.first ≤ u.1) us → AllByRecursion (IsTextOf g) us
@@ -206,10 +206,10 @@ one_more number c d text rest cs (f ∷ fs) authored window names hidden texts w
     with_shown w = option_map (with_visibility true) w
 
     seen_by : (id frame : ℕ) (v : Option ShownWindow) (g : CaptionLoad) {left : List ℕ} (later : Loads cs rest left authored) (b : Bool) → shows id frame c ≡ b
-        → g.caption ≡ c → shown (shown_whole g) ≡ window → IsSeen (g ∷ later.loads) id frame v → v ≡ (if b then window else authored id frame)
+        → g.caption ≡ c → shown (shown_whole g) ≡ window → IsSeen 0 (g ∷ later.loads) id frame v → v ≡ (if b then window else authored id frame)
     seen_by id frame v g later true shown_now same seen_is sees =
         let says = shows_says id frame g.caption (ap (shows id frame) same ∙ shown_now) in
-        sees.has g (inl refl) says.0 says.1 says.2 ∙ seen_is
+        sees.has g (inl refl) says.0 says.1 says.2 (omega arith) ∙ seen_is
     seen_by id frame v g later false not_now same seen_is sees = later.seen id frame v (record {
       has = λ h among. sees.has h (inr among);
       none = λ nowhere. sees.none (all nowhere);

@@ -2,11 +2,13 @@ pub mod NamedLemmas
 pub mod CaptionLoads
 pub mod TextLemmas
 pub mod LoadLemmas
+pub mod HeardLemmas
 pub mod MemberLemmas
 pub mod EventLemmas
 pub mod EditLemmas
 pub mod WindowLemmas
 pub mod SeenLemmas
+pub mod HeardLaneLemmas
 pub mod ByteLemmas
 pub mod CueLoadLemmas
 pub mod CueLemmas

@@ -25,7 +25,7 @@ text_up_to frame last (u ∷ us) all less =
     let other : (u.1 == frame) ≡ false = grind (arith, nat_tests) in
     ap (λ (b : Bool). b || is_text_at frame us) other ∙ text_up_to frame last us all.1 less
 
-pub text_from : (frame : ℕ) (g : CaptionLoad) (us : List (Command × ℕ)) → AllByRecursion (IsTextOf g) us → frame < g.first → is_text_at frame us ≡ false
+text_from : (frame : ℕ) (g : CaptionLoad) (us : List (Command × ℕ)) → AllByRecursion (IsTextOf g) us → frame < g.first → is_text_at frame us ≡ false
 text_from frame g [] all less = refl
 text_from frame g (u ∷ us) all less =
     let first = all.0.behind in
@@ -45,7 +45,7 @@ text_behind frame g (u ∷ us) all some = at (u.1 == frame) refl some (text_behi
     at false is some rest = let r = rest some in (r.0, inr r.1)
 
 -- unfinished text, and the frame before
-unfinished_less : (frame : ℕ) (us : List (Command × ℕ)) → Unfinished (suc frame) us → Unfinished frame us
+pub unfinished_less : (frame : ℕ) (us : List (Command × ℕ)) → Unfinished (suc frame) us → Unfinished frame us
 unfinished_less frame [] un = un
 unfinished_less frame (u ∷ us) (inl here) = inl (omega arith)
 unfinished_less frame (u ∷ us) (inr rest) = inr (unfinished_less frame us rest)
@@ -55,7 +55,7 @@ unfinished_most frame last [] all un = absurd un
 unfinished_most frame last (u ∷ us) all (inl here) = let first : u.1 ≤ last = all.0 in omega arith
 unfinished_most frame last (u ∷ us) all (inr rest) = unfinished_most frame last us all.1 rest
 
-texts_of : (g : CaptionLoad) (us : List (Command × ℕ)) → AllByRecursion (IsTextOf g) us → AreTexts us
+pub texts_of : (g : CaptionLoad) (us : List (Command × ℕ)) → AllByRecursion (IsTextOf g) us → AreTexts us
 texts_of g [] all = tt
 texts_of g (u ∷ us) all = (all.0.text, texts_of g us all.1)
 
@@ -98,7 +98,7 @@ all_later frame g [] all un = tt
 all_later frame g (h ∷ gs) all un =
     let most = unfinished_most (suc frame) h.first g.text all.0.text un in (omega arith, all_later frame g gs all.1 un)
 
-among_all : (P : CaptionLoad → Type 0) (gs : List CaptionLoad) (g : CaptionLoad) → AllByRecursion P gs → Among g gs → P g
+pub among_all : (P : CaptionLoad → Type 0) (gs : List CaptionLoad) (g : CaptionLoad) → AllByRecursion P gs → Among g gs → P g
 among_all P [] g all among = absurd among
 among_all P (h ∷ gs) g all (inl same) = subst P (sym same) all.0
 among_all P (h ∷ gs) g all (inr rest) = among_all P gs g all.1 rest

@@ -1,5 +1,5 @@
--- What is seen of a window at a frame: the whole of the caption that is shown there, and nothing where none is. Within a delay
--- it is what the events of the delay's first frame left.
+-- What is seen of a window at a frame, where nothing is heard of the frames before one: the whole of the caption that is shown there
+-- and heard, and nothing where none is shown. Within a delay it is what the events of the delay's first frame left.
 use Rattle.std.proofs.Common.{◌≡◌, ◌≢◌, ◌∙◌, ℕ, zero, suc, ◌<◌, ◌≤◌, ◌⊎◌, inl, inr, ◌&&◌, Bool, true, false, if◌then◌else◌, List, [], ◌∷◌, Option, Some, None, refl, sym, ap, subst, arith}
 use Rattle.std.specs.Prelude.{nat_lt, option_map}
 use Rattle.std.proofs.lemmas.Bool.{cases_lt}
@@ -13,10 +13,12 @@ use Rattle.dtvcc_screen.specs.Commands.{edited_by}
 use Rattle.dtvcc_author.specs.declared.caption.Caption.{Caption}
 use Rattle.dtvcc_author.specs.FrameEvents.{names}
 use Rattle.dtvcc_author.specs.Kept.{AreKept, IsUncovered}
+use Rattle.dtvcc_author.proofs.LatestLemmas.{Has}
 use Rattle.window_loading.proofs.LoadLemmas.{edit_hidden}
 use Rattle.windows_shown.proofs.CaptionLoads.{AreInOrder, Among, CaptionLoad, IsOrdered, before, captions, edits, own_edits}
 use Rattle.windows_shown.proofs.MemberLemmas.{Two, named_by, names_it, order_of, sound_of, two}
-use Rattle.windows_shown.proofs.WindowLemmas.{IsOpened, IsWindow, opened_is, opening, screen_at, shown_whole, window_is}
+use Rattle.windows_shown.proofs.HeardLemmas.{if_heard, is_heard, is_lost}
+use Rattle.windows_shown.proofs.WindowLemmas.{IsOpened, IsWindow, opened_is, opening, screen_from, shown_whole, window_is}
 
 -- nothing is seen of a window that is loading
 edits_hidden : (test : ℕ → Bool) (us : List (Command × ℕ)) (w : Option WindowState) → shown w ≡ None → shown (edits test us w) ≡ None
@@ -29,7 +31,7 @@ edits_hidden test (u ∷ us) w hidden =
     at true None is = refl
     at true (Some x) is = edit_hidden u.0 x is
 
-pub loading_hidden : (test : ℕ → Bool) (g : CaptionLoad) → IsOrdered g → shown (own_edits test g None) ≡ None
+loading_hidden : (test : ℕ → Bool) (g : CaptionLoad) → IsOrdered g → shown (own_edits test g None) ≡ None
 loading_hidden test g is =
     edits_hidden test g.text (if test g.first then Some (defined g.definition None) else None) (at (test g.first))
   where
@@ -37,93 +39,113 @@ loading_hidden test g is =
     at false = refl
     at true = ap (λ (visible : Bool). if visible then Some (as_shown (defined g.definition None)) else None) is.hidden
 
--- what is seen of the window of an id at a frame, by the captions
-pub record IsSeen (gs : List CaptionLoad) (id frame : ℕ) (seen : Option ShownWindow) : Type 0 where
-  pub has : (g : CaptionLoad) → Among g gs → g.caption.id ≡ id → g.caption.show ≤ frame → frame < g.caption.hide → seen ≡ shown (shown_whole g)
+-- what is seen of the window of an id at a frame, by the captions whose DefineWindow stands in a frame or behind it: from frame 0 on
+-- by all
+pub record IsSeen (since : ℕ) (gs : List CaptionLoad) (id frame : ℕ) (seen : Option ShownWindow) : Type 0 where
+  pub has : (g : CaptionLoad) → Among g gs → g.caption.id ≡ id → g.caption.show ≤ frame → frame < g.caption.hide → since ≤ g.first
+      → seen ≡ shown (shown_whole g)
   pub none : ((g : CaptionLoad) → Among g gs → g.caption.id ≡ id → g.caption.show ≤ frame → frame < g.caption.hide → ⊥) → seen ≡ None
 
--- the delay of a caption is on before a frame
-pub record IsDelaying (frame : ℕ) (g : CaptionLoad) : Type 0 where
+-- the delay of a caption, which is heard, is on before a frame
+pub record IsDelaying (since frame : ℕ) (g : CaptionLoad) : Type 0 where
+  pub heard : since ≤ g.caption.starts
   pub some : 0 < g.caption.tenths
   pub from : g.caption.starts < frame
   pub to : frame ≤ g.caption.show
 
 -- some caption's is, or none's
-abbrev pub Delaying : ℕ → List CaptionLoad → Type 0
-Delaying frame gs = ((g : CaptionLoad) × Among g gs × IsDelaying frame g) ⊎ ((g : CaptionLoad) → Among g gs → IsDelaying frame g → ⊥)
+abbrev pub Delaying : ℕ → ℕ → List CaptionLoad → Type 0
+Delaying since frame gs =
+    ((g : CaptionLoad) × Among g gs × IsDelaying since frame g) ⊎ ((g : CaptionLoad) → Among g gs → IsDelaying since frame g → ⊥)
 
-pub is_delaying : (frame : ℕ) (gs : List CaptionLoad) → Delaying frame gs
-is_delaying frame [] = inr (λ g among on. among)
-is_delaying frame (g ∷ gs) = at (one (cases_lt 0 g.caption.tenths) (cases_lt g.caption.starts frame) (cases_lt g.caption.show frame)) (is_delaying frame gs)
+pub is_delaying : (since frame : ℕ) (gs : List CaptionLoad) → Delaying since frame gs
+is_delaying since frame [] = inr (λ g among on. among)
+is_delaying since frame (g ∷ gs) =
+    at (one (cases_lt g.caption.starts since) (cases_lt 0 g.caption.tenths) (cases_lt g.caption.starts frame) (cases_lt g.caption.show frame))
+    (is_delaying since frame gs)
   where
-    one : (0 < g.caption.tenths) ⊎ (g.caption.tenths ≤ 0) → (g.caption.starts < frame) ⊎ (frame ≤ g.caption.starts)
-        → (g.caption.show < frame) ⊎ (frame ≤ g.caption.show) → IsDelaying frame g ⊎ (IsDelaying frame g → ⊥)
-    one (inl some) (inl from) (inr to) = inl (record { some = some; from = from; to = to })
-    one (inr none) from to = inr (λ on. let some = on.some in omega arith)
-    one (inl some) (inr late) to = inr (λ on. let from = on.from in omega arith)
-    one (inl some) (inl from) (inl over) = inr (λ on. let to = on.to in omega arith)
+    one : (g.caption.starts < since) ⊎ (since ≤ g.caption.starts) → (0 < g.caption.tenths) ⊎ (g.caption.tenths ≤ 0)
+        → (g.caption.starts < frame) ⊎ (frame ≤ g.caption.starts) → (g.caption.show < frame) ⊎ (frame ≤ g.caption.show)
+        → IsDelaying since frame g ⊎ (IsDelaying since frame g → ⊥)
+    one (inr heard) (inl some) (inl from) (inr to) = inl (record { heard = heard; some = some; from = from; to = to })
+    one (inl lost) some from to = inr (λ on. let heard = on.heard in omega arith)
+    one (inr heard) (inr none) from to = inr (λ on. let some = on.some in omega arith)
+    one (inr heard) (inl some) (inr late) to = inr (λ on. let from = on.from in omega arith)
+    one (inr heard) (inl some) (inl from) (inl over) = inr (λ on. let to = on.to in omega arith)
 
-    at : IsDelaying frame g ⊎ (IsDelaying frame g → ⊥) → Delaying frame gs → Delaying frame (g ∷ gs)
+    at : IsDelaying since frame g ⊎ (IsDelaying since frame g → ⊥) → Delaying since frame gs → Delaying since frame (g ∷ gs)
     at (inl on) rest = inl (g, inl refl, on)
     at (inr off) (inl (h, among, on)) = inl (h, inr among, on)
     at (inr off) (inr none) = inr nowhere
       where
-        nowhere : (h : CaptionLoad) → Among h (g ∷ gs) → IsDelaying frame h → ⊥
-        nowhere h (inl same) on = off (subst (IsDelaying frame) same on)
+        nowhere : (h : CaptionLoad) → Among h (g ∷ gs) → IsDelaying since frame h → ⊥
+        nowhere h (inl same) on = off (subst (IsDelaying since frame) same on)
         nowhere h (inr among) on = none h among on
 
 -- the caption has its window before a frame: it has been loaded before, and is hidden in it or later
-abbrev pub has_window : ℕ → Caption → Bool
+abbrev has_window : ℕ → Caption → Bool
 has_window frame c = nat_lt c.load frame && nat_lt frame (suc c.hide)
 
 -- the same behind the frame's events
-abbrev pub keeps_window : ℕ → Caption → Bool
+abbrev keeps_window : ℕ → Caption → Bool
 keeps_window frame c = nat_lt c.load frame && nat_lt frame c.hide
 
-pub has_says : (frame : ℕ) (c : Caption) → has_window frame c ≡ true → (c.load < frame) × (frame ≤ c.hide)
+has_says : (frame : ℕ) (c : Caption) → has_window frame c ≡ true → (c.load < frame) × (frame ≤ c.hide)
 has_says frame c test = (grind (arith, nat_tests), grind (arith, nat_tests))
 
-pub has_holds : (frame : ℕ) (c : Caption) → c.load < frame → frame ≤ c.hide → has_window frame c ≡ true
+has_holds : (frame : ℕ) (c : Caption) → c.load < frame → frame ≤ c.hide → has_window frame c ≡ true
 has_holds frame c from to = grind (arith, nat_tests)
 
-pub keeps_says : (frame : ℕ) (c : Caption) → keeps_window frame c ≡ true → (c.load < frame) × (frame < c.hide)
+keeps_says : (frame : ℕ) (c : Caption) → keeps_window frame c ≡ true → (c.load < frame) × (frame < c.hide)
 keeps_says frame c test = (grind (arith, nat_tests), grind (arith, nat_tests))
 
-pub keeps_holds : (frame : ℕ) (c : Caption) → c.load < frame → frame < c.hide → keeps_window frame c ≡ true
+keeps_holds : (frame : ℕ) (c : Caption) → c.load < frame → frame < c.hide → keeps_window frame c ≡ true
 keeps_holds frame c from to = grind (arith, nat_tests)
 
 -- a number is 0, or more
-pub none_or_some : (n : ℕ) → (n ≡ 0) ⊎ (0 < n)
+none_or_some : (n : ℕ) → (n ≡ 0) ⊎ (0 < n)
 none_or_some zero = inl refl
 none_or_some (suc n) = inr (omega arith)
 
-module _ (rate : Rate) (frames : ℕ) (gs : List CaptionLoad) (kept : AreKept rate frames (captions gs)) (order : AreInOrder gs) where
+-- nothing is seen of a window that is loading, or of one that isn't heard
+loading_unseen : (since : ℕ) (test : ℕ → Bool) (g : CaptionLoad) → IsOrdered g → shown (if_heard since g (own_edits test g None)) ≡ None
+loading_unseen since test g is = at (nat_lt g.first since)
+  where
+    at : (b : Bool) → shown (if b then None else own_edits test g None) ≡ None
+    at true = refl
+    at false = loading_hidden test g is
+
+module _ (rate : Rate) (frames : ℕ) (gs : List CaptionLoad) (kept : AreKept rate frames (captions gs)) (order : AreInOrder gs) (since : ℕ) where
   -- where no delay is on
-  module _ (frame id : ℕ) (clear : (g : CaptionLoad) → Among g gs → IsDelaying (suc frame) g → ⊥) (w : Option WindowState)
-      (is : IsWindow gs id (suc frame) w) where
-    seen_now : (g : CaptionLoad) → Among g gs → g.caption.id ≡ id → g.caption.show ≤ frame → frame < g.caption.hide → shown w ≡ shown (shown_whole g)
-    seen_now g among window from to =
+  module _ (frame id : ℕ) (clear : (g : CaptionLoad) → Among g gs → IsDelaying since (suc frame) g → ⊥) (w : Option WindowState)
+      (is : IsWindow since gs id (suc frame) w) where
+    seen_now : (g : CaptionLoad) → Among g gs → g.caption.id ≡ id → g.caption.show ≤ frame → frame < g.caption.hide → since ≤ g.first → shown w ≡ shown (shown_whole g)
+    seen_now g among window from to high =
         let sound = sound_of rate frames gs g kept among in
         let after = sound.after in
-        ap shown (is.showing g among window (omega arith) (omega arith))
+        ap shown (is.showing g among window (omega arith) (omega arith) ∙ is_heard since g (shown_whole g) high)
 
     unseen_now : ((g : CaptionLoad) → Among g gs → g.caption.id ≡ id → g.caption.show ≤ frame → frame < g.caption.hide → ⊥) → shown w ≡ None
     unseen_now all = at (names (has_window (suc frame)) (captions gs) id) refl
       where
-        started : (g : CaptionLoad) → Among g gs → g.caption.id ≡ id → g.caption.starts < suc frame → suc frame ≤ g.caption.hide → ⊥
-        started g among window from to = elim (cases_lt frame g.caption.show) [
+        started : (g : CaptionLoad) → Among g gs → g.caption.id ≡ id → g.caption.starts < suc frame → suc frame ≤ g.caption.hide → since ≤ g.first → ⊥
+        started g among window from to heard = elim (cases_lt frame g.caption.show) [
           | inr shows ↦ all g among window shows (omega arith)
           | inl early ↦ elim (none_or_some g.caption.tenths) [
             | inl none ↦ let sound = sound_of rate frames gs g kept among in
                 let same = sound.at_once none in omega arith
-            | inr some ↦ clear g among (record { some = some; from = from; to = omega arith })
+            | inr some ↦ let in_order = order_of gs g order among in let ended = in_order.ended in
+                clear g among (record { heard = omega arith; some = some; from = from; to = omega arith })
           ]
         ]
 
         in_window : (g : CaptionLoad) → Among g gs → g.caption.id ≡ id → g.caption.load < suc frame → suc frame ≤ g.caption.hide → shown w ≡ None
         in_window g among window from to = elim (cases_lt g.caption.starts (suc frame)) [
-          | inl low ↦ absurd (started g among window low to)
-          | inr high ↦ ap shown (is.loading g among window from high) ∙ loading_hidden (before (suc frame)) g (order_of gs g order among)
+          | inl low ↦ elim (cases_lt g.first since) [
+            | inl less ↦ ap shown (is.showing g among window low to ∙ is_lost since g (shown_whole g) less)
+            | inr heard ↦ absurd (started g among window low to heard)
+          ]
+          | inr high ↦ ap shown (is.loading g among window from high) ∙ loading_unseen since (before (suc frame)) g (order_of gs g order among)
         ]
 
         at : (b : Bool) → names (has_window (suc frame)) (captions gs) id ≡ b → shown w ≡ None
@@ -139,8 +161,8 @@ module _ (rate : Rate) (frames : ℕ) (gs : List CaptionLoad) (kept : AreKept ra
             ]))
 
   -- within the delay of a caption
-  module _ (frame id : ℕ) (d : CaptionLoad) (in_d : Among d gs) (on : IsDelaying (suc frame) d) (w : Option WindowState)
-      (is : IsOpened gs id d.caption.starts w) where
+  module _ (frame id : ℕ) (d : CaptionLoad) (in_d : Among d gs) (on : IsDelaying since (suc frame) d) (w : Option WindowState)
+      (is : IsOpened since gs id d.caption.starts w) where
     record Beside (g : CaptionLoad) : Type 0 where
       its : IsUncovered d.caption g.caption
       own : IsUncovered g.caption d.caption
@@ -152,8 +174,8 @@ module _ (rate : Rate) (frames : ℕ) (gs : List CaptionLoad) (kept : AreKept ra
     beside g (inr (inr ahead)) =
         inr (record { its = ahead.uncovered; own = ahead.uncovering; apart = λ some other same. ahead.apart other some (sym same) })
 
-    seen_then : (g : CaptionLoad) → Among g gs → g.caption.id ≡ id → g.caption.show ≤ frame → frame < g.caption.hide → shown w ≡ shown (shown_whole g)
-    seen_then g among window from to = at (beside g (two rate frames gs d g kept in_d among))
+    seen_then : (g : CaptionLoad) → Among g gs → g.caption.id ≡ id → g.caption.show ≤ frame → frame < g.caption.hide → since ≤ g.first → shown w ≡ shown (shown_whole g)
+    seen_then g among window from to heard = at (beside g (two rate frames gs d g kept in_d among))
       where
         at : (d ≡ g) ⊎ Beside g → shown w ≡ shown (shown_whole g)
         at (inl same) =
@@ -173,7 +195,7 @@ module _ (rate : Rate) (frames : ℕ) (gs : List CaptionLoad) (kept : AreKept ra
             (λ same. elim (none_or_some g.caption.tenths) [
               | inl none ↦ none
               | inr some ↦ absurd (b.apart on.some some (sym same))
-            ]))
+            ]) ∙ is_heard since g (shown_whole g) heard)
 
     unseen_then : ((g : CaptionLoad) → Among g gs → g.caption.id ≡ id → g.caption.show ≤ frame → frame < g.caption.hide → ⊥) → shown w ≡ None
     unseen_then all = at (names (keeps_window d.caption.starts) (captions gs) id) refl
@@ -205,7 +227,7 @@ module _ (rate : Rate) (frames : ℕ) (gs : List CaptionLoad) (kept : AreKept ra
         loading : (g : CaptionLoad) → Among g gs → g.caption.id ≡ id → g.caption.load < d.caption.starts → d.caption.starts ≤ g.caption.starts
             → (g.caption.starts ≡ d.caption.starts → 0 < g.caption.tenths) → shown w ≡ None
         loading g among window from to late =
-            ap shown (is.loading g among window from to late) ∙ loading_hidden (before d.caption.starts) g (order_of gs g order among)
+            ap shown (is.loading g among window from to late) ∙ loading_unseen since (before d.caption.starts) g (order_of gs g order among)
 
         in_window : (g : CaptionLoad) → Among g gs → g.caption.id ≡ id → g.caption.load < d.caption.starts → d.caption.starts < g.caption.hide
             → (g.caption.starts < d.caption.starts) ⊎ (d.caption.starts ≤ g.caption.starts)
@@ -231,16 +253,34 @@ module _ (rate : Rate) (frames : ℕ) (gs : List CaptionLoad) (kept : AreKept ra
                   let both : true ≡ false = sym there ∙ none in cc)
             ]))
 
-  pub seen_outside : (frame id : ℕ) → id < 8 → ((g : CaptionLoad) → Among g gs → IsDelaying (suc frame) g → ⊥)
-      → IsSeen gs id frame (shown ((screen_at gs (suc frame)).windows id))
-  seen_outside frame id small clear =
-      let w : Option WindowState = (screen_at gs (suc frame)).windows id in
-      let is = window_is rate frames gs kept order (suc frame) id small in
+  pub seen_outside : (frame id : ℕ) → since ≤ frame → id < 8
+      → ((g : CaptionLoad) → Among g gs → IsDelaying since (suc frame) g → ⊥)
+      → IsSeen since gs id frame (shown ((screen_from since gs (suc frame)).windows id))
+  seen_outside frame id low small clear =
+      let w : Option WindowState = (screen_from since gs (suc frame)).windows id in
+      let is = window_is rate frames gs kept order since (suc frame) id (omega arith) small in
       record { has = seen_now frame id clear w is; none = unseen_now frame id clear w is }
 
-  pub seen_within : (frame id : ℕ) → id < 8 → (d : CaptionLoad) → Among d gs → IsDelaying (suc frame) d
-      → IsSeen gs id frame (shown ((opening d.caption.starts gs (screen_at gs d.caption.starts)).windows id))
+  pub seen_within : (frame id : ℕ) → id < 8 → (d : CaptionLoad) → Among d gs → IsDelaying since (suc frame) d
+      → IsSeen since gs id frame (shown ((opening d.caption.starts gs (screen_from since gs d.caption.starts)).windows id))
   seen_within frame id small d among on =
-      let w : Option WindowState = (opening d.caption.starts gs (screen_at gs d.caption.starts)).windows id in
-      let is = opened_is rate frames gs kept order d.caption.starts id small in
+      let w : Option WindowState = (opening d.caption.starts gs (screen_from since gs d.caption.starts)).windows id in
+      let is = opened_is rate frames gs kept order since d.caption.starts id on.heard small in
       record { has = seen_then frame id d among on w is; none = unseen_then frame id d among on w is }
+
+-- what is seen by the captions that are heard is seen by all, where each that is up was loaded since
+among_has : (g : CaptionLoad) (gs : List CaptionLoad) → Among g gs → Has g.caption (captions gs)
+among_has g [] among = absurd among
+among_has g (h ∷ gs) (inl same) = inl (ap (λ (k : CaptionLoad). k.caption) same)
+among_has g (h ∷ gs) (inr among) = inr (among_has g gs among)
+
+pub seen_by_all : (since : ℕ) (gs : List CaptionLoad) (id frame : ℕ) (seen : Option ShownWindow) → AreInOrder gs
+    → ((c : Caption) → Has c (captions gs) → frame < c.hide → since ≤ c.load) → IsSeen since gs id frame seen → IsSeen 0 gs id frame seen
+seen_by_all since gs id frame seen order up is = record {
+  has = λ g among window from to all.
+      let in_order = order_of gs g order among in
+      let loaded = in_order.loaded in
+      let late = up g.caption (among_has g gs among) to in
+      is.has g among window from to (omega arith);
+  none = is.none;
+}

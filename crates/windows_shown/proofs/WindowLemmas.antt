@@ -1,20 +1,24 @@
--- The window of an id before each frame, as if nothing were ever put off: what its caption has loaded so far, then the whole of
--- it, shown, and otherwise none.
-use Rattle.std.proofs.Common.{◌≡◌, ◌≢◌, ◌∙◌, ℕ, zero, suc, ◌<◌, ◌≤◌, ◌⊎◌, inl, inr, ◌||◌, Bool, true, false, List, [], ◌∷◌, Option, None, refl, sym, ap, subst, arith}
+-- The window of an id before each frame, as if nothing were ever put off and nothing were heard of the frames before one: what its
+-- caption has loaded so far, then the whole of it, shown, and otherwise none; and none for a caption whose DefineWindow isn't heard.
+use Rattle.std.proofs.Common.{◌≡◌, ◌≢◌, ◌∙◌, ℕ, zero, suc, ◌<◌, ◌≤◌, nat_lt, ◌⊎◌, inl, inr, ◌||◌, Bool, true, false, if◌then◌else◌, List, [], ◌∷◌, Option, Some, None, refl, sym, ap, subst, arith}
 use Rattle.std.specs.Prelude.{option_map}
 use Rattle.std.proofs.lemmas.Bool.{cases_lt, eq-eqb, eqb-true}
+use Rattle.std.proofs.lemmas.Bool.Decides.{nat_tests}
 use Rattle.cc_base.specs.declared.rate.Rate.{Rate}
-use Rattle.std.specs.List.{AllByRecursion}
+use Rattle.std.specs.List.{AllByRecursion, list_any}
 use Rattle.dtvcc_codes.specs.declared.commands.Command.{Command}
 use Rattle.dtvcc_codes.specs.declared.commands.Command.TheVariants.{Dlw, Dsw}
 use Rattle.dtvcc_windows.specs.Windows.{WindowState, with_visibility}
+use Rattle.dtvcc_screen.specs.Commands.{current_without}
 use Rattle.dtvcc_screen.specs.Screens.{ScreenState, empty_screen}
-use Rattle.dtvcc_author.specs.FrameEvents.{delayed_at, is_hidden_at, is_shown_at, names, windows_command}
+use Rattle.dtvcc_author.specs.declared.caption.Caption.{Caption}
+use Rattle.dtvcc_author.specs.FrameEvents.{delayed_at, is_hidden_at, is_shown_at, names, windows_byte, windows_command}
 use Rattle.dtvcc_author.specs.Kept.{AreKept, IsSoundCaption}
 use Rattle.windows_shown.proofs.CaptionLoads.{AreInOrder, Among, CaptionLoad, IsOrdered, IsTextOf, all_edits, before, captions, in_frame, loads_act, own_edits}
 use Rattle.windows_shown.proofs.EditLemmas.{all_frames, edits_none, edits_own, own_early, own_late, own_more}
 use Rattle.windows_shown.proofs.EventLemmas.{acted_by, delay_current, delay_shows, delay_windows, hidden_current, hidden_windows, if_hidden, if_shown, shown_current, shown_either, shown_neither, shown_nothing, shown_windows}
-use Rattle.windows_shown.proofs.LoadLemmas.{IsCurrent, Unfinished, frame_loads}
+use Rattle.windows_shown.proofs.HeardLemmas.{IsHeardCurrent, frame_heard, heard_edits, heard_map, heard_none, if_heard, is_heard, is_lost}
+use Rattle.windows_shown.proofs.LoadLemmas.{Unfinished}
 use Rattle.windows_shown.proofs.MemberLemmas.{Order, delay_holds, delay_names, delay_says, delayed_is, delayed_names, names_it, names_none, order_of, ordered, shown_holds, shown_says, sound_of}
 
 -- what a caption's commands make of its window, and that once it is shown
@@ -31,33 +35,33 @@ opening frame gs s = acted_by (windows_command Dsw (is_shown_at frame) (captions
 abbrev pub frame_acts : ℕ → List CaptionLoad → ScreenState → ScreenState
 frame_acts frame gs s = loads_act frame gs (delay_shows (delayed_at frame (captions gs)) (opening frame gs s))
 
--- the screen before a frame
-abbrev pub screen_at : List CaptionLoad → ℕ → ScreenState
-screen_at gs zero = empty_screen
-screen_at gs (suc frame) = frame_acts frame gs (screen_at gs frame)
+-- the screen before a frame, where nothing is heard of the frames before one
+abbrev pub screen_from : ℕ → List CaptionLoad → ℕ → ScreenState
+screen_from since gs zero = empty_screen
+screen_from since gs (suc frame) = if nat_lt frame since then empty_screen else frame_acts frame gs (screen_from since gs frame)
 
 -- the window before a frame, by the captions; a caption is hidden in the frame of its HIDE
-pub record IsWindow (gs : List CaptionLoad) (id frame : ℕ) (w : Option WindowState) : Type 0 where
+pub record IsWindow (since : ℕ) (gs : List CaptionLoad) (id frame : ℕ) (w : Option WindowState) : Type 0 where
   pub loading : (g : CaptionLoad) → Among g gs → g.caption.id ≡ id → g.caption.load < frame → frame ≤ g.caption.starts
-      → w ≡ own_edits (before frame) g None
-  pub showing : (g : CaptionLoad) → Among g gs → g.caption.id ≡ id → g.caption.starts < frame → frame ≤ g.caption.hide → w ≡ shown_whole g
+      → w ≡ if_heard since g (own_edits (before frame) g None)
+  pub showing : (g : CaptionLoad) → Among g gs → g.caption.id ≡ id → g.caption.starts < frame → frame ≤ g.caption.hide → w ≡ if_heard since g (shown_whole g)
   pub none : ((g : CaptionLoad) → Among g gs → g.caption.id ≡ id → g.caption.load < frame → g.caption.hide < frame) → w ≡ None
 
 -- the window behind the events of a frame that come before its delay, by the captions
-pub record IsOpened (gs : List CaptionLoad) (id frame : ℕ) (w : Option WindowState) : Type 0 where
+pub record IsOpened (since : ℕ) (gs : List CaptionLoad) (id frame : ℕ) (w : Option WindowState) : Type 0 where
   pub loading : (g : CaptionLoad) → Among g gs → g.caption.id ≡ id → g.caption.load < frame → frame ≤ g.caption.starts
-      → (g.caption.starts ≡ frame → 0 < g.caption.tenths) → w ≡ own_edits (before frame) g None
+      → (g.caption.starts ≡ frame → 0 < g.caption.tenths) → w ≡ if_heard since g (own_edits (before frame) g None)
   pub showing : (g : CaptionLoad) → Among g gs → g.caption.id ≡ id → g.caption.starts ≤ frame → frame < g.caption.hide
-      → (g.caption.starts ≡ frame → g.caption.tenths ≡ 0) → w ≡ shown_whole g
+      → (g.caption.starts ≡ frame → g.caption.tenths ≡ 0) → w ≡ if_heard since g (shown_whole g)
   pub none : ((g : CaptionLoad) → Among g gs → g.caption.id ≡ id → g.caption.load < frame → g.caption.hide ≤ frame) → w ≡ None
 
-module _ (rate : Rate) (frames : ℕ) (gs : List CaptionLoad) (kept : AreKept rate frames (captions gs)) (order : AreInOrder gs) where
+module _ (rate : Rate) (frames : ℕ) (gs : List CaptionLoad) (kept : AreKept rate frames (captions gs)) (order : AreInOrder gs) (since : ℕ) where
   -- two captions of one window
-  pub apart : (g h : CaptionLoad) (id : ℕ) → Among g gs → Among h gs → g.caption.id ≡ id → h.caption.id ≡ id → Order g h
+  apart : (g h : CaptionLoad) (id : ℕ) → Among g gs → Among h gs → g.caption.id ≡ id → h.caption.id ≡ id → Order g h
   apart g h id in_g in_h is too = ordered rate frames gs g h kept in_g in_h (is ∙ sym too)
 
   -- from behind its LOAD up to its HIDE, which is left out, no caption of a caption's window is hidden
-  pub not_hidden : (id frame : ℕ) (g : CaptionLoad) → Among g gs → g.caption.id ≡ id → g.caption.load < frame → frame < g.caption.hide
+  not_hidden : (id frame : ℕ) (g : CaptionLoad) → Among g gs → g.caption.id ≡ id → g.caption.load < frame → frame < g.caption.hide
       → names (is_hidden_at frame) (captions gs) id ≡ false
   not_hidden id frame g among window from to =
       names_none (is_hidden_at frame) gs id
@@ -87,13 +91,13 @@ module _ (rate : Rate) (frames : ℕ) (gs : List CaptionLoad) (kept : AreKept ra
           let hidden = sound.hidden in
           omega arith
 
-  pub none_shown : (id frame : ℕ) (g : CaptionLoad) → Among g gs → g.caption.id ≡ id → g.caption.load ≤ frame → frame < g.caption.hide
+  none_shown : (id frame : ℕ) (g : CaptionLoad) → Among g gs → g.caption.id ≡ id → g.caption.load ≤ frame → frame < g.caption.hide
       → frame ≢ g.caption.starts → names (is_shown_at frame) (captions gs) id ≡ false
   none_shown id frame g among window from to other =
       names_none (is_shown_at frame) gs id
       (λ h in_h holds its. not_started id frame g h among in_h window its from to other (shown_says frame h.caption holds).1)
 
-  pub none_delayed : (id frame : ℕ) (g : CaptionLoad) → Among g gs → g.caption.id ≡ id → g.caption.load ≤ frame → frame < g.caption.hide
+  none_delayed : (id frame : ℕ) (g : CaptionLoad) → Among g gs → g.caption.id ≡ id → g.caption.load ≤ frame → frame < g.caption.hide
       → frame ≢ g.caption.starts → delay_names (delayed_at frame (captions gs)) id ≡ false
   none_delayed id frame g among window from to other = at (delay_names (delayed_at frame (captions gs)) id) refl
     where
@@ -104,7 +108,7 @@ module _ (rate : Rate) (frames : ℕ) (gs : List CaptionLoad) (kept : AreKept ra
           absurd (not_started id frame g named.load among named.among window named.window from to other (delay_says frame named.load.caption named.holds).1)
 
   -- what shows a caption is sent at once, or behind its delay
-  pub is_started : (id : ℕ) (g : CaptionLoad) → Among g gs → g.caption.id ≡ id
+  is_started : (id : ℕ) (g : CaptionLoad) → Among g gs → g.caption.id ≡ id
       → (names (is_shown_at g.caption.starts) (captions gs) id || delay_names (delayed_at g.caption.starts (captions gs)) id) ≡ true
   is_started id g among window = at g.caption.tenths refl
     where
@@ -125,8 +129,17 @@ module _ (rate : Rate) (frames : ℕ) (gs : List CaptionLoad) (kept : AreKept ra
           (delayed_is rate frames g.caption.starts gs g kept among (delay_holds g.caption.starts g.caption (omega arith) refl))
           ∙ eq-eqb g.caption.id id window)
 
+  -- text that comes no earlier than a frame comes before what shows its caption
+  unfinished_ends : (g : CaptionLoad) (frame : ℕ) → IsOrdered g → Unfinished frame g.text → frame < g.caption.starts
+  unfinished_ends g frame is un = at g.text is.texts un
+    where
+      at : (us : List (Command × ℕ)) → AllByRecursion (IsTextOf g) us → Unfinished frame us → frame < g.caption.starts
+      at [] all un = absurd un
+      at (u ∷ us) all (inl here) = let ended = all.0.ended in omega arith
+      at (u ∷ us) all (inr rest) = at us all.1 rest
+
   -- one frame more
-  module _ (id frame : ℕ) (w : Option WindowState) (is : IsWindow gs id frame w) where
+  module _ (id frame : ℕ) (w : Option WindowState) (low : since ≤ frame) (is : IsWindow since gs id frame w) where
     abbrev Hidden : Option WindowState
     Hidden = if_hidden (names (is_hidden_at frame) (captions gs) id) w
 
@@ -163,7 +176,7 @@ module _ (rate : Rate) (frames : ℕ) (gs : List CaptionLoad) (kept : AreKept ra
         (none_shown id frame g among window from to other) (none_delayed id frame g among window from to other)
 
     next_loading : (g : CaptionLoad) → Among g gs → g.caption.id ≡ id → g.caption.load < suc frame → suc frame ≤ g.caption.starts
-        → all_edits frame id gs Started ≡ own_edits (before (suc frame)) g None
+        → all_edits frame id gs Started ≡ if_heard since g (own_edits (before (suc frame)) g None)
     next_loading g among window from to =
         let sound = sound_of rate frames gs g kept among in
         let after = sound.after in
@@ -171,18 +184,19 @@ module _ (rate : Rate) (frames : ℕ) (gs : List CaptionLoad) (kept : AreKept ra
         let in_order = order_of gs g order among in
         edits_own rate frames frame id gs g Started kept order among window (omega arith) (omega arith)
         ∙ ap (own_edits (in_frame frame) g) (unstarted g among window (omega arith) (omega arith) (λ same. omega arith) ∙ so_far (cases_lt g.caption.load frame) in_order)
-        ∙ sym (own_more frame g None in_order)
+        ∙ heard_edits since frame g (own_edits (before frame) g None) low
+        ∙ ap (if_heard since g) (sym (own_more frame g None in_order))
       where
-        so_far : (g.caption.load < frame) ⊎ (frame ≤ g.caption.load) → IsOrdered g → Hidden ≡ own_edits (before frame) g None
-        so_far (inl low) in_order =
+        so_far : (g.caption.load < frame) ⊎ (frame ≤ g.caption.load) → IsOrdered g → Hidden ≡ if_heard since g (own_edits (before frame) g None)
+        so_far (inl under) in_order =
             let sound = sound_of rate frames gs g kept among in
             let after = sound.after in
             let hidden = sound.hidden in
-            stays g among window low (omega arith) ∙ is.loading g among window low (omega arith)
+            stays g among window under (omega arith) ∙ is.loading g among window under (omega arith)
         so_far (inr high) in_order =
             let loaded = in_order.loaded in
             emptied (λ h in_h its under. at h under (apart g h id among in_h window its))
-            ∙ sym (own_early frame g None in_order (omega arith))
+            ∙ sym (ap (if_heard since g) (own_early frame g None in_order (omega arith)) ∙ heard_none since g)
           where
             at : (h : CaptionLoad) → h.caption.load < frame → Order g h → h.caption.hide ≤ frame
             at h under (inl same) = let one : g.caption.load ≡ h.caption.load = ap (λ (k : CaptionLoad). k.caption.load) same in absurd (omega arith)
@@ -195,7 +209,7 @@ module _ (rate : Rate) (frames : ℕ) (gs : List CaptionLoad) (kept : AreKept ra
             at h under (inr (inr last)) = omega arith
 
     next_showing : (g : CaptionLoad) → Among g gs → g.caption.id ≡ id → g.caption.starts < suc frame → suc frame ≤ g.caption.hide
-        → all_edits frame id gs Started ≡ shown_whole g
+        → all_edits frame id gs Started ≡ if_heard since g (shown_whole g)
     next_showing g among window from to =
         let sound = sound_of rate frames gs g kept among in
         let loaded = sound.loaded in
@@ -212,7 +226,7 @@ module _ (rate : Rate) (frames : ℕ) (gs : List CaptionLoad) (kept : AreKept ra
             let hidden = sound.hidden in
             omega arith
 
-        at : (g.caption.starts < frame) ⊎ (frame ≤ g.caption.starts) → Started ≡ shown_whole g
+        at : (g.caption.starts < frame) ⊎ (frame ≤ g.caption.starts) → Started ≡ if_heard since g (shown_whole g)
         at (inl low) =
             let sound = sound_of rate frames gs g kept among in
             let loaded = sound.loaded in
@@ -229,7 +243,8 @@ module _ (rate : Rate) (frames : ℕ) (gs : List CaptionLoad) (kept : AreKept ra
             ∙ ap (option_map (with_visibility true))
             (stays g among window (omega arith) (omega arith)
             ∙ is.loading g among window (omega arith) (omega arith)
-            ∙ own_late frame g None in_order (omega arith))
+            ∙ ap (if_heard since g) (own_late frame g None in_order (omega arith)))
+            ∙ heard_map (with_visibility true) since g (whole g)
 
     next_none : ((g : CaptionLoad) → Among g gs → g.caption.id ≡ id → g.caption.load < suc frame → g.caption.hide < suc frame)
         → all_edits frame id gs Started ≡ None
@@ -245,12 +260,12 @@ module _ (rate : Rate) (frames : ℕ) (gs : List CaptionLoad) (kept : AreKept ra
         (shown_nothing (names (is_shown_at frame) (captions gs) id) Hidden
         (emptied (λ g among window from. let gone = all g among window (omega arith) in omega arith)))
 
-    window_next : IsWindow gs id (suc frame) (all_edits frame id gs Started)
+    window_next : IsWindow since gs id (suc frame) (all_edits frame id gs Started)
     window_next = record { loading = next_loading; showing = next_showing; none = next_none }
 
     -- the same behind the events alone
     open_loading : (g : CaptionLoad) → Among g gs → g.caption.id ≡ id → g.caption.load < frame → frame ≤ g.caption.starts
-        → (g.caption.starts ≡ frame → 0 < g.caption.tenths) → Opened ≡ own_edits (before frame) g None
+        → (g.caption.starts ≡ frame → 0 < g.caption.tenths) → Opened ≡ if_heard since g (own_edits (before frame) g None)
     open_loading g among window from to late =
         let sound = sound_of rate frames gs g kept among in
         let after = sound.after in
@@ -279,10 +294,10 @@ module _ (rate : Rate) (frames : ℕ) (gs : List CaptionLoad) (kept : AreKept ra
             omega arith
 
     open_showing : (g : CaptionLoad) → Among g gs → g.caption.id ≡ id → g.caption.starts ≤ frame → frame < g.caption.hide
-        → (g.caption.starts ≡ frame → g.caption.tenths ≡ 0) → Opened ≡ shown_whole g
+        → (g.caption.starts ≡ frame → g.caption.tenths ≡ 0) → Opened ≡ if_heard since g (shown_whole g)
     open_showing g among window from to at_once = at (cases_lt g.caption.starts frame)
       where
-        at : (g.caption.starts < frame) ⊎ (frame ≤ g.caption.starts) → Opened ≡ shown_whole g
+        at : (g.caption.starts < frame) ⊎ (frame ≤ g.caption.starts) → Opened ≡ if_heard since g (shown_whole g)
         at (inl low) =
             let sound = sound_of rate frames gs g kept among in
             let loaded = sound.loaded in
@@ -297,16 +312,31 @@ module _ (rate : Rate) (frames : ℕ) (gs : List CaptionLoad) (kept : AreKept ra
             ∙ ap (option_map (with_visibility true))
             (stays g among window (omega arith) to
             ∙ is.loading g among window (omega arith) (omega arith)
-            ∙ own_late frame g None (order_of gs g order among) (omega arith))
+            ∙ ap (if_heard since g) (own_late frame g None (order_of gs g order among) (omega arith)))
+            ∙ heard_map (with_visibility true) since g (whole g)
 
     open_none : ((g : CaptionLoad) → Among g gs → g.caption.id ≡ id → g.caption.load < frame → g.caption.hide ≤ frame) → Opened ≡ None
     open_none all = shown_nothing (names (is_shown_at frame) (captions gs) id) Hidden (emptied all)
 
-    window_opened : IsOpened gs id frame Opened
+    window_opened : IsOpened since gs id frame Opened
     window_opened = record { loading = open_loading; showing = open_showing; none = open_none }
 
+    -- the window of a caption that isn't heard isn't there while it is loading
+    bare_started : (g : CaptionLoad) → Among g gs → g.caption.id ≡ id → g.first < since → Unfinished frame g.text → Started ≡ None
+    bare_started g among window less un =
+        let in_order = order_of gs g order among in
+        let sound = sound_of rate frames gs g kept among in
+        let loaded = in_order.loaded in
+        let after = sound.after in
+        let hidden = sound.hidden in
+        let ends = unfinished_ends g frame in_order un in
+        unstarted g among window (omega arith) (omega arith) (λ same. omega arith)
+        ∙ stays g among window (omega arith) (omega arith)
+        ∙ is.loading g among window (omega arith) (omega arith)
+        ∙ is_lost since g (own_edits (before frame) g None) less
+
   -- what a frame does to each window
-  pub opening_windows : (frame id : ℕ) (s : ScreenState) → id < 8 → (opening frame gs s).windows id
+  opening_windows : (frame id : ℕ) (s : ScreenState) → id < 8 → (opening frame gs s).windows id
       ≡ if_shown (names (is_shown_at frame) (captions gs) id) (if_hidden (names (is_hidden_at frame) (captions gs) id) (s.windows id))
   opening_windows frame id s small =
       shown_windows (is_shown_at frame) (captions gs) (acted_by (windows_command Dlw (is_hidden_at frame) (captions gs)) s) id small
@@ -314,60 +344,90 @@ module _ (rate : Rate) (frames : ℕ) (gs : List CaptionLoad) (kept : AreKept ra
 
   -- the screen before a frame
   record Stands (frame : ℕ) : Type 0 where
-    windows : (id : ℕ) → id < 8 → IsWindow gs id frame ((screen_at gs frame).windows id)
-    current : IsCurrent frame gs (screen_at gs frame)
+    windows : (id : ℕ) → id < 8 → IsWindow since gs id frame ((screen_from since gs frame).windows id)
+    current : IsHeardCurrent since frame gs (screen_from since gs frame)
 
-  -- text that comes no earlier than a frame comes before what shows its caption
-  pub unfinished_ends : (g : CaptionLoad) (frame : ℕ) → IsOrdered g → Unfinished frame g.text → frame < g.caption.starts
-  unfinished_ends g frame is un = at g.text is.texts un
+  -- no window is made current by what hides
+  none_hidden : (test : Caption → Bool) (s : ScreenState) → s.current ≡ None → (acted_by (windows_command Dlw test (captions gs)) s).current ≡ None
+  none_hidden test s none = at (list_any test (captions gs))
     where
-      at : (us : List (Command × ℕ)) → AllByRecursion (IsTextOf g) us → Unfinished frame us → frame < g.caption.starts
-      at [] all un = absurd un
-      at (u ∷ us) all (inl here) = let ended = all.0.ended in omega arith
-      at (u ∷ us) all (inr rest) = at us all.1 rest
+      at : (b : Bool) → (acted_by (if b then Dlw (windows_byte (names test (captions gs))) ∷ [] else []) s).current ≡ None
+      at true = ap (current_without (windows_byte (names test (captions gs)))) none
+      at false = none
 
-  -- a window that is loading stays current in the events of a frame
-  opening_current : (frame : ℕ) (s : ScreenState) → IsCurrent frame gs s → IsCurrent frame gs (delay_shows (delayed_at frame (captions gs)) (opening frame gs s))
+  -- what is current stays in the events of a frame
+  opening_current : (frame : ℕ) (s : ScreenState) → IsHeardCurrent since frame gs s → IsHeardCurrent since frame gs (delay_shows (delayed_at frame (captions gs)) (opening frame gs s))
   opening_current frame s current g among begun un =
-      let in_order = order_of gs g order among in
-      let sound = sound_of rate frames gs g kept among in
-      let loaded = in_order.loaded in
-      let after = sound.after in
-      let hidden = sound.hidden in
-      let ends = unfinished_ends g frame in_order un in
       delay_current (delayed_at frame (captions gs)) (opening frame gs s)
       ∙ shown_current (is_shown_at frame) (captions gs) (acted_by (windows_command Dlw (is_hidden_at frame) (captions gs)) s)
-      ∙ hidden_current (is_hidden_at frame) (captions gs) s g.caption.id sound.window
-      (not_hidden g.caption.id frame g among refl (omega arith) (omega arith)) (current g among begun un)
+      ∙ hides (cases_lt g.first since)
+    where
+      hides : (g.first < since) ⊎ (since ≤ g.first) → (acted_by (windows_command Dlw (is_hidden_at frame) (captions gs)) s).current ≡ if_heard since g (Some g.caption.id)
+      hides (inl less) =
+          none_hidden (is_hidden_at frame) s (current g among begun un ∙ is_lost since g (Some g.caption.id) less) ∙ sym (is_lost since g (Some g.caption.id) less)
+      hides (inr high) =
+          let in_order = order_of gs g order among in
+          let sound = sound_of rate frames gs g kept among in
+          let loaded = in_order.loaded in
+          let after = sound.after in
+          let hidden = sound.hidden in
+          let ends = unfinished_ends g frame in_order un in
+          hidden_current (is_hidden_at frame) (captions gs) s g.caption.id sound.window
+          (not_hidden g.caption.id frame g among refl (omega arith) (omega arith))
+          (current g among begun un ∙ is_heard since g (Some g.caption.id) high)
+          ∙ sym (is_heard since g (Some g.caption.id) high)
 
-  stands_at : (frame : ℕ) → Stands frame
-  stands_at zero = record {
-    windows = λ id small. record {
-      loading = λ g among window from to. absurd (omega arith);
-      showing = λ g among window from to. absurd (omega arith);
+  -- when nothing was heard yet
+  begins : (frame : ℕ) → frame ≡ since → screen_from since gs frame ≡ empty_screen → Stands frame
+  begins frame here empty = record {
+    windows = λ id small. subst (λ (s : ScreenState). IsWindow since gs id frame (s.windows id)) (sym empty) (record {
+      loading = λ g among window past to. elim (cases_lt g.first since) [
+        | inl less ↦ sym (is_lost since g (own_edits (before frame) g None) less)
+        | inr high ↦ sym (ap (if_heard since g) (own_early frame g None (order_of gs g order among) (omega arith)) ∙ heard_none since g)
+      ];
+      showing = λ g among window past to. let in_order = order_of gs g order among in let ended = in_order.ended in sym (is_lost since g (shown_whole g) (omega arith));
       none = λ all. refl;
-    };
-    current = λ g among begun un. absurd (omega arith);
+    });
+    current = λ g among begun un. ap (λ (s : ScreenState). s.current) empty ∙ sym (is_lost since g (Some g.caption.id) (omega arith));
   }
-  stands_at (suc frame) =
-      let was = stands_at frame in
-      let s : ScreenState = screen_at gs frame in
-      let t : ScreenState = delay_shows (delayed_at frame (captions gs)) (opening frame gs s) in
-      let loads = frame_loads frame gs t order (opening_current frame s was.current) in
-      record {
-        windows = λ id small.
-            let started : t.windows id ≡ Started id frame (s.windows id) (was.windows id small) =
-            delay_windows (delayed_at frame (captions gs)) (opening frame gs s) id small
-            ∙ ap (if_shown (delay_names (delayed_at frame (captions gs)) id)) (opening_windows frame id s small) in
-            subst (IsWindow gs id (suc frame)) (sym (loads.windows id ∙ ap (all_edits frame id gs) started))
-            (window_next id frame (s.windows id) (was.windows id small));
-        current = loads.current;
-      }
 
-  pub window_is : (frame id : ℕ) → id < 8 → IsWindow gs id frame ((screen_at gs frame).windows id)
-  window_is frame id small = (stands_at frame).windows id small
+  quiet : (frame : ℕ) → frame ≤ since → screen_from since gs frame ≡ empty_screen
+  quiet zero low = refl
+  quiet (suc frame) low = let test : nat_lt frame since ≡ true = grind (arith, nat_tests) in rw test refl
 
-  pub opened_is : (frame id : ℕ) → id < 8 → IsOpened gs id frame ((opening frame gs (screen_at gs frame)).windows id)
-  opened_is frame id small =
-      subst (IsOpened gs id frame) (sym (opening_windows frame id (screen_at gs frame) small))
-      (window_opened id frame ((screen_at gs frame).windows id) (window_is frame id small))
+  stands_at : (frame : ℕ) → since ≤ frame → Stands frame
+  stands_at zero low = begins zero (omega arith) refl
+  stands_at (suc frame) low = elim (cases_lt frame since) [
+    | inl less ↦ begins (suc frame) (omega arith) (quiet (suc frame) (omega arith))
+    | inr behind ↦ next frame behind (stands_at frame behind)
+  ]
+    where
+      next : (frame : ℕ) → since ≤ frame → Stands frame → Stands (suc frame)
+      next frame behind was =
+          let test : nat_lt frame since ≡ false = grind (arith, nat_tests) in
+          let s : ScreenState = screen_from since gs frame in
+          let t : ScreenState = delay_shows (delayed_at frame (captions gs)) (opening frame gs s) in
+          let now : screen_from since gs (suc frame) ≡ loads_act frame gs t = rw test refl in
+          let started : (id : ℕ) (small : id < 8) → t.windows id ≡ Started id frame (s.windows id) behind (was.windows id small) =
+          λ id small.
+          delay_windows (delayed_at frame (captions gs)) (opening frame gs s) id small
+          ∙ ap (if_shown (delay_names (delayed_at frame (captions gs)) id)) (opening_windows frame id s small) in
+          let loads = frame_heard since frame gs t behind order (opening_current frame s was.current)
+          (λ g among less un.
+          let small = (sound_of rate frames gs g kept among).window in
+          started g.caption.id small
+          ∙ bare_started g.caption.id frame (s.windows g.caption.id) behind (was.windows g.caption.id small) g among refl less un) in
+          record {
+            windows = λ id small.
+                subst (IsWindow since gs id (suc frame)) (sym (ap (λ (x : ScreenState). x.windows id) now ∙ loads.windows id ∙ ap (all_edits frame id gs) (started id small)))
+                (window_next id frame (s.windows id) behind (was.windows id small));
+            current = λ g among begun un. ap (λ (x : ScreenState). x.current) now ∙ loads.current g among begun un;
+          }
+
+  pub window_is : (frame id : ℕ) → since ≤ frame → id < 8 → IsWindow since gs id frame ((screen_from since gs frame).windows id)
+  window_is frame id low small = (stands_at frame low).windows id small
+
+  pub opened_is : (frame id : ℕ) → since ≤ frame → id < 8 → IsOpened since gs id frame ((opening frame gs (screen_from since gs frame)).windows id)
+  opened_is frame id low small =
+      subst (IsOpened since gs id frame) (sym (opening_windows frame id (screen_from since gs frame) small))
+      (window_opened id frame ((screen_from since gs frame).windows id) low (window_is frame id low small))

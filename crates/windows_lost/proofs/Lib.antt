@@ -1,0 +1,2 @@
+pub mod ResetLemmas
+pub mod LossLemmas
