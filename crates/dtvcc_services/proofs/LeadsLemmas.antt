@@ -13,7 +13,7 @@ use Rattle.dtvcc_screen.specs.Meaning.{Event, Tick, Byte, Reset, Served, after, 
 use Rattle.dtvcc_screen.specs.Objects.{Stands, core_delay_end, screen_in}
 use Rattle.dtvcc_screen.specs.Screens.{ScreenState}
 use Rattle.dtvcc_screen.specs.Shown.{LooksSame, grids}
-use Rattle.dtvcc_screen.proofs.MeaningLemmas.{after_more}
+use Rattle.dtvcc_screen.proofs.MeaningLemmas.{after_append, after_more}
 use Rattle.dtvcc_services.specs.declared.members.Member.{Member}
 use Rattle.dtvcc_services.specs.declared.services.Services.{Services}
 use Rattle.dtvcc_services.specs.Filling.{is_filled, is_filled_by}
@@ -108,10 +108,6 @@ was_at : (was now : List Member) (place : ℕ) (member : Member) → length now 
     → (before : Member) × (slice_get was place ≡ Some before)
 was_at was now place member count is =
     let within = slice_get_within now place member is in some_at was place (omega (arith, count, within))
-
-after_append : (s : Served) (events more : List Event) → after s (events ++ more) ≡ after (after s events) more
-after_append s [] more = refl
-after_append s (first ∷ events) more = after_append (on_event first s) events more
 
 -- a frame begins for all
 pub tick_leads : (before frame : Events) (was now : List Member) (clock next_clock : Clock) (rate : Rate) (next later : ℕ) (touched seen : Bool)

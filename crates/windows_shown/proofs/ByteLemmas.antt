@@ -1,25 +1,24 @@
 -- The bytes of a service's lane act on the screen as the commands of its captions do.
-use Rattle.std.proofs.Common.{◌≡◌, ◌∙◌, ℕ, zero, suc, ◌<◌, ◌≤◌, nat_lt, Bool, true, false, if◌then◌else◌, ◌==◌, List, [], ◌∷◌, ◌++◌, Option, Some, None, refl, ap, append-nil, arith}
+use Rattle.std.proofs.Common.{◌≡◌, ◌∙◌, ℕ, zero, suc, ◌<◌, nat_lt, Bool, true, false, if◌then◌else◌, ◌==◌, List, [], ◌∷◌, ◌++◌, Option, Some, None, refl, ap, append-nil, arith}
 use Rattle.std.proofs.lemmas.Bool.Decides.{nat_tests}
 use Rattle.std.specs.Prelude.{option_map}
 use Rattle.std.specs.List.{flat_map, list_any}
 use Rattle.cc_base.specs.declared.rate.Rate.{Rate}
 use Rattle.dtvcc_codes.specs.declared.commands.Command.TheVariants.{Dlw, Dsw}
 use Rattle.dtvcc_codes.specs.Writing.{written}
-use Rattle.dtvcc_screen.specs.Screens.{ScreenState, empty_screen}
+use Rattle.dtvcc_screen.specs.Screens.{ScreenState}
 use Rattle.dtvcc_author.specs.declared.caption.Caption.{Caption}
 use Rattle.dtvcc_author.specs.FrameEvents.{delayed_at, is_hidden_at, is_shown_at, names, windows_byte}
 use Rattle.dtvcc_author.specs.Latest.{caption_delay}
 use Rattle.service_lanes.specs.Chunks.{Chunk}
 use Rattle.service_lanes.specs.ServiceBytes.{loads_at}
 use Rattle.dtvcc_shown.specs.CaptionLanes.{lane_of, plain_events}
-use Rattle.dtvcc_shown.specs.ServiceLanes.{Lane}
 use Rattle.dtvcc_shown.specs.Undelayed.{acted_on, shows_bytes, undelayed}
 use Rattle.dtvcc_shown.proofs.WrittenLemmas.{acted_append, dlw_acts, dlw_plain, dsw_acts}
 use Rattle.windows_shown.proofs.CaptionLoads.{CaptionLoad, captions, loads_act}
 use Rattle.windows_shown.proofs.EventLemmas.{acted_by, delay_shows}
 use Rattle.windows_shown.proofs.HeardLaneLemmas.{heard_lane}
-use Rattle.windows_shown.proofs.WindowLemmas.{opening, screen_from}
+use Rattle.windows_shown.proofs.WindowLemmas.{empty_until, opening, screen_from}
 
 -- one command for windows, and one behind another
 one_dsw : (windows : ℕ) (s : ScreenState) → acted_on (written (Dsw windows) ++ []) s ≡ acted_by (Dsw windows ∷ []) s
@@ -59,27 +58,19 @@ AreLoads placed gs = (frame : ℕ) (s : ScreenState) → acted_on (loads_at plac
 pub undelayed_is : (since : ℕ) (rate : Rate) (placed : List (Chunk × ℕ)) (gs : List CaptionLoad) → AreLoads placed gs → (frame : ℕ)
     → undelayed (heard_lane since (lane_of rate (captions gs) placed)) frame ≡ screen_from since gs frame
 undelayed_is since rate placed gs loads zero = refl
-undelayed_is since rate placed gs loads (suc frame) =
-    at (nat_lt frame since) refl (undelayed_is since rate placed gs loads frame)
+undelayed_is since rate placed gs loads (suc frame) = at (nat_lt frame since) refl (undelayed_is since rate placed gs loads frame)
   where
-    lane : Lane
-    lane = lane_of rate (captions gs) placed
-
-    s : ScreenState
-    s = screen_from since gs frame
-
-    empty_yet : (n : ℕ) → n ≤ since → screen_from since gs n ≡ empty_screen
-    empty_yet zero low = refl
-    empty_yet (suc n) low = let test : nat_lt n since ≡ true = grind (arith, nat_tests) in rw test refl
-
     at : (b : Bool) → nat_lt frame since ≡ b → undelayed (heard_lane since (lane_of rate (captions gs) placed)) frame ≡ screen_from since gs frame
         → undelayed (heard_lane since (lane_of rate (captions gs) placed)) (suc frame) ≡ screen_from since gs (suc frame)
     at true test was =
         let low : frame < since = grind (arith, nat_tests) in
-        rw test (was ∙ empty_yet frame (omega arith))
+        rw test (was ∙ empty_until since gs frame (omega arith))
     at false test was =
+        let s : ScreenState = screen_from since gs frame in
+        let found : Option Caption = delayed_at frame (captions gs) in
+        let shows : List ℕ = shows_bytes (option_map caption_delay found) in
         rw test
-        (ap (λ (t : ScreenState). acted_on (loads_at placed frame) (acted_on (shows_bytes (option_map caption_delay (delayed_at frame (captions gs)))) (acted_on (plain_events frame (captions gs)) t))) was
-        ∙ ap (λ (t : ScreenState). acted_on (loads_at placed frame) (acted_on (shows_bytes (option_map caption_delay (delayed_at frame (captions gs)))) t)) (events_act frame gs (screen_from since gs frame))
-        ∙ ap (acted_on (loads_at placed frame)) (delay_acts (delayed_at frame (captions gs)) (opening frame gs (screen_from since gs frame)))
-        ∙ loads frame (delay_shows (delayed_at frame (captions gs)) (opening frame gs (screen_from since gs frame))))
+        (ap (λ (t : ScreenState). acted_on (loads_at placed frame) (acted_on shows (acted_on (plain_events frame (captions gs)) t))) was
+        ∙ ap (λ (t : ScreenState). acted_on (loads_at placed frame) (acted_on shows t)) (events_act frame gs s)
+        ∙ ap (acted_on (loads_at placed frame)) (delay_acts found (opening frame gs s))
+        ∙ loads frame (delay_shows found (opening frame gs s)))

@@ -40,6 +40,11 @@ abbrev pub screen_from : ℕ → List CaptionLoad → ℕ → ScreenState
 screen_from since gs zero = empty_screen
 screen_from since gs (suc frame) = if nat_lt frame since then empty_screen else frame_acts frame gs (screen_from since gs frame)
 
+-- which is empty up to there
+pub empty_until : (since : ℕ) (gs : List CaptionLoad) (frame : ℕ) → frame ≤ since → screen_from since gs frame ≡ empty_screen
+empty_until since gs zero low = refl
+empty_until since gs (suc frame) low = let test : nat_lt frame since ≡ true = grind (arith, nat_tests) in rw test refl
+
 -- the window before a frame, by the captions; a caption is hidden in the frame of its HIDE
 pub record IsWindow (since : ℕ) (gs : List CaptionLoad) (id frame : ℕ) (w : Option WindowState) : Type 0 where
   pub loading : (g : CaptionLoad) → Among g gs → g.caption.id ≡ id → g.caption.load < frame → frame ≤ g.caption.starts
@@ -391,14 +396,10 @@ module _ (rate : Rate) (frames : ℕ) (gs : List CaptionLoad) (kept : AreKept ra
     current = λ g among begun un. ap (λ (s : ScreenState). s.current) empty ∙ sym (is_lost since g (Some g.caption.id) (omega arith));
   }
 
-  quiet : (frame : ℕ) → frame ≤ since → screen_from since gs frame ≡ empty_screen
-  quiet zero low = refl
-  quiet (suc frame) low = let test : nat_lt frame since ≡ true = grind (arith, nat_tests) in rw test refl
-
   stands_at : (frame : ℕ) → since ≤ frame → Stands frame
   stands_at zero low = begins zero (omega arith) refl
   stands_at (suc frame) low = elim (cases_lt frame since) [
-    | inl less ↦ begins (suc frame) (omega arith) (quiet (suc frame) (omega arith))
+    | inl less ↦ begins (suc frame) (omega arith) (empty_until since gs (suc frame) (omega arith))
     | inr behind ↦ next frame behind (stands_at frame behind)
   ]
     where
