@@ -19,3 +19,4 @@ pub mod BlockLemmas
 pub mod LaneSetLemmas
 pub mod ServicesLemmas
 pub mod PlanLemmas
+pub mod EndLemmas

@@ -99,18 +99,23 @@ channel_controls list channel formed ruled =
 abbrev pub channel_timeline : Listing → Chan → List ℕ → Timeline
 channel_timeline list channel placed = lane_timeline (channel_events channel (slot_cues list channel)) (channel_pieces channel (slot_cues list channel)) placed
 
+-- all that a channel sends has ended when the list has
+pub channel_ended : (list : Listing) (channel : Chan) → IsFormed list → IsRuled list
+    → AreEnded (channel_events channel (slot_cues list channel)) (channel_pieces channel (slot_cues list channel)) (slots_in_list list channel)
+channel_ended list channel formed ruled =
+    let slots = slots_in_list list channel in
+    record {
+      events_are = events_over slots (channel_events channel (slot_cues list channel)) (events_within list formed ruled channel);
+      pieces_are = All-weaker (IsWithin slots) (λ piece. piece.until ≤ slots) (λ piece w. w.ended) (channel_pieces channel (slot_cues list channel))
+          (channel_within list channel formed ruled);
+    }
+
 -- the slots of a channel are doubled
 channel_doubled : (list : Listing) (channel : Chan) (placed : List ℕ) → IsFormed list → IsRuled list → IsChannelPlaced channel (slot_cues list channel) placed
     → IsDoubled (column (channel_timeline list channel placed) (slots_in_list list channel))
 channel_doubled list channel placed formed ruled earliest =
-    let events = channel_events channel (slot_cues list channel) in
-    let pieces = channel_pieces channel (slot_cues list channel) in
-    let slots = slots_in_list list channel in
-    let ended : AreEnded events pieces slots = record {
-      events_are = events_over slots events (events_within list formed ruled channel);
-      pieces_are = All-weaker (IsWithin slots) (λ piece. piece.until ≤ slots) (λ piece w. w.ended) pieces (channel_within list channel formed ruled);
-    } in
-    lane_doubled events pieces placed slots (events_apart list ruled channel) (channel_controls list channel formed ruled) ended earliest.placed
+    lane_doubled (channel_events channel (slot_cues list channel)) (channel_pieces channel (slot_cues list channel)) placed (slots_in_list list channel)
+    (events_apart list ruled channel) (channel_controls list channel formed ruled) (channel_ended list channel formed ruled) earliest.placed
 
 -- one more frame has one more pair where it has a slot
 column_and : (c : Cadence) (t : Timeline) (n : ℕ)

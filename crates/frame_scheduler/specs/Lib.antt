@@ -15,6 +15,7 @@ pub mod Columns
 pub mod EventsApart
 pub mod Frames
 pub mod Planned
+pub mod End
 pub mod Blocks
 pub mod ServicesLeft
 pub mod LaneSets

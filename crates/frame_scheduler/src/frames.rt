@@ -91,6 +91,7 @@ impl Frames for Plan {
     ghost use Rattle.frame_scheduler.specs.Frames.{GivesFrom, frames_left};
 
     ghost left = { frames_left };
+
     ghost Gives = { GivesFrom };
 
     fn next(&mut self) -> Option<FrameBytes> {
