@@ -1,4 +1,5 @@
-//! The texts of the grids of line 21's caption channels CC1 to CC4: all that a frame shows, and what changes from frame to frame.
+//! The texts of what a viewer sees, of the grids of line 21's caption channels CC1 to CC4 and of the caption windows of DTVCC's 63
+//! services: all that a frame shows, and what changes from frame to frame.
 #![tactic(auto)]
 
 mod grids;
