@@ -1,6 +1,7 @@
 # make demo     shows `ccsuite pairs` on a cue list within a minute, not yet proved; then does as `make`, and shows it again
 # make          proves every crate and builds the program: build/ccsuite
-# make check    the gate: every proof from nothing, the must-fail edits, the tests, the program by two compilers
+# make check    the gate: every proof, the must-fail edits, the tests, the program by two compilers; on a new machine from nothing, later without
+#               the proofs and edits that passed there, of crates that are as they were, with all below them
 # make bench    how fast `pairs`, `build` and `insert` write and `decode` and `verify` read, and what cue lists, the receiver's frames and pairs and bytes of services cost
 # make install  puts the program, its man page, completions, documents, examples and viewer under PREFIX (/usr/local), behind DESTDIR if it is set
 # make uninstall      takes away what install puts
