@@ -7,7 +7,7 @@
 # make uninstall      takes away what install puts
 # make faults   makes memory, reads and writes fail at each place of short runs, and compares how each run ends (needs strace)
 # make check-install  tries both in a folder of its own: the files, the man page, each shell's completions
-# make try      runs the commands of the manual, the cookbook and the man page and compares what they print; tries the viewer in a Chromium
+# make try      runs the commands of the manual, the cookbook and the man page and compares what they print; tries subtitles.py, and the viewer in a Chromium
 
 PREFIX ?= /usr/local
 # the program that install puts
@@ -84,6 +84,7 @@ faults: $(PROGRAM)
 
 try: $(PROGRAM)
 	docs/try.py $(PROGRAM)
+	docs/try_subtitles.py $(PROGRAM)
 	viewer/try.py $(PROGRAM)
 
 clean:

@@ -3,7 +3,8 @@
 
 In a block of the kind `console`, a line that begins with `$ ` is a command, `> ` goes on with it, and the lines below are what it prints, to
 standard output and error. The commands of a document are run by one bash, in a folder of its own with the folder examples/ in it, where
-`ccsuite` is PROGRAM. A word behind `console` names a program that the block needs: where that isn't installed, the block is passed over.
+`ccsuite` is PROGRAM. A word behind `console` names a program that the block needs, or a package of Debian's Python (`python3-webvtt`): where that
+isn't installed, the block is passed over.
 """
 
 import pathlib
@@ -19,6 +20,7 @@ BLOCKS = {
     ".md": re.compile(r"^```console(.*)\n((?:.*\n)*?)```$", re.M),
     ".1": re.compile(r"^\.Bd -literal -offset indent()\n((?:.*\n)*?)\.Ed$", re.M),
 }
+PYTHON = "/usr/bin/python3"
 MARK = "-- ended --"
 
 
@@ -35,11 +37,18 @@ def commands_of(block):
     return commands
 
 
+def is_installed(name):
+    if name.startswith("python3-"):
+        words = [PYTHON, "-c", f"import {name.removeprefix('python3-')}"]
+        return bool(shutil.which(PYTHON)) and subprocess.run(words, stderr=subprocess.DEVNULL).returncode == 0
+    return bool(shutil.which(name))
+
+
 def blocks_of(document):
     """The commands of each block that can be run here, and the names of programs that are missing."""
     commands, missing = [], set()
     for needs, block in BLOCKS[document.suffix].findall(document.read_text()):
-        lacks = [it for it in needs.split() if not shutil.which(it)]
+        lacks = [it for it in needs.split() if not is_installed(it)]
         missing.update(lacks)
         commands += [] if lacks else commands_of(block)
     return commands, missing
