@@ -1,7 +1,7 @@
 ghost use Rattle.std.specs.Prelude.{None};
 
 use cc_base::{LimitOf, MemorySink, MemorySource, Source, SteadySource, Took, Why};
-use ccsuite_cli::{Place, Status, run};
+use ccsuite_cli::{Place, Status, run, side_of};
 use cue_lists::RuleFault;
 use std::alloc::Global;
 use std::test::Fail;
@@ -164,6 +164,50 @@ fn words_that_are_no_command_are_usage(rt: HostRuntime) -> Result<(), Fail> {
         assert_eq!(rt; ended.status, Status::Usage);
         assert_eq!(rt; ended.out.bytes(), b"".as_slice());
         assert_eq!(rt; ended.err.bytes(), usage.as_slice());
+    }
+    Ok(())
+}
+
+#[test]
+fn verify_and_insert_name_a_side_file(rt: HostRuntime) -> Result<(), Fail> {
+    let alloc = rt.alloc();
+    for (line, path) in [
+        ("verify|list.csv", Some("list.csv")),
+        ("insert|list.csv", Some("list.csv")),
+        ("insert|", Some("")),
+        ("verify", None),
+        ("verify|a|b", None),
+        ("show|3", None),
+        ("decode", None),
+    ] {
+        let mut words = Vec::new(alloc);
+        for word in line.split('|') {
+            words.push(String::from_str(alloc, word)?)?;
+        }
+        assert_eq!(rt; side_of(&words), path);
+    }
+    Ok(())
+}
+
+#[test]
+fn a_line_that_is_not_put_whole_changes_no_status(rt: HostRuntime) -> Result<(), Fail> {
+    let alloc = rt.alloc();
+    let words = words_of(alloc, &["pairs"])?;
+    let list = b"ccsuite,1,29.97,30\npop,CC1,0,6,20\nrun,15,0,white,HI\n";
+    // The number of the put that fails, of the line's three pieces.
+    for (failing, line) in [
+        (0, b"".as_slice()),
+        (1, b"no room: cue "),
+        (2, b"no room: cue 1"),
+    ] {
+        let mut input = SteadySource::new(list.to_vec(alloc)?);
+        let mut side = SteadySource::new(Vec::new(alloc));
+        let mut out = MemorySink::new(alloc, 200, Vec::new(alloc))?;
+        let mut err = MemorySink::new(alloc, 200, [failing].to_vec(alloc)?)?;
+        let status = run(alloc, &words, &mut input, &mut side, &mut out, &mut err);
+        assert_eq!(rt; status, Status::NoRoom(1));
+        assert_eq!(rt; out.bytes(), b"".as_slice());
+        assert_eq!(rt; err.bytes(), line);
     }
     Ok(())
 }

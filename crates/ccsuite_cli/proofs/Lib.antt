@@ -1,7 +1,0 @@
-mod CleanLemmas
-mod CommandLemmas
-mod FilledLemmas
-mod SeenLemmas
-mod SizeLemmas
-mod VerdictLemmas
-mod VerifiedLemmas

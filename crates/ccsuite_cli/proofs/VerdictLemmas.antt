@@ -17,29 +17,29 @@ use Rattle.ccsuite_cli.specs.declared.command.Command.TheVariants.{Build, Cues, 
 
 -- an accepted list
 pub accepted_answered : AcceptedIsAnswered
-accepted_answered bytes list placed Pairs old new answer reads accepted read is = accepted_pairs bytes list placed old new answer accepted read is
-accepted_answered bytes list placed Build old new answer reads accepted read is = accepted_build bytes list placed old new answer accepted read is
-accepted_answered bytes list placed Cues old new answer reads accepted read is = accepted_cues bytes list placed old new answer accepted read is
-accepted_answered bytes list placed _ old new answer reads accepted read is = absurd reads
+accepted_answered bytes list placed Pairs side later old new answer reads accepted read is = accepted_pairs bytes list placed old new answer accepted read is.1
+accepted_answered bytes list placed Build side later old new answer reads accepted read is = accepted_build bytes list placed old new answer accepted read is.1
+accepted_answered bytes list placed Cues side later old new answer reads accepted read is = accepted_cues bytes list placed old new answer accepted read is.1
+accepted_answered bytes list placed _ side later old new answer reads accepted read is = absurd reads
 
 -- a refused list
 pub refused_answered : RefusedListIsAnswered
-refused_answered bytes refusal Pairs old new answer refuses read is = refused_pairs bytes refusal old new answer refuses read is
-refused_answered bytes refusal Build old new answer refuses read is = refused_build bytes refusal old new answer refuses read is
-refused_answered bytes refusal Cues old new answer refuses read is = refused_cues bytes refusal old new answer refuses read is
-refused_answered bytes refusal _ old new answer refuses read is = absurd refuses
+refused_answered bytes refusal Pairs side later old new answer refuses read is = refused_pairs bytes refusal old new answer refuses read is.1
+refused_answered bytes refusal Build side later old new answer refuses read is = refused_build bytes refusal old new answer refuses read is.1
+refused_answered bytes refusal Cues side later old new answer refuses read is = refused_cues bytes refusal old new answer refuses read is.1
+refused_answered bytes refusal _ side later old new answer refuses read is = absurd refuses
 
 -- malformed words
 pub malformed_refused : MalformedIsRefused
-malformed_refused bytes refusal Decode old new answer reads malformed within read is = decode_refused bytes refusal old new answer malformed within read is
-malformed_refused bytes refusal (Show frame) old new answer reads malformed within read is = show_refused frame bytes refusal old new answer malformed within read is
-malformed_refused bytes refusal _ old new answer reads malformed within read is = absurd reads
+malformed_refused bytes refusal Decode side later old new answer reads malformed within read is = decode_refused bytes refusal old new answer malformed within read is.1
+malformed_refused bytes refusal (Show frame) side later old new answer reads malformed within read is = show_refused frame bytes refusal old new answer malformed within read is.1
+malformed_refused bytes refusal _ side later old new answer reads malformed within read is = absurd reads
 
 -- words past the limit
 pub long_refused : LongWordsAreRefused
-long_refused bytes Decode old new answer reads past read is = decode_long bytes old new answer past read is
-long_refused bytes (Show frame) old new answer reads past read is = show_long frame bytes old new answer past read is
-long_refused bytes _ old new answer reads past read is = absurd reads
+long_refused bytes Decode side later old new answer reads past read is = decode_long bytes old new answer past read is.1
+long_refused bytes (Show frame) side later old new answer reads past read is = show_long frame bytes old new answer past read is.1
+long_refused bytes _ side later old new answer reads past read is = absurd reads
 
 -- the side file is as it was
 side_same : (side later : SideEnds) (answer : Status) → later ≡ side → TellsSideFaults side later answer
@@ -47,7 +47,7 @@ side_same side later answer same = side_kept side later answer (ap (λ (s : Side
 
 -- a count that is greater than before
 pub faults_told : FaultsAreTold
-faults_told None side later old new answer is = (side_same side later answer is.0, same_told old new answer is.1.1)
+faults_told None side later old new answer is = (side_same side later answer is.0, same_told old new answer is.1)
 faults_told (Some Pairs) side later old new answer is = (side_same side later answer is.0, told_pairs old new answer is.1)
 faults_told (Some Build) side later old new answer is = (side_same side later answer is.0, told_build old new answer is.1)
 faults_told (Some Cues) side later old new answer is = (side_same side later answer is.0, told_cues old new answer is.1)

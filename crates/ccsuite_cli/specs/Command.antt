@@ -1,5 +1,5 @@
--- The command lines of the program.
-use Rattle.std.specs.Prelude.{◌≡◌, ◌≤◌, ℕ, List, [], ◌∷◌, Option, option_map, Some, None, codes, if◌then◌else◌, Bool, true, false, ⊤}
+-- The command lines of the program: the words of each command, the line of usage, and the side file that a command reads.
+use Rattle.std.specs.Prelude.{◌≡◌, ◌≤◌, ◌++◌, ℕ, List, [], ◌∷◌, map, Option, option_map, Some, None, codes, if◌then◌else◌, Bool, true, false, ⊤}
 use Rattle.std.specs.Option.{option_and_then}
 use Rattle.cue_lists.specs.Fields.{named, number_within}
 use Rattle.load_lists.specs.LoadList.{most_load}
@@ -23,34 +23,65 @@ IsRunnable (Some (Export time)) = is_time_code time ≡ true
 IsRunnable (Some (Load count)) = (1 ≤ count) × (count ≤ most_load)
 IsRunnable _ = ⊤
 
--- the command names a side file
+-- what stands behind the word of a command: nothing, or one argument, by its name in the line of usage, which makes it a command, if
+-- it makes it one
+pub data Behind : Type 0 where
+  Nothing : Command → Behind
+  Argument : List ℕ → (List ℕ → Option Command) → Behind
+
+-- the commands, each by its word and what stands behind it, as the line of usage has them
+abbrev pub commands : List (List ℕ × Behind)
+commands =
+    (codes "pairs", Nothing Pairs)
+    ∷ (codes "build", Nothing Build)
+    ∷ (codes "decode", Nothing Decode)
+    ∷ (codes "show", Argument (codes "FRAME") (λ frame. option_map Show (number_within 0 last_frame frame)))
+    ∷ (codes "verify", Argument (codes "CUES") (λ path. Some Verify))
+    ∷ (codes "insert", Argument (codes "CUES") (λ path. Some Insert))
+    ∷ (codes "import", Nothing Import)
+    ∷ (codes "export", Argument (codes "TIME") (λ time. option_map Export (start_of time)))
+    ∷ (codes "cues", Nothing Cues)
+    ∷ (codes "load", Argument (codes "N") (λ count. option_map Load (number_within 1 most_load count)))
+    ∷ []
+
+-- the command of a word behind which nothing stands
+abbrev pub alone : Behind → Option Command
+alone (Nothing command) = Some command
+alone (Argument name command) = None
+
+-- the command of a word and this argument
+abbrev pub with_argument : List ℕ → Behind → Option Command
+with_argument argument (Nothing command) = None
+with_argument argument (Argument name command) = command argument
+
+-- the command that these words are, if they are one
+abbrev pub command_of : List (List ℕ) → Option Command
+command_of (word ∷ []) = option_and_then alone (named commands word)
+command_of (word ∷ argument ∷ []) = option_and_then (with_argument argument) (named commands word)
+command_of _ = None
+
+-- the command reads a side file
 abbrev pub has_side_file : Option Command → Bool
 has_side_file (Some Verify) = true
 has_side_file (Some Insert) = true
 has_side_file _ = false
 
--- the commands that stand alone, each by its word
-abbrev pub plain_commands : List (List ℕ × Command)
-plain_commands =
-    (codes "pairs", Pairs)
-    ∷ (codes "build", Build)
-    ∷ (codes "cues", Cues)
-    ∷ (codes "decode", Decode)
-    ∷ (codes "import", Import)
-    ∷ []
+-- the path of the side file of these words: the argument of a command that reads one
+abbrev pub side_path : List (List ℕ) → Option (List ℕ)
+side_path (word ∷ path ∷ []) = if has_side_file (command_of (word ∷ path ∷ [])) then Some path else None
+side_path _ = None
 
--- the commands with an argument, each by its word: which command an argument makes it, if it makes it one
-abbrev pub argument_commands : List (List ℕ × (List ℕ → Option Command))
-argument_commands =
-    (codes "show", λ frame. option_map Show (number_within 0 last_frame frame))
-    ∷ (codes "verify", λ path. Some Verify)
-    ∷ (codes "insert", λ path. Some Insert)
-    ∷ (codes "export", λ time. option_map Export (start_of time))
-    ∷ (codes "load", λ count. option_map Load (number_within 1 most_load count))
-    ∷ []
+-- how the line of usage has a command
+abbrev pub usage_of : List ℕ × Behind → List ℕ
+usage_of (word, Nothing command) = word
+usage_of (word, Argument name command) = word ++ codes " " ++ name
 
--- the command that these words are, if they are one
-abbrev pub command_of : List (List ℕ) → Option Command
-command_of (word ∷ []) = named plain_commands word
-command_of (word ∷ argument ∷ []) = option_and_then (λ command. command argument) (named argument_commands word)
-command_of _ = None
+-- texts, with a bar between each two
+abbrev pub with_bars : List (List ℕ) → List ℕ
+with_bars [] = []
+with_bars (text ∷ []) = text
+with_bars (text ∷ (other ∷ texts)) = text ++ codes "|" ++ with_bars (other ∷ texts)
+
+-- the line for words that are no command: all commands
+abbrev pub usage_line : List ℕ
+usage_line = codes "usage: ccsuite " ++ with_bars (map usage_of commands) ++ codes "\n"

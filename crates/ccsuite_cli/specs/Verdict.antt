@@ -19,7 +19,7 @@ use Rattle.words_commands.specs.WordsVerdict.{IsPastLimit, IsShown}
 use Rattle.scc_commands.specs.Import.{IsImport, IsRefusedImport, Placed}
 use Rattle.cue_list_commands.specs.SideEnds.{SideEnds}
 use Rattle.cue_list_commands.specs.SideLists.{TellsAllFaults}
-use Rattle.ccsuite_cli.specs.Answer.{Answer, RunAnswer}
+use Rattle.ccsuite_cli.specs.Answer.{Answer}
 use Rattle.ccsuite_cli.specs.declared.command.Command.{Command}
 use Rattle.ccsuite_cli.specs.declared.command.Command.TheVariants.{Build, Cues, Decode, Import, Load, Pairs, Show}
 
@@ -32,14 +32,14 @@ ReadsCueList _ = ⊥
 
 -- every command that reads a cue list answers an input that is an accepted one Ok, or want of memory
 abbrev pub AcceptedIsAnswered : Type 0
-AcceptedIsAnswered = (bytes : List ℕ) (list : Listing) (placed : Placement) (command : Command) (old new : Ends) (answer : Status)
-    → ReadsCueList command → IsAccepted bytes list placed → IsReadOf bytes old new → Answer (Some command) old new answer
+AcceptedIsAnswered = (bytes : List ℕ) (list : Listing) (placed : Placement) (command : Command) (side later : SideEnds) (old new : Ends) (answer : Status)
+    → ReadsCueList command → IsAccepted bytes list placed → IsReadOf bytes old new → Answer (Some command) side later old new answer
     → (answer ≡ status.Ok) ⊎ (answer ≡ status.Memory)
 
 -- so does `cues` for a list that keeps the rules, whether it has room or not
 abbrev pub GoodListIsWritten : Type 0
-GoodListIsWritten = (bytes : List ℕ) (list : Listing) (old new : Ends) (answer : Status)
-    → IsGoodList bytes list → IsReadOf bytes old new → Answer (Some Cues) old new answer
+GoodListIsWritten = (bytes : List ℕ) (list : Listing) (side later : SideEnds) (old new : Ends) (answer : Status)
+    → IsGoodList bytes list → IsReadOf bytes old new → Answer (Some Cues) side later old new answer
     → (answer ≡ status.Ok) ⊎ (answer ≡ status.Memory)
 
 -- a command that reads a cue list refuses bytes with this status
@@ -51,20 +51,20 @@ Refuses _ bytes refusal = ⊥
 
 -- it answers them with that status, or want of memory
 abbrev pub RefusedListIsAnswered : Type 0
-RefusedListIsAnswered = (bytes : List ℕ) (refusal : Status) (command : Command) (old new : Ends) (answer : Status)
-    → Refuses command bytes refusal → IsReadOf bytes old new → Answer (Some command) old new answer
+RefusedListIsAnswered = (bytes : List ℕ) (refusal : Status) (command : Command) (side later : SideEnds) (old new : Ends) (answer : Status)
+    → Refuses command bytes refusal → IsReadOf bytes old new → Answer (Some command) side later old new answer
     → (answer ≡ refusal) ⊎ (answer ≡ status.Memory)
 
 -- `decode` answers a words file Ok, or want of memory
 abbrev pub FileIsDecoded : Type 0
-FileIsDecoded = (bytes : List ℕ) (frames : List Frame) (old new : Ends) (answer : Status)
-    → IsFileUnder caption_channel frames bytes → length bytes ≤ words_limit → IsReadOf bytes old new → Answer (Some Decode) old new answer
+FileIsDecoded = (bytes : List ℕ) (frames : List Frame) (side later : SideEnds) (old new : Ends) (answer : Status)
+    → IsFileUnder caption_channel frames bytes → length bytes ≤ words_limit → IsReadOf bytes old new → Answer (Some Decode) side later old new answer
     → (answer ≡ status.Ok) ⊎ (answer ≡ status.Memory)
 
 -- `show` answers a words file by the number of its frames, or want of memory
 abbrev pub FileIsShown : Type 0
-FileIsShown = (frame : ℕ) (bytes : List ℕ) (frames : List Frame) (old new : Ends) (answer : Status)
-    → IsFileUnder caption_channel frames bytes → length bytes ≤ words_limit → IsReadOf bytes old new → Answer (Some (Show frame)) old new answer
+FileIsShown = (frame : ℕ) (bytes : List ℕ) (frames : List Frame) (side later : SideEnds) (old new : Ends) (answer : Status)
+    → IsFileUnder caption_channel frames bytes → length bytes ≤ words_limit → IsReadOf bytes old new → Answer (Some (Show frame)) side later old new answer
     → IsShown frame (length frames) answer ⊎ (answer ≡ status.Memory)
 
 -- the commands that read words
@@ -75,32 +75,32 @@ ReadsWordsFile _ = ⊥
 
 -- they answer words that are malformed so, or want of memory
 abbrev pub MalformedIsRefused : Type 0
-MalformedIsRefused = (bytes : List ℕ) (refusal : Refusal) (command : Command) (old new : Ends) (answer : Status)
+MalformedIsRefused = (bytes : List ℕ) (refusal : Refusal) (command : Command) (side later : SideEnds) (old new : Ends) (answer : Status)
     → ReadsWordsFile command → IsMalformed caption_channel bytes refusal → length bytes ≤ words_limit → IsReadOf bytes old new
-    → Answer (Some command) old new answer → (answer ≡ status.Malformed (Byte refusal.place) refusal.why) ⊎ (answer ≡ status.Memory)
+    → Answer (Some command) side later old new answer → (answer ≡ status.Malformed (Byte refusal.place) refusal.why) ⊎ (answer ≡ status.Memory)
 
 -- and more bytes than the limit by the first offending word within it, or by the limit, or want of memory
 abbrev pub LongWordsAreRefused : Type 0
-LongWordsAreRefused = (bytes : List ℕ) (command : Command) (old new : Ends) (answer : Status)
-    → ReadsWordsFile command → words_limit < length bytes → IsReadOf bytes old new → Answer (Some command) old new answer
+LongWordsAreRefused = (bytes : List ℕ) (command : Command) (side later : SideEnds) (old new : Ends) (answer : Status)
+    → ReadsWordsFile command → words_limit < length bytes → IsReadOf bytes old new → Answer (Some command) side later old new answer
     → IsPastLimit bytes answer ⊎ (answer ≡ status.Memory)
 
 -- `import` answers an SCC file within the limits Ok, or want of memory
 abbrev pub SccFileIsImported : Type 0
-SccFileIsImported = (bytes : List ℕ) (pairs : Placed) (old new : Ends) (answer : Status)
-    → IsImport bytes pairs → IsReadOf bytes old new → Answer (Some Import) old new answer → (answer ≡ status.Ok) ⊎ (answer ≡ status.Memory)
+SccFileIsImported = (bytes : List ℕ) (pairs : Placed) (side later : SideEnds) (old new : Ends) (answer : Status)
+    → IsImport bytes pairs → IsReadOf bytes old new → Answer (Some Import) side later old new answer → (answer ≡ status.Ok) ⊎ (answer ≡ status.Memory)
 
 -- and any other input with its one refusal, or want of memory
 abbrev pub RefusedImportIsAnswered : Type 0
-RefusedImportIsAnswered = (bytes : List ℕ) (refusal : Status) (old new : Ends) (answer : Status)
-    → IsRefusedImport bytes refusal → IsReadOf bytes old new → Answer (Some Import) old new answer → (answer ≡ refusal) ⊎ (answer ≡ status.Memory)
+RefusedImportIsAnswered = (bytes : List ℕ) (refusal : Status) (side later : SideEnds) (old new : Ends) (answer : Status)
+    → IsRefusedImport bytes refusal → IsReadOf bytes old new → Answer (Some Import) side later old new answer → (answer ≡ refusal) ⊎ (answer ≡ status.Memory)
 
 -- `load` answers Ok, or want of memory, where the output's count of faults didn't rise, whatever the number of captions
 abbrev pub LoadIsAnswered : Type 0
-LoadIsAnswered = (count : ℕ) (old new : Ends) (answer : Status) → (Rose old.write_faults new.write_faults → ⊥)
-    → Answer (Some (Load count)) old new answer → (answer ≡ status.Ok) ⊎ (answer ≡ status.Memory)
+LoadIsAnswered = (count : ℕ) (side later : SideEnds) (old new : Ends) (answer : Status) → (Rose old.write_faults new.write_faults → ⊥)
+    → Answer (Some (Load count)) side later old new answer → (answer ≡ status.Ok) ⊎ (answer ≡ status.Memory)
 
 -- every run tells faults
 abbrev pub FaultsAreTold : Type 0
-FaultsAreTold = (command : Option Command) (side later : SideEnds) (old new : Ends) (answer : Status) → RunAnswer command side later old new answer
+FaultsAreTold = (command : Option Command) (side later : SideEnds) (old new : Ends) (answer : Status) → Answer command side later old new answer
     → TellsAllFaults side later old new answer

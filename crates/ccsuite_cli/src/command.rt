@@ -1,5 +1,6 @@
+ghost use Rattle.std.specs.Option.{option_copied};
 ghost use Rattle.std.specs.Prelude.{◌≡◌, ◌≤◌, [], ◌∷◌, IfSome, map, string_bytes, true};
-ghost use Rattle.ccsuite_cli.specs.Command.{IsRunnable, command_of, last_frame, start_of};
+ghost use Rattle.ccsuite_cli.specs.Command.{IsRunnable, command_of, has_side_file, last_frame, side_path, start_of};
 ghost use Rattle.cue_lists.specs.Fields.{number_within};
 ghost use Rattle.load_lists.specs.LoadList.{most_load};
 ghost use Rattle.time_codes.specs.TimeCodes.{is_time_code};
@@ -33,8 +34,30 @@ pub enum Command {
     Load(u32),
 }
 
+/// The line for words that are no command.
+pub(crate) const USAGE: &[u8] =
+    b"usage: ccsuite pairs|build|decode|show FRAME|verify CUES|insert CUES|import|export TIME|cues|load N\n";
+
 /// The last frame that `show` can name.
 const LAST_FRAME: u64 = 4_294_967_294;
+
+/// The path of the side file that the words after the program's name give: the argument of a command that reads one, whatever it
+/// is; None where the words have no side file.
+pub fn side_of(words: &[String]) -> Option<&str>
+    ensures { option_copied result ≡ side_path (map string_bytes words.now) }
+{
+    match words {
+        [_, path] if reads_side_file(read_command(words)) => Some(path.as_str()),
+        _ => None,
+    }
+}
+
+/// Whether the command reads a side file.
+fn reads_side_file(command: Option<Command>) -> bool
+    ensures { result ≡ has_side_file command }
+{
+    matches!(command, Some(Command::Verify | Command::Insert))
+}
 
 /// The command of the words after the program's name; None where they are no command.
 pub fn read_command(words: &[String]) -> Option<Command>

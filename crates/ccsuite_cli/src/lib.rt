@@ -1,14 +1,17 @@
 //! The program `ccsuite`: its command lines, and the status with which a run of each ends.
 #![tactic(auto)]
 
+pub use crate::command::side_of;
 pub use crate::program::run;
 pub use crate::standard_streams::start;
 pub use crate::unread_words::run_without_words;
 pub use command_base::{Place, Status};
-pub use side_files::{SideFile, side_of};
+pub use side_files::SideFile;
 
 mod command;
+mod finding_line;
 pub mod laws;
 mod program;
 mod standard_streams;
+mod status_line;
 mod unread_words;

@@ -1,13 +1,14 @@
 ghost use Rattle.std.specs.Prelude.{◌≡◌, Some, false, map, string_bytes};
-ghost use Rattle.ccsuite_cli.specs.Answer.{RunAnswer};
+ghost use Rattle.ccsuite_cli.specs.Answer.{Answer};
 ghost use Rattle.ccsuite_cli.specs.Command.{IsRunnable, command_of, has_side_file};
 ghost use Rattle.command_base.specs.Ends.{ends};
-ghost use Rattle.command_base.specs.StatusLine.{PutsLine};
+ghost use Rattle.ccsuite_cli.specs.StatusLine.{PutsLine};
 ghost use Rattle.cue_list_commands.specs.SideEnds.{side_ends};
 
 use crate::command::{Command, read_command};
+use crate::status_line::put_status;
 use cc_base::{Sink, Source};
-use command_base::{Status, put_status};
+use command_base::Status;
 use cue_list_commands::{run_build, run_cues, run_pairs};
 use insert_commands::run_insert;
 use load_commands::run_load;
@@ -26,7 +27,7 @@ pub fn run<M: Source, S: Source, O: Sink, E: Sink>(
     out: &mut O,
     err: &mut E,
 ) -> Status
-    ensures answer { RunAnswer (command_of (map string_bytes words.now))
+    ensures answer { Answer (command_of (map string_bytes words.now))
         (side_ends (S.left side.old) (S.faults side.old)) (side_ends (S.left side.new) (S.faults side.new))
         (ends (M.left input.old) (M.faults input.old) (O.written out.old) (O.faults out.old))
         (ends (M.left input.new) (M.faults input.new) (O.written out.new) (O.faults out.new)) result }
@@ -47,7 +48,7 @@ fn obey<M: Source, S: Source, O: Sink>(
     out: &mut O,
 ) -> Status
     requires { IsRunnable command }
-    ensures answer { RunAnswer command
+    ensures answer { Answer command
         (side_ends (S.left side.old) (S.faults side.old)) (side_ends (S.left side.new) (S.faults side.new))
         (ends (M.left input.old) (M.faults input.old) (O.written out.old) (O.faults out.old))
         (ends (M.left input.new) (M.faults input.new) (O.written out.new) (O.faults out.new)) result }
@@ -68,7 +69,7 @@ fn perform<M: Source, S: Source, O: Sink>(
     out: &mut O,
 ) -> Status
     requires { IsRunnable (Some command) }
-    ensures answer { RunAnswer (Some command)
+    ensures answer { Answer (Some command)
         (side_ends (S.left side.old) (S.faults side.old)) (side_ends (S.left side.new) (S.faults side.new))
         (ends (M.left input.old) (M.faults input.old) (O.written out.old) (O.faults out.old))
         (ends (M.left input.new) (M.faults input.new) (O.written out.new) (O.faults out.new)) result }

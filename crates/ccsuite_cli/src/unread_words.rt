@@ -1,8 +1,9 @@
 ghost use Rattle.std.specs.Prelude.{◌≡◌, ◌≢◌};
-ghost use Rattle.command_base.specs.StatusLine.{PutsLine};
+ghost use Rattle.ccsuite_cli.specs.StatusLine.{PutsLine};
 
+use crate::status_line::put_status;
 use cc_base::Sink;
-use command_base::{Status, put_status};
+use command_base::Status;
 use std::io::ErrorKind;
 
 /// Ends a run whose words couldn't be read, for this reason. A word that isn't UTF-8 is no word of a command, so that is

@@ -1,4 +1,4 @@
 pub mod Counts
 pub mod Ends
-pub mod StatusLine
+pub mod StatusCode
 pub mod WholeInput

@@ -1,2 +1,1 @@
-pub mod SideOf
 pub mod SideFiles

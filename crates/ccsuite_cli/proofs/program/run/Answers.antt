@@ -1,4 +1,4 @@
-use Rattle.command_base.proofs.LineLemmas.{line_put}
+use Rattle.ccsuite_cli.proofs.LineLemmas.{line_put}
 use Rattle.ccsuite_cli.proofs.program.run.Goals as goal
 
 pub returns-clause-line : goal.returns-clause-line

@@ -1,4 +1,4 @@
-use Rattle.command_base.proofs.status.put_malformed.Goals as goal
+use Rattle.ccsuite_cli.proofs.status_line.put_malformed.Goals as goal
 
 pub returns-in-Byte-clause-bytes : goal.returns-in-Byte-clause-bytes
 returns-in-Byte-clause-bytes g c =

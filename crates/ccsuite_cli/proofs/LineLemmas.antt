@@ -3,7 +3,7 @@ use Rattle.std.proofs.Common.{inl, inr, ℕ, List, Option}
 use Rattle.cc_base.specs.Streams.{PutCause, Puts}
 use Rattle.cc_base.specs.declared.streams.Put.{Put}
 use Rattle.cc_base.specs.declared.streams.Put.TheVariants as put
-use Rattle.command_base.specs.StatusLine.{PutsLine, status_line}
+use Rattle.ccsuite_cli.specs.StatusLine.{PutsLine, status_line}
 use Rattle.command_base.specs.declared.status.Status.{Status}
 
 -- what a put of it did, by its answer

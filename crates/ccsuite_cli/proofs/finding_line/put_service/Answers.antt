@@ -1,4 +1,4 @@
-use Rattle.command_base.proofs.finding_line.put_channel.Goals as goal
+use Rattle.ccsuite_cli.proofs.finding_line.put_service.Goals as goal
 
 pub returns-clause-bytes : goal.returns-clause-bytes
 returns-clause-bytes g c =
@@ -7,5 +7,6 @@ returns-clause-bytes g c =
       c.format.ensures.text,
       c.as_bytes-2.ensures.value,
       c.name.ensures,
-      c.channel_name.ensures,
+      c.as_bytes-3.ensures.value,
+      c.format-2.ensures.text,
     ) at c.put_pieces.ensures.bytes

@@ -1,4 +1,4 @@
--- How a run ends: the code of each status, and its one line in the error output.
+-- The one line of each status in the error output.
 use Rattle.std.specs.Prelude.{◌≡◌, ◌⊎◌, ℕ, List, [], ◌∷◌, Option, Some, None, codes, decimal}
 use Rattle.std.specs.Io.KnownBytes.{Appends}
 use Rattle.cc_base.specs.LimitOf.{limit_name_of}
@@ -16,24 +16,11 @@ use Rattle.findings.specs.declared.finding.Which.{Which}
 use Rattle.findings.specs.declared.finding.Which.TheVariants as which
 use Rattle.line21_codes.specs.declared.channels.Chan.{Chan}
 use Rattle.line21_codes.specs.declared.channels.Chan.TheVariants as chan
+use Rattle.ccsuite_cli.specs.Command.{usage_line}
 use Rattle.command_base.specs.declared.status.Place.{Place}
 use Rattle.command_base.specs.declared.status.Place.TheVariants.{Byte, Field}
 use Rattle.command_base.specs.declared.status.Status.{Status}
 use Rattle.command_base.specs.declared.status.Status.TheVariants as status
-
--- the code of a status
-abbrev pub status_code : Status → ℕ
-status_code status.Ok = 0
-status_code status.Usage = 1
-status_code status.ReadFault = 2
-status_code status.WriteFault = 3
-status_code status.Memory = 4
-status_code (status.Limit limit) = 5
-status_code (status.Malformed place why) = 6
-status_code (status.Rule fault) = 7
-status_code (status.NoRoom cue) = 8
-status_code (status.Differs finding) = 9
-status_code (status.Short frames) = 10
 
 -- the line of a malformed input
 abbrev pub malformed_line : Place → Why → List ℕ
@@ -90,8 +77,7 @@ finding_line finding = line_of_kind finding.frame finding.kind
 -- the line of a status; Ok has none
 abbrev pub status_line : Status → List ℕ
 status_line status.Ok = []
-status_line status.Usage =
-    codes "usage: ccsuite pairs|build|decode|show FRAME|verify CUES|insert CUES|import|export TIME|cues|load N\n"
+status_line status.Usage = usage_line
 status_line status.ReadFault = codes "read fault\n"
 status_line status.WriteFault = codes "write fault\n"
 status_line status.Memory = codes "out of memory\n"

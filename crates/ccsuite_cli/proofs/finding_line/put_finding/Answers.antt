@@ -1,4 +1,4 @@
-use Rattle.command_base.proofs.finding_line.put_finding.Goals as goal
+use Rattle.ccsuite_cli.proofs.finding_line.put_finding.Goals as goal
 
 pub returns-in-CounterJump-clause-bytes : goal.returns-in-CounterJump-clause-bytes
 returns-in-CounterJump-clause-bytes g c = rw c.in-CounterJump.is c.put_seen.ensures.bytes

@@ -1,4 +1,4 @@
-use Rattle.command_base.proofs.finding_line.put_seen.Goals as goal
+use Rattle.ccsuite_cli.proofs.finding_line.put_seen.Goals as goal
 
 pub returns-clause-bytes : goal.returns-clause-bytes
 returns-clause-bytes g c =

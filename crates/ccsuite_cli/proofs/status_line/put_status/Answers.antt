@@ -1,4 +1,4 @@
-use Rattle.command_base.proofs.status.put_status.Goals as goal
+use Rattle.ccsuite_cli.proofs.status_line.put_status.Goals as goal
 
 pub returns-in-Usage-clause-bytes : goal.returns-in-Usage-clause-bytes
 returns-in-Usage-clause-bytes g c = rw c.in-Usage.is c.put_pieces-in-Usage.ensures.bytes

@@ -1,4 +1,4 @@
-use Rattle.command_base.proofs.finding_line.put_grid.Goals as goal
+use Rattle.ccsuite_cli.proofs.finding_line.put_grid.Goals as goal
 
 pub returns-in-Chan-clause-bytes : goal.returns-in-Chan-clause-bytes
 returns-in-Chan-clause-bytes g c = rw c.in-Chan.is c.put_channel.ensures.bytes

@@ -1,6 +1,6 @@
 ghost use Rattle.std.specs.Prelude.{◌≡◌};
 ghost use Rattle.cc_base.specs.Streams.{PutCause, Puts};
-ghost use Rattle.command_base.specs.StatusLine.{channel_line, channel_name, grid_line, line_of_kind, seen_line, service_line};
+ghost use Rattle.ccsuite_cli.specs.StatusLine.{channel_line, channel_name, grid_line, line_of_kind, seen_line, service_line};
 
 use cc_base::{Put, Sink, Why, put_pieces};
 use findings::{Kind45, Which};
