@@ -5,4 +5,3 @@ mod Migrated
 pub mod Outputs
 mod Refusals
 pub mod SideLemmas
-mod WordsLemmas

@@ -9,8 +9,10 @@ use Rattle.command_base.specs.declared.status.Status.TheVariants as status
 use Rattle.cue_lists.specs.Listing.{Listing}
 use Rattle.frame_scheduler.specs.Planned.{Placement}
 use Rattle.cue_list_commands.specs.Accepted.{IsAccepted, IsGoodList, IsRefused, IsRefusedList}
-use Rattle.cue_list_commands.specs.ListAnswer.{BuildAnswer, CuesAnswer, PairsAnswer, PutsList, PutsOutput}
-use Rattle.cue_list_commands.specs.Output.{IsSoundPairs, IsSoundWords, build_output, pairs_output}
+use Rattle.cue_list_commands.specs.ListAnswer.{BuildAnswer, CuesAnswer, PairsAnswer, PutsList}
+use Rattle.cue_list_commands.specs.Output.{IsPlacedAs, IsSoundPairs, IsSoundWords, framing_of, lines_of}
+use Rattle.programmes.specs.Framing.{words_of}
+use Rattle.programme_runs.proofs.AnswerLemmas.{made_accepted, made_refused, made_told}
 use Rattle.cue_list_commands.proofs.ListVerdictLemmas.{accepted_not_refused, good_not_refused, refused_once}
 use Rattle.cue_list_commands.proofs.Refusals.{refused_list}
 
@@ -18,14 +20,12 @@ use Rattle.cue_list_commands.proofs.Refusals.{refused_list}
 pub accepted_pairs : (bytes : List ℕ) (list : Listing) (placed : Placement) (old new : Ends) (answer : Status) → IsAccepted bytes list placed → IsReadOf bytes old new
     → PairsAnswer old new answer → (answer ≡ status.Ok) ⊎ (answer ≡ status.Memory)
 accepted_pairs bytes list placed old new answer accepted read is =
-    unrefused (PutsOutput pairs_output IsSoundPairs put.Done) IsRefused bytes old new answer (λ refusal. accepted_not_refused bytes list placed refusal accepted)
-    (answered (PutsOutput pairs_output IsSoundPairs put.Done) (PutsOutput pairs_output IsSoundPairs put.Failed) IsRefused bytes old new answer read is)
+    made_accepted IsPlacedAs (λ made. lines_of (framing_of made)) IsSoundPairs IsRefused bytes old new answer (λ refusal. accepted_not_refused bytes list placed refusal accepted) read is
 
 pub accepted_build : (bytes : List ℕ) (list : Listing) (placed : Placement) (old new : Ends) (answer : Status) → IsAccepted bytes list placed → IsReadOf bytes old new
     → BuildAnswer old new answer → (answer ≡ status.Ok) ⊎ (answer ≡ status.Memory)
 accepted_build bytes list placed old new answer accepted read is =
-    unrefused (PutsOutput build_output IsSoundWords put.Done) IsRefused bytes old new answer (λ refusal. accepted_not_refused bytes list placed refusal accepted)
-    (answered (PutsOutput build_output IsSoundWords put.Done) (PutsOutput build_output IsSoundWords put.Failed) IsRefused bytes old new answer read is)
+    made_accepted IsPlacedAs (λ made. words_of (framing_of made)) IsSoundWords IsRefused bytes old new answer (λ refusal. accepted_not_refused bytes list placed refusal accepted) read is
 
 -- one that keeps the rules
 pub good_cues : (bytes : List ℕ) (list : Listing) (old new : Ends) (answer : Status) → IsGoodList bytes list → IsReadOf bytes old new
@@ -43,18 +43,16 @@ accepted_cues bytes list placed old new answer accepted read is =
 pub refused_pairs : (bytes : List ℕ) (refusal : Status) (old new : Ends) (answer : Status) → IsRefused bytes refusal → IsReadOf bytes old new
     → PairsAnswer old new answer → (answer ≡ refusal) ⊎ (answer ≡ status.Memory)
 refused_pairs bytes refusal old new answer is_refused read is =
-    refused (PutsOutput pairs_output IsSoundPairs put.Done) IsRefused bytes refusal old new answer
-    (λ puts. accepted_not_refused bytes puts.list puts.placed refusal puts.accepted is_refused)
-    (λ other again. refused_once bytes other refusal again is_refused)
-    (answered (PutsOutput pairs_output IsSoundPairs put.Done) (PutsOutput pairs_output IsSoundPairs put.Failed) IsRefused bytes old new answer read is)
+    made_refused IsPlacedAs (λ made. lines_of (framing_of made)) IsSoundPairs IsRefused bytes refusal old new answer
+    (λ made accepted. accepted_not_refused bytes made.list made.placed refusal accepted is_refused)
+    (λ other again. refused_once bytes other refusal again is_refused) read is
 
 pub refused_build : (bytes : List ℕ) (refusal : Status) (old new : Ends) (answer : Status) → IsRefused bytes refusal → IsReadOf bytes old new
     → BuildAnswer old new answer → (answer ≡ refusal) ⊎ (answer ≡ status.Memory)
 refused_build bytes refusal old new answer is_refused read is =
-    refused (PutsOutput build_output IsSoundWords put.Done) IsRefused bytes refusal old new answer
-    (λ puts. accepted_not_refused bytes puts.list puts.placed refusal puts.accepted is_refused)
-    (λ other again. refused_once bytes other refusal again is_refused)
-    (answered (PutsOutput build_output IsSoundWords put.Done) (PutsOutput build_output IsSoundWords put.Failed) IsRefused bytes old new answer read is)
+    made_refused IsPlacedAs (λ made. words_of (framing_of made)) IsSoundWords IsRefused bytes refusal old new answer
+    (λ made accepted. accepted_not_refused bytes made.list made.placed refusal accepted is_refused)
+    (λ other again. refused_once bytes other refusal again is_refused) read is
 
 pub refused_cues : (bytes : List ℕ) (refusal : Status) (old new : Ends) (answer : Status) → IsRefusedList bytes refusal → IsReadOf bytes old new
     → CuesAnswer old new answer → (answer ≡ refusal) ⊎ (answer ≡ status.Memory)
@@ -66,10 +64,10 @@ refused_cues bytes refusal old new answer is_refused read is =
 
 -- a count of faults that is greater than before
 pub told_pairs : (old new : Ends) (answer : Status) → PairsAnswer old new answer → TellsFaults old new answer
-told_pairs old new answer is = told (PutsOutput pairs_output IsSoundPairs put.Done) (PutsOutput pairs_output IsSoundPairs put.Failed) IsRefused old new answer is
+told_pairs old new answer is = made_told IsPlacedAs (λ made. lines_of (framing_of made)) IsSoundPairs IsRefused old new answer is
 
 pub told_build : (old new : Ends) (answer : Status) → BuildAnswer old new answer → TellsFaults old new answer
-told_build old new answer is = told (PutsOutput build_output IsSoundWords put.Done) (PutsOutput build_output IsSoundWords put.Failed) IsRefused old new answer is
+told_build old new answer is = made_told IsPlacedAs (λ made. words_of (framing_of made)) IsSoundWords IsRefused old new answer is
 
 pub told_cues : (old new : Ends) (answer : Status) → CuesAnswer old new answer → TellsFaults old new answer
 told_cues old new answer is = told (PutsList put.Done) (PutsList put.Failed) IsRefusedList old new answer is

@@ -1,57 +1,75 @@
 -- What the commands that read a cue list put of an accepted one, and what holds of it.
-use Rattle.std.specs.Prelude.{◌<◌, ℕ, List}
-use Rattle.line21_codes.specs.declared.channels.FieldNumber.{FieldNumber}
+use Rattle.std.specs.Prelude.{⊤, ◌<◌, ℕ, List}
+use Rattle.authored_grids.specs.AuthoredServiceGrid.{authored_windows}
+use Rattle.line21_codes.specs.declared.channels.Chan.TheVariants.{Cc1, Cc2, Cc3, Cc4}
 use Rattle.cdp_packets.specs.Packets.{Packet as Frame}
-use Rattle.words_files.specs.Received.{received_at}
+use Rattle.cue_lists.specs.AuthoredGrid.{IsSettled, authored_grid, blank}
 use Rattle.cue_lists.specs.Listing.{Listing}
-use Rattle.frame_scheduler.specs.Columns.{Columns, first_pairs}
-use Rattle.frame_scheduler.specs.DoubledPairs.{IsDoubled}
-use Rattle.frame_scheduler.specs.Planned.{Placement, columns_of}
-use Rattle.frame_carrier.specs.Carried.{AreCarried}
-use Rattle.frame_carrier.specs.Carrying.{column_bytes, column_packets}
-use Rattle.cue_lists.specs.Shares.{share_room}
-use Rattle.services_carried.specs.ServicesCarried.{AreWithin}
-use Rattle.services_files.specs.CarriedChannel.{CarryChannel}
-use Rattle.services_shown.specs.Buffers.{BuffersNeverFill}
+use Rattle.frame_scheduler.specs.Planned.{Placement, columns_of, share_in}
+use Rattle.programmes.specs.Framing.{Framing, packets_of, words_of}
 use Rattle.services_shown.specs.Delays.{AreDelaysSent}
-use Rattle.services_shown.specs.SeenWindows.{ShowAuthoredWindows}
-use Rattle.line21_shown.specs.Shown.{ShowsList, state_at}
+use Rattle.sound_frames.specs.Shares.{AreSharesKept}
+use Rattle.sound_frames.specs.Showing.{ColumnsShow, Grids, ShowsFrames, Telling, Windows}
+use Rattle.sound_frames.specs.Sound.{AreDoubledIn, IsSoundFrames}
+use Rattle.cue_list_commands.specs.Accepted.{IsAccepted}
 use Rattle.cue_list_commands.specs.Lines.{pair_lines}
 
+-- a list that is placed
+pub record PlacedList : Type 0 where
+  pub list : Listing
+  pub placed : Placement
+
+-- the bytes are accepted as it
+abbrev pub IsPlacedAs : List ℕ → PlacedList → Type 0
+IsPlacedAs bytes made = IsAccepted bytes made.list made.placed
+
+-- the frames of a list in a placement
+abbrev pub list_framing : Listing → Placement → Framing
+list_framing list placed = record { rate = list.rate; columns = columns_of list placed; count = list.frames }
+
+abbrev pub framing_of : PlacedList → Framing
+framing_of made = list_framing made.list made.placed
+
 -- `pairs` puts a line for each frame
+abbrev pub lines_of : Framing → List ℕ
+lines_of framing = pair_lines framing.columns 0 framing.count
+
 abbrev pub pairs_output : Listing → Placement → List ℕ
-pairs_output list placed = pair_lines (columns_of list placed) 0 list.frames
+pairs_output list placed = lines_of (list_framing list placed)
 
 -- `build` puts an ancillary packet for each frame
 abbrev pub build_output : Listing → Placement → List ℕ
-build_output list placed = column_bytes list.rate (columns_of list placed) 0 list.frames
+build_output list placed = words_of (list_framing list placed)
 
 -- the distribution packets that these carry
 abbrev pub built_packets : Listing → Placement → List Frame
-built_packets list placed = column_packets list.rate (columns_of list placed) 0 list.frames
+built_packets list placed = packets_of (list_framing list placed)
 
--- in each field every longest stretch of equal control pairs has an even number of pairs
-abbrev pub AreDoubled : Listing → Columns → Type 0
-AreDoubled list columns = (in_field : FieldNumber) → IsDoubled (first_pairs in_field columns list.frames)
+-- what a list shows: the authored grids of CC1 and CC3 at each settled frame, blank grids of CC2 and CC4, and the authored windows
+abbrev pub list_told : Listing → Telling
+list_told list Cc1 frame = IsSettled Cc1 list.cues frame
+list_told list Cc2 frame = ⊤
+list_told list Cc3 frame = IsSettled Cc3 list.cues frame
+list_told list Cc4 frame = ⊤
 
--- what holds of the pairs that `pairs` puts: control pairs are doubled, and at every settled frame a receiver that was reset
--- before the first one shows the authored grids
-pub record IsSoundPairs (list : Listing) (placed : Placement) : Type 0 where
-  pub doubled : AreDoubled list (columns_of list placed)
-  pub shown : (frame : ℕ) → frame < list.frames
-      → ShowsList list (λ in_field. state_at in_field (columns_of list placed) frame) frame
+abbrev pub list_grids : Listing → Grids
+list_grids list Cc1 frame = authored_grid Cc1 list.cues frame
+list_grids list Cc2 frame = blank
+list_grids list Cc3 frame = authored_grid Cc3 list.cues frame
+list_grids list Cc4 frame = blank
 
--- what holds of the words that `build` puts: they are a words file of the frames' packets, each frame keeps to its room, and
--- its service blocks to theirs; the packets carry a whole caption channel, of which no byte fills the buffer of a service;
--- control pairs are doubled; and a receiver that takes the words and was reset before the first one shows the authored grids at
--- every settled frame, and at every frame of each service the authored windows; and the delay of each window cue is sent
-pub record IsSoundWords (list : Listing) (placed : Placement) : Type 0 where
-  pub doubled : AreDoubled list (columns_of list placed)
-  pub carried : AreCarried list.rate (columns_of list placed) list.frames
-  pub within : AreWithin (share_room list.rate) (columns_of list placed)
-  pub whole : CarryChannel (built_packets list placed)
-  pub fills : BuffersNeverFill (built_packets list placed)
-  pub shown : (frame : ℕ) → frame < list.frames
-      → ShowsList list (λ in_field. received_at in_field (built_packets list placed) frame) frame
-  pub windows : (frame : ℕ) → frame < list.frames → ShowAuthoredWindows list.cues (built_packets list placed) frame
-  pub delayed : AreDelaysSent list placed
+abbrev pub list_windows : Listing → Windows
+list_windows list service frame id = authored_windows service list.cues frame id
+
+-- what holds of the pairs that `pairs` puts: control pairs are doubled, and a receiver that was reset before the first one shows the list
+pub record IsSoundPairs (made : PlacedList) : Type 0 where
+  pub doubled : AreDoubledIn made.list.frames (columns_of made.list made.placed)
+  pub shown : ColumnsShow (list_told made.list) (list_grids made.list) made.list.frames (columns_of made.list made.placed)
+
+-- what holds of the words that `build` puts: their frames are sound, no service is told more than its share, a receiver that was
+-- reset before the first frame shows the list, and the delay of each window cue is sent
+pub record IsSoundWords (made : PlacedList) : Type 0 where
+  pub frames : IsSoundFrames made.list.rate made.list.frames (columns_of made.list made.placed)
+  pub shares : AreSharesKept made.list.rate (share_in made.list) made.list.frames (packets_of (framing_of made))
+  pub shows : ShowsFrames (list_told made.list) (list_grids made.list) (list_windows made.list) made.list.frames (packets_of (framing_of made))
+  pub delayed : AreDelaysSent made.list made.placed

@@ -4,9 +4,11 @@ use Rattle.cue_lists.specs.Listing.{Listing}
 use Rattle.cue_lists.specs.declared.fault.CueFault.{CueFault}
 use Rattle.cue_lists.specs.declared.fault.CueFault.TheVariants as fault
 use Rattle.frame_scheduler.specs.Frames.{GivesFrom, frames_left}
-use Rattle.frame_scheduler.specs.Planned.{Placement, columns_of}
-use Rattle.cue_list_commands.specs.declared.programme.Programme.{Programme}
-use Rattle.cue_list_commands.specs.Accepted.{IsAccepted, IsGoodList, IsRefused, IsRefusedList}
+use Rattle.frame_scheduler.specs.declared.frames.Plan.{Plan}
+use Rattle.programmes.specs.declared.programme.Programme.{Programme}
+use Rattle.programme_runs.specs.Made.{IsProgrammeOf as IsProgrammeMade}
+use Rattle.cue_list_commands.specs.Output.{IsPlacedAs, framing_of}
+use Rattle.cue_list_commands.specs.Accepted.{IsGoodList, IsRefused, IsRefusedList}
 use Rattle.command_base.specs.WholeInput.{ReadsInput}
 use Rattle.command_base.specs.declared.status.Place.TheVariants.{Field}
 use Rattle.command_base.specs.declared.status.Status.{Status}
@@ -19,16 +21,11 @@ form_status (fault.Limit which) = status.Limit which
 form_status (fault.Malformed rec field why) = status.Malformed (Field rec field) why
 
 -- the programme is that of the accepted list
-pub record IsProgrammeOf (bytes : List ℕ) (programme : Programme) : Type 0 where
-  pub list : Listing
-  pub placed : Placement
-  pub accepted : IsAccepted bytes list placed
-  pub rate : programme.rate ≡ list.rate
-  pub gives : GivesFrom (columns_of list placed) 0 programme.plan
-  pub frames : frames_left programme.plan ≡ list.frames
+abbrev pub IsProgrammeOf : List ℕ → Programme Plan → Type 0
+IsProgrammeOf bytes programme = IsProgrammeMade IsPlacedAs framing_of frames_left GivesFrom bytes programme
 
 -- an input gives the programme of its list, or is refused
-abbrev pub ReadsProgramme : Option (List ℕ) → Option (List ℕ) → ℕ → ℕ → Result Programme Status → Type 0
+abbrev pub ReadsProgramme : Option (List ℕ) → Option (List ℕ) → ℕ → ℕ → Result (Programme Plan) Status → Type 0
 ReadsProgramme old new before now result = ReadsInput IsProgrammeOf IsRefused old new before now result
 
 -- an input gives its list, or is refused

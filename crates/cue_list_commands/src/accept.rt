@@ -5,15 +5,15 @@ ghost use Rattle.command_base.specs.WholeInput.{JudgesInput};
 ghost use Rattle.cue_lists.specs.Rules.{IsRuled};
 ghost use Rattle.cue_list_commands.specs.Reads.{IsProgrammeOf, ReadsList, ReadsProgramme, form_status};
 
-use crate::programme::Programme;
 use cc_base::Source;
 use command_base::{Place, Status, read_input};
 use cue_lists::{CueFault, CueList, check, parse};
-use frame_scheduler::{PlanFault, plan};
+use frame_scheduler::{Plan, PlanFault, plan};
+use programmes::Programme;
 use std::alloc::Global;
 
 /// Reads a cue list to its end and judges it: its bytes' number, its form and limits, its rules, its room. Gives its programme, or the status with which it is refused.
-pub fn read_programme<M: Source>(alloc: Global, input: &mut M) -> Result<Programme, Status>
+pub fn read_programme<M: Source>(alloc: Global, input: &mut M) -> Result<Programme<Plan>, Status>
     ensures { ReadsProgramme (M.left input.old) (M.left input.new) (M.faults input.old) (M.faults input.new) result }
 {
     let bytes = read_input(alloc, input)?;
@@ -30,7 +30,7 @@ pub fn read_list<M: Source>(alloc: Global, input: &mut M) -> Result<CueList, Sta
 }
 
 /// Judges the bytes of a cue list.
-fn judge(alloc: Global, bytes: &[u8]) -> Result<Programme, Status>
+fn judge(alloc: Global, bytes: &[u8]) -> Result<Programme<Plan>, Status>
     requires { length bytes.now ≤ whole_limit }
     ensures { JudgesInput IsProgrammeOf IsRefused bytes.now result }
 {
@@ -38,7 +38,7 @@ fn judge(alloc: Global, bytes: &[u8]) -> Result<Programme, Status>
     match plan(alloc, &list) {
         Ok(plan) => Ok(Programme {
             rate: list.rate(),
-            plan,
+            frames: plan,
         }),
         Err(PlanFault::Memory(_)) => Err(Status::Memory),
         Err(PlanFault::NoRoom(cue)) => Err(Status::NoRoom(cue)),

@@ -5,7 +5,6 @@ pub use crate::accept::{read_list, read_programme};
 pub use crate::build::run_build;
 pub use crate::cues::run_cues;
 pub use crate::pairs::run_pairs;
-pub use crate::programme::Programme;
 
 mod accept;
 mod build;
@@ -13,4 +12,5 @@ mod cues;
 pub mod laws;
 mod lines;
 mod pairs;
-mod programme;
+#[cfg(test)]
+mod tests;

@@ -5,14 +5,14 @@ use Rattle.cue_list_commands.proofs.pairs.put_lines.Goals as goal
 pub loop-pairs-preserved : goal.loop-pairs-preserved
 loop-pairs-preserved g c = (
   c.in-Done.ensures.cause ∙ c.loop-pairs.invariant.0,
-  λ columns gives. line_added columns _ _ _ _ _ c.line_of.result _ c.loop-pairs.plan _ c.in-Some.pairs
-      (c.loop-pairs.invariant.1 columns gives) c.in-Some.ensures.left c.in-Some.ensures.gives c.line_of.ensures c.in-Done.ensures.bytes,
+  λ framing has. line_added g.F.Frames.left g.F.Frames.Gives framing.columns _ _ _ _ _ c.line_of.result _ c.loop-pairs.frames _ c.in-Some.pairs
+      (c.loop-pairs.invariant.1 framing has) c.in-Some.ensures.left c.in-Some.ensures.gives c.line_of.ensures c.in-Done.ensures.bytes,
 )
 
 pub returns-in-Failed-clause-bytes : goal.returns-in-Failed-clause-bytes
-returns-in-Failed-clause-bytes g c columns gives =
-    lines_failed columns _ _ _ _ _ c.loop-pairs.plan (c.loop-pairs.invariant.1 columns gives) c.in-Failed.ensures.bytes
+returns-in-Failed-clause-bytes g c framing has =
+    lines_failed g.F.Frames.left g.F.Frames.Gives framing.columns _ _ _ _ _ c.loop-pairs.frames (c.loop-pairs.invariant.1 framing has) c.in-Failed.ensures.bytes
 
 pub returns-clause-bytes : goal.returns-clause-bytes
-returns-clause-bytes g c columns gives =
-    lines_ended columns _ _ _ _ _ _ _ c.loop-pairs.plan (c.loop-pairs.invariant.1 columns gives) (rw c.in_default.is at c.next.ensures.left) c.flush.ensures.bytes
+returns-clause-bytes g c framing has =
+    lines_ended g.F.Frames.left g.F.Frames.Gives framing.columns _ _ _ _ _ _ _ c.loop-pairs.frames (c.loop-pairs.invariant.1 framing has) (rw c.in_default.is at c.next.ensures.left) c.flush.ensures.bytes

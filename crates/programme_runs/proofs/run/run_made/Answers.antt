@@ -1,0 +1,26 @@
+use Rattle.cc_base.specs.declared.streams.Put.TheVariants as put
+use Rattle.command_base.proofs.WholeInputLemmas.{read_refused}
+use Rattle.programme_runs.specs.Made.{IsMadeOf}
+use Rattle.programme_runs.specs.MakesAnswer.{PutsMade}
+use Rattle.programme_runs.proofs.MadeLemmas.{made_put}
+use Rattle.programme_runs.proofs.run.run_made.Goals as goal
+
+pub returns-in-Done : goal.returns-in-Done
+returns-in-Done g c = (
+  c.in-Ok.ensures.0,
+  c.in-Done.ensures.cause,
+  made_put (g.C.Makes.IsAccepted c.args.command) g.C.Makes.framing_of g.C.Puts.Output.bytes_of g.C.Makes.IsSound _ _ put.Done _ _ _ c.in-Ok.programme c.in-Ok.ensures.1 c.in-Done.ensures.bytes,
+)
+
+pub returns-in-Failed : goal.returns-in-Failed
+returns-in-Failed g c = (
+  c.in-Ok.ensures.0,
+  c.in-Failed.ensures.cause.1,
+  made_put (g.C.Makes.IsAccepted c.args.command) g.C.Makes.framing_of g.C.Puts.Output.bytes_of g.C.Makes.IsSound _ _ put.Failed _ _ _ c.in-Ok.programme c.in-Ok.ensures.1 c.in-Failed.ensures.bytes,
+)
+
+pub returns-in-Err : goal.returns-in-Err
+returns-in-Err g c = read_refused (PutsMade (g.C.Makes.IsAccepted c.args.command) (λ made. g.C.Puts.Output.bytes_of (g.C.Makes.framing_of made)) g.C.Makes.IsSound put.Done)
+    (PutsMade (g.C.Makes.IsAccepted c.args.command) (λ made. g.C.Puts.Output.bytes_of (g.C.Makes.framing_of made)) g.C.Makes.IsSound put.Failed)
+    (IsMadeOf (g.C.Makes.IsAccepted c.args.command) g.C.Makes.framing_of g.C.Makes.IsSound g.C.Made.Frames.left g.C.Made.Frames.Gives)
+    (g.C.Makes.Refused c.args.command) _ _ _ _ _ _ c.in-Err.status c.in-Err.ensures

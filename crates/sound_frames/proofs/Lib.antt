@@ -1,0 +1,4 @@
+pub mod OtherPairsLemmas
+pub mod PlacedBlocksLemmas
+pub mod SeenLemmas
+pub mod SoundLemmas

@@ -1,0 +1,5 @@
+pub mod OtherPairs
+pub mod PlacedBlocks
+pub mod Shares
+pub mod Showing
+pub mod Sound
