@@ -1,6 +1,8 @@
 //! Laws of the definitions: functions without a body, whose contract is the law.
 
-ghost use Rattle.windows_lost.specs.Loss.{ServiceLossIsRecovered};
+ghost use Rattle.std.specs.Prelude.{◌≡◌, false, true, [], ◌∷◌, map};
+ghost use Rattle.windows_lost.specs.Examples.{interrupted_list, is_seen_since, last_cue};
+ghost use Rattle.windows_lost.specs.Loss.{ResynchronisesService, ServiceLossIsRecovered};
 
 /// In a list that is in form and keeps the rules, a service that is reset behind a lost frame shows just the authored windows at every
 /// frame, from the SHOW on of a cue of which nothing was sent by then, if each cue of the service before it is hidden by that SHOW:
@@ -8,4 +10,14 @@ ghost use Rattle.windows_lost.specs.Loss.{ServiceLossIsRecovered};
 /// clock had counted.
 pub fn service_loss_is_recovered()
     ensures { ServiceLossIsRecovered }
+{}
+
+/// What is seen behind the loss of frame 5, worked out by hand: nothing of a window that was shown by then, nor of one whose DefineWindow
+/// came before, though more of its load and what shows it come later; a window that is loaded later, while the delay of the lost one is
+/// on; and from its SHOW on that of a cue that resynchronises the service.
+pub fn windows_behind_a_loss_are_seen()
+    ensures shown { map (is_seen_since 0) (6 ∷ 11 ∷ 12 ∷ 24 ∷ 25 ∷ 29 ∷ 30 ∷ []) ≡ false ∷ false ∷ false ∷ false ∷ true ∷ true ∷ false ∷ [] }
+    ensures loading { map (is_seen_since 1) (9 ∷ 10 ∷ 19 ∷ 20 ∷ []) ≡ false ∷ false ∷ false ∷ false ∷ [] }
+    ensures meanwhile { map (is_seen_since 2) (14 ∷ 15 ∷ 19 ∷ 20 ∷ []) ≡ false ∷ true ∷ true ∷ false ∷ [] }
+    ensures again { ResynchronisesService interrupted_list 1 5 last_cue }
 {}
