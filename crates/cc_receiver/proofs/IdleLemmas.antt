@@ -27,7 +27,7 @@ null_code pair null =
     rw (first, second) refl
 
 -- null pairs do nothing
-nulls_do_nothing : (f : FieldNumber) (pairs before : List Pair) → list_all is_null pairs ≡ true → after f (reverse pairs ++ before) ≡ after f before
+pub nulls_do_nothing : (f : FieldNumber) (pairs before : List Pair) → list_all is_null pairs ≡ true → after f (reverse pairs ++ before) ≡ after f before
 nulls_do_nothing f [] before null = refl
 nulls_do_nothing f (pair ∷ pairs) before null =
     let (one, others) = and_parts (is_null pair) (list_all is_null pairs) null in
@@ -37,7 +37,7 @@ nulls_do_nothing f (pair ∷ pairs) before null =
     ∙ null_does_nothing f before pair (null_code pair one)
 
 -- a field's pairs of a frame of null pairs
-idle_pairs : (f : FieldNumber) (frame : Frame) → is_idle frame ≡ true → list_all is_null (field_pairs f (packet_triplets frame)) ≡ true
+pub idle_pairs : (f : FieldNumber) (frame : Frame) → is_idle frame ≡ true → list_all is_null (field_pairs f (packet_triplets frame)) ≡ true
 idle_pairs One frame idle = (and_parts (list_all is_null (field_pairs One (packet_triplets frame))) (list_all is_null (field_pairs Two (packet_triplets frame))) idle).0
 idle_pairs Two frame idle = (and_parts (list_all is_null (field_pairs One (packet_triplets frame))) (list_all is_null (field_pairs Two (packet_triplets frame))) idle).1
 

@@ -20,3 +20,4 @@ pub mod IdleLemmas
 pub mod ServedLemmas
 pub mod SeenLemmas
 pub mod FedFrames
+pub mod GridLemmas

@@ -14,3 +14,4 @@ pub mod SeenServices
 pub mod Wholes
 pub mod Idle
 pub mod Feeds
+pub mod ReceiverGrids

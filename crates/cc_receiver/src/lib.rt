@@ -6,12 +6,14 @@ mod captions;
 mod channel;
 mod filling;
 mod frame;
+mod grids;
 pub mod laws;
 mod receiver;
 mod services;
 mod triplets;
 
 pub use findings::{Finding, Kind45, Which};
+pub use grids::Grids;
 pub use receiver::{Ended, Fed, Receiver};
 pub use services::Served;
 

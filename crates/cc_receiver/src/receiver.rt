@@ -17,10 +17,11 @@ ghost use Rattle.words_files.specs.Offences.{IsFileUnder, IsMalformed};
 ghost use Rattle.words_files.specs.Received.{field_pairs, received_grids};
 ghost use Rattle.cc_receiver.specs.declared.receiver.Ended.TheVariants as ended;
 ghost use Rattle.cc_receiver.specs.Feeds.{Feeds};
+ghost use Rattle.cc_receiver.specs.Counting.{HasFront};
 ghost use Rattle.cc_receiver.specs.Receiving.{EndsBy};
 ghost use Rattle.cc_receiver.specs.Idle.{is_idle};
 ghost use Rattle.line21_codes.specs.declared.channels.Chan.{Chan as Channel};
-ghost use Rattle.line21_codes.specs.declared.channels.FieldNumber.TheVariants.{One};
+ghost use Rattle.line21_codes.specs.declared.channels.FieldNumber.TheVariants.{One, Two};
 
 use crate::captions::Captions;
 use anc_words::{CaptionPacket, WordReader};
@@ -348,6 +349,15 @@ impl Receiver {
         self.captions.last.triplets.as_slice()
     }
 
+    /// The triplets of the last whole frame, where there is one, in order, down to the last one that counts (CTA-708-E, cc_data()).
+    pub fn front_of_triplets(&self) -> &[Triplet]
+        requires { 0 < frame_count self.now }
+        ensures { (bytes : List ℕ) (earlier : List FrameOf) (last : FrameOf) → HasReceived bytes self.now
+            → AreFramesOf caption_channel (earlier ++ last ∷ []) bytes → HasFront result.now (packet_triplets last) }
+    {
+        self.captions.last.triplets.front()
+    }
+
     /// The pairs of field 1 of the last whole frame, where there is one, in order: those of its triplets that count
     /// (CTA-708-E, cc_data()).
     pub fn pairs_one(&self) -> &[Pair]
@@ -356,5 +366,15 @@ impl Receiver {
             → AreFramesOf caption_channel (earlier ++ last ∷ []) bytes → result.now ≡ field_pairs One (packet_triplets last) }
     {
         self.captions.last.pairs_one.as_slice()
+    }
+
+    /// The pairs of field 2 of the last whole frame, where there is one, in order: those of its triplets that count
+    /// (CTA-708-E, cc_data()).
+    pub fn pairs_two(&self) -> &[Pair]
+        requires { 0 < frame_count self.now }
+        ensures { (bytes : List ℕ) (earlier : List FrameOf) (last : FrameOf) → HasReceived bytes self.now
+            → AreFramesOf caption_channel (earlier ++ last ∷ []) bytes → result.now ≡ field_pairs Two (packet_triplets last) }
+    {
+        self.captions.last.pairs_two.as_slice()
     }
 }

@@ -47,7 +47,8 @@ impl Served {
     ghost use Rattle.std.specs.Prelude.{None, IfSome, IsTrue, MatchOption, false};
     ghost use Rattle.dtvcc_screen.specs.Meaning.{Reset};
     ghost use Rattle.dtvcc_services.specs.Numbers.{IsService};
-    ghost use Rattle.dtvcc_services.specs.Objects.{screen_at, served_now};
+    ghost use Rattle.dtvcc_services.specs.Objects.{screen_at, served_now, service_behind};
+    ghost use Rattle.dtvcc_screen.specs.Shown.{LooksSame};
     ghost use Rattle.dtvcc_windows.specs.Objects.{is_live, window_of};
     ghost use Rattle.cc_receiver.specs.Serving.{HasServed, ServesFrames, followed_by, given_by};
 
@@ -77,7 +78,8 @@ impl Served {
         }
     }
 
-    /// Resets all services, and forgets the channel packet that is open: the next one makes no gap (CTA-708-E, Reset). The frames stay.
+    /// Resets all services, and forgets the channel packets: one that is open stays unfinished, and the next one makes no gap (CTA-708-E,
+    /// section 5 and Reset). The frames that came still count.
     pub fn reset(&mut self)
         ensures served { (before : List TripletOf) (earlier last : Events) → HasServed before earlier last self.old
             → HasServed [] earlier (λ service. last service ++ Reset ∷ []) self.new }
@@ -87,7 +89,7 @@ impl Served {
         self.services.reset();
     }
 
-    /// The window of an id of a service, where there is one.
+    /// The window of an id of a service, 1 to 63, behind the last frame, where there is one (CTA-708-E).
     pub fn window(&self, service: u8, id: u8) -> Option<&Window>
         requires { IsService service }
         ensures window { (triplets : List TripletOf) (earlier last : Events) → HasServed triplets earlier last self.now
@@ -98,13 +100,22 @@ impl Served {
         self.services.window(service, id)
     }
 
-    /// Whether a service may have a window: where it says no, it has none.
+    /// Whether a service, 1 to 63, may have a window behind the last frame: where it says no, it has none (CTA-708-E).
     pub fn is_used(&self, service: u8) -> bool
         requires { IsService service }
         ensures { (triplets : List TripletOf) (earlier last : Events) → HasServed triplets earlier last self.now
             → result ≡ false → screen_at (served_now earlier last service) ≡ empty_screen }
     {
         self.services.is_used(service)
+    }
+
+    /// Whether something that is seen of a service may have changed in the last frame: where it says no, all windows of all services are
+    /// seen as they were before it (CTA-708-E).
+    pub fn is_touched(&self) -> bool
+        ensures { (triplets : List TripletOf) (earlier last : Events) → HasServed triplets earlier last self.now → result ≡ false
+            → (service : ℕ) → IsService service → LooksSame (screen_at (service_behind earlier service)) (screen_at (served_now earlier last service)) }
+    {
+        self.services.is_touched()
     }
 
     // Takes the next triplet of the last frame.

@@ -5,15 +5,13 @@ use Rattle.std.proofs.lemmas.Bool.{true≢false}
 use Rattle.std.proofs.lemmas.Bool.Decides.{nat_tests}
 use Rattle.std.proofs.lemmas.List.{take-append-le, take_all}
 use Rattle.std.specs.List.{flat_map, list_any}
+use Rattle.cc_receiver.specs.ReceivedServices.{received_windows}
+use Rattle.cc_receiver.specs.ReceiverGrids.{ShowsWindows}
 use Rattle.cc_receiver.specs.Receivers.{displayed_grid}
 use Rattle.cc_receiver.specs.declared.receiver.Receiver.{Receiver}
 use Rattle.cc_receiver.proofs.ReceivedLemmas.{shown_received}
 use Rattle.cdp_packets.specs.Packets.{Packet as Frame}
-use Rattle.std.specs.Prelude.{MatchOption, None, Some}
-use Rattle.dtvcc_windows.specs.Objects.{window_of}
-use Rattle.dtvcc_windows.specs.Showing.{ShownWindow, shown}
-use Rattle.dtvcc_windows.specs.Windows.{WindowState}
-use Rattle.dtvcc_windows.specs.declared.window.Window.{Window}
+use Rattle.dtvcc_windows.specs.Showing.{ShownWindow}
 use Rattle.line21_codes.specs.declared.channels.Chan.{Chan}
 use Rattle.line21_codes.specs.declared.channels.Chan.TheVariants.{Cc1, Cc2, Cc3, Cc4}
 use Rattle.line21_screen.specs.Differences.{grid_differs}
@@ -81,6 +79,10 @@ quiet test f (x ∷ xs) none = quiet_next test f x xs (test x) refl none (quiet 
 -- what a receiver shows on its channels
 pub grids_behind : (frames : List Frame) (receiver : Receiver) → IsBehind frames receiver → displayed_grid receiver ≡ received_grids frames
 grids_behind frames receiver behind = fun_ext (λ chan. shown_received frames behind.bytes receiver chan behind.received behind.frames_are)
+
+-- and what is seen of its windows
+pub windows_behind : (frames : List Frame) (receiver : Receiver) → IsBehind frames receiver → ShowsWindows receiver (received_windows frames)
+windows_behind frames receiver behind = record { bytes = behind.bytes; frames = frames; received = behind.received; frames_are = behind.frames_are; seen_are = refl }
 
 -- a service of which the same is seen doesn't differ
 pub same_service : (old new : ℕ → Option ShownWindow) → ((id : ℕ) → id < 8 → old id ≡ new id) → service_differs old new ≡ false
@@ -231,10 +233,3 @@ no_channel_differs grids =
 pub no_changes : (frame : ℕ) (a b : Screens) → LookAlike a b → changes_text frame a b ≡ []
 no_changes frame a b alike =
     sym (nothing_changed frame a b false false (no_channel_differs a.grids ∙ ap (channels_differ a.grids) alike.grids) (same_services a.windows b.windows alike.windows) refl)
-
--- what is seen of a window that there is
-pub seen_of_window : (A : Type 0) (state : A → Option WindowState) (result : Option A) (w : Option WindowState) (seen : Option ShownWindow) → seen ≡ shown w
-    → MatchOption result (w ≡ None) (λ (window : A). state window ≡ w)
-    → MatchOption result (seen ≡ None) (λ (window : A). seen ≡ shown (state window))
-seen_of_window A state None w seen is none = is ∙ ap shown none
-seen_of_window A state (Some window) w seen is same = is ∙ ap shown (sym same)

@@ -1,9 +1,6 @@
 -- What a viewer sees behind frames: the grid of each channel of line 21, and the windows of each service of DTVCC (CTA-608-E; CTA-708-E).
 use Rattle.std.specs.Prelude.{◌≡◌, ◌<◌, ℕ, List, Option}
 use Rattle.cdp_packets.specs.Packets.{Packet as Frame}
-use Rattle.cc_conceal.specs.Concealed.{concealed_windows}
-use Rattle.cc_conceal.specs.Concealers.{Conceals}
-use Rattle.cc_conceal.specs.declared.concealer.Concealer.{Concealer}
 use Rattle.cc_receiver.specs.ReceivedServices.{received_windows}
 use Rattle.cc_receiver.specs.Receivers.{HasReceived}
 use Rattle.cc_receiver.specs.declared.receiver.Receiver.{Receiver}
@@ -33,14 +30,6 @@ pub record IsBehind (frames : List Frame) (receiver : Receiver) : Type 0 where
   pub bytes : List ℕ
   pub received : HasReceived bytes receiver
   pub frames_are : AreFramesOf caption_channel frames bytes
-
--- this is seen of the windows of a receiver
-abbrev pub Receives : Receiver → (ℕ → ℕ → Option ShownWindow) → Type 0
-Receives receiver are = (frames : List Frame) × (IsBehind frames receiver × (are ≡ received_windows frames))
-
--- and of a concealing one
-abbrev pub ShowsConcealed : Concealer → (ℕ → ℕ → Option ShownWindow) → Type 0
-ShowsConcealed concealer are = (frames : List Frame) × (Conceals frames concealer × (are ≡ concealed_windows frames))
 
 -- the same is seen of the windows 0 to 7 of the services 1 to 63
 abbrev pub HaveSameWindows : (ℕ → ℕ → Option ShownWindow) → (ℕ → ℕ → Option ShownWindow) → Type 0

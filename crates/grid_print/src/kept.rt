@@ -7,7 +7,7 @@ ghost use Rattle.window_texts.specs.Differences.{differs};
 ghost use Rattle.grid_print.specs.Keeping.{KeepsWindows, windows_seen};
 
 use crate::service::{WINDOWS, seen};
-use crate::grids::Grids;
+use cc_receiver::Grids;
 use dtvcc_windows::Window;
 use std::alloc::{AllocError, Global};
 use window_texts::differs;
@@ -52,7 +52,7 @@ impl Kept {
     /// Keeps what is seen of a service, and says whether that differs from what was kept.
     pub(crate) fn keep<G: Grids>(&mut self, r: &G, service: u8) -> bool
         requires { IsService service }
-        ensures kept { (are : ℕ → ℕ → Option ShownWindow) → G.shows r.now are → HasKept (are service) self.old self.new }
+        ensures kept { (seen : ℕ → ℕ → Option ShownWindow) → G.shows r.now seen → HasKept (seen service) self.old self.new }
         ensures told { result ≡ self.new.changed }
     {
         if !self.used && !r.is_used(service) {
@@ -70,8 +70,8 @@ impl Kept {
 fn keep_windows<G: Grids>(windows: &mut [Window], r: &G, service: u8) -> bool
     requires service { IsService service }
     requires eight { length windows.old ≡ 8 }
-    ensures { (are : ℕ → ℕ → Option ShownWindow) → G.shows r.now are
-        → KeepsWindows (are service) 8 (windows_seen windows.old) (windows_seen windows.new) result }
+    ensures { (seen : ℕ → ℕ → Option ShownWindow) → G.shows r.now seen
+        → KeepsWindows (seen service) 8 (windows_seen windows.old) (windows_seen windows.new) result }
 {
     let mut changed = false;
     for id in 0..windows.len() {
@@ -84,8 +84,8 @@ fn keep_windows<G: Grids>(windows: &mut [Window], r: &G, service: u8) -> bool
 // Keeps what is seen of the window of an id, and says whether that differs from what was kept.
 fn keep_window<G: Grids>(kept: &mut Window, r: &G, service: u8, id: u8) -> bool
     requires { IsService service }
-    ensures told { (are : ℕ → ℕ → Option ShownWindow) → G.shows r.now are → result ≡ differs (shown (window_of kept.old)) (are service id) }
-    ensures kept { (are : ℕ → ℕ → Option ShownWindow) → G.shows r.now are → shown (window_of kept.new) ≡ are service id }
+    ensures told { (seen : ℕ → ℕ → Option ShownWindow) → G.shows r.now seen → result ≡ differs (shown (window_of kept.old)) (seen service id) }
+    ensures kept { (seen : ℕ → ℕ → Option ShownWindow) → G.shows r.now seen → shown (window_of kept.new) ≡ seen service id }
 {
     match seen(r, service, id) {
         None => hide(kept),

@@ -2,7 +2,6 @@
 //! services: all that a frame shows, and what changes from frame to frame.
 #![tactic(auto)]
 
-mod grids;
 mod kept;
 pub mod laws;
 mod names;
@@ -13,6 +12,7 @@ mod shown;
 mod text;
 
 pub use print::put_all;
-pub use grids::Grids;
 pub use shown::Shown;
 
+#[cfg(test)]
+mod tests;

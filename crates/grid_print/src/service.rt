@@ -9,7 +9,7 @@ ghost use Rattle.window_texts.specs.WindowTexts.{service_text, shown_ids, window
 ghost use Rattle.grid_print.specs.GridTexts.{shown_service, shown_services};
 
 use cc_base::Sink;
-use crate::grids::Grids;
+use cc_receiver::Grids;
 use dtvcc_windows::Window;
 use text_output::Gathered;
 use window_texts::write_window;
@@ -31,8 +31,8 @@ pub(crate) fn service_at(place: usize) -> u8
 /// The window of an id of a service, where it is shown.
 pub(crate) fn seen<G: Grids>(r: &G, service: u8, id: u8) -> Option<&Window>
     requires { IsService service }
-    ensures seen { (are : ℕ → ℕ → Option ShownWindow) → G.shows r.now are
-        → MatchOption result (are service id ≡ None) (λ window. are service id ≡ shown (window_of window.now)) }
+    ensures seen { (seen : ℕ → ℕ → Option ShownWindow) → G.shows r.now seen
+        → MatchOption result (seen service id ≡ None) (λ window. seen service id ≡ shown (window_of window.now)) }
     ensures shown { IfSome result (λ window. shown (window_of window.now) ≡ Some (as_shown (state_of window.now))) }
     ensures live { IfSome result (λ window. IsTrue (is_live window.now)) }
 {
@@ -51,7 +51,7 @@ pub(crate) fn seen<G: Grids>(r: &G, service: u8, id: u8) -> Option<&Window>
 // Whether the window of an id of a service is shown.
 fn is_seen<G: Grids>(r: &G, service: u8, id: u8) -> bool
     requires { IsService service }
-    ensures { (are : ℕ → ℕ → Option ShownWindow) → G.shows r.now are → result ≡ is_some (are service id) }
+    ensures { (seen : ℕ → ℕ → Option ShownWindow) → G.shows r.now seen → result ≡ is_some (seen service id) }
 {
     match r.window(service, id) {
         Some(window) => window.is_shown(),
@@ -62,7 +62,7 @@ fn is_seen<G: Grids>(r: &G, service: u8, id: u8) -> bool
 // The number of windows of a service that are shown.
 fn seen_count<G: Grids>(r: &G, service: u8) -> u32
     requires { IsService service }
-    ensures { (are : ℕ → ℕ → Option ShownWindow) → G.shows r.now are → result ≡ length (shown_ids (are service)) }
+    ensures { (seen : ℕ → ℕ → Option ShownWindow) → G.shows r.now seen → result ≡ length (shown_ids (seen service)) }
 {
     let mut count = 0;
     for id in 0..WINDOWS {
@@ -77,8 +77,8 @@ fn seen_count<G: Grids>(r: &G, service: u8) -> u32
 pub(crate) fn write_service<G: Grids, O: Sink>(r: &G, service: u8, text: &mut Gathered, out: &mut O)
     requires { IsService service }
     ensures some { WritesSome (page text.old (O.written out.old) (O.faults out.old)) (page text.new (O.written out.new) (O.faults out.new)) }
-    ensures text { (are : ℕ → ℕ → Option ShownWindow) → G.shows r.now are
-        → Writes (page text.old (O.written out.old) (O.faults out.old)) (page text.new (O.written out.new) (O.faults out.new)) (service_text service (are service)) }
+    ensures text { (seen : ℕ → ℕ → Option ShownWindow) → G.shows r.now seen
+        → Writes (page text.old (O.written out.old) (O.faults out.old)) (page text.new (O.written out.new) (O.faults out.new)) (service_text service (seen service)) }
 {
     text.write(b"S", out);
     text.write_number(u32::from(service), out);
@@ -92,8 +92,8 @@ pub(crate) fn write_service<G: Grids, O: Sink>(r: &G, service: u8, text: &mut Ga
 fn write_windows<G: Grids, O: Sink>(r: &G, service: u8, text: &mut Gathered, out: &mut O)
     requires { IsService service }
     ensures some { WritesSome (page text.old (O.written out.old) (O.faults out.old)) (page text.new (O.written out.new) (O.faults out.new)) }
-    ensures text { (are : ℕ → ℕ → Option ShownWindow) → G.shows r.now are
-        → Writes (page text.old (O.written out.old) (O.faults out.old)) (page text.new (O.written out.new) (O.faults out.new)) (flat_map (λ one. window_text one.0 one.1) (shown_ids (are service))) }
+    ensures text { (seen : ℕ → ℕ → Option ShownWindow) → G.shows r.now seen
+        → Writes (page text.old (O.written out.old) (O.faults out.old)) (page text.new (O.written out.new) (O.faults out.new)) (flat_map (λ one. window_text one.0 one.1) (shown_ids (seen service))) }
 {
     for id in 0..WINDOWS {
         if let Some(window) = seen(r, service, id) {
@@ -106,8 +106,8 @@ fn write_windows<G: Grids, O: Sink>(r: &G, service: u8, text: &mut Gathered, out
 fn write_if_shown<G: Grids, O: Sink>(r: &G, service: u8, text: &mut Gathered, out: &mut O)
     requires { IsService service }
     ensures some { WritesSome (page text.old (O.written out.old) (O.faults out.old)) (page text.new (O.written out.new) (O.faults out.new)) }
-    ensures text { (are : ℕ → ℕ → Option ShownWindow) → G.shows r.now are
-        → Writes (page text.old (O.written out.old) (O.faults out.old)) (page text.new (O.written out.new) (O.faults out.new)) (shown_service (are) service) }
+    ensures text { (seen : ℕ → ℕ → Option ShownWindow) → G.shows r.now seen
+        → Writes (page text.old (O.written out.old) (O.faults out.old)) (page text.new (O.written out.new) (O.faults out.new)) (shown_service seen service) }
 {
     if seen_count(r, service) != 0 {
         write_service(r, service, text, out);
@@ -117,8 +117,8 @@ fn write_if_shown<G: Grids, O: Sink>(r: &G, service: u8, text: &mut Gathered, ou
 /// Writes the text of each service of which a window is shown.
 pub(crate) fn write_shown_services<G: Grids, O: Sink>(r: &G, text: &mut Gathered, out: &mut O)
     ensures some { WritesSome (page text.old (O.written out.old) (O.faults out.old)) (page text.new (O.written out.new) (O.faults out.new)) }
-    ensures text { (are : ℕ → ℕ → Option ShownWindow) → G.shows r.now are
-        → Writes (page text.old (O.written out.old) (O.faults out.old)) (page text.new (O.written out.new) (O.faults out.new)) (shown_services (are)) }
+    ensures text { (seen : ℕ → ℕ → Option ShownWindow) → G.shows r.now seen
+        → Writes (page text.old (O.written out.old) (O.faults out.old)) (page text.new (O.written out.new) (O.faults out.new)) (shown_services seen) }
 {
     for place in 0..SERVICES {
         write_if_shown(r, service_at(place), text, out);

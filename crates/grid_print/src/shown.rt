@@ -15,8 +15,7 @@ use crate::kept::Kept;
 use crate::service::{SERVICES, service_at, write_service};
 use crate::text::{write_frame, write_grid};
 use cc_base::{Put, Sink};
-use crate::grids::Grids;
-use cc_receiver::Receiver;
+use cc_receiver::{Grids, Receiver};
 use line21_codes::Chan;
 use line21_screen::Memory;
 use std::alloc::{AllocError, Global};
@@ -58,9 +57,9 @@ impl Shown {
         })
     }
 
-    /// Writes the text of what changed from the screens that were shown last to those of a frame, which is empty where nothing
-    /// changed; these screens are then the ones that were shown last. Where `touched` says no, what is seen of the services is what
-    /// was shown last, and isn't compared.
+    /// Writes the text of what changed from the screens that were shown last to those of a frame, of whatever shows them, which is
+    /// empty where nothing changed; these screens are then the ones that were shown last. Where `touched` says no, what is seen of
+    /// the services is what was shown last, and isn't compared.
     pub fn write_changes_of<G: Grids, O: Sink>(
         &mut self,
         r: &G,
@@ -70,12 +69,12 @@ impl Shown {
         out: &mut O,
     )
         ensures some { WritesSome (page text.old (O.written out.old) (O.faults out.old)) (page text.new (O.written out.new) (O.faults out.new)) }
-        ensures text { (are : ℕ → ℕ → Option ShownWindow) → G.shows r.now are
-            → (touched ≡ false → HaveSameWindows (last_shown self.old).windows (are))
-            → Writes (page text.old (O.written out.old) (O.faults out.old)) (page text.new (O.written out.new) (O.faults out.new)) (changes_text frame (last_shown self.old) (screens_of (G.grids r.now) are)) }
-        ensures now { (are : ℕ → ℕ → Option ShownWindow) → G.shows r.now are
-            → (touched ≡ false → HaveSameWindows (last_shown self.old).windows (are))
-            → LookAlike (last_shown self.new) (screens_of (G.grids r.now) are) }
+        ensures text { (seen : ℕ → ℕ → Option ShownWindow) → G.shows r.now seen
+            → (touched ≡ false → HaveSameWindows (last_shown self.old).windows seen)
+            → Writes (page text.old (O.written out.old) (O.faults out.old)) (page text.new (O.written out.new) (O.faults out.new)) (changes_text frame (last_shown self.old) (screens_of (G.grids r.now) seen)) }
+        ensures now { (seen : ℕ → ℕ → Option ShownWindow) → G.shows r.now seen
+            → (touched ≡ false → HaveSameWindows (last_shown self.old).windows seen)
+            → LookAlike (last_shown self.new) (screens_of (G.grids r.now) seen) }
     {
         let channels = self.channels_differ(r);
         let services = self.keep_services(r, touched);
@@ -85,11 +84,11 @@ impl Shown {
         }
     }
 
-    /// Whether the screens of a frame differ from those that were shown last, so that there is something to write. They are then the
-    /// ones that were shown last.
+    /// Whether the screens of a frame, of whatever shows them, differ from those that were shown last, so that there is something to
+    /// write. They are then the ones that were shown last.
     pub fn pass_of<G: Grids>(&mut self, r: &G) -> bool
-        ensures told { (are : ℕ → ℕ → Option ShownWindow) → G.shows r.now are → result ≡ screens_differ (last_shown self.old) (screens_of (G.grids r.now) are) }
-        ensures now { (are : ℕ → ℕ → Option ShownWindow) → G.shows r.now are → LookAlike (last_shown self.new) (screens_of (G.grids r.now) are) }
+        ensures told { (seen : ℕ → ℕ → Option ShownWindow) → G.shows r.now seen → result ≡ screens_differ (last_shown self.old) (screens_of (G.grids r.now) seen) }
+        ensures now { (seen : ℕ → ℕ → Option ShownWindow) → G.shows r.now seen → LookAlike (last_shown self.new) (screens_of (G.grids r.now) seen) }
     {
         let channels = self.channels_differ(r);
         let services = self.keep_services(r, true);
@@ -112,14 +111,14 @@ impl Shown {
 
     // Keeps what is seen of all services, and says whether that of one differs from what was kept; not so where nothing touched them.
     fn keep_services<G: Grids>(&mut self, r: &G, touched: bool) -> bool
-        ensures some { (are : ℕ → ℕ → Option ShownWindow) → G.shows r.now are
-            → (touched ≡ false → HaveSameWindows (last_shown self.old).windows (are))
-            → result ≡ services_differ (last_shown self.old).windows (are) }
-        ensures now { (are : ℕ → ℕ → Option ShownWindow) → G.shows r.now are
-            → (touched ≡ false → HaveSameWindows (last_shown self.old).windows (are))
-            → HaveSameWindows (last_shown self.new).windows (are) }
-        ensures each { (are : ℕ → ℕ → Option ShownWindow) → G.shows r.now are → result ≡ true → (place : ℕ) → place < 63
-            → changed_at self.new.services.items place ≡ service_differs (seen_at self.old.services.items place) (are (place + 1)) }
+        ensures some { (seen : ℕ → ℕ → Option ShownWindow) → G.shows r.now seen
+            → (touched ≡ false → HaveSameWindows (last_shown self.old).windows seen)
+            → result ≡ services_differ (last_shown self.old).windows seen }
+        ensures now { (seen : ℕ → ℕ → Option ShownWindow) → G.shows r.now seen
+            → (touched ≡ false → HaveSameWindows (last_shown self.old).windows seen)
+            → HaveSameWindows (last_shown self.new).windows seen }
+        ensures each { (seen : ℕ → ℕ → Option ShownWindow) → G.shows r.now seen → result ≡ true → (place : ℕ) → place < 63
+            → changed_at self.new.services.items place ≡ service_differs (seen_at self.old.services.items place) (seen (place + 1)) }
         ensures grids { last_grid self.new ≡ last_grid self.old }
     {
         touched && keep_services(&mut self.services, r)
@@ -136,10 +135,10 @@ impl Shown {
         out: &mut O,
     )
         ensures some { WritesSome (page text.old (O.written out.old) (O.faults out.old)) (page text.new (O.written out.new) (O.faults out.new)) }
-        ensures text { (are : ℕ → ℕ → Option ShownWindow) → G.shows r.now are
+        ensures text { (seen : ℕ → ℕ → Option ShownWindow) → G.shows r.now seen
             → Writes (page text.old (O.written out.old) (O.faults out.old)) (page text.new (O.written out.new) (O.faults out.new))
             (frame_line frame ++ flat_map (changed_channel (last_grid self.old) (G.grids r.now)) channels
-            ++ (if services then changed_places self.old.services.items (are) else [])) }
+            ++ (if services then changed_places self.old.services.items seen else [])) }
         ensures now { last_grid self.new ≡ G.grids r.now }
         ensures services { self.new.services ≡ self.old.services }
     {
@@ -174,14 +173,14 @@ impl Shown {
         write_channel(&mut self.cc4, Chan::Cc4, r, text, out);
     }
 
-    /// Puts the text of what changed from the screens that were shown last to those of a frame, which is empty where nothing
-    /// changed. These screens are then the ones that were shown last. Failed comes only where the sink's count of faults
-    /// rose, and then a front of the text was put.
+    /// Puts the text of what changed from the screens that were shown last to those of a frame, of whatever shows them, which is
+    /// empty where nothing changed. These screens are then the ones that were shown last. Failed comes only where the sink's
+    /// count of faults rose, and then a front of the text was put.
     pub fn put_changes_of<G: Grids, O: Sink>(&mut self, r: &G, frame: u64, out: &mut O) -> Put
-        ensures bytes { (are : ℕ → ℕ → Option ShownWindow) → G.shows r.now are
-            → Puts (O.written out.old) (O.written out.new) result (changes_text frame (last_shown self.old) (screens_of (G.grids r.now) are)) }
+        ensures bytes { (seen : ℕ → ℕ → Option ShownWindow) → G.shows r.now seen
+            → Puts (O.written out.old) (O.written out.new) result (changes_text frame (last_shown self.old) (screens_of (G.grids r.now) seen)) }
         ensures cause { PutCause (O.faults out.old) (O.faults out.new) result }
-        ensures now { (are : ℕ → ℕ → Option ShownWindow) → G.shows r.now are → LookAlike (last_shown self.new) (screens_of (G.grids r.now) are) }
+        ensures now { (seen : ℕ → ℕ → Option ShownWindow) → G.shows r.now seen → LookAlike (last_shown self.new) (screens_of (G.grids r.now) seen) }
     {
         let mut text = Gathered::new();
         text.begin();
@@ -189,7 +188,9 @@ impl Shown {
         text.finish(out)
     }
 
-    /// The same of a receiver.
+    /// Puts the text of what changed from the screens that were shown last to those of a receiver at a frame, which is empty where
+    /// nothing changed. These screens are then the ones that were shown last. Failed comes only where the sink's count of faults
+    /// rose, and then a front of the text was put.
     pub fn put_changes<O: Sink>(&mut self, r: &Receiver, frame: u32, out: &mut O) -> Put
         ensures bytes { (frames : List Frame) → IsBehind frames r.now
             → Puts (O.written out.old) (O.written out.new) result (changes_text frame (last_shown self.old) (received_screens frames)) }
@@ -199,7 +200,9 @@ impl Shown {
         self.put_changes_of(r, u64::from(frame), out)
     }
 
-    /// The same of a receiver.
+    /// Writes the text of what changed from the screens that were shown last to those of a receiver at a frame, which is empty where
+    /// nothing changed; these screens are then the ones that were shown last. Where `touched` says no, what is seen of the services
+    /// is what was shown last, and isn't compared.
     pub fn write_changes<O: Sink>(
         &mut self,
         r: &Receiver,
@@ -219,7 +222,8 @@ impl Shown {
         self.write_changes_of(r, u64::from(frame), touched, text, out)
     }
 
-    /// The same of a receiver.
+    /// Whether the screens of a receiver differ from those that were shown last, so that there is something to write. They are then
+    /// the ones that were shown last.
     pub fn pass(&mut self, r: &Receiver) -> bool
         ensures told { (frames : List Frame) → IsBehind frames r.now → result ≡ screens_differ (last_shown self.old) (received_screens frames) }
         ensures now { (frames : List Frame) → IsBehind frames r.now → LookAlike (last_shown self.new) (received_screens frames) }
@@ -261,7 +265,7 @@ fn write_channel<G: Grids, O: Sink>(
 // Keeps what is seen of all services, and says whether that of one differs from what was kept.
 fn keep_services<G: Grids>(services: &mut [Kept], r: &G) -> bool
     requires { length services.old ≡ 63 }
-    ensures { (are : ℕ → ℕ → Option ShownWindow) → G.shows r.now are → KeepsServices (are) 63 services.old services.new result }
+    ensures { (seen : ℕ → ℕ → Option ShownWindow) → G.shows r.now seen → KeepsServices seen 63 services.old services.new result }
 {
     let mut changed = false;
     for place in 0..services.len() {
@@ -275,9 +279,9 @@ fn keep_services<G: Grids>(services: &mut [Kept], r: &G) -> bool
 fn write_changed<G: Grids, O: Sink>(services: &[Kept], r: &G, text: &mut Gathered, out: &mut O)
     requires { length services.now ≡ 63 }
     ensures some { WritesSome (page text.old (O.written out.old) (O.faults out.old)) (page text.new (O.written out.new) (O.faults out.new)) }
-    ensures text { (are : ℕ → ℕ → Option ShownWindow) → G.shows r.now are
+    ensures text { (seen : ℕ → ℕ → Option ShownWindow) → G.shows r.now seen
         → Writes (page text.old (O.written out.old) (O.faults out.old)) (page text.new (O.written out.new) (O.faults out.new))
-        (changed_places services.now (are)) }
+        (changed_places services.now seen) }
 {
     for place in 0..services.len() {
         write_if_changed(&services[place], r, service_at(place), text, out);
@@ -294,8 +298,8 @@ fn write_if_changed<G: Grids, O: Sink>(
 )
     requires { IsService service }
     ensures some { WritesSome (page text.old (O.written out.old) (O.faults out.old)) (page text.new (O.written out.new) (O.faults out.new)) }
-    ensures text { (are : ℕ → ℕ → Option ShownWindow) → G.shows r.now are
-        → Writes (page text.old (O.written out.old) (O.faults out.old)) (page text.new (O.written out.new) (O.faults out.new)) (if kept.now.changed then service_text service (are service) else []) }
+    ensures text { (seen : ℕ → ℕ → Option ShownWindow) → G.shows r.now seen
+        → Writes (page text.old (O.written out.old) (O.faults out.old)) (page text.new (O.written out.new) (O.faults out.new)) (if kept.now.changed then service_text service (seen service) else []) }
 {
     if kept.has_changed() {
         write_service(r, service, text, out);

@@ -139,11 +139,11 @@ impl Gathered {
         self.write(Buffer::new().format(number).as_bytes(), out);
     }
 
-    /// Writes a long number.
-    pub fn write_long<O: Sink>(&mut self, number: u64, out: &mut O)
-        ensures { Writes (page self.old (O.written out.old) (O.faults out.old)) (page self.new (O.written out.new) (O.faults out.new)) (decimal number) }
+    /// Writes a number of 64 bits.
+    pub fn write_long<O: Sink>(&mut self, long: u64, out: &mut O)
+        ensures { Writes (page self.old (O.written out.old) (O.faults out.old)) (page self.new (O.written out.new) (O.faults out.new)) (decimal long) }
     {
-        self.write(Buffer::new().format(number).as_bytes(), out);
+        self.write(Buffer::new().format(long).as_bytes(), out);
     }
 
     /// Writes a character in UTF-8.

@@ -6,7 +6,7 @@ use Rattle.text_output.proofs.PageLemmas.{put_whole, some_then, writes_same, wri
 use Rattle.grid_print.specs.GridTexts.{frame_line, shown_channel, shown_services}
 use Rattle.grid_print.specs.Screens.{received_screens}
 use Rattle.cc_receiver.specs.ReceivedServices.{received_windows}
-use Rattle.grid_print.proofs.ScreenLemmas.{all_joined, grids_behind, grid_shown}
+use Rattle.grid_print.proofs.ScreenLemmas.{all_joined, grids_behind, grid_shown, windows_behind}
 use Rattle.grid_print.proofs.print.put_all.Goals as goal
 
 pub returns-clause-bytes : goal.returns-clause-bytes
@@ -21,7 +21,7 @@ returns-clause-bytes g c frames behind =
     (writes_same _ _ _ _ (grid_shown Cc2 (grid_in c.displayed-2.result.now) (displayed_grid c.args.r.now) c.displayed-2.ensures) c.write_grid_unless_empty-2.ensures))
     (writes_same _ _ _ _ (grid_shown Cc3 (grid_in c.displayed-3.result.now) (displayed_grid c.args.r.now) c.displayed-3.ensures) c.write_grid_unless_empty-3.ensures))
     (writes_same _ _ _ _ (grid_shown Cc4 (grid_in c.displayed-4.result.now) (displayed_grid c.args.r.now) c.displayed-4.ensures) c.write_grid_unless_empty-4.ensures))
-    (c.write_shown_services.ensures.text (received_windows frames) (frames, (behind, refl)))))
+    (c.write_shown_services.ensures.text (received_windows frames) (windows_behind frames c.args.r.now behind))))
     c.finish.ensures).0
 
 pub returns-clause-cause : goal.returns-clause-cause

@@ -3,9 +3,9 @@ use Rattle.dtvcc_windows.specs.Showing.{shown}
 use Rattle.grid_print.proofs.service.is_seen.Goals as goal
 
 pub returns-in-Some : goal.returns-in-Some
-returns-in-Some g c are behind =
-    c.is_shown.ensures ∙ ap is_some (sym (c.in-Some.ensures.seen are behind))
+returns-in-Some g c seen behind =
+    c.is_shown.ensures ∙ ap is_some (sym (c.in-Some.ensures.seen seen behind))
 
 pub returns-in-None : goal.returns-in-None
-returns-in-None g c are behind =
-    ap is_some (sym (c.in-None.ensures.seen are behind))
+returns-in-None g c seen behind =
+    ap is_some (sym (c.in-None.ensures.seen seen behind))

@@ -12,15 +12,15 @@ loop-id-preserved g c =
     ] in
     let most : c.if-is_seen.count ≤ c.loop-id.count + 1 = elim c.if-is_seen.branch [ then-is_seen w ↦ omega arith | else-is_seen w ↦ omega arith ] in
     record {
-      counted = λ are behind.
-          let windows = are c.args.service in
-          added ∙ ap (λ (b : Bool). c.loop-id.count + (if b then 1 else 0)) (c.is_seen.ensures are behind)
-          ∙ ap (λ n. n + (if is_some (windows c.loop-id.id) then 1 else 0)) (c.loop-id.invariant.counted are behind)
+      counted = λ seen behind.
+          let windows = seen c.args.service in
+          added ∙ ap (λ (b : Bool). c.loop-id.count + (if b then 1 else 0)) (c.is_seen.ensures seen behind)
+          ∙ ap (λ n. n + (if is_some (windows c.loop-id.id) then 1 else 0)) (c.loop-id.invariant.counted seen behind)
           ∙ count_more windows c.loop-id.id;
       most = omega arith;
     }
 
 pub returns : goal.returns
-returns g c are behind =
+returns g c seen behind =
     let all : c.loop-id.id ≡ 8 = omega arith in
-    c.loop-id.invariant.counted are behind ∙ ap (λ n. length (shown_below (are c.args.service) n)) all
+    c.loop-id.invariant.counted seen behind ∙ ap (λ n. length (shown_below (seen c.args.service) n)) all

@@ -10,7 +10,7 @@ returns-clause-some g c =
 
 pub returns-clause-text : goal.returns-clause-text
 unfolding service_text
-returns-clause-text g c are behind start faults before has =
-    written_same start faults _ _ _ (rw (c.from.ensures, c.seen_count.ensures are behind) (simp (append_assoc, append-nil)))
-    (c.write_windows.ensures.text are behind start faults _ (c.write-3.ensures start faults _ (c.write_number-2.ensures start faults _
+returns-clause-text g c seen behind start faults before has =
+    written_same start faults _ _ _ (rw (c.from.ensures, c.seen_count.ensures seen behind) (simp (append_assoc, append-nil)))
+    (c.write_windows.ensures.text seen behind start faults _ (c.write-3.ensures start faults _ (c.write_number-2.ensures start faults _
     (c.write-2.ensures start faults _ (c.write_number.ensures start faults _ (c.write.ensures start faults _ has))))))

@@ -6,11 +6,11 @@ use Rattle.text_output.specs.Pages.{Writes, WritesSome, page}
 use Rattle.grid_print.specs.GridTexts.{shown_service}
 use Rattle.grid_print.proofs.service.write_shown_services.Given as goal
 
--- the texts of the services at the places so far are written
+-- the texts of the services at the places so far seen written
 abbrev pub invariant-loop-place : goal.invariant-loop-place
 invariant-loop-place g l = record {
   some : WritesSome (page l.initial.text (g.O.Sink.written l.initial.out) (g.O.Sink.faults l.initial.out)) (page l.text (g.O.Sink.written l.out) (g.O.Sink.faults l.out));
-  text : (are : ℕ → ℕ → Option ShownWindow) → g.G.Grids.shows l.r are
+  text : (seen : ℕ → ℕ → Option ShownWindow) → g.G.Grids.shows l.r seen
       → Writes (page l.initial.text (g.O.Sink.written l.initial.out) (g.O.Sink.faults l.initial.out)) (page l.text (g.O.Sink.written l.out) (g.O.Sink.faults l.out))
-      (flat_map (λ place. shown_service (are) (place + 1)) (range_with_len 0 l.place));
+      (flat_map (λ place. shown_service seen (place + 1)) (range_with_len 0 l.place));
 }

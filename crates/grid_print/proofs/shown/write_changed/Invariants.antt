@@ -7,11 +7,11 @@ use Rattle.window_texts.specs.WindowTexts.{service_text}
 use Rattle.grid_print.specs.Kept.{changed_at}
 use Rattle.grid_print.proofs.shown.write_changed.Given as goal
 
--- the texts of the services at the places so far are written
+-- the texts of the services at the places so far seen written
 abbrev pub invariant-loop-place : goal.invariant-loop-place
 invariant-loop-place g l = record {
   some : WritesSome (page l.initial.text (g.O.Sink.written l.initial.out) (g.O.Sink.faults l.initial.out)) (page l.text (g.O.Sink.written l.out) (g.O.Sink.faults l.out));
-  text : (are : ℕ → ℕ → Option ShownWindow) → g.G.Grids.shows l.r are
+  text : (seen : ℕ → ℕ → Option ShownWindow) → g.G.Grids.shows l.r seen
       → Writes (page l.initial.text (g.O.Sink.written l.initial.out) (g.O.Sink.faults l.initial.out)) (page l.text (g.O.Sink.written l.out) (g.O.Sink.faults l.out))
-      (flat_map (λ place. if changed_at l.services place then service_text (place + 1) (are (place + 1)) else []) (range_with_len 0 l.place));
+      (flat_map (λ place. if changed_at l.services place then service_text (place + 1) (seen (place + 1)) else []) (range_with_len 0 l.place));
 }

@@ -1,5 +1,5 @@
+use Rattle.std.proofs.Common.{rules}
 use Rattle.cc_receiver.proofs.services.Served.reset.Goals as goal
 
--- src/services.rt:80:5
 pub returns-clause-served : goal.returns-clause-served
-returns-clause-served c = λ before earlier last served. record { heard = c.new-self.ensures; leads = c.reset.ensures.leads earlier last served.leads }
+returns-clause-served c = λ before earlier last served. record { heard = search rules; leads = c.reset.ensures.leads earlier last served.leads }

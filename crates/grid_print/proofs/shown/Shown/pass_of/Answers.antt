@@ -8,22 +8,22 @@ use Rattle.grid_print.proofs.shown.Shown.pass_of.Goals as goal
 use Rattle.grid_print.proofs.shown.Shown.pass_of.Goals.{then-channels, else-channels}
 
 pub returns-clause-told : goal.returns-clause-told
-returns-clause-told g c are behind =
-    let grids = c.channels_differ-channels.ensures.some ∙ ap (channels_differ (last_grid c.args.self.now)) refl in
-    let windows = c.keep_services-services.ensures.some are behind (λ is. absurd (true≢false is)) in
+returns-clause-told g c seen behind =
+    let grids = c.channels_differ-channels.ensures.some in
+    let windows = c.keep_services-services.ensures.some seen behind (λ is. absurd (true≢false is)) in
     ap (λ (b : Bool). b || c.keep_services-services.result) grids
-    ∙ ap (λ (b : Bool). channels_differ (last_grid c.args.self.now) (screens_of (g.G.Grids.grids c.args.r.now) are).grids || b) windows
+    ∙ ap (λ (b : Bool). channels_differ (last_grid c.args.self.now) (screens_of (g.G.Grids.grids c.args.r.now) seen).grids || b) windows
 
 pub returns-clause-now : goal.returns-clause-now
-returns-clause-now g c are behind =
-    let windows = c.keep_services-services.ensures.now are behind (λ is. absurd (true≢false is)) in
+returns-clause-now g c seen behind =
+    let windows = c.keep_services-services.ensures.now seen behind (λ is. absurd (true≢false is)) in
     elim c.if-channels.branch [
-      | then-channels w ↦ subst (λ s. LookAlike (last_shown s) (screens_of (g.G.Grids.grids c.args.r.now) are)) (sym w.self-is) (record {
-        grids = w.keep_channels.ensures.now ∙ refl;
-        windows = subst (λ k. HaveSameWindows (λ service. seen_at k.items (service - 1)) (are)) (sym w.keep_channels.ensures.services) windows;
+      | then-channels w ↦ subst (λ s. LookAlike (last_shown s) (screens_of (g.G.Grids.grids c.args.r.now) seen)) (sym w.self-is) (record {
+        grids = w.keep_channels.ensures.now;
+        windows = subst (λ k. HaveSameWindows (λ service. seen_at k.items (service - 1)) seen) (sym w.keep_channels.ensures.services) windows;
       })
-      | else-channels w ↦ subst (λ s. LookAlike (last_shown s) (screens_of (g.G.Grids.grids c.args.r.now) are)) (sym w.self-is) (record {
-        grids = c.keep_services-services.ensures.grids ∙ c.channels_differ-channels.ensures.same w.if-channels.false ∙ refl;
+      | else-channels w ↦ subst (λ s. LookAlike (last_shown s) (screens_of (g.G.Grids.grids c.args.r.now) seen)) (sym w.self-is) (record {
+        grids = c.keep_services-services.ensures.grids ∙ c.channels_differ-channels.ensures.same w.if-channels.false;
         windows = windows;
       })
     ]

@@ -7,7 +7,7 @@ use Rattle.line21_screen.specs.Grid.{Grid}
 use Rattle.grid_print.specs.GridTexts.{changes_text, screens_differ}
 use Rattle.grid_print.specs.Screens.{LookAlike, screens_of}
 use Rattle.grid_print.specs.Shown.{last_shown}
-use Rattle.grid_print.proofs.ScreenLemmas.{grids_behind}
+use Rattle.grid_print.proofs.ScreenLemmas.{grids_behind, windows_behind}
 use Rattle.grid_print.proofs.shown.Shown.put_changes.Goals as goal
 
 pub returns-clause-bytes : goal.returns-clause-bytes
@@ -17,9 +17,9 @@ returns-clause-bytes g c = λ frames behind.
     (grids_behind frames c.args.r.now behind)
     (subst (λ (n : ℕ). Puts (g.O.Sink.written c.args.out.now) (g.O.Sink.written c.put_changes_of.new.out) c.put_changes_of.result
     (changes_text n (last_shown c.args.self.now) (screens_of (displayed_grid c.args.r.now) (received_windows frames)))) c.from.ensures
-    (c.put_changes_of.ensures.bytes (received_windows frames) (frames, (behind, refl))))
+    (c.put_changes_of.ensures.bytes (received_windows frames) (windows_behind frames c.args.r.now behind)))
 
 pub returns-clause-now : goal.returns-clause-now
 returns-clause-now g c = λ frames behind.
     subst (λ (grids : Chan → Grid). LookAlike (last_shown c.put_changes_of.new.self) (screens_of grids (received_windows frames)))
-    (grids_behind frames c.args.r.now behind) (c.put_changes_of.ensures.now (received_windows frames) (frames, (behind, refl)))
+    (grids_behind frames c.args.r.now behind) (c.put_changes_of.ensures.now (received_windows frames) (windows_behind frames c.args.r.now behind))

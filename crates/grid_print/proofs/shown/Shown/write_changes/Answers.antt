@@ -7,7 +7,7 @@ use Rattle.text_output.specs.Pages.{Writes, page}
 use Rattle.grid_print.specs.GridTexts.{changes_text}
 use Rattle.grid_print.specs.Screens.{LookAlike, screens_of}
 use Rattle.grid_print.specs.Shown.{last_shown}
-use Rattle.grid_print.proofs.ScreenLemmas.{grids_behind}
+use Rattle.grid_print.proofs.ScreenLemmas.{grids_behind, windows_behind}
 use Rattle.grid_print.proofs.shown.Shown.write_changes.Goals as goal
 
 pub returns-clause-text : goal.returns-clause-text
@@ -19,9 +19,9 @@ returns-clause-text g c = λ frames behind same.
     (subst (λ (n : ℕ). Writes (page c.args.text.now (g.O.Sink.written c.args.out.now) (g.O.Sink.faults c.args.out.now))
     (page c.write_changes_of.new.text (g.O.Sink.written c.write_changes_of.new.out) (g.O.Sink.faults c.write_changes_of.new.out))
     (changes_text n (last_shown c.args.self.now) (screens_of (displayed_grid c.args.r.now) (received_windows frames)))) c.from.ensures
-    (c.write_changes_of.ensures.text (received_windows frames) (frames, (behind, refl)) same))
+    (c.write_changes_of.ensures.text (received_windows frames) (windows_behind frames c.args.r.now behind) same))
 
 pub returns-clause-now : goal.returns-clause-now
 returns-clause-now g c = λ frames behind same.
     subst (λ (grids : Chan → Grid). LookAlike (last_shown c.write_changes_of.new.self) (screens_of grids (received_windows frames)))
-    (grids_behind frames c.args.r.now behind) (c.write_changes_of.ensures.now (received_windows frames) (frames, (behind, refl)) same)
+    (grids_behind frames c.args.r.now behind) (c.write_changes_of.ensures.now (received_windows frames) (windows_behind frames c.args.r.now behind) same)

@@ -12,22 +12,22 @@ returns-then-services-clause-some g c =
     some_then _ _ _ (_, c.write_frame.ensures) (some_then _ _ _ (_, c.write_channels.ensures.text) c.write_changed.ensures.some)
 
 pub returns-then-services-clause-text : goal.returns-then-services-clause-text
-returns-then-services-clause-text g c are behind =
+returns-then-services-clause-text g c seen behind =
     let front = frame_line c.args.frame ++ flat_map (changed_channel (last_grid c.args.self.now) (g.G.Grids.grids c.args.r.now)) channels in
     writes_same _ _ _ _
     (ap (λ t. front ++ t)
-    (text_if c.args.services (changed_places c.args.self.now.services.items (are)) c.if-services.true))
+    (text_if c.args.services (changed_places c.args.self.now.services.items seen) c.if-services.true))
     (writes_then _ _ _ _ _ (writes_then _ _ _ _ _ c.write_frame.ensures c.write_channels.ensures.text)
-    (writes_same _ _ _ _ (ap (λ k. changed_places k (are)) (c.deref.ensures.value ∙ ap (λ k. k.items) c.write_channels.ensures.services))
-    (c.write_changed.ensures.text are behind)))
+    (writes_same _ _ _ _ (ap (λ k. changed_places k seen) (c.deref.ensures.value ∙ ap (λ k. k.items) c.write_channels.ensures.services))
+    (c.write_changed.ensures.text seen behind)))
 
 pub returns-else-services-clause-some : goal.returns-else-services-clause-some
 returns-else-services-clause-some g c = some_then _ _ _ (_, c.write_frame.ensures) (_, c.write_channels.ensures.text)
 
 pub returns-else-services-clause-text : goal.returns-else-services-clause-text
-returns-else-services-clause-text g c are behind =
+returns-else-services-clause-text g c seen behind =
     let front = frame_line c.args.frame ++ flat_map (changed_channel (last_grid c.args.self.now) (g.G.Grids.grids c.args.r.now)) channels in
     writes_same _ _ _ _
     (sym (append-nil front) ∙ ap (λ t. front ++ t)
-    (none_if c.args.services (changed_places c.args.self.now.services.items (are)) c.if-services.false))
+    (none_if c.args.services (changed_places c.args.self.now.services.items seen) c.if-services.false))
     (writes_then _ _ _ _ _ c.write_frame.ensures c.write_channels.ensures.text)

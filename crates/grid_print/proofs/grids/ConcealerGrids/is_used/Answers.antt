@@ -1,7 +1,0 @@
-use Rattle.std.proofs.Common.{◌≡◌, ◌∙◌, Option, ap, ℕ}
-use Rattle.dtvcc_windows.specs.Showing.{ShownWindow}
-use Rattle.grid_print.proofs.grids.ConcealerGrids.is_used.Goals as goal
-
-pub returns : goal.returns
-returns c = λ are (frames, (behind, is)) unused id.
-    ap (λ (a : ℕ → ℕ → Option ShownWindow). a c.args.service id) is ∙ c.is_used.ensures frames behind unused id
