@@ -1,0 +1,9 @@
+pub mod AnswersLemmas
+pub mod EarlyLemmas
+pub mod EndLemmas
+pub mod FrameLemmas
+pub mod GatheringLemmas
+pub mod KnownLemmas
+pub mod PieceLemmas
+pub mod UnderwayLemmas
+pub mod WayLemmas

@@ -1,0 +1,7 @@
+pub mod Answers
+pub mod Causes
+pub mod FrameTexts
+pub mod FramesRead
+pub mod Judging
+pub mod Reading
+pub mod Statuses

@@ -1,0 +1,11 @@
+//! The reading of words by the commands that read them: bytes are taken, judged and their text put, packet by packet, and nothing of
+//! the input is gathered. What a command makes of the words is its own.
+#![tactic(auto)]
+
+pub use crate::frames::{Frames, PerFrame};
+pub use crate::judge::{Judge, Never, Reason, Stop};
+pub use crate::words::{TAKE, WORDS_LIMIT, read_words};
+
+mod frames;
+mod judge;
+mod words;
