@@ -7,7 +7,8 @@ use Rattle.cue_lists.specs.Printing.{list_bytes}
 use Rattle.cue_list_commands.specs.Accepted.{IsAccepted, IsRefused}
 use Rattle.cue_list_commands.specs.Output.{build_output, built_packets}
 use Rattle.cue_list_commands.specs.Reads.{IsProgrammeOf}
-use Rattle.cue_list_commands.specs.declared.programme.Programme.{Programme}
+use Rattle.frame_scheduler.specs.declared.frames.Plan.{Plan}
+use Rattle.programmes.specs.declared.programme.Programme.{Programme}
 use Rattle.cue_list_commands.proofs.ListVerdictLemmas.{accepted_not_refused, accepted_once}
 use Rattle.cue_lists.specs.Listing.{Listing}
 use Rattle.frame_scheduler.specs.Columns.{Columns}
@@ -24,14 +25,14 @@ use Rattle.load_commands.specs.declared.summary.Summary.{Summary}
 use Rattle.load_commands.proofs.WholeLemmas.{frames_whole}
 
 -- a programme can be sent
-pub programme_sendable : (bytes : List ℕ) (programme : Programme) → IsProgrammeOf bytes programme → IsSendable programme
+pub programme_sendable : (bytes : List ℕ) (programme : Programme Plan) → IsProgrammeOf bytes programme → IsSendable programme
 programme_sendable bytes programme is = record {
-  columns = columns_of is.list is.placed;
-  gives = is.gives;
+  columns = columns_of is.made.list is.made.placed;
+  gives = is.framing.gives;
   whole = λ count within.
-      subst (λ rate. AreWhole rate (columns_of is.list is.placed) count) (sym is.rate)
-      (frames_whole is.list is.placed is.accepted.good.spelled.formed is.accepted.good.ruled is.accepted.placement count);
-  within = let frames = is.frames in let most = is.accepted.good.spelled.formed.frames in omega (arith, frames, most);
+      subst (λ rate. AreWhole rate (columns_of is.made.list is.made.placed) count) (sym is.framing.rate_is)
+      (frames_whole is.made.list is.made.placed is.accepted.good.spelled.formed is.accepted.good.ruled is.accepted.placement count);
+  within = let frames = is.framing.count_is in let most = is.accepted.good.spelled.formed.frames in omega (arith, frames, most);
 }
 
 module _ (count : ℕ) (some : 1 ≤ count) (most : count ≤ most_load) where
@@ -68,26 +69,26 @@ module _ (count : ℕ) (some : 1 ≤ count) (most : count ≤ most_load) where
   IsDone list placed reception =
       (reception.bytes ≡ length (build_output list placed)) × (reception.changes ≡ change_count (built_packets list placed))
 
-  done : (programme : Programme) (reception : Reception) (is : IsProgrammeOf (list_bytes (load_list count)) programme)
-      → ((columns : Columns) → GivesFrom columns 0 programme.plan → AreAllWhole programme.rate columns (frames_left programme.plan)
-      → HasReceivedColumns programme.rate columns (frames_left programme.plan) reception) → IsDone is.list is.placed reception
+  done : (programme : Programme Plan) (reception : Reception) (is : IsProgrammeOf (list_bytes (load_list count)) programme)
+      → ((columns : Columns) → GivesFrom columns 0 programme.frames → AreAllWhole programme.rate columns (frames_left programme.frames)
+      → HasReceivedColumns programme.rate columns (frames_left programme.frames) reception) → IsDone is.made.list is.made.placed reception
   done programme reception is takes =
-      let columns = columns_of is.list is.placed in
-      let whole = subst (λ rate. AreAllWhole rate columns (frames_left programme.plan)) (sym is.rate)
-      (λ first within. frames_whole is.list is.placed is.accepted.good.spelled.formed is.accepted.good.ruled is.accepted.placement first) in
-      let taken = subst (λ n. HasReceivedColumns is.list.rate columns n reception) is.frames
-      (subst (λ rate. HasReceivedColumns rate columns (frames_left programme.plan) reception) is.rate (takes columns is.gives whole)) in
+      let columns = columns_of is.made.list is.made.placed in
+      let whole = subst (λ rate. AreAllWhole rate columns (frames_left programme.frames)) (sym is.framing.rate_is)
+      (λ first within. frames_whole is.made.list is.made.placed is.accepted.good.spelled.formed is.accepted.good.ruled is.accepted.placement first) in
+      let taken = subst (λ n. HasReceivedColumns is.made.list.rate columns n reception) is.framing.count_is
+      (subst (λ rate. HasReceivedColumns rate columns (frames_left programme.frames) reception) is.framing.rate_is (takes columns is.framing.gives whole)) in
       (taken.bytes, taken.changes)
 
-  pub summary_is : (programme : Programme) (reception : Reception) → IsProgrammeOf (list_bytes (load_list count)) programme
-      → ((columns : Columns) → GivesFrom columns 0 programme.plan → AreAllWhole programme.rate columns (frames_left programme.plan)
-      → HasReceivedColumns programme.rate columns (frames_left programme.plan) reception)
+  pub summary_is : (programme : Programme Plan) (reception : Reception) → IsProgrammeOf (list_bytes (load_list count)) programme
+      → ((columns : Columns) → GivesFrom columns 0 programme.frames → AreAllWhole programme.rate columns (frames_left programme.frames)
+      → HasReceivedColumns programme.rate columns (frames_left programme.frames) reception)
       → IsSummaryOf count (record { cues = count; frames = (load_list count).frames; bytes = reception.bytes; changes = reception.changes })
   summary_is programme reception is takes =
       let placed = list_placed count some most in
-      let once = accepted_once _ is.list (load_list count) is.placed placed.0 is.accepted list_accepted in
+      let once = accepted_once _ is.made.list (load_list count) is.made.placed placed.0 is.accepted list_accepted in
       let all : IsDone (load_list count) placed.0 reception =
-      subst (λ p. IsDone (load_list count) p reception) once.1 (subst (λ l. IsDone l is.placed reception) once.0 (done programme reception is takes)) in
+      subst (λ p. IsDone (load_list count) p reception) once.1 (subst (λ l. IsDone l is.made.placed reception) once.0 (done programme reception is takes)) in
       record {
         placed = placed.0;
         placement = placed.1;

@@ -3,9 +3,11 @@ use Rattle.std.proofs.Common.{◌≡◌, ◌∙◌, ℕ, List, None, Some, sym}
 use Rattle.cc_base.specs.declared.refusal.Refusal.{Refusal}
 use Rattle.cue_lists.specs.Listing.{IsFormed, Listing}
 use Rattle.cue_lists.specs.Rules.{IsRuled}
+use Rattle.cue_lists.specs.declared.lane.Lane.TheVariants.{Service}
 use Rattle.cue_list_commands.proofs.Outputs.{byte_pairs}
 use Rattle.frame_carrier.proofs.CarriedLemmas.{frames_carried}
 use Rattle.frame_scheduler.specs.Planned.{IsListPlaced, Placement, columns_of}
+use Rattle.services_carried.specs.PlacedServices.{AreServicesPlaced}
 use Rattle.services_carried.proofs.ChannelLemmas.{programmes_whole}
 use Rattle.services_carried.proofs.RoomLemmas.{blocks_bytes, frames_roomy, has_blocks}
 use Rattle.services_files.specs.Services.{services_say}
@@ -18,11 +20,12 @@ use Rattle.load_commands.specs.Receiving.{AreWhole}
 pub frames_whole : (list : Listing) (placed : Placement) → IsFormed list → IsRuled list → IsListPlaced list placed → (count : ℕ)
     → AreWhole list.rate (columns_of list placed) count
 frames_whole list placed formed ruled placement count =
+    let services : AreServicesPlaced list placed = λ service. placement (Service service) in
     let carried = frames_carried list.rate (columns_of list placed) count (byte_pairs list placed formed)
-    (blocks_bytes list placed formed ruled placement) (frames_roomy list placed formed ruled placement) in
+    (blocks_bytes list placed formed ruled services) (frames_roomy list placed formed ruled services) in
     record {
       file = carried.file;
-      accepted = programmes_whole list.rate (columns_of list placed) count (has_blocks list placed formed ruled placement) carried;
+      accepted = programmes_whole list.rate (columns_of list placed) count (has_blocks list placed formed ruled services) carried;
     }
 
 -- a word that offends is refused

@@ -3,7 +3,8 @@ use Rattle.std.specs.Prelude.{◌≡◌, ◌≤◌, ◌+◌, ◌*◌, ◌++◌, 
 use Rattle.cc_base.specs.declared.rate.Rate.{Rate}
 use Rattle.cc_receiver.specs.Receivers.{HasReceived, frame_count}
 use Rattle.cc_receiver.specs.declared.receiver.Receiver.{Receiver}
-use Rattle.cue_list_commands.specs.declared.programme.Programme.{Programme}
+use Rattle.frame_scheduler.specs.declared.frames.Plan.{Plan}
+use Rattle.programmes.specs.declared.programme.Programme.{Programme}
 use Rattle.frame_carrier.specs.Carrying.{IsAt, column_bytes, column_packets, packets_before}
 use Rattle.frame_scheduler.specs.Columns.{Columns}
 use Rattle.frame_scheduler.specs.Frames.{GivesFrom, frames_left}
@@ -55,8 +56,8 @@ pub record MayTakeFrame (reception : Reception) (frame : FrameBytes) : Type 0 wh
   pub within : count + 1 ≤ most_frames
 
 -- a programme's frames are whole, however many of them were sent, and no more than a list has
-pub record IsSendable (programme : Programme) : Type 0 where
+pub record IsSendable (programme : Programme Plan) : Type 0 where
   pub columns : Columns
-  pub gives : GivesFrom columns 0 programme.plan
-  pub whole : AreAllWhole programme.rate columns (frames_left programme.plan)
-  pub within : frames_left programme.plan ≤ most_frames
+  pub gives : GivesFrom columns 0 programme.frames
+  pub whole : AreAllWhole programme.rate columns (frames_left programme.frames)
+  pub within : frames_left programme.frames ≤ most_frames

@@ -8,10 +8,10 @@ ghost use Rattle.load_commands.specs.Receiving.{AreAllWhole, AreWhole, HasReceiv
 use arrayvec::ArrayVec;
 use cc_base::Rate;
 use cc_receiver::Receiver;
-use cue_list_commands::Programme;
 use frame_carrier::Carrier;
-use frame_scheduler::FrameBytes;
+use frame_scheduler::{FrameBytes, Frames, Plan};
 use grid_print::Shown;
+use programmes::Programme;
 use std::alloc::{AllocError, Global};
 
 /// A programme on its way into a receiver, frame by frame.
@@ -71,13 +71,13 @@ impl Reception {
 }
 
 /// Carries all frames of a programme, and feeds their words to a receiver.
-pub(crate) fn receive(alloc: Global, programme: Programme) -> Result<Reception, AllocError>
+pub(crate) fn receive(alloc: Global, programme: Programme<Plan>) -> Result<Reception, AllocError>
     requires { IsSendable programme }
-    ensures { (columns : Columns) → GivesFrom columns 0 programme.plan → AreAllWhole programme.rate columns (frames_left programme.plan)
-        → IfOk result (HasReceivedColumns programme.rate columns (frames_left programme.plan)) }
+    ensures { (columns : Columns) → GivesFrom columns 0 programme.frames → AreAllWhole programme.rate columns (frames_left programme.frames)
+        → IfOk result (HasReceivedColumns programme.rate columns (frames_left programme.frames)) }
 {
     let mut reception = Reception::new(alloc, programme.rate)?;
-    let mut plan = programme.plan;
+    let mut plan = programme.frames;
     while let Some(frame) = plan.next() {
         reception.take(&frame);
     }

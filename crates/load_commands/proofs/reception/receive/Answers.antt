@@ -36,5 +36,5 @@ returns c columns gives whole =
     let so_far = c.loop-frame.invariant columns gives whole in
     let none = c.in_default.ensures.left in
     let total = so_far.1 in
-    let all : so_far.0 ≡ frames_left c.args.programme.plan = omega (arith, none, total) in
+    let all : so_far.0 ≡ frames_left c.args.programme.frames = omega (arith, none, total) in
     subst (λ count. HasReceivedColumns c.args.programme.rate columns count c.loop-frame.reception) all so_far.3
