@@ -10,8 +10,7 @@ use Rattle.cue_list_commands.proofs.SideLemmas.{side_kept}
 use Rattle.insert_commands.proofs.VerdictLemmas.{insert_told}
 use Rattle.load_commands.proofs.VerdictLemmas.{load_told}
 use Rattle.verify_commands.proofs.VerdictLemmas.{verify_told}
-use Rattle.words_commands.proofs.LongWordsLemmas.{decode_long, show_long}
-use Rattle.words_commands.proofs.WordsVerdictLemmas.{decode_refused, decode_told, show_refused, show_told}
+use Rattle.words_commands.proofs.WordsVerdictLemmas.{decode_long, decode_refused, decode_told, show_long, show_refused, show_told}
 use Rattle.ccsuite_cli.specs.Verdict.{AcceptedIsAnswered, FaultsAreTold, LongWordsAreRefused, MalformedIsRefused, RefusedListIsAnswered}
 use Rattle.ccsuite_cli.specs.declared.command.Command.TheVariants.{Build, Cues, Decode, Export, Import, Insert, Load, Pairs, Show, Verify}
 

@@ -14,8 +14,9 @@ use Rattle.command_base.specs.declared.status.Place.TheVariants.{Byte}
 use Rattle.command_base.specs.declared.status.Status.{Status}
 use Rattle.command_base.specs.declared.status.Status.TheVariants as status
 use Rattle.cue_list_commands.specs.Accepted.{IsAccepted, IsGoodList, IsRefused, IsRefusedList}
-use Rattle.words_commands.specs.WordsAnswer.{words_limit}
-use Rattle.words_commands.specs.WordsVerdict.{IsPastLimit, IsShown}
+use Rattle.words_reading.specs.Answers.{IsPastLimit}
+use Rattle.words_reading.specs.Causes.{words_limit}
+use Rattle.words_commands.specs.WordsVerdict.{IsShown}
 use Rattle.scc_commands.specs.Import.{IsImport, IsRefusedImport, Placed}
 use Rattle.cue_list_commands.specs.SideEnds.{SideEnds}
 use Rattle.cue_list_commands.specs.SideLists.{TellsAllFaults}

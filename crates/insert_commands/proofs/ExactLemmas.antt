@@ -24,7 +24,7 @@ use Rattle.inserted_words.specs.Captioning.{captioning_of}
 use Rattle.inserted_words.proofs.FileLemmas.{foreign_file}
 use Rattle.inserted_words.specs.InsertedFile.{AreInserted, BringsFrame}
 use Rattle.inserted_words.specs.InsertedFile.AreInserted.{nothing, foreign as copied, caption as replaced}
-use Rattle.words_commands.proofs.WordsVerdictLemmas.{known_judged, known_whole}
+use Rattle.words_reading.proofs.KnownLemmas.{known_judged, known_whole}
 use Rattle.words_files.proofs.EndingLemmas.{file_has_no_offence, offence_stays}
 use Rattle.words_files.proofs.FrameLemmas.{joined, one_list}
 use Rattle.words_files.proofs.FramesOfLemmas.{carry_front, file_front}

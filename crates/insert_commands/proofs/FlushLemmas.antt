@@ -7,7 +7,7 @@ use Rattle.cc_base.specs.declared.streams.Put.TheVariants as put
 use Rattle.cdp_packets.specs.Packets.{Packet as Frame}
 use Rattle.text_output.specs.Gathered.{Flushes, GathersText, held_of}
 use Rattle.text_output.specs.declared.gathered.Gathered.{Gathered}
-use Rattle.words_commands.proofs.WayLemmas.{all_put, way_flushed, way_unwritten}
+use Rattle.words_reading.proofs.WayLemmas.{all_put, way_flushed, way_unwritten}
 use Rattle.inserted_words.specs.Captioning.{Captioning}
 use Rattle.insert_commands.specs.InsertAnswer.{PutsInserted}
 use Rattle.insert_commands.specs.InsertSteps.{GathersInserted, HasJudged, HasPut, HasStopped, StopsBy, StopsFor, put_of}

@@ -1,6 +1,6 @@
 -- Bytes are judged piece by piece.
 use Rattle.std.proofs.Common.{◌≡◌, ◌≤◌, arith, subst, ℕ}
-use Rattle.words_commands.specs.WordsAnswer.{words_limit}
+use Rattle.words_reading.specs.Causes.{words_limit}
 use Rattle.insert_commands.specs.OpenPackets.{MayFollow}
 use Rattle.insert_commands.specs.declared.packets.Packets.{Packets}
 

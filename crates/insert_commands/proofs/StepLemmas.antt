@@ -23,7 +23,7 @@ use Rattle.services_files.specs.CaptionChannel.{caption_channel}
 use Rattle.words_files.proofs.FramesOfLemmas.{file_frames}
 use Rattle.text_output.proofs.PageLemmas.{gathered_more}
 use Rattle.text_output.specs.Gathered.{Gathers, held_of}
-use Rattle.words_commands.specs.WordsAnswer.{words_limit}
+use Rattle.words_reading.specs.Causes.{words_limit}
 use Rattle.insert_commands.proofs.FlushLemmas.{inserted_unwritten}
 use Rattle.insert_commands.specs.InsertSteps.{GathersInserted, HasJudged, HasLastFrame, HasStopped, Replaces, StopsBy}
 use Rattle.inserted_words.specs.InsertedFile.{BringsFrame, IsForeign, carried_words}

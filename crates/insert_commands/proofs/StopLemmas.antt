@@ -15,8 +15,8 @@ use Rattle.command_base.specs.Ends.{Ends, ends}
 use Rattle.command_base.specs.declared.status.Place.TheVariants as place
 use Rattle.command_base.specs.declared.status.Status.{Status}
 use Rattle.command_base.specs.declared.status.Status.TheVariants as status
-use Rattle.words_commands.proofs.PieceLemmas.{IsPiece, all_taken, nothing_taken, whole_piece, with_piece}
-use Rattle.words_commands.specs.WordsAnswer.{words_limit}
+use Rattle.words_reading.proofs.PieceLemmas.{IsPiece, all_taken, nothing_taken, whole_piece, with_piece}
+use Rattle.words_reading.specs.Causes.{words_limit}
 use Rattle.words_files.specs.Offences.{IsFileUnder}
 use Rattle.services_files.specs.CaptionChannel.{caption_channel}
 use Rattle.text_output.specs.Gathered.{held_of}

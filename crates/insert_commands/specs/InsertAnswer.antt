@@ -21,7 +21,7 @@ use Rattle.findings.specs.declared.finding.Finding.{Finding}
 use Rattle.findings.specs.declared.finding.Kind45.TheVariants as kind
 use Rattle.frame_scheduler.specs.Planned.{Placement}
 use Rattle.packet_inserter.specs.Insertion.{IsInserted, packet_length}
-use Rattle.words_commands.specs.WordsAnswer.{IsWholeInput, words_limit}
+use Rattle.words_reading.specs.Causes.{IsWholeInput, words_limit}
 use Rattle.words_files.specs.Offences.{IsCutShort, IsFileUnder, IsUnoffending}
 use Rattle.services_files.specs.CaptionChannel.{caption_channel}
 use Rattle.inserted_words.specs.InsertedFile.{AreInserted, BringsFrame}

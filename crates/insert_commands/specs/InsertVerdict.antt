@@ -14,7 +14,7 @@ use Rattle.frame_scheduler.specs.Planned.{Placement}
 use Rattle.inserted_words.specs.Captioning.{captioning_of, captions_of}
 use Rattle.inserted_words.specs.Soundness.{HaveRate}
 use Rattle.packet_inserter.specs.Insertion.{IsInserted, packet_length}
-use Rattle.words_commands.specs.WordsAnswer.{words_limit}
+use Rattle.words_reading.specs.Causes.{words_limit}
 use Rattle.words_files.specs.Offences.{IsFileUnder}
 use Rattle.services_files.specs.CaptionChannel.{caption_channel}
 use Rattle.insert_commands.specs.InsertAnswer.{InsertAnswer}

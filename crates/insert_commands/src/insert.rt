@@ -5,14 +5,14 @@ ghost use Rattle.insert_commands.specs.InsertAnswer.{InsertAnswer};
 ghost use Rattle.insert_commands.specs.InsertSteps.{CountsBy, HasPut, InsertsWords};
 ghost use Rattle.inserted_words.specs.Captioning.{Captioning};
 ghost use Rattle.insert_commands.specs.OpenPackets.{MayFollow};
-ghost use Rattle.words_commands.specs.WordsAnswer.{words_limit};
+ghost use Rattle.words_reading.specs.Causes.{words_limit};
 
 use crate::inserting::Inserting;
 use cc_base::{LimitOf, Sink, Source, Took};
 use command_base::Status;
 use cue_list_commands::read_programme;
 use std::alloc::Global;
-use words_commands::{TAKE, WORDS_LIMIT};
+use words_reading::{TAKE, WORDS_LIMIT};
 
 /// Reads a cue list from a side file, judges it, its room too, and then puts a words file with the list's captions in place of its own:
 /// packets that aren't of captions stay as they are. What one take gave is put before the next take.

@@ -6,7 +6,7 @@ ghost use Rattle.cdp_packets.specs.Sections.{AreSections};
 ghost use Rattle.words_files.specs.FramesOf.{AreFramesOf};
 ghost use Rattle.services_files.specs.CaptionChannel.{caption_channel};
 ghost use Rattle.command_base.specs.Ends.{Ends, IsSteady};
-ghost use Rattle.words_commands.specs.WordsAnswer.{words_limit};
+ghost use Rattle.words_reading.specs.Causes.{words_limit};
 ghost use Rattle.text_output.specs.Gathered.{held_of};
 ghost use Rattle.insert_commands.specs.InsertSteps.{CountsBy, EndsAs, GathersWords, HasJudged, HasLastFrame, HasStopped, Judges, JudgesAndPuts, Replaces, StepJudges, StopCause, StopsBy, stop_status};
 ghost use Rattle.inserted_words.specs.Captioning.{Captioning};

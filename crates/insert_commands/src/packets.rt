@@ -1,6 +1,6 @@
 ghost use Rattle.std.specs.Prelude.{◌≡◌, ◌<◌, ◌≤◌, ◌+◌, ◌++◌, ℕ, [], List, IfOk, length};
 ghost use Rattle.cdp_packets.specs.Packets.{Packet as Frame};
-ghost use Rattle.words_commands.specs.WordsAnswer.{words_limit};
+ghost use Rattle.words_reading.specs.Causes.{words_limit};
 ghost use Rattle.insert_commands.specs.OpenPackets.{EndsNoSooner, HasRead, IsCount, MayFollow, Receives, open_bytes};
 
 use arrayvec::ArrayVec;

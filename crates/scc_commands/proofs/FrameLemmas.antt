@@ -1,39 +1,27 @@
 -- What becomes of a frame that is exported.
-use Rattle.std.proofs.Common.{◌≡◌, ◌∙◌, ◌++◌, ap, append-nil, refl, subst, sym, ℕ, List, [], ◌∷◌, length, Option, Some, None, Ok, Err}
+use Rattle.std.proofs.Common.{◌≡◌, ◌∙◌, ◌++◌, ap, append-nil, subst, sym, ℕ, List, [], ◌∷◌, length, Option, Some, None}
 use Rattle.cc_base.specs.Streams.{Puts}
 use Rattle.cc_base.specs.declared.streams.Put.TheVariants as put
 use Rattle.cdp_packets.specs.Packets.{Packet as Frame}
-use Rattle.text_output.specs.Gathered.{Gathers, IsGathered, held_of}
-use Rattle.findings.specs.declared.finding.Finding.{Finding}
+use Rattle.text_output.specs.Gathered.{Gathers, IsGathered}
 use Rattle.line21_codes.specs.declared.pairs.Pair.{Pair}
 use Rattle.scc_files.specs.Writing.{GivesPiece, Standing, is_past_day, piece_of, stand_behind, standing_of}
 use Rattle.time_codes.specs.declared.time_code.TimeCode.{TimeCode}
-use Rattle.scc_commands.specs.Export.{HasFinding, HasNoFinding, export_front, exported, first_standing, pairs_of, stand_after}
-use Rattle.scc_commands.specs.ExportSteps.{WritesFrame}
+use Rattle.scc_commands.specs.Export.{AreExported, HasNoFinding, StandsPastDay, export_front, exported, first_standing, pairs_of, stand_after}
+use Rattle.scc_commands.specs.Exporting.{StandsBehind}
 use Rattle.scc_commands.specs.declared.exporting.Exporting.{Exporting}
-use Rattle.scc_commands.specs.declared.exporting.Stop.TheVariants as stop
 use Rattle.scc_commands.proofs.WrittenLemmas.{exported_more, front_more, gathered_failed, gathered_more, past_is, stand_frame}
 
--- something was found
-pub frame_found : (time : TimeCode) (start now : Option (List ℕ)) (frames : List Frame) (last : Frame) (export : Exporting) (finding : Finding)
-    → finding.frame ≡ length frames → HasFinding last finding.kind → IsGathered start now (held_of export.text) (export_front time frames)
-    → WritesFrame time start now frames last export (Err (stop.Found finding))
-frame_found time start now frames last export finding number found way = (
-  λ judged unjudged unoffending. record { last = last; is_last = refl; number = number; found = found; unoffending = unoffending },
-  way,
-)
-
--- it has no pair
-pub frame_silent : (time : TimeCode) (start now : Option (List ℕ)) (frames : List Frame) (last : Frame) (export : Exporting)
-    → HasNoFinding last → pairs_of last ≡ [] → standing_of export.writer ≡ stand_after (first_standing time) (exported frames)
-    → IsGathered start now (held_of export.text) (export_front time frames) → WritesFrame time start now frames last export (Ok tt)
-frame_silent time start now frames last export none is writer way = (
+-- a frame without a pair
+pub frame_silent : (time : TimeCode) (start now : Option (List ℕ)) (held : List ℕ) (frames : List Frame) (last : Frame) (export : Exporting)
+    → HasNoFinding last → pairs_of last ≡ [] → StandsBehind time frames export → IsGathered start now held (export_front time frames)
+    → StandsBehind time (frames ++ last ∷ []) export × IsGathered start now held (export_front time (frames ++ last ∷ []))
+frame_silent time start now held frames last export none is stands way = (
   record {
-    no_finding = none;
-    are_exported = exported_more time frames last [] is none tt;
-    writer = writer ∙ sym (stand_frame time frames last [] is);
+    are_exported = exported_more time frames last [] is none tt stands.are_exported;
+    writer = stands.writer ∙ sym (stand_frame time frames last [] is);
   },
-  subst (IsGathered start now (held_of export.text)) (sym (front_more time frames last [] is ∙ append-nil (export_front time frames))) way,
+  subst (IsGathered start now held) (sym (front_more time frames last [] is ∙ append-nil (export_front time frames))) way,
 )
 
 -- what is written of its pair
@@ -53,43 +41,37 @@ day_is time frames pair w frame stands number =
     sym (past_is time (exported frames) (length frames) pair)
     ∙ ap (λ v. is_past_day v (length frames) pair) (sym stands) ∙ ap (λ n. is_past_day w n pair) (sym number)
 
-pub frame_written : (time : TimeCode) (start now then : Option (List ℕ)) (frames : List Frame) (last : Frame) (export : Exporting) (pair : Pair)
-    (w : Standing) (frame : ℕ) (piece before : List ℕ) → HasNoFinding last → pairs_of last ≡ pair ∷ []
-    → w ≡ stand_after (first_standing time) (exported frames) → frame ≡ length frames → GivesPiece w (standing_of export.writer) frame pair (Some piece)
-    → IsGathered start now before (export_front time frames) → Gathers now then before (held_of export.text) put.Done piece
-    → WritesFrame time start then frames last export (Ok tt)
-frame_written time start now then frames last export pair w frame piece before none is stands number (fits, given, moved) way gathers = (
+-- its pair was written
+pub frame_written : (time : TimeCode) (start now then : Option (List ℕ)) (before after : List ℕ) (frames : List Frame) (last : Frame) (old new : Exporting) (pair : Pair)
+    (frame : ℕ) (piece : List ℕ) → HasNoFinding last → pairs_of last ≡ pair ∷ [] → StandsBehind time frames old → frame ≡ length frames
+    → GivesPiece (standing_of old.writer) (standing_of new.writer) frame pair (Some piece)
+    → IsGathered start now before (export_front time frames) → Gathers now then before after put.Done piece
+    → StandsBehind time (frames ++ last ∷ []) new × IsGathered start then after (export_front time (frames ++ last ∷ []))
+frame_written time start now then before after frames last old new pair frame piece none is stands number (fits, given, moved) way gathers = (
   record {
-    no_finding = none;
-    are_exported = exported_more time frames last (pair ∷ []) is none (day_is time frames pair w frame stands number ∙ fits, tt);
-    writer = moved ∙ ap (λ v. stand_behind v frame pair) stands
+    are_exported = exported_more time frames last (pair ∷ []) is none (day_is time frames pair (standing_of old.writer) frame stands.writer number ∙ fits, tt) stands.are_exported;
+    writer = moved ∙ ap (λ v. stand_behind v frame pair) stands.writer
         ∙ ap (λ n. stand_behind (stand_after (first_standing time) (exported frames)) n pair) number ∙ sym (stand_frame time frames last (pair ∷ []) is);
   },
-  subst (IsGathered start then (held_of export.text)) (piece_is time frames last pair w frame piece is stands number given)
-      (gathered_more start now then before (held_of export.text) piece (export_front time frames) way gathers),
+  subst (IsGathered start then after) (piece_is time frames last pair (standing_of old.writer) frame piece is stands.writer number given)
+      (gathered_more start now then before after piece (export_front time frames) way gathers),
 )
 
-pub frame_unwritten : (time : TimeCode) (start now then : Option (List ℕ)) (frames : List Frame) (last : Frame) (export : Exporting) (pair : Pair)
-    (w v : Standing) (frame : ℕ) (piece before : List ℕ) → HasNoFinding last → pairs_of last ≡ pair ∷ []
-    → w ≡ stand_after (first_standing time) (exported frames) → frame ≡ length frames → GivesPiece w v frame pair (Some piece)
+-- or a put failed
+pub frame_unwritten : (time : TimeCode) (start now then : Option (List ℕ)) (before : List ℕ) (frames : List Frame) (last : Frame) (old new : Exporting) (pair : Pair)
+    (frame : ℕ) (piece : List ℕ) → HasNoFinding last → pairs_of last ≡ pair ∷ [] → StandsBehind time frames old → frame ≡ length frames
+    → GivesPiece (standing_of old.writer) (standing_of new.writer) frame pair (Some piece)
     → IsGathered start now before (export_front time frames) → Puts now then put.Failed before
-    → WritesFrame time start then frames last export (Err stop.Unwritten)
-frame_unwritten time start now then frames last export pair w v frame piece before none is stands number (fits, given, moved) way failed = (
-  exported_more time frames last (pair ∷ []) is none (day_is time frames pair w frame stands number ∙ fits, tt),
-  subst (Puts start then put.Failed) (piece_is time frames last pair w frame piece is stands number given)
+    → AreExported time (frames ++ last ∷ []) × Puts start then put.Failed (export_front time (frames ++ last ∷ []))
+frame_unwritten time start now then before frames last old new pair frame piece none is stands number (fits, given, moved) way failed = (
+  exported_more time frames last (pair ∷ []) is none (day_is time frames pair (standing_of old.writer) frame stands.writer number ∙ fits, tt) stands.are_exported,
+  subst (Puts start then put.Failed) (piece_is time frames last pair (standing_of old.writer) frame piece is stands.writer number given)
       (gathered_failed start now then before piece (export_front time frames) way failed),
 )
 
-pub frame_past : (time : TimeCode) (start now : Option (List ℕ)) (frames : List Frame) (last : Frame) (export : Exporting) (pair : Pair)
-    (w v : Standing) (frame : ℕ) → HasNoFinding last → pairs_of last ≡ pair ∷ []
-    → w ≡ stand_after (first_standing time) (exported frames) → frame ≡ length frames → GivesPiece w v frame pair None
-    → IsGathered start now (held_of export.text) (export_front time frames) → WritesFrame time start now frames last export (Err stop.Day)
-frame_past time start now frames last export pair w v frame none is stands number (past, same) way = (
-  λ judged unjudged unoffending. record {
-    last = last;
-    is_last = refl;
-    stands = record { no_finding = none; pair = pair; is_pair = is; past = day_is time frames pair w frame stands number ∙ past };
-    unoffending = unoffending;
-  },
-  way,
-)
+-- or it stands past the day
+pub frame_past : (time : TimeCode) (frames : List Frame) (last : Frame) (old new : Exporting) (pair : Pair) (frame : ℕ) → HasNoFinding last → pairs_of last ≡ pair ∷ []
+    → StandsBehind time frames old → frame ≡ length frames → GivesPiece (standing_of old.writer) (standing_of new.writer) frame pair None
+    → StandsPastDay time (length frames) last
+frame_past time frames last old new pair frame none is stands number (past, same) =
+    record { no_finding = none; pair = pair; is_pair = is; past = day_is time frames pair (standing_of old.writer) frame stands.writer number ∙ past }

@@ -7,7 +7,7 @@ use Rattle.cc_base.specs.declared.rate.Rate.TheVariants as rate
 use Rattle.cc_base.specs.declared.streams.Put.{Put}
 use Rattle.cc_base.specs.declared.streams.Put.TheVariants as put
 use Rattle.text_output.specs.Gathered.{Flushes, Gathers, IsGathered}
-use Rattle.words_commands.proofs.WayLemmas.{all_put, way_flushed, way_unwritten}
+use Rattle.words_reading.proofs.WayLemmas.{all_put, way_flushed, way_unwritten}
 use Rattle.line21_codes.specs.declared.channels.FieldNumber.TheVariants.{One, Two}
 use Rattle.line21_codes.specs.declared.pairs.Pair.{Pair}
 use Rattle.line21_codes.specs.NullPairs.{null_pair}

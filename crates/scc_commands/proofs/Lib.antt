@@ -1,10 +1,9 @@
 pub mod ExportVerdictLemmas
 pub mod ExportedFileLemmas
-pub mod ExportingLemmas
+pub mod ExportAnswerLemmas
 pub mod FrameLemmas
 pub mod ImportLemmas
 pub mod RoundTripLemmas
 pub mod SccVerdictLemmas
 pub mod StopAtLemmas
-pub mod StopLemmas
 pub mod WrittenLemmas

@@ -1,6 +1,6 @@
 -- What `import` and `export` answer where no count of faults rose, and where one did.
 use Rattle.std.proofs.Common.{◌≡◌, ◌⊎◌, ◌<◌, ap, arith, inl, inr, refl, subst, ℕ, List, Ok, Result}
-use Rattle.command_base.proofs.CountLemmas.{read_told, same_told, steady_told, write_told}
+use Rattle.command_base.proofs.CountLemmas.{same_told, steady_told, write_told}
 use Rattle.command_base.proofs.WholeInputLemmas.{answered, refused, told, unrefused}
 use Rattle.command_base.specs.Counts.{IsReadOf, TellsFaults}
 use Rattle.command_base.specs.Ends.{Ends}
@@ -14,28 +14,20 @@ use Rattle.scc_files.proofs.Unique.{no_offence, offence_once}
 use Rattle.scc_files.specs.Reading.{frames_of, read_file}
 use Rattle.scc_files.specs.SccFiles.{IsSccFile}
 use Rattle.time_codes.specs.declared.time_code.TimeCode.{TimeCode}
-use Rattle.scc_commands.specs.Export.{ExportAnswer, StopsEarly}
+use Rattle.words_reading.proofs.EarlyLemmas.{early_told}
+use Rattle.scc_commands.specs.Export.{ExportAnswer, HaltsWith, IsExportOf, export_front}
 use Rattle.scc_commands.specs.Import.{ImportAnswer, IsImport, IsRefusedImport, Placed, PutsImport, PutsImportFront}
 
 -- a count of faults that is greater than before
 pub told_import : (old new : Ends) (answer : Status) → ImportAnswer old new answer → TellsFaults old new answer
 told_import old new answer is = told PutsImport PutsImportFront IsRefusedImport old new answer is
 
-early_told : (time : TimeCode) (old new : Ends) (answer : Status) → StopsEarly time old new answer → TellsFaults old new answer
-early_told time old new status.ReadFault answered = read_told old new answered.1
-early_told time old new status.WriteFault answered = write_told old new answered.0
-early_told time old new (status.Limit limit.Bytes) answered = steady_told old new _ answered.0.reads answered.0.writes
-early_told time old new (status.Limit limit.Day) answered = steady_told old new _ answered.0.reads answered.0.writes
-early_told time old new (status.Malformed (Byte place) why) answered = steady_told old new _ answered.0.reads answered.0.writes
-early_told time old new (status.Differs finding) answered = steady_told old new _ answered.0.reads answered.0.writes
-early_told time old new _ answered = absurd answered
-
 pub told_export : (time : TimeCode) (old new : Ends) (answer : Status) → ExportAnswer time old new answer → TellsFaults old new answer
 told_export time old new status.Ok answered = steady_told old new status.Ok answered.0.reads answered.0.writes
 told_export time old new status.WriteFault (inl answered) = write_told old new answered.0
 told_export time old new status.WriteFault (inr answered) = write_told old new answered.0
 told_export time old new status.Memory answered = same_told old new status.Memory answered
-told_export time old new answer answered = early_told time old new answer answered
+told_export time old new answer answered = early_told (IsExportOf time export_front) (HaltsWith time) old new answer answered
 
 -- the bytes of a file are one of pairs alone
 same_ok : (one other : Placed) (r : Result Placed Refusal) → r ≡ Ok one → r ≡ Ok other → one ≡ other

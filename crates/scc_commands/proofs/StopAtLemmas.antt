@@ -1,5 +1,5 @@
 -- An export stops at the first frame at which something is found or whose pair stands past the day, and nowhere else.
-use Rattle.std.proofs.Common.{◌≡◌, ◌∙◌, ◌+◌, ◌≤◌, ◌++◌, ◌⊎◌, ap, append-nil, append_assoc, arith, inl, inr, length, refl, subst, sym, ℕ, Bool, List, [], ◌∷◌, false, true}
+use Rattle.std.proofs.Common.{◌≡◌, ◌∙◌, ◌≤◌, ◌++◌, ap, append-nil, append_assoc, arith, inl, inr, length, refl, subst, sym, ℕ, Bool, List, [], ◌∷◌, false, true}
 use Rattle.std.specs.Prelude.{nat_le}
 use Rattle.cc_base.specs.declared.limit_of.LimitOf.TheVariants as limit
 use Rattle.cc_base.specs.declared.refusal.Refusal.{Refusal}
@@ -13,19 +13,19 @@ use Rattle.command_base.specs.declared.status.Status.TheVariants as status
 use Rattle.findings.specs.declared.finding.Finding.{Finding}
 use Rattle.findings.specs.declared.finding.Kind45.{Kind45}
 use Rattle.findings.specs.declared.finding.Kind45.TheVariants as kind
-use Rattle.scc_files.specs.Writing.{is_past_day}
 use Rattle.time_codes.specs.declared.time_code.TimeCode.{TimeCode}
 use Rattle.words_files.proofs.EndingLemmas.{file_has_no_offence, offence_stays}
 use Rattle.words_files.proofs.FramesOfLemmas.{file_frames, frames_grow, frames_of_once}
 use Rattle.words_files.proofs.WordLemmas.{front_of}
 use Rattle.words_files.specs.FramesOf.{AreFramesOf}
-use Rattle.words_files.specs.Offences.{FirstOffendingWord, IsFileUnder}
+use Rattle.words_files.specs.Offences.{FirstOffendingWord}
 use Rattle.services_files.specs.CaptionChannel.{caption_channel}
-use Rattle.words_commands.proofs.WordsVerdictLemmas.{known_judged, known_whole}
-use Rattle.words_commands.specs.WordsAnswer.{IsRefusedWith, IsWholeFile, words_limit}
-use Rattle.scc_commands.proofs.ExportVerdictLemmas.{never_passes, no_finding_at, not_found, within_at}
-use Rattle.scc_commands.specs.Export.{AreExported, AreWithinDay, AtNone, ExportAnswer, HasFinding, StandsPastDay, Stops, StopsEarly, at_number, export_front, first_standing}
-use Rattle.scc_commands.specs.ExportVerdict.{StopIsAnswered, StopsAt}
+use Rattle.words_reading.proofs.KnownLemmas.{known_judged, known_whole, within_passes}
+use Rattle.words_reading.specs.Causes.{IsRefusedWith, IsWholeFile, words_limit}
+use Rattle.words_reading.specs.Reading.{Stops}
+use Rattle.scc_commands.proofs.ExportVerdictLemmas.{not_exported, not_found}
+use Rattle.scc_commands.specs.Export.{AreExported, HasFinding, IsExportOf, StopsAt, StopsEarly, export_file, export_front}
+use Rattle.scc_commands.specs.ExportVerdict.{StopIsAnswered}
 
 -- the front of a list that ends before an item, and another one: the other has the item, or it ends at the same place, or before
 pub data TwoFronts {A : Type 0} (one rest other : List A) (item : A) : Type 0 where
@@ -75,23 +75,6 @@ stop_once time number frame (status.Limit limit.Day) _ has also = absurd also
 stop_once time number frame (status.Limit _) other has also = absurd has
 stop_once time number frame _ other has also = absurd has
 
--- frames with one at which an export stops aren't exported
-day_ends : (time : TimeCode) (frames more : List Frame) (last : Frame) → StandsPastDay time (length frames) last → AreExported time ((frames ++ last ∷ []) ++ more) → ⊥
-day_ends time frames more last stands good =
-    let within = within_at time 0 frames last more good.within_day in
-    let one = subst (λ l. AreWithinDay time (at_number (0 + length frames) l)) stands.is_pair within in
-    let isnt : true ≡ false = sym stands.past ∙ ap (λ n. is_past_day (first_standing time) n stands.pair) (none (length frames)) ∙ one.0 in cc
-  where
-    none : (n : ℕ) → n ≡ 0 + n
-    none n = omega arith
-
-not_exported : (time : TimeCode) (frames more : List Frame) (last : Frame) (stop : Status) → StopsAt time (length frames) last stop
-    → AreExported time ((frames ++ last ∷ []) ++ more) → ⊥
-not_exported time frames more last (status.Differs finding) stops good = not_found last finding.kind (no_finding_at frames last more good.no_finding) stops.1
-not_exported time frames more last (status.Limit limit.Day) stops good = day_ends time frames more last stops good
-not_exported time frames more last (status.Limit _) stops good = stops
-not_exported time frames more last _ stops good = stops
-
 -- where bytes bring such a frame, no run that exported all of their frames has judged them
 pub record StopsIn (time : TimeCode) (bytes : List ℕ) (stop : Status) : Type 0 where
   pub frames : List Frame
@@ -106,6 +89,12 @@ not_all : (time : TimeCode) (bytes : List ℕ) (frames more : List Frame) (stop 
 not_all time bytes frames more stop has is good =
     not_exported time has.frames (has.behind ++ more) has.last stop has.stops
     (subst (AreExported time) (is ∙ append_assoc (has.frames ++ has.last ∷ []) has.behind more) good)
+
+-- nor all bytes
+all_judged : (time : TimeCode) (bytes : List ℕ) (stop : Status) (frames : List Frame) → StopsIn time bytes stop → AreFramesOf caption_channel frames bytes → AreExported time frames → ⊥
+all_judged time bytes stop frames has are good =
+    let same = frames_of_once caption_channel frames ((has.frames ++ has.last ∷ []) ++ has.behind) bytes are has.are in
+    not_all time bytes frames [] stop has (same ∙ sym (append-nil ((has.frames ++ has.last ∷ []) ++ has.behind))) good
 
 -- a run that stops at a frame stops at this one
 same_frame : (time : TimeCode) (bytes : List ℕ) (stop answer : Status) (has : StopsIn time bytes stop) (frames : List Frame) (last : Frame) (rest : List Frame)
@@ -122,14 +111,13 @@ same_frame time bytes stop answer has frames last rest good stops (before_it nex
     absurd (not_exported time frames more last answer stops
     (subst (λ f. AreExported time ((frames ++ f ∷ []) ++ more)) (sym frame) (subst (AreExported time) is has.good)))
 
-stops_same : (time : TimeCode) (bytes : List ℕ) (stop answer : Status) → StopsIn time bytes stop → (frames at : List Frame) (last : Frame) (judged more : List ℕ)
-    → bytes ≡ judged ++ more → AreFramesOf caption_channel (frames ++ at) judged → at ≡ last ∷ [] → AreExported time frames → StopsAt time (length frames) last answer
+stops_same : (time : TimeCode) (bytes : List ℕ) (stop answer : Status) → StopsIn time bytes stop → (frames : List Frame) (last : Frame) (judged more : List ℕ)
+    → bytes ≡ judged ++ more → AreFramesOf caption_channel (frames ++ last ∷ []) judged → AreExported time frames → StopsAt time (length frames) last answer
     → answer ≡ stop
-stops_same time bytes stop answer has frames at last judged more is are is_last good stops =
-    let (behind, grown) = frames_grow caption_channel (frames ++ at) ((has.frames ++ has.last ∷ []) ++ has.behind) judged more are
+stops_same time bytes stop answer has frames last judged more is are good stops =
+    let (behind, grown) = frames_grow caption_channel (frames ++ last ∷ []) ((has.frames ++ has.last ∷ []) ++ has.behind) judged more are
     (subst (AreFramesOf caption_channel ((has.frames ++ has.last ∷ []) ++ has.behind)) is has.are) in
-    let spelled : frames ++ (last ∷ behind) ≡ (has.frames ++ has.last ∷ []) ++ has.behind =
-    sym (append_assoc frames (last ∷ []) behind) ∙ sym (grown ∙ ap (λ l. (frames ++ l) ++ behind) is_last) in
+    let spelled : frames ++ (last ∷ behind) ≡ (has.frames ++ has.last ∷ []) ++ has.behind = sym (append_assoc frames (last ∷ []) behind) ∙ sym grown in
     same_frame time bytes stop answer has frames last behind good stops (two_fronts frames (last ∷ behind) has.frames has.behind has.last spelled)
 
 -- a run that exported the frames of what it judged stops for no word
@@ -156,55 +144,43 @@ no_offence time bytes stop refusal has frames judged more is are good offence =
         (subst (λ l. FirstOffendingWord caption_channel l refusal) (sym longer) (offence_stays caption_channel judged rest refusal offence))
 
 never_refused : (time : TimeCode) (bytes : List ℕ) (stop : Status) (refusal : Refusal) (answer : Put) (old new : Ends) → StopsIn time bytes stop → IsReadOf bytes old new
-    → Stops time (export_front time) (AtNone (IsRefusedWith refusal old.left)) answer old new → ⊥
+    → Stops (IsExportOf time export_front) (IsRefusedWith refusal old.left) answer old new → ⊥
 never_refused time bytes stop refusal answer old new has read stops =
+    let said = stops.says in
     let (rest, is) = known_judged old.left new.left bytes stops.judged stops.unjudged read.left stops.taken in
-    let are = subst (λ l. AreFramesOf caption_channel l stops.judged) (ap (λ l. stops.frames ++ l) stops.cause.0 ∙ append-nil stops.frames) stops.frames_are in
-    elim stops.cause.1 [
-      | inl offence ↦ no_offence time bytes stop refusal has stops.frames stops.judged (stops.unjudged ++ rest) is are stops.are_exported offence
+    elim stops.cause [
+      | inl offence ↦ no_offence time bytes stop refusal has said.frames stops.judged (stops.unjudged ++ rest) is said.frames_are said.fit offence
       | inr cut ↦
           let whole = known_whole old.left bytes stops.judged read.left cut.0.0 in
-          let same = frames_of_once caption_channel stops.frames ((has.frames ++ has.last ∷ []) ++ has.behind) bytes (subst (AreFramesOf caption_channel stops.frames) (sym whole) are) has.are in
-          not_all time bytes stops.frames [] stop has (same ∙ sym (append-nil ((has.frames ++ has.last ∷ []) ++ has.behind))) stops.are_exported
+          all_judged time bytes stop said.frames has (subst (AreFramesOf caption_channel said.frames) (sym whole) said.frames_are) said.fit
     ]
 
 -- nor does it come to the end of a file
-never_whole : (time : TimeCode) (bytes : List ℕ) (stop : Status) (text : List Frame → List ℕ) (answer : Put) (old new : Ends) → StopsIn time bytes stop → IsReadOf bytes old new
-    → Stops time text (AtNone (IsWholeFile old.left)) answer old new → ⊥
-never_whole time bytes stop text answer old new has read stops =
-    let (whole, file) = stops.cause.1 in
-    let is = known_whole old.left bytes stops.judged read.left whole.0 in
-    let same = frames_of_once caption_channel stops.frames ((has.frames ++ has.last ∷ []) ++ has.behind) bytes
-    (file_frames caption_channel stops.frames bytes (subst (IsFileUnder caption_channel stops.frames) (sym is) file)) has.are in
-    not_all time bytes stops.frames [] stop has (same ∙ sym (append-nil ((has.frames ++ has.last ∷ []) ++ has.behind))) stops.are_exported
+never_whole : (time : TimeCode) (bytes : List ℕ) (stop : Status) (answer : Put) (old new : Ends) → StopsIn time bytes stop → IsReadOf bytes old new
+    → Stops (IsExportOf time export_file) (IsWholeFile old.left) answer old new → ⊥
+never_whole time bytes stop answer old new has read stops =
+    let said = stops.says in
+    let is = known_whole old.left bytes stops.judged read.left stops.cause.0.0 in
+    all_judged time bytes stop said.frames has (subst (AreFramesOf caption_channel said.frames) (sym is) said.frames_are) said.fit
 
 stop_early : (time : TimeCode) (bytes : List ℕ) (stop answer : Status) (old new : Ends) → StopsIn time bytes stop → length bytes ≤ words_limit → IsReadOf bytes old new
     → StopsEarly time old new answer → answer ≡ stop
 stop_early time bytes stop status.ReadFault old new has within read stops = absurd (read.reads stops.0)
 stop_early time bytes stop status.WriteFault old new has within read stops = absurd (read.writes stops.1)
-stop_early time bytes stop (status.Limit limit.Bytes) old new has within read stops = absurd (never_passes time bytes _ old new within read stops.1)
-stop_early time bytes stop (status.Limit limit.Day) old new has within read stops =
-    let s = stops.1 in
-    let (rest, is) = known_judged old.left new.left bytes s.judged s.unjudged read.left s.taken in
-    stops_same time bytes stop (status.Limit limit.Day) has s.frames s.at s.cause.last s.judged (s.unjudged ++ rest) is s.frames_are s.cause.is_last s.are_exported s.cause.stands
+stop_early time bytes stop (status.Limit limit.Bytes) old new has within read stops = absurd (within_passes _ bytes _ old new within read stops.1)
 stop_early time bytes stop (status.Malformed (Byte place) why) old new has within read stops =
     absurd (never_refused time bytes stop (record { place = place; why = why }) _ old new has read stops.1)
-stop_early time bytes stop (status.Differs finding) old new has within read stops =
-    let s = stops.1 in
+stop_early time bytes stop answer old new has within read stops =
+    let s = stops.2 in
+    let halts = s.says in
     let (rest, is) = known_judged old.left new.left bytes s.judged s.unjudged read.left s.taken in
-    stops_same time bytes stop (status.Differs finding) has s.frames s.at s.cause.last s.judged (s.unjudged ++ rest) is s.frames_are s.cause.is_last s.are_exported
-    (s.cause.number, s.cause.found)
-stop_early time bytes stop _ old new has within read stops = absurd stops
-
-answered_so : (time : TimeCode) (bytes : List ℕ) (stop answer : Status) (old new : Ends) → StopsIn time bytes stop → length bytes ≤ words_limit → IsReadOf bytes old new
-    → ExportAnswer time old new answer → (answer ≡ stop) ⊎ (answer ≡ status.Memory)
-answered_so time bytes stop status.Ok old new has within read answered = absurd (never_whole time bytes stop _ _ old new has read answered.1)
-answered_so time bytes stop status.Memory old new has within read answered = inr refl
-answered_so time bytes stop status.WriteFault old new has within read (inl answered) = absurd (read.writes answered.1)
-answered_so time bytes stop status.WriteFault old new has within read (inr answered) = absurd (read.writes answered.1)
-answered_so time bytes stop answer old new has within read answered = inl (stop_early time bytes stop answer old new has within read answered)
+    stops_same time bytes stop answer has halts.frames halts.last s.judged (s.unjudged ++ rest) is halts.frames_are halts.fit halts.is
 
 pub stop_answered : StopIsAnswered
+stop_answered time bytes frames behind last stop status.Ok old new are good stops within read answered =
+    absurd (never_whole time bytes stop _ old new (record { frames = frames; last = last; behind = behind; are = are; good = good; stops = stops }) read answered.1)
+stop_answered time bytes frames behind last stop status.Memory old new are good stops within read answered = inr refl
+stop_answered time bytes frames behind last stop status.WriteFault old new are good stops within read (inl answered) = absurd (read.writes answered.1)
+stop_answered time bytes frames behind last stop status.WriteFault old new are good stops within read (inr answered) = absurd (read.writes answered.1)
 stop_answered time bytes frames behind last stop answer old new are good stops within read answered =
-    answered_so time bytes stop answer old new
-    (record { frames = frames; last = last; behind = behind; are = are; good = good; stops = stops }) within read answered
+    inl (stop_early time bytes stop answer old new (record { frames = frames; last = last; behind = behind; are = are; good = good; stops = stops }) within read answered)

@@ -19,7 +19,7 @@ use Rattle.scc_files.specs.Writing.{Standing, StandsFirst, end_text, head_text, 
 use Rattle.scc_files.specs.declared.writer.SccWriter.{SccWriter}
 use Rattle.scc_files.specs.Written.{text_from}
 use Rattle.time_codes.specs.declared.time_code.TimeCode.{TimeCode}
-use Rattle.words_commands.proofs.WayLemmas.{way_unwritten}
+use Rattle.words_reading.proofs.WayLemmas.{way_unwritten}
 use Rattle.scc_commands.specs.Import.{Placed}
 use Rattle.scc_commands.specs.Export.{AreExported, AreWithinDay, HasNoFinding, HaveNoFinding, at_number, export_file, export_front, exported, exported_from, first_standing, pairs_of, pieces, stand_after}
 

@@ -1,15 +1,12 @@
 -- What `export` answers: the SCC file of the field 1 pairs that the frames of a words file carry, or why the run stopped, and with what
 -- text before.
 use Rattle.std.specs.Prelude.{◌≡◌, ◌≢◌, ◌<◌, ◌≤◌, ◌⊎◌, ℕ, suc, true, false, List, [], ◌∷◌, ◌++◌, length, None, ⊤}
-use Rattle.std.specs.Io.KnownBytes.{Consumes}
-use Rattle.cc_base.specs.Streams.{Puts, Rose}
+use Rattle.cc_base.specs.Streams.{Rose}
 use Rattle.cc_base.specs.declared.limit_of.LimitOf.TheVariants as limit
 use Rattle.cc_base.specs.declared.rate.Rate.TheVariants as rate
-use Rattle.cc_base.specs.declared.streams.Put.{Put}
 use Rattle.cc_base.specs.declared.streams.Put.TheVariants as put
 use Rattle.line21_codes.specs.declared.channels.FieldNumber.TheVariants.{One}
 use Rattle.line21_codes.specs.declared.pairs.Pair.{Pair}
-use Rattle.findings.specs.declared.finding.Finding.{Finding}
 use Rattle.findings.specs.declared.finding.Kind45.{Kind45}
 use Rattle.findings.specs.declared.finding.Kind45.TheVariants as kind
 use Rattle.time_codes.specs.Frames.{frame_number}
@@ -18,15 +15,14 @@ use Rattle.scc_files.specs.Writing.{Standing, head_text, is_past_day, piece_of, 
 use Rattle.scc_files.specs.Written.{written_file}
 use Rattle.cdp_packets.specs.Packets.{Packet as Frame}
 use Rattle.cdp_packets.specs.PacketTriplets.{packet_triplets}
-use Rattle.words_files.specs.FramesOf.{AreFramesOf}
-use Rattle.words_files.specs.Offences.{IsUnoffending}
 use Rattle.words_files.specs.Received.{field_pairs}
-use Rattle.services_files.specs.CaptionChannel.{caption_channel}
 use Rattle.command_base.specs.Ends.{Ends, IsSteady}
-use Rattle.command_base.specs.declared.status.Place.TheVariants.{Byte}
 use Rattle.command_base.specs.declared.status.Status.{Status}
 use Rattle.command_base.specs.declared.status.Status.TheVariants as status
-use Rattle.words_commands.specs.WordsAnswer.{Cause as WordsCause, HasNoOffence, IsRefusedWith, IsWholeFile, PassesLimit, words_limit}
+use Rattle.words_reading.specs.Answers.{StopsEarlyAs}
+use Rattle.words_reading.specs.Causes.{IsWholeFile}
+use Rattle.words_reading.specs.FrameTexts.{FramesHalt, FramesSay}
+use Rattle.words_reading.specs.Reading.{Stops}
 use Rattle.scc_commands.specs.Import.{Placed}
 
 -- the field 1 pairs of a frame: those of its triplets that count
@@ -93,37 +89,6 @@ pub record AreExported (time : TimeCode) (frames : List Frame) : Type 0 where
   pub no_finding : HaveNoFinding frames
   pub within_day : AreWithinDay time (exported frames)
 
--- what may hold where a run stops: of the frames that were exported, of the frame at which it stopped, if it stopped at one, of the bytes
--- judged, and of those taken behind them and not judged
-abbrev pub Cause : Type 1
-Cause = List Frame → List Frame → List ℕ → List ℕ → Type 0
-
--- a run judged bytes, within the limit, and took more behind them; the text of the frames that the judged bytes brought was put, but for
--- the frame at which it stopped, or a front of it where a put failed; and it stopped for this cause
-pub record Stops (time : TimeCode) (text : List Frame → List ℕ) (Why : Cause) (answer : Put) (old new : Ends) : Type 0 where
-  pub frames : List Frame
-  pub at : List Frame
-  pub judged : List ℕ
-  pub unjudged : List ℕ
-  pub taken : Consumes old.left new.left (judged ++ unjudged)
-  pub within : length judged ≤ words_limit
-  pub frames_are : AreFramesOf caption_channel (frames ++ at) judged
-  pub are_exported : AreExported time frames
-  pub cause : Why frames at judged unjudged
-  pub output : Puts old.written new.written answer (text frames)
-
--- it stopped at no frame, and this cause of a reading of words holds
-abbrev pub AtNone : WordsCause → Cause
-AtNone Why frames at judged unjudged = (at ≡ []) × Why frames judged unjudged
-
--- this is found at the frame with which the bytes judged end, none of whose words offends
-pub record IsFoundAt (finding : Finding) (frames at : List Frame) (judged unjudged : List ℕ) : Type 0 where
-  pub last : Frame
-  pub is_last : at ≡ last ∷ []
-  pub number : finding.frame ≡ length frames
-  pub found : HasFinding last finding.kind
-  pub unoffending : IsUnoffending caption_channel judged
-
 -- nothing is found at the frame of this number, and its pair isn't null and stands at or past the end of the day
 pub record StandsPastDay (time : TimeCode) (number : ℕ) (frame : Frame) : Type 0 where
   pub no_finding : HasNoFinding frame
@@ -131,36 +96,30 @@ pub record StandsPastDay (time : TimeCode) (number : ℕ) (frame : Frame) : Type
   pub is_pair : pairs_of frame ≡ pair ∷ []
   pub past : is_past_day (first_standing time) number pair ≡ true
 
--- the frame with which the bytes judged end, none of whose words offends, stands past the day
-pub record PassesDay (time : TimeCode) (frames at : List Frame) (judged unjudged : List ℕ) : Type 0 where
-  pub last : Frame
-  pub is_last : at ≡ last ∷ []
-  pub stands : StandsPastDay time (length frames) last
-  pub unoffending : IsUnoffending caption_channel judged
+-- an export stops at the frame of this number with this status: something is found at it, or its pair stands past the day
+abbrev pub StopsAt : TimeCode → ℕ → Frame → Status → Type 0
+StopsAt time number frame (status.Differs finding) = (finding.frame ≡ number) × HasFinding frame finding.kind
+StopsAt time number frame (status.Limit limit.Day) = StandsPastDay time number frame
+StopsAt time number frame _ = ⊥
 
--- nothing more is said
-abbrev pub IsAnyhow : Cause
-IsAnyhow frames at judged unjudged = ⊤
+-- this is the text of the frames that bytes bring, which are exported
+abbrev pub IsExportOf : TimeCode → (TimeCode → List Frame → List ℕ) → List ℕ → List ℕ → Type 0
+IsExportOf time text_of = FramesSay (text_of time) (AreExported time)
+
+-- bytes, none of whose words offends, end with the first frame at which an export stops, and this is the text of the frames before
+abbrev pub HaltsWith : TimeCode → Status → List ℕ → List ℕ → Type 0
+HaltsWith time answer = FramesHalt (export_front time) (AreExported time) (λ frames last. StopsAt time (length frames) last answer)
 
 -- how a run ends before the end of a words file
 abbrev pub StopsEarly : TimeCode → Ends → Ends → Status → Type 0
-StopsEarly time old new status.ReadFault =
-    Rose old.read_faults new.read_faults × (new.write_faults ≡ old.write_faults) × Stops time (export_front time) (AtNone HasNoOffence) put.Done old new
-StopsEarly time old new status.WriteFault =
-    (new.read_faults ≡ old.read_faults) × Rose old.write_faults new.write_faults × Stops time (export_front time) IsAnyhow put.Failed old new
-StopsEarly time old new (status.Limit limit.Bytes) = IsSteady old new × Stops time (export_front time) (AtNone PassesLimit) put.Done old new
-StopsEarly time old new (status.Limit limit.Day) = IsSteady old new × Stops time (export_front time) (PassesDay time) put.Done old new
-StopsEarly time old new (status.Malformed (Byte place) why) =
-    IsSteady old new × Stops time (export_front time) (AtNone (IsRefusedWith (record { place = place; why = why }) old.left)) put.Done old new
-StopsEarly time old new (status.Differs finding) = IsSteady old new × Stops time (export_front time) (IsFoundAt finding) put.Done old new
-StopsEarly time old new _ = ⊥
+StopsEarly time old new answer = StopsEarlyAs (IsExportOf time export_front) (HaltsWith time) old new answer
 
 -- what `export` answers, where frame 0 has this time code
 abbrev pub ExportAnswer : TimeCode → Ends → Ends → Status → Type 0
-ExportAnswer time old new status.Ok = IsSteady old new × Stops time (export_file time) (AtNone (IsWholeFile old.left)) put.Done old new
+ExportAnswer time old new status.Ok = IsSteady old new × Stops (IsExportOf time export_file) (IsWholeFile old.left) put.Done old new
 ExportAnswer time old new status.WriteFault =
     StopsEarly time old new status.WriteFault
     ⊎ ((new.read_faults ≡ old.read_faults) × Rose old.write_faults new.write_faults
-    × Stops time (export_file time) (AtNone (IsWholeFile old.left)) put.Failed old new)
+    × Stops (IsExportOf time export_file) (IsWholeFile old.left) put.Failed old new)
 ExportAnswer time old new status.Memory = new ≡ old
 ExportAnswer time old new answer = StopsEarly time old new answer

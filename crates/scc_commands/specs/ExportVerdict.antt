@@ -1,7 +1,6 @@
 -- The verdict of an export where no count of faults rose: words whose frames are exported are answered Ok, malformed ones with their one
 -- refusal, and those with a frame at which an export stops with what stands against it; or with want of memory.
 use Rattle.std.specs.Prelude.{◌≡◌, ◌≤◌, ◌⊎◌, ℕ, List, [], ◌∷◌, ◌++◌, length}
-use Rattle.cc_base.specs.declared.limit_of.LimitOf.TheVariants as limit
 use Rattle.cc_base.specs.declared.refusal.Refusal.{Refusal}
 use Rattle.cdp_packets.specs.Packets.{Packet as Frame}
 use Rattle.command_base.specs.Counts.{IsReadOf}
@@ -13,8 +12,8 @@ use Rattle.time_codes.specs.declared.time_code.TimeCode.{TimeCode}
 use Rattle.words_files.specs.FramesOf.{AreFramesOf}
 use Rattle.words_files.specs.Offences.{IsFileUnder, IsMalformed}
 use Rattle.services_files.specs.CaptionChannel.{caption_channel}
-use Rattle.words_commands.specs.WordsAnswer.{words_limit}
-use Rattle.scc_commands.specs.Export.{AreExported, ExportAnswer, HasFinding, StandsPastDay}
+use Rattle.words_reading.specs.Causes.{words_limit}
+use Rattle.scc_commands.specs.Export.{AreExported, ExportAnswer, StopsAt}
 
 -- a words file within the limit, at none of whose frames anything is found, and none of whose pairs stands past the day
 abbrev pub FileIsExported : Type 0
@@ -28,13 +27,7 @@ MalformedIsNotExported = (time : TimeCode) (bytes : List ℕ) (frames : List Fra
     → AreFramesOf caption_channel frames bytes → AreExported time frames → IsMalformed caption_channel bytes refusal → length bytes ≤ words_limit → IsReadOf bytes old new
     → ExportAnswer time old new answer → (answer ≡ status.Malformed (Byte refusal.place) refusal.why) ⊎ (answer ≡ status.Memory)
 
--- an export stops at the frame of this number with this status: something is found at it, or its pair stands past the day
-abbrev pub StopsAt : TimeCode → ℕ → Frame → Status → Type 0
-StopsAt time number frame (status.Differs finding) = (finding.frame ≡ number) × HasFinding frame finding.kind
-StopsAt time number frame (status.Limit limit.Day) = StandsPastDay time number frame
-StopsAt time number frame _ = ⊥
-
--- words with such a frame, where those before it are exported, whatever follows it
+-- words with a frame at which an export stops, where those before it are exported, whatever follows it
 abbrev pub StopIsAnswered : Type 0
 StopIsAnswered = (time : TimeCode) (bytes : List ℕ) (frames behind : List Frame) (last : Frame) (stop answer : Status) (old new : Ends)
     → AreFramesOf caption_channel ((frames ++ last ∷ []) ++ behind) bytes → AreExported time frames → StopsAt time (length frames) last stop

@@ -2,5 +2,5 @@ pub mod Import
 pub mod Cursors
 pub mod ImportSteps
 pub mod Export
-pub mod ExportSteps
 pub mod ExportVerdict
+pub mod Exporting

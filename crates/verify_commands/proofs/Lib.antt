@@ -1,5 +1,4 @@
-pub mod StepLemmas
-pub mod StopLemmas
 pub mod AnswerLemmas
 pub mod ExactLemmas
 pub mod VerdictLemmas
+pub mod VerifyingLemmas

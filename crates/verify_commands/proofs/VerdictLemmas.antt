@@ -1,5 +1,5 @@
 -- Counts that are greater than before have their own answer.
-use Rattle.std.proofs.Common.{inl, inr, refl}
+use Rattle.std.proofs.Common.{inl, inr, refl, ℕ, List}
 use Rattle.cc_base.specs.declared.limit_of.LimitOf.TheVariants as limit
 use Rattle.command_base.proofs.CountLemmas.{read_told, same_told, steady_told, write_told}
 use Rattle.command_base.specs.Ends.{Ends}
@@ -10,10 +10,13 @@ use Rattle.cue_list_commands.proofs.SideLemmas.{refused_told, side_kept}
 use Rattle.cue_list_commands.specs.Accepted.{IsRefusedList}
 use Rattle.cue_list_commands.specs.SideEnds.{SideEnds}
 use Rattle.cue_list_commands.specs.SideLists.{TellsAllFaults}
-use Rattle.verify_commands.specs.VerifyAnswer.{Cause, JudgesWords, VerifyAnswer}
+use Rattle.cue_types.specs.Listing.{Listing}
+use Rattle.words_reading.specs.Causes.{Cause}
+use Rattle.verify_commands.specs.VerifyAnswer.{JudgesWords, VerifyAnswer}
 
-judged_told : (Why : Cause) (side later : SideEnds) (old new : Ends) (answer : Status) → JudgesWords Why side later old new → TellsAllFaults side later old new answer
-judged_told Why side later old new answer is = (side_kept side later _ is.0, steady_told old new answer is.1 is.2.0)
+judged_told : (Says : Listing → List ℕ → List ℕ → Type 0) (Why : Listing → Cause) (side later : SideEnds) (old new : Ends) (answer : Status) → JudgesWords Says Why side later old new
+    → TellsAllFaults side later old new answer
+judged_told Says Why side later old new answer is = (side_kept side later _ is.0, steady_told old new answer is.1 is.2.0)
 
 pub verify_told : (side later : SideEnds) (old new : Ends) (answer : Status) → VerifyAnswer side later old new answer → TellsAllFaults side later old new answer
 verify_told side later old new status.Ok is = (side_kept side later _ is.0, steady_told old new status.Ok is.1.reads is.1.writes)
@@ -23,14 +26,14 @@ verify_told side later old new status.ReadFault (inr is) = (λ rose. refl, read_
 verify_told side later old new status.WriteFault is = (side_kept side later _ is.0, write_told old new is.1)
 verify_told side later old new status.Memory is = (side_kept side later _ is.0, same_told old new status.Memory is.1)
 verify_told side later old new (status.Limit limit.Bytes) (inl is) = refused_told IsRefusedList side later old new (status.Limit limit.Bytes) is
-verify_told side later old new (status.Limit limit.Bytes) (inr is) = judged_told _ side later old new (status.Limit limit.Bytes) is
+verify_told side later old new (status.Limit limit.Bytes) (inr is) = judged_told _ _ side later old new (status.Limit limit.Bytes) is
 verify_told side later old new (status.Limit limit.Frames) is = refused_told IsRefusedList side later old new (status.Limit limit.Frames) is
 verify_told side later old new (status.Limit limit.Cues) is = refused_told IsRefusedList side later old new (status.Limit limit.Cues) is
 verify_told side later old new (status.Limit limit.Packet) is = refused_told IsRefusedList side later old new (status.Limit limit.Packet) is
 verify_told side later old new (status.Limit limit.Day) is = refused_told IsRefusedList side later old new (status.Limit limit.Day) is
-verify_told side later old new (status.Malformed (Byte place) why) is = judged_told _ side later old new (status.Malformed (Byte place) why) is
+verify_told side later old new (status.Malformed (Byte place) why) is = judged_told _ _ side later old new (status.Malformed (Byte place) why) is
 verify_told side later old new (status.Malformed (Field rec field) why) is = refused_told IsRefusedList side later old new (status.Malformed (Field rec field) why) is
 verify_told side later old new (status.Rule fault) is = refused_told IsRefusedList side later old new (status.Rule fault) is
 verify_told side later old new (status.NoRoom cue) is = refused_told IsRefusedList side later old new (status.NoRoom cue) is
-verify_told side later old new (status.Differs finding) is = judged_told _ side later old new (status.Differs finding) is
-verify_told side later old new (status.Short count) is = judged_told _ side later old new (status.Short count) is
+verify_told side later old new (status.Differs finding) is = judged_told _ _ side later old new (status.Differs finding) is
+verify_told side later old new (status.Short count) is = judged_told _ _ side later old new (status.Short count) is

@@ -11,7 +11,7 @@ use Rattle.cue_list_commands.specs.Accepted.{IsGoodList}
 use Rattle.cue_list_commands.specs.SideEnds.{SideEnds}
 use Rattle.cue_list_commands.specs.SideLists.{IsSideOf}
 use Rattle.cue_types.specs.Listing.{Listing}
-use Rattle.words_commands.specs.WordsAnswer.{words_limit}
+use Rattle.words_reading.specs.Causes.{words_limit}
 use Rattle.words_files.specs.Offences.{IsFileUnder}
 use Rattle.services_files.specs.CaptionChannel.{caption_channel}
 use Rattle.verify_commands.specs.VerifyAnswer.{VerifyAnswer}

@@ -5,5 +5,6 @@
 pub use crate::verify::run_verify;
 
 pub mod laws;
+mod nowhere;
 mod verify;
-mod words;
+mod verifying;

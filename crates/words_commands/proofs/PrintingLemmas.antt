@@ -95,22 +95,20 @@ pub gathered_still : (a b : Option (List ℕ)) (held all more : List ℕ) → Is
 gathered_still a b held all more way same = record { sent = way.sent; appended = way.appended; whole = way.whole ∙ sym same }
 
 -- the changes of a frame more were written
-pub changes_gathered : (texts : List Frame → List ℕ) (start : Option (List ℕ)) (old new : Page) (r : Put) (frames : List Frame) (next : Frame)
-    (frame : ℕ) (last : Screens)
-    → texts ≡ changes_of → IsGathered start old.written (held_of old.text) (texts frames) → answer_of old.text ≡ put.Done
+pub changes_gathered : (start : Option (List ℕ)) (old new : Page) (r : Put) (frames : List Frame) (next : Frame) (frame : ℕ) (last : Screens)
+    → IsGathered start old.written (held_of old.text) (changes_of frames) → answer_of old.text ≡ put.Done
     → Writes old new (changes_text frame last (received_screens (frames ++ next ∷ []))) → r ≡ answer_of new.text
     → LookAlike last (received_screens frames) → frame ≡ length frames
-    → GathersText start new.written (held_of new.text) (texts (frames ++ next ∷ [])) r
-changes_gathered texts start old new r frames next frame last are way done writes answered alike number =
+    → GathersText start new.written (held_of new.text) (changes_of (frames ++ next ∷ [])) r
+changes_gathered start old new r frames next frame last way done writes answered alike number =
     let changed : changes_text frame last (received_screens (frames ++ next ∷ [])) ≡ next_changes frames next =
     changes_alike frame last (received_screens frames) (received_screens (frames ++ next ∷ [])) alike
     ∙ ap (λ n. changes_text n (received_screens frames) (received_screens (frames ++ next ∷ []))) number in
-    let more : texts frames ++ changes_text frame last (received_screens (frames ++ next ∷ [])) ≡ texts (frames ++ next ∷ []) =
-    ap (λ l. texts frames ++ l) changed ∙ ap (λ (t : List Frame → List ℕ). t frames ++ next_changes frames next) are
-    ∙ sym (changes_more frames next) ∙ sym (ap (λ (t : List Frame → List ℕ). t (frames ++ next ∷ [])) are) in
-    subst (λ a. GathersText start new.written (held_of new.text) (texts (frames ++ next ∷ [])) a) (sym answered)
+    let more : changes_of frames ++ changes_text frame last (received_screens (frames ++ next ∷ [])) ≡ changes_of (frames ++ next ∷ []) =
+    ap (λ l. changes_of frames ++ l) changed ∙ sym (changes_more frames next) in
+    subst (λ a. GathersText start new.written (held_of new.text) (changes_of (frames ++ next ∷ [])) a) (sym answered)
     (subst (λ l. GathersText start new.written (held_of new.text) l (answer_of new.text)) more
-    (writes start old.faults (texts frames) (begun_written start (texts frames) old done way)).bytes)
+    (writes start old.faults (changes_of frames) (begun_written start (changes_of frames) old done way)).bytes)
 
 -- what looks like screens that look like others looks like these
 pub alike_after : (a b c : Screens) → LookAlike a b → LookAlike b c → LookAlike a c
@@ -126,39 +124,31 @@ pub same_behind : (last : Screens) (frames : List Frame) (next : Frame) → Look
 same_behind last frames next alike same service id is small = alike.windows service id is small ∙ sym (same service id is)
 
 -- a frame that leaves the screens as they were has no changes
-pub idle_gathered : (texts : List Frame → List ℕ) (a b : Option (List ℕ)) (held : List ℕ) (frames : List Frame) (next : Frame)
-    → texts ≡ changes_of → LookAlike (received_screens frames) (received_screens (frames ++ next ∷ [])) → IsGathered a b held (texts frames)
-    → GathersText a b held (texts (frames ++ next ∷ [])) put.Done
-idle_gathered texts a b held frames next are same way =
+pub idle_gathered : (a b : Option (List ℕ)) (held : List ℕ) (frames : List Frame) (next : Frame)
+    → LookAlike (received_screens frames) (received_screens (frames ++ next ∷ [])) → IsGathered a b held (changes_of frames)
+    → GathersText a b held (changes_of (frames ++ next ∷ [])) put.Done
+idle_gathered a b held frames next same way =
     let none : next_changes frames next ≡ [] = no_changes (length frames) (received_screens frames) (received_screens (frames ++ next ∷ [])) same in
-    let more : texts (frames ++ next ∷ []) ≡ texts frames =
-    ap (λ (t : List Frame → List ℕ). t (frames ++ next ∷ [])) are ∙ changes_more frames next ∙ ap (λ l. changes_of frames ++ l) none
-    ∙ append-nil (changes_of frames) ∙ sym (ap (λ (t : List Frame → List ℕ). t frames) are) in
-    gathered_still a b held (texts frames) (texts (frames ++ next ∷ [])) way more
+    gathered_still a b held (changes_of frames) (changes_of (frames ++ next ∷ [])) way
+    (changes_more frames next ∙ ap (λ l. changes_of frames ++ l) none ∙ append-nil (changes_of frames))
 
 -- the screens of the wanted frame were put
-pub screens_put : (texts : List Frame → List ℕ) (a b c : Option (List ℕ)) (r : Put) (held : List ℕ) (frames : List Frame) (next : Frame)
-    (frame wanted : ℕ)
-    → texts ≡ show_output wanted → frame ≡ wanted → IsGathered a b held (texts frames) → Puts b c r (all_text frame (received_screens (frames ++ next ∷ [])))
-    → frame ≡ length frames
-    → GathersText a c held (texts (frames ++ next ∷ [])) r
-screens_put texts a b c r held frames next frame wanted are same way puts number =
-    let none : texts frames ≡ [] =
-    ap (λ (t : List Frame → List ℕ). t frames) are ∙ show_before wanted frames (omega arith) in
-    let more : texts (frames ++ next ∷ []) ≡ all_text frame (received_screens (frames ++ next ∷ [])) =
-    ap (λ (t : List Frame → List ℕ). t (frames ++ next ∷ [])) are ∙ show_at wanted frames next (sym same ∙ number)
-    ∙ ap (λ n. all_text n (received_screens (frames ++ next ∷ []))) (sym same) in
-    subst (λ l. GathersText a c held l r) (sym more) (put_at_once a b c r held (all_text frame (received_screens (frames ++ next ∷ []))) (texts frames) way none puts)
+pub screens_put : (a b c : Option (List ℕ)) (r : Put) (held : List ℕ) (frames : List Frame) (next : Frame) (frame wanted : ℕ)
+    → frame ≡ wanted → IsGathered a b held (show_output wanted frames) → Puts b c r (all_text frame (received_screens (frames ++ next ∷ []))) → frame ≡ length frames
+    → GathersText a c held (show_output wanted (frames ++ next ∷ [])) r
+screens_put a b c r held frames next frame wanted same way puts number =
+    let none : show_output wanted frames ≡ [] = show_before wanted frames (omega arith) in
+    let more : show_output wanted (frames ++ next ∷ []) ≡ all_text frame (received_screens (frames ++ next ∷ [])) =
+    show_at wanted frames next (sym same ∙ number) ∙ ap (λ n. all_text n (received_screens (frames ++ next ∷ []))) (sym same) in
+    subst (λ l. GathersText a c held l r) (sym more) (put_at_once a b c r held (all_text frame (received_screens (frames ++ next ∷ []))) (show_output wanted frames) way none puts)
 
 -- another frame came
-pub screens_still : (texts : List Frame → List ℕ) (a b : Option (List ℕ)) (held : List ℕ) (frames : List Frame) (next : Frame) (frame wanted : ℕ)
-    → texts ≡ show_output wanted → frame ≢ wanted → IsGathered a b held (texts frames) → frame ≡ length frames
-    → GathersText a b held (texts (frames ++ next ∷ [])) put.Done
-screens_still texts a b held frames next frame wanted are other way number =
-    let same : texts (frames ++ next ∷ []) ≡ texts frames =
-    ap (λ (t : List Frame → List ℕ). t (frames ++ next ∷ [])) are ∙ show_other wanted frames next (λ is. other (number ∙ sym is))
-    ∙ sym (ap (λ (t : List Frame → List ℕ). t frames) are) in
-    gathered_still a b held (texts frames) (texts (frames ++ next ∷ [])) way same
+pub screens_still : (a b : Option (List ℕ)) (held : List ℕ) (frames : List Frame) (next : Frame) (frame wanted : ℕ)
+    → frame ≢ wanted → IsGathered a b held (show_output wanted frames) → frame ≡ length frames
+    → GathersText a b held (show_output wanted (frames ++ next ∷ [])) put.Done
+screens_still a b held frames next frame wanted other way number =
+    gathered_still a b held (show_output wanted frames) (show_output wanted (frames ++ next ∷ [])) way
+    (show_other wanted frames next (λ is. other (number ∙ sym is)))
 
 -- before the first frame every screen is empty
 empty_before : (chan : Chan) → received_grids [] chan ≡ empty_grid

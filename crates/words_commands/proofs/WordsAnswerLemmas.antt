@@ -1,100 +1,166 @@
 -- What `decode` and `show` answer where a words file was read, or the reading of it stopped before.
-use Rattle.std.proofs.Common.{◌≡◌, ◌∙◌, ◌<◌, ◌≤◌, ◌++◌, arith, inl, inr, subst, ℕ, List, Option, Ok, Err}
+use Rattle.std.proofs.Common.{◌≡◌, ◌∙◌, ◌<◌, ◌≤◌, ◌++◌, ap, arith, inl, inr, length, refl, subst, sym, ℕ, List, [], Option, None}
 use Rattle.cc_base.proofs.Puts.{puts_then}
 use Rattle.cc_base.specs.Streams.{Puts, Rose}
 use Rattle.cc_base.specs.declared.streams.Put.{Put}
 use Rattle.cc_base.specs.declared.streams.Put.TheVariants as put
+use Rattle.cc_receiver.specs.Receivers.{HasReceived}
 use Rattle.cdp_packets.specs.Packets.{Packet as Frame}
-use Rattle.command_base.specs.Ends.{Ends, ends}
-use Rattle.words_commands.specs.Screens.{changes_of, decode_output, frames_line, show_output}
-use Rattle.words_commands.specs.WordsAnswer.{Cause, DecodeAnswer, HasFrame, IsWholeFile, LacksFrame, ShowAnswer, Stops}
-use Rattle.words_commands.specs.WordsReading.{IsFileOfCount, ReadsWords}
+use Rattle.command_base.specs.Ends.{Ends, IsSteady, ends}
 use Rattle.command_base.specs.declared.status.Status.{Status}
 use Rattle.command_base.specs.declared.status.Status.TheVariants as status
+use Rattle.grid_print.specs.Screens.{LookAlike, received_screens}
+use Rattle.grid_print.specs.Shown.{last_shown}
+use Rattle.grid_print.specs.declared.shown.Shown.{Shown}
+use Rattle.line21_screen.specs.Grid.{empty_grid}
+use Rattle.services_files.specs.CaptionChannel.{caption_channel}
+use Rattle.words_files.specs.FramesOf.{AreFramesOf}
+use Rattle.words_reading.proofs.AnswersLemmas.{stop_answered_as}
+use Rattle.words_reading.proofs.FrameLemmas.{nothing_judged}
+use Rattle.words_reading.proofs.KnownLemmas.{file_of}
+use Rattle.words_reading.specs.Causes.{IsWholeFile}
+use Rattle.words_reading.specs.FrameTexts.{FramesHalt}
+use Rattle.words_reading.specs.FramesRead.{HasJudgedFrames, receiver_of}
+use Rattle.words_reading.specs.Reading.{Stops, StopsEarly as Stopped}
+use Rattle.words_reading.specs.Statuses.{never_status, stop_status}
+use Rattle.words_reading.specs.declared.frames.Frames.{Frames}
+use Rattle.words_reading.specs.declared.judge.Never.{Never}
+use Rattle.words_reading.specs.declared.judge.Stop.{Stop}
+use Rattle.words_reading.specs.declared.judge.Stop.TheVariants as stop
+use Rattle.words_commands.proofs.PrintingLemmas.{nothing_shown, show_before}
+use Rattle.words_commands.specs.Screens.{changes_of, decode_output, frames_line, show_output}
+use Rattle.words_commands.specs.WordsAnswer.{DecodeAnswer, IsTextOf, NeverHalts, ShowAnswer, StopsEarly}
+use Rattle.words_commands.specs.declared.changes.Changes.{Changes}
+use Rattle.words_commands.specs.declared.screens_at.ScreensAt.{ScreensAt}
 
--- a run stopped for one cause, and so for another that follows from it
-pub stops_so : (text : List Frame → List ℕ) (Why Other : Cause) (answer : Put) (old new : Ends)
-    → ((frames : List Frame) (judged unjudged : List ℕ) → Why frames judged unjudged → Other frames judged unjudged)
-    → Stops text Why answer old new → Stops text Other answer old new
-stops_so text Why Other answer old new follows stops = record {
-  frames = stops.frames;
-  judged = stops.judged;
-  unjudged = stops.unjudged;
-  taken = stops.taken;
-  within = stops.within;
-  frames_are = stops.frames_are;
-  cause = follows stops.frames stops.judged stops.unjudged stops.cause;
-  output = stops.output;
-}
+-- a receiver's number of frames
+abbrev Counts : {F : Type 0} → ℕ → Frames F → Type 0
+Counts count reading =
+    (bytes : List ℕ) (frames : List Frame) → HasReceived bytes (receiver_of reading) → AreFramesOf caption_channel frames bytes → count ≡ length frames
+
+-- a reading was ended by the end of a words file
+abbrev HasEnded : {F : Type 0} → (List Frame → List ℕ) → (List Frame → F → Type 0) → Frames F → Ends → Ends → Type 0
+HasEnded text_of Stands reading old new =
+    IsSteady old new × Stops (λ bytes text. HasJudgedFrames text_of Stands bytes text reading) (IsWholeFile old.left) put.Done old new
+
+-- a reading was stopped before
+abbrev HasStopped : (List Frame → List ℕ) → Ends → Ends → Stop Never → Type 0
+HasStopped text_of old new why =
+    Stopped (IsTextOf text_of) (λ never. FramesHalt text_of (λ frames. Unit {0}) (λ frames last. ⊥)) old new why
+
+stopped_early : (text_of : List Frame → List ℕ) (old new : Ends) (why : Stop Never) → HasStopped text_of old new why → StopsEarly text_of old new (stop_status never_status why)
+stopped_early text_of old new why stops =
+    stop_answered_as (IsTextOf text_of) _ NeverHalts never_status (λ never. elim never [ ]) (λ never bytes text halts. halts.is) old new why stops
+
+-- a decoding that judged nothing
+pub nothing_decoded : (reading : Frames Changes) (shown : Shown) → HasReceived [] (receiver_of reading) → reading.maker ≡ record { shown = shown }
+    → (last_shown shown).grids ≡ (λ chan. empty_grid) → ((service id : ℕ) → (last_shown shown).windows service id ≡ None)
+    → HasJudgedFrames changes_of (λ frames (changes : Changes). LookAlike (last_shown changes.shown) (received_screens frames)) [] [] reading
+nothing_decoded reading shown received is grids none =
+    nothing_judged changes_of _ [] reading received
+    (subst (λ (m : Changes). LookAlike (last_shown m.shown) (received_screens [])) (sym is) (nothing_shown (last_shown shown) grids none)) refl
 
 -- the number of frames was put behind their changes, or a front of it
-count_put : (first left start now then : Option (List ℕ)) (reads later writes still last : ℕ) (count : ℕ) (answer : Put)
-    → Stops changes_of (IsFileOfCount count first) put.Done (ends first reads start writes) (ends left later now still) → Puts now then answer (frames_line count)
-    → Stops decode_output (IsWholeFile first) answer (ends first reads start writes) (ends left later then last)
-count_put first left start now then reads later writes still last count answer stops line = record {
-  frames = stops.frames;
-  judged = stops.judged;
-  unjudged = stops.unjudged;
-  taken = stops.taken;
-  within = stops.within;
-  frames_are = stops.frames_are;
-  cause = stops.cause.0;
-  output = subst (λ n. Puts start then answer (changes_of stops.frames ++ frames_line n)) stops.cause.1
-      (puts_then start now then answer (changes_of stops.frames) (frames_line count) stops.output line);
-}
+count_put : {F : Type 0} → (Stands : List Frame → F → Type 0) (reading : Frames F) (first left start now then : Option (List ℕ)) (reads later writes still last count : ℕ) (answer : Put)
+    → HasEnded changes_of Stands reading (ends first reads start writes) (ends left later now still) → Counts count reading → Puts now then answer (frames_line count)
+    → Stops (IsTextOf decode_output) (IsWholeFile first) answer (ends first reads start writes) (ends left later then last)
+count_put Stands reading first left start now then reads later writes still last count answer (steady, stops) counts line =
+    let had = stops.says in
+    let number = counts stops.judged had.frames had.received had.frames_are in
+    record {
+      judged = stops.judged;
+      unjudged = stops.unjudged;
+      text = stops.text ++ frames_line count;
+      taken = stops.taken;
+      within = stops.within;
+      says = record {
+        frames = had.frames;
+        frames_are = had.frames_are;
+        fit = tt;
+        text_is = ap (λ l. l ++ frames_line count) had.text_is ∙ ap (λ n. changes_of had.frames ++ frames_line n) number;
+      };
+      cause = stops.cause;
+      output = puts_then start now then answer stops.text (frames_line count) stops.output line;
+    }
 
-pub decode_done : (first left start now then : Option (List ℕ)) (reads later writes still last : ℕ) (count : ℕ)
-    → ReadsWords changes_of (ends first reads start writes) (ends left later now still) (Ok count) → Puts now then put.Done (frames_line count) → last ≡ still
-    → DecodeAnswer (ends first reads start writes) (ends left later then last) status.Ok
-decode_done first left start now then reads later writes still last count (steady, stops) line same =
-    (record { reads = steady.reads; writes = same ∙ steady.writes }, count_put first left start now then reads later writes still last count put.Done stops line)
+pub decode_done : {F : Type 0} → (Stands : List Frame → F → Type 0) (reading : Frames F) (first left start now then : Option (List ℕ)) (reads later writes still last count : ℕ)
+    → HasEnded changes_of Stands reading (ends first reads start writes) (ends left later now still) → Counts count reading → Puts now then put.Done (frames_line count)
+    → last ≡ still → DecodeAnswer (ends first reads start writes) (ends left later then last) status.Ok
+decode_done Stands reading first left start now then reads later writes still last count ended counts line same = (
+  record { reads = ended.0.reads; writes = same ∙ ended.0.writes },
+  count_put Stands reading first left start now then reads later writes still last count put.Done ended counts line,
+)
 
-pub decode_unwritten : (first left start now then : Option (List ℕ)) (reads later writes still last : ℕ) (count : ℕ)
-    → ReadsWords changes_of (ends first reads start writes) (ends left later now still) (Ok count) → Puts now then put.Failed (frames_line count) → Rose still last
-    → DecodeAnswer (ends first reads start writes) (ends left later then last) status.WriteFault
-decode_unwritten first left start now then reads later writes still last count (steady, stops) line rose =
-    inr (steady.reads, subst (λ n. Rose n last) steady.writes rose, count_put first left start now then reads later writes still last count put.Failed stops line)
+pub decode_unwritten : {F : Type 0} → (Stands : List Frame → F → Type 0) (reading : Frames F) (first left start now then : Option (List ℕ)) (reads later writes still last count : ℕ)
+    → HasEnded changes_of Stands reading (ends first reads start writes) (ends left later now still) → Counts count reading → Puts now then put.Failed (frames_line count)
+    → Rose still last → DecodeAnswer (ends first reads start writes) (ends left later then last) status.WriteFault
+decode_unwritten Stands reading first left start now then reads later writes still last count ended counts line rose =
+    inr (ended.0.reads, subst (λ n. Rose n last) ended.0.writes rose, count_put Stands reading first left start now then reads later writes still last count put.Failed ended counts line)
 
 -- a reading that stopped before the end of the file is answered so
-pub decode_stopped : (old new : Ends) (answer : Status) → ReadsWords changes_of old new (Err answer) → DecodeAnswer old new answer
-decode_stopped old new status.Ok stops = absurd stops
-decode_stopped old new status.Usage stops = stops
-decode_stopped old new status.ReadFault stops = stops
-decode_stopped old new status.WriteFault stops = inl stops
-decode_stopped old new status.Memory stops = stops
-decode_stopped old new (status.Limit which) stops = stops
-decode_stopped old new (status.Malformed place why) stops = stops
-decode_stopped old new (status.Rule fault) stops = stops
-decode_stopped old new (status.NoRoom cue) stops = stops
-decode_stopped old new (status.Differs finding) stops = stops
-decode_stopped old new (status.Short count) stops = stops
+decode_early : (old new : Ends) (why : Stop Never) → StopsEarly changes_of old new (stop_status never_status why) → DecodeAnswer old new (stop_status never_status why)
+decode_early old new stop.ReadFault stops = stops
+decode_early old new stop.WriteFault stops = inl stops
+decode_early old new stop.Limit stops = stops
+decode_early old new (stop.Refused refusal) stops = stops
+decode_early old new (stop.Own never) stops = elim never [ ]
 
-pub show_stopped : (frame : ℕ) (old new : Ends) (answer : Status) → ReadsWords (show_output frame) old new (Err answer) → ShowAnswer frame old new answer
-show_stopped frame old new status.Ok stops = absurd stops
-show_stopped frame old new status.Usage stops = stops
-show_stopped frame old new status.ReadFault stops = stops
-show_stopped frame old new status.WriteFault stops = stops
-show_stopped frame old new status.Memory stops = stops
-show_stopped frame old new (status.Limit which) stops = stops
-show_stopped frame old new (status.Malformed place why) stops = stops
-show_stopped frame old new (status.Rule fault) stops = stops
-show_stopped frame old new (status.NoRoom cue) stops = stops
-show_stopped frame old new (status.Differs finding) stops = stops
-show_stopped frame old new (status.Short count) stops = absurd stops
+pub decode_stopped : (old new : Ends) (why : Stop Never) (answer : Status) → HasStopped changes_of old new why → answer ≡ stop_status never_status why → DecodeAnswer old new answer
+decode_stopped old new why answer stops is = subst (DecodeAnswer old new) (sym is) (decode_early old new why (stopped_early changes_of old new why stops))
+
+show_early : (frame : ℕ) (old new : Ends) (why : Stop Never) → StopsEarly (show_output frame) old new (stop_status never_status why)
+    → ShowAnswer frame old new (stop_status never_status why)
+show_early frame old new stop.ReadFault stops = stops
+show_early frame old new stop.WriteFault stops = stops
+show_early frame old new stop.Limit stops = stops
+show_early frame old new (stop.Refused refusal) stops = stops
+show_early frame old new (stop.Own never) stops = elim never [ ]
+
+pub show_stopped : (frame : ℕ) (old new : Ends) (why : Stop Never) (answer : Status) → HasStopped (show_output frame) old new why → answer ≡ stop_status never_status why
+    → ShowAnswer frame old new answer
+show_stopped frame old new why answer stops is =
+    subst (ShowAnswer frame old new) (sym is) (show_early frame old new why (stopped_early (show_output frame) old new why stops))
+
+-- a showing that judged nothing
+pub nothing_printed : (frame : ℕ) (reading : Frames ScreensAt) → HasReceived [] (receiver_of reading) → reading.maker ≡ record { frame = frame }
+    → HasJudgedFrames (show_output frame) (λ frames (screens : ScreensAt). screens.frame ≡ frame) [] [] reading
+nothing_printed frame reading received is =
+    nothing_judged (show_output frame) _ [] reading received (ap (λ (m : ScreensAt). m.frame) is) (sym (show_before frame [] (omega arith)))
 
 -- the frame is one of the file
-pub show_found : (frame count : ℕ) (old new : Ends) → ReadsWords (show_output frame) old new (Ok count) → frame < count → ShowAnswer frame old new status.Ok
-show_found frame count old new (steady, stops) below = (
-  steady,
-  stops_so (show_output frame) (IsFileOfCount count old.left) (HasFrame frame old.left) put.Done old new
-      (λ frames judged unjudged (whole, is). (whole, omega arith)) stops,
-)
+pub show_found : {F : Type 0} → (Stands : List Frame → F → Type 0) (reading : Frames F) (frame count : ℕ) (old new : Ends)
+    → HasEnded (show_output frame) Stands reading old new → Counts count reading → frame < count → ShowAnswer frame old new status.Ok
+show_found Stands reading frame count old new (steady, stops) counts below =
+    let had = stops.says in
+    let number = counts stops.judged had.frames had.received had.frames_are in (
+      steady,
+      record {
+        judged = stops.judged;
+        unjudged = stops.unjudged;
+        text = stops.text;
+        taken = stops.taken;
+        within = stops.within;
+        says = record { frames = had.frames; frames_are = had.frames_are; fit = tt; text_is = had.text_is };
+        cause = (stops.cause.0, (had.frames, file_of had.frames stops.judged had.frames_are stops.cause.1, omega arith));
+        output = stops.output;
+      },
+    )
 
 -- or the file is too short
-pub show_short : (frame count : ℕ) (old new : Ends) → ReadsWords (show_output frame) old new (Ok count) → count ≤ frame
-    → ShowAnswer frame old new (status.Short count)
-show_short frame count old new (steady, stops) few = (
-  steady,
-  stops_so (show_output frame) (IsFileOfCount count old.left) (LacksFrame count frame old.left) put.Done old new
-      (λ frames judged unjudged (whole, is). (whole, is, few)) stops,
-)
+pub show_short : {F : Type 0} → (Stands : List Frame → F → Type 0) (reading : Frames F) (frame count : ℕ) (old new : Ends)
+    → HasEnded (show_output frame) Stands reading old new → Counts count reading → count ≤ frame → ShowAnswer frame old new (status.Short count)
+show_short Stands reading frame count old new (steady, stops) counts few =
+    let had = stops.says in
+    let number = counts stops.judged had.frames had.received had.frames_are in (
+      steady,
+      record {
+        judged = stops.judged;
+        unjudged = stops.unjudged;
+        text = stops.text;
+        taken = stops.taken;
+        within = stops.within;
+        says = record { frames = had.frames; frames_are = had.frames_are; fit = tt; text_is = had.text_is };
+        cause = (stops.cause.0, (had.frames, file_of had.frames stops.judged had.frames_are stops.cause.1, number, few));
+        output = stops.output;
+      },
+    )

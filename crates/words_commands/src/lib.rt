@@ -3,10 +3,8 @@
 
 pub use crate::decode::run_decode;
 pub use crate::show::run_show;
-pub use crate::words::{TAKE, WORDS_LIMIT};
 
+mod changes;
 mod decode;
-mod printer;
-mod reading;
+mod screens_at;
 mod show;
-mod words;

@@ -4,7 +4,7 @@ use Rattle.command_base.specs.Ends.{ends}
 use Rattle.insert_commands.specs.InsertSteps.{CountsBy, InsertsWords, StopCause}
 use Rattle.insert_commands.proofs.JudgeLemmas.{may_end, may_less}
 use Rattle.insert_commands.proofs.StopLemmas.{piece_judged, piece_passes, piece_stopped, stop_counts, take_failed, underway_begun, words_ended}
-use Rattle.words_commands.proofs.PieceLemmas.{piece_of}
+use Rattle.words_reading.proofs.PieceLemmas.{piece_of}
 use Rattle.insert_commands.proofs.insert.insert_words.Goals as goal
 
 pub loop-inserting-init : goal.loop-inserting-init

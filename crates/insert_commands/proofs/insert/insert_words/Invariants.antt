@@ -1,5 +1,5 @@
 use Rattle.std.proofs.Common.{◌≡◌}
-use Rattle.words_commands.specs.WordsAnswer.{words_limit}
+use Rattle.words_reading.specs.Causes.{words_limit}
 use Rattle.insert_commands.specs.OpenPackets.{MayFollow}
 use Rattle.insert_commands.proofs.StopLemmas.{IsUnderway}
 use Rattle.insert_commands.proofs.insert.insert_words.Given as goal

@@ -1,32 +1,38 @@
-use Rattle.std.proofs.Common.{refl}
+use Rattle.std.proofs.Common.{None, [], refl}
 use Rattle.cc_verifier.specs.Verifiers.{list_of}
-use Rattle.verify_commands.proofs.AnswerLemmas.{list_refused, stopped_answer, verified_failed, verified_put}
-use Rattle.verify_commands.proofs.StepLemmas.{judged_nothing, may_begin}
+use Rattle.verify_commands.proofs.AnswerLemmas.{list_refused, short_answer, stopped_answer, verified_failed, verified_put}
+use Rattle.verify_commands.proofs.VerifyingLemmas.{nothing_judged}
 use Rattle.verify_commands.proofs.verify.run_verify.Goals as goal
 
 pub returns-in-Err : goal.returns-in-Err
 returns-in-Err g c = list_refused _ _ _ _ _ c.in-Err.status c.in-Err.ensures.reads
 
-pub verify_words-requires-clause-judged : goal.verify_words-requires-clause-judged
-verify_words-requires-clause-judged g c =
-    let made = c.in-Ok-new.ensures in judged_nothing (list_of c.in-Ok-new.verifier) c.in-Ok-new.verifier made.verified refl made.none
+pub read_words-requires : goal.read_words-requires
+read_words-requires g c = (nothing_judged (list_of c.in-Ok-new.verifier) c.in-Ok-new.verifier c.in-Ok-new.ensures.verified refl c.in-Ok-new.ensures.none).judged
 
-pub verify_words-requires-clause-more : goal.verify_words-requires-clause-more
-verify_words-requires-clause-more g c =
-    let made = c.in-Ok-new.ensures in
-    may_begin c.in-Ok-new.verifier (judged_nothing (list_of c.in-Ok-new.verifier) c.in-Ok-new.verifier made.verified refl made.none)
+pub returns-then-frames-wanted : goal.returns-then-frames-wanted
+returns-then-frames-wanted g c =
+    let begun = nothing_judged c.in-Ok.list c.in-Ok-new.verifier c.in-Ok-new.ensures.verified c.in-Ok-new.ensures.list c.in-Ok-new.ensures.none in
+    short_answer (g.S.Source.left c.args.side.now) (g.S.Source.left c.args.side.now) _ _ _ _ _ _ _ _ c.frames-frames.result c.in-Ok.list c.read_words.new.judge
+    c.in-Ok.ensures.reads.0 c.in-Ok.ensures.reads.1 (c.in-Ok-read_words.ensures.words c.in-Ok.list None [] begun tt) c.frames-frames.ensures
+    (rw c.frames-wanted.ensures at c.if-frames-wanted.true)
 
 pub returns-in-Done : goal.returns-in-Done
 returns-in-Done g c =
-    verified_put (g.S.Source.left c.args.side.now) (g.S.Source.left c.args.side.now) _ _ _ _ _ _ _ _ _ _ (list_of c.in-Ok-new.verifier) c.in-Ok.list c.in-Ok.ensures.reads.0 c.in-Ok.ensures.reads.1
-    c.in-Ok-new.ensures.list c.in-Ok-verify_words.ensures c.in-Done.ensures.bytes c.in-Done.ensures.cause
+    let begun = nothing_judged c.in-Ok.list c.in-Ok-new.verifier c.in-Ok-new.ensures.verified c.in-Ok-new.ensures.list c.in-Ok-new.ensures.none in
+    verified_put (g.S.Source.left c.args.side.now) (g.S.Source.left c.args.side.now) _ _ _ _ _ _ _ _ _ _ c.frames-frames.result c.in-Ok.list c.read_words.new.judge
+    c.in-Ok.ensures.reads.0 c.in-Ok.ensures.reads.1 (c.in-Ok-read_words.ensures.words c.in-Ok.list None [] begun tt) c.frames-frames.ensures
+    (rw c.frames-wanted.ensures at c.if-frames-wanted.false) c.in-Done.ensures.bytes c.in-Done.ensures.cause
 
-pub returns-in-Failed : goal.returns-in-Failed
-returns-in-Failed g c =
-    verified_failed (g.S.Source.left c.args.side.now) (g.S.Source.left c.args.side.now) _ _ _ _ _ _ _ _ _ _ (list_of c.in-Ok-new.verifier) c.in-Ok.list c.in-Ok.ensures.reads.0 c.in-Ok.ensures.reads.1
-    c.in-Ok-new.ensures.list c.in-Ok-verify_words.ensures c.in-Failed.ensures.bytes c.in-Failed.ensures.cause.1
+pub returns-in-Ok-read_words : goal.returns-in-Ok-read_words
+returns-in-Ok-read_words g c =
+    let begun = nothing_judged c.in-Ok.list c.in-Ok-new.verifier c.in-Ok-new.ensures.verified c.in-Ok-new.ensures.list c.in-Ok-new.ensures.none in
+    verified_failed (g.S.Source.left c.args.side.now) (g.S.Source.left c.args.side.now) _ _ _ _ _ _ _ _ _ _ c.frames-frames.result c.in-Ok.list c.read_words.new.judge
+    c.in-Ok.ensures.reads.0 c.in-Ok.ensures.reads.1 (c.in-Ok-read_words.ensures.words c.in-Ok.list None [] begun tt) c.frames-frames.ensures
+    (rw c.frames-wanted.ensures at c.if-frames-wanted.false) c.in-Failed.ensures.bytes c.in-Failed.ensures.cause.1
 
-pub returns-in-Err-verify_words : goal.returns-in-Err-verify_words
-returns-in-Err-verify_words g c =
-    stopped_answer _ _ _ _ _ _ _ _ _ _ (list_of c.in-Ok-new.verifier) c.in-Ok.list c.in-Err-verify_words.status c.in-Ok.ensures.reads.0 c.in-Ok.ensures.reads.1
-    c.in-Ok-new.ensures.list c.in-Err-verify_words.ensures
+pub returns : goal.returns
+returns g c =
+    let begun = nothing_judged c.in-Ok.list c.in-Ok-new.verifier c.in-Ok-new.ensures.verified c.in-Ok-new.ensures.list c.in-Ok-new.ensures.none in
+    stopped_answer (g.S.Source.left c.args.side.now) _ _ _ _ _ _ _ _ _ c.in-Ok.list c.in-Err-read_words.stop c.status.result c.in-Ok.ensures.reads.0 c.in-Ok.ensures.reads.1
+    (c.in-Err-read_words.ensures.words c.in-Ok.list None [] begun tt) c.status.ensures

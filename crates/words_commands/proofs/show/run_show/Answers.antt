@@ -1,17 +1,26 @@
-use Rattle.std.proofs.Common.{arith, refl, []}
-use Rattle.words_commands.specs.Screens.{show_output}
-use Rattle.words_commands.proofs.PrintingLemmas.{show_before}
-use Rattle.words_commands.proofs.WordsAnswerLemmas.{show_found, show_short, show_stopped}
+use Rattle.std.proofs.Common.{[]}
+use Rattle.words_reading.proofs.FrameLemmas.{nothing_read}
+use Rattle.words_reading.proofs.UnderwayLemmas.{nothing_put}
+use Rattle.words_commands.proofs.WordsAnswerLemmas.{nothing_printed, show_found, show_short, show_stopped}
 use Rattle.words_commands.proofs.show.run_show.Goals as goal
 
-pub returns-in-Ok : goal.returns-in-Ok
-returns-in-Ok g c =
-    show_found c.args.frame c.in-Ok.frames _ _ (c.in-Ok.ensures (show_output c.args.frame) refl (show_before c.args.frame [] (omega arith))) c.if-frame-frames.true
+pub read_words-requires : goal.read_words-requires
+read_words-requires g c = nothing_read c.in-Ok.frames c.in-Ok.ensures.received
 
-pub returns-in-Ok-2 : goal.returns-in-Ok-2
-returns-in-Ok-2 g c =
-    show_short c.args.frame c.in-Ok.frames _ _ (c.in-Ok.ensures (show_output c.args.frame) refl (show_before c.args.frame [] (omega arith))) c.if-frame-frames.false
+pub returns-then-frame-count : goal.returns-then-frame-count
+returns-then-frame-count g c =
+    show_found _ c.read_words.new.judge c.args.frame c.count-count.result _ _
+    (c.in-Ok-read_words.ensures.words c.args.frame (g.O.Sink.written c.args.out.now) [] (nothing_printed c.args.frame c.in-Ok.frames c.in-Ok.ensures.received c.in-Ok.ensures.maker)
+    (nothing_put (g.O.Sink.written c.args.out.now))) c.count-count.ensures c.if-frame-count.true
 
-pub returns-in-Err : goal.returns-in-Err
-returns-in-Err g c =
-    show_stopped c.args.frame _ _ c.in-Err.status (c.in-Err.ensures (show_output c.args.frame) refl (show_before c.args.frame [] (omega arith)))
+pub returns-in-Ok-read_words : goal.returns-in-Ok-read_words
+returns-in-Ok-read_words g c =
+    show_short _ c.read_words.new.judge c.args.frame c.count-count.result _ _
+    (c.in-Ok-read_words.ensures.words c.args.frame (g.O.Sink.written c.args.out.now) [] (nothing_printed c.args.frame c.in-Ok.frames c.in-Ok.ensures.received c.in-Ok.ensures.maker)
+    (nothing_put (g.O.Sink.written c.args.out.now))) c.count-count.ensures c.if-frame-count.false
+
+pub returns : goal.returns
+returns g c =
+    show_stopped c.args.frame _ _ c.in-Err.stop _
+    (c.in-Err.ensures.words c.args.frame (g.O.Sink.written c.args.out.now) [] (nothing_printed c.args.frame c.in-Ok.frames c.in-Ok.ensures.received c.in-Ok.ensures.maker)
+    (nothing_put (g.O.Sink.written c.args.out.now))) c.status.ensures

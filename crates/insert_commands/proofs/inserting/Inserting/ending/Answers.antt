@@ -1,6 +1,6 @@
 use Rattle.std.proofs.Common.{◌≤◌, ◌<◌, MatchBool, length, refl, subst}
 use Rattle.insert_commands.specs.OpenPackets.{open_bytes}
-use Rattle.words_commands.proofs.PieceLemmas.{cut_short}
+use Rattle.words_reading.proofs.PieceLemmas.{cut_short}
 use Rattle.insert_commands.proofs.StopLemmas.{nothing_left}
 use Rattle.insert_commands.proofs.inserting.Inserting.ending.Goals as goal
 

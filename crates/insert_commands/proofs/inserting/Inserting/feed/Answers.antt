@@ -2,7 +2,7 @@ use Rattle.std.proofs.Common.{◌∙◌, ◌+◌, ◌++◌, ap, arith, length, s
 use Rattle.text_output.specs.Gathered.{held_of}
 use Rattle.insert_commands.specs.InsertSteps.{HasJudged, HasStopped}
 use Rattle.insert_commands.proofs.JudgeLemmas.{may_end}
-use Rattle.words_commands.proofs.PieceLemmas.{front_all, front_more, rest_size}
+use Rattle.words_reading.proofs.PieceLemmas.{front_all, front_more, rest_size}
 use Rattle.insert_commands.proofs.inserting.Inserting.feed.Goals as goal
 
 pub loop-at-preserved : goal.loop-at-preserved

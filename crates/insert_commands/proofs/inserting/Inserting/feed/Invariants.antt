@@ -1,5 +1,5 @@
 use Rattle.std.proofs.Common.{◌≡◌, ◌++◌, ◌≤◌, ◌+◌, ◌-◌, length, take, ℕ, List, Option}
-use Rattle.words_commands.specs.WordsAnswer.{words_limit}
+use Rattle.words_reading.specs.Causes.{words_limit}
 use Rattle.insert_commands.specs.InsertSteps.{HasJudged}
 use Rattle.inserted_words.specs.Captioning.{Captioning}
 use Rattle.insert_commands.specs.OpenPackets.{MayFollow}

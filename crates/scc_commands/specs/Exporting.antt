@@ -1,0 +1,28 @@
+-- What an export makes of frames.
+use Rattle.std.specs.Prelude.{◌≡◌, List, Option, Some, None}
+use Rattle.cc_base.specs.declared.limit_of.LimitOf.TheVariants as limit
+use Rattle.cdp_packets.specs.Packets.{Packet as Frame}
+use Rattle.command_base.specs.declared.status.Status.{Status}
+use Rattle.command_base.specs.declared.status.Status.TheVariants as status
+use Rattle.findings.specs.declared.finding.Kind45.{Kind45}
+use Rattle.scc_files.specs.Writing.{standing_of}
+use Rattle.time_codes.specs.declared.time_code.TimeCode.{TimeCode}
+use Rattle.scc_commands.specs.Export.{AreExported, HasFinding, HasNoFinding, exported, first_standing, stand_after}
+use Rattle.scc_commands.specs.declared.exporting.ExportStop.{ExportStop}
+use Rattle.scc_commands.specs.declared.exporting.ExportStop.TheVariants as reason
+use Rattle.scc_commands.specs.declared.exporting.Exporting.{Exporting}
+
+-- what is found at a frame, if anything is
+abbrev pub FindsInExport : Frame → Option Kind45 → Type 0
+FindsInExport frame None = HasNoFinding frame
+FindsInExport frame (Some found) = HasFinding frame found
+
+-- the status of an export that stopped at a frame
+abbrev pub reason_status : ExportStop → Status
+reason_status (reason.Found finding) = status.Differs finding
+reason_status reason.Day = status.Limit limit.Day
+
+-- an export stands behind frames, which are exported
+pub record StandsBehind (time : TimeCode) (frames : List Frame) (export : Exporting) : Type 0 where
+  pub are_exported : AreExported time frames
+  pub writer : standing_of export.writer ≡ stand_after (first_standing time) (exported frames)
