@@ -1,0 +1,6 @@
+pub mod ResumedLemmas
+pub mod WaitingLemmas
+pub mod FillLemmas
+pub mod AgreeingLemmas
+pub mod SpansLemmas
+pub mod TablesLemmas

@@ -1,0 +1,28 @@
+-- A lane that is filled: its units in their earliest placement, with the first units of cues that come again.
+use Rattle.std.specs.Prelude.{⊤, ℕ, List, Option, map}
+use Rattle.placements.specs.LaneRoom.{IsFirstCrowded}
+use Rattle.placements.specs.Placing.{IsEarliest}
+use Rattle.placements.specs.declared.planning.PlanFault.{PlanFault}
+use Rattle.placements.specs.declared.planning.PlanFault.TheVariants.{Memory, NoRoom}
+use Rattle.resumed_lanes.specs.Parts.{part_cue}
+use Rattle.resumed_lanes.specs.ResumedLane.{Stand, lane}
+use Rattle.resumed_lanes.specs.Slots.{Slots}
+use Rattle.resumed_lanes.specs.declared.part.Part.{Part}
+use Rattle.resumed_lanes.specs.declared.place.Place.{Place}
+
+-- the slots in which units begin
+abbrev pub slots_at : List Place → List ℕ
+slots_at places = map (λ place. place.slot) places
+
+-- those in which first units come again
+abbrev pub resumes_at : List Place → List (Option ℕ)
+resumes_at places = map (λ place. place.resume) places
+
+pub record IsFilled (slots : Slots) (parts : List Part) (places : List Place) : Type 0 where
+  pub earliest : IsEarliest (lane slots) parts (slots_at places)
+  pub stand : Stand slots 0 parts (slots_at places) (resumes_at places)
+
+-- why a lane isn't filled: memory ran out, or this is the first cue without room
+abbrev pub IsFault : Slots → List Part → PlanFault → Type 0
+IsFault slots parts (Memory error) = ⊤
+IsFault slots parts (NoRoom cue) = IsFirstCrowded (lane slots) part_cue parts cue

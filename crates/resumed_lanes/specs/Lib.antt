@@ -1,0 +1,11 @@
+pub mod Parts
+pub mod Slots
+pub mod ResumedLane
+pub mod Spans
+pub mod FieldSlots
+pub mod Alone
+pub mod Placing
+pub mod Filled
+pub mod Agreeing
+pub mod Waiting
+pub mod Tables

@@ -1,0 +1,21 @@
+-- The units of cues, each with the first unit of its cue.
+use Rattle.std.specs.Prelude.{◌≡◌, ⊤, ℕ, true, false, List, [], ◌∷◌}
+use Rattle.frame_scheduler.specs.FieldLane.{slots_of}
+use Rattle.resumed_lanes.specs.declared.part.Part.{Part}
+
+-- the slots of the unit
+abbrev pub size_of : Part → ℕ
+size_of part = slots_of part.piece
+
+-- the number of its cue
+abbrev pub part_cue : Part → ℕ
+part_cue part = part.piece.cue
+
+-- a cue's first unit is doubled
+abbrev pub IsBegun : Part → Type 0
+IsBegun part = part.later ≡ false → part.piece.unit.doubled ≡ true
+
+-- the first unit of all is its cue's first
+abbrev pub BeginWithFirst : List Part → Type 0
+BeginWithFirst [] = ⊤
+BeginWithFirst (part ∷ parts) = part.later ≡ false
