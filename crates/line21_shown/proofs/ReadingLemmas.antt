@@ -1,4 +1,4 @@
--- A column whose control pairs are doubled is read as its units, one after another.
+-- A field whose control pairs are doubled is read as its units, one after another; captions of data channel 1 are read as theirs.
 use Rattle.std.proofs.Common.{◌≡◌, ℕ, zero, suc, Bool, true, false, List, ◌∷◌, Option, Some, None, option_map, unwrap_or, refl, sym, ap, ◌∙◌, subst}
 use Rattle.std.specs.Int.Count.{ones}
 use Rattle.line21_codes.specs.declared.channels.FieldNumber.{FieldNumber}
@@ -18,7 +18,7 @@ use Rattle.line21_screen.proofs.MeaningLemmas.{after-none, after-acts, after-ign
 use Rattle.frame_scheduler.specs.Timeline.{Timeline, first_of, repeat_at, repeat_of, slot}
 use Rattle.frame_scheduler.proofs.ColumnLemmas.{null_plain}
 use Rattle.line21_shown.specs.Doing.{does}
-use Rattle.line21_shown.specs.Reading.{pairs_before, acts, first_alone, IsForFirst, IsCaptioned, ColumnsAreRead}
+use Rattle.line21_shown.specs.Reading.{ColumnsAreRead, FieldsAreRead, IsCaptioned, IsForFirst, IsMarked, acts, after_unit, does_unit, field_acts, first_alone, pairs_before}
 
 -- the null pair is read as null
 pub null_code : code_of null_pair ≡ Null
@@ -42,7 +42,7 @@ record IsDue (pairs : List Pair) (pair : Pair) : Type 0 where
 
 -- the pairs of the frames below n are read, and stand in blocks up to a pair that is to be repeated
 record IsRead (f : FieldNumber) (t : Timeline) (n : ℕ) : Type 0 where
-  state : after f (pairs_before (slot t) n) ≡ first_alone (acts t n)
+  state : after f (pairs_before (slot t) n) ≡ field_acts f t n
   blocks : repeat_at t n ≡ None → Blocks (pairs_before (slot t) n)
   due : (pair : Pair) → repeat_at t n ≡ Some pair → IsDue (pairs_before (slot t) n) pair
 
@@ -52,23 +52,23 @@ pub slot_is : (t : Timeline) (n : ℕ) (r : Option Pair) (u : Option Unit) → r
 slot_is t n r u due at = rw (due, at) refl
 
 -- nothing begins where a repeat is due
-pub none_begins : (t : Timeline) → IsCaptioned t → (n : ℕ) (pair : Pair) → repeat_at t n ≡ Some pair → t n ≡ None
-none_begins t is zero pair due = cc
-none_begins t is (suc n) pair due = is.spaced n pair due
+nothing_begins : (t : Timeline) → IsMarked t → (n : ℕ) (pair : Pair) → repeat_at t n ≡ Some pair → t n ≡ None
+nothing_begins t is zero pair due = cc
+nothing_begins t is (suc n) pair due = is.spaced n pair due
 
-module _ (f : FieldNumber) (t : Timeline) (is : IsCaptioned t) (n : ℕ) (read : IsRead f t n) where
+module _ (f : FieldNumber) (t : Timeline) (is : IsMarked t) (n : ℕ) (read : IsRead f t n) where
   -- a repeat does nothing
   repeated : (pair : Pair) → repeat_at t n ≡ Some pair → IsRead f t (suc n)
   repeated pair due =
       let w = read.due pair due in
-      let nothing : t n ≡ None = none_begins t is n pair due in
+      let nothing : t n ≡ None = nothing_begins t is n pair due in
       let at : slot t n ≡ pair = slot_is t n (Some pair) None due nothing in
       let pairs : pairs_before (slot t) (suc n) ≡ pair ∷ pair ∷ w.before = rw (at, w.is) refl in
       let ignored : after f (pair ∷ pair ∷ w.before) ≡ after f (pair ∷ w.before) =
       after-ignored f (pair ∷ w.before) pair (blocks-second w.before pair w.blocks w.control) in
-      let same : acts t (suc n) ≡ acts t n = rw nothing refl in
+      let same : field_acts f t (suc n) ≡ field_acts f t n = rw nothing refl in
       record {
-        state = ap (after f) pairs ∙ ignored ∙ sym (ap (after f) w.is) ∙ read.state ∙ sym (ap first_alone same);
+        state = ap (after f) pairs ∙ ignored ∙ sym (ap (after f) w.is) ∙ read.state ∙ sym same;
         blocks = λ later. subst Blocks (sym pairs) (doubled pair w.before w.control w.blocks);
         due = λ other later. let wrong : None ≡ Some other = rw nothing at later in cc;
       }
@@ -81,9 +81,9 @@ module _ (f : FieldNumber) (t : Timeline) (is : IsCaptioned t) (n : ℕ) (read :
       let blocks = read.blocks due in
       let read_null : after f (null_pair ∷ pairs_before (slot t) n) ≡ after_code f (code_of null_pair) (after f (pairs_before (slot t) n)) =
       after-acts f (pairs_before (slot t) n) null_pair (blocks-first (pairs_before (slot t) n) null_pair blocks) in
-      let same : acts t (suc n) ≡ acts t n = rw nothing refl in
+      let same : field_acts f t (suc n) ≡ field_acts f t n = rw nothing refl in
       record {
-        state = ap (after f) pairs ∙ read_null ∙ ap (λ code. after_code f code (after f (pairs_before (slot t) n))) null_code ∙ read.state ∙ sym (ap first_alone same);
+        state = ap (after f) pairs ∙ read_null ∙ ap (λ code. after_code f code (after f (pairs_before (slot t) n))) null_code ∙ read.state ∙ sym same;
         blocks = λ later. subst Blocks (sym pairs) (single null_pair (pairs_before (slot t) n) null_plain blocks);
         due = λ other later. let wrong : None ≡ Some other = rw nothing at later in cc;
       }
@@ -96,13 +96,12 @@ module _ (f : FieldNumber) (t : Timeline) (is : IsCaptioned t) (n : ℕ) (read :
       let blocks = read.blocks due in
       let reads : after f (unit.pair ∷ pairs_before (slot t) n) ≡ after_code f (code_of unit.pair) (after f (pairs_before (slot t) n)) =
       after-acts f (pairs_before (slot t) n) unit.pair (blocks-first (pairs_before (slot t) n) unit.pair blocks) in
-      let same : acts t (suc n) ≡ does (code_of unit.pair) (acts t n) = rw begins refl in
-      let state : after f (pairs_before (slot t) (suc n)) ≡ first_alone (acts t (suc n)) =
-      ap (after f) pairs ∙ reads ∙ ap (after_code f (code_of unit.pair)) read.state
-      ∙ code_step f (code_of unit.pair) (acts t n) (is.first n unit begins) ∙ sym (ap first_alone same) in
+      let same : field_acts f t (suc n) ≡ after_code f (code_of unit.pair) (field_acts f t n) = rw begins refl in
+      let state : after f (pairs_before (slot t) (suc n)) ≡ field_acts f t (suc n) =
+      ap (after f) pairs ∙ reads ∙ ap (after_code f (code_of unit.pair)) read.state ∙ sym same in
       by_doubled unit.doubled refl state pairs blocks
     where
-      by_doubled : (b : Bool) → unit.doubled ≡ b → after f (pairs_before (slot t) (suc n)) ≡ first_alone (acts t (suc n))
+      by_doubled : (b : Bool) → unit.doubled ≡ b → after f (pairs_before (slot t) (suc n)) ≡ field_acts f t (suc n)
           → pairs_before (slot t) (suc n) ≡ unit.pair ∷ pairs_before (slot t) n → Blocks (pairs_before (slot t) n) → IsRead f t (suc n)
       by_doubled true twice state pairs blocks =
           let next : repeat_at t (suc n) ≡ Some unit.pair = ap repeat_of begins ∙ rw twice refl in
@@ -128,16 +127,37 @@ module _ (f : FieldNumber) (t : Timeline) (is : IsCaptioned t) (n : ℕ) (read :
           }
 
 -- one more frame
-read_next : (f : FieldNumber) (t : Timeline) → IsCaptioned t → (n : ℕ) → IsRead f t n → (r : Option Pair) → repeat_at t n ≡ r → (u : Option Unit) → t n ≡ u → IsRead f t (suc n)
+read_next : (f : FieldNumber) (t : Timeline) → IsMarked t → (n : ℕ) → IsRead f t n → (r : Option Pair) → repeat_at t n ≡ r → (u : Option Unit) → t n ≡ u → IsRead f t (suc n)
 read_next f t is n read (Some pair) due u at = repeated f t is n read pair due
 read_next f t is n read None due None at = empty f t is n read due at
 read_next f t is n read None due (Some unit) at = begun f t is n read unit due at
 
 -- all frames below n
-read_all : (f : FieldNumber) (t : Timeline) → IsCaptioned t → (n : ℕ) → IsRead f t n
+read_all : (f : FieldNumber) (t : Timeline) → IsMarked t → (n : ℕ) → IsRead f t n
 read_all f t is zero = record { state = sym (after-none f _ _ refl refl); blocks = λ due. none; due = λ pair due. cc }
 read_all f t is (suc n) = read_next f t is n (read_all f t is n) (repeat_at t n) refl (t n) refl
 
 -- the pairs of the slots mean what the units do
+pub fields_read : FieldsAreRead
+fields_read f t is n = (read_all f t is n).state
+
+-- captions of data channel 1
+are_marked : (t : Timeline) → IsCaptioned t → IsMarked t
+are_marked t is = record { marked = is.marked; spaced = is.spaced }
+
+pub none_begins : (t : Timeline) → IsCaptioned t → (n : ℕ) (pair : Pair) → repeat_at t n ≡ Some pair → t n ≡ None
+none_begins t is = nothing_begins t (are_marked t is)
+
+-- they leave the field's other channel as it was
+first_acts : (f : FieldNumber) (t : Timeline) → IsCaptioned t → (n : ℕ) → field_acts f t n ≡ first_alone (acts t n)
+first_acts f t is zero = refl
+first_acts f t is (suc n) = by_unit (t n) refl (first_acts f t is n)
+  where
+    by_unit : (u : Option Unit) → t n ≡ u → field_acts f t n ≡ first_alone (acts t n)
+        → after_unit f (t n) (field_acts f t n) ≡ first_alone (does_unit (t n) (acts t n))
+    by_unit None at before = rw at before
+    by_unit (Some unit) at before =
+        rw at (ap (after_code f (code_of unit.pair)) before ∙ code_step f (code_of unit.pair) (acts t n) (is.first n unit at))
+
 pub columns_read : ColumnsAreRead
-columns_read f t is n = (read_all f t is n).state
+columns_read f t is n = fields_read f t (are_marked t is) n ∙ first_acts f t is n

@@ -10,7 +10,7 @@ use Rattle.line21_codes.specs.ControlPairs.{is_control}
 use Rattle.line21_codes.specs.Reading.{code_of}
 use Rattle.line21_author.specs.declared.unit.Unit.{Unit}
 use Rattle.line21_screen.specs.Channels.{ChannelState, new_channel}
-use Rattle.line21_screen.specs.Fields.{FieldState}
+use Rattle.line21_screen.specs.Fields.{FieldState, after_code, new_field}
 use Rattle.line21_screen.specs.Meaning.{after}
 use Rattle.frame_scheduler.specs.Timeline.{Timeline, repeat_of, slot}
 use Rattle.line21_shown.specs.Doing.{does}
@@ -29,6 +29,26 @@ does_unit (Some unit) s = does (code_of unit.pair) s
 abbrev pub acts : Timeline → ℕ → ChannelState
 acts timeline zero = new_channel
 acts timeline (suc n) = does_unit (timeline n) (acts timeline n)
+
+-- what a unit that begins does to its field, whatever channels and extended data share it
+abbrev pub after_unit : FieldNumber → Option Unit → FieldState → FieldState
+after_unit in_field None s = s
+after_unit in_field (Some unit) s = after_code in_field (code_of unit.pair) s
+
+-- the field's state before slot n: each unit has acted once
+abbrev pub field_acts : FieldNumber → Timeline → ℕ → FieldState
+field_acts in_field timeline zero = new_field
+field_acts in_field timeline (suc n) = after_unit in_field (timeline n) (field_acts in_field timeline n)
+
+-- exactly the control pairs of a timeline are doubled, and nothing begins in a repeat
+pub record IsMarked (timeline : Timeline) : Type 0 where
+  pub marked : (n : ℕ) (unit : Unit) → timeline n ≡ Some unit → is_control unit.pair ≡ unit.doubled
+  pub spaced : (n : ℕ) (pair : Pair) → repeat_of (timeline n) ≡ Some pair → timeline (suc n) ≡ None
+
+-- the pairs of such a timeline's slots mean what the units do, one after another
+abbrev pub FieldsAreRead : Type 0
+FieldsAreRead = (in_field : FieldNumber) (timeline : Timeline) → IsMarked timeline → (n : ℕ)
+    → after in_field (pairs_before (slot timeline) n) ≡ field_acts in_field timeline n
 
 -- the state of a field whose data channel 1 alone was written for
 abbrev pub first_alone : ChannelState → FieldState

@@ -2,7 +2,7 @@
 
 ghost use Rattle.std.specs.Prelude.{[], ◌∷◌, ◌++◌};
 ghost use Rattle.line21_shown.specs.Examples.{ArePairsSent, ShowsScreen, shown_cue, two_colours, two_colours_screen, rolling, letter_row, empty_rows};
-ghost use Rattle.line21_shown.specs.Reading.{ColumnsAreRead};
+ghost use Rattle.line21_shown.specs.Reading.{ColumnsAreRead, FieldsAreRead};
 ghost use Rattle.line21_shown.specs.Sentences.{AuthoredGridIsSaid, IsUp};
 ghost use Rattle.line21_shown.specs.Shown.{AuthoredIsSeen};
 ghost use Rattle.line21_shown.specs.Writing.{RunsAreWritten};
@@ -11,6 +11,11 @@ ghost use Rattle.line21_shown.specs.Writing.{RunsAreWritten};
 /// once, in the frame in which it begins.
 pub fn columns_are_read()
     ensures { ColumnsAreRead }
+{}
+
+/// So do they where both channels and extended data share the field.
+pub fn fields_are_read()
+    ensures { FieldsAreRead }
 {}
 
 /// The codes of runs write exactly the cells of the runs into the memory that the mode writes, with any
