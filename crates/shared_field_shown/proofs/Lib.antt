@@ -1,0 +1,11 @@
+pub mod OwnLemmas
+pub mod SharingLemmas
+pub mod ResumingLemmas
+pub mod LaneLemmas
+pub mod LedLemmas
+pub mod TogetherLemmas
+pub mod ListedLemmas
+pub mod SeenLemmas
+pub mod OverlayLemmas
+pub mod ExpandedLemmas
+pub mod DualLemmas

@@ -1,0 +1,10 @@
+use Rattle.std.proofs.Common.{refl}
+use Rattle.std.specs.Int.Count.{ones}
+use Rattle.line21_codes.specs.Reading.{code_of}
+use Rattle.line21_codes.specs.Spellings.{spelling_of}
+use Rattle.line21_codes.specs.Writing.{written}
+use Rattle.shared_field_shown.proofs.laws.row_two.Goals as goal
+
+pub returns : goal.returns
+unfolding ones spelling_of written code_of
+returns c = refl

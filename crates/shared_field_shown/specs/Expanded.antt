@@ -1,0 +1,37 @@
+-- The units of a lane with those that come again, as one list: a placement of the longer list in a lane of its own events.
+use Rattle.std.specs.Prelude.{◌≡◌, ℕ, true, List, [], ◌∷◌, Option, Some, None}
+use Rattle.line21_author.specs.declared.event.Event.{Event}
+use Rattle.frame_scheduler.specs.declared.lane.piece.Piece.{Piece}
+use Rattle.frame_scheduler.specs.FieldLane.{lane}
+use Rattle.frame_scheduler.specs.LaneEvents.{IsFree, event_at}
+use Rattle.frame_scheduler.specs.LaneTimeline.{lane_timeline}
+use Rattle.placements.specs.Placing.{IsPlaced}
+use Rattle.resumed_lanes.specs.ResumedLane.{Stand}
+use Rattle.resumed_lanes.specs.Slots.{Slots}
+use Rattle.resumed_lanes.specs.declared.part.Part.{Part}
+use Rattle.shared_field_shown.specs.Lanes.{AreCues, whole}
+
+-- the first unit of a unit's cue, once more before it
+abbrev pub first_again : Part → Piece
+first_again part = record { unit = part.first; load = part.piece.load; until = part.piece.until; cue = part.piece.cue }
+
+abbrev pub expanded : List Part → List (Option ℕ) → List Piece
+expanded [] rs = []
+expanded (part ∷ parts) [] = []
+expanded (part ∷ parts) (None ∷ rs) = part.piece ∷ expanded parts rs
+expanded (part ∷ parts) (Some at ∷ rs) = first_again part ∷ part.piece ∷ expanded parts rs
+
+abbrev pub spread : List ℕ → List (Option ℕ) → List ℕ
+spread [] rs = []
+spread (f ∷ fs) [] = []
+spread (f ∷ fs) (None ∷ rs) = f ∷ spread fs rs
+spread (f ∷ fs) (Some at ∷ rs) = at ∷ f ∷ spread fs rs
+
+-- it is placed in the lane of the own events, and gives the same
+pub record IsOneLane (events : List Event) (parts : List Part) (fs : List ℕ) (rs : List (Option ℕ)) : Type 0 where
+  pub placed : IsPlaced (lane events) [] (expanded parts rs) (spread fs rs)
+  pub timeline : (n : ℕ) → lane_timeline events (expanded parts rs) (spread fs rs) n ≡ whole (event_at events) parts fs rs n
+
+abbrev pub ResumedIsOneLane : Type 0
+ResumedIsOneLane = (events : List Event) (slots : Slots) (parts : List Part) (fs : List ℕ) (rs : List (Option ℕ))
+    → ((n : ℕ) → slots.free n ≡ true → IsFree events n) → AreCues None parts → Stand slots 0 parts fs rs → IsOneLane events parts fs rs

@@ -1,0 +1,69 @@
+-- A lane beside another one of its field: its timeline, with the first units of cues that come again, and what its cues give.
+use Rattle.std.specs.Prelude.{◌≡◌, ⊤, ℕ, ◌+◌, ◌<◌, ◌==◌, Bool, true, false, if◌then◌else◌, List, [], ◌∷◌, Option, Some, None, map}
+use Rattle.line21_codes.specs.Reading.{code_of}
+use Rattle.line21_author.specs.declared.unit.Unit.{Unit}
+use Rattle.line21_screen.specs.declared.modes.Mode.{Mode}
+use Rattle.frame_scheduler.specs.declared.lane.piece.Piece.{Piece}
+use Rattle.frame_scheduler.specs.LaneTimeline.{stands}
+use Rattle.frame_scheduler.specs.Timeline.{Timeline, over}
+use Rattle.resumed_lanes.specs.ResumedLane.{Stand}
+use Rattle.resumed_lanes.specs.Slots.{AreSound, Slots}
+use Rattle.resumed_lanes.specs.declared.part.Part.{Part}
+use Rattle.shared_field_shown.specs.Resuming.{keeps_mode, opens}
+use Rattle.shared_field_shown.specs.Sharing.{is_text}
+
+-- the timeline of the first units that come again
+abbrev pub again : List Part → List (Option ℕ) → Timeline
+again [] rs n = None
+again (part ∷ parts) [] n = None
+again (part ∷ parts) (None ∷ rs) n = again parts rs n
+again (part ∷ parts) (Some at ∷ rs) n = if n == at then Some part.first else again parts rs n
+
+abbrev pub pieces_of : List Part → List Piece
+pieces_of parts = map (λ part. part.piece) parts
+
+-- the lane's own timeline without resume units, and with them
+abbrev pub plain : Timeline → List Part → List ℕ → Timeline
+plain events parts fs = over events (stands (pieces_of parts) fs)
+
+abbrev pub whole : Timeline → List Part → List ℕ → List (Option ℕ) → Timeline
+whole events parts fs rs = over (plain events parts fs) (again parts rs)
+
+-- a cue's first unit begins its mode, and is doubled
+pub record Begins (part : Part) : Type 0 where
+  pub first : part.first ≡ part.piece.unit
+  pub mode : Mode
+  pub opens_it : opens (code_of part.first.pair) ≡ Some mode
+  pub doubled : part.piece.unit.doubled ≡ true
+
+-- a later one belongs to the cue of the one before, and leaves the mode
+pub record Continues (former part : Part) : Type 0 where
+  pub first : part.first ≡ former.first
+  pub load : part.piece.load ≡ former.piece.load
+  pub keeps_it : keeps_mode (code_of part.piece.unit.pair) ≡ true
+
+abbrev pub IsBehind : Bool → Option Part → Part → Type 0
+IsBehind false former part = Begins part
+IsBehind true None part = ⊥
+IsBehind true (Some former) part = Continues former part
+
+-- the units are those of cues, one after another
+abbrev pub AreCues : Option Part → List Part → Type 0
+AreCues former [] = ⊤
+AreCues former (part ∷ parts) = IsBehind part.later former part × AreCues (Some part) parts
+
+-- what the lane's own events send while a unit's cue is under way leaves the mode
+abbrev pub AreQuiet : Timeline → List Part → Type 0
+AreQuiet events [] = ⊤
+AreQuiet events (part ∷ parts) =
+    ((n : ℕ) (unit : Unit) → part.piece.load < n → n < part.piece.until → events n ≡ Some unit → keeps_mode (code_of unit.pair) ≡ true)
+    × AreQuiet events parts
+
+-- a lane in a field
+pub record IsLane (slots : Slots) (events : Timeline) (parts : List Part) (fs : List ℕ) (rs : List (Option ℕ)) : Type 0 where
+  pub sound : AreSound slots
+  pub held : (n : ℕ) (unit : Unit) → events n ≡ Some unit → (slots.free n ≡ false) × (slots.free (n + 1) ≡ false)
+  pub controls : (n : ℕ) (unit : Unit) → events n ≡ Some unit → is_text (code_of unit.pair) ≡ false
+  pub quiet : AreQuiet events parts
+  pub cues : AreCues None parts
+  pub stand : Stand slots 0 parts fs rs

@@ -1,0 +1,11 @@
+pub mod Own
+pub mod Sharing
+pub mod Resuming
+pub mod Lanes
+pub mod Together
+pub mod ChannelParts
+pub mod Seen
+pub mod Dual
+pub mod Expanded
+pub mod Overlay
+pub mod Rows
