@@ -17,17 +17,18 @@ use Rattle.packet_inserter.proofs.OneWayLemmas.{inserted-triplets}
 use Rattle.services_carried.specs.Told.{AreAlike}
 use Rattle.words_files.specs.Frames.{CarryFrames}
 use Rattle.words_files.specs.Frames.CarryFrames.{none, caption, foreign}
-use Rattle.inserted_words.specs.Captioning.{Captioning, captions_of, padded}
+use Rattle.programmes.specs.Framing.{Framing}
+use Rattle.inserted_words.specs.Captions.{captions_of, padded}
 use Rattle.inserted_words.specs.Soundness.{HaveCaptions, HaveRate}
 use Rattle.inserted_words.specs.Soundness.HaveCaptions.{none as no_frame, more as one_more}
 use Rattle.inserted_words.proofs.FileLemmas.{CanBeCarried, IsByte, low_bytes, of_bytes}
 
 -- the packet of a frame of a programme
-abbrev packet_at : Captioning → ℕ → Frame
+abbrev packet_at : Framing → ℕ → Frame
 packet_at list frame = frame_packet list.rate frame (padded list frame) (channel_packet_of (padded list) frame)
 
 -- one packet more at the end
-packets_more : (list : Captioning) (frame n : ℕ)
+packets_more : (list : Framing) (frame n : ℕ)
     → column_packets list.rate (padded list) frame (suc n) ≡ column_packets list.rate (padded list) frame n ++ packet_at list (frame + n) ∷ []
 packets_more list frame zero = let e : frame ≡ frame + 0 = omega arith in ap (λ f. packet_at list f ∷ []) e
 packets_more list frame (suc n) =
@@ -36,19 +37,19 @@ packets_more list frame (suc n) =
     ∙ ap (λ f. packet_at list frame ∷ (column_packets list.rate (padded list) (suc frame) n ++ packet_at list f ∷ [])) e
 
 -- from frame 0 on
-packets_first : (list : Captioning) (n : ℕ) → column_packets list.rate (padded list) 0 (suc n) ≡ column_packets list.rate (padded list) 0 n ++ packet_at list n ∷ []
+packets_first : (list : Framing) (n : ℕ) → column_packets list.rate (padded list) 0 (suc n) ≡ column_packets list.rate (padded list) 0 n ++ packet_at list n ∷ []
 packets_first list n =
     let e : 0 + n ≡ n = omega arith in
     packets_more list 0 n ∙ ap (λ f. column_packets list.rate (padded list) 0 n ++ packet_at list f ∷ []) e
 
 -- the captions of a frame have kinds
-pub captions_kinds : (list : Captioning) (frame : ℕ) → All (λ t. t.kind < 4) (captions_of list frame)
+pub captions_kinds : (list : Framing) (frame : ℕ) → All (λ t. t.kind < 4) (captions_of list frame)
 captions_kinds list frame =
     frame_kinds list.rate (padded list frame) (channel_packet_of (padded list) frame)
     (packet_kinds (packets_before (padded list) frame) (padded list frame).blocks.items)
 
 -- so they are those of its packet
-packet_captions : (list : Captioning) (frame : ℕ) → packet_triplets (packet_at list frame) ≡ captions_of list frame
+packet_captions : (list : Framing) (frame : ℕ) → packet_triplets (packet_at list frame) ≡ captions_of list frame
 packet_captions list frame = append-nil _ ∙ cc_data_section-triplets (captions_of list frame) (captions_kinds list frame)
 
 -- the sections of frames that packets carry are of bytes
@@ -70,7 +71,7 @@ front_is P (f ∷ front) frame all =
     All-cons P f front (All-head P f (front ++ frame ∷ []) all) (front_is P front frame (All-tail P f (front ++ frame ∷ []) all))
 
 -- captions of a programme that is carried can be carried
-pub can_be_carried : (list : Captioning) → AreRoomy list.rate (padded list) → ((n : ℕ) → AreCarried list.rate (padded list) n)
+pub can_be_carried : (list : Framing) → AreRoomy list.rate (padded list) → ((n : ℕ) → AreCarried list.rate (padded list) n)
     → (frame : ℕ) → CanBeCarried (captions_of list frame)
 can_be_carried list roomy carried frame =
     let number = frame_number list.rate (padded list frame) (channel_packet_of (padded list) frame) (roomy frame) in
@@ -93,7 +94,7 @@ by_last f xs ys all others x y all_is others_is front last =
     ∙ sym (map-append f ys (y ∷ [])) ∙ ap (map f) (sym others_is)
 
 -- frames with the captions of a programme say what its own frames say
-captions_alike : (captions : ℕ → List Triplet) (frames news : List Frame) → HaveCaptions captions frames news → (list : Captioning)
+captions_alike : (captions : ℕ → List Triplet) (frames news : List Frame) → HaveCaptions captions frames news → (list : Framing)
     → captions ≡ captions_of list → HaveRate list.rate frames → AreAlike news (column_packets list.rate (padded list) 0 (length frames))
 captions_alike _ _ _ (no_frame _) list own rates = record { rates = refl; triplets = refl }
 captions_alike _ _ _ (one_more captions frames news all all_news old new before inserted all_is news_is) list own rates =
@@ -114,6 +115,6 @@ captions_alike _ _ _ (one_more captions frames news all all_news old new before 
       triplets = by_last packet_triplets news first all_news others new (packet_at list n) news_is packets had.triplets triplets;
     }
 
-pub say_alike : (list : Captioning) (frames news : List Frame) → HaveCaptions (captions_of list) frames news → HaveRate list.rate frames
+pub say_alike : (list : Framing) (frames news : List Frame) → HaveCaptions (captions_of list) frames news → HaveRate list.rate frames
     → AreAlike news (column_packets list.rate (padded list) 0 (length frames))
 say_alike list frames news have rates = captions_alike (captions_of list) frames news have list refl rates

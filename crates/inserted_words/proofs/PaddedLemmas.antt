@@ -20,10 +20,11 @@ use Rattle.dtvcc_shown.specs.Filling.{AllFill}
 use Rattle.dtvcc_shown.proofs.FrameLemmas.{fill_append}
 use Rattle.services_carried.specs.ServicesCarried.{HasBlocks, IsSent}
 use Rattle.services_carried.specs.Told.{sent_to, told}
-use Rattle.inserted_words.specs.Captioning.{Captioning, padded, silent_frame}
+use Rattle.programmes.specs.Framing.{Framing}
+use Rattle.inserted_words.specs.Captions.{padded, silent_frame}
 
 -- a frame below the programme's end is the programme's
-pub padded_below : (list : Captioning) (frame : ℕ) → frame < list.count → padded list frame ≡ list.columns frame
+pub padded_below : (list : Framing) (frame : ℕ) → frame < list.count → padded list frame ≡ list.columns frame
 padded_below list frame below = at (nat_lt frame list.count) refl
   where
     at : (b : Bool) → nat_lt frame list.count ≡ b → padded list frame ≡ list.columns frame
@@ -31,7 +32,7 @@ padded_below list frame below = at (nat_lt frame list.count) refl
     at false is = absurd (let past : list.count ≤ frame = grind (arith, nat_tests) in omega (arith, past, below))
 
 -- from the end on it is one without captions
-pub padded_past : (list : Captioning) (frame : ℕ) → list.count ≤ frame → padded list frame ≡ silent_frame list.rate frame
+pub padded_past : (list : Framing) (frame : ℕ) → list.count ≤ frame → padded list frame ≡ silent_frame list.rate frame
 padded_past list frame past = at (nat_lt frame list.count) refl
   where
     at : (b : Bool) → nat_lt frame list.count ≡ b → padded list frame ≡ silent_frame list.rate frame
@@ -39,7 +40,7 @@ padded_past list frame past = at (nat_lt frame list.count) refl
     at false is = rw is refl
 
 -- what holds of each frame of the programme and of each one without captions holds of all
-by_end : (list : Captioning) (P : ℕ → FrameBytes → Type 0) → ((frame : ℕ) → frame < list.count → P frame (list.columns frame))
+by_end : (list : Framing) (P : ℕ → FrameBytes → Type 0) → ((frame : ℕ) → frame < list.count → P frame (list.columns frame))
     → ((frame : ℕ) → P frame (silent_frame list.rate frame)) → (frame : ℕ) → P frame (padded list frame)
 by_end list P programme silent frame = at (nat_lt frame list.count) refl
   where
@@ -48,20 +49,20 @@ by_end list P programme silent frame = at (nat_lt frame list.count) refl
     at false is = rw is (silent frame)
 
 -- the packets of the frames below the end are those of the programme
-pub packets_below : (list : Captioning) (frame : ℕ) → frame ≤ list.count → packets_before (padded list) frame ≡ packets_before list.columns frame
+pub packets_below : (list : Framing) (frame : ℕ) → frame ≤ list.count → packets_before (padded list) frame ≡ packets_before list.columns frame
 packets_below list zero most = refl
 packets_below list (suc frame) most =
     ap (λ n. n + packet_count (padded list frame).blocks.items) (packets_below list frame (omega (arith, most)))
     ∙ ap (λ (b : FrameBytes). packets_before list.columns frame + packet_count b.blocks.items) (padded_below list frame (omega (arith, most)))
 
 -- so their distribution packets are
-packet_below : (list : Captioning) (frame : ℕ) → frame < list.count
+packet_below : (list : Framing) (frame : ℕ) → frame < list.count
     → frame_packet list.rate frame (padded list frame) (channel_packet_of (padded list) frame) ≡ frame_packet list.rate frame (list.columns frame) (channel_packet_of list.columns frame)
 packet_below list frame below =
     ap (λ n. frame_packet list.rate frame (padded list frame) (channel_packet n (padded list frame).blocks.items)) (packets_below list frame (omega (arith, below)))
     ∙ ap (λ (b : FrameBytes). frame_packet list.rate frame b (channel_packet (packets_before list.columns frame) b.blocks.items)) (padded_below list frame below)
 
-pub front_packets : (list : Captioning) (frame n k : ℕ) → k ≤ n → frame + k ≤ list.count
+pub front_packets : (list : Framing) (frame n k : ℕ) → k ≤ n → frame + k ≤ list.count
     → take k (column_packets list.rate (padded list) frame n) ≡ column_packets list.rate list.columns frame k
 front_packets list frame n zero few most = refl
 front_packets list frame zero (suc k) few most = absurd (omega (arith, few))
@@ -86,7 +87,7 @@ silent_roomy rate frame count =
     let many = (triplets_many rate).0 in
     omega (arith, few, many)
 
-module _ (list : Captioning) (pairs : AreBytePairs list.columns) (bytes : AreByteBlocks list.columns) (roomy : AreRoomy list.rate list.columns) where
+module _ (list : Framing) (pairs : AreBytePairs list.columns) (bytes : AreByteBlocks list.columns) (roomy : AreRoomy list.rate list.columns) where
   pub padded_pairs : AreBytePairs (padded list)
   padded_pairs in_field frame =
       by_end list (λ n b. IfSome (pair_in in_field b) IsBytePair) (λ n below. pairs in_field n) (silent_pairs list.rate in_field) frame
@@ -106,7 +107,7 @@ module _ (list : Captioning) (pairs : AreBytePairs list.columns) (bytes : AreByt
   pub padded_carried : (n : ℕ) → AreCarried list.rate (padded list) n
   padded_carried n = frames_carried list.rate (padded list) n padded_pairs padded_bytes padded_roomy
 
-module _ (list : Captioning) (has : (frame : ℕ) → HasBlocks list.columns frame) where
+module _ (list : Framing) (has : (frame : ℕ) → HasBlocks list.columns frame) where
   -- the blocks of each frame, by whether it is one of the programme
   blocks_by : (frame : ℕ) (b : Bool) → nat_lt frame list.count ≡ b → HasBlocks (padded list) frame
   blocks_by frame true is =

@@ -6,15 +6,16 @@ use Rattle.std.proofs.lemmas.List.Folds.{flat_map-map}
 use Rattle.cc_data.specs.declared.triplet.Triplet.{Triplet}
 use Rattle.cdp_packets.specs.Packets.{Packet as Frame}
 use Rattle.cdp_packets.specs.PacketTriplets.{packet_triplets}
-use Rattle.cue_list_commands.proofs.Outputs.{byte_pairs, sound_words}
-use Rattle.cue_list_commands.specs.Output.{IsSoundWords, built_packets}
+use Rattle.cue_list_commands.proofs.Outputs.{byte_pairs, fields_shown, sound_words}
+use Rattle.cue_list_commands.specs.Output.{IsSoundWords, PlacedList, built_packets, list_framing}
 use Rattle.cue_lists.specs.Listing.{IsFormed, Listing}
 use Rattle.cue_lists.specs.Rules.{IsRuled}
 use Rattle.frame_carrier.specs.Carrying.{column_packets}
-use Rattle.frame_scheduler.specs.Planned.{IsListPlaced, Placement, authored_channel, columns_of}
+use Rattle.frame_scheduler.specs.Planned.{Placement, authored_channel, columns_of}
 use Rattle.line21_codes.specs.declared.pairs.Pair.{Pair}
 use Rattle.line21_screen.specs.Meaning.{after as after_pairs}
 use Rattle.line21_shown.specs.Shown.{ShowsField, ShowsList}
+use Rattle.services_carried.specs.PlacedServices.{AreServicesPlaced}
 use Rattle.services_carried.proofs.ChannelLemmas.{programmes_whole}
 use Rattle.services_carried.proofs.RoomLemmas.{blocks_bytes, frames_roomy, has_blocks}
 use Rattle.services_carried.specs.Told.{AreAlike, SayAlike, sent_to, told}
@@ -31,7 +32,7 @@ use Rattle.dtvcc_shown.specs.Filling.{AllFill}
 use Rattle.service_blocks.specs.Channels.{AreChannel}
 use Rattle.services_files.specs.CarriedChannel.{CarryChannel, file_triplets}
 use Rattle.words_files.specs.Received.{received_at}
-use Rattle.inserted_words.specs.Captioning.{captioning_of, captions_of, padded}
+use Rattle.inserted_words.specs.Captions.{captions_of, padded}
 use Rattle.inserted_words.specs.Soundness.{InsertionsAreSound}
 use Rattle.inserted_words.proofs.AlikeLemmas.{can_be_carried, say_alike}
 use Rattle.inserted_words.proofs.FileLemmas.{new_words}
@@ -58,10 +59,10 @@ same_channel frames others alike carry = record {
 }
 
 -- no byte of the frames of a list, and of those behind them, fills the buffer of a service
-padded_fills : (list : Listing) (placed : Placement) → IsFormed list → IsRuled list → IsListPlaced list placed → (n : ℕ)
-    → BuffersNeverFill (column_packets list.rate (padded (captioning_of list placed)) 0 n)
+padded_fills : (list : Listing) (placed : Placement) → IsFormed list → IsRuled list → AreServicesPlaced list placed → (n : ℕ)
+    → BuffersNeverFill (column_packets list.rate (padded (list_framing list placed)) 0 n)
 padded_fills list placed formed ruled is n service numbered =
-    let captions = captioning_of list placed in
+    let captions = list_framing list placed in
     let has = has_blocks list placed formed ruled is in
     let packets = column_packets list.rate (padded captions) 0 n in
     let told_all : service_events service packets ≡ told list.rate (λ frame. sent_to service (padded_blocks captions has frame).sent) n =
@@ -74,7 +75,7 @@ padded_fills list placed formed ruled is n service numbered =
     (told_fills (list_lane list service (placed (Service service))) k (lane_is_sound list placed service formed ruled is))))
 
 -- what a receiver of frames shows whose first ones say what `build` says
-module _ (list : Listing) (placed : Placement) (news : List Frame) (sound : IsSoundWords list placed) (alike : AreAlike (take list.frames news) (built_packets list placed))
+module _ (list : Listing) (placed : Placement) (news : List Frame) (sound : IsSoundWords (record { list = list; placed = placed })) (alike : AreAlike (take list.frames news) (built_packets list placed))
     (frame : ℕ) (below : frame < list.frames) where
   says : SayAlike (take (suc frame) news) (take (suc frame) (built_packets list placed))
   says =
@@ -85,18 +86,18 @@ module _ (list : Listing) (placed : Placement) (news : List Frame) (sound : IsSo
   pub grids_shown : ShowsList list (λ in_field. received_at in_field news frame) frame
   grids_shown in_field =
       subst (λ (pairs : List Pair). ShowsField (after_pairs in_field (reverse pairs)) (authored_channel in_field) list.cues frame)
-      (sym (says.pairs in_field)) (sound.shown frame below in_field)
+      (sym (says.pairs in_field)) (fields_shown (record { list = list; placed = placed }) sound frame below in_field)
 
   pub windows_seen : ShowAuthoredWindows list.cues news frame
   windows_seen service id numbered low =
-      ap (λ (events : List Event). grids (after start events).core.screen id) (says.events service) ∙ sound.windows frame below service id numbered low
+      ap (λ (events : List Event). grids (after start events).core.screen id) (says.events service) ∙ sound.shows.has_windows frame below service id numbered low
 
 pub insertions_sound : InsertionsAreSound
 insertions_sound bytes list placed frames file text accepted inserted rates enough =
     let formed : IsFormed list = accepted.good.spelled.formed in
     let ruled : IsRuled list = accepted.good.ruled in
-    let is : IsListPlaced list placed = accepted.placement in
-    let captions = captioning_of list placed in
+    let is : AreServicesPlaced list placed = λ service. accepted.placement (Service service) in
+    let captions = list_framing list placed in
     let pairs = byte_pairs list placed formed in
     let blocks = blocks_bytes list placed formed ruled is in
     let roomy = frames_roomy list placed formed ruled is in
@@ -105,7 +106,8 @@ insertions_sound bytes list placed frames file text accepted inserted rates enou
     let new = new_words (captions_of captions) (can_be_carried captions (padded_roomy captions pairs blocks roomy) carried) frames file text inserted in
     let alike = say_alike captions frames new.news new.have rates in
     let packets = column_packets list.rate (padded captions) 0 (length frames) in
-    let sound = sound_words bytes list placed accepted in
+    let made : PlacedList = record { list = list; placed = placed } in
+    let sound = sound_words bytes made accepted in
     let built : AreAlike (take list.frames new.news) (built_packets list placed) =
     subst (AreAlike (take list.frames new.news)) (front_packets captions 0 (length frames) list.frames enough (omega arith))
     (fronts_alike list.frames new.news packets alike) in

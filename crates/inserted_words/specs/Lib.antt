@@ -1,3 +1,3 @@
-pub mod Captioning
+pub mod Captions
 pub mod InsertedFile
 pub mod Soundness

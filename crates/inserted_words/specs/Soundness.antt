@@ -5,7 +5,7 @@ use Rattle.cc_base.specs.declared.rate.Rate.{Rate}
 use Rattle.cc_data.specs.declared.triplet.Triplet.{Triplet}
 use Rattle.cdp_packets.specs.Packets.{Packet as Frame}
 use Rattle.cue_list_commands.specs.Accepted.{IsAccepted}
-use Rattle.cue_list_commands.specs.Output.{built_packets}
+use Rattle.cue_list_commands.specs.Output.{built_packets, list_framing}
 use Rattle.cue_lists.specs.Listing.{Listing}
 use Rattle.frame_scheduler.specs.Planned.{Placement}
 use Rattle.line21_shown.specs.Shown.{ShowsList}
@@ -16,7 +16,7 @@ use Rattle.services_shown.specs.SeenWindows.{ShowAuthoredWindows}
 use Rattle.words_files.specs.Received.{received_at}
 use Rattle.words_files.specs.Offences.{IsFileUnder}
 use Rattle.services_files.specs.CaptionChannel.{caption_channel}
-use Rattle.inserted_words.specs.Captioning.{captioning_of, captions_of}
+use Rattle.inserted_words.specs.Captions.{captions_of}
 use Rattle.inserted_words.specs.InsertedFile.{AreInserted}
 
 -- all frames have this rate
@@ -35,7 +35,7 @@ pub data HaveCaptions : (ℕ → List Triplet) → List Frame → List Frame →
 -- authored grids at every settled frame of the list, and at every one of each service the authored windows
 pub record IsSoundInsertion (list : Listing) (placed : Placement) (frames : List Frame) (text : List ℕ) : Type 0 where
   pub news : List Frame
-  pub have : HaveCaptions (captions_of (captioning_of list placed)) frames news
+  pub have : HaveCaptions (captions_of (list_framing list placed)) frames news
   pub whole : IsFileUnder caption_channel news text
   pub alike : AreAlike (take list.frames news) (built_packets list placed)
   pub fills : BuffersNeverFill news
@@ -45,5 +45,5 @@ pub record IsSoundInsertion (list : Listing) (placed : Placement) (frames : List
 -- so it is where the list is accepted and the frames have its rate, and are as many as it has, at least
 abbrev pub InsertionsAreSound : Type 0
 InsertionsAreSound = (bytes : List ℕ) (list : Listing) (placed : Placement) (frames : List Frame) (file text : List ℕ) → IsAccepted bytes list placed
-    → AreInserted (captions_of (captioning_of list placed)) frames file text → HaveRate list.rate frames → list.frames ≤ length frames
+    → AreInserted (captions_of (list_framing list placed)) frames file text → HaveRate list.rate frames → list.frames ≤ length frames
     → IsSoundInsertion list placed frames text

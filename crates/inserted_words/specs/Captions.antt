@@ -2,26 +2,15 @@
 use Rattle.std.specs.Prelude.{ℕ, nat_lt, if◌then◌else◌, Option, Some, None, List, []}
 use Rattle.cc_base.specs.declared.rate.Rate.{Rate}
 use Rattle.cc_data.specs.declared.triplet.Triplet.{Triplet}
-use Rattle.cue_lists.specs.Listing.{Listing}
 use Rattle.frame_carrier.specs.Carrying.{channel_packet_of}
 use Rattle.frame_carrier.specs.FrameTriplets.{frame_triplets}
 use Rattle.frame_scheduler.specs.Columns.{Columns}
-use Rattle.frame_scheduler.specs.Planned.{Placement, columns_of}
 use Rattle.frame_scheduler.specs.declared.frames.FrameBytes.{FrameBytes}
 use Rattle.line21_codes.specs.declared.channels.Chan.{Chan}
 use Rattle.line21_codes.specs.declared.channels.Chan.TheVariants.{Cc1, Cc3}
 use Rattle.line21_codes.specs.declared.pairs.Pair.{Pair}
 use Rattle.line21_slots.specs.Cadences.{cadence_of, has_slot_in}
-
--- the captions of a programme: its rate, what each of its frames carries, and how many they are
-pub record Captioning : Type 0 where
-  pub rate : Rate
-  pub columns : Columns
-  pub count : ℕ
-
--- those of a list in its placement
-abbrev pub captioning_of : Listing → Placement → Captioning
-captioning_of list placed = record { rate = list.rate; columns = columns_of list placed; count = list.frames }
+use Rattle.programmes.specs.Framing.{Framing}
 
 -- the null pair of a channel's field, where a frame has a slot of it
 abbrev pub silent_pair : Rate → Chan → ℕ → Option Pair
@@ -36,9 +25,9 @@ silent_frame rate frame = record {
 }
 
 -- what every frame carries: those from the programme's end on are without captions
-abbrev pub padded : Captioning → Columns
+abbrev pub padded : Framing → Columns
 padded list frame = if nat_lt frame list.count then list.columns frame else silent_frame list.rate frame
 
 -- the triplets of a frame
-abbrev pub captions_of : Captioning → ℕ → List Triplet
+abbrev pub captions_of : Framing → ℕ → List Triplet
 captions_of list frame = frame_triplets list.rate (padded list frame) (channel_packet_of (padded list) frame)
