@@ -33,18 +33,19 @@ use Rattle.sound_frames.proofs.PlacedBlocksLemmas.{fit_blocks, shares_kept}
 use Rattle.sound_frames.proofs.SeenLemmas.{columns_seen}
 use Rattle.sound_frames.proofs.SoundLemmas.{fit_sound}
 
--- the pairs of an accepted list show it
-show_columns : (list : Listing) (placed : Placement) → IsFormed list → IsRuled list → IsListPlaced list placed → ColumnsShow (list_told list) (list_grids list) list.frames (columns_of list placed)
-show_columns list placed formed ruled is frame below Cc1 told = (authored_seen list placed formed ruled is frame One).first told
-show_columns list placed formed ruled is frame below Cc2 told = (authored_seen list placed formed ruled is frame One).second
-show_columns list placed formed ruled is frame below Cc3 told = (authored_seen list placed formed ruled is frame Two).first told
-show_columns list placed formed ruled is frame below Cc4 told = (authored_seen list placed formed ruled is frame Two).second
+-- the pairs of an accepted list show it, at every frame
+pub show_columns : (list : Listing) (placed : Placement) → IsFormed list → IsRuled list → IsListPlaced list placed → (n : ℕ)
+    → ColumnsShow (list_told list) (list_grids list) n (columns_of list placed)
+show_columns list placed formed ruled is n frame below Cc1 told = (authored_seen list placed formed ruled is frame One).first told
+show_columns list placed formed ruled is n frame below Cc2 told = (authored_seen list placed formed ruled is frame One).second
+show_columns list placed formed ruled is n frame below Cc3 told = (authored_seen list placed formed ruled is frame Two).first told
+show_columns list placed formed ruled is n frame below Cc4 told = (authored_seen list placed formed ruled is frame Two).second
 
 -- what `pairs` puts of an accepted list is sound
 pub sound_pairs : (bytes : List ℕ) (made : PlacedList) → IsPlacedAs bytes made → IsSoundPairs made
 sound_pairs bytes made accepted = record {
   doubled = columns_doubled made.list made.placed accepted.good.spelled.formed accepted.good.ruled accepted.placement;
-  shown = show_columns made.list made.placed accepted.good.spelled.formed accepted.good.ruled accepted.placement;
+  shown = show_columns made.list made.placed accepted.good.spelled.formed accepted.good.ruled accepted.placement made.list.frames;
 }
 
 -- a pair that is of bytes, where there is one
@@ -73,7 +74,7 @@ sound_words bytes made accepted =
       shares = shares_kept made.list made.placed formed accepted.good.ruled services;
       shows = record {
         has_grids = λ frame below chan told. columns_seen made.list.rate made.list.frames (columns_of made.list made.placed) sound.carried frame below chan
-            ∙ show_columns made.list made.placed formed accepted.good.ruled accepted.placement frame below chan told;
+            ∙ show_columns made.list made.placed formed accepted.good.ruled accepted.placement made.list.frames frame below chan told;
         has_windows = authored_windows_seen made.list made.placed formed accepted.good.ruled services;
       };
       delayed = delays_sent made.list made.placed formed accepted.good.ruled;

@@ -1,11 +1,11 @@
 -- A programme that frames without captions follow is carried as it is, and they add nothing.
-use Rattle.std.proofs.Common.{◌≡◌, ℕ, zero, suc, ◌+◌, ◌<◌, ◌≤◌, nat_le, nat_lt, map, Bool, true, false, if◌then◌else◌, Some, None, List, [], ◌∷◌, ◌++◌, All, IfSome, length, take, refl, ap, sym, subst, ◌∙◌, arith}
+use Rattle.std.proofs.Common.{◌≡◌, ℕ, zero, suc, ◌+◌, ◌<◌, ◌≤◌, nat_lt, Bool, true, false, if◌then◌else◌, Some, None, [], All, IfSome, length, refl, ap, sym, subst, ◌∙◌, arith}
 use Rattle.std.proofs.lemmas.Bool.Decides.{nat_tests}
 use Rattle.std.proofs.lemmas.List.Elements.{All-nil}
 use Rattle.cc_base.specs.Rate.{triplets_in_frame}
 use Rattle.cc_base.specs.declared.rate.Rate.{Rate}
 use Rattle.frame_carrier.specs.Carried.{AreByteBlocks, AreBytePairs, AreCarried, AreRoomy, IsBytePair}
-use Rattle.frame_carrier.specs.Carrying.{channel_packet, channel_packet_of, column_packets, frame_packet, packet_count, packets_before}
+use Rattle.frame_carrier.specs.Carrying.{channel_packet, packet_count, packets_before}
 use Rattle.frame_carrier.specs.FrameTriplets.{front_triplets}
 use Rattle.frame_carrier.proofs.CarriedLemmas.{frames_carried}
 use Rattle.frame_carrier.proofs.CarryingLemmas.{front_few, triplets_many}
@@ -15,13 +15,10 @@ use Rattle.line21_codes.specs.declared.channels.FieldNumber.{FieldNumber}
 use Rattle.line21_codes.specs.declared.channels.FieldNumber.TheVariants.{One, Two}
 use Rattle.line21_codes.specs.declared.channels.Chan.TheVariants.{Cc1, Cc3}
 use Rattle.line21_slots.specs.Cadences.{cadence_of, has_slot_in}
-use Rattle.dtvcc_screen.specs.Meaning.{Byte, Event, Tick, after, start}
-use Rattle.dtvcc_shown.specs.Filling.{AllFill}
-use Rattle.dtvcc_shown.proofs.FrameLemmas.{fill_append}
 use Rattle.services_carried.specs.ServicesCarried.{HasBlocks, IsSent}
-use Rattle.services_carried.specs.Told.{sent_to, told}
 use Rattle.programmes.specs.Framing.{Framing}
-use Rattle.inserted_words.specs.Captions.{padded, silent_frame}
+use Rattle.frame_scheduler.specs.End.{silent_frame}
+use Rattle.inserted_words.specs.Captions.{padded}
 
 -- a frame below the programme's end is the programme's
 pub padded_below : (list : Framing) (frame : ℕ) → frame < list.count → padded list frame ≡ list.columns frame
@@ -54,22 +51,6 @@ packets_below list zero most = refl
 packets_below list (suc frame) most =
     ap (λ n. n + packet_count (padded list frame).blocks.items) (packets_below list frame (omega (arith, most)))
     ∙ ap (λ (b : FrameBytes). packets_before list.columns frame + packet_count b.blocks.items) (padded_below list frame (omega (arith, most)))
-
--- so their distribution packets are
-packet_below : (list : Framing) (frame : ℕ) → frame < list.count
-    → frame_packet list.rate frame (padded list frame) (channel_packet_of (padded list) frame) ≡ frame_packet list.rate frame (list.columns frame) (channel_packet_of list.columns frame)
-packet_below list frame below =
-    ap (λ n. frame_packet list.rate frame (padded list frame) (channel_packet n (padded list frame).blocks.items)) (packets_below list frame (omega (arith, below)))
-    ∙ ap (λ (b : FrameBytes). frame_packet list.rate frame b (channel_packet (packets_before list.columns frame) b.blocks.items)) (padded_below list frame below)
-
-pub front_packets : (list : Framing) (frame n k : ℕ) → k ≤ n → frame + k ≤ list.count
-    → take k (column_packets list.rate (padded list) frame n) ≡ column_packets list.rate list.columns frame k
-front_packets list frame n zero few most = refl
-front_packets list frame zero (suc k) few most = absurd (omega (arith, few))
-front_packets list frame (suc n) (suc k) few most =
-    ap (λ p. p ∷ take k (column_packets list.rate (padded list) (suc frame) n)) (packet_below list frame (omega (arith, most)))
-    ∙ ap (λ rest. frame_packet list.rate frame (list.columns frame) (channel_packet_of list.columns frame) ∷ rest)
-    (front_packets list (suc frame) n k (omega (arith, few)) (omega (arith, most)))
 
 -- the pair of a frame without captions is of bytes
 silent_bytes : (slot : Bool) → IfSome (if slot then Some (record { a = 0x80; b = 0x80 }) else None) IsBytePair
@@ -121,45 +102,3 @@ module _ (list : Framing) (has : (frame : ℕ) → HasBlocks list.columns frame)
 
   pub padded_blocks : (frame : ℕ) → HasBlocks (padded list) frame
   padded_blocks frame = blocks_by frame (nat_lt frame list.count) refl
-
-  -- what is sent in it
-  pub sent_below : (frame : ℕ) → frame < list.count → (padded_blocks frame).sent ≡ (has frame).sent
-  unfolding padded_blocks blocks_by
-  sent_below frame below = at (nat_lt frame list.count) refl
-    where
-      at : (b : Bool) (is : nat_lt frame list.count ≡ b) → (blocks_by frame b is).sent ≡ (has frame).sent
-      at true is = refl
-      at false is = absurd (let past : list.count ≤ frame = grind (arith, nat_tests) in omega (arith, past, below))
-
-  pub sent_past : (frame : ℕ) → list.count ≤ frame → (padded_blocks frame).sent ≡ []
-  unfolding padded_blocks blocks_by
-  sent_past frame past = at (nat_lt frame list.count) refl
-    where
-      at : (b : Bool) (is : nat_lt frame list.count ≡ b) → (blocks_by frame b is).sent ≡ []
-      at true is = absurd (let below : frame < list.count = grind (arith, nat_tests) in omega (arith, past, below))
-      at false is = refl
-
-  -- a service is told what it is told by the programme
-  told_below : (service n : ℕ) → n ≤ list.count
-      → told list.rate (λ frame. sent_to service (padded_blocks frame).sent) n ≡ told list.rate (λ frame. sent_to service (has frame).sent) n
-  told_below service zero most = refl
-  told_below service (suc n) most =
-      ap (λ es. es ++ (Tick list.rate ∷ map Byte (sent_to service (padded_blocks n).sent))) (told_below service n (omega (arith, most)))
-      ∙ ap (λ sent. told list.rate (λ frame. sent_to service (has frame).sent) n ++ (Tick list.rate ∷ map Byte (sent_to service sent)))
-      (sent_below n (omega (arith, most)))
-
-  -- and by the frames behind it nothing but ticks, so no byte of theirs fills its buffer
-  pub told_on_fills : (service n : ℕ) → ((k : ℕ) → k ≤ list.count → AllFill 127 start (told list.rate (λ frame. sent_to service (has frame).sent) k))
-      → AllFill 127 start (told list.rate (λ frame. sent_to service (padded_blocks frame).sent) n)
-  told_on_fills service n fills = at n (nat_le n list.count) refl
-    where
-      at : (n : ℕ) (b : Bool) → nat_le n list.count ≡ b → AllFill 127 start (told list.rate (λ frame. sent_to service (padded_blocks frame).sent) n)
-      at n true is =
-          subst (λ (es : List Event). AllFill 127 start es) (sym (told_below service n (grind (arith, nat_tests)))) (fills n (grind (arith, nat_tests)))
-      at zero false is = tt
-      at (suc n) false is =
-          let past : list.count ≤ n = grind (arith, nat_tests) in
-          fill_append start (told list.rate (λ frame. sent_to service (padded_blocks frame).sent) n) (Tick list.rate ∷ map Byte (sent_to service (padded_blocks n).sent))
-          (at n (nat_le n list.count) refl)
-          (subst (λ sent. AllFill 127 (after start (told list.rate (λ frame. sent_to service (padded_blocks frame).sent) n)) (Tick list.rate ∷ map Byte (sent_to service sent)))
-          (sym (sent_past n past)) tt)

@@ -1,42 +1,52 @@
 -- Words in which the captions of an accepted list are inserted are sound.
-use Rattle.std.proofs.Common.{◌≡◌, ◌∙◌, ap, arith, length, reverse, subst, suc, sym, take, ℕ, ◌<◌, List}
+use Rattle.std.proofs.Common.{◌≡◌, ◌∙◌, ◌+◌, ◌<◌, ◌≤◌, ◌∷◌, nat_lt, Bool, true, false, ap, arith, length, refl, reverse, subst, suc, zero, sym, take, ℕ, List}
 use Rattle.std.specs.List.{flat_map}
-use Rattle.std.proofs.lemmas.List.{take-map, take-take, take_all}
+use Rattle.std.proofs.lemmas.Bool.Decides.{nat_tests}
+use Rattle.std.proofs.lemmas.List.{take-map, take_all}
 use Rattle.std.proofs.lemmas.List.Folds.{flat_map-map}
 use Rattle.cc_data.specs.declared.triplet.Triplet.{Triplet}
 use Rattle.cdp_packets.specs.Packets.{Packet as Frame}
 use Rattle.cdp_packets.specs.PacketTriplets.{packet_triplets}
-use Rattle.cue_list_commands.proofs.Outputs.{byte_pairs, fields_shown, sound_words}
-use Rattle.cue_list_commands.specs.Output.{IsSoundWords, PlacedList, built_packets, list_framing}
+use Rattle.cue_list_commands.proofs.Outputs.{byte_pairs, show_columns}
+use Rattle.cue_list_commands.specs.Output.{list_framing, list_grids, list_told, list_windows}
 use Rattle.cue_lists.specs.Listing.{IsFormed, Listing}
 use Rattle.cue_lists.specs.Rules.{IsRuled}
-use Rattle.frame_carrier.specs.Carrying.{column_packets}
-use Rattle.frame_scheduler.specs.Planned.{Placement, authored_channel, columns_of}
+use Rattle.cue_lists.specs.declared.lane.Lane.TheVariants.{Service}
+use Rattle.dtvcc_screen.specs.Meaning.{Event, Served, after, start}
+use Rattle.dtvcc_screen.specs.Shown.{grids}
+use Rattle.dtvcc_shown.specs.Filling.{AllFill}
+use Rattle.dtvcc_shown.specs.ServiceLanes.{lane_frame_bytes}
+use Rattle.frame_carrier.proofs.CarriedLemmas.{frames_carried}
+use Rattle.frame_carrier.specs.Carried.{AreCarried}
+use Rattle.frame_carrier.specs.Carrying.{channel_packet, channel_packet_of, column_packets, frame_packet, packet_count, packets_before}
+use Rattle.frame_scheduler.proofs.EndLemmas.{nothing_behind}
+use Rattle.frame_scheduler.specs.Planned.{IsListPlaced, Placement, columns_of, service_bytes, share_in}
+use Rattle.frame_scheduler.specs.declared.frames.FrameBytes.{FrameBytes}
+use Rattle.line21_codes.specs.Channels.{data_channel_of, field_of_channel}
 use Rattle.line21_codes.specs.declared.pairs.Pair.{Pair}
+use Rattle.line21_screen.specs.Fields.{channel}
 use Rattle.line21_screen.specs.Meaning.{after as after_pairs}
-use Rattle.line21_shown.specs.Shown.{ShowsField, ShowsList}
-use Rattle.services_carried.specs.PlacedServices.{AreServicesPlaced}
+use Rattle.service_blocks.specs.Channels.{AreChannel}
 use Rattle.services_carried.proofs.ChannelLemmas.{programmes_whole}
+use Rattle.services_carried.proofs.LaneLemmas.{lane_sent}
 use Rattle.services_carried.proofs.RoomLemmas.{blocks_bytes, frames_roomy, has_blocks}
+use Rattle.services_carried.proofs.ToldLemmas.{columns_told, like_frames, take_packets, told_same}
+use Rattle.services_carried.specs.PlacedServices.{AreServicesPlaced}
 use Rattle.services_carried.specs.Told.{AreAlike, SayAlike, sent_to, told}
-use Rattle.services_carried.proofs.ToldLemmas.{columns_told, like_frames}
+use Rattle.services_files.specs.CarriedChannel.{CarryChannel, file_triplets}
 use Rattle.services_files.specs.Events.{service_events}
+use Rattle.services_shown.proofs.ToldLemmas.{lane_is_sound, lane_told, packets_count, told_fills, told_leads}
 use Rattle.services_shown.specs.Buffers.{BuffersNeverFill}
 use Rattle.services_shown.specs.SeenWindows.{ShowAuthoredWindows}
+use Rattle.sound_frames.proofs.SeenLemmas.{columns_seen}
+use Rattle.sound_frames.specs.Showing.{ShowsFrames}
+use Rattle.windows_shown.proofs.ShownLemmas.{windows_are_shown}
 use Rattle.windows_shown.specs.AuthoredShown.{list_lane}
-use Rattle.services_shown.proofs.ToldLemmas.{front_told, lane_is_sound, packets_count, told_fills}
-use Rattle.dtvcc_screen.specs.Meaning.{Event, after, start}
-use Rattle.dtvcc_screen.specs.Shown.{grids}
-use Rattle.cue_lists.specs.declared.lane.Lane.TheVariants.{Service}
-use Rattle.dtvcc_shown.specs.Filling.{AllFill}
-use Rattle.service_blocks.specs.Channels.{AreChannel}
-use Rattle.services_files.specs.CarriedChannel.{CarryChannel, file_triplets}
-use Rattle.words_files.specs.Received.{received_at}
 use Rattle.inserted_words.specs.Captions.{captions_of, padded}
 use Rattle.inserted_words.specs.Soundness.{InsertionsAreSound}
 use Rattle.inserted_words.proofs.AlikeLemmas.{can_be_carried, say_alike}
 use Rattle.inserted_words.proofs.FileLemmas.{new_words}
-use Rattle.inserted_words.proofs.PaddedLemmas.{front_packets, padded_blocks, padded_carried, padded_roomy, told_on_fills}
+use Rattle.inserted_words.proofs.PaddedLemmas.{padded_below, padded_carried, padded_past, padded_roomy}
 
 -- so many frames of frames that are alike are alike
 fronts_alike : (k : ℕ) (frames others : List Frame) → AreAlike frames others → AreAlike (take k frames) (take k others)
@@ -58,71 +68,104 @@ same_channel frames others alike carry = record {
   channel = subst (λ ts. AreChannel carry.packets carry.blocks ts) (sym (same_triplets frames others alike)) carry.channel;
 }
 
--- no byte of the frames of a list, and of those behind them, fills the buffer of a service
-padded_fills : (list : Listing) (placed : Placement) → IsFormed list → IsRuled list → AreServicesPlaced list placed → (n : ℕ)
-    → BuffersNeverFill (column_packets list.rate (padded (list_framing list placed)) 0 n)
-padded_fills list placed formed ruled is n service numbered =
-    let captions = list_framing list placed in
-    let has = has_blocks list placed formed ruled is in
-    let packets = column_packets list.rate (padded captions) 0 n in
-    let told_all : service_events service packets ≡ told list.rate (λ frame. sent_to service (padded_blocks captions has frame).sent) n =
-    ap (service_events service) (sym (take_all n packets (let count = packets_count list.rate (padded captions) 0 n in omega (arith, count))))
-    ∙ columns_told list.rate (padded captions) n (padded_blocks captions has) service n (omega arith) in
-    subst (λ (es : List Event). AllFill 127 start es) (sym told_all)
-    (told_on_fills captions has service n (λ k below.
-    subst (λ (es : List Event). AllFill 127 start es)
-    (sym (front_told list placed service k formed ruled is below) ∙ columns_told list.rate (columns_of list placed) list.frames has service k below)
-    (told_fills (list_lane list service (placed (Service service))) k (lane_is_sound list placed service formed ruled is))))
+module _ (list : Listing) (placed : Placement) (formed : IsFormed list) (ruled : IsRuled list) (placing : IsListPlaced list placed) where
+  abbrev services : AreServicesPlaced list placed
+  services = λ service. placing (Service service)
 
--- what a receiver of frames shows whose first ones say what `build` says
-module _ (list : Listing) (placed : Placement) (news : List Frame) (sound : IsSoundWords (record { list = list; placed = placed })) (alike : AreAlike (take list.frames news) (built_packets list placed))
-    (frame : ℕ) (below : frame < list.frames) where
-  says : SayAlike (take (suc frame) news) (take (suc frame) (built_packets list placed))
-  says =
-      subst (λ (front : List Frame). SayAlike front (take (suc frame) (built_packets list placed))) (take-take (suc frame) list.frames news (omega (arith, below)))
-      (like_frames (take (suc frame) (take list.frames news)) (take (suc frame) (built_packets list placed))
-      (fronts_alike (suc frame) (take list.frames news) (built_packets list placed) alike))
+  -- behind the end of a list its own frames carry nothing either
+  same_frame : (frame : ℕ) → padded (list_framing list placed) frame ≡ columns_of list placed frame
+  same_frame frame = at (nat_lt frame list.frames) refl
+    where
+      at : (below : Bool) → nat_lt frame list.frames ≡ below → padded (list_framing list placed) frame ≡ columns_of list placed frame
+      at true is = padded_below (list_framing list placed) frame (grind (arith, nat_tests))
+      at false is =
+          let past : list.frames ≤ frame = grind (arith, nat_tests) in
+          padded_past (list_framing list placed) frame past ∙ sym (nothing_behind list placed formed ruled placing frame past)
 
-  pub grids_shown : ShowsList list (λ in_field. received_at in_field news frame) frame
-  grids_shown in_field =
-      subst (λ (pairs : List Pair). ShowsField (after_pairs in_field (reverse pairs)) (authored_channel in_field) list.cues frame)
-      (sym (says.pairs in_field)) (fields_shown (record { list = list; placed = placed }) sound frame below in_field)
+  same_before : (n : ℕ) → packets_before (padded (list_framing list placed)) n ≡ packets_before (columns_of list placed) n
+  same_before zero = refl
+  same_before (suc n) =
+      ap (λ before. before + packet_count (padded (list_framing list placed) n).blocks.items) (same_before n)
+      ∙ ap (λ (bytes : FrameBytes). packets_before (columns_of list placed) n + packet_count bytes.blocks.items) (same_frame n)
 
-  pub windows_seen : ShowAuthoredWindows list.cues news frame
-  windows_seen service id numbered low =
-      ap (λ (events : List Event). grids (after start events).core.screen id) (says.events service) ∙ sound.shows.has_windows frame below service id numbered low
+  -- so their packets are the same
+  same_packets : (frame n : ℕ) → column_packets list.rate (padded (list_framing list placed)) frame n ≡ column_packets list.rate (columns_of list placed) frame n
+  same_packets frame zero = refl
+  same_packets frame (suc n) =
+      ap (λ before. frame_packet list.rate frame (padded (list_framing list placed) frame) (channel_packet before (padded (list_framing list placed) frame).blocks.items)
+      ∷ column_packets list.rate (padded (list_framing list placed)) (suc frame) n) (same_before frame)
+      ∙ ap (λ (bytes : FrameBytes). frame_packet list.rate frame bytes (channel_packet (packets_before (columns_of list placed) frame) bytes.blocks.items)
+      ∷ column_packets list.rate (padded (list_framing list placed)) (suc frame) n) (same_frame frame)
+      ∙ ap (λ rest. frame_packet list.rate frame (columns_of list placed frame) (channel_packet_of (columns_of list placed) frame) ∷ rest) (same_packets (suc frame) n)
+
+  -- a service is told what its lane sends
+  lane_leads : (n service k : ℕ) → k ≤ n
+      → service_events service (take k (column_packets list.rate (columns_of list placed) 0 n))
+      ≡ told list.rate (lane_frame_bytes (list_lane list service (placed (Service service)))) k
+  lane_leads n service k most =
+      columns_told list.rate (columns_of list placed) n (has_blocks list placed formed ruled services) service k most
+      ∙ told_same list.rate (λ frame. sent_to service (has_blocks list placed formed ruled services frame).sent) (service_bytes list service (placed (Service service)))
+      (lane_sent list placed formed ruled services service) k
+      ∙ lane_told list placed service k
+
+  -- so no byte fills its buffer, and it shows the authored windows
+  columns_fill : (n : ℕ) → BuffersNeverFill (column_packets list.rate (columns_of list placed) 0 n)
+  columns_fill n service numbered =
+      let lane = list_lane list service (placed (Service service)) in
+      let packets = column_packets list.rate (columns_of list placed) 0 n in
+      let count = packets_count list.rate (columns_of list placed) 0 n in
+      subst (λ (es : List Event). AllFill 127 start es) (sym (ap (service_events service) (sym (take_all n packets (omega (arith, count)))) ∙ lane_leads n service n (omega arith)))
+      (told_fills lane n (lane_is_sound list placed service formed ruled services))
+
+  columns_windows : (n frame : ℕ) → frame < n → ShowAuthoredWindows list.cues (column_packets list.rate (columns_of list placed) 0 n) frame
+  columns_windows n frame below service id numbered low =
+      let lane = list_lane list service (placed (Service service)) in
+      ap (λ (s : Served). grids s.core.screen id) (ap (after start) (lane_leads n service (suc frame) (omega (arith, below))) ∙ told_leads lane (suc frame))
+      ∙ windows_are_shown list (share_in list service) service (placed (Service service)) formed ruled (services service).placed frame id low
+
+  -- frames that say what these do show the list
+  news_show : (n : ℕ) (news : List Frame) → AreCarried list.rate (columns_of list placed) n → AreAlike news (column_packets list.rate (columns_of list placed) 0 n)
+      → ShowsFrames (list_told list) (list_grids list) (list_windows list) n news
+  news_show n news carried alike =
+      let packets = column_packets list.rate (columns_of list placed) 0 n in
+      let says : (k : ℕ) → SayAlike (take k news) (take k packets) = λ k. like_frames (take k news) (take k packets) (fronts_alike k news packets alike) in
+      record {
+        has_grids = λ frame below chan settled.
+            ap (λ (pairs : List Pair). (channel (data_channel_of chan) (after_pairs (field_of_channel chan) (reverse pairs))).displayed)
+            ((says (suc frame)).pairs (field_of_channel chan))
+            ∙ columns_seen list.rate n (columns_of list placed) carried frame below chan
+            ∙ show_columns list placed formed ruled placing n frame below chan settled;
+        has_windows = λ frame below service id numbered low.
+            ap (λ (events : List Event). grids (after start events).core.screen id) ((says (suc frame)).events service)
+            ∙ columns_windows n frame below service id numbered low;
+      }
 
 pub insertions_sound : InsertionsAreSound
 insertions_sound bytes list placed frames file text accepted inserted rates enough =
     let formed : IsFormed list = accepted.good.spelled.formed in
     let ruled : IsRuled list = accepted.good.ruled in
-    let is : AreServicesPlaced list placed = λ service. accepted.placement (Service service) in
+    let placing = accepted.placement in
     let captions = list_framing list placed in
     let pairs = byte_pairs list placed formed in
-    let blocks = blocks_bytes list placed formed ruled is in
-    let roomy = frames_roomy list placed formed ruled is in
-    let has = has_blocks list placed formed ruled is in
-    let carried = padded_carried captions pairs blocks roomy in
-    let new = new_words (captions_of captions) (can_be_carried captions (padded_roomy captions pairs blocks roomy) carried) frames file text inserted in
-    let alike = say_alike captions frames new.news new.have rates in
-    let packets = column_packets list.rate (padded captions) 0 (length frames) in
-    let made : PlacedList = record { list = list; placed = placed } in
-    let sound = sound_words bytes made accepted in
-    let built : AreAlike (take list.frames new.news) (built_packets list placed) =
-    subst (AreAlike (take list.frames new.news)) (front_packets captions 0 (length frames) list.frames enough (omega arith))
-    (fronts_alike list.frames new.news packets alike) in
+    let blocks = blocks_bytes list placed formed ruled (λ service. placing (Service service)) in
+    let roomy = frames_roomy list placed formed ruled (λ service. placing (Service service)) in
+    let has = has_blocks list placed formed ruled (λ service. placing (Service service)) in
+    let n = length frames in
+    let carried = frames_carried list.rate (columns_of list placed) n pairs blocks roomy in
+    let new = new_words (captions_of captions) (can_be_carried captions (padded_roomy captions pairs blocks roomy) (padded_carried captions pairs blocks roomy)) frames file text inserted in
+    let packets = column_packets list.rate (columns_of list placed) 0 n in
+    let alike : AreAlike new.news packets = subst (AreAlike new.news) (same_packets list placed formed ruled placing 0 n) (say_alike captions frames new.news new.have rates) in
     record {
       news = new.news;
       have = new.have;
       whole = record {
         file = new.file;
-        accepted = same_channel new.news packets alike
-            (programmes_whole list.rate (padded captions) (length frames) (padded_blocks captions has) (carried (length frames)));
+        accepted = same_channel new.news packets alike (programmes_whole list.rate (columns_of list placed) n has carried);
       };
-      alike = built;
+      alike = subst (AreAlike (take list.frames new.news)) (take_packets list.rate (columns_of list placed) 0 n list.frames enough)
+          (fronts_alike list.frames new.news packets alike);
       fills = λ service numbered.
           subst (λ (es : List Event). AllFill 127 start es) (sym ((like_frames new.news packets alike).events service))
-          (padded_fills list placed formed ruled is (length frames) service numbered);
-      shown = grids_shown list placed new.news sound built;
-      windows = windows_seen list placed new.news sound built;
+          (columns_fill list placed formed ruled placing n service numbered);
+      shows = news_show list placed formed ruled placing n new.news carried alike;
     }

@@ -46,7 +46,7 @@ sent_told service (sent ∷ more) =
     ∙ sym (map-append Byte own (sent_to service more))
 
 -- the first of the packets of columns
-take_packets : (rate : Rate) (columns : Columns) (frame n k : ℕ) → k ≤ n → take k (column_packets rate columns frame n) ≡ column_packets rate columns frame k
+pub take_packets : (rate : Rate) (columns : Columns) (frame n k : ℕ) → k ≤ n → take k (column_packets rate columns frame n) ≡ column_packets rate columns frame k
 take_packets rate columns frame n zero below = refl
 take_packets rate columns frame zero (suc k) below = absurd (omega arith)
 take_packets rate columns frame (suc n) (suc k) below =
