@@ -9,14 +9,16 @@ use Rattle.command_base.specs.declared.status.Status.{Status}
 use Rattle.command_base.specs.declared.status.Status.TheVariants as status
 use Rattle.cue_list_commands.specs.Reads.{IsProgrammeOf, ReadsProgramme}
 use Rattle.cue_list_commands.specs.SideEnds.{side_ends}
-use Rattle.cue_list_commands.specs.declared.programme.Programme.{Programme}
+use Rattle.frame_scheduler.specs.declared.frames.Plan.{Plan}
+use Rattle.programmes.specs.declared.programme.Programme.{Programme}
 use Rattle.insert_commands.specs.InsertAnswer.{Cause, HasFrames, InsertAnswer, InsertsWhole, OfAcceptedList, Stops, StopsInserting}
 use Rattle.insert_commands.specs.InsertSteps.{CountsBy, InsertsWords}
 use Rattle.cue_lists.specs.Listing.{Listing}
 use Rattle.frame_scheduler.specs.Planned.{Placement}
-use Rattle.inserted_words.specs.Captioning.{Captioning, captioning_of}
+use Rattle.cue_list_commands.specs.Output.{list_framing}
+use Rattle.programmes.specs.Framing.{Framing, HasFraming}
 use Rattle.inserted_words.proofs.SoundLemmas.{insertions_sound}
-use Rattle.insert_commands.specs.ListCaptions.{HasCaptions}
+use Rattle.frame_scheduler.specs.Frames.{GivesFrom, frames_left}
 
 -- no list is refused so
 never_so : (P : List ℕ → Type 0) (left : Option (List ℕ)) → IfSome left (λ text. ⊥) → IfSome left P
@@ -44,40 +46,40 @@ list_refused left later before now old (status.Differs finding) h = (h.0, record
 list_refused left later before now old (status.Short count) h = (h.0, record { reads = refl; writes = refl }, never_so _ left h.1)
 
 -- what holds of the list of a programme
-of_list : (left : Option (List ℕ)) (faults : ℕ) (programme : Programme) (Holds : Listing → Placement → Type 0) → IfSome left (λ text. IsProgrammeOf text programme)
-    → ((text : List ℕ) (is : IsProgrammeOf text programme) → Holds is.list is.placed) → OfAcceptedList (side_ends left faults) Holds
+of_list : (left : Option (List ℕ)) (faults : ℕ) (programme : Programme Plan) (Holds : Listing → Placement → Type 0) → IfSome left (λ text. IsProgrammeOf text programme)
+    → ((text : List ℕ) (is : IsProgrammeOf text programme) → Holds is.made.list is.made.placed) → OfAcceptedList (side_ends left faults) Holds
 of_list None faults programme Holds is holds = tt
-of_list (Some text) faults programme Holds is holds = (is.list, is.placed, is.accepted, holds text is)
+of_list (Some text) faults programme Holds is holds = (is.made.list, is.made.placed, is.accepted, holds text is)
 
 -- a programme has the captions of its list
-list_captions : (text : List ℕ) (programme : Programme) (is : IsProgrammeOf text programme) → HasCaptions (captioning_of is.list is.placed) programme
-list_captions text programme is = record { rate_is = is.rate; gives = is.gives; count_is = is.frames }
+list_captions : (text : List ℕ) (programme : Programme Plan) (is : IsProgrammeOf text programme) → HasFraming frames_left GivesFrom (list_framing is.made.list is.made.placed) programme
+list_captions text programme is = is.framing
 
 -- the words stopped the run, so they did with the captions of its list
-of_captions : (left : Option (List ℕ)) (faults : ℕ) (programme : Programme) (Why : Cause) (put : Put) (old new : Ends) → IfSome left (λ text. IsProgrammeOf text programme)
-    → ((list : Captioning) → HasCaptions list programme → Stops list Why put old new) → StopsInserting Why put (side_ends left faults) old new
+of_captions : (left : Option (List ℕ)) (faults : ℕ) (programme : Programme Plan) (Why : Cause) (put : Put) (old new : Ends) → IfSome left (λ text. IsProgrammeOf text programme)
+    → ((list : Framing) → HasFraming frames_left GivesFrom list programme → Stops list Why put old new) → StopsInserting Why put (side_ends left faults) old new
 of_captions left faults programme Why put old new is stops =
-    of_list left faults programme (λ list placed. Stops (captioning_of list placed) Why put old new) is
-    (λ text of. stops (captioning_of of.list of.placed) (list_captions text programme of))
+    of_list left faults programme (λ list placed. Stops (list_framing list placed) Why put old new) is
+    (λ text of. stops (list_framing of.made.list of.made.placed) (list_captions text programme of))
 
 -- all was put, and what was put is sound
-inserts_whole : (text : List ℕ) (programme : Programme) (old new : Ends) (is : IsProgrammeOf text programme)
-    → Stops (captioning_of is.list is.placed) (HasFrames old.left) put.Done old new → InsertsWhole is.list is.placed old new
+inserts_whole : (text : List ℕ) (programme : Programme Plan) (old new : Ends) (is : IsProgrammeOf text programme)
+    → Stops (list_framing is.made.list is.made.placed) (HasFrames old.left) put.Done old new → InsertsWhole is.made.list is.made.placed old new
 inserts_whole text programme old new is stops = record {
   stops = stops;
-  sound = insertions_sound text is.list is.placed stops.frames stops.file stops.puts.text is.accepted stops.puts.inserted stops.puts.rates stops.cause.enough;
+  sound = insertions_sound text is.made.list is.made.placed stops.frames stops.file stops.puts.text is.accepted stops.puts.inserted stops.puts.rates stops.cause.enough;
 }
 
 -- the words ended the run
-pub words_answered : (left later : Option (List ℕ)) (before now : ℕ) (programme : Programme) (old new : Ends) (answer : Status)
+pub words_answered : (left later : Option (List ℕ)) (before now : ℕ) (programme : Programme Plan) (old new : Ends) (answer : Status)
     → ReadsProgramme left later before now (Ok programme) → CountsBy old new answer
-    → ((list : Captioning) → HasCaptions list programme → InsertsWords list old new answer)
+    → ((list : Framing) → HasFraming frames_left GivesFrom list programme → InsertsWords list old new answer)
     → InsertAnswer (side_ends left before) (side_ends later now) old new answer
 words_answered left later before now programme old new status.Ok reads counts words = (
   reads.0,
   counts,
   of_list left before programme (λ list placed. InsertsWhole list placed old new) reads.1
-      (λ text is. inserts_whole text programme old new is (words (captioning_of is.list is.placed) (list_captions text programme is))),
+      (λ text is. inserts_whole text programme old new is (words (list_framing is.made.list is.made.placed) (list_captions text programme is))),
 )
 words_answered left later before now programme old new status.Usage reads counts words = absurd counts
 words_answered left later before now programme old new status.ReadFault reads counts words =

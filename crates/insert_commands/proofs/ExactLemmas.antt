@@ -20,7 +20,7 @@ use Rattle.cue_list_commands.specs.SideLists.{RefusedSideIsAnswered, RefusesSide
 use Rattle.cue_lists.specs.Listing.{Listing}
 use Rattle.findings.specs.declared.finding.Finding.{Finding}
 use Rattle.frame_scheduler.specs.Planned.{Placement}
-use Rattle.inserted_words.specs.Captioning.{captioning_of}
+use Rattle.cue_list_commands.specs.Output.{list_framing}
 use Rattle.inserted_words.proofs.FileLemmas.{foreign_file}
 use Rattle.inserted_words.specs.InsertedFile.{AreInserted, BringsFrame}
 use Rattle.inserted_words.specs.InsertedFile.AreInserted.{nothing, foreign as copied, caption as replaced}
@@ -78,7 +78,7 @@ front_frames some all front rest is whole =
 
 -- a packet behind those that were put brings the next frame
 module _ (list : Listing) (placed : Placement) (Why : Cause) (bytes : List ℕ) (old new : Ends) (answer : Put) (known : old.left ≡ Some bytes)
-    (stops : Stops (captioning_of list placed) Why answer old new) (all : List Frame) (file : IsFileUnder caption_channel all bytes) where
+    (stops : Stops (list_framing list placed) Why answer old new) (all : List Frame) (file : IsFileUnder caption_channel all bytes) where
   judged_front : (rest : List ℕ) × (bytes ≡ (stops.file ++ stops.behind) ++ (stops.unjudged ++ rest))
   judged_front = known_judged old.left new.left bytes (stops.file ++ stops.behind) stops.unjudged known stops.taken
 
@@ -115,10 +115,10 @@ frame_has P (f ∷ front) frame behind all = frame_has P front frame behind (All
 
 -- the causes don't hold of words that can take the captions
 module _ (list : Listing) (placed : Placement) (bytes : List ℕ) (old new : Ends) (can : CanTake list placed bytes) (known : old.left ≡ Some bytes) where
-  never_passes : Stops (captioning_of list placed) PassesLimitBehind put.Done old new → ⊥
+  never_passes : Stops (list_framing list placed) PassesLimitBehind put.Done old new → ⊥
   never_passes stops = never_past list placed PassesLimitBehind bytes old new put.Done known stops can.frames can.file _ can.within stops.cause.full stops.cause.past
 
-  never_long : Stops (captioning_of list placed) ExceedsPacketLength put.Done old new → ⊥
+  never_long : Stops (list_framing list placed) ExceedsPacketLength put.Done old new → ⊥
   never_long stops =
       let cause = stops.cause in
       let (behind, same) = next_frame list placed ExceedsPacketLength bytes old new put.Done known stops can.frames can.file cause.last cause.brings in
@@ -126,13 +126,13 @@ module _ (list : Listing) (placed : Placement) (bytes : List ℕ) (old new : End
       let long = cause.long in
       omega (arith, fits, long)
 
-  never_other : (finding : Finding) → Stops (captioning_of list placed) (IsFoundAt finding) put.Done old new → ⊥
+  never_other : (finding : Finding) → Stops (list_framing list placed) (IsFoundAt finding) put.Done old new → ⊥
   never_other finding stops =
       let cause = stops.cause in
       let (behind, same) = next_frame list placed (IsFoundAt finding) bytes old new put.Done known stops can.frames can.file cause.last cause.brings in
       cause.other (frame_has (λ f. f.rate ≡ list.rate) stops.frames cause.last behind (subst (All (λ f. f.rate ≡ list.rate)) same can.rates))
 
-  never_malformed : (refusal : Refusal) → Stops (captioning_of list placed) (IsRefusedBehind refusal old.left) put.Done old new → ⊥
+  never_malformed : (refusal : Refusal) → Stops (list_framing list placed) (IsRefusedBehind refusal old.left) put.Done old new → ⊥
   never_malformed refusal stops = elim stops.cause [
     | inl is ↦ never_offends list placed (IsRefusedBehind refusal old.left) bytes old new put.Done known stops can.frames can.file refusal is.stands.offends
     | inr is ↦
@@ -140,7 +140,7 @@ module _ (list : Listing) (placed : Placement) (bytes : List ℕ) (old new : End
         (subst (IsFileUnder caption_channel can.frames) (known_whole old.left bytes (stops.file ++ stops.behind) known is.whole.0) can.file)
   ]
 
-  never_short : (count : ℕ) → Stops (captioning_of list placed) (IsShort old.left count) put.Done old new → ⊥
+  never_short : (count : ℕ) → Stops (list_framing list placed) (IsShort old.left count) put.Done old new → ⊥
   never_short count stops =
       let cause = stops.cause in
       let whole = cause.whole in
@@ -162,19 +162,19 @@ inserted_answered text bytes list placed side later old new (status.Limit limit.
     absurd (never_refused text list placed side later old new (status.Limit limit.Bytes) side_is.left accepted is)
 inserted_answered text bytes list placed side later old new (status.Limit limit.Bytes) accepted can side_is read (inr is) =
     absurd (never_passes list placed bytes old new can read.left
-    (list_known text side list placed (λ l p. Stops (captioning_of l p) PassesLimitBehind put.Done old new) side_is.left accepted is.2))
+    (list_known text side list placed (λ l p. Stops (list_framing l p) PassesLimitBehind put.Done old new) side_is.left accepted is.2))
 inserted_answered text bytes list placed side later old new (status.Limit limit.Packet) accepted can side_is read is =
     absurd (never_long list placed bytes old new can read.left
-    (list_known text side list placed (λ l p. Stops (captioning_of l p) ExceedsPacketLength put.Done old new) side_is.left accepted is.2))
+    (list_known text side list placed (λ l p. Stops (list_framing l p) ExceedsPacketLength put.Done old new) side_is.left accepted is.2))
 inserted_answered text bytes list placed side later old new (status.Malformed (Byte place) why) accepted can side_is read is =
     absurd (never_malformed list placed bytes old new can read.left (record { place = place; why = why })
-    (list_known text side list placed (λ l p. Stops (captioning_of l p) (IsRefusedBehind (record { place = place; why = why }) old.left) put.Done old new) side_is.left accepted is.2))
+    (list_known text side list placed (λ l p. Stops (list_framing l p) (IsRefusedBehind (record { place = place; why = why }) old.left) put.Done old new) side_is.left accepted is.2))
 inserted_answered text bytes list placed side later old new (status.Differs finding) accepted can side_is read is =
     absurd (never_other list placed bytes old new can read.left finding
-    (list_known text side list placed (λ l p. Stops (captioning_of l p) (IsFoundAt finding) put.Done old new) side_is.left accepted is.2))
+    (list_known text side list placed (λ l p. Stops (list_framing l p) (IsFoundAt finding) put.Done old new) side_is.left accepted is.2))
 inserted_answered text bytes list placed side later old new (status.Short count) accepted can side_is read is =
     absurd (never_short list placed bytes old new can read.left count
-    (list_known text side list placed (λ l p. Stops (captioning_of l p) (IsShort old.left count) put.Done old new) side_is.left accepted is.2))
+    (list_known text side list placed (λ l p. Stops (list_framing l p) (IsShort old.left count) put.Done old new) side_is.left accepted is.2))
 inserted_answered text bytes list placed side later old new (status.Limit limit.Frames) accepted can side_is read is =
     absurd (never_refused text list placed side later old new (status.Limit limit.Frames) side_is.left accepted is)
 inserted_answered text bytes list placed side later old new (status.Limit limit.Cues) accepted can side_is read is =

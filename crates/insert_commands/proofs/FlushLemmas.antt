@@ -8,7 +8,7 @@ use Rattle.cdp_packets.specs.Packets.{Packet as Frame}
 use Rattle.text_output.specs.Gathered.{Flushes, GathersText, held_of}
 use Rattle.text_output.specs.declared.gathered.Gathered.{Gathered}
 use Rattle.words_reading.proofs.WayLemmas.{all_put, way_flushed, way_unwritten}
-use Rattle.inserted_words.specs.Captioning.{Captioning}
+use Rattle.programmes.specs.Framing.{Framing}
 use Rattle.insert_commands.specs.InsertAnswer.{PutsInserted}
 use Rattle.insert_commands.specs.InsertSteps.{GathersInserted, HasJudged, HasPut, HasStopped, StopsBy, StopsFor, put_of}
 use Rattle.insert_commands.specs.OpenPackets.{open_bytes}
@@ -17,7 +17,7 @@ use Rattle.insert_commands.specs.declared.inserting.Stop.{Stop}
 use Rattle.insert_commands.specs.declared.inserting.Stop.TheVariants as stop
 
 -- what is held is put
-pub inserted_flushed : (list : Captioning) (frames : List Frame) (file : List ℕ) (start a b : Option (List ℕ)) (held : List ℕ)
+pub inserted_flushed : (list : Framing) (frames : List Frame) (file : List ℕ) (start a b : Option (List ℕ)) (held : List ℕ)
     → GathersInserted list frames file put.Done start a held → Appends a b held → GathersInserted list frames file put.Done start b []
 inserted_flushed list frames file start a b held had next = record {
   text = had.text;
@@ -27,7 +27,7 @@ inserted_flushed list frames file start a b held had next = record {
 }
 
 -- a put of it fails
-pub inserted_unwritten : (list : Captioning) (frames : List Frame) (file : List ℕ) (start a b : Option (List ℕ)) (held kept : List ℕ)
+pub inserted_unwritten : (list : Framing) (frames : List Frame) (file : List ℕ) (start a b : Option (List ℕ)) (held kept : List ℕ)
     → GathersInserted list frames file put.Done start a held → Puts a b put.Failed held → GathersInserted list frames file put.Failed start b kept
 inserted_unwritten list frames file start a b held kept had failed = record {
   text = had.text;
@@ -41,19 +41,19 @@ gathered_put : (start now : Option (List ℕ)) (all : List ℕ) (answer : Put) �
 gathered_put start now all put.Done way = all_put start now [] all way refl
 gathered_put start now all put.Failed failed = failed
 
-pub inserted_put : (list : Captioning) (frames : List Frame) (file : List ℕ) (answer : Put) (start now : Option (List ℕ))
+pub inserted_put : (list : Framing) (frames : List Frame) (file : List ℕ) (answer : Put) (start now : Option (List ℕ))
     → GathersInserted list frames file answer start now [] → PutsInserted list frames file answer start now
 inserted_put list frames file answer start now had =
     record { text = had.text; inserted = had.inserted; rates = had.rates; output = gathered_put start now had.text answer had.way }
 
-pub was_put : (list : Captioning) (start now : Option (List ℕ)) (bytes : List ℕ) (inserting : Inserting) (had : HasPut list start now bytes inserting)
+pub was_put : (list : Framing) (start now : Option (List ℕ)) (bytes : List ℕ) (inserting : Inserting) (had : HasPut list start now bytes inserting)
     → PutsInserted list had.judged.frames had.judged.file put.Done start now
 was_put list start now bytes inserting had =
     inserted_put list had.judged.frames had.judged.file put.Done start now
     (subst (GathersInserted list had.judged.frames had.judged.file put.Done start now) had.none_held had.judged.gathers)
 
 -- what stands for the packets of bytes without an offence is put
-pub judged_flushed : (list : Captioning) (start a b : Option (List ℕ)) (bytes : List ℕ) (inserting : Inserting) (kept : Gathered)
+pub judged_flushed : (list : Framing) (start a b : Option (List ℕ)) (bytes : List ℕ) (inserting : Inserting) (kept : Gathered)
     → HasJudged list start a bytes inserting → Flushes a b (held_of inserting.gathered) (held_of kept) put.Done
     → HasPut list start b bytes (record { packets = inserting.packets; captions = inserting.captions; gathered = kept })
 judged_flushed list start a b bytes inserting kept had (next, none) = record {
@@ -70,7 +70,7 @@ judged_flushed list start a b bytes inserting kept had (next, none) = record {
 }
 
 -- or that fails
-pub judged_failed : (list : Captioning) (start a b : Option (List ℕ)) (bytes : List ℕ) (inserting : Inserting)
+pub judged_failed : (list : Framing) (start a b : Option (List ℕ)) (bytes : List ℕ) (inserting : Inserting)
     → HasJudged list start a bytes inserting → Puts a b put.Failed (held_of inserting.gathered) → HasStopped list start b bytes [] stop.Unwritten
 judged_failed list start a b bytes inserting had failed = record {
   frames = had.frames;
@@ -83,7 +83,7 @@ judged_failed list start a b bytes inserting had failed = record {
 }
 
 -- a stop for another cause, or with something else put or held
-stopped_with : (list : Captioning) (start a b : Option (List ℕ)) (bytes held kept : List ℕ) (why other : Stop) (had : HasStopped list start a bytes held why)
+stopped_with : (list : Framing) (start a b : Option (List ℕ)) (bytes held kept : List ℕ) (why other : Stop) (had : HasStopped list start a bytes held why)
     → StopsFor other list had.frames had.file had.behind had.unjudged → GathersInserted list had.frames had.file (put_of other) start b kept
     → HasStopped list start b bytes kept other
 stopped_with list start a b bytes held kept why other had cause gathers = record {
@@ -97,11 +97,11 @@ stopped_with list start a b bytes held kept why other had cause gathers = record
 }
 
 -- nothing is said of what is held behind a put that failed
-still_failed : (list : Captioning) (frames : List Frame) (file : List ℕ) (start now : Option (List ℕ)) (held kept : List ℕ)
+still_failed : (list : Framing) (frames : List Frame) (file : List ℕ) (start now : Option (List ℕ)) (held kept : List ℕ)
     → GathersInserted list frames file put.Failed start now held → GathersInserted list frames file put.Failed start now kept
 still_failed list frames file start now held kept had = record { text = had.text; inserted = had.inserted; rates = had.rates; way = had.way }
 
-pub unwritten_kept : (list : Captioning) (start a : Option (List ℕ)) (bytes held kept : List ℕ) → HasStopped list start a bytes held stop.Unwritten
+pub unwritten_kept : (list : Framing) (start a : Option (List ℕ)) (bytes held kept : List ℕ) → HasStopped list start a bytes held stop.Unwritten
     → HasStopped list start a bytes kept stop.Unwritten
 unwritten_kept list start a bytes held kept had =
     stopped_with list start a a bytes held kept stop.Unwritten stop.Unwritten had tt (still_failed list had.frames had.file start a held kept had.gathers)
@@ -113,13 +113,13 @@ put_before_stop (stop.Refused refusal) other = refl
 put_before_stop (stop.Found finding) other = refl
 put_before_stop stop.Packet other = refl
 
-gathered_before : (list : Captioning) (start now : Option (List ℕ)) (bytes held : List ℕ) (why : Stop) → why ≢ stop.Unwritten
+gathered_before : (list : Framing) (start now : Option (List ℕ)) (bytes held : List ℕ) (why : Stop) → why ≢ stop.Unwritten
     → (had : HasStopped list start now bytes held why) → GathersInserted list had.frames had.file put.Done start now held
 gathered_before list start now bytes held why other had =
     subst (λ p. GathersInserted list had.frames had.file p start now held) (put_before_stop why other) had.gathers
 
 -- what stands for the packets before a stop is put
-pub stopped_flushed : (list : Captioning) (start a b : Option (List ℕ)) (bytes held : List ℕ) (why : Stop) → why ≢ stop.Unwritten
+pub stopped_flushed : (list : Framing) (start a b : Option (List ℕ)) (bytes held : List ℕ) (why : Stop) → why ≢ stop.Unwritten
     → HasStopped list start a bytes held why → Appends a b held → HasStopped list start b bytes [] why
 stopped_flushed list start a b bytes held why other had next =
     stopped_with list start a b bytes held [] why why had had.cause
@@ -127,7 +127,7 @@ stopped_flushed list start a b bytes held why other had next =
     (inserted_flushed list had.frames had.file start a b held (gathered_before list start a bytes held why other had) next))
 
 -- or that fails
-pub stopped_failed : (list : Captioning) (start a b : Option (List ℕ)) (bytes held : List ℕ) (why : Stop) → why ≢ stop.Unwritten
+pub stopped_failed : (list : Framing) (start a b : Option (List ℕ)) (bytes held : List ℕ) (why : Stop) → why ≢ stop.Unwritten
     → HasStopped list start a bytes held why → Puts a b put.Failed held → HasStopped list start b bytes [] stop.Unwritten
 stopped_failed list start a b bytes held why other had failed =
     stopped_with list start a b bytes held [] why stop.Unwritten had tt

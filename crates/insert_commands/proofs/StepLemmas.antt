@@ -28,9 +28,11 @@ use Rattle.insert_commands.proofs.FlushLemmas.{inserted_unwritten}
 use Rattle.insert_commands.specs.InsertSteps.{GathersInserted, HasJudged, HasLastFrame, HasStopped, Replaces, StopsBy}
 use Rattle.inserted_words.specs.InsertedFile.{BringsFrame, IsForeign, carried_words}
 use Rattle.inserted_words.specs.InsertedFile.AreInserted.{caption, foreign}
-use Rattle.inserted_words.specs.Captioning.{Captioning, captions_of}
+use Rattle.programmes.specs.Framing.{Framing}
+use Rattle.inserted_words.specs.Captions.{captions_of}
 use Rattle.insert_commands.specs.ListCaptions.{GivesCaptions}
 use Rattle.insert_commands.specs.OpenPackets.{EndsCaption, EndsForeign, HasRead, IsEndedAs, MayFollow, NoPacketEnds, ReadsFront, RefusesWord, open_bytes}
+use Rattle.frame_scheduler.specs.declared.frames.Plan.{Plan}
 use Rattle.insert_commands.specs.declared.captions.Captions.{Captions}
 use Rattle.insert_commands.specs.declared.inserting.Inserting.{Inserting}
 use Rattle.insert_commands.specs.declared.inserting.Stop.{Stop}
@@ -67,7 +69,7 @@ rest_parted : (before bytes : List ℕ) (used : ℕ) → before ++ bytes ≡ (be
 rest_parted before bytes used =
     ap (λ l. before ++ l) (sym (take-append-drop used bytes)) ∙ sym (append_assoc before (take used bytes) (drop used bytes))
 
-module _ (list : Captioning) (start now : Option (List ℕ)) (before bytes : List ℕ) (old : Inserting) (had : HasJudged list start now before old) where
+module _ (list : Framing) (start now : Option (List ℕ)) (before bytes : List ℕ) (old : Inserting) (had : HasJudged list start now before old) where
   -- a word was refused
   pub step_refused : (refusal : Refusal) → RefusesWord had.file (open_bytes old.packets ++ bytes) refusal
       → HasStopped list start now (before ++ bytes) (held_of old.gathered) (stop.Refused refusal)
@@ -177,7 +179,7 @@ module _ (list : Captioning) (start now : Option (List ℕ)) (before bytes : Lis
     }
 
     -- the run stopped at the frame
-    pub step_stopped : (captions : Captions) (words : List ℕ) (why : Stop) (is : EndsCaption had.frames had.file (open_bytes mid) mid)
+    pub step_stopped : (captions : Captions Plan) (words : List ℕ) (why : Stop) (is : EndsCaption had.frames had.file (open_bytes mid) mid)
         → Replaces list (length had.frames) is.frame captions words (Err why) → HasStopped list start now (before ++ bytes) (held_of old.gathered) why
     unfolding brings
     step_stopped captions words (stop.Refused refusal) is replaces = absurd replaces

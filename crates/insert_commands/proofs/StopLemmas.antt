@@ -24,7 +24,8 @@ use Rattle.insert_commands.proofs.FlushLemmas.{inserted_put, was_put}
 use Rattle.insert_commands.specs.InsertAnswer.{Cause, PutsInserted, Stops}
 use Rattle.insert_commands.specs.InsertSteps.{CountsBy, EndsAs, HasPut, HasStopped, InsertsWords, StopCause, stop_status}
 use Rattle.inserted_words.specs.InsertedFile.AreInserted.{nothing}
-use Rattle.inserted_words.specs.Captioning.{Captioning, captions_of}
+use Rattle.programmes.specs.Framing.{Framing}
+use Rattle.inserted_words.specs.Captions.{captions_of}
 use Rattle.insert_commands.specs.ListCaptions.{GivesCaptions}
 use Rattle.insert_commands.specs.OpenPackets.{HasRead, MayFollow, NoPacketEnds, OffendsBehind, open_bytes}
 use Rattle.insert_commands.specs.declared.inserting.Inserting.{Inserting}
@@ -44,14 +45,14 @@ pub record IsUnderway (first left start0 now : Option (List ℕ)) (begun inserti
   pub taken : List ℕ
   pub consumed : Consumes first left taken
   pub within : length taken + room ≡ words_limit
-  pub judged : (list : Captioning) (start : Option (List ℕ)) → HasPut list start start0 [] begun → HasPut list start now taken inserting
+  pub judged : (list : Framing) (start : Option (List ℕ)) → HasPut list start start0 [] begun → HasPut list start now taken inserting
 
 pub underway_begun : (first start : Option (List ℕ)) (inserting : Inserting) → IsUnderway first first start start inserting inserting words_limit
 underway_begun first start inserting =
     record { taken = []; consumed = nothing_taken first; within = refl; judged = λ list begins had. had }
 
 -- what stands against the run, where the bytes judged are all that was taken
-judged_stops : (list : Captioning) (Why : Cause) (first left after start now : Option (List ℕ)) (reads later writes still : ℕ) (inserting : Inserting) (taken : List ℕ) (room : ℕ)
+judged_stops : (list : Framing) (Why : Cause) (first left after start now : Option (List ℕ)) (reads later writes still : ℕ) (inserting : Inserting) (taken : List ℕ) (room : ℕ)
     (had : HasPut list start now taken inserting) → Consumes first left taken → length taken + room ≡ words_limit → Keeps left after
     → Why list had.judged.frames had.judged.file (open_bytes inserting.packets) []
     → Stops list Why put.Done (ends first reads start writes) (ends after later now still)
@@ -69,7 +70,7 @@ judged_stops list Why first left after start now reads later writes still insert
     }
 
 -- the input failed
-pub take_failed : (list : Captioning) (first left after start now : Option (List ℕ)) (reads later writes still : ℕ) (inserting : Inserting) (taken : List ℕ) (room : ℕ)
+pub take_failed : (list : Framing) (first left after start now : Option (List ℕ)) (reads later writes still : ℕ) (inserting : Inserting) (taken : List ℕ) (room : ℕ)
     → HasPut list start now taken inserting → Consumes first left taken → length taken + room ≡ words_limit → Keeps left after
     → InsertsWords list (ends first reads start writes) (ends after later now still) status.ReadFault
 take_failed list first left after start now reads later writes still inserting taken room had consumed within keeps =
@@ -80,7 +81,7 @@ all_is : (first : Option (List ℕ)) (taken bytes : List ℕ) → taken ≡ byte
 all_is first taken bytes same all = subst (λ t. IfSome first (λ b. b ≡ t)) same all
 
 -- the input ended
-pub words_ended : (list : Captioning) (first left after start now : Option (List ℕ)) (reads later writes still : ℕ) (inserting : Inserting) (taken : List ℕ) (room : ℕ) (answer : Status)
+pub words_ended : (list : Framing) (first left after start now : Option (List ℕ)) (reads later writes still : ℕ) (inserting : Inserting) (taken : List ℕ) (room : ℕ) (answer : Status)
     (had : HasPut list start now taken inserting) → Consumes first left taken → length taken + room ≡ words_limit → IsAtEnd left × Keeps left after
     → EndsAs list had.judged.frames had.judged.file (open_bytes inserting.packets) answer
     → InsertsWords list (ends first reads start writes) (ends after later now still) answer
@@ -138,7 +139,7 @@ offence_fits refusal file behind rest room stands within =
     omega (arith, within, whole, length-append had.before (had.high ∷ had.low ∷ had.rest), ap length stands.before)
 
 -- what a stop in bytes makes of the run
-stopped_so : (list : Captioning) (Why : Cause) (answer : Put) (first after start then : Option (List ℕ)) (reads later writes still : ℕ) (bytes rest : List ℕ) (why : Stop)
+stopped_so : (list : Framing) (Why : Cause) (answer : Put) (first after start then : Option (List ℕ)) (reads later writes still : ℕ) (bytes rest : List ℕ) (why : Stop)
     (had : HasStopped list start then bytes [] why) → Consumes first after (bytes ++ rest) → length bytes ≤ words_limit
     → Why list had.frames had.file had.behind (had.unjudged ++ rest) → PutsInserted list had.frames had.file answer start then
     → Stops list Why answer (ends first reads start writes) (ends after later then still)
@@ -155,7 +156,7 @@ stopped_so list Why answer first after start then reads later writes still bytes
       cause = cause;
     }
 
-stop_answered : (list : Captioning) (first after start then : Option (List ℕ)) (reads later writes still : ℕ) (bytes rest : List ℕ) (why : Stop)
+stop_answered : (list : Framing) (first after start then : Option (List ℕ)) (reads later writes still : ℕ) (bytes rest : List ℕ) (why : Stop)
     → HasStopped list start then bytes [] why → Consumes first after (bytes ++ rest) → length bytes ≤ words_limit
     → InsertsWords list (ends first reads start writes) (ends after later then still) (stop_status why)
 stop_answered list first after start then reads later writes still bytes rest (stop.Refused refusal) had consumed within =
@@ -179,7 +180,7 @@ stop_answered list first after start then reads later writes still bytes rest st
     (record { last = cause.last; brings = cause.brings; unoffending = cause.unoffending; rate_is = cause.rate_is; new = cause.new; inserted = cause.inserted; long = cause.long })
     (inserted_put list had.frames had.file put.Done start then had.gathers)
 
-pub piece_stopped : (list : Captioning) (first left after start then : Option (List ℕ)) (reads later writes still : ℕ) (taken : List ℕ) (room count : ℕ) (buffer piece rest : List ℕ) (why : Stop)
+pub piece_stopped : (list : Framing) (first left after start then : Option (List ℕ)) (reads later writes still : ℕ) (taken : List ℕ) (room count : ℕ) (buffer piece rest : List ℕ) (why : Stop)
     → Consumes first left taken → length taken + room ≡ words_limit → Consumes left after (take count buffer) → IsPiece room count buffer piece rest
     → HasStopped list start then (taken ++ piece) [] why
     → InsertsWords list (ends first reads start writes) (ends after later then still) (stop_status why)
@@ -198,7 +199,7 @@ stop_counts old new (stop.Found finding) steady same = record { reads = steady; 
 stop_counts old new stop.Packet steady same = record { reads = steady; writes = same }
 
 -- a byte stands past the limit
-pub piece_passes : (list : Captioning) (first left after start then : Option (List ℕ)) (reads later writes still : ℕ) (inserting : Inserting) (taken : List ℕ) (room count : ℕ) (buffer piece rest : List ℕ)
+pub piece_passes : (list : Framing) (first left after start then : Option (List ℕ)) (reads later writes still : ℕ) (inserting : Inserting) (taken : List ℕ) (room count : ℕ) (buffer piece rest : List ℕ)
     → Consumes first left taken → length taken + room ≡ words_limit → Consumes left after (take count buffer) → IsPiece room count buffer piece rest
     → room < count → HasPut list start then (taken ++ piece) inserting
     → InsertsWords list (ends first reads start writes) (ends after later then still) (status.Limit limit.Bytes)
@@ -221,7 +222,7 @@ piece_passes list first left after start then reads later writes still inserting
 -- a piece was judged
 pub piece_judged : (first left after start0 before then : Option (List ℕ)) (begun old new : Inserting) (room count : ℕ) (buffer piece rest : List ℕ)
     → (on : IsUnderway first left start0 before begun old room) → Consumes left after (take count buffer) → IsPiece room count buffer piece rest → count ≤ room
-    → ((list : Captioning) (start : Option (List ℕ)) → HasPut list start before on.taken old → HasPut list start then (on.taken ++ piece) new)
+    → ((list : Framing) (start : Option (List ℕ)) → HasPut list start before on.taken old → HasPut list start then (on.taken ++ piece) new)
     → IsUnderway first after start0 then begun new (room - count)
 piece_judged first left after start0 before then begun old new room count buffer piece rest on next is fits judges =
     let size = is.size in
@@ -234,7 +235,7 @@ piece_judged first left after start0 before then begun old new room count buffer
     }
 
 -- nothing was judged
-pub judged_nothing : (list : Captioning) (start : Option (List ℕ)) (inserting : Inserting) → HasRead [] [] inserting.packets → open_bytes inserting.packets ≡ []
+pub judged_nothing : (list : Framing) (start : Option (List ℕ)) (inserting : Inserting) → HasRead [] [] inserting.packets → open_bytes inserting.packets ≡ []
     → held_of inserting.gathered ≡ [] → GivesCaptions list 0 inserting.captions → HasPut list start start [] inserting
 judged_nothing list start inserting read none held gives = record {
   judged = record {

@@ -25,17 +25,19 @@ use Rattle.words_reading.specs.Causes.{IsWholeInput, words_limit}
 use Rattle.words_files.specs.Offences.{IsCutShort, IsFileUnder, IsUnoffending}
 use Rattle.services_files.specs.CaptionChannel.{caption_channel}
 use Rattle.inserted_words.specs.InsertedFile.{AreInserted, BringsFrame}
-use Rattle.inserted_words.specs.Captioning.{Captioning, captioning_of, captions_of}
+use Rattle.cue_list_commands.specs.Output.{list_framing}
+use Rattle.programmes.specs.Framing.{Framing}
+use Rattle.inserted_words.specs.Captions.{captions_of}
 use Rattle.inserted_words.specs.Soundness.{HaveRate, IsSoundInsertion}
 use Rattle.insert_commands.specs.OpenPackets.{NoPacketEnds, OffendsBehind}
 
 -- what may hold where a run stops: of the captions, of the frames whose packets were put, of their file, of the bytes judged behind
 -- it, and of those taken and not judged
 abbrev pub Cause : Type 1
-Cause = Captioning → List Frame → List ℕ → List ℕ → List ℕ → Type 0
+Cause = Framing → List Frame → List ℕ → List ℕ → List ℕ → Type 0
 
 -- what was put of these frames' file, or a front of it where a put failed
-pub record PutsInserted (list : Captioning) (frames : List Frame) (file : List ℕ) (answer : Put) (old new : Option (List ℕ)) : Type 0 where
+pub record PutsInserted (list : Framing) (frames : List Frame) (file : List ℕ) (answer : Put) (old new : Option (List ℕ)) : Type 0 where
   pub text : List ℕ
   pub inserted : AreInserted (captions_of list) frames file text
   pub rates : HaveRate list.rate frames
@@ -43,7 +45,7 @@ pub record PutsInserted (list : Captioning) (frames : List Frame) (file : List �
 
 -- a run judged bytes, within the limit, and took more behind them; the packets of a file with which they begin were put, with the
 -- captions; and it stopped for this cause
-pub record Stops (list : Captioning) (Why : Cause) (answer : Put) (old new : Ends) : Type 0 where
+pub record Stops (list : Framing) (Why : Cause) (answer : Put) (old new : Ends) : Type 0 where
   pub frames : List Frame
   pub file : List ℕ
   pub behind : List ℕ
@@ -60,12 +62,12 @@ pub record IsAllPut (left : Option (List ℕ)) (frames : List Frame) (file behin
   pub all : behind ≡ []
 
 -- so it is, and there are as many frames as the list has, at least
-pub record HasFrames (left : Option (List ℕ)) (list : Captioning) (frames : List Frame) (file behind unjudged : List ℕ) : Type 0 where
+pub record HasFrames (left : Option (List ℕ)) (list : Framing) (frames : List Frame) (file behind unjudged : List ℕ) : Type 0 where
   pub whole : IsAllPut left frames file behind unjudged
   pub enough : list.count ≤ length frames
 
 -- so it is, and there are so many frames, fewer than the list has
-pub record IsShort (left : Option (List ℕ)) (count : ℕ) (list : Captioning) (frames : List Frame) (file behind unjudged : List ℕ) : Type 0 where
+pub record IsShort (left : Option (List ℕ)) (count : ℕ) (list : Framing) (frames : List Frame) (file behind unjudged : List ℕ) : Type 0 where
   pub whole : IsAllPut left frames file behind unjudged
   pub count_is : count ≡ length frames
   pub few : length frames < list.count
@@ -76,12 +78,12 @@ pub record HasNoOffenceBehind (file behind : List ℕ) : Type 0 where
   pub none : NoPacketEnds file behind
 
 -- all bytes taken were judged
-pub record IsJudged (list : Captioning) (frames : List Frame) (file behind unjudged : List ℕ) : Type 0 where
+pub record IsJudged (list : Framing) (frames : List Frame) (file behind unjudged : List ℕ) : Type 0 where
   pub all : unjudged ≡ []
   pub no_offence : HasNoOffenceBehind file behind
 
 -- there is a byte past the limit
-pub record PassesLimitBehind (list : Captioning) (frames : List Frame) (file behind unjudged : List ℕ) : Type 0 where
+pub record PassesLimitBehind (list : Framing) (frames : List Frame) (file behind unjudged : List ℕ) : Type 0 where
   pub full : length (file ++ behind) ≡ words_limit
   pub past : 0 < length unjudged
   pub no_offence : HasNoOffenceBehind file behind
@@ -103,7 +105,7 @@ IsRefusedBehind refusal left list frames file behind unjudged =
     IsOffence refusal file behind unjudged ⊎ IsInputCutShort refusal left file behind unjudged
 
 -- the frame behind the file has another rate than the list, and no word offends
-pub record IsFoundAt (finding : Finding) (list : Captioning) (frames : List Frame) (file behind unjudged : List ℕ) : Type 0 where
+pub record IsFoundAt (finding : Finding) (list : Framing) (frames : List Frame) (file behind unjudged : List ℕ) : Type 0 where
   pub last : Frame
   pub brings : BringsFrame last behind
   pub unoffending : IsUnoffending caption_channel (file ++ behind)
@@ -111,7 +113,7 @@ pub record IsFoundAt (finding : Finding) (list : Captioning) (frames : List Fram
   pub is : finding ≡ record { frame = length frames; kind = kind.WrongRate list.rate last.rate }
 
 -- it has the list's rate, and its packet would have more than 255 bytes with the list's captions; no word offends
-pub record ExceedsPacketLength (list : Captioning) (frames : List Frame) (file behind unjudged : List ℕ) : Type 0 where
+pub record ExceedsPacketLength (list : Framing) (frames : List Frame) (file behind unjudged : List ℕ) : Type 0 where
   pub last : Frame
   pub brings : BringsFrame last behind
   pub unoffending : IsUnoffending caption_channel (file ++ behind)
@@ -126,7 +128,7 @@ IsAnyhow list frames file behind unjudged = Unit {0}
 
 -- the whole input was put with the captions of a list, and what was put is sound: a words file that shows what the list authors
 pub record InsertsWhole (list : Listing) (placed : Placement) (old new : Ends) : Type 0 where
-  pub stops : Stops (captioning_of list placed) (HasFrames old.left) put.Done old new
+  pub stops : Stops (list_framing list placed) (HasFrames old.left) put.Done old new
   pub sound : IsSoundInsertion list placed stops.frames stops.puts.text
 
 -- the side file is an accepted cue list, of which in its placement this holds
@@ -135,7 +137,7 @@ OfAcceptedList side Holds = IfSome side.left (λ text. (list : Listing) × (plac
 
 -- so it is, and the words stopped the run for this cause
 abbrev pub StopsInserting : Cause → Put → SideEnds → Ends → Ends → Type 0
-StopsInserting Why answer side old new = OfAcceptedList side (λ list placed. Stops (captioning_of list placed) Why answer old new)
+StopsInserting Why answer side old new = OfAcceptedList side (λ list placed. Stops (list_framing list placed) Why answer old new)
 
 -- no count of faults rose, and the words stopped the run for this cause
 abbrev pub JudgesWords : Cause → SideEnds → SideEnds → Ends → Ends → Type 0

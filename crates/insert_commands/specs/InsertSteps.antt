@@ -21,10 +21,12 @@ use Rattle.services_files.specs.CaptionChannel.{caption_channel}
 use Rattle.text_output.specs.Gathered.{Gathers, GathersText, held_of}
 use Rattle.insert_commands.specs.InsertAnswer.{Cause, ExceedsPacketLength, HasFrames, IsAnyhow, IsFoundAt, IsJudged, IsRefusedBehind, IsShort, PassesLimitBehind, Stops}
 use Rattle.inserted_words.specs.InsertedFile.{AreInserted, carried_words}
-use Rattle.inserted_words.specs.Captioning.{Captioning, captions_of}
+use Rattle.programmes.specs.Framing.{Framing}
+use Rattle.inserted_words.specs.Captions.{captions_of}
 use Rattle.inserted_words.specs.Soundness.{HaveRate}
 use Rattle.insert_commands.specs.ListCaptions.{GivesCaptions}
 use Rattle.insert_commands.specs.OpenPackets.{HasRead, OffendsBehind, open_bytes}
+use Rattle.frame_scheduler.specs.declared.frames.Plan.{Plan}
 use Rattle.insert_commands.specs.declared.captions.Captions.{Captions}
 use Rattle.insert_commands.specs.declared.inserting.Inserting.{Inserting}
 use Rattle.insert_commands.specs.declared.inserting.Stop.{Stop}
@@ -42,7 +44,7 @@ pub record HasLastFrame (receiver : Receiver) : Type 0 where
   pub short : length (concat last.sections) ≤ 244
 
 -- what stands for the packet of a frame
-abbrev pub Replaces : Captioning → ℕ → Frame → Captions → List ℕ → Result (Unit {0}) Stop → Type 0
+abbrev pub Replaces : Framing → ℕ → Frame → Captions Plan → List ℕ → Result (Unit {0}) Stop → Type 0
 Replaces list number last captions words (Ok done) =
     (last.rate ≡ list.rate) × GivesCaptions list (number + 1) captions
     × ((new : Frame) × IsInserted (captions_of list number) last new × (packet_length new ≤ 255) × (words ≡ carried_words new))
@@ -59,14 +61,14 @@ GathersWords old new before after words (Err why) = (why ≡ stop.Unwritten) × 
 
 -- what stands for the packets of these frames' file, with the list's captions, was gathered: a front of it was put, and the rest is
 -- held; or a put of it failed
-pub record GathersInserted (list : Captioning) (frames : List Frame) (file : List ℕ) (answer : Put) (old new : Option (List ℕ)) (held : List ℕ) : Type 0 where
+pub record GathersInserted (list : Framing) (frames : List Frame) (file : List ℕ) (answer : Put) (old new : Option (List ℕ)) (held : List ℕ) : Type 0 where
   pub text : List ℕ
   pub inserted : AreInserted (captions_of list) frames file text
   pub rates : HaveRate list.rate frames
   pub way : GathersText old new held text answer
 
 -- these bytes were judged, none of whose words offends, and what stands for the packets of their file was gathered
-pub record HasJudged (list : Captioning) (start now : Option (List ℕ)) (bytes : List ℕ) (inserting : Inserting) : Type 0 where
+pub record HasJudged (list : Framing) (start now : Option (List ℕ)) (bytes : List ℕ) (inserting : Inserting) : Type 0 where
   pub frames : List Frame
   pub file : List ℕ
   pub spelled : bytes ≡ file ++ open_bytes inserting.packets
@@ -75,7 +77,7 @@ pub record HasJudged (list : Captioning) (start now : Option (List ℕ)) (bytes 
   pub gathers : GathersInserted list frames file put.Done start now (held_of inserting.gathered)
 
 -- and all of that was put
-pub record HasPut (list : Captioning) (start now : Option (List ℕ)) (bytes : List ℕ) (inserting : Inserting) : Type 0 where
+pub record HasPut (list : Framing) (start now : Option (List ℕ)) (bytes : List ℕ) (inserting : Inserting) : Type 0 where
   pub judged : HasJudged list start now bytes inserting
   pub none_held : held_of inserting.gathered ≡ []
 
@@ -92,7 +94,7 @@ put_of stop.Unwritten = put.Failed
 put_of _ = put.Done
 
 -- it stopped in these bytes, and what stands for the packets before was gathered
-pub record HasStopped (list : Captioning) (start now : Option (List ℕ)) (bytes held : List ℕ) (why : Stop) : Type 0 where
+pub record HasStopped (list : Framing) (start now : Option (List ℕ)) (bytes held : List ℕ) (why : Stop) : Type 0 where
   pub frames : List Frame
   pub file : List ℕ
   pub behind : List ℕ
@@ -102,17 +104,17 @@ pub record HasStopped (list : Captioning) (start now : Option (List ℕ)) (bytes
   pub cause : StopsFor why list frames file behind unjudged
 
 -- what is made of the next of these bytes, behind those before
-abbrev pub StepJudges : Captioning → Option (List ℕ) → Option (List ℕ) → List ℕ → List ℕ → Inserting → Result ℕ Stop → Type 0
+abbrev pub StepJudges : Framing → Option (List ℕ) → Option (List ℕ) → List ℕ → List ℕ → Inserting → Result ℕ Stop → Type 0
 StepJudges list start now before bytes inserting (Ok used) = HasJudged list start now (before ++ take used bytes) inserting
 StepJudges list start now before bytes inserting (Err why) = HasStopped list start now (before ++ bytes) (held_of inserting.gathered) why
 
 -- and of all of them
-abbrev pub Judges : Captioning → Option (List ℕ) → Option (List ℕ) → List ℕ → Inserting → Result (Unit {0}) Stop → Type 0
+abbrev pub Judges : Framing → Option (List ℕ) → Option (List ℕ) → List ℕ → Inserting → Result (Unit {0}) Stop → Type 0
 Judges list start now bytes inserting (Ok done) = HasJudged list start now bytes inserting
 Judges list start now bytes inserting (Err why) = HasStopped list start now bytes (held_of inserting.gathered) why
 
 -- the same where all that was gathered is put as well
-abbrev pub JudgesAndPuts : Captioning → Option (List ℕ) → Option (List ℕ) → List ℕ → Inserting → Result (Unit {0}) Stop → Type 0
+abbrev pub JudgesAndPuts : Framing → Option (List ℕ) → Option (List ℕ) → List ℕ → Inserting → Result (Unit {0}) Stop → Type 0
 JudgesAndPuts list start now bytes inserting (Ok done) = HasPut list start now bytes inserting
 JudgesAndPuts list start now bytes inserting (Err why) = HasStopped list start now bytes [] why
 
@@ -133,7 +135,7 @@ stop_status (stop.Found finding) = status.Differs finding
 stop_status stop.Packet = status.Limit limit.Packet
 
 -- how a run ends where the bytes end behind a file
-abbrev pub EndsAs : Captioning → List Frame → List ℕ → List ℕ → Status → Type 0
+abbrev pub EndsAs : Framing → List Frame → List ℕ → List ℕ → Status → Type 0
 EndsAs list frames file behind status.Ok = (behind ≡ []) × (list.count ≤ length frames)
 EndsAs list frames file behind (status.Short count) = (behind ≡ []) × (count ≡ length frames) × (length frames < list.count)
 EndsAs list frames file behind (status.Malformed (Byte place) why) = IsCutShort caption_channel (file ++ behind) (record { place = place; why = why })
@@ -152,7 +154,7 @@ CountsBy old new (status.Short count) = IsSteady old new
 CountsBy old new _ = ⊥
 
 -- how words are answered in which these captions are inserted
-abbrev pub InsertsWords : Captioning → Ends → Ends → Status → Type 0
+abbrev pub InsertsWords : Framing → Ends → Ends → Status → Type 0
 InsertsWords list old new status.Ok = Stops list (HasFrames old.left) put.Done old new
 InsertsWords list old new status.ReadFault = Stops list IsJudged put.Done old new
 InsertsWords list old new status.WriteFault = Stops list IsAnyhow put.Failed old new

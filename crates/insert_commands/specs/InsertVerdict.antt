@@ -11,7 +11,8 @@ use Rattle.cue_list_commands.specs.SideEnds.{SideEnds}
 use Rattle.cue_list_commands.specs.SideLists.{IsSideOf}
 use Rattle.cue_lists.specs.Listing.{Listing}
 use Rattle.frame_scheduler.specs.Planned.{Placement}
-use Rattle.inserted_words.specs.Captioning.{captioning_of, captions_of}
+use Rattle.cue_list_commands.specs.Output.{list_framing}
+use Rattle.inserted_words.specs.Captions.{captions_of}
 use Rattle.inserted_words.specs.Soundness.{HaveRate}
 use Rattle.packet_inserter.specs.Insertion.{IsInserted, packet_length}
 use Rattle.words_reading.specs.Causes.{words_limit}
@@ -28,7 +29,7 @@ pub record CanTake (list : Listing) (placed : Placement) (bytes : List ℕ) : Ty
   pub rates : HaveRate list.rate frames
   pub enough : list.frames ≤ length frames
   pub fit : (earlier behind : List Frame) (old new : Frame) → frames ≡ earlier ++ old ∷ behind
-      → IsInserted (captions_of (captioning_of list placed) (length earlier)) old new → packet_length new ≤ 255
+      → IsInserted (captions_of (list_framing list placed) (length earlier)) old new → packet_length new ≤ 255
 
 -- such words are answered Ok, or want of memory
 abbrev pub InsertedIsAnswered : Type 0

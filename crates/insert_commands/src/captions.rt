@@ -1,53 +1,54 @@
 ghost use Rattle.std.specs.Prelude.{◌≡◌, ◌<◌, ◌≤◌, ◌+◌, ℕ, All, MatchBool, length};
-ghost use Rattle.inserted_words.specs.Captioning.{Captioning, captions_of, padded, silent_frame, silent_pair};
-ghost use Rattle.insert_commands.specs.ListCaptions.{GivesCaptions, GivesPlanned, HasCaptions};
+ghost use Rattle.programmes.specs.Framing.{Framing, HasFraming};
+ghost use Rattle.inserted_words.specs.Captions.{captions_of, padded, silent_frame, silent_pair};
+ghost use Rattle.insert_commands.specs.ListCaptions.{GivesFramed, GivesPlanned};
 
 use arrayvec::ArrayVec;
 use cc_base::Rate;
 use cc_data::Triplet;
-use cue_list_commands::Programme;
 use frame_carrier::Carrier;
-use frame_scheduler::{FrameBytes, Plan};
+use frame_scheduler::{FrameBytes, Frames};
 use line21_codes::{Chan, Pair};
 use line21_slots::Cadence;
+use programmes::Programme;
 
 /// The pair that sends nothing.
 const NULL: Pair = Pair { a: 0x80, b: 0x80 };
 
 /// The captions of a programme, frame by frame.
 #[derive(Drop)]
-pub(crate) struct Captions {
+pub(crate) struct Captions<F> {
     rate: Rate,
-    plan: Plan,
-    // Whether the plan's last frame was given.
+    frames: F,
+    // Whether the last of the frames was given.
     over: bool,
     carrier: Carrier,
 }
 
-impl Captions {
+impl<F: Frames + Drop> Captions<F> {
     /// The captions of a programme, from frame 0 on.
-    pub(crate) fn new(programme: Programme) -> Captions
-        ensures { (list : Captioning) → HasCaptions list programme → GivesCaptions list 0 result }
+    pub(crate) fn new(programme: Programme<F>) -> Captions<F>
+        ensures { (list : Framing) → HasFraming F.left F.Gives list programme → GivesFramed F.left F.Gives list 0 result }
     {
         Captions {
             rate: programme.rate,
             carrier: Carrier::new(programme.rate),
-            plan: programme.plan,
+            frames: programme.frames,
             over: false,
         }
     }
 
     /// The frame rate of the programme.
     pub(crate) fn rate(&self) -> Rate
-        ensures { (list : Captioning) (frame : ℕ) → GivesCaptions list frame self.now → result ≡ list.rate }
+        ensures { (list : Framing) (frame : ℕ) → GivesFramed F.left F.Gives list frame self.now → result ≡ list.rate }
     {
         self.rate
     }
 
     /// The triplets of the next frame, which has this number.
     pub(crate) fn next(&mut self, frame: u32) -> ArrayVec<Triplet, 31>
-        ensures gives { (list : Captioning) → GivesCaptions list frame self.old
-            → (result.items ≡ captions_of list frame) × GivesCaptions list (frame + 1) self.new }
+        ensures gives { (list : Framing) → GivesFramed F.left F.Gives list frame self.old
+            → (result.items ≡ captions_of list frame) × GivesFramed F.left F.Gives list (frame + 1) self.new }
         ensures kinds { All (λ t. t.kind < 4) result.items }
         ensures few { length result.items ≤ 31 }
     {
@@ -55,13 +56,13 @@ impl Captions {
         self.carrier.triplets(&bytes)
     }
 
-    /// What the next frame carries: that of the plan, or a frame without captions.
+    /// What the next frame carries: that of the programme, or a frame without captions.
     fn next_frame(&mut self, frame: u32) -> FrameBytes
-        ensures gives { (list : Captioning) → GivesCaptions list frame self.old
-            → (result ≡ padded list frame) × GivesPlanned list frame self.new }
+        ensures gives { (list : Framing) → GivesFramed F.left F.Gives list frame self.old
+            → (result ≡ padded list frame) × GivesPlanned F.left F.Gives list frame self.new }
     {
         if !self.over {
-            if let Some(bytes) = self.plan.next() {
+            if let Some(bytes) = self.frames.next() {
                 return bytes;
             }
             self.over = true;
@@ -71,10 +72,10 @@ impl Captions {
 
     /// Whether the programme has no frame from the next one on.
     pub(crate) fn is_over(&mut self) -> bool
-        ensures { (list : Captioning) (frame : ℕ) → GivesCaptions list frame self.old
+        ensures { (list : Framing) (frame : ℕ) → GivesFramed F.left F.Gives list frame self.old
             → MatchBool result (list.count ≤ frame) (frame < list.count) }
     {
-        self.over || self.plan.next().is_none()
+        self.over || self.frames.next().is_none()
     }
 }
 

@@ -3,7 +3,7 @@ ghost use Rattle.command_base.specs.Ends.{ends};
 ghost use Rattle.cue_list_commands.specs.SideEnds.{side_ends};
 ghost use Rattle.insert_commands.specs.InsertAnswer.{InsertAnswer};
 ghost use Rattle.insert_commands.specs.InsertSteps.{CountsBy, HasPut, InsertsWords};
-ghost use Rattle.inserted_words.specs.Captioning.{Captioning};
+ghost use Rattle.programmes.specs.Framing.{Framing};
 ghost use Rattle.insert_commands.specs.OpenPackets.{MayFollow};
 ghost use Rattle.words_reading.specs.Causes.{words_limit};
 
@@ -44,7 +44,7 @@ pub fn run_insert<M: Source, S: Source, O: Sink>(
 /// put, before the next take.
 fn insert_words<M: Source, O: Sink>(mut inserting: Inserting, input: &mut M, out: &mut O) -> Status
     requires { MayFollow words_limit inserting.packets words_limit }
-    ensures words { (list : Captioning) (start : Option (List ℕ)) → HasPut list start (O.written out.old) [] inserting
+    ensures words { (list : Framing) (start : Option (List ℕ)) → HasPut list start (O.written out.old) [] inserting
         → InsertsWords list (ends (M.left input.old) (M.faults input.old) start (O.faults out.old))
         (ends (M.left input.new) (M.faults input.new) (O.written out.new) (O.faults out.new)) result }
     ensures counts { CountsBy (ends (M.left input.old) (M.faults input.old) (O.written out.old) (O.faults out.old))

@@ -9,8 +9,9 @@ ghost use Rattle.command_base.specs.Ends.{Ends, IsSteady};
 ghost use Rattle.words_reading.specs.Causes.{words_limit};
 ghost use Rattle.text_output.specs.Gathered.{held_of};
 ghost use Rattle.insert_commands.specs.InsertSteps.{CountsBy, EndsAs, GathersWords, HasJudged, HasLastFrame, HasStopped, Judges, JudgesAndPuts, Replaces, StepJudges, StopCause, StopsBy, stop_status};
-ghost use Rattle.inserted_words.specs.Captioning.{Captioning};
-ghost use Rattle.insert_commands.specs.ListCaptions.{GivesCaptions, HasCaptions};
+ghost use Rattle.frame_scheduler.specs.Frames.{GivesFrom, frames_left};
+ghost use Rattle.programmes.specs.Framing.{Framing, HasFraming};
+ghost use Rattle.insert_commands.specs.ListCaptions.{GivesCaptions};
 ghost use Rattle.insert_commands.specs.OpenPackets.{HasRead, MayFollow, open_bytes};
 
 use crate::captions::Captions;
@@ -21,9 +22,10 @@ use cc_base::{LimitOf, Put, Refusal, Sink};
 use cc_receiver::{Ended, Receiver};
 use cdp_packets::WholePacket;
 use command_base::{Place, Status};
-use cue_list_commands::Programme;
 use findings::{Finding, Kind45};
+use frame_scheduler::Plan;
 use packet_inserter::insert;
+use programmes::Programme;
 use std::alloc::{AllocError, Global};
 use text_output::Gathered;
 
@@ -64,18 +66,18 @@ impl Stop {
 #[derive(Drop)]
 pub(crate) struct Inserting {
     packets: Packets,
-    captions: Captions,
+    captions: Captions<Plan>,
     gathered: Gathered,
 }
 
 impl Inserting {
     /// An insertion of a programme's captions that judged nothing.
-    pub(crate) fn new(alloc: Global, programme: Programme) -> Result<Inserting, AllocError>
+    pub(crate) fn new(alloc: Global, programme: Programme<Plan>) -> Result<Inserting, AllocError>
         ensures read { IfOk result (λ inserting. HasRead [] [] inserting.packets) }
         ensures none { IfOk result (λ inserting. open_bytes inserting.packets ≡ []) }
         ensures held { IfOk result (λ inserting. held_of inserting.gathered ≡ []) }
         ensures may { IfOk result (λ inserting. MayFollow words_limit inserting.packets words_limit) }
-        ensures gives { (list : Captioning) → HasCaptions list programme → IfOk result (λ inserting. GivesCaptions list 0 inserting.captions) }
+        ensures gives { (list : Framing) → HasFraming frames_left GivesFrom list programme → IfOk result (λ inserting. GivesCaptions list 0 inserting.captions) }
     {
         Ok(Inserting {
             packets: Packets::new(alloc)?,
@@ -89,7 +91,7 @@ impl Inserting {
     fn step<O: Sink>(&mut self, bytes: &[u8], out: &mut O) -> Result<usize, Stop>
         requires some { 0 < length bytes.now }
         requires may { MayFollow words_limit self.now.packets (length bytes.now) }
-        ensures judges { (list : Captioning) (start : Option (List ℕ)) (before : List ℕ) → HasJudged list start (O.written out.old) before self.old
+        ensures judges { (list : Framing) (start : Option (List ℕ)) (before : List ℕ) → HasJudged list start (O.written out.old) before self.old
             → StepJudges list start (O.written out.new) before bytes.now self.new result }
         ensures cause { StopCause (O.faults out.old) (O.faults out.new) result }
         ensures used { IfOk result (λ used. (0 < used) × (used ≤ length bytes.now)) }
@@ -126,7 +128,7 @@ impl Inserting {
     /// Judges bytes, and gathers what stands for their packets.
     fn feed<O: Sink>(&mut self, bytes: &[u8], out: &mut O) -> Result<(), Stop>
         requires { MayFollow words_limit self.now.packets (length bytes.now) }
-        ensures judges { (list : Captioning) (start : Option (List ℕ)) (before : List ℕ) → HasJudged list start (O.written out.old) before self.old
+        ensures judges { (list : Framing) (start : Option (List ℕ)) (before : List ℕ) → HasJudged list start (O.written out.old) before self.old
             → Judges list start (O.written out.new) (before ++ bytes.now) self.new result }
         ensures cause { StopCause (O.faults out.old) (O.faults out.new) result }
         ensures more { (more : ℕ) → MayFollow words_limit self.old.packets (length bytes.now + more)
@@ -142,7 +144,7 @@ impl Inserting {
     /// Judges bytes, and puts what stands for their packets; where it stops among them, what stands for those before.
     pub(crate) fn judge<O: Sink>(&mut self, bytes: &[u8], out: &mut O) -> Result<(), Stop>
         requires { MayFollow words_limit self.now.packets (length bytes.now) }
-        ensures judges { (list : Captioning) (start : Option (List ℕ)) (before : List ℕ) → HasJudged list start (O.written out.old) before self.old
+        ensures judges { (list : Framing) (start : Option (List ℕ)) (before : List ℕ) → HasJudged list start (O.written out.old) before self.old
             → JudgesAndPuts list start (O.written out.new) (before ++ bytes.now) self.new result }
         ensures cause { StopCause (O.faults out.old) (O.faults out.new) result }
         ensures more { (more : ℕ) → MayFollow words_limit self.old.packets (length bytes.now + more)
@@ -159,7 +161,7 @@ impl Inserting {
 
     /// Puts what stands for the packets before a stop. Gives the stop, or that the output failed.
     fn put_before<O: Sink>(&mut self, stop: Stop, out: &mut O) -> Stop
-        ensures stops { (list : Captioning) (start : Option (List ℕ)) (bytes : List ℕ)
+        ensures stops { (list : Framing) (start : Option (List ℕ)) (bytes : List ℕ)
             → HasStopped list start (O.written out.old) bytes (held_of self.old.gathered) stop
             → HasStopped list start (O.written out.new) bytes [] result }
         ensures cause { (before : ℕ) → StopsBy before (O.faults out.old) stop → StopsBy before (O.faults out.new) result }
@@ -175,7 +177,7 @@ impl Inserting {
 
     /// How the run ends where the bytes end here: Ok where they are a words file with as many frames as the list has, at least.
     pub(crate) fn ending(&mut self) -> Status
-        ensures ends { (list : Captioning) (start now : Option (List ℕ)) (bytes : List ℕ) (had : HasJudged list start now bytes self.old)
+        ensures ends { (list : Framing) (start now : Option (List ℕ)) (bytes : List ℕ) (had : HasJudged list start now bytes self.old)
             → EndsAs list had.frames had.file (open_bytes self.old.packets) result }
         ensures counts { (old new : Ends) → IsSteady old new → CountsBy old new result }
     {
@@ -195,13 +197,13 @@ impl Inserting {
 /// Writes what stands for the packet of the frame of this number, which a receiver received last, into an empty `words`.
 fn replace(
     receiver: &Receiver,
-    captions: &mut Captions,
+    captions: &mut Captions<Plan>,
     frame: u32,
     words: &mut ArrayVec<u8, 524>,
 ) -> Result<(), Stop>
     requires frame { HasLastFrame receiver.now }
     requires empty { words.old.items ≡ [] }
-    ensures replaces { (list : Captioning) (bytes : List ℕ) (earlier : List Frame) (last : Frame) → HasReceived bytes receiver.now
+    ensures replaces { (list : Framing) (bytes : List ℕ) (earlier : List Frame) (last : Frame) → HasReceived bytes receiver.now
         → AreFramesOf caption_channel (earlier ++ last ∷ []) bytes → AreSections last.sections → GivesCaptions list frame captions.old
         → Replaces list frame last captions.new words.new.items result }
     ensures written { IfErr result (λ why. why ≢ stop.Unwritten) }

@@ -5,7 +5,7 @@ use Rattle.frame_carrier.specs.FrameTriplets.{frame_triplets}
 use Rattle.frame_carrier.specs.declared.carrier.Carrier.{Carrier}
 use Rattle.frame_scheduler.specs.Columns.{Columns}
 use Rattle.frame_scheduler.specs.declared.frames.FrameBytes.{FrameBytes}
-use Rattle.inserted_words.specs.Captioning.{padded}
+use Rattle.inserted_words.specs.Captions.{padded}
 use Rattle.insert_commands.proofs.captions.Captions.next.Goals as goal
 
 -- a carrier that has carried a frame of columns is at the next one
@@ -16,7 +16,7 @@ carried_next rate columns frame carrier bytes is at =
     (subst (λ (b : FrameBytes). IsAt rate (frame + 1) (packets_before columns frame + packet_count b.blocks.items) carrier) is at)
 
 pub returns-clause-gives : goal.returns-clause-gives
-returns-clause-gives c list had =
+returns-clause-gives g c list had =
     let given = c.next_frame-bytes.ensures.gives list had in
     let frame : ℕ = c.args.frame in
     let before = packets_before (padded list) frame in (
@@ -25,7 +25,7 @@ returns-clause-gives c list had =
       record {
         rate_is = given.1.rate_is;
         planned = given.1.planned;
-        left = given.1.left;
+        has_left = given.1.has_left;
         none_left = λ over. let most = given.1.none_left over in omega (arith, most);
         carrier = carried_next list.rate (padded list) frame _ _ given.0 (c.triplets.ensures.next list.rate frame before given.1.carrier);
       },
