@@ -55,7 +55,8 @@ run,0,0,plain,- Ready?
 run,1,0,plain,- Ready.
 """),
     ("tags", "a.srt",
-     srt(("02,000", "04,000", '{\\an8}<font color="#ffff00">Is <i>this</i> <b>it</b>?</font>'), ("05,000", "07,000", 'A <u>b</u> "<i>c d</i>" e')), "", """\
+     srt(("02,000", "04,000", '{\\an8}<font color="#ffff00">Is <i>this</i> <b>it</b>?</font>'),
+         ("05,000", "07,000", 'A <u>b</u> "<i>c d</i>" e')), "", """\
 pop,CC1,0,60,120
 run,15,8,white,Is
 run,15,11,white-i,this\x20
@@ -161,14 +162,16 @@ run,0,0,plain,B
     ("no subtitle", "a.vtt", "WEBVTT\n", "", ""),
 ]
 
-DENSE = srt(("02,000", "02,400", "one"), ("02,500", "02,600", ""), ("02,700", "04,000", "The council voted late on Monday to reopen the north bridges."))
+DENSE = srt(("02,000", "02,400", "one"), ("02,500", "02,600", ""),
+            ("02,700", "04,000", "The council voted late on Monday to reopen the north bridges."))
 # Files without a list: name, file, text, status, what is told.
 REFUSED = [
     ("too dense", "a.srt", DENSE, 8, """\
 subtitle 2 at 00:00:02.500 “”: no text is read
 no room: subtitle 3 at 00:00:02.700 “The council voted late on Monday to reopen the north bridges.”
 """),
-    ("an end before its begin", "a.srt", srt(("02,000", "04,000", "A"), ("06,000", "05,000", "B")), 7, "rule Order: subtitle 2 at 00:00:06.000 “B”\n"),
+    ("an end before its begin", "a.srt", srt(("02,000", "04,000", "A"), ("06,000", "05,000", "B")), 7,
+     "rule Order: subtitle 2 at 00:00:06.000 “B”\n"),
     ("shorter than two frames", "a.vtt", "WEBVTT\n\nlast\n00:02.000 --> 00:02.040\nA\n", 7, "rule Clash: subtitle last at 00:00:02.000 “A”\n"),
     ("more rows than a window has", "a.srt", srt(("05,000", "06,000", "A\n" * 13)), 6,
      "malformed at subtitle 1 at 00:00:05.000 “" + " / ".join("A" * 13) + "”, record 17 field 11: Field\n"),

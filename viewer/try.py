@@ -3,8 +3,8 @@
 
 The lists of examples/ are built and decoded by PROGRAM, and viewer/windows.txt has a window of each kind. Each text is opened in the page, by
 the file field or by a drop; at each frame that changes, and the one before, the cells that are drawn are compared with the text, which is read
-here a second time. Positions, colours, keys and the line of time are compared with values worked out by hand. PICTURE is written from the
-realistic programme.
+here a second time. Positions, colours, keys, the line of time, the list of captions, time codes, playing and what takes room are compared with
+values worked out by hand. PICTURE is written from the realistic programme.
 """
 
 import base64
@@ -24,7 +24,7 @@ CHROMIUM = shutil.which("chromium") or shutil.which("chromium-browser") or shuti
 # What the page is told to do, and what it answers as a JSON text.
 SCRIPT = """
 const TEXTS = %s;
-const wait = () => new Promise(done => setTimeout(done, 5));
+const wait = (milliseconds = 5) => new Promise(done => setTimeout(done, milliseconds));
 
 function dropped(file) {
   const transfer = new DataTransfer();
@@ -65,36 +65,105 @@ function drawn() {
     const windows = [...figure.querySelectorAll(".window")];
     return [figure.dataset.name, figure.className === "channel" ? cellsIn(safe, safe) : windows.map(it => {
       const style = getComputedStyle(it);
-      return { id: +it.dataset.id, box: boxIn(safe, it), fill: style.backgroundColor, before: +style.zIndex, cells: cellsIn(safe, it) };
+      return { id: +it.dataset.id, box: boxIn(safe, it), fill: style.backgroundColor, before: +style.zIndex, cells: cellsIn(safe, it),
+        label: it.querySelector(".label").textContent };
     })];
   }));
 }
 
-function key(name) {
-  dispatchEvent(new KeyboardEvent("keydown", { key: name, cancelable: true }));
+function key(name, target = window) {
+  target.dispatchEvent(new KeyboardEvent("keydown", { key: name, cancelable: true, bubbles: true }));
   return +page.frame.value;
+}
+
+function choose(rate, drop) {
+  page.rate.value = rate;
+  page.rate.dispatchEvent(new Event("change"));
+  page.drop.checked = drop;
+  page.drop.dispatchEvent(new Event("change"));
+}
+
+function goTo(frame) {
+  page.frame.value = frame;
+  page.frame.dispatchEvent(new Event("input"));
+}
+
+/** A table cell's texts: its own, and the small one below. */
+function textsOf(cell) {
+  return cell.firstChild ? [...cell.childNodes].map(it => it.textContent) : [""];
+}
+
+/** The rows of the list of captions, each with its channel or service, and whether it is marked. */
+function listed() {
+  return [...page.captions.querySelectorAll("tr")].map(row =>
+    [row.closest("table").dataset.name, ...[...row.cells].flatMap(textsOf), row.className]);
+}
+
+/** The time codes of frames, each at a rate. */
+function codes(wanted) {
+  return wanted.map(([rate, drop, frame]) => {
+    choose(rate, drop);
+    goTo(frame);
+    return page.code.textContent;
+  });
+}
+
+/** The frames that a click on each row leads to, and the key Enter on each. */
+function clicks() {
+  const rows = [...page.captions.querySelectorAll("tr")];
+  return [rows.map(row => (row.click(), +page.frame.value)), rows.map(row => key("Enter", row))];
+}
+
+/** What is taken while a second plays from a frame on, in frames and by the clock, and whether it has stopped. */
+async function playFrom(frame, how) {
+  goTo(frame);
+  const since = performance.now();
+  how();
+  await wait(1000);
+  const played = [+page.frame.value - frame, (performance.now() - since) / 1000, page.play.textContent];
+  if (page.play.textContent === "Stop") how();
+  const stopped = +page.frame.value;
+  await wait(200);
+  return [...played, +page.frame.value === stopped];
+}
+
+async function plays(wanted) {
+  const answers = [];
+  for (const [rate, frame, by] of wanted) {
+    choose(rate, true);
+    answers.push(await playFrom(frame, () => (by === "Space" ? key(" ") : page.play.click())));
+  }
+  key(" ", page.rate);
+  return [...answers, page.play.textContent];
+}
+
+/** Which parts of the page take room. */
+function rooms() {
+  return ["controls", "play", "dropping", "fault", "time", "shown", "captions"].filter(it => page[it].offsetHeight > 0);
 }
 
 /** The columns of the line of time that are marked. */
 function marks() {
   const canvas = document.querySelector("canvas");
+  if (!canvas.width) return { width: 0, columns: [] };
   const row = canvas.getContext("2d").getImageData(0, 15, canvas.width, 1).data;
   return { width: canvas.width, columns: [...Array(canvas.width).keys()].filter(it => row[4 * it + 3]) };
 }
 
-async function tryText({ text, frames, drop, keys }) {
+async function tryText({ text, frames, drop, keys, more }) {
   await give(text, drop);
   const at = [];
   for (const frame of frames) {
-    page.frame.value = frame;
-    page.frame.dispatchEvent(new Event("input"));
+    goTo(frame);
     at.push(drawn());
   }
-  return { fault: page.fault.textContent, place: page.place.textContent, at, keys: keys.map(key), marks: marks() };
+  const answer = { fault: page.fault.textContent, at, keys: keys.map(it => key(it)), marks: marks(), list: listed() };
+  if (more) answer.more = await { codes, clicks, plays }[more[0]](more[1]);
+  return { ...answer, rooms: rooms() };
 }
 
 addEventListener("load", async () => {
-  const answers = [];
+  const answers = [{ rooms: rooms() }];
   for (const text of TEXTS) answers.push(await tryText(text));
   const answer = document.createElement("pre");
   answer.id = "answer";
@@ -203,6 +272,7 @@ def check_service(where, drawn, windows):
         left, top, width, height = window["box"]
         assert window["fill"] == css_of_digits(head[head.index("fill") + 1]), f"{where}: {window['fill']}"
         assert window["before"] == 8 - int(head[head.index("pri") + 1]), where
+        assert window["label"] == f"{where.split()[-1]} {head[0]}", f"{where}: {window['label']}"
         # A character takes 5 by 5 of the grid of 75 lines by 210 columns.
         assert close((width, height), (cols * 5 / 210, rows * 5 / 75)), f"{where}: {window['box']}"
         box_of = lambda row, col: (left + col * 5 / 210, top + row * 5 / 75, 5 / 210, 5 / 75)
@@ -297,12 +367,99 @@ KEYS = [
 ]
 
 
+# The captions of examples at 29.97 with drop frame: channel or service, window, first time and frame, time and frame of the end, text.
+CAPTIONS = {
+    "programme.csv": [
+        ["CC1", "00:00:03;00", "90", "00:00:08;00", "240", "THE COUNCIL VOTED LATE ON MONDAY / TO REOPEN THE NORTH BRIDGES."],
+        ["CC1", "00:00:10;00", "300", "00:00:15;00", "450", "ENGINEERS FOUND NO NEW CRACKS / (applause)"],
+        ["CC3", "00:00:16;26", "506", "00:00:18;07", "547", ">> GOOD EVENING"],
+        ["CC3", "00:00:18;07", "547", "00:00:26;20", "800", ">> GOOD EVENING / AND WELCOME."],
+    ],
+    "windows.csv": [
+        ["S1", "W0", "00:00:02;00", "60", "00:00:08;00", "240", ">> GOOD EVENING. THE BRIDGES / ARE open AGAIN."],
+        ["S1", "W1", "00:00:04;00", "120", "00:00:16;00", "480", "ROAD REPORT / NORTH AND SOUTH"],
+        ["S1", "W2", "00:00:08;00", "240", "00:00:13;10", "400", "♪ (traffic passes) ♪"],
+        ["S1", "W0", "00:00:13;10", "400", "00:00:18;00", "540", "ENGINEERS: “NO NEW CRACKS / IN ANY PIER…”"],
+        ["S2", "W0", "00:00:02;00", "60", "00:00:08;00", "240", ">> BUENAS NOCHES. ¿LISTOS / PARA CRUZAR?"],
+        ["S2", "W1", "00:00:08;00", "240", "00:00:13;10", "400", "♪ (pasa el tráfico) ♪"],
+        ["S2", "W0", "00:00:14;00", "420", "00:00:18;20", "560", "LOS INGENIEROS: NINGUNA / GRIETA NUEVA."],
+    ],
+}
+# Two letters a frame, one of them an extended character over the letter before it; then letters that are shown as a whole. The text ends open.
+WRITTEN = (
+    "frame 10\nCC2 1\n15 0 white A\nframe 11\nCC2 1\n15 0 white Á\nframe 13\nCC2 1\n15 0 white Á B\nframe 60\nCC2 0\n"
+    "frame 100\nCC2 1\n15 0 white 3\nframe 130\nCC2 1\n15 0 white 2\nframe 160\nCC2 1\n15 0 white 2 GO\n"
+).encode()
+CAPTIONS_WRITTEN = [
+    ["CC2", "00:00:00;10", "10", "00:00:02;00", "60", "Á B"], ["CC2", "00:00:03;10", "100", "00:00:04;10", "130", "3"],
+    ["CC2", "00:00:04;10", "130", "00:00:05;10", "160", "2"], ["CC2", "00:00:05;10", "160", "", "2 GO"],
+]
+
+
+def check_list(name, answer, wanted):
+    rows = [row[:-1] for row in answer["list"]]
+    assert rows == wanted, f"{name}: {rows}"
+
+
+# Frames with their time codes: rate, drop frame, frame, code.
+CODES = [
+    ("29.97", True, 0, "00:00:00;00"), ("29.97", True, 1799, "00:00:59;29"), ("29.97", True, 1800, "00:01:00;02"),
+    ("29.97", True, 17981, "00:09:59;29"), ("29.97", True, 17982, "00:10:00;00"), ("29.97", True, 107892, "01:00:00;00"),
+    ("29.97", True, 2589407, "23:59:59;29"), ("29.97", True, 2589408, "00:00:00;00"), ("29.97", False, 1800, "00:01:00:00"),
+    ("29.97", False, 107892, "00:59:56:12"), ("30", True, 1800, "00:01:00:00"), ("59.94", True, 3599, "00:00:59;59"),
+    ("59.94", True, 3600, "00:01:00;04"), ("59.94", True, 35964, "00:10:00;00"), ("59.94", False, 3600, "00:01:00:00"),
+    ("60", True, 215999, "00:59:59:59"), ("23.976", True, 1440, "00:01:00:00"), ("24", True, 86399, "00:59:59:23"),
+    ("25", True, 90000, "01:00:00:00"), ("50", True, 49, "00:00:00:49"),
+]
+# A rate, the frame to play from, and how; and the frames that a second has.
+PLAYS = [("29.97", 0, "Space", 30000 / 1001), ("59.94", 100, "Space", 60000 / 1001), ("25", 200, "the button", 25)]
+
+
+def check_plays(answer):
+    *played, on_the_list = answer
+    for (rate, frame, by, second), (frames, seconds, label, has_stopped) in zip(PLAYS, played, strict=True):
+        assert abs(frames - seconds * second) < 3 and label == "Stop" and has_stopped, f"{rate} from {frame} by {by}: {frames} frames in {seconds} s"
+    assert on_the_list == "Play", "the space key plays where it opens the list of rates"
+    print(f"{len(PLAYS)} rates play in real time: {', '.join(f'{it[0]} frames in {it[1]:.2f} s' for it in played)}")
+
+
+# What takes room, with texts that have little; at 30 frames a second there is no drop frame.
+ROOMS = [
+    (b"", []), (b"frames 30\n", ["controls", "play", "dropping"]), (b"frame 07\n", ["fault"]),
+    (b"frame 7\nCC1 1\n15 0 white HI\n", ["controls", "dropping", "time", "shown", "captions"]),
+    (HELLO, ["controls", "play", "dropping", "time", "shown", "captions"]),
+]
+ROOMS_AT_30 = ["controls", "play", "time", "shown", "captions"]
+
+
 def words_of(program, name):
     return subprocess.run([program, "build"], input=(EXAMPLES / name).read_bytes(), capture_output=True, check=True).stdout
 
 
 def decoded(program, name):
     return subprocess.run([program, "decode"], input=words_of(program, name), capture_output=True, check=True).stdout
+
+
+def check_hand(texts, ask):
+    """What a hand does: keys, clicks, a rate, playing; and what takes room."""
+    _, keys, written, codes, clicks, plays = show([
+        ask(HELLO, [29], True, [it for it, _ in KEYS]), ask(WRITTEN, [131]), ask(b"frames 3000000\n", more=["codes", CODES]),
+        ask(texts["windows.csv"], more=["clicks", None]), ask(b"frames 1000\n", more=["plays", PLAYS]),
+    ])
+    assert keys["keys"] == [it for _, it in KEYS], keys["keys"]
+    print(f"{len(KEYS)} keys lead to their frames")
+    check_list("written", written, CAPTIONS_WRITTEN)
+    assert [row[-1] for row in written["list"]] == ["", "", "now", ""], written["list"]
+    print(f"{sum(map(len, CAPTIONS.values())) + len(CAPTIONS_WRITTEN)} captions are listed with their times, and the one that is seen is marked")
+    assert codes["more"] == [it[3] for it in CODES], codes["more"]
+    print(f"{len(CODES)} frames have their time codes")
+    assert clicks["more"] == [[int(row[3]) for row in CAPTIONS["windows.csv"]]] * 2, clicks["more"]
+    print(f"{len(clicks['more'][0])} rows lead to their frames, by a click and by a key")
+    check_plays(plays["more"])
+    *rooms, at_30 = show([*(ask(text) for text, _ in ROOMS), ask(HELLO, more=["codes", [["30", True, 0]]])])
+    wanted = [[], *(it for _, it in ROOMS), ROOMS_AT_30]
+    assert [it["rooms"] for it in (*rooms, at_30)] == wanted, [it["rooms"] for it in (*rooms, at_30)]
+    print(f"{len(wanted)} pages: what they don't use takes no room")
 
 
 def main():
@@ -313,21 +470,20 @@ def main():
     texts = {it.name: decoded(program, it.name) for it in sorted(EXAMPLES.glob("*.csv"))}
     shown = subprocess.run([program, "show", "12"], input=words_of(program, "hello.csv"), capture_output=True, check=True).stdout
     texts |= {"windows.txt": (HERE / "windows.txt").read_bytes(), "show 12": shown}
-    given = [{"text": text, "frames": frames_of(text), "drop": place % 2 == 1, "keys": []} for place, text in enumerate(texts.values())]
-    given += [{"text": text, "frames": [], "drop": False, "keys": []} for text, _, _ in UNREAD]
-    given += [{"text": HELLO, "frames": [29], "drop": True, "keys": [it for it, _ in KEYS]}]
-    *answers, keys = show(given)
-    for (name, text), answer in zip(texts.items(), answers):
+    ask = lambda text, frames=(), drop=False, keys=(), more=None: {"text": text, "frames": frames, "drop": drop, "keys": keys, "more": more}
+    _, *answers = show([ask(text, frames_of(text), place % 2 == 1) for place, text in enumerate(texts.values())])
+    for (name, text), answer in zip(texts.items(), answers, strict=True):
         check_text(name, text, answer)
         if name == "windows.txt":
             check_corners(answer)
-    check_unread(answers[len(texts):])
-    assert keys["keys"] == [it for _, it in KEYS], keys["keys"]
-    print(f"{len(KEYS)} keys lead to their frames")
+        if name in CAPTIONS:
+            check_list(name, answer, CAPTIONS[name])
+    check_unread(show([ask(text) for text, _, _ in UNREAD])[1:])
+    check_hand(texts, ask)
     if len(sys.argv) > 2:
-        frame = 'open(Uint8Array.from(atob("%s"), it => it.charCodeAt(0))); go(%d);'
-        name, number = ("programme.csv", 555)
-        run_page(frame % (base64.b64encode(texts[name]).decode(), number), f"--screenshot={pathlib.Path(sys.argv[2]).resolve()}", "--window-size=1280,1000")
+        text = base64.b64encode(texts["programme.csv"]).decode()
+        script = f'open(Uint8Array.from(atob("{text}"), it => it.charCodeAt(0))); go(555);'
+        run_page(script, f"--screenshot={pathlib.Path(sys.argv[2]).resolve()}", "--window-size=1280,1000")
 
 
 if __name__ == "__main__":
