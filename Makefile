@@ -7,6 +7,8 @@
 # make uninstall      takes away what install puts
 # make faults   makes memory, reads and writes fail at each place of short runs, and compares how each run ends (needs strace)
 # make check-install  tries both in a folder of its own: the files, the man page, each shell's completions
+# make deb      builds the Debian package of what install puts: build/ccsuite_VERSION_ARCHITECTURE.deb
+# make check-deb      tries it in a folder of its own: lintian, what is installed, the program, and that nothing is left when it goes
 # make try      runs the commands of the manual, the cookbook and the man page and compares what they print; tries subtitles.py, and the viewer in a Chromium
 
 PREFIX ?= /usr/local
@@ -17,6 +19,9 @@ ROOT = $(DESTDIR)$(PREFIX)
 ZSH = $(ROOT)/share/zsh/$(if $(filter /usr,$(PREFIX)),vendor-completions,site-functions)
 DOCUMENTS = README.md docs/MANUAL.md docs/COOKBOOK.md docs/PROVED.md docs/GLOSSARY.md
 EXAMPLES = $(wildcard examples/*)
+# the version that the man page and the package tell
+VERSION := $(shell sed -n '1s/.*(\(.*\)).*/\1/p' package/changes)
+DEB = build/ccsuite_$(VERSION)_$(shell dpkg --print-architecture).deb
 # how many crates are proved side by side
 JOBS ?= $(shell nproc)
 LIST := examples/hello.csv
@@ -62,7 +67,8 @@ bench: build/ccsuite
 
 install: $(PROGRAM)
 	install -D -m 755 $(PROGRAM) $(ROOT)/bin/ccsuite
-	install -D -m 644 man/ccsuite.1 $(ROOT)/share/man/man1/ccsuite.1
+	install -d $(ROOT)/share/man/man1
+	sed 's/@VERSION@/$(VERSION)/' man/ccsuite.1 | install -m 644 /dev/stdin $(ROOT)/share/man/man1/ccsuite.1
 	install -D -m 644 completions/ccsuite.bash $(ROOT)/share/bash-completion/completions/ccsuite
 	install -D -m 644 completions/_ccsuite $(ZSH)/_ccsuite
 	install -D -m 644 completions/ccsuite.fish $(ROOT)/share/fish/vendor_completions.d/ccsuite.fish
@@ -79,6 +85,13 @@ uninstall:
 check-install: $(PROGRAM)
 	man/check_install.sh $(PROGRAM)
 
+deb: $(PROGRAM)
+	@mkdir -p build
+	package/build.sh $(PROGRAM) $(DEB)
+
+check-deb: deb
+	package/try.sh $(PROGRAM) $(DEB)
+
 faults: $(PROGRAM)
 	faults/try.py $(PROGRAM)
 
@@ -90,4 +103,4 @@ try: $(PROGRAM)
 clean:
 	rm -rf build crates/*/out
 
-.PHONY: all demo check bench install uninstall check-install faults try clean
+.PHONY: all demo check bench install uninstall check-install deb check-deb faults try clean

@@ -5,6 +5,7 @@
 # there completes the commands. And nothing is left behind.
 program=$(realpath "$1")
 cd "$(dirname "$0")/.." || exit 1
+version=$(sed -n '1s/.*(\(.*\)).*/\1/p' package/changes)
 folder=$(mktemp -d)
 trap 'rm -rf "$folder"' EXIT
 
@@ -25,7 +26,7 @@ wanted() {
     echo "644 share/bash-completion/completions/ccsuite"
     echo "644 share/ccsuite/viewer.html"
     for document in COOKBOOK GLOSSARY MANUAL PROVED README; do echo "644 share/doc/ccsuite/$document.md"; done
-    for example in $(ls examples); do echo "644 share/doc/ccsuite/examples/$example"; done
+    for example in examples/*; do echo "644 share/doc/ccsuite/$example"; done
     echo "644 share/fish/vendor_completions.d/ccsuite.fish"
     echo "644 share/man/man1/ccsuite.1"
     echo "644 share/zsh/$1/_ccsuite"
@@ -36,6 +37,7 @@ check() {
     run_make install "$prefix"
     diff <(wanted "$2" | sort -k 2) <(cd "$root" && find . -type f -printf '%m %P\n' | sort -k 2) || fail "PREFIX=$prefix: other files"
     [ "$("$root/bin/ccsuite" pairs < "$root/share/doc/ccsuite/examples/hello.csv" | head -1)" = '9420 8080' ] || fail 'the program does not run'
+    grep -qx "version $version," "$root/share/man/man1/ccsuite.1" || fail 'the man page tells another version'
     if command -v mandoc > /dev/null; then
         mandoc -T lint "$root/share/man/man1/ccsuite.1" || fail 'the man page has faults'
     else
