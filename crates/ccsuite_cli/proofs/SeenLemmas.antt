@@ -1,9 +1,8 @@
 -- A receiver that is fed the words that were built shows what was authored.
-use Rattle.std.proofs.Common.{◌≡◌, ◌∙◌, ◌++◌, ◌∷◌, ◌+◌, add-one, ap, append_assoc, arith, length, length-append, subst, suc, sym, take, ℕ, List}
+use Rattle.std.proofs.Common.{◌≡◌, ◌∙◌, ◌++◌, ◌∷◌, ◌+◌, ◌<◌, add-one, ap, append_assoc, arith, length, length-append, subst, suc, sym, take, ℕ, List}
 use Rattle.std.proofs.lemmas.List.{take-append-le, take_all}
 use Rattle.cdp_packets.specs.Packets.{Packet as Frame}
 use Rattle.frame_scheduler.specs.Planned.{Placement, columns_of}
-use Rattle.line21_codes.specs.declared.channels.FieldNumber.TheVariants.{One, Two}
 use Rattle.line21_codes.specs.declared.channels.Chan.TheVariants.{Cc1, Cc2, Cc3, Cc4}
 use Rattle.words_files.specs.Offences.{IsFileUnder}
 use Rattle.words_files.specs.FramesOf.{AreFramesOf}
@@ -26,8 +25,8 @@ use Rattle.ccsuite_cli.specs.Seen.{BuiltWordsAreSeen}
 use Rattle.ccsuite_cli.proofs.FilledLemmas.{none_filled}
 
 -- what is built is a words file whose caption channel is whole
-pub built_file : (list : Listing) (placed : Placement) → IsSoundWords list placed → IsFileUnder caption_channel (built_packets list placed) (build_output list placed)
-built_file list placed sound = record { file = sound.carried.file; accepted = sound.whole }
+pub built_file : (list : Listing) (placed : Placement) → IsSoundWords (record { list = list; placed = placed }) → IsFileUnder caption_channel (built_packets list placed) (build_output list placed)
+built_file list placed sound = record { file = sound.frames.carried.file; accepted = sound.frames.whole }
 
 -- so many frames, and others behind them
 pub front_is : (packets frames behind : List Frame) (n : ℕ) → packets ≡ frames ++ behind → n ≡ length frames → take n packets ≡ frames
@@ -36,7 +35,7 @@ front_is packets frames behind n is count =
 
 pub built_seen : BuiltWordsAreSeen
 built_seen bytes list placed words rest receiver frame accepted output had counted =
-    let sound = sound_words bytes list placed accepted in
+    let sound = sound_words bytes (record { list = list; placed = placed }) accepted in
     let packets = built_packets list placed in
     let gotten = got_frames words had.bytes_are in
     let frames = gotten.frames in
@@ -47,25 +46,24 @@ built_seen bytes list placed words rest receiver frame accepted output had count
     let front : take (suc frame) packets ≡ frames = front_is packets frames behind (suc frame) grown (sym (add-one frame) ∙ count) in
     let size : length packets ≡ length frames + length behind = ap length grown ∙ length-append frames behind in
     let all : length packets ≡ list.frames = packets_count list.rate (columns_of list placed) 0 list.frames in
-    let one = sound.shown frame (omega arith) One in
-    let two = sound.shown frame (omega arith) Two in
+    let below : frame < list.frames = omega arith in
     let cc1 = shown_received frames words receiver Cc1 had gotten.are ∙ ap (λ (f : List Frame). received_grids f Cc1) (sym front) in
     let cc2 = shown_received frames words receiver Cc2 had gotten.are ∙ ap (λ (f : List Frame). received_grids f Cc2) (sym front) in
     let cc3 = shown_received frames words receiver Cc3 had gotten.are ∙ ap (λ (f : List Frame). received_grids f Cc3) (sym front) in
     let cc4 = shown_received frames words receiver Cc4 had gotten.are ∙ ap (λ (f : List Frame). received_grids f Cc4) (sym front) in
     record {
-      cc1 = λ settled. cc1 ∙ one.first settled;
-      cc2 = cc2 ∙ one.second;
-      cc3 = λ settled. cc3 ∙ two.first settled;
-      cc4 = cc4 ∙ two.second;
+      cc1 = λ settled. cc1 ∙ sound.shows.has_grids frame below Cc1 settled;
+      cc2 = cc2 ∙ sound.shows.has_grids frame below Cc2 tt;
+      cc3 = λ settled. cc3 ∙ sound.shows.has_grids frame below Cc3 settled;
+      cc4 = cc4 ∙ sound.shows.has_grids frame below Cc4 tt;
       windows = λ service id numbered low.
           windows_received frames words receiver service id had gotten.are numbered
           ∙ ap (λ (f : List Frame). received_windows f service id) (sym front)
-          ∙ sound.windows frame (omega arith) service id numbered low;
+          ∙ sound.shows.has_windows frame below service id numbered low;
       unfilled = λ service earlier last later numbered are.
           let same : packets ≡ earlier ++ last ∷ (later ++ behind) =
           grown ∙ ap (λ (f : List Frame). f ++ behind) (frames_of_once caption_channel frames (earlier ++ last ∷ later) words gotten.are are)
           ∙ append_assoc earlier (last ∷ later) behind in
           none_filled service earlier last (later ++ behind)
-          (subst (λ (f : List Frame). AllFill 127 start (service_events service f)) same (sound.fills service numbered));
+          (subst (λ (f : List Frame). AllFill 127 start (service_events service f)) same (sound.frames.fills service numbered));
     }

@@ -1,6 +1,7 @@
 ghost use Rattle.std.specs.Prelude.{◌≡◌, ◌<◌, ◌≤◌, ◌+◌, ℕ, All, MatchBool, length};
 ghost use Rattle.programmes.specs.Framing.{Framing, HasFraming};
-ghost use Rattle.inserted_words.specs.Captions.{captions_of, padded, silent_frame, silent_pair};
+ghost use Rattle.frame_scheduler.specs.End.{silent_frame, silent_pair};
+ghost use Rattle.inserted_words.specs.Captions.{captions_of, padded};
 ghost use Rattle.insert_commands.specs.ListCaptions.{GivesFramed, GivesPlanned};
 
 use arrayvec::ArrayVec;
