@@ -1,0 +1,7 @@
+pub mod PairLemmas
+pub mod HeardLemmas
+pub mod FoldLemmas
+pub mod TakeLemmas
+pub mod StillLemmas
+pub mod LawLemmas
+pub mod CutLemmas

@@ -1,0 +1,29 @@
+-- The pairs that stand for those of a field, with one frame more.
+use Rattle.std.proofs.Common.{◌≡◌, ◌∙◌, List, [], ◌∷◌, ◌++◌, map, reverse, sym, ap, append_assoc, append-nil}
+use Rattle.std.proofs.lemmas.Grind.{flat_map-append}
+use Rattle.std.proofs.lemmas.List.{map-append, reverse-append}
+use Rattle.line21_codes.specs.declared.channels.FieldNumber.{FieldNumber}
+use Rattle.line21_codes.specs.declared.pairs.Pair.{Pair}
+use Rattle.cdp_packets.specs.Packets.{Packet as Frame}
+use Rattle.cdp_packets.specs.PacketTriplets.{packet_triplets}
+use Rattle.words_files.specs.Received.{field_pairs, received_pairs}
+use Rattle.cc_conceal.specs.Concealed.{concealed}
+
+-- pairs behind pairs, the newest first
+pub turned_more : (ps qs before : List Pair) → reverse (map concealed (ps ++ qs)) ++ before ≡ reverse (map concealed qs) ++ (reverse (map concealed ps) ++ before)
+turned_more ps qs before =
+    ap (λ (l : List Pair). reverse l ++ before) (map-append concealed ps qs)
+    ∙ ap (λ (l : List Pair). l ++ before) (reverse-append (map concealed ps) (map concealed qs))
+    ∙ append_assoc (reverse (map concealed qs)) (reverse (map concealed ps)) before
+
+-- one frame more
+pub frames_more : (in_field : FieldNumber) (frames : List Frame) (last : Frame)
+    → reverse (map concealed (received_pairs in_field (frames ++ last ∷ [])))
+    ≡ reverse (map concealed (field_pairs in_field (packet_triplets last))) ++ reverse (map concealed (received_pairs in_field frames))
+frames_more in_field frames last =
+    sym (append-nil (reverse (map concealed (received_pairs in_field (frames ++ last ∷ [])))))
+    ∙ ap (λ (l : List Pair). reverse (map concealed l) ++ [])
+    (flat_map-append (λ (frame : Frame). field_pairs in_field (packet_triplets frame)) frames (last ∷ [])
+    ∙ ap (λ (l : List Pair). received_pairs in_field frames ++ l) (append-nil (field_pairs in_field (packet_triplets last))))
+    ∙ turned_more (received_pairs in_field frames) (field_pairs in_field (packet_triplets last)) []
+    ∙ ap (λ (l : List Pair). reverse (map concealed (field_pairs in_field (packet_triplets last))) ++ l) (append-nil (reverse (map concealed (received_pairs in_field frames))))

@@ -1,0 +1,7 @@
+use Rattle.std.proofs.Common.{◌≡◌, ◌∙◌, Option, ap, ℕ}
+use Rattle.dtvcc_windows.specs.Showing.{ShownWindow}
+use Rattle.cc_conceal.proofs.grids.ConcealerGrids.is_used.Goals as goal
+
+pub returns : goal.returns
+returns c = λ seen shows unused id.
+    ap (λ (a : ℕ → ℕ → Option ShownWindow). a c.args.service id) shows.seen_are ∙ c.is_used.ensures shows.frames shows.conceals unused id

@@ -1,0 +1,13 @@
+use Rattle.std.proofs.Common.{◌≡◌, ◌∙◌, None, Some, Option, ap, ℕ, sym}
+use Rattle.std.specs.Prelude.{MatchOption}
+use Rattle.dtvcc_windows.specs.Objects.{window_of}
+use Rattle.dtvcc_windows.specs.Showing.{ShownWindow, shown}
+use Rattle.dtvcc_windows.specs.Windows.{WindowState}
+use Rattle.cc_receiver.proofs.GridLemmas.{seen_of_window}
+use Rattle.cc_conceal.proofs.grids.ConcealerGrids.window.Goals as goal
+
+pub returns-clause-seen : goal.returns-clause-seen
+returns-clause-seen c = λ seen shows.
+    seen_of_window _ (λ window. window_of window.now) c.window.result _ (seen c.args.service c.args.id)
+    (ap (λ (a : ℕ → ℕ → Option ShownWindow). a c.args.service c.args.id) shows.seen_are)
+    (c.window.ensures.window shows.frames shows.conceals)
