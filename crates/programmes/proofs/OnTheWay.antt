@@ -1,5 +1,5 @@
 -- A text on its way to a sink: what is put, and what is to come.
-use Rattle.std.proofs.Common.{◌≡◌, ◌∙◌, ◌++◌, ap, append_assoc, append-nil, refl, sym, ℕ, List, [], Option}
+use Rattle.std.proofs.Common.{◌≡◌, ◌∙◌, ◌++◌, append_assoc, refl, ℕ, List, Option}
 use Rattle.std.specs.Io.KnownBytes.{Appends}
 use Rattle.std.proofs.KnownBytes.{Appends-trans}
 use Rattle.cc_base.specs.Streams.{Puts}

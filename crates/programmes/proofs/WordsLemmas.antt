@@ -1,5 +1,5 @@
 -- The words of a programme's frames on their way to a sink, a packet a put.
-use Rattle.std.proofs.Common.{◌≡◌, ◌∙◌, ◌++◌, ◌+◌, ap, refl, suc, sym, subst, ℕ, List, Option, add-one}
+use Rattle.std.proofs.Common.{◌≡◌, ◌∙◌, ◌++◌, ◌+◌, ap, suc, sym, subst, ℕ, List, Option, add-one}
 use Rattle.cc_base.specs.Streams.{Puts}
 use Rattle.cc_base.specs.declared.rate.Rate.{Rate}
 use Rattle.cc_base.specs.declared.streams.Put.TheVariants as put

@@ -1,5 +1,5 @@
 -- The service blocks of a placed cue list are fit, and each service is told at most its share.
-use Rattle.std.proofs.Common.{◌≡◌, ◌∙◌, ◌++◌, ◌∷◌, ◌<◌, ◌≤◌, ℕ, suc, List, Option, Some, None, length, map, ap, arith, refl, sym}
+use Rattle.std.proofs.Common.{◌≡◌, ◌∙◌, ◌++◌, ◌∷◌, ◌≤◌, ℕ, suc, List, Option, Some, None, length, map, ap, arith, refl, sym}
 use Rattle.std.specs.Prelude.{unwrap_or}
 use Rattle.cue_lists.specs.Listing.{IsFormed, Listing, share_of}
 use Rattle.cue_lists.specs.Rules.{IsRuled}

@@ -1,5 +1,5 @@
 -- Columns with the same service blocks and other pairs.
-use Rattle.std.specs.Prelude.{◌≡◌, ℕ, ◌<◌, ◌≤◌, is_some, suc, take}
+use Rattle.std.specs.Prelude.{◌≡◌, ℕ, ◌≤◌, is_some, take}
 use Rattle.cc_base.specs.declared.rate.Rate.{Rate}
 use Rattle.cc_receiver.specs.ReceivedServices.{received_windows}
 use Rattle.frame_carrier.specs.Carrying.{column_packets}

@@ -1,5 +1,4 @@
 -- The service blocks of a cue list whose services are placed.
-use Rattle.std.specs.Prelude.{ℕ}
 use Rattle.cue_lists.specs.Listing.{IsFormed, Listing}
 use Rattle.cue_lists.specs.Rules.{IsRuled}
 use Rattle.frame_carrier.specs.Carrying.{column_packets}
