@@ -1,6 +1,5 @@
 -- An export stops at the first frame at which something is found or whose pair stands past the day, and nowhere else.
-use Rattle.std.proofs.Common.{◌≡◌, ◌∙◌, ◌≤◌, ◌++◌, ap, append-nil, append_assoc, arith, inl, inr, length, refl, subst, sym, ℕ, Bool, List, [], ◌∷◌, false, true}
-use Rattle.std.specs.Prelude.{nat_le}
+use Rattle.std.proofs.Common.{◌≡◌, ◌∙◌, ◌≤◌, ◌++◌, ap, append-nil, append_assoc, inl, inr, length, refl, subst, sym, ℕ, List, [], ◌∷◌}
 use Rattle.cc_base.specs.declared.limit_of.LimitOf.TheVariants as limit
 use Rattle.cc_base.specs.declared.refusal.Refusal.{Refusal}
 use Rattle.cc_base.specs.declared.streams.Put.{Put}
@@ -14,40 +13,16 @@ use Rattle.findings.specs.declared.finding.Finding.{Finding}
 use Rattle.findings.specs.declared.finding.Kind45.{Kind45}
 use Rattle.findings.specs.declared.finding.Kind45.TheVariants as kind
 use Rattle.time_codes.specs.declared.time_code.TimeCode.{TimeCode}
-use Rattle.words_files.proofs.EndingLemmas.{file_has_no_offence, offence_stays}
-use Rattle.words_files.proofs.FramesOfLemmas.{file_frames, frames_grow, frames_of_once}
-use Rattle.words_files.proofs.WordLemmas.{front_of}
+use Rattle.words_files.proofs.FramesOfLemmas.{frames_grow}
 use Rattle.words_files.specs.FramesOf.{AreFramesOf}
-use Rattle.words_files.specs.Offences.{FirstOffendingWord}
 use Rattle.services_files.specs.CaptionChannel.{caption_channel}
-use Rattle.words_reading.proofs.KnownLemmas.{known_judged, known_whole, within_passes}
+use Rattle.words_reading.proofs.FrontLemmas.{TwoFronts, behind_it, before_it, same, two_fronts}
+use Rattle.words_reading.proofs.KnownLemmas.{known_frames, known_judged, refused_behind, within_passes}
 use Rattle.words_reading.specs.Causes.{IsRefusedWith, IsWholeFile, words_limit}
 use Rattle.words_reading.specs.Reading.{Stops}
 use Rattle.scc_commands.proofs.ExportVerdictLemmas.{not_exported, not_found}
 use Rattle.scc_commands.specs.Export.{AreExported, HasFinding, IsExportOf, StopsAt, StopsEarly, export_file, export_front}
 use Rattle.scc_commands.specs.ExportVerdict.{StopIsAnswered}
-
--- the front of a list that ends before an item, and another one: the other has the item, or it ends at the same place, or before
-pub data TwoFronts {A : Type 0} (one rest other : List A) (item : A) : Type 0 where
-  behind_it : (more : List A) → one ≡ (other ++ item ∷ []) ++ more → TwoFronts one rest other item
-  same : one ≡ other → (more : List A) → rest ≡ item ∷ more → TwoFronts one rest other item
-  before_it : (next : A) (more left : List A) → other ≡ (one ++ next ∷ []) ++ more → rest ≡ next ∷ left → TwoFronts one rest other item
-
-longer : {A : Type 0} (x : A) (one rest other : List A) (item : A) → TwoFronts one rest other item → TwoFronts (x ∷ one) rest (x ∷ other) item
-longer x one rest other item (behind_it more is) = behind_it more (ap (λ l. x ∷ l) is)
-longer x one rest other item (same is more left) = same (ap (λ l. x ∷ l) is) more left
-longer x one rest other item (before_it next more left is rest_is) = before_it next more left (ap (λ l. x ∷ l) is) rest_is
-
-two_fronts : {A : Type 0} (one rest other behind : List A) (item : A) → one ++ rest ≡ (other ++ item ∷ []) ++ behind → TwoFronts one rest other item
-two_fronts [] rest [] behind item is = same refl behind is
-two_fronts [] rest (x ∷ other) behind item is = before_it x other ((other ++ item ∷ []) ++ behind) refl is
-two_fronts (x ∷ one) rest [] behind item is =
-    let heads : x ≡ item = cc in
-    behind_it one (ap (λ i. i ∷ one) heads)
-two_fronts {A} (x ∷ one) rest (y ∷ other) behind item is =
-    let heads : x ≡ y = cc in
-    let tails : one ++ rest ≡ (other ++ item ∷ []) ++ behind = cc in
-    subst (λ z. TwoFronts (x ∷ one) rest (z ∷ other) item) heads (longer x one rest other item (two_fronts one rest other behind item tails))
 
 -- what is found at a frame is one
 found_once : (frame : Frame) (one other : Kind45) → HasFinding frame one → HasFinding frame other → one ≡ other
@@ -90,12 +65,6 @@ not_all time bytes frames more stop has is good =
     not_exported time has.frames (has.behind ++ more) has.last stop has.stops
     (subst (AreExported time) (is ∙ append_assoc (has.frames ++ has.last ∷ []) has.behind more) good)
 
--- nor all bytes
-all_judged : (time : TimeCode) (bytes : List ℕ) (stop : Status) (frames : List Frame) → StopsIn time bytes stop → AreFramesOf caption_channel frames bytes → AreExported time frames → ⊥
-all_judged time bytes stop frames has are good =
-    let same = frames_of_once caption_channel frames ((has.frames ++ has.last ∷ []) ++ has.behind) bytes are has.are in
-    not_all time bytes frames [] stop has (same ∙ sym (append-nil ((has.frames ++ has.last ∷ []) ++ has.behind))) good
-
 -- a run that stops at a frame stops at this one
 same_frame : (time : TimeCode) (bytes : List ℕ) (stop answer : Status) (has : StopsIn time bytes stop) (frames : List Frame) (last : Frame) (rest : List Frame)
     → AreExported time frames → StopsAt time (length frames) last answer
@@ -121,47 +90,21 @@ stops_same time bytes stop answer has frames last judged more is are good stops 
     same_frame time bytes stop answer has frames last behind good stops (two_fronts frames (last ∷ behind) has.frames has.behind has.last spelled)
 
 -- a run that exported the frames of what it judged stops for no word
-no_offence : (time : TimeCode) (bytes : List ℕ) (stop : Status) (refusal : Refusal) → StopsIn time bytes stop → (frames : List Frame) (judged more : List ℕ)
-    → bytes ≡ judged ++ more → AreFramesOf caption_channel frames judged → AreExported time frames → FirstOffendingWord caption_channel judged refusal → ⊥
-no_offence time bytes stop refusal has frames judged more is are good offence =
-    by_size (nat_le (length has.are.file) (length judged)) refl
-  where
-    all : List Frame
-    all = (has.frames ++ has.last ∷ []) ++ has.behind
-
-    spelled : has.are.file ++ has.are.behind ≡ judged ++ more
-    spelled = sym has.are.spelled ∙ is
-
-    by_size : (test : Bool) → nat_le (length has.are.file) (length judged) ≡ test → ⊥
-    by_size true within =
-        let (rest, longer) = front_of has.are.file judged has.are.behind more spelled (grind (arith, within)) in
-        let (behind, grown) = frames_grow caption_channel all frames has.are.file rest (file_frames caption_channel all has.are.file has.are.is_file)
-        (subst (AreFramesOf caption_channel frames) longer are) in
-        not_all time bytes frames behind stop has grown good
-    by_size false past =
-        let (rest, longer) = front_of judged has.are.file more has.are.behind (sym spelled) (grind (arith, past)) in
-        file_has_no_offence caption_channel all has.are.file refusal has.are.is_file
-        (subst (λ l. FirstOffendingWord caption_channel l refusal) (sym longer) (offence_stays caption_channel judged rest refusal offence))
-
 never_refused : (time : TimeCode) (bytes : List ℕ) (stop : Status) (refusal : Refusal) (answer : Put) (old new : Ends) → StopsIn time bytes stop → IsReadOf bytes old new
     → Stops (IsExportOf time export_front) (IsRefusedWith refusal old.left) answer old new → ⊥
 never_refused time bytes stop refusal answer old new has read stops =
     let said = stops.says in
-    let (rest, is) = known_judged old.left new.left bytes stops.judged stops.unjudged read.left stops.taken in
-    elim stops.cause [
-      | inl offence ↦ no_offence time bytes stop refusal has said.frames stops.judged (stops.unjudged ++ rest) is said.frames_are said.fit offence
-      | inr cut ↦
-          let whole = known_whole old.left bytes stops.judged read.left cut.0.0 in
-          all_judged time bytes stop said.frames has (subst (AreFramesOf caption_channel said.frames) (sym whole) said.frames_are) said.fit
-    ]
+    let (behind, grown) = refused_behind _ bytes ((has.frames ++ has.last ∷ []) ++ has.behind) said.frames refusal answer old new has.are read stops said.frames_are in
+    not_all time bytes said.frames behind stop has grown said.fit
 
 -- nor does it come to the end of a file
 never_whole : (time : TimeCode) (bytes : List ℕ) (stop : Status) (answer : Put) (old new : Ends) → StopsIn time bytes stop → IsReadOf bytes old new
     → Stops (IsExportOf time export_file) (IsWholeFile old.left) answer old new → ⊥
 never_whole time bytes stop answer old new has read stops =
     let said = stops.says in
-    let is = known_whole old.left bytes stops.judged read.left stops.cause.0.0 in
-    all_judged time bytes stop said.frames has (subst (AreFramesOf caption_channel said.frames) (sym is) said.frames_are) said.fit
+    let all = (has.frames ++ has.last ∷ []) ++ has.behind in
+    let same = known_frames bytes stops.judged all said.frames old.left read.left stops.cause.0.0 has.are said.frames_are in
+    not_all time bytes said.frames [] stop has (same ∙ sym (append-nil all)) said.fit
 
 stop_early : (time : TimeCode) (bytes : List ℕ) (stop answer : Status) (old new : Ends) → StopsIn time bytes stop → length bytes ≤ words_limit → IsReadOf bytes old new
     → StopsEarly time old new answer → answer ≡ stop

@@ -9,7 +9,7 @@ use Rattle.cc_receiver.proofs.TakenLemmas.{frames_count}
 use Rattle.cc_verifier.specs.Verifiers.{verified_frames}
 use Rattle.cdp_packets.specs.Packets.{Packet as Frame}
 use Rattle.command_base.specs.Ends.{Ends, IsSteady, ends}
-use Rattle.command_base.specs.declared.status.Place.TheVariants.{Byte, Field}
+use Rattle.command_base.specs.declared.status.Place.TheVariants.{Byte}
 use Rattle.command_base.specs.declared.status.Status.{Status}
 use Rattle.command_base.specs.declared.status.Status.TheVariants as status
 use Rattle.cue_list_commands.specs.Accepted.{IsGoodList}
@@ -54,16 +54,10 @@ list_refused left later before now old status.WriteFault h = absurd h
 list_refused left later before now old status.ReadFault h = inl (h.0, h.1, refl)
 list_refused left later before now old status.Memory h = (h, refl)
 list_refused left later before now old (status.Limit limit.Bytes) h = inl (h.0, refl, h.1)
-list_refused left later before now old (status.Limit limit.Frames) h = (h.0, refl, h.1)
-list_refused left later before now old (status.Limit limit.Cues) h = (h.0, refl, h.1)
-list_refused left later before now old (status.Limit limit.Packet) h = (h.0, refl, h.1)
-list_refused left later before now old (status.Limit limit.Day) h = (h.0, refl, h.1)
 list_refused left later before now old (status.Malformed (Byte place) why) h = (h.0, refl, (refl, keeps_same old.written), never_so _ left h.1)
-list_refused left later before now old (status.Malformed (Field rec field) why) h = (h.0, refl, h.1)
-list_refused left later before now old (status.Rule fault) h = (h.0, refl, h.1)
-list_refused left later before now old (status.NoRoom cue) h = (h.0, refl, h.1)
 list_refused left later before now old (status.Differs finding) h = (h.0, refl, (refl, keeps_same old.written), never_so _ left h.1)
 list_refused left later before now old (status.Short count) h = (h.0, refl, (refl, keeps_same old.written), never_so _ left h.1)
+list_refused left later before now old answer h = (h.0, refl, h.1)
 
 -- what a reading that puts nowhere said of its bytes holds where a run put nothing
 put_nothing : (Says : List ℕ → List ℕ → Type 0) (Why : Cause) (first after written : Option (List ℕ)) (reads then writes : ℕ)

@@ -3,7 +3,7 @@ use Rattle.std.proofs.Common.{inl, inr, refl, ℕ, List}
 use Rattle.cc_base.specs.declared.limit_of.LimitOf.TheVariants as limit
 use Rattle.command_base.proofs.CountLemmas.{read_told, same_told, steady_told, write_told}
 use Rattle.command_base.specs.Ends.{Ends}
-use Rattle.command_base.specs.declared.status.Place.TheVariants.{Byte, Field}
+use Rattle.command_base.specs.declared.status.Place.TheVariants.{Byte}
 use Rattle.command_base.specs.declared.status.Status.{Status}
 use Rattle.command_base.specs.declared.status.Status.TheVariants as status
 use Rattle.cue_list_commands.proofs.SideLemmas.{refused_told, side_kept}
@@ -27,13 +27,7 @@ verify_told side later old new status.WriteFault is = (side_kept side later _ is
 verify_told side later old new status.Memory is = (side_kept side later _ is.0, same_told old new status.Memory is.1)
 verify_told side later old new (status.Limit limit.Bytes) (inl is) = refused_told IsRefusedList side later old new (status.Limit limit.Bytes) is
 verify_told side later old new (status.Limit limit.Bytes) (inr is) = judged_told _ _ side later old new (status.Limit limit.Bytes) is
-verify_told side later old new (status.Limit limit.Frames) is = refused_told IsRefusedList side later old new (status.Limit limit.Frames) is
-verify_told side later old new (status.Limit limit.Cues) is = refused_told IsRefusedList side later old new (status.Limit limit.Cues) is
-verify_told side later old new (status.Limit limit.Packet) is = refused_told IsRefusedList side later old new (status.Limit limit.Packet) is
-verify_told side later old new (status.Limit limit.Day) is = refused_told IsRefusedList side later old new (status.Limit limit.Day) is
 verify_told side later old new (status.Malformed (Byte place) why) is = judged_told _ _ side later old new (status.Malformed (Byte place) why) is
-verify_told side later old new (status.Malformed (Field rec field) why) is = refused_told IsRefusedList side later old new (status.Malformed (Field rec field) why) is
-verify_told side later old new (status.Rule fault) is = refused_told IsRefusedList side later old new (status.Rule fault) is
-verify_told side later old new (status.NoRoom cue) is = refused_told IsRefusedList side later old new (status.NoRoom cue) is
 verify_told side later old new (status.Differs finding) is = judged_told _ _ side later old new (status.Differs finding) is
 verify_told side later old new (status.Short count) is = judged_told _ _ side later old new (status.Short count) is
+verify_told side later old new answer is = refused_told IsRefusedList side later old new answer is

@@ -1,5 +1,5 @@
 -- Words are judged by a verifier.
-use Rattle.std.proofs.Common.{◌≡◌, ◌∙◌, ◌+◌, ◌⊎◌, ◌++◌, ◌<◌, ◌≤◌, ap, append-nil, arith, drop, inl, inr, length, length-append, refl, subst, sym, take, ℕ, List, [], ◌∷◌, Option, None, Some, Ok, Err}
+use Rattle.std.proofs.Common.{◌≡◌, ◌∙◌, ◌+◌, ◌++◌, ◌<◌, ◌≤◌, ap, append-nil, append_assoc, arith, drop, length, length-append, refl, subst, sym, take, ℕ, List, [], ◌∷◌, Option, None, Some, Ok, Err}
 use Rattle.cc_base.specs.declared.refusal.Refusal.{Refusal}
 use Rattle.cc_receiver.proofs.FedFrames.{counted_nothing, counts_one, frame_more, frames_still, nothing_offends}
 use Rattle.cc_receiver.specs.Feeds.{Counts}
@@ -18,6 +18,7 @@ use Rattle.cue_types.specs.Listing.{Listing}
 use Rattle.findings.specs.declared.finding.Finding.{Finding}
 use Rattle.services_files.specs.CaptionChannel.{caption_channel}
 use Rattle.words_files.proofs.FramesOfLemmas.{frames_of_once}
+use Rattle.words_reading.proofs.FrontLemmas.{TwoFronts, before_it, behind_it, same, two_fronts}
 use Rattle.words_reading.proofs.PieceLemmas.{cut_short, front_size, front_spelled}
 use Rattle.words_reading.specs.Judging.{EndsAt, HasGathered, HasStopped}
 use Rattle.words_reading.specs.declared.judge.Stop.TheVariants as stop
@@ -96,34 +97,27 @@ nothing_met list start now held before bytes old new fed had feeds verified own 
   way = had.way;
 }
 
--- an item of a list is its last, or one of those before that
-last_or_before : {A : Type 0} (earlier later frames : List A) (last next : A) → earlier ++ last ∷ later ≡ frames ++ next ∷ []
-    → ((earlier ≡ frames) × (last ≡ next)) ⊎ ((rest : List A) × (frames ≡ earlier ++ last ∷ rest))
-last_or_before [] later [] last next is = inl (refl, cc)
-last_or_before [] later (frame ∷ frames) last next is =
-    let same : frame ≡ last = cc in
-    inr (frames, ap (λ f. f ∷ frames) same)
-last_or_before (first ∷ earlier) later [] last next is =
-    let tails : earlier ++ last ∷ later ≡ [] = cc in
-    let size = sym (length-append earlier (last ∷ later)) ∙ ap length tails in
-    absurd (omega arith)
-last_or_before (first ∷ earlier) later (frame ∷ frames) last next is =
-    let heads : frame ≡ first = cc in
-    let tails : earlier ++ last ∷ later ≡ frames ++ next ∷ [] = cc in
-    elim (last_or_before earlier later frames last next tails) [
-      | inl (same, end) ↦ inl (ap (λ l. first ∷ l) same ∙ ap (λ f. f ∷ frames) (sym heads), end)
-      | inr (rest, split) ↦ inr (rest, ap (λ f. f ∷ frames) heads ∙ ap (λ l. first ∷ l) split)
-    ]
-
 -- where nothing is found at the frames before the last, the first finding is at it
+found_by : (list : Listing) (frames : List Frame) (next : Frame) (finding : Finding) → AreClean list frames → (first : FirstFinding list (frames ++ next ∷ []) finding)
+    → TwoFronts first.earlier (first.last ∷ first.later) frames next → IsFoundAt list finding frames next
+found_by list frames next finding clean first (behind_it more is) =
+    let all = ap length first.split in
+    let one = length-append frames (next ∷ []) in
+    let parts = length-append first.earlier (first.last ∷ first.later) in
+    let size = ap length is ∙ length-append (frames ++ next ∷ []) more in
+    absurd (omega arith)
+found_by list frames next finding clean first (same is more left) =
+    let last : first.last ≡ next = cc in
+    subst (IsFoundAt list finding frames) last (subst (λ f. IsFoundAt list finding f first.last) is (first.frame_is, first.first))
+found_by list frames next finding clean first (before_it item more left is rest) =
+    let last : item ≡ first.last = cc in
+    absurd (clean first.earlier first.last more (is ∙ append_assoc first.earlier (item ∷ []) more ∙ ap (λ f. first.earlier ++ f ∷ more) last) finding.kind first.first.is)
+
 found_last : (list : Listing) (frames : List Frame) (next : Frame) (finding : Finding) → AreClean list frames → FirstFinding list (frames ++ next ∷ []) finding
     → IsFoundAt list finding frames next
 found_last list frames next finding clean first =
-    elim (last_or_before first.earlier first.later frames first.last next (sym first.split)) [
-      | inl (same, end) ↦
-          subst (λ n. IsFoundAt list finding frames n) end (subst (λ f. IsFoundAt list finding f first.last) same (first.frame_is, first.first))
-      | inr (rest, split) ↦ absurd (clean first.earlier first.last rest split finding.kind first.first.is)
-    ]
+    found_by list frames next finding clean first
+    (two_fronts first.earlier (first.last ∷ first.later) frames [] next (sym first.split ∙ sym (append-nil (frames ++ next ∷ []))))
 
 -- a frame ended, at which something is found
 found_at : (list : Listing) (before bytes text : List ℕ) (old new : Verifier) (fed : Fed) (finding : Finding) → HasJudged list before old → text ≡ []

@@ -1,5 +1,5 @@
 -- A words file is printed, other words are refused with one status, those past the limit too, and faults are told.
-use Rattle.std.proofs.Common.{◌≡◌, ◌∙◌, ◌<◌, ◌≤◌, ◌⊎◌, ap, arith, inl, inr, length, refl, subst, sym, ℕ, List, IfSome, Option, Some}
+use Rattle.std.proofs.Common.{◌≡◌, ◌∙◌, ◌<◌, ◌≤◌, ◌⊎◌, ap, arith, inl, inr, length, refl, subst, ℕ, List}
 use Rattle.cc_base.specs.declared.refusal.Refusal.{Refusal}
 use Rattle.cc_base.specs.declared.streams.Put.TheVariants as put
 use Rattle.cdp_packets.specs.Packets.{Packet as Frame}
@@ -10,10 +10,10 @@ use Rattle.command_base.specs.declared.status.Place.TheVariants.{Byte}
 use Rattle.command_base.specs.declared.status.Status.{Status}
 use Rattle.command_base.specs.declared.status.Status.TheVariants as status
 use Rattle.services_files.specs.CaptionChannel.{caption_channel}
-use Rattle.words_files.proofs.FrameLemmas.{one_list}
+use Rattle.words_files.proofs.FramesOfLemmas.{file_frames}
 use Rattle.words_files.specs.Offences.{IsFileUnder, IsMalformed}
 use Rattle.words_reading.proofs.EarlyLemmas.{early_told, file_early, long_early, malformed_early}
-use Rattle.words_reading.proofs.KnownLemmas.{known_whole, malformed_no_file, never_whole, read_unmalformed}
+use Rattle.words_reading.proofs.KnownLemmas.{known_frames, known_no_file, never_whole, read_unmalformed}
 use Rattle.words_reading.specs.Answers.{IsPastLimit, StopsOwn}
 use Rattle.words_reading.specs.Causes.{IsWholeFile, words_limit}
 use Rattle.words_commands.specs.Screens.{changes_of, show_output}
@@ -57,22 +57,16 @@ file_decoded bytes frames old new status.WriteFault file within read (inl answer
 file_decoded bytes frames old new status.WriteFault file within read (inr answered) = absurd (read.writes answered.1)
 file_decoded bytes frames old new answer file within read answered = absurd (file_stopped changes_of bytes frames old new answer file within read answered)
 
--- the frames of a file that was read to its end are those of the input
-known_frames : (bytes judged : List ℕ) (frames others : List Frame) (left : Option (List ℕ)) → left ≡ Some bytes → IfSome left (λ all. all ≡ judged)
-    → IsFileUnder caption_channel frames bytes → IsFileUnder caption_channel others judged → others ≡ frames
-known_frames bytes judged frames others left known whole file other =
-    one_list others frames bytes (subst (λ l. IsFileUnder caption_channel others l) (sym (known_whole left bytes judged known whole)) other).file file.file
-
 -- a file is shown
 pub file_shown : (frame : ℕ) (bytes : List ℕ) (frames : List Frame) (old new : Ends) (answer : Status) → IsFileUnder caption_channel frames bytes
     → length bytes ≤ words_limit → IsReadOf bytes old new → ShowAnswer frame old new answer → IsShown frame (length frames) answer ⊎ (answer ≡ status.Memory)
 file_shown frame bytes frames old new status.Ok file within read (steady, stops) =
     let (whole, (others, is_file, below)) = stops.cause in
-    let same = known_frames bytes stops.judged frames others old.left read.left whole.0 file is_file in
+    let same = known_frames bytes stops.judged frames others old.left read.left whole.0 (file_frames caption_channel frames bytes file) (file_frames caption_channel others stops.judged is_file) in
     inl (inl (subst (λ (f : List Frame). frame < length f) same below, refl))
 file_shown frame bytes frames old new (status.Short count) file within read (steady, stops) =
     let (whole, (others, is_file, is, few)) = stops.cause in
-    let same = known_frames bytes stops.judged frames others old.left read.left whole.0 file is_file in
+    let same = known_frames bytes stops.judged frames others old.left read.left whole.0 (file_frames caption_channel frames bytes file) (file_frames caption_channel others stops.judged is_file) in
     let count_is : count ≡ length frames = is ∙ ap length same in
     inl (inr (omega arith, ap status.Short count_is))
 file_shown frame bytes frames old new status.Memory file within read answered = inr refl
@@ -92,20 +86,14 @@ decode_refused bytes refusal old new status.WriteFault malformed within read (in
 decode_refused bytes refusal old new status.WriteFault malformed within read (inr answered) = absurd (read.writes answered.1)
 decode_refused bytes refusal old new answer malformed within read answered = inl (malformed_stopped changes_of bytes refusal old new answer malformed within read answered)
 
--- malformed words have no frames as a file
-no_frames : (bytes judged : List ℕ) (refusal : Refusal) (frames : List Frame) (left : Option (List ℕ)) → left ≡ Some bytes → IfSome left (λ all. all ≡ judged)
-    → IsMalformed caption_channel bytes refusal → IsFileUnder caption_channel frames judged → ⊥
-no_frames bytes judged refusal frames left known whole malformed file =
-    malformed_no_file bytes refusal frames malformed (subst (IsFileUnder caption_channel frames) (sym (known_whole left bytes judged known whole)) file)
-
 pub show_refused : (frame : ℕ) (bytes : List ℕ) (refusal : Refusal) (old new : Ends) (answer : Status) → IsMalformed caption_channel bytes refusal → length bytes ≤ words_limit → IsReadOf bytes old new
     → ShowAnswer frame old new answer → (answer ≡ status.Malformed (Byte refusal.place) refusal.why) ⊎ (answer ≡ status.Memory)
 show_refused frame bytes refusal old new status.Ok malformed within read (steady, stops) =
     let (whole, (frames, file, below)) = stops.cause in
-    absurd (no_frames bytes stops.judged refusal frames old.left read.left whole.0 malformed file)
+    absurd (known_no_file bytes stops.judged refusal frames old.left read.left whole.0 malformed file)
 show_refused frame bytes refusal old new (status.Short count) malformed within read (steady, stops) =
     let (whole, (frames, file, is, few)) = stops.cause in
-    absurd (no_frames bytes stops.judged refusal frames old.left read.left whole.0 malformed file)
+    absurd (known_no_file bytes stops.judged refusal frames old.left read.left whole.0 malformed file)
 show_refused frame bytes refusal old new status.Memory malformed within read answered = inr refl
 show_refused frame bytes refusal old new answer malformed within read answered = inl (malformed_stopped (show_output frame) bytes refusal old new answer malformed within read answered)
 

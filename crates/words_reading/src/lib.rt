@@ -8,4 +8,6 @@ pub use crate::words::{TAKE, WORDS_LIMIT, read_words};
 
 mod frames;
 mod judge;
+#[cfg(test)]
+mod tests;
 mod words;
