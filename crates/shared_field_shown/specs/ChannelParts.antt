@@ -8,6 +8,7 @@ use Rattle.frame_scheduler.specs.declared.lane.piece.Piece.{Piece}
 use Rattle.frame_scheduler.specs.ChannelLane.{cue_pieces}
 use Rattle.resumed_lanes.specs.declared.part.Part.{Part}
 
+-- a unit behind its cue's first one
 abbrev pub later_part : Unit → Piece → Part
 later_part first piece = record { piece = piece; first = first; later = true }
 
@@ -16,10 +17,12 @@ abbrev pub parts_of : List Piece → List Part
 parts_of [] = []
 parts_of (piece ∷ pieces) = record { piece = piece; first = piece.unit; later = false } ∷ map (later_part piece.unit) pieces
 
+-- those of the cues on a channel, where the first cue has this number
 abbrev pub parts_from : Chan → ℕ → List Cue → List Part
 parts_from channel number [] = []
 parts_from channel number (cue ∷ cues) =
     (if is_on channel cue.kind then parts_of (cue_pieces number cue) else []) ++ parts_from channel (suc number) cues
 
+-- in the order of the cues, which are numbered from 1
 abbrev pub channel_parts : Chan → List Cue → List Part
 channel_parts channel cues = parts_from channel 1 cues

@@ -50,6 +50,7 @@ pub record ShowsBoth (first second : Listing) (of_list : Chan) (state : FieldSta
   pub first_shown : IsSettled of_list first.cues frame → state.first.displayed ≡ authored_grid of_list first.cues frame
   pub second_shown : IsSettled of_list second.cues frame → state.second.displayed ≡ authored_grid of_list second.cues frame
 
+-- so it is at each frame, at every rate
 abbrev pub BothAreSeen : Type 0
 BothAreSeen = (first second : Listing) (of_list : Chan) (places : Places) (columns : Columns) → IsDual first second of_list places
     → HavePairs first second of_list places columns → (frame : ℕ) → ShowsBoth first second of_list (state_at (field_of_channel of_list) columns frame) frame

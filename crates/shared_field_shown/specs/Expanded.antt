@@ -15,12 +15,14 @@ use Rattle.shared_field_shown.specs.Lanes.{AreCues, whole}
 abbrev pub first_again : Part → Piece
 first_again part = record { unit = part.first; load = part.piece.load; until = part.piece.until; cue = part.piece.cue }
 
+-- the units in the order in which they stand, where first units come again in these slots
 abbrev pub expanded : List Part → List (Option ℕ) → List Piece
 expanded [] rs = []
 expanded (part ∷ parts) [] = []
 expanded (part ∷ parts) (None ∷ rs) = part.piece ∷ expanded parts rs
 expanded (part ∷ parts) (Some at ∷ rs) = first_again part ∷ part.piece ∷ expanded parts rs
 
+-- the slots of all of them
 abbrev pub spread : List ℕ → List (Option ℕ) → List ℕ
 spread [] rs = []
 spread (f ∷ fs) [] = []
@@ -32,6 +34,7 @@ pub record IsOneLane (events : List Event) (parts : List Part) (fs : List ℕ) (
   pub placed : IsPlaced (lane events) [] (expanded parts rs) (spread fs rs)
   pub timeline : (n : ℕ) → lane_timeline events (expanded parts rs) (spread fs rs) n ≡ whole (event_at events) parts fs rs n
 
+-- so a lane with units that come again is a lane of a longer list of units
 abbrev pub ResumedIsOneLane : Type 0
 ResumedIsOneLane = (events : List Event) (slots : Slots) (parts : List Part) (fs : List ℕ) (rs : List (Option ℕ))
     → ((n : ℕ) → slots.free n ≡ true → IsFree events n) → AreCues None parts → Stand slots 0 parts fs rs → IsOneLane events parts fs rs

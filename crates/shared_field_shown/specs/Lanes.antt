@@ -19,13 +19,15 @@ again (part ∷ parts) [] n = None
 again (part ∷ parts) (None ∷ rs) n = again parts rs n
 again (part ∷ parts) (Some at ∷ rs) n = if n == at then Some part.first else again parts rs n
 
+-- the units by themselves
 abbrev pub pieces_of : List Part → List Piece
 pieces_of parts = map (λ part. part.piece) parts
 
--- the lane's own timeline without resume units, and with them
+-- the lane's own timeline, without them
 abbrev pub plain : Timeline → List Part → List ℕ → Timeline
 plain events parts fs = over events (stands (pieces_of parts) fs)
 
+-- with the first units that come again
 abbrev pub whole : Timeline → List Part → List ℕ → List (Option ℕ) → Timeline
 whole events parts fs rs = over (plain events parts fs) (again parts rs)
 
@@ -42,6 +44,7 @@ pub record Continues (former part : Part) : Type 0 where
   pub load : part.piece.load ≡ former.piece.load
   pub keeps_it : keeps_mode (code_of part.piece.unit.pair) ≡ true
 
+-- a unit behind another, by whether it is its cue's first
 abbrev pub IsBehind : Bool → Option Part → Part → Type 0
 IsBehind false former part = Begins part
 IsBehind true None part = ⊥

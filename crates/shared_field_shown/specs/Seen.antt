@@ -28,18 +28,22 @@ use Rattle.shared_field_shown.specs.Lanes.{whole}
 use Rattle.shared_field_shown.specs.ChannelParts.{channel_parts}
 use Rattle.resumed_lanes.specs.FieldSlots.{first_slots, holds, second_slots}
 
+-- the code of data channel 2 that does what this one does for data channel 1
 abbrev pub as_second : Code → Code
 as_second Null = Null
 as_second (Text first second) = Text first second
 as_second (Xds first second) = Xds first second
 as_second (Control second control) = Control true control
 
+-- the unit of that code in a field
 abbrev pub second_unit : FieldNumber → Unit → Unit
 second_unit in_field unit = record { pair = written in_field (as_second (code_of unit.pair)); doubled = unit.doubled }
 
+-- with each unit so
 abbrev pub second_timeline : FieldNumber → Timeline → Timeline
 second_timeline in_field timeline n = option_map (second_unit in_field) (timeline n)
 
+-- a unit, and the first one of its cue, so
 abbrev pub second_part : FieldNumber → Part → Part
 second_part in_field part = record {
   piece = record { unit = second_unit in_field part.piece.unit; load = part.piece.load; until = part.piece.until; cue = part.piece.cue };
@@ -47,6 +51,7 @@ second_part in_field part = record {
   later = part.later;
 }
 
+-- all of them
 abbrev pub second_parts : FieldNumber → List Part → List Part
 second_parts in_field parts = map (second_part in_field) parts
 
@@ -83,6 +88,7 @@ pub record EachShows (of_list : Chan) (cues others : List Cue) (fs gs : List ℕ
       → (channel data_channels.Two (after (field_of_channel of_list) (pairs_before (slot (field_timeline of_list cues others fs gs rs qs)) (suc k)))).displayed
       ≡ authored_grid of_list others k
 
+-- so it is at each slot
 abbrev pub SharedFieldIsSeen : Type 0
 SharedFieldIsSeen = (of_list : Chan) (slots : ℕ) (cues others : List Cue) (fs gs : List ℕ) (rs qs : List (Option ℕ))
     → AreShared of_list slots cues others fs gs rs qs → (k : ℕ) → EachShows of_list cues others fs gs rs qs k

@@ -18,12 +18,14 @@ IsFor of_channel (Text first second) = ⊤
 IsFor of_channel (Xds first second) = ⊥
 IsFor of_channel (Control second control) = numbered_channel second ≡ of_channel
 
+-- a pair of text, which names no channel
 abbrev pub is_text : Code → Bool
 is_text Null = false
 is_text (Text first second) = true
 is_text (Xds first second) = false
 is_text (Control second control) = false
 
+-- all that begins on a timeline is so
 abbrev pub AreFor : DataChannel → Timeline → Type 0
 AreFor of_channel timeline = (n : ℕ) (unit : Unit) → timeline n ≡ Some unit → IsFor of_channel (code_of unit.pair)
 
@@ -40,6 +42,7 @@ pub record IsLedTo (own other : Timeline) (n : ℕ) : Type 0 where
 abbrev pub IsLed : Timeline → Timeline → Type 0
 IsLed own other = (n : ℕ) (unit : Unit) → own n ≡ Some unit → is_text (code_of unit.pair) ≡ true → IsLedTo own other n
 
+-- both keep out of each other's slots, each is for its own channel, and text of each is led to
 pub record AreShared (one two : Timeline) : Type 0 where
   pub apart : (n : ℕ) (unit : Unit) → one n ≡ Some unit → two n ≡ None
   pub first : AreFor data_channels.One one
@@ -52,5 +55,6 @@ pub record EachGetsOwn (in_field : FieldNumber) (one two : Timeline) (n : ℕ) :
   pub first : own_of in_field data_channels.One (over one two) n ≡ one n
   pub second : own_of in_field data_channels.Two (over one two) n ≡ two n
 
+-- so each channel gets its own, whatever the other is sent
 abbrev pub SharedAreOwn : Type 0
 SharedAreOwn = (in_field : FieldNumber) (one two : Timeline) → AreShared one two → (n : ℕ) → EachGetsOwn in_field one two n

@@ -24,6 +24,7 @@ pub record IsOfChannel (of_channel : DataChannel) (unit : Unit) : Type 0 where
   pub own : IsFor of_channel (code_of unit.pair)
   pub writable : IsWritable (code_of unit.pair)
 
+-- so are all units, and those that come again
 abbrev pub AreOfChannel : DataChannel → List Part → Type 0
 AreOfChannel of_channel [] = ⊤
 AreOfChannel of_channel (part ∷ parts) =

@@ -1,0 +1,90 @@
+-- A frame with second lanes.
+use Rattle.std.proofs.Common.{◌≡◌, ℕ, suc, ◌+◌, Bool, true, false, Option, Some, None, option_map, refl, sym, ap, ◌∙◌, subst, arith}
+use Rattle.std.specs.Prelude.{if◌then◌else◌}
+use Rattle.cc_base.specs.declared.rate.Rate.{Rate}
+use Rattle.line21_codes.specs.declared.channels.Chan.TheVariants.{Cc1, Cc3}
+use Rattle.line21_codes.specs.declared.pairs.Pair.{Pair}
+use Rattle.line21_slots.specs.Cadences.{cadence_of, has_slot_in, slot_from}
+use Rattle.line21_slots.specs.declared.cadence.Cadence.{Cadence}
+use Rattle.line21_slots.proofs.CadenceLemmas.{slot_more, slot_no_more}
+use Rattle.frame_scheduler.specs.Columns.{Columns}
+use Rattle.frame_scheduler.specs.LanePlan.{Planned, behind_frame, given_in, lane_pair, slot_pair}
+use Rattle.frame_scheduler.specs.declared.frames.FrameBytes.{FrameBytes}
+use Rattle.shared_field.specs.Beside.{beside}
+use Rattle.shared_field.specs.SecondLanes.{LaysBoth}
+use Rattle.shared_field.specs.declared.second_lanes.SecondLanes.{SecondLanes}
+
+-- a lane that is at the first slot that isn't before a frame gives the frame's pair
+given_is : (c : Cadence) (one : Planned) (f : ℕ) → one.slot ≡ slot_from c f → given_in c f one ≡ lane_pair c one f
+given_is c one f at =
+    subst (λ k. given_in c f one ≡ option_map (slot_pair one) (if has_slot_in c f then Some k else None)) at (by_test (has_slot_in c f))
+  where
+    by_test : (b : Bool) → (if b then Some (slot_pair one one.slot) else None) ≡ option_map (slot_pair one) (if b then Some one.slot else None)
+    by_test true = refl
+    by_test false = refl
+
+behind_at : (c : Cadence) (one : Planned) (f : ℕ) → one.slot ≡ slot_from c f → (behind_frame c f one).slot ≡ slot_from c (f + 1)
+behind_at c one f at = by_test (has_slot_in c f) refl
+  where
+    next : suc f ≡ f + 1
+    next = omega arith
+
+    by_test : (b : Bool) → has_slot_in c f ≡ b → (if has_slot_in c f then one.slot + 1 else one.slot) ≡ slot_from c (f + 1)
+    by_test true test =
+        let more : slot_from c (suc f) ≡ suc (slot_from c f) = slot_more c f test in
+        let one_more : one.slot + 1 ≡ suc (slot_from c f) = omega arith in
+        rw test (one_more ∙ sym more ∙ ap (slot_from c) next)
+    by_test false test = rw test (at ∙ sym (slot_no_more c f test) ∙ ap (slot_from c) next)
+
+-- one frame more: the parts of the object, before and behind
+pub next_both : (firsts columns : Columns) (frame : ℕ) (old new : SecondLanes) (bytes : FrameBytes) (one two : Option Pair) (c d : Cadence) → LaysBoth firsts columns frame old
+    → bytes ≡ firsts frame → c ≡ cadence_of old.rate Cc1 → d ≡ cadence_of old.rate Cc3
+    → one ≡ beside bytes.one (given_in c old.frame old.one) → two ≡ beside bytes.two (given_in d old.frame old.two)
+    → new.one ≡ behind_frame c old.frame old.one → new.two ≡ behind_frame d old.frame old.two → new.rate ≡ old.rate → new.frame ≡ old.frame + 1
+    → (record { one = one; two = two; blocks = bytes.blocks } ≡ columns frame) × LaysBoth firsts columns (frame + 1) new
+next_both firsts columns frame old new bytes one two c d makes bytes_are c_is d_is one_is two_is new_one new_two rate next =
+    let one_pair : given_in c old.frame old.one ≡ lane_pair (cadence_of old.rate Cc1) old.one frame =
+    ap (λ x. given_in x old.frame old.one) c_is ∙ ap (λ f. given_in (cadence_of old.rate Cc1) f old.one) makes.frame_is
+    ∙ given_is (cadence_of old.rate Cc1) old.one frame makes.one_at in
+    let two_pair : given_in d old.frame old.two ≡ lane_pair (cadence_of old.rate Cc3) old.two frame =
+    ap (λ x. given_in x old.frame old.two) d_is ∙ ap (λ f. given_in (cadence_of old.rate Cc3) f old.two) makes.frame_is
+    ∙ given_is (cadence_of old.rate Cc3) old.two frame makes.two_at in (
+      ap (λ o. record { one = o; two = two; blocks = bytes.blocks })
+          (one_is ∙ ap (λ (b : FrameBytes). beside b.one (given_in c old.frame old.one)) bytes_are ∙ ap (beside (firsts frame).one) one_pair)
+          ∙ ap (λ o. record { one = beside (firsts frame).one (lane_pair (cadence_of old.rate Cc1) old.one frame); two = o; blocks = bytes.blocks })
+          (two_is ∙ ap (λ (b : FrameBytes). beside b.two (given_in d old.frame old.two)) bytes_are ∙ ap (beside (firsts frame).two) two_pair)
+          ∙ ap (λ (b : FrameBytes). record {
+            one = beside (firsts frame).one (lane_pair (cadence_of old.rate Cc1) old.one frame);
+            two = beside (firsts frame).two (lane_pair (cadence_of old.rate Cc3) old.two frame);
+            blocks = b.blocks;
+          }) bytes_are
+          ∙ sym (makes.column_is frame),
+      record {
+        frame_is = next ∙ ap (λ f. f + 1) makes.frame_is;
+        one_at = ap (λ (p : Planned). p.slot) new_one ∙ ap (λ x. (behind_frame x old.frame old.one).slot) c_is
+            ∙ ap (λ f. (behind_frame (cadence_of old.rate Cc1) f old.one).slot) makes.frame_is
+            ∙ behind_at (cadence_of old.rate Cc1) old.one frame makes.one_at ∙ ap (λ r. slot_from (cadence_of r Cc1) (frame + 1)) (sym rate);
+        two_at = ap (λ (p : Planned). p.slot) new_two ∙ ap (λ x. (behind_frame x old.frame old.two).slot) d_is
+            ∙ ap (λ f. (behind_frame (cadence_of old.rate Cc3) f old.two).slot) makes.frame_is
+            ∙ behind_at (cadence_of old.rate Cc3) old.two frame makes.two_at ∙ ap (λ r. slot_from (cadence_of r Cc3) (frame + 1)) (sym rate);
+        column_is = λ n. makes.column_is n ∙ ap (λ (r : Rate). record {
+          one = beside (firsts n).one (lane_pair (cadence_of r Cc1) old.one n);
+          two = beside (firsts n).two (lane_pair (cadence_of r Cc3) old.two n);
+          blocks = (firsts n).blocks;
+        }) (sym rate)
+            ∙ ap (λ o. record {
+              one = beside (firsts n).one o;
+              two = beside (firsts n).two (lane_pair (cadence_of new.rate Cc3) old.two n);
+              blocks = (firsts n).blocks;
+            }) (same_pair (cadence_of new.rate Cc1) c old.frame n old.one new.one new_one)
+            ∙ ap (λ o. record {
+              one = beside (firsts n).one (lane_pair (cadence_of new.rate Cc1) new.one n);
+              two = beside (firsts n).two o;
+              blocks = (firsts n).blocks;
+            }) (same_pair (cadence_of new.rate Cc3) d old.frame n old.two new.two new_two);
+      },
+    )
+  where
+    -- a lane's pairs are the same behind a frame
+    same_pair : (e c : Cadence) (f n : ℕ) (p q : Planned) → q ≡ behind_frame c f p → lane_pair e p n ≡ lane_pair e q n
+    same_pair e c f n p q is = sym (ap (λ (x : Planned). lane_pair e x n) is)

@@ -1,0 +1,3 @@
+pub mod LanesLemmas
+pub mod OthersLemmas
+pub mod JoinedLemmas

@@ -1,0 +1,6 @@
+pub mod PartsBehind
+pub mod SecondChannel
+pub mod Beside
+pub mod SecondLanes
+pub mod Joined
+pub mod Others

@@ -1,0 +1,14 @@
+//! A field that two cue lists share: the units and events of the second list with its own channel's codes, and the frames of a plan
+//! with the pairs of second lanes in the slots that it leaves null.
+#![tactic(auto)]
+
+pub use crate::parts::channel_parts;
+pub use crate::second_channel::{second_events, second_parts};
+pub use crate::second_lanes::{Dual, SecondLanes, dual};
+
+pub mod laws;
+mod parts;
+mod second_channel;
+mod second_lanes;
+#[cfg(test)]
+mod tests;
