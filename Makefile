@@ -9,6 +9,7 @@
 # make check-install  tries both in a folder of its own: the files, the man page, each shell's completions
 # make deb      builds the Debian package of what install puts: build/ccsuite_VERSION_ARCHITECTURE.deb
 # make check-deb      tries it in a folder of its own: lintian, what is installed, the program, and that nothing is left when it goes
+# make scale    tries an archive of 50 parts, two of them with damage, by GNU parallel and by a one-node Slurm
 # make try      runs the commands of the manual, the cookbook and the man page and compares what they print; tries subtitles.py, and the viewer in a Chromium
 
 PREFIX ?= /usr/local
@@ -17,7 +18,7 @@ PROGRAM ?= build/ccsuite
 ROOT = $(DESTDIR)$(PREFIX)
 # where Debian's zsh looks: a package's completions stand apart from those of this machine's own programs
 ZSH = $(ROOT)/share/zsh/$(if $(filter /usr,$(PREFIX)),vendor-completions,site-functions)
-DOCUMENTS = README.md docs/MANUAL.md docs/COOKBOOK.md docs/PROVED.md docs/GLOSSARY.md
+DOCUMENTS = README.md docs/MANUAL.md docs/COOKBOOK.md docs/PROVED.md docs/GLOSSARY.md docs/SCALE.md
 EXAMPLES = $(wildcard examples/*)
 # the version that the man page and the package tell
 VERSION := $(shell sed -n '1s/.*(\(.*\)).*/\1/p' package/changes)
@@ -63,6 +64,7 @@ bench: build/ccsuite
 	bench/receiver.sh
 	bench/blocks.sh
 	bench/dtvcc_codes.sh
+	bench/services.sh
 	bench/scc.sh
 
 install: $(PROGRAM)
@@ -100,7 +102,10 @@ try: $(PROGRAM)
 	docs/try_subtitles.py $(PROGRAM)
 	viewer/try.py $(PROGRAM)
 
+scale: $(PROGRAM)
+	docs/try_scale.sh $(PROGRAM)
+
 clean:
 	rm -rf build crates/*/out
 
-.PHONY: all demo check bench install uninstall check-install deb check-deb faults try clean
+.PHONY: all demo check bench install uninstall check-install deb check-deb faults try scale clean

@@ -25,7 +25,7 @@ wanted() {
     echo "755 bin/ccsuite"
     echo "644 share/bash-completion/completions/ccsuite"
     echo "644 share/ccsuite/viewer.html"
-    for document in COOKBOOK GLOSSARY MANUAL PROVED README; do echo "644 share/doc/ccsuite/$document.md"; done
+    for document in COOKBOOK GLOSSARY MANUAL PROVED README SCALE; do echo "644 share/doc/ccsuite/$document.md"; done
     for example in examples/*; do echo "644 share/doc/ccsuite/$example"; done
     echo "644 share/fish/vendor_completions.d/ccsuite.fish"
     echo "644 share/man/man1/ccsuite.1"
