@@ -1,3 +1,4 @@
+mod ConcealingLemmas
 pub mod PrintingLemmas
 mod WordsAnswerLemmas
 pub mod WordsVerdictLemmas

@@ -22,28 +22,23 @@ use Rattle.dtvcc_services.specs.Numbers.{IsService}
 use Rattle.grid_print.specs.GridTexts.{all_text, changes_text}
 use Rattle.grid_print.specs.Screens.{HaveSameWindows, LookAlike, Screens, received_screens}
 use Rattle.grid_print.proofs.ScreenLemmas.{changes_alike, no_changes}
-use Rattle.words_commands.specs.Screens.{changes_behind, changes_of, show_output}
+use Rattle.words_commands.specs.Screens.{changes_of, next_changes, show_output, texts_behind}
 use Rattle.words_files.specs.Received.{received_grids}
 
--- the changes of a frame behind others
-abbrev next_changes : List Frame → Frame → List ℕ
-next_changes frames next = changes_text (length frames) (received_screens frames) (received_screens (frames ++ next ∷ []))
+-- the texts of frames behind others, with one frame more
+texts-snoc : (text_of : List Frame → Frame → List ℕ) (before frames : List Frame) (next : Frame)
+    → texts_behind text_of before (frames ++ next ∷ []) ≡ texts_behind text_of before frames ++ text_of (before ++ frames) next
+texts-snoc text_of before [] next = append-nil (text_of before next) ∙ ap (λ behind. text_of behind next) (sym (append-nil before))
+texts-snoc text_of before (frame ∷ frames) next =
+    let first = text_of before frame in
+    ap (λ rest. first ++ rest) (texts-snoc text_of (before ++ frame ∷ []) frames next)
+    ∙ sym (append_assoc first (texts_behind text_of (before ++ frame ∷ []) frames) (text_of ((before ++ frame ∷ []) ++ frames) next))
+    ∙ ap (λ behind. (first ++ texts_behind text_of (before ++ frame ∷ []) frames) ++ text_of behind next) (append_assoc before (frame ∷ []) frames)
 
--- the changes of frames behind others, with one frame more
-changes-snoc : (before frames : List Frame) (next : Frame)
-    → changes_behind before (frames ++ next ∷ []) ≡ changes_behind before frames ++ next_changes (before ++ frames) next
-changes-snoc before [] next =
-    append-nil (next_changes before next) ∙ ap (λ behind. next_changes behind next) (sym (append-nil before))
-changes-snoc before (frame ∷ frames) next =
-    let first = next_changes before frame in
-    ap (λ rest. first ++ rest) (changes-snoc (before ++ frame ∷ []) frames next)
-    ∙ sym (append_assoc first (changes_behind (before ++ frame ∷ []) frames) (next_changes ((before ++ frame ∷ []) ++ frames) next))
-    ∙ ap (λ behind. (first ++ changes_behind (before ++ frame ∷ []) frames) ++ next_changes behind next) (append_assoc before (frame ∷ []) frames)
-
--- the changes of frames, with one frame more
-pub changes_more : (frames : List Frame) (next : Frame)
-    → changes_of (frames ++ next ∷ []) ≡ changes_of frames ++ changes_text (length frames) (received_screens frames) (received_screens (frames ++ next ∷ []))
-changes_more frames next = changes-snoc [] frames next
+-- the texts of frames, with one frame more
+pub texts_more : (text_of : List Frame → Frame → List ℕ) (frames : List Frame) (next : Frame)
+    → texts_behind text_of [] (frames ++ next ∷ []) ≡ texts_behind text_of [] frames ++ text_of frames next
+texts_more text_of frames next = texts-snoc text_of [] frames next
 
 -- of frames before the wanted one nothing is shown
 pub show_before : (frame : ℕ) (frames : List Frame) → length frames ≤ frame → show_output frame frames ≡ []
@@ -105,7 +100,7 @@ changes_gathered start old new r frames next frame last way done writes answered
     changes_alike frame last (received_screens frames) (received_screens (frames ++ next ∷ [])) alike
     ∙ ap (λ n. changes_text n (received_screens frames) (received_screens (frames ++ next ∷ []))) number in
     let more : changes_of frames ++ changes_text frame last (received_screens (frames ++ next ∷ [])) ≡ changes_of (frames ++ next ∷ []) =
-    ap (λ l. changes_of frames ++ l) changed ∙ sym (changes_more frames next) in
+    ap (λ l. changes_of frames ++ l) changed ∙ sym (texts_more next_changes frames next) in
     subst (λ a. GathersText start new.written (held_of new.text) (changes_of (frames ++ next ∷ [])) a) (sym answered)
     (subst (λ l. GathersText start new.written (held_of new.text) l (answer_of new.text)) more
     (writes start old.faults (changes_of frames) (begun_written start (changes_of frames) old done way)).bytes)
@@ -130,7 +125,7 @@ pub idle_gathered : (a b : Option (List ℕ)) (held : List ℕ) (frames : List F
 idle_gathered a b held frames next same way =
     let none : next_changes frames next ≡ [] = no_changes (length frames) (received_screens frames) (received_screens (frames ++ next ∷ [])) same in
     gathered_still a b held (changes_of frames) (changes_of (frames ++ next ∷ [])) way
-    (changes_more frames next ∙ ap (λ l. changes_of frames ++ l) none ∙ append-nil (changes_of frames))
+    (texts_more next_changes frames next ∙ ap (λ l. changes_of frames ++ l) none ∙ append-nil (changes_of frames))
 
 -- the screens of the wanted frame were put
 pub screens_put : (a b c : Option (List ℕ)) (r : Put) (held : List ℕ) (frames : List Frame) (next : Frame) (frame wanted : ℕ)

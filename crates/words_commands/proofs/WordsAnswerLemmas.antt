@@ -28,23 +28,23 @@ use Rattle.words_reading.specs.declared.judge.Never.{Never}
 use Rattle.words_reading.specs.declared.judge.Stop.{Stop}
 use Rattle.words_reading.specs.declared.judge.Stop.TheVariants as stop
 use Rattle.words_commands.proofs.PrintingLemmas.{nothing_shown, show_before}
-use Rattle.words_commands.specs.Screens.{changes_of, decode_output, frames_line, show_output}
-use Rattle.words_commands.specs.WordsAnswer.{DecodeAnswer, IsTextOf, NeverHalts, ShowAnswer, StopsEarly}
+use Rattle.words_commands.specs.Screens.{changes_of, counted, frames_line, show_output}
+use Rattle.words_commands.specs.WordsAnswer.{ChangesAnswer, IsTextOf, NeverHalts, ShowAnswer, StopsEarly}
 use Rattle.words_commands.specs.declared.changes.Changes.{Changes}
 use Rattle.words_commands.specs.declared.screens_at.ScreensAt.{ScreensAt}
 
 -- a receiver's number of frames
-abbrev Counts : {F : Type 0} → ℕ → Frames F → Type 0
+abbrev pub Counts : {F : Type 0} → ℕ → Frames F → Type 0
 Counts count reading =
     (bytes : List ℕ) (frames : List Frame) → HasReceived bytes (receiver_of reading) → AreFramesOf caption_channel frames bytes → count ≡ length frames
 
 -- a reading was ended by the end of a words file
-abbrev HasEnded : {F : Type 0} → (List Frame → List ℕ) → (List Frame → F → Type 0) → Frames F → Ends → Ends → Type 0
+abbrev pub HasEnded : {F : Type 0} → (List Frame → List ℕ) → (List Frame → F → Type 0) → Frames F → Ends → Ends → Type 0
 HasEnded text_of Stands reading old new =
     IsSteady old new × Stops (λ bytes text. HasJudgedFrames text_of Stands bytes text reading) (IsWholeFile old.left) put.Done old new
 
 -- a reading was stopped before
-abbrev HasStopped : (List Frame → List ℕ) → Ends → Ends → Stop Never → Type 0
+abbrev pub HasStopped : (List Frame → List ℕ) → Ends → Ends → Stop Never → Type 0
 HasStopped text_of old new why =
     Stopped (IsTextOf text_of) (λ never. FramesHalt text_of (λ frames. Unit {0}) (λ frames last. ⊥)) old new why
 
@@ -60,13 +60,46 @@ nothing_decoded reading shown received is grids none =
     nothing_judged changes_of _ [] reading received
     (subst (λ (m : Changes). LookAlike (last_shown m.shown) (received_screens [])) (sym is) (nothing_shown (last_shown shown) grids none)) refl
 
+-- bytes that bring so many frames, whose text this is
+pub record AreCounted (text_of : List Frame → List ℕ) (count : ℕ) (bytes text : List ℕ) : Type 0 where
+  pub frames : List Frame
+  pub frames_are : AreFramesOf caption_channel frames bytes
+  pub count_is : count ≡ length frames
+  pub text_is : text ≡ text_of frames
+
+-- a reading was ended by the end of a words file of so many frames
+abbrev pub HasEndedCounted : (List Frame → List ℕ) → ℕ → Ends → Ends → Type 0
+HasEndedCounted text_of count old new = IsSteady old new × Stops (AreCounted text_of count) (IsWholeFile old.left) put.Done old new
+
+-- so it was where a receiver counts them
+pub ended_counted : {F : Type 0} → (text_of : List Frame → List ℕ) (Stands : List Frame → F → Type 0) (reading : Frames F) (count : ℕ) (old new : Ends)
+    → HasEnded text_of Stands reading old new → Counts count reading → HasEndedCounted text_of count old new
+ended_counted text_of Stands reading count old new (steady, stops) counts =
+    let had = stops.says in (
+      steady,
+      record {
+        judged = stops.judged;
+        unjudged = stops.unjudged;
+        text = stops.text;
+        taken = stops.taken;
+        within = stops.within;
+        says = record {
+          frames = had.frames;
+          frames_are = had.frames_are;
+          count_is = counts stops.judged had.frames had.received had.frames_are;
+          text_is = had.text_is;
+        };
+        cause = stops.cause;
+        output = stops.output;
+      },
+    )
+
 -- the number of frames was put behind their changes, or a front of it
-count_put : {F : Type 0} → (Stands : List Frame → F → Type 0) (reading : Frames F) (first left start now then : Option (List ℕ)) (reads later writes still last count : ℕ) (answer : Put)
-    → HasEnded changes_of Stands reading (ends first reads start writes) (ends left later now still) → Counts count reading → Puts now then answer (frames_line count)
-    → Stops (IsTextOf decode_output) (IsWholeFile first) answer (ends first reads start writes) (ends left later then last)
-count_put Stands reading first left start now then reads later writes still last count answer (steady, stops) counts line =
+count_put : (changes : List Frame → List ℕ) (first left start now then : Option (List ℕ)) (reads later writes still last count : ℕ) (answer : Put)
+    → HasEndedCounted changes count (ends first reads start writes) (ends left later now still) → Puts now then answer (frames_line count)
+    → Stops (IsTextOf (counted changes)) (IsWholeFile first) answer (ends first reads start writes) (ends left later then last)
+count_put changes first left start now then reads later writes still last count answer (steady, stops) line =
     let had = stops.says in
-    let number = counts stops.judged had.frames had.received had.frames_are in
     record {
       judged = stops.judged;
       unjudged = stops.unjudged;
@@ -77,36 +110,39 @@ count_put Stands reading first left start now then reads later writes still last
         frames = had.frames;
         frames_are = had.frames_are;
         fit = tt;
-        text_is = ap (λ l. l ++ frames_line count) had.text_is ∙ ap (λ n. changes_of had.frames ++ frames_line n) number;
+        text_is = ap (λ l. l ++ frames_line count) had.text_is ∙ ap (λ n. changes had.frames ++ frames_line n) had.count_is;
       };
       cause = stops.cause;
       output = puts_then start now then answer stops.text (frames_line count) stops.output line;
     }
 
-pub decode_done : {F : Type 0} → (Stands : List Frame → F → Type 0) (reading : Frames F) (first left start now then : Option (List ℕ)) (reads later writes still last count : ℕ)
-    → HasEnded changes_of Stands reading (ends first reads start writes) (ends left later now still) → Counts count reading → Puts now then put.Done (frames_line count)
-    → last ≡ still → DecodeAnswer (ends first reads start writes) (ends left later then last) status.Ok
-decode_done Stands reading first left start now then reads later writes still last count ended counts line same = (
+pub changes_done : (changes : List Frame → List ℕ) (first left start now then : Option (List ℕ)) (reads later writes still last count : ℕ)
+    → HasEndedCounted changes count (ends first reads start writes) (ends left later now still) → Puts now then put.Done (frames_line count)
+    → last ≡ still → ChangesAnswer changes (ends first reads start writes) (ends left later then last) status.Ok
+changes_done changes first left start now then reads later writes still last count ended line same = (
   record { reads = ended.0.reads; writes = same ∙ ended.0.writes },
-  count_put Stands reading first left start now then reads later writes still last count put.Done ended counts line,
+  count_put changes first left start now then reads later writes still last count put.Done ended line,
 )
 
-pub decode_unwritten : {F : Type 0} → (Stands : List Frame → F → Type 0) (reading : Frames F) (first left start now then : Option (List ℕ)) (reads later writes still last count : ℕ)
-    → HasEnded changes_of Stands reading (ends first reads start writes) (ends left later now still) → Counts count reading → Puts now then put.Failed (frames_line count)
-    → Rose still last → DecodeAnswer (ends first reads start writes) (ends left later then last) status.WriteFault
-decode_unwritten Stands reading first left start now then reads later writes still last count ended counts line rose =
-    inr (ended.0.reads, subst (λ n. Rose n last) ended.0.writes rose, count_put Stands reading first left start now then reads later writes still last count put.Failed ended counts line)
+pub changes_unwritten : (changes : List Frame → List ℕ) (first left start now then : Option (List ℕ)) (reads later writes still last count : ℕ)
+    → HasEndedCounted changes count (ends first reads start writes) (ends left later now still) → Puts now then put.Failed (frames_line count)
+    → Rose still last → ChangesAnswer changes (ends first reads start writes) (ends left later then last) status.WriteFault
+changes_unwritten changes first left start now then reads later writes still last count ended line rose =
+    inr (ended.0.reads, subst (λ n. Rose n last) ended.0.writes rose, count_put changes first left start now then reads later writes still last count put.Failed ended line)
 
 -- a reading that stopped before the end of the file is answered so
-decode_early : (old new : Ends) (why : Stop Never) → StopsEarly changes_of old new (stop_status never_status why) → DecodeAnswer old new (stop_status never_status why)
-decode_early old new stop.ReadFault stops = stops
-decode_early old new stop.WriteFault stops = inl stops
-decode_early old new stop.Limit stops = stops
-decode_early old new (stop.Refused refusal) stops = stops
-decode_early old new (stop.Own never) stops = elim never [ ]
+changes_early : (changes : List Frame → List ℕ) (old new : Ends) (why : Stop Never) → StopsEarly changes old new (stop_status never_status why)
+    → ChangesAnswer changes old new (stop_status never_status why)
+changes_early changes old new stop.ReadFault stops = stops
+changes_early changes old new stop.WriteFault stops = inl stops
+changes_early changes old new stop.Limit stops = stops
+changes_early changes old new (stop.Refused refusal) stops = stops
+changes_early changes old new (stop.Own never) stops = elim never [ ]
 
-pub decode_stopped : (old new : Ends) (why : Stop Never) (answer : Status) → HasStopped changes_of old new why → answer ≡ stop_status never_status why → DecodeAnswer old new answer
-decode_stopped old new why answer stops is = subst (DecodeAnswer old new) (sym is) (decode_early old new why (stopped_early changes_of old new why stops))
+pub changes_stopped : (changes : List Frame → List ℕ) (old new : Ends) (why : Stop Never) (answer : Status) → HasStopped changes old new why
+    → answer ≡ stop_status never_status why → ChangesAnswer changes old new answer
+changes_stopped changes old new why answer stops is =
+    subst (ChangesAnswer changes old new) (sym is) (changes_early changes old new why (stopped_early changes old new why stops))
 
 show_early : (frame : ℕ) (old new : Ends) (why : Stop Never) → StopsEarly (show_output frame) old new (stop_status never_status why)
     → ShowAnswer frame old new (stop_status never_status why)

@@ -16,8 +16,8 @@ use Rattle.words_reading.proofs.EarlyLemmas.{early_told, file_early, long_early,
 use Rattle.words_reading.proofs.KnownLemmas.{known_frames, known_no_file, never_whole, read_unmalformed}
 use Rattle.words_reading.specs.Answers.{IsPastLimit, StopsOwn}
 use Rattle.words_reading.specs.Causes.{IsWholeFile, words_limit}
-use Rattle.words_commands.specs.Screens.{changes_of, show_output}
-use Rattle.words_commands.specs.WordsAnswer.{DecodeAnswer, IsTextOf, NeverHalts, ShowAnswer, StopsEarly}
+use Rattle.words_commands.specs.Screens.{show_output}
+use Rattle.words_commands.specs.WordsAnswer.{ChangesAnswer, IsTextOf, NeverHalts, ShowAnswer, StopsEarly}
 use Rattle.words_commands.specs.WordsVerdict.{IsShown}
 
 -- no run stops for a reason of its own
@@ -29,12 +29,12 @@ not_own : {A : Type 0} → (old new : Ends) (answer : Status) → A ⊎ StopsOwn
 not_own old new answer (inl is) = is
 not_own old new answer (inr stops) = absurd (never_own old new answer stops)
 
-pub decode_told : (old new : Ends) (answer : Status) → DecodeAnswer old new answer → TellsFaults old new answer
-decode_told old new status.Ok answered = steady_told old new status.Ok answered.0.reads answered.0.writes
-decode_told old new status.WriteFault (inl answered) = write_told old new answered.0
-decode_told old new status.WriteFault (inr answered) = write_told old new answered.0
-decode_told old new status.Memory answered = same_told old new status.Memory answered
-decode_told old new answer answered = early_told (IsTextOf changes_of) NeverHalts old new answer answered
+pub changes_told : (changes : List Frame → List ℕ) (old new : Ends) (answer : Status) → ChangesAnswer changes old new answer → TellsFaults old new answer
+changes_told changes old new status.Ok answered = steady_told old new status.Ok answered.0.reads answered.0.writes
+changes_told changes old new status.WriteFault (inl answered) = write_told old new answered.0
+changes_told changes old new status.WriteFault (inr answered) = write_told old new answered.0
+changes_told changes old new status.Memory answered = same_told old new status.Memory answered
+changes_told changes old new answer answered = early_told (IsTextOf changes) NeverHalts old new answer answered
 
 pub show_told : (frame : ℕ) (old new : Ends) (answer : Status) → ShowAnswer frame old new answer → TellsFaults old new answer
 show_told frame old new status.Ok answered = steady_told old new status.Ok answered.0.reads answered.0.writes
@@ -48,14 +48,14 @@ file_stopped : (text_of : List Frame → List ℕ) (bytes : List ℕ) (frames : 
 file_stopped text_of bytes frames old new answer file within read stops =
     never_own old new answer (file_early (IsTextOf text_of) NeverHalts bytes frames old new answer file within read stops)
 
--- a file is decoded
-pub file_decoded : (bytes : List ℕ) (frames : List Frame) (old new : Ends) (answer : Status) → IsFileUnder caption_channel frames bytes
-    → length bytes ≤ words_limit → IsReadOf bytes old new → DecodeAnswer old new answer → (answer ≡ status.Ok) ⊎ (answer ≡ status.Memory)
-file_decoded bytes frames old new status.Ok file within read answered = inl refl
-file_decoded bytes frames old new status.Memory file within read answered = inr refl
-file_decoded bytes frames old new status.WriteFault file within read (inl answered) = absurd (read.writes answered.1)
-file_decoded bytes frames old new status.WriteFault file within read (inr answered) = absurd (read.writes answered.1)
-file_decoded bytes frames old new answer file within read answered = absurd (file_stopped changes_of bytes frames old new answer file within read answered)
+-- the changes of a file are put
+pub file_changes : (changes : List Frame → List ℕ) (bytes : List ℕ) (frames : List Frame) (old new : Ends) (answer : Status) → IsFileUnder caption_channel frames bytes
+    → length bytes ≤ words_limit → IsReadOf bytes old new → ChangesAnswer changes old new answer → (answer ≡ status.Ok) ⊎ (answer ≡ status.Memory)
+file_changes changes bytes frames old new status.Ok file within read answered = inl refl
+file_changes changes bytes frames old new status.Memory file within read answered = inr refl
+file_changes changes bytes frames old new status.WriteFault file within read (inl answered) = absurd (read.writes answered.1)
+file_changes changes bytes frames old new status.WriteFault file within read (inr answered) = absurd (read.writes answered.1)
+file_changes changes bytes frames old new answer file within read answered = absurd (file_stopped changes bytes frames old new answer file within read answered)
 
 -- a file is shown
 pub file_shown : (frame : ℕ) (bytes : List ℕ) (frames : List Frame) (old new : Ends) (answer : Status) → IsFileUnder caption_channel frames bytes
@@ -78,13 +78,13 @@ malformed_stopped : (text_of : List Frame → List ℕ) (bytes : List ℕ) (refu
 malformed_stopped text_of bytes refusal old new answer malformed within read stops =
     not_own old new answer (malformed_early (IsTextOf text_of) NeverHalts bytes refusal old new answer malformed within read stops)
 
-pub decode_refused : (bytes : List ℕ) (refusal : Refusal) (old new : Ends) (answer : Status) → IsMalformed caption_channel bytes refusal → length bytes ≤ words_limit → IsReadOf bytes old new
-    → DecodeAnswer old new answer → (answer ≡ status.Malformed (Byte refusal.place) refusal.why) ⊎ (answer ≡ status.Memory)
-decode_refused bytes refusal old new status.Ok malformed within read answered = absurd (read_unmalformed _ bytes refusal put.Done old new malformed read answered.1)
-decode_refused bytes refusal old new status.Memory malformed within read answered = inr refl
-decode_refused bytes refusal old new status.WriteFault malformed within read (inl answered) = absurd (read.writes answered.1)
-decode_refused bytes refusal old new status.WriteFault malformed within read (inr answered) = absurd (read.writes answered.1)
-decode_refused bytes refusal old new answer malformed within read answered = inl (malformed_stopped changes_of bytes refusal old new answer malformed within read answered)
+pub changes_refused : (changes : List Frame → List ℕ) (bytes : List ℕ) (refusal : Refusal) (old new : Ends) (answer : Status) → IsMalformed caption_channel bytes refusal → length bytes ≤ words_limit → IsReadOf bytes old new
+    → ChangesAnswer changes old new answer → (answer ≡ status.Malformed (Byte refusal.place) refusal.why) ⊎ (answer ≡ status.Memory)
+changes_refused changes bytes refusal old new status.Ok malformed within read answered = absurd (read_unmalformed _ bytes refusal put.Done old new malformed read answered.1)
+changes_refused changes bytes refusal old new status.Memory malformed within read answered = inr refl
+changes_refused changes bytes refusal old new status.WriteFault malformed within read (inl answered) = absurd (read.writes answered.1)
+changes_refused changes bytes refusal old new status.WriteFault malformed within read (inr answered) = absurd (read.writes answered.1)
+changes_refused changes bytes refusal old new answer malformed within read answered = inl (malformed_stopped changes bytes refusal old new answer malformed within read answered)
 
 pub show_refused : (frame : ℕ) (bytes : List ℕ) (refusal : Refusal) (old new : Ends) (answer : Status) → IsMalformed caption_channel bytes refusal → length bytes ≤ words_limit → IsReadOf bytes old new
     → ShowAnswer frame old new answer → (answer ≡ status.Malformed (Byte refusal.place) refusal.why) ⊎ (answer ≡ status.Memory)
@@ -102,13 +102,13 @@ long_stopped : (text_of : List Frame → List ℕ) (bytes : List ℕ) (old new :
     → StopsEarly text_of old new answer → IsPastLimit bytes answer
 long_stopped text_of bytes old new answer past read stops = not_own old new answer (long_early (IsTextOf text_of) NeverHalts bytes old new answer past read stops)
 
-pub decode_long : (bytes : List ℕ) (old new : Ends) (answer : Status) → words_limit < length bytes → IsReadOf bytes old new → DecodeAnswer old new answer
+pub changes_long : (changes : List Frame → List ℕ) (bytes : List ℕ) (old new : Ends) (answer : Status) → words_limit < length bytes → IsReadOf bytes old new → ChangesAnswer changes old new answer
     → IsPastLimit bytes answer ⊎ (answer ≡ status.Memory)
-decode_long bytes old new status.Ok past read answered = absurd (never_whole _ (IsWholeFile old.left) put.Done bytes old new past read answered.1 answered.1.cause.0)
-decode_long bytes old new status.Memory past read answered = inr refl
-decode_long bytes old new status.WriteFault past read (inl answered) = absurd (read.writes answered.1)
-decode_long bytes old new status.WriteFault past read (inr answered) = absurd (read.writes answered.1)
-decode_long bytes old new answer past read answered = inl (long_stopped changes_of bytes old new answer past read answered)
+changes_long changes bytes old new status.Ok past read answered = absurd (never_whole _ (IsWholeFile old.left) put.Done bytes old new past read answered.1 answered.1.cause.0)
+changes_long changes bytes old new status.Memory past read answered = inr refl
+changes_long changes bytes old new status.WriteFault past read (inl answered) = absurd (read.writes answered.1)
+changes_long changes bytes old new status.WriteFault past read (inr answered) = absurd (read.writes answered.1)
+changes_long changes bytes old new answer past read answered = inl (long_stopped changes bytes old new answer past read answered)
 
 pub show_long : (frame : ℕ) (bytes : List ℕ) (old new : Ends) (answer : Status) → words_limit < length bytes → IsReadOf bytes old new → ShowAnswer frame old new answer
     → IsPastLimit bytes answer ⊎ (answer ≡ status.Memory)

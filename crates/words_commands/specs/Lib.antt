@@ -1,3 +1,5 @@
+pub mod ConcealedScreens
+pub mod Concealing
 pub mod Screens
 pub mod WordsAnswer
 pub mod WordsVerdict

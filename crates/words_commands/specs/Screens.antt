@@ -6,25 +6,31 @@ use Rattle.grid_print.specs.GridTexts.{all_text, changes_text}
 use Rattle.grid_print.specs.Screens.{received_screens}
 use Rattle.cc_base.specs.Texts.{text}
 
--- the changed screens of each frame against the one before it, of frames that come behind others; before the first frame of
--- all, every screen is empty and no window is shown
-abbrev pub changes_behind : List Frame → List Frame → List ℕ
-changes_behind before [] = []
-changes_behind before (frame ∷ frames) =
-    changes_text (length before) (received_screens before) (received_screens (before ++ frame ∷ []))
-    ++ changes_behind (before ++ frame ∷ []) frames
+-- of frames that come behind others, the text that stands for each behind those before it
+abbrev pub texts_behind : (List Frame → Frame → List ℕ) → List Frame → List Frame → List ℕ
+texts_behind text_of before [] = []
+texts_behind text_of before (frame ∷ frames) = text_of before frame ++ texts_behind text_of (before ++ frame ∷ []) frames
+
+-- the changed screens of a frame against those of the frames before it; before the first frame of all, every screen is empty and no
+-- window is shown
+abbrev pub next_changes : List Frame → Frame → List ℕ
+next_changes before frame = changes_text (length before) (received_screens before) (received_screens (before ++ frame ∷ []))
 
 -- the changed screens of each frame
 abbrev pub changes_of : List Frame → List ℕ
-changes_of frames = changes_behind [] frames
+changes_of frames = texts_behind next_changes [] frames
 
 -- the line of the number of frames: `frames N`
 abbrev pub frames_line : ℕ → List ℕ
 frames_line count = text (codes "frames " ∷ decimal count ∷ codes "\n" ∷ [])
 
+-- the changes of frames, and then their number
+abbrev pub counted : (List Frame → List ℕ) → List Frame → List ℕ
+counted changes frames = changes frames ++ frames_line (length frames)
+
 -- `decode` puts the changed screens of each frame, and then the number of frames
 abbrev pub decode_output : List Frame → List ℕ
-decode_output frames = changes_of frames ++ frames_line (length frames)
+decode_output frames = counted changes_of frames
 
 -- `show` puts all screens of the frame of this number, once it is whole
 abbrev pub show_output : ℕ → List Frame → List ℕ

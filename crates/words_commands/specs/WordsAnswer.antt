@@ -13,7 +13,8 @@ use Rattle.words_reading.specs.Answers.{StopsEarlyAs}
 use Rattle.words_reading.specs.Causes.{Cause, IsWholeFile, IsWholeInput}
 use Rattle.words_reading.specs.FrameTexts.{FramesSay}
 use Rattle.words_reading.specs.Reading.{Stops}
-use Rattle.words_commands.specs.Screens.{changes_of, decode_output, show_output}
+use Rattle.words_commands.specs.ConcealedScreens.{concealed_changes}
+use Rattle.words_commands.specs.Screens.{changes_of, counted, show_output}
 
 -- this is the text of the frames that bytes bring
 abbrev pub IsTextOf : (List Frame → List ℕ) → List ℕ → List ℕ → Type 0
@@ -27,15 +28,22 @@ NeverHalts answer bytes text = ⊥
 abbrev pub StopsEarly : (List Frame → List ℕ) → Ends → Ends → Status → Type 0
 StopsEarly text_of old new answer = StopsEarlyAs (IsTextOf text_of) NeverHalts old new answer
 
--- what `decode` answers
-abbrev pub DecodeAnswer : Ends → Ends → Status → Type 0
-DecodeAnswer old new status.Ok = IsSteady old new × Stops (IsTextOf decode_output) (IsWholeFile old.left) put.Done old new
-DecodeAnswer old new status.WriteFault =
-    StopsEarly changes_of old new status.WriteFault
+-- what is answered where the changes of frames are put, and at the end their number
+abbrev pub ChangesAnswer : (List Frame → List ℕ) → Ends → Ends → Status → Type 0
+ChangesAnswer changes old new status.Ok = IsSteady old new × Stops (IsTextOf (counted changes)) (IsWholeFile old.left) put.Done old new
+ChangesAnswer changes old new status.WriteFault =
+    StopsEarly changes old new status.WriteFault
     ⊎ ((new.read_faults ≡ old.read_faults) × Rose old.write_faults new.write_faults
-    × Stops (IsTextOf decode_output) (IsWholeFile old.left) put.Failed old new)
-DecodeAnswer old new status.Memory = new ≡ old
-DecodeAnswer old new answer = StopsEarly changes_of old new answer
+    × Stops (IsTextOf (counted changes)) (IsWholeFile old.left) put.Failed old new)
+ChangesAnswer changes old new status.Memory = new ≡ old
+ChangesAnswer changes old new answer = StopsEarly changes old new answer
+
+-- what `decode` answers, and what `conceal` does
+abbrev pub DecodeAnswer : Ends → Ends → Status → Type 0
+DecodeAnswer old new answer = ChangesAnswer changes_of old new answer
+
+abbrev pub ConcealAnswer : Ends → Ends → Status → Type 0
+ConcealAnswer old new answer = ChangesAnswer concealed_changes old new answer
 
 -- the input is a words file that has the frame of this number
 abbrev pub HasFrame : ℕ → Option (List ℕ) → Cause

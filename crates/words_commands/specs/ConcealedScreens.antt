@@ -1,0 +1,32 @@
+-- What `conceal` puts of frames of which some are missing: how many are missing before each, and the screens that a concealing receiver
+-- shows (CTA-608-E; CTA-708-E; 47 CFR 79.101; the numbers by SMPTE ST 334-2, cdp_hdr_sequence_cntr).
+use Rattle.std.specs.Prelude.{ℕ, ◌==◌, if◌then◌else◌, List, [], ◌∷◌, ◌++◌, codes, decimal}
+use Rattle.cc_base.specs.Texts.{text}
+use Rattle.cc_conceal.specs.Concealed.{concealed_grids, concealed_windows, missing_before, number_of}
+use Rattle.cdp_packets.specs.Packets.{Packet as Frame}
+use Rattle.grid_print.specs.GridTexts.{changes_text}
+use Rattle.grid_print.specs.Screens.{Screens, screens_of}
+use Rattle.words_commands.specs.Screens.{counted, texts_behind}
+
+-- the screens that a concealing receiver shows behind frames
+abbrev pub concealed_screens : List Frame → Screens
+concealed_screens frames = screens_of (concealed_grids frames) (concealed_windows frames)
+
+-- the line of frames that are missing before one: `lost N before F`; none where none is missing
+abbrev pub lost_line : ℕ → ℕ → List ℕ
+lost_line missing frame =
+    if missing == 0 then [] else text (codes "lost " ∷ decimal missing ∷ codes " before " ∷ decimal frame ∷ codes "\n" ∷ [])
+
+-- of a frame behind others the line of those missing before it, and the changed screens, both with its number
+abbrev pub next_concealed : List Frame → Frame → List ℕ
+next_concealed before frame =
+    let frames = before ++ frame ∷ [] in
+    lost_line (missing_before frames) (number_of frames) ++ changes_text (number_of frames) (concealed_screens before) (concealed_screens frames)
+
+-- those of each frame
+abbrev pub concealed_changes : List Frame → List ℕ
+concealed_changes frames = texts_behind next_concealed [] frames
+
+-- `conceal` puts those of each frame, and then the number of frames that came
+abbrev pub conceal_output : List Frame → List ℕ
+conceal_output frames = counted concealed_changes frames
