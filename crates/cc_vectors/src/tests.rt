@@ -118,9 +118,9 @@ fn broken(why: Why) -> Status {
 #[test]
 fn words_that_are_no_command_are_usage(rt: HostRuntime) -> Result<(), Fail> {
     let usage =
-        b"usage: ccsuite pairs|build|decode|show FRAME|verify CUES|insert CUES|import|export TIME|cues|load N\n";
+        b"usage: ccsuite pairs|build|decode|show FRAME|verify CUES|insert CUES|import|export TIME|cues|load N|conceal\n";
     let none: [&str; 0] = [];
-    let lists: [&[&str]; 31] = [
+    let lists: [&[&str]; 32] = [
         &none,
         &["pairs", "x"],
         &["Pairs"],
@@ -152,6 +152,7 @@ fn words_that_are_no_command_are_usage(rt: HostRuntime) -> Result<(), Fail> {
         &["load", "+3"],
         &["load", "10001"],
         &["load", "3", "3"],
+        &["conceal", "x"],
     ];
     for words in lists {
         let ended = run_to_end(

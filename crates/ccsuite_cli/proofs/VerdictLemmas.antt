@@ -10,9 +10,11 @@ use Rattle.cue_list_commands.proofs.SideLemmas.{side_kept}
 use Rattle.insert_commands.proofs.VerdictLemmas.{insert_told}
 use Rattle.load_commands.proofs.VerdictLemmas.{load_told}
 use Rattle.verify_commands.proofs.VerdictLemmas.{verify_told}
-use Rattle.words_commands.proofs.WordsVerdictLemmas.{decode_long, decode_refused, decode_told, show_long, show_refused, show_told}
-use Rattle.ccsuite_cli.specs.Verdict.{AcceptedIsAnswered, FaultsAreTold, LongWordsAreRefused, MalformedIsRefused, RefusedListIsAnswered}
-use Rattle.ccsuite_cli.specs.declared.command.Command.TheVariants.{Build, Cues, Decode, Export, Import, Insert, Load, Pairs, Show, Verify}
+use Rattle.words_commands.proofs.WordsVerdictLemmas.{changes_long, changes_refused, changes_told, file_changes, show_long, show_refused, show_told}
+use Rattle.words_commands.specs.ConcealedScreens.{concealed_changes}
+use Rattle.words_commands.specs.Screens.{changes_of}
+use Rattle.ccsuite_cli.specs.Verdict.{AcceptedIsAnswered, FaultsAreTold, FileIsDecoded, LongWordsAreRefused, MalformedIsRefused, RefusedListIsAnswered}
+use Rattle.ccsuite_cli.specs.declared.command.Command.TheVariants.{Build, Conceal, Cues, Decode, Export, Import, Insert, Load, Pairs, Show, Verify}
 
 -- an accepted list
 pub accepted_answered : AcceptedIsAnswered
@@ -30,13 +32,22 @@ refused_answered bytes refusal _ side later old new answer refuses read is = abs
 
 -- malformed words
 pub malformed_refused : MalformedIsRefused
-malformed_refused bytes refusal Decode side later old new answer reads malformed within read is = decode_refused bytes refusal old new answer malformed within read is.1
+malformed_refused bytes refusal Decode side later old new answer reads malformed within read is = changes_refused changes_of bytes refusal old new answer malformed within read is.1
+malformed_refused bytes refusal Conceal side later old new answer reads malformed within read is =
+    changes_refused concealed_changes bytes refusal old new answer malformed within read is.1
 malformed_refused bytes refusal (Show frame) side later old new answer reads malformed within read is = show_refused frame bytes refusal old new answer malformed within read is.1
 malformed_refused bytes refusal _ side later old new answer reads malformed within read is = absurd reads
 
+-- a words file
+pub file_put : FileIsDecoded
+file_put bytes frames Decode side later old new answer puts file within read is = file_changes changes_of bytes frames old new answer file within read is.1
+file_put bytes frames Conceal side later old new answer puts file within read is = file_changes concealed_changes bytes frames old new answer file within read is.1
+file_put bytes frames _ side later old new answer puts file within read is = absurd puts
+
 -- words past the limit
 pub long_refused : LongWordsAreRefused
-long_refused bytes Decode side later old new answer reads past read is = decode_long bytes old new answer past read is.1
+long_refused bytes Decode side later old new answer reads past read is = changes_long changes_of bytes old new answer past read is.1
+long_refused bytes Conceal side later old new answer reads past read is = changes_long concealed_changes bytes old new answer past read is.1
 long_refused bytes (Show frame) side later old new answer reads past read is = show_long frame bytes old new answer past read is.1
 long_refused bytes _ side later old new answer reads past read is = absurd reads
 
@@ -50,10 +61,11 @@ faults_told None side later old new answer is = (side_same side later answer is.
 faults_told (Some Pairs) side later old new answer is = (side_same side later answer is.0, told_pairs old new answer is.1)
 faults_told (Some Build) side later old new answer is = (side_same side later answer is.0, told_build old new answer is.1)
 faults_told (Some Cues) side later old new answer is = (side_same side later answer is.0, told_cues old new answer is.1)
-faults_told (Some Decode) side later old new answer is = (side_same side later answer is.0, decode_told old new answer is.1)
+faults_told (Some Decode) side later old new answer is = (side_same side later answer is.0, changes_told changes_of old new answer is.1)
 faults_told (Some (Show frame)) side later old new answer is = (side_same side later answer is.0, show_told frame old new answer is.1)
 faults_told (Some Verify) side later old new answer is = verify_told side later old new answer is
 faults_told (Some Insert) side later old new answer is = insert_told side later old new answer is
 faults_told (Some Import) side later old new answer is = (side_same side later answer is.0, told_import old new answer is.1)
 faults_told (Some (Export time)) side later old new answer is = (side_same side later answer is.0, told_export time old new answer is.1)
 faults_told (Some (Load count)) side later old new answer is = (side_same side later answer is.0, load_told count old new answer is.1)
+faults_told (Some Conceal) side later old new answer is = (side_same side later answer is.0, changes_told concealed_changes old new answer is.1)

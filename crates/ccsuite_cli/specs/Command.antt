@@ -7,7 +7,7 @@ use Rattle.time_codes.specs.Texts.{time_of_text}
 use Rattle.time_codes.specs.TimeCodes.{is_time_code}
 use Rattle.time_codes.specs.declared.time_code.TimeCode.{TimeCode}
 use Rattle.ccsuite_cli.specs.declared.command.Command.{Command}
-use Rattle.ccsuite_cli.specs.declared.command.Command.TheVariants.{Build, Cues, Decode, Export, Import, Insert, Load, Pairs, Show, Verify}
+use Rattle.ccsuite_cli.specs.declared.command.Command.TheVariants.{Build, Conceal, Cues, Decode, Export, Import, Insert, Load, Pairs, Show, Verify}
 
 -- the last frame that `show` can name
 abbrev pub last_frame : ℕ
@@ -42,6 +42,7 @@ commands =
     ∷ (codes "export", Argument (codes "TIME") (λ time. option_map Export (start_of time)))
     ∷ (codes "cues", Nothing Cues)
     ∷ (codes "load", Argument (codes "N") (λ count. option_map Load (number_within 1 most_load count)))
+    ∷ (codes "conceal", Nothing Conceal)
     ∷ []
 
 -- the command of a word behind which nothing stands

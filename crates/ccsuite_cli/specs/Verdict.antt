@@ -22,7 +22,7 @@ use Rattle.cue_list_commands.specs.SideEnds.{SideEnds}
 use Rattle.cue_list_commands.specs.SideLists.{TellsAllFaults}
 use Rattle.ccsuite_cli.specs.Answer.{Answer}
 use Rattle.ccsuite_cli.specs.declared.command.Command.{Command}
-use Rattle.ccsuite_cli.specs.declared.command.Command.TheVariants.{Build, Cues, Decode, Import, Load, Pairs, Show}
+use Rattle.ccsuite_cli.specs.declared.command.Command.TheVariants.{Build, Conceal, Cues, Decode, Import, Load, Pairs, Show}
 
 -- the commands that read a cue list
 abbrev pub ReadsCueList : Command → Type 0
@@ -56,11 +56,17 @@ RefusedListIsAnswered = (bytes : List ℕ) (refusal : Status) (command : Command
     → Refuses command bytes refusal → IsReadOf bytes old new → Answer (Some command) side later old new answer
     → (answer ≡ refusal) ⊎ (answer ≡ status.Memory)
 
--- `decode` answers a words file Ok, or want of memory
+-- the commands that put the changes of a words file
+abbrev pub PutsChanges : Command → Type 0
+PutsChanges Decode = Unit {0}
+PutsChanges Conceal = Unit {0}
+PutsChanges _ = ⊥
+
+-- they answer a words file Ok, or want of memory
 abbrev pub FileIsDecoded : Type 0
-FileIsDecoded = (bytes : List ℕ) (frames : List Frame) (side later : SideEnds) (old new : Ends) (answer : Status)
-    → IsFileUnder caption_channel frames bytes → length bytes ≤ words_limit → IsReadOf bytes old new → Answer (Some Decode) side later old new answer
-    → (answer ≡ status.Ok) ⊎ (answer ≡ status.Memory)
+FileIsDecoded = (bytes : List ℕ) (frames : List Frame) (command : Command) (side later : SideEnds) (old new : Ends) (answer : Status)
+    → PutsChanges command → IsFileUnder caption_channel frames bytes → length bytes ≤ words_limit → IsReadOf bytes old new
+    → Answer (Some command) side later old new answer → (answer ≡ status.Ok) ⊎ (answer ≡ status.Memory)
 
 -- `show` answers a words file by the number of its frames, or want of memory
 abbrev pub FileIsShown : Type 0
@@ -71,6 +77,7 @@ FileIsShown = (frame : ℕ) (bytes : List ℕ) (frames : List Frame) (side later
 -- the commands that read words
 abbrev pub ReadsWordsFile : Command → Type 0
 ReadsWordsFile Decode = Unit {0}
+ReadsWordsFile Conceal = Unit {0}
 ReadsWordsFile (Show frame) = Unit {0}
 ReadsWordsFile _ = ⊥
 

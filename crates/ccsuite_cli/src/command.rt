@@ -32,11 +32,13 @@ pub enum Command {
     Export(TimeCode),
     /// `load N`: what comes of a list of so many captions, 1 to 10,000.
     Load(u32),
+    /// `conceal`: the changed screens of each frame of a words file from which frames may be missing.
+    Conceal,
 }
 
 /// The line for words that are no command.
 pub(crate) const USAGE: &[u8] =
-    b"usage: ccsuite pairs|build|decode|show FRAME|verify CUES|insert CUES|import|export TIME|cues|load N\n";
+    b"usage: ccsuite pairs|build|decode|show FRAME|verify CUES|insert CUES|import|export TIME|cues|load N|conceal\n";
 
 /// The last frame that `show` can name.
 const LAST_FRAME: u64 = 4_294_967_294;
@@ -82,6 +84,7 @@ fn read_word(word: &str) -> Option<Command>
         "cues" => Some(Command::Cues),
         "decode" => Some(Command::Decode),
         "import" => Some(Command::Import),
+        "conceal" => Some(Command::Conceal),
         _ => None,
     }
 }

@@ -15,7 +15,7 @@ use load_commands::run_load;
 use scc_commands::{run_export, run_import};
 use std::alloc::Global;
 use verify_commands::run_verify;
-use words_commands::{run_decode, run_show};
+use words_commands::{run_conceal, run_decode, run_show};
 
 /// Runs the command of the words behind the program's name: reads `input`, puts to `out`, and ends with a status, whose
 /// one line is put to `err`. `side` is the file that a command names; a command that names none leaves it.
@@ -86,5 +86,6 @@ fn perform<M: Source, S: Source, O: Sink>(
         Command::Import => run_import(alloc, input, out),
         Command::Export(time) => run_export(alloc, time, input, out),
         Command::Load(count) => run_load(alloc, count, out),
+        Command::Conceal => run_conceal(alloc, input, out),
     }
 }
