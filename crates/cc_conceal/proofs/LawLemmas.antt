@@ -1,10 +1,8 @@
 -- The laws of concealed frames.
-use Rattle.std.proofs.Common.{◌≡◌, ◌∙◌, ℕ, ◌&&◌, Bool, true, false, if◌then◌else◌, List, [], ◌∷◌, ◌++◌, map, reverse, All, refl, sym, ap, subst, append-nil, append_assoc}
+use Rattle.std.proofs.Common.{◌≡◌, ◌∙◌, Bool, true, if◌then◌else◌, List, [], ◌∷◌, ◌++◌, map, reverse, All, refl, sym, ap, append_assoc}
 use Rattle.std.proofs.lemmas.Bool.{and_parts}
 use Rattle.std.proofs.lemmas.List.{reverse-append, reverse-reverse}
 use Rattle.std.proofs.lemmas.List.Elements.{All-head, All-tail}
-use Rattle.line21_codes.specs.declared.channels.Chan.{Chan}
-use Rattle.line21_codes.specs.declared.channels.FieldNumber.{FieldNumber}
 use Rattle.line21_codes.specs.declared.pairs.Pair.{Pair}
 use Rattle.line21_codes.specs.Channels.{data_channel_of, field_of_channel}
 use Rattle.line21_codes.specs.Parity.{has_odd_parity, is_odd}
@@ -13,7 +11,7 @@ use Rattle.line21_screen.specs.Meaning.{after}
 use Rattle.cdp_packets.specs.Packets.{Packet as Frame}
 use Rattle.words_files.specs.Received.{received_pairs}
 use Rattle.cc_receiver.specs.ReceivedServices.{received_windows}
-use Rattle.cc_conceal.specs.Concealed.{concealed, goes_on, heard_back, heard_of}
+use Rattle.cc_conceal.specs.Concealed.{concealed, heard_back, heard_of}
 use Rattle.cc_conceal.specs.Laws.{GoOn, WholeIsReceived}
 
 -- where no counter jumps all are heard

@@ -1,5 +1,5 @@
 -- A frame more that is taken, and what is then told to the services.
-use Rattle.std.proofs.Common.{◌≡◌, ◌∙◌, ℕ, ◌+◌, ◌<◌, Bool, true, false, List, [], ◌∷◌, ◌++◌, length, Option, Some, None, refl, sym, ap, subst, append_assoc, append-nil, arith}
+use Rattle.std.proofs.Common.{◌≡◌, ◌∙◌, ℕ, Bool, true, false, List, [], ◌∷◌, ◌++◌, refl, sym, ap, subst, append_assoc, append-nil}
 use Rattle.std.specs.Prelude.{Result, Ok, Err, take}
 use Rattle.std.proofs.lemmas.Grind.{flat_map-append}
 use Rattle.cc_base.specs.declared.rate.Rate.{Rate}
@@ -12,7 +12,7 @@ use Rattle.dtvcc_screen.specs.Meaning.{Event, Served, Tick, after, cleaned, star
 use Rattle.dtvcc_screen.specs.Screens.{ScreenState}
 use Rattle.dtvcc_screen.specs.Shown.{grids}
 use Rattle.dtvcc_screen.specs.declared.clock.Clock.{Clock}
-use Rattle.dtvcc_services.specs.Objects.{Events, served_now}
+use Rattle.dtvcc_services.specs.Objects.{Events}
 use Rattle.service_blocks.specs.Channels.{IsHeard, heard_behind}
 use Rattle.service_blocks.proofs.ChannelLemmas.{channel_heard}
 use Rattle.services_files.specs.CaptionChannel.{caption_channel}
@@ -29,7 +29,7 @@ use Rattle.cc_receiver.specs.declared.receiver.Receiver.{Receiver}
 use Rattle.cc_receiver.specs.declared.services.Served.{Served as ServedOf}
 use Rattle.cc_receiver.proofs.FedFrames.{frames_still}
 use Rattle.cc_conceal.specs.Concealed.{heard_of}
-use Rattle.cc_conceal.specs.Concealers.{Conceals, ConcealsOn, HasConcealed, IsBehind, LeadFromReset, jumps_from, kept_at}
+use Rattle.cc_conceal.specs.Concealers.{Conceals, ConcealsOn, HasConcealed, LeadFromReset, kept_at}
 use Rattle.cc_conceal.specs.declared.concealer.Concealer.{Concealer}
 use Rattle.cc_conceal.proofs.HeardLemmas.{heard_suffix}
 use Rattle.dtvcc_screen.proofs.MeaningLemmas.{after_append}

@@ -1,4 +1,4 @@
-use Rattle.std.proofs.Common.{◌≡◌, ◌∙◌, Bool, false, ℕ, ◌≤◌, ◌*◌, Option, ◌+◌, ◌∷◌, ◌++◌, [], List, refl, sym, ap, subst, length, length-append, arith}
+use Rattle.std.proofs.Common.{◌≡◌, ◌∙◌, Bool, false, ℕ, ◌≤◌, ◌*◌, Option, ◌∷◌, ◌++◌, [], List, refl, sym, ap, subst, length, length-append, arith}
 use Rattle.cdp_packets.specs.Packets.{Packet as Frame}
 use Rattle.cc_receiver.specs.Receivers.{HasReceived}
 use Rattle.cc_conceal.specs.Concealed.{heard_of, missing_before, number_of}

@@ -1,10 +1,9 @@
-use Rattle.std.proofs.Common.{◌≡◌, ◌∙◌, ◌+◌, ◌++◌, ◌∷◌, [], Ok, ap, arith, length, subst, sym, take, Err, rules}
+use Rattle.std.proofs.Common.{◌≡◌, ◌∙◌, ◌+◌, ◌++◌, ◌∷◌, [], Ok, ap, arith, subst, sym, take, Err, rules}
 use Rattle.cc_receiver.proofs.FedFrames.{counts_none, frame_more}
 use Rattle.cc_receiver.proofs.TakenLemmas.{frames_count}
 use Rattle.cc_receiver.specs.Feeds.{Counts, Feeds}
 use Rattle.cc_receiver.specs.declared.receiver.Receiver.{Receiver}
 use Rattle.cc_receiver.specs.Receivers.{HasReceived, frame_count, receiver_refusal}
-use Rattle.cc_conceal.specs.Concealers.{Conceals, IsBehind}
 use Rattle.cc_conceal.proofs.TakeLemmas.{concealed_still}
 use Rattle.cc_conceal.proofs.concealer.Concealer.feed.Goals as goal
 

@@ -1,4 +1,4 @@
-use Rattle.std.proofs.Common.{refl, arith, [], ◌∷◌}
+use Rattle.std.proofs.Common.{refl, arith, []}
 use Rattle.dtvcc_screen.specs.Meaning.{start}
 use Rattle.words_files.proofs.FramesOfLemmas.{file_frames}
 use Rattle.services_files.specs.CaptionChannel.{caption_channel}

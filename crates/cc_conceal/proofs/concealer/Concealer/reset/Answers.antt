@@ -1,6 +1,6 @@
-use Rattle.std.proofs.Common.{◌∙◌, ◌∷◌, ◌++◌, [], refl, sym, ap, map, reverse}
+use Rattle.std.proofs.Common.{◌∙◌, ◌∷◌, ◌++◌, [], sym, ap, map, reverse}
 use Rattle.line21_codes.specs.declared.channels.FieldNumber.TheVariants.{One, Two}
-use Rattle.dtvcc_screen.specs.Meaning.{Reset, Served, on_event, start, after}
+use Rattle.dtvcc_screen.specs.Meaning.{Reset, start, after}
 use Rattle.words_files.specs.Received.{received_pairs}
 use Rattle.cc_conceal.specs.Concealed.{concealed}
 use Rattle.cc_conceal.proofs.HeardLemmas.{no_last}

@@ -1,4 +1,4 @@
-use Rattle.std.proofs.Common.{◌∙◌, ◌∷◌, ◌++◌, [], List, refl, sym, ap, subst, map, reverse}
+use Rattle.std.proofs.Common.{◌∙◌, ◌++◌, List, refl, sym, ap, subst, map, reverse}
 use Rattle.cdp_packets.specs.PacketTriplets.{packet_triplets}
 use Rattle.line21_codes.specs.declared.channels.FieldNumber.TheVariants.{One, Two}
 use Rattle.line21_codes.specs.declared.pairs.Pair.{Pair}

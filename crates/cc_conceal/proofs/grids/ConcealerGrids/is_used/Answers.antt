@@ -1,4 +1,4 @@
-use Rattle.std.proofs.Common.{◌≡◌, ◌∙◌, Option, ap, ℕ}
+use Rattle.std.proofs.Common.{◌∙◌, Option, ap, ℕ}
 use Rattle.dtvcc_windows.specs.Showing.{ShownWindow}
 use Rattle.cc_conceal.proofs.grids.ConcealerGrids.is_used.Goals as goal
 
