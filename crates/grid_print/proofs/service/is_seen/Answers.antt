@@ -1,5 +1,4 @@
 use Rattle.std.proofs.Common.{◌∙◌, ap, is_some, sym}
-use Rattle.dtvcc_windows.specs.Showing.{shown}
 use Rattle.grid_print.proofs.service.is_seen.Goals as goal
 
 pub returns-in-Some : goal.returns-in-Some

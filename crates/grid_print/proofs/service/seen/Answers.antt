@@ -1,5 +1,4 @@
-use Rattle.std.proofs.Common.{◌∙◌, ap, sym}
-use Rattle.dtvcc_windows.specs.Showing.{shown}
+use Rattle.std.proofs.Common.{◌∙◌, sym}
 use Rattle.grid_print.proofs.KeptLemmas.{none_where_unseen}
 use Rattle.grid_print.proofs.service.seen.Goals as goal
 

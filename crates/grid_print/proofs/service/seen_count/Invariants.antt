@@ -1,4 +1,4 @@
-use Rattle.std.proofs.Common.{◌≡◌, ◌≤◌, List, length}
+use Rattle.std.proofs.Common.{◌≡◌, ◌≤◌, length}
 use Rattle.std.specs.Prelude.{ℕ, Option}
 use Rattle.dtvcc_windows.specs.Showing.{ShownWindow}
 use Rattle.grid_print.proofs.ServiceLemmas.{shown_below}

@@ -1,4 +1,4 @@
-use Rattle.std.proofs.Common.{List, [], ◌+◌, if◌then◌else◌}
+use Rattle.std.proofs.Common.{[], ◌+◌, if◌then◌else◌}
 use Rattle.std.specs.List.{flat_map, range_with_len}
 use Rattle.std.specs.Prelude.{ℕ, Option}
 use Rattle.dtvcc_windows.specs.Showing.{ShownWindow}

@@ -1,9 +1,8 @@
-use Rattle.std.proofs.Common.{◌≡◌, ◌∙◌, ap, refl, subst}
-use Rattle.cc_base.specs.Streams.{Puts}
+use Rattle.std.proofs.Common.{◌∙◌, ap, subst}
 use Rattle.cc_receiver.specs.ReceivedServices.{received_windows}
 use Rattle.line21_codes.specs.declared.channels.Chan.{Chan}
 use Rattle.line21_screen.specs.Grid.{Grid}
-use Rattle.grid_print.specs.GridTexts.{changes_text, screens_differ}
+use Rattle.grid_print.specs.GridTexts.{screens_differ}
 use Rattle.grid_print.specs.Screens.{LookAlike, screens_of}
 use Rattle.grid_print.specs.Shown.{last_shown}
 use Rattle.grid_print.proofs.ScreenLemmas.{grids_behind, windows_behind}

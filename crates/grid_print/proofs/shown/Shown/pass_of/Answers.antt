@@ -1,4 +1,4 @@
-use Rattle.std.proofs.Common.{◌∙◌, ◌-◌, ◌||◌, Bool, ap, subst, sym, refl}
+use Rattle.std.proofs.Common.{◌∙◌, ◌-◌, ◌||◌, Bool, ap, subst, sym}
 use Rattle.std.proofs.lemmas.Bool.{true≢false}
 use Rattle.grid_print.specs.GridTexts.{channels_differ}
 use Rattle.grid_print.specs.Kept.{seen_at}

@@ -1,10 +1,10 @@
-use Rattle.std.proofs.Common.{◌≡◌, ◌∙◌, ℕ, ap, refl, subst}
+use Rattle.std.proofs.Common.{ℕ, subst}
 use Rattle.cc_base.specs.Streams.{Puts}
 use Rattle.cc_receiver.specs.ReceivedServices.{received_windows}
 use Rattle.cc_receiver.specs.Receivers.{displayed_grid}
 use Rattle.line21_codes.specs.declared.channels.Chan.{Chan}
 use Rattle.line21_screen.specs.Grid.{Grid}
-use Rattle.grid_print.specs.GridTexts.{changes_text, screens_differ}
+use Rattle.grid_print.specs.GridTexts.{changes_text}
 use Rattle.grid_print.specs.Screens.{LookAlike, screens_of}
 use Rattle.grid_print.specs.Shown.{last_shown}
 use Rattle.grid_print.proofs.ScreenLemmas.{grids_behind, windows_behind}

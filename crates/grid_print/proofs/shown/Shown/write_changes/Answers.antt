@@ -1,4 +1,4 @@
-use Rattle.std.proofs.Common.{◌≡◌, ◌∙◌, ℕ, ap, refl, subst}
+use Rattle.std.proofs.Common.{ℕ, subst}
 use Rattle.cc_receiver.specs.ReceivedServices.{received_windows}
 use Rattle.cc_receiver.specs.Receivers.{displayed_grid}
 use Rattle.line21_codes.specs.declared.channels.Chan.{Chan}

@@ -1,7 +1,7 @@
-use Rattle.std.proofs.Common.{◌++◌, ◌∙◌, ◌-◌, [], if◌then◌else◌, ap, subst, sym, refl}
+use Rattle.std.proofs.Common.{◌++◌, ◌∙◌, ◌-◌, [], if◌then◌else◌, ap, subst, sym}
 use Rattle.std.specs.List.{flat_map}
 use Rattle.text_output.proofs.PageLemmas.{some_none, writes_none, writes_same}
-use Rattle.grid_print.specs.GridTexts.{changed_channel, channels, channels_differ, frame_line}
+use Rattle.grid_print.specs.GridTexts.{changed_channel, channels, frame_line}
 use Rattle.grid_print.specs.Kept.{changed_places, seen_at}
 use Rattle.grid_print.specs.Screens.{HaveSameWindows, screens_of}
 use Rattle.grid_print.specs.Shown.{last_shown}
