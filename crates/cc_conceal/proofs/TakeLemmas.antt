@@ -1,5 +1,5 @@
 -- A frame more that is taken, and what is then told to the services.
-use Rattle.std.proofs.Common.{◌≡◌, ◌∙◌, ℕ, Bool, true, false, List, [], ◌∷◌, ◌++◌, refl, sym, ap, subst, append_assoc, append-nil}
+use Rattle.std.proofs.Common.{◌≡◌, ◌∙◌, ℕ, Bool, true, false, List, [], ◌∷◌, ◌++◌, refl, sym, ap, subst, append_assoc, append-nil, if◌then◌else◌, ◌<◌}
 use Rattle.std.specs.Prelude.{Result, Ok, Err, take}
 use Rattle.std.proofs.lemmas.Grind.{flat_map-append}
 use Rattle.cc_base.specs.declared.rate.Rate.{Rate}
@@ -8,11 +8,11 @@ use Rattle.cc_receiver.specs.declared.receiver.Fed.{Fed}
 use Rattle.cc_data.specs.declared.triplet.Triplet.{Triplet}
 use Rattle.cdp_packets.specs.Packets.{Packet as Frame}
 use Rattle.cdp_packets.specs.PacketTriplets.{packet_triplets}
-use Rattle.dtvcc_screen.specs.Meaning.{Event, Served, Tick, after, cleaned, start}
+use Rattle.dtvcc_screen.specs.Meaning.{Event, Reset, Served, Tick, after, cleaned, start}
 use Rattle.dtvcc_screen.specs.Screens.{ScreenState}
 use Rattle.dtvcc_screen.specs.Shown.{grids}
 use Rattle.dtvcc_screen.specs.declared.clock.Clock.{Clock}
-use Rattle.dtvcc_services.specs.Objects.{Events}
+use Rattle.dtvcc_services.specs.Objects.{Events, all_ticks}
 use Rattle.service_blocks.specs.Channels.{IsHeard, heard_behind}
 use Rattle.service_blocks.proofs.ChannelLemmas.{channel_heard}
 use Rattle.services_files.specs.CaptionChannel.{caption_channel}
@@ -28,10 +28,13 @@ use Rattle.cc_receiver.specs.Serving.{HasServed, followed_by, given_by}
 use Rattle.cc_receiver.specs.declared.receiver.Receiver.{Receiver}
 use Rattle.cc_receiver.specs.declared.services.Served.{Served as ServedOf}
 use Rattle.cc_receiver.proofs.FedFrames.{frames_still}
+use Rattle.cc_receiver.proofs.SilentLemmas.{served_whole}
+use Rattle.cc_receiver.specs.Counting.{HasFront}
+use Rattle.std.proofs.lemmas.Bool.{true≢false}
 use Rattle.cc_conceal.specs.Concealed.{heard_of}
-use Rattle.cc_conceal.specs.Concealers.{Conceals, ConcealsOn, HasConcealed, LeadFromReset, kept_at}
+use Rattle.cc_conceal.specs.Concealers.{AreServed, Conceals, ConcealsOn, HasConcealed, LeadBefore, LeadFromReset, kept_at}
 use Rattle.cc_conceal.specs.declared.concealer.Concealer.{Concealer}
-use Rattle.cc_conceal.proofs.HeardLemmas.{heard_suffix}
+use Rattle.cc_conceal.proofs.HeardLemmas.{heard_suffix, lasts_are, no_last}
 use Rattle.dtvcc_screen.proofs.MeaningLemmas.{after_append}
 use Rattle.dtvcc_screen.proofs.ShiftLemmas.{same_clock}
 use Rattle.service_blocks.proofs.SuffixLemmas.{heard_since}
@@ -58,10 +61,46 @@ lead_more heard last e l rate triplets rate_is triplets_are lead service =
           ∙ after_append (cleaned w.0) (service_events service heard) given),
     )
 
-pub served_more : (heard : List Frame) (last : Frame) (e l : Events) (triplets : List Triplet) (served : ServedOf) → triplets ≡ packet_triplets last
-    → HasServed (file_triplets heard ++ triplets) e l served → HasServed (file_triplets (heard ++ last ∷ [])) e l served
-served_more heard last e l triplets served are has =
-    subst (λ (ts : List Triplet). HasServed ts e l served) (ap (λ (ts : List Triplet). file_triplets heard ++ ts) are ∙ sym (triplets_more heard last)) has
+pub served_more : (heard : List Frame) (last : Frame) (rate : Rate) (front : List Triplet) (old new : ServedOf) → rate ≡ last.rate → HasFront front (packet_triplets last)
+    → ((before : List Triplet) (earlier last : Events) → HasServed before earlier last old → all_ticks old.services < 4294967295 → IsHeard (before ++ front)
+    → HasServed (before ++ front) (followed_by earlier last) (given_by rate before front) new)
+    → all_ticks old.services < 4294967295 → IsHeard (file_triplets (heard ++ last ∷ [])) → AreServed heard old → AreServed (heard ++ last ∷ []) new
+served_more heard last rate front old new rate_is has frame few is_heard was = record {
+  earlier = followed_by was.earlier was.last;
+  last = given_by rate (file_triplets heard) (packet_triplets last);
+  has = subst (λ (ts : List Triplet). HasServed ts (followed_by was.earlier was.last) (given_by rate (file_triplets heard) (packet_triplets last)) new) (sym (triplets_more heard last))
+      (served_whole rate front (packet_triplets last) old new has frame (file_triplets heard) was.earlier was.last was.has few (subst IsHeard (triplets_more heard last) is_heard));
+  leads = lead_more heard last was.earlier was.last rate (packet_triplets last) rate_is refl was.leads;
+  before = λ others newest is service.
+      subst (λ (fs : List Frame). LeadBefore fs (followed_by was.earlier was.last)) (lasts_are heard others last newest is).0 was.leads service;
+}
+
+-- a reset of all services, which took frames or none
+reset_served : (heard : List Frame) (old new : ServedOf)
+    → ((before : List Triplet) (earlier last : Events) → HasServed before earlier last old → HasServed [] earlier (λ service. last service ++ Reset ∷ []) new)
+    → AreServed heard old → AreServed [] new
+reset_served heard old new resets was = record {
+  earlier = was.earlier;
+  last = λ service. was.last service ++ Reset ∷ [];
+  has = resets (file_triplets heard) was.earlier was.last was.has;
+  leads = λ service.
+      let all = was.earlier service ++ was.last service in (
+        (after start all).clock,
+        ap (after start) (sym (append_assoc (was.earlier service) (was.last service) (Reset ∷ []))) ∙ after_append start all (Reset ∷ []),
+      );
+  before = λ others newest none. absurd (no_last others newest none);
+}
+
+pub reset_either : (apart : Bool) (heard : List Frame) (old new : ServedOf)
+    → ((before : List Triplet) (earlier last : Events) → HasServed before earlier last old → HasServed [] earlier (λ service. last service ++ Reset ∷ []) new)
+    → (apart ≡ true → AreServed heard old) → (apart ≡ false → AreServed [] old) → AreServed [] new
+reset_either true heard old new resets own none = reset_served heard old new resets (own refl)
+reset_either false heard old new resets own none = reset_served [] old new resets (none refl)
+
+-- it has no services of its own where it had none and no counter jumps
+pub not_apart : (jumps was : Bool) → (if jumps then true else was) ≡ false → (jumps ≡ false) × (was ≡ false)
+not_apart true was is = absurd (true≢false is)
+not_apart false was is = (refl, is)
 
 -- frames since some others are heard
 file_append : (frames more : List Frame) → file_triplets (frames ++ more) ≡ file_triplets frames ++ file_triplets more
@@ -83,28 +122,29 @@ kept_suffix frames next false =
 -- behind bytes that bring no frame
 pub concealed_still : (before more : List ℕ) (old : Concealer) (new : Receiver) → HasConcealed before old → HasReceived (before ++ more) new
     → frame_count new ≡ frame_count old.receiver → HasConcealed (before ++ more) (record old { receiver = new })
-concealed_still before more old new had now counted = record {
-  received = now;
-  frames = had.frames;
-  frames_are = frames_still before more old.receiver new had.frames had.frames_are had.received now counted;
-  conceals = record {
-    counter = had.conceals.counter;
-    behind = record {
-      first = had.conceals.behind.first;
-      second = had.conceals.behind.second;
-      earlier = had.conceals.behind.earlier;
-      last = had.conceals.behind.last;
-      served = had.conceals.behind.served;
-      leads = had.conceals.behind.leads;
-      before = had.conceals.behind.before;
-    };
-    ticks = had.conceals.ticks;
-    number = had.conceals.number;
-    missing = had.conceals.missing;
-    small = had.conceals.small;
-    goes_on = had.conceals.goes_on;
-  };
-}
+concealed_still before more old new had now counted =
+    let are = frames_still before more old.receiver new had.frames had.frames_are had.received now counted in
+    let acted = had.conceals.acted in
+    record {
+      received = now;
+      frames = had.frames;
+      frames_are = are;
+      conceals = record {
+        acted = record {
+          counter = acted.counter;
+          behind = record { first = acted.behind.first; second = acted.behind.second; apart = acted.behind.apart; beside = acted.behind.beside };
+          together = acted.together;
+          ticks = acted.ticks;
+          number = acted.number;
+          missing = acted.missing;
+          small = acted.small;
+          goes_on = acted.goes_on;
+        };
+        bytes = before ++ more;
+        received = now;
+        frames_are = are;
+      };
+    }
 
 -- whatever the clock, a service has the screen of its events from reset
 pub same_screen : (service : ℕ) (heard : List Frame) (clock : Clock) → (after (cleaned clock) (service_events service heard)).core.screen ≡ (received_service heard service).screen

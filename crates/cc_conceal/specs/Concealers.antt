@@ -1,5 +1,5 @@
 -- What a concealing receiver is, behind the bytes that it was fed.
-use Rattle.std.specs.Prelude.{◌≡◌, ◌≤◌, ℕ, ◌+◌, ◌-◌, ◌*◌, ◌%◌, ◌==◌, not, Bool, false, if◌then◌else◌, List, [], ◌∷◌, ◌++◌, length, map, reverse, take, Option, Some, None, Result, Ok, Err}
+use Rattle.std.specs.Prelude.{◌≡◌, ◌≤◌, ℕ, ◌+◌, ◌-◌, ◌*◌, ◌%◌, ◌==◌, not, Bool, true, false, if◌then◌else◌, List, [], ◌∷◌, ◌++◌, length, map, reverse, take, Option, Some, None, Result, Ok, Err}
 use Rattle.cc_base.specs.declared.refusal.Refusal.{Refusal}
 use Rattle.line21_codes.specs.Channels.{data_channel_of, field_of_channel}
 use Rattle.line21_codes.specs.declared.channels.Chan.{Chan}
@@ -20,6 +20,7 @@ use Rattle.dtvcc_screen.specs.declared.clock.Clock.{Clock}
 use Rattle.dtvcc_services.specs.Objects.{Events, all_ticks, served_now, service_behind}
 use Rattle.cc_receiver.specs.Receivers.{HasReceived, frame_count}
 use Rattle.cc_receiver.specs.Serving.{HasServed}
+use Rattle.cc_receiver.specs.declared.services.Served.{Served}
 use Rattle.cc_receiver.specs.declared.receiver.Fed.{Fed}
 use Rattle.cc_receiver.specs.declared.receiver.Receiver.{Receiver}
 use Rattle.dtvcc_windows.specs.Showing.{ShownWindow}
@@ -75,26 +76,40 @@ abbrev pub LeadBefore : List Frame → Events → Type 0
 LeadBefore earlier events =
     (service : ℕ) → (clock : Clock) × (service_behind events service ≡ after (cleaned clock) (service_events service earlier))
 
--- the fields and services are behind these frames, as if they had been reset before them
-pub record IsBehind (heard : List Frame) (concealer : Concealer) : Type 0 where
-  pub first : fields.Leads One (reverse (map concealed (received_pairs One heard))) concealer.first
-  pub second : fields.Leads Two (reverse (map concealed (received_pairs Two heard))) concealer.second
+-- services took these frames, as if they had been reset before them
+pub record AreServed (heard : List Frame) (served : Served) : Type 0 where
   pub earlier : Events
   pub last : Events
-  pub served : HasServed (file_triplets heard) earlier last concealer.served
+  pub has : HasServed (file_triplets heard) earlier last served
   pub leads : LeadFromReset heard earlier last
   pub before : (others : List Frame) (newest : Frame) → heard ≡ others ++ newest ∷ [] → LeadBefore others earlier
 
--- it conceals frames: it is behind those since the last jump
-pub record Conceals (frames : List Frame) (concealer : Concealer) : Type 0 where
+-- the fields are behind these frames, as if they had been reset before them; so are its own services, which take frames from the first
+-- jump on
+pub record IsBehind (heard : List Frame) (concealer : Concealer) : Type 0 where
+  pub first : fields.Leads One (reverse (map concealed (received_pairs One heard))) concealer.first
+  pub second : fields.Leads Two (reverse (map concealed (received_pairs Two heard))) concealer.second
+  pub apart : concealer.apart ≡ true → AreServed heard concealer.served
+  pub beside : concealer.apart ≡ false → AreServed [] concealer.served
+
+-- frames acted: it is behind those since the last jump
+pub record HasActed (frames : List Frame) (concealer : Concealer) : Type 0 where
   pub counter : IsLastCounter frames concealer.counter
   pub behind : IsBehind (heard_of frames) concealer
-  pub ticks : all_ticks concealer.served.services ≡ length frames
+  pub together : concealer.apart ≡ false → heard_of frames ≡ frames
+  pub ticks : all_ticks concealer.served.services ≤ length frames
   pub number : concealer.number ≡ number_of frames
   pub missing : concealer.missing ≡ missing_before frames
   pub small : concealer.number ≤ 65536 * length frames
   pub goes_on : concealer.jumped ≡ false → (earlier : List Frame) (last : Frame) → frames ≡ earlier ++ last ∷ []
       → heard_of frames ≡ heard_of earlier ++ last ∷ []
+
+-- it conceals frames: they acted, and bytes brought them
+pub record Conceals (frames : List Frame) (concealer : Concealer) : Type 0 where
+  pub acted : HasActed frames concealer
+  pub bytes : List ℕ
+  pub received : HasReceived bytes concealer.receiver
+  pub frames_are : AreFramesOf caption_channel frames bytes
 
 -- it was fed these bytes, and conceals their frames
 pub record HasConcealed (bytes : List ℕ) (concealer : Concealer) : Type 0 where

@@ -1,4 +1,4 @@
-ghost use Rattle.std.specs.Prelude.{None, Some, ◌^◌, false, ◌≡◌, ◌≢◌, ◌≤◌, ◌<◌, ◌+◌, ◌++◌, ℕ, List, [], ◌∷◌, IfErr, IfOk, IfSome, IsOk, IsTrue, MatchOption, length};
+ghost use Rattle.std.specs.Prelude.{None, Some, ◌^◌, true, false, if◌then◌else◌, ◌≡◌, ◌≢◌, ◌≤◌, ◌<◌, ◌+◌, ◌++◌, ℕ, List, [], ◌∷◌, IfErr, IfOk, IfSome, IsOk, IsTrue, MatchOption, length};
 ghost use Rattle.cdp_packets.specs.Packets.{Packet as Frame};
 ghost use Rattle.words_files.specs.FramesOf.{AreFramesOf};
 ghost use Rattle.cc_receiver.specs.Feeds.{Feeds};
@@ -37,7 +37,9 @@ pub struct Concealer {
     receiver: Receiver,
     first: Field,
     second: Field,
+    // Its own services, and whether it has them: up to the first jump of a counter they are those of the receiver.
     served: Served,
+    apart: bool,
     // The counter of the last whole frame, if there was one.
     counter: Option<u16>,
     // The number of the last whole frame, how many frames are missing right before it, and whether all was reset there.
@@ -49,7 +51,7 @@ pub struct Concealer {
 impl Concealer {
     ghost use Rattle.line21_screen.specs.Objects.{grid_in};
     ghost use Rattle.cc_conceal.specs.Concealed.{concealed_grids, concealed_windows, heard_of, missing_before, number_of};
-    ghost use Rattle.cc_conceal.specs.Concealers.{Conceals, ConcealsOn, HasConcealed, IsBehind, concealed_frames, displayed_now, jumps_from, kept_at, next_missing, next_number, receiver_of};
+    ghost use Rattle.cc_conceal.specs.Concealers.{Conceals, ConcealsOn, HasActed, HasConcealed, IsBehind, concealed_frames, displayed_now, jumps_from, kept_at, next_missing, next_number, receiver_of};
 
     /// A receiver that was fed nothing. The error comes where memory for its screens isn't found.
     pub fn new(alloc: Global) -> Result<Concealer, AllocError>
@@ -60,6 +62,7 @@ impl Concealer {
             first: Field::new(alloc, false)?,
             second: Field::new(alloc, true)?,
             served: Served::new(alloc)?,
+            apart: false,
             counter: None,
             number: 0,
             missing: 0,
@@ -108,8 +111,8 @@ impl Concealer {
         requires few { all_ticks self.old.served.services < 4294967295 }
         requires small { self.old.number + 65536 < 2 ^ 64 }
         ensures receiver { self.new.receiver ≡ self.old.receiver }
-        ensures conceals { (bytes : List ℕ) (earlier : List Frame) (last : Frame) → HasReceived bytes self.old.receiver
-            → AreFramesOf caption_channel (earlier ++ last ∷ []) bytes → Conceals earlier self.old → Conceals (earlier ++ last ∷ []) self.new }
+        ensures acted { (bytes : List ℕ) (earlier : List Frame) (last : Frame) → HasReceived bytes self.old.receiver
+            → AreFramesOf caption_channel (earlier ++ last ∷ []) bytes → HasActed earlier self.old → HasActed (earlier ++ last ∷ []) self.new }
     {
         let counter = self.receiver.counter();
         self.reset_at(counter);
@@ -183,6 +186,7 @@ impl Concealer {
         ensures receiver { self.new.receiver ≡ self.old.receiver }
         ensures counter { self.new.counter ≡ self.old.counter }
         ensures number { self.new.number ≡ self.old.number }
+        ensures apart { self.new.apart ≡ (if jumps_from self.old.counter counter then true else self.old.apart) }
         ensures ticks { all_ticks self.new.served.services ≡ all_ticks self.old.served.services }
         ensures behind { (heard : List Frame) → IsBehind heard self.old → IsBehind (kept_at (jumps_from self.old.counter counter) heard) self.new }
     {
@@ -191,17 +195,19 @@ impl Concealer {
         }
     }
 
-    // Resets all fields and services.
+    // Resets all fields and services, and has services of its own from now on.
     fn reset(&mut self)
         ensures receiver { self.new.receiver ≡ self.old.receiver }
         ensures counter { self.new.counter ≡ self.old.counter }
         ensures number { self.new.number ≡ self.old.number }
+        ensures apart { self.new.apart ≡ true }
         ensures ticks { all_ticks self.new.served.services ≡ all_ticks self.old.served.services }
         ensures behind { (heard : List Frame) → IsBehind heard self.old → IsBehind [] self.new }
     {
         self.first.reset();
         self.second.reset();
         self.served.reset();
+        self.apart = true;
     }
 
     // Takes the pairs and the triplets of the last frame.
@@ -211,15 +217,18 @@ impl Concealer {
         ensures receiver { self.new.receiver ≡ self.old.receiver }
         ensures counter { self.new.counter ≡ self.old.counter }
         ensures number { self.new.number ≡ self.old.number }
-        ensures ticks { all_ticks self.new.served.services ≡ all_ticks self.old.served.services + 1 }
+        ensures apart { self.new.apart ≡ self.old.apart }
+        ensures ticks { all_ticks self.new.served.services ≤ all_ticks self.old.served.services + 1 }
         ensures behind { (bytes : List ℕ) (earlier heard : List Frame) (last : Frame) → HasReceived bytes self.old.receiver
             → AreFramesOf caption_channel (earlier ++ last ∷ []) bytes → IsHeard (file_triplets (heard ++ last ∷ [])) → IsBehind heard self.old
             → IsBehind (heard ++ last ∷ []) self.new }
     {
         apply_pairs(&mut self.first, self.receiver.pairs_one());
         apply_pairs(&mut self.second, self.receiver.pairs_two());
-        self.served
-            .frame(self.receiver.rate(), self.receiver.front_of_triplets());
+        if self.apart {
+            self.served
+                .frame(self.receiver.rate(), self.receiver.front_of_triplets());
+        }
     }
 
     /// The displayed cell of a channel at a row, 1 to 15, and a column, 0 to 31, behind the last whole frame (CTA-608-E; 47 CFR 79.101).
@@ -255,7 +264,11 @@ impl Concealer {
             MatchOption result (windows id ≡ None) (λ window. window_of window.now ≡ windows id) }
         ensures live { IfSome result (λ window. IsTrue (is_live window.now)) }
     {
-        self.served.window(service, id)
+        if self.apart {
+            self.served.window(service, id)
+        } else {
+            self.receiver.window(service, id)
+        }
     }
 
     /// Whether a service, 1 to 63, may have a window: where it says no, it has none (CTA-708-E).
@@ -263,7 +276,11 @@ impl Concealer {
         requires { IsService service }
         ensures { (frames : List Frame) → Conceals frames self.now → result ≡ false → (id : ℕ) → concealed_windows frames service id ≡ None }
     {
-        self.served.is_used(service)
+        if self.apart {
+            self.served.is_used(service)
+        } else {
+            self.receiver.is_used(service)
+        }
     }
 
     /// Whether no frame is missing right before the last whole one, and all its pairs of line 21 are null pairs, 80 80: such a frame leaves
@@ -291,6 +308,10 @@ impl Concealer {
         if self.jumped {
             return true;
         }
-        self.served.is_touched()
+        if self.apart {
+            self.served.is_touched()
+        } else {
+            self.receiver.is_touched()
+        }
     }
 }

@@ -2,13 +2,13 @@ use Rattle.std.proofs.Common.{◌≡◌, ◌∙◌, Bool, false, ℕ, ◌≤◌,
 use Rattle.cdp_packets.specs.Packets.{Packet as Frame}
 use Rattle.cc_receiver.specs.Receivers.{HasReceived}
 use Rattle.cc_conceal.specs.Concealed.{heard_of, missing_before, number_of}
-use Rattle.cc_conceal.specs.Concealers.{Conceals, IsBehind, jumps_from, kept_at, next_missing, next_number}
+use Rattle.cc_conceal.specs.Concealers.{HasActed, IsBehind, jumps_from, kept_at, next_missing, next_number}
 use Rattle.cc_conceal.proofs.HeardLemmas.{heard_more, lasts_are, missing_next_is, number_next_is, number_small}
-use Rattle.cc_conceal.proofs.TakeLemmas.{kept_suffix, suffix_heard}
+use Rattle.cc_conceal.proofs.TakeLemmas.{kept_suffix, not_apart, suffix_heard}
 use Rattle.cc_conceal.proofs.concealer.Concealer.act.Goals as goal
 
-pub returns-clause-conceals : goal.returns-clause-conceals
-returns-clause-conceals c = λ bytes earlier last received are had.
+pub returns-clause-acted : goal.returns-clause-acted
+returns-clause-acted c = λ bytes earlier last received are had.
     let counter_is : c.counter-counter.result ≡ last.counter = c.counter-counter.ensures bytes earlier last received are in
     let jumps = jumps_from c.args.self.now.counter c.counter-counter.result in
     let kept : List Frame = kept_at jumps (heard_of earlier) in
@@ -38,17 +38,12 @@ returns-clause-conceals c = λ bytes earlier last received are had.
     let was_small = had.small in
     let small = number_small c.take.new.self.counter c.take.new.self.number c.counter-counter.result (length earlier) (c.counter-counter.type_inv)
     (subst (λ (n : ℕ). n ≤ 65536 * length earlier) (sym numbers) was_small) in
-    subst (Conceals (earlier ++ last ∷ [])) (sym c.count.ensures.counter) (record {
+    subst (HasActed (earlier ++ last ∷ [])) (sym c.count.ensures.counter) (record {
       counter = (earlier, (last, refl, counter_is));
-      behind = record {
-        first = now.first;
-        second = now.second;
-        earlier = now.earlier;
-        last = now.last;
-        served = now.served;
-        leads = now.leads;
-        before = now.before;
-      };
+      behind = record { first = now.first; second = now.second; apart = now.apart; beside = now.beside };
+      together = λ no.
+          let w = not_apart jumps c.args.self.now.apart (sym (c.take.ensures.apart ∙ c.reset_at.ensures.apart) ∙ no) in
+          heard ∙ ap (λ (b : Bool). kept_at b (heard_of earlier) ++ last ∷ []) w.0 ∙ ap (λ (fs : List Frame). fs ++ last ∷ []) (had.together w.1);
       ticks = omega arith;
       number = number;
       missing = missing;

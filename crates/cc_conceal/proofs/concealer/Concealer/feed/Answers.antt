@@ -21,7 +21,7 @@ returns-in_err-fed-clause-feeds c = λ before had.
 pub act-requires-clause-few : goal.act-requires-clause-few
 act-requires-clause-few c =
     let had = c.requires.on.1 in
-    let ticks = had.conceals.ticks in
+    let ticks = had.conceals.acted.ticks in
     let count = frames_count had.frames c.requires.on.0 c.args.self.now.receiver had.received had.frames_are in
     let few = c.requires.few in
     omega arith
@@ -29,7 +29,7 @@ act-requires-clause-few c =
 pub act-requires-clause-small : goal.act-requires-clause-small
 act-requires-clause-small c =
     let had = c.requires.on.1 in
-    let small = had.conceals.small in
+    let small = had.conceals.acted.small in
     let count = frames_count had.frames c.requires.on.0 c.args.self.now.receiver had.received had.frames_are in
     let few = c.requires.few in
     omega arith
@@ -40,22 +40,29 @@ returns-in-Caption-clause-conceals c = λ before had.
     let counted : frame_count c.feed.new.self ≡ frame_count c.args.self.now.receiver + 1 =
     subst (Counts (frame_count c.args.self.now.receiver) (frame_count c.feed.new.self)) c.in-Caption.is fed.counts in
     let next = frame_more before (take c.in_ok-fed.fed.used c.args.bytes.now) c.args.self.now.receiver c.feed.new.self had.frames had.frames_are had.received fed.received counted in
-    let b = had.conceals.behind in
-    let acted = c.act.ensures.conceals (before ++ take c.in_ok-fed.fed.used c.args.bytes.now) had.frames next.frame fed.received next.frames_are
+    let b = had.conceals.acted.behind in
+    let acted = c.act.ensures.acted (before ++ take c.in_ok-fed.fed.used c.args.bytes.now) had.frames next.frame fed.received next.frames_are
     (record {
-      counter = had.conceals.counter;
-      behind = record { first = b.first; second = b.second; earlier = b.earlier; last = b.last; served = b.served; leads = b.leads; before = b.before };
-      ticks = had.conceals.ticks;
-      number = had.conceals.number;
-      missing = had.conceals.missing;
-      small = had.conceals.small;
-      goes_on = had.conceals.goes_on;
+      counter = had.conceals.acted.counter;
+      behind = record { first = b.first; second = b.second; apart = b.apart; beside = b.beside };
+      together = had.conceals.acted.together;
+      ticks = had.conceals.acted.ticks;
+      number = had.conceals.acted.number;
+      missing = had.conceals.acted.missing;
+      small = had.conceals.acted.small;
+      goes_on = had.conceals.acted.goes_on;
     }) in
+    let now = subst (HasReceived (before ++ take c.in_ok-fed.fed.used c.args.bytes.now)) (sym c.act.ensures.receiver) fed.received in
     record {
-      received = subst (HasReceived (before ++ take c.in_ok-fed.fed.used c.args.bytes.now)) (sym c.act.ensures.receiver) fed.received;
+      received = now;
       frames = had.frames ++ next.frame ∷ [];
       frames_are = next.frames_are;
-      conceals = acted;
+      conceals = record {
+        acted = acted;
+        bytes = before ++ take c.in_ok-fed.fed.used c.args.bytes.now;
+        received = now;
+        frames_are = next.frames_are;
+      };
     }
 
 pub returns-in-Caption-clause-feeds : goal.returns-in-Caption-clause-feeds
