@@ -1,5 +1,5 @@
 -- What holds of the output of an accepted list.
-use Rattle.std.proofs.Common.{◌≡◌, ◌∙◌, ◌<◌, sym, subst, ℕ, suc, List, reverse, arith, Option, Some, None}
+use Rattle.std.proofs.Common.{◌≡◌, ◌∙◌, ◌<◌, subst, ℕ, List, Option, Some, None}
 use Rattle.std.specs.Prelude.{IfSome}
 use Rattle.cc_base.specs.Streams.{Puts}
 use Rattle.line21_codes.specs.declared.channels.FieldNumber.TheVariants.{One, Two}
@@ -15,14 +15,14 @@ use Rattle.cue_lists.specs.declared.head.Version.TheVariants as version
 use Rattle.cue_lists.specs.declared.lane.Lane.TheVariants.{Channel, Service}
 use Rattle.frame_scheduler.specs.Planned.{IsListPlaced, Placement, channel_pair, columns_of}
 use Rattle.frame_scheduler.proofs.ListDoublingLemmas.{columns_doubled}
-use Rattle.frame_carrier.specs.Carried.{AreBytePairs, AreCarried, IsBytePair}
+use Rattle.frame_carrier.specs.Carried.{AreBytePairs, IsBytePair}
 use Rattle.services_carried.specs.PlacedServices.{AreServicesPlaced}
 use Rattle.services_shown.proofs.DelayLemmas.{delays_sent}
 use Rattle.services_shown.proofs.SeenLemmas.{authored_windows_seen}
 use Rattle.line21_shown.specs.Shown.{ShowsList}
 use Rattle.line21_shown.proofs.CaptionedLemmas.{AreBytes, frame_bytes}
 use Rattle.line21_shown.proofs.SequenceLemmas.{authored_seen}
-use Rattle.cue_list_commands.specs.Accepted.{IsAccepted, IsGoodList}
+use Rattle.cue_list_commands.specs.Accepted.{IsGoodList}
 use Rattle.cue_list_commands.specs.ListAnswer.{PutsList}
 use Rattle.cue_list_commands.specs.Output.{IsPlacedAs, IsSoundPairs, IsSoundWords, PlacedList, framing_of, list_grids, list_told}
 use Rattle.programmes.specs.Framing.{packets_of}

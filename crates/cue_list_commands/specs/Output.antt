@@ -1,5 +1,5 @@
 -- What the commands that read a cue list put of an accepted one, and what holds of it.
-use Rattle.std.specs.Prelude.{⊤, ◌<◌, ℕ, List}
+use Rattle.std.specs.Prelude.{⊤, ℕ, List}
 use Rattle.authored_grids.specs.AuthoredServiceGrid.{authored_windows}
 use Rattle.line21_codes.specs.declared.channels.Chan.TheVariants.{Cc1, Cc2, Cc3, Cc4}
 use Rattle.cdp_packets.specs.Packets.{Packet as Frame}
