@@ -1,3 +1,4 @@
 pub mod LanesLemmas
 pub mod OthersLemmas
 pub mod JoinedLemmas
+pub mod PlaceableLemmas

@@ -4,3 +4,4 @@ pub mod Beside
 pub mod SecondLanes
 pub mod Joined
 pub mod Others
+pub mod Placeable

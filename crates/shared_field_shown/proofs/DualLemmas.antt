@@ -24,8 +24,8 @@ use Rattle.line21_shown.specs.Reading.{pairs_before}
 use Rattle.line21_shown.specs.Shown.{state_at}
 use Rattle.line21_shown.proofs.SlotGridLemmas.{grid_before_slots, grid_in_slots, settled_in_slots}
 use Rattle.shared_field_shown.specs.Dual.{BothAreSeen, IsDual, Places, ShowsBoth}
-use Rattle.shared_field_shown.specs.Seen.{AreShared, field_timeline}
-use Rattle.shared_field_shown.proofs.SeenLemmas.{field_seen}
+use Rattle.shared_field_shown.specs.Seen.{field_timeline}
+use Rattle.shared_field_shown.proofs.SeenLemmas.{IsShared, field_seen}
 
 -- the pairs of the frames are those of the slots
 column_and : (c : Cadence) (t : Timeline) (n : ℕ)
@@ -56,7 +56,7 @@ module _ (first second : Listing) (of_list : Chan) (places : Places) (is : IsDua
   same_slots : slots_in_list second of_list ≡ slots_in_list first of_list
   same_slots = ap (λ r. slot_from (cadence_of r of_list) second.frames) is.rate ∙ ap (slot_from (cadence_of first.rate of_list)) is.frames
 
-  shared : AreShared of_list (slots_in_list first of_list) (slot_cues first of_list) (slot_cues second of_list) places.first places.second places.first_again places.second_again
+  shared : IsShared of_list (slots_in_list first of_list) (slot_cues first of_list) (slot_cues second of_list) places.first places.second places.first_again places.second_again
   shared = record {
     formed = slot_cues_formed first is.formed of_list;
     others_formed = slot_cues_formed second is.second_formed of_list;

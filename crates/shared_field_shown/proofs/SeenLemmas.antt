@@ -1,6 +1,7 @@
 -- What a viewer sees of a field that two cue lists share.
-use Rattle.std.proofs.Common.{◌≡◌, ℕ, zero, suc, ◌+◌, ◌==◌, ◌&&◌, ◌||◌, not, is_some, Bool, true, false, List, [], ◌∷◌, ◌++◌, Option, Some, None, option_map, refl, sym, ap, ◌∙◌, subst, arith}
+use Rattle.std.proofs.Common.{◌≡◌, ℕ, zero, suc, ◌+◌, ◌==◌, ◌&&◌, ◌||◌, not, is_some, Bool, true, false, List, [], ◌∷◌, ◌++◌, Option, Some, None, All, option_map, refl, sym, ap, ◌∙◌, subst, arith}
 use Rattle.std.specs.Prelude.{if◌then◌else◌}
+use Rattle.std.specs.List.{AllByRecursion}
 use Rattle.std.proofs.lemmas.Bool.Decides.{nat_tests}
 use Rattle.line21_codes.specs.declared.channels.Chan.{Chan}
 use Rattle.line21_codes.specs.declared.channels.DataChannel.TheVariants.{One, Two}
@@ -11,20 +12,26 @@ use Rattle.line21_codes.specs.Channels.{field_of_channel}
 use Rattle.line21_codes.specs.Reading.{code_of}
 use Rattle.line21_codes.specs.Writable.{IsWritable, is_doubled}
 use Rattle.line21_codes.proofs.CodeLemmas.{is_control-code_of, is_control-written, written-code_of}
+use Rattle.cue_lists.specs.AuthoredGrid.{IsSettledFor, authored_grid}
+use Rattle.cue_lists.specs.Cues.{IsCueFormed}
 use Rattle.cue_lists.specs.declared.cue.Cue.{Cue}
+use Rattle.line21_author.specs.Channels.{cues_on}
 use Rattle.line21_author.specs.CueEvents.{channel_events}
 use Rattle.line21_author.specs.declared.event.Event.{Event}
 use Rattle.line21_author.specs.declared.unit.Unit.{Unit}
+use Rattle.line21_author.proofs.SlotSequenceLemmas.{AreInSlots}
 use Rattle.line21_screen.specs.Channels.{ChannelState}
+use Rattle.line21_screen.specs.Fields.{channel}
+use Rattle.line21_screen.specs.Meaning.{after}
 use Rattle.frame_scheduler.specs.declared.lane.piece.Piece.{Piece}
 use Rattle.frame_scheduler.specs.ChannelLane.{channel_pieces}
 use Rattle.frame_scheduler.specs.FieldLane.{end_of, lane}
 use Rattle.frame_scheduler.specs.LaneEvents.{IsFree, event_at}
 use Rattle.frame_scheduler.specs.LaneTimeline.{lane_timeline, stands}
-use Rattle.frame_scheduler.specs.Timeline.{Timeline, first_of}
+use Rattle.frame_scheduler.specs.Timeline.{Timeline, first_of, slot}
 use Rattle.frame_scheduler.proofs.FieldLaneLemmas.{end_push}
 use Rattle.line21_shown.specs.Doing.{does}
-use Rattle.line21_shown.specs.Reading.{acts, does_unit}
+use Rattle.line21_shown.specs.Reading.{acts, does_unit, pairs_before}
 use Rattle.line21_shown.proofs.SequenceLemmas.{channel_shown}
 use Rattle.placements.specs.Placing.{IsPlaced}
 use Rattle.resumed_lanes.specs.Parts.{size_of}
@@ -35,12 +42,32 @@ use Rattle.resumed_lanes.specs.declared.part.Part.{Part}
 use Rattle.shared_field_shown.specs.Lanes.{AreCues, AreQuiet, IsBehind, pieces_of, plain}
 use Rattle.shared_field_shown.specs.ChannelParts.{channel_parts}
 use Rattle.shared_field_shown.specs.Resuming.{keeps_mode, opens}
-use Rattle.shared_field_shown.specs.Seen.{AreShared, EachShows, SharedFieldIsSeen, as_second, first_events, second_events, second_part, second_parts, second_timeline, second_unit}
+use Rattle.shared_field_shown.specs.Seen.{field_timeline, as_second, first_events, second_events, second_part, second_parts, second_timeline, second_unit}
 use Rattle.shared_field_shown.specs.Sharing.{IsFor, is_text}
 use Rattle.resumed_lanes.specs.FieldSlots.{first_slots, holds, second_slots}
 use Rattle.shared_field_shown.specs.Together.{AreOfChannel, AreTogether, IsListed, IsOfChannel}
 use Rattle.shared_field_shown.proofs.ListedLemmas.{channel_listed, pieces_from_back}
 use Rattle.shared_field_shown.proofs.TogetherLemmas.{together_alone}
+
+-- the cues of both lists keep the rules, no slot is held by events of both, and the units are placed
+pub record IsShared (of_list : Chan) (slots : ℕ) (cues others : List Cue) (fs gs : List ℕ) (rs qs : List (Option ℕ)) : Type 0 where
+  pub formed : All IsCueFormed cues
+  pub others_formed : All IsCueFormed others
+  pub sequence : AreInSlots slots (cues_on of_list cues)
+  pub others_sequence : AreInSlots slots (cues_on of_list others)
+  pub clash : (n : ℕ) → holds (first_events of_list cues) n ≡ true → holds (second_events of_list others) n ≡ false
+  pub stand : Stand (first_slots (first_events of_list cues) (second_events of_list others)) 0 (channel_parts of_list cues) fs rs
+  pub beside : Stand (second_slots (first_events of_list cues) (second_events of_list others) (in_spans (channel_parts of_list cues) fs)) 0
+      (second_parts (field_of_channel of_list) (channel_parts of_list others)) gs qs
+
+-- at a slot that is settled for it each channel shows what its own list authors
+pub record EachShows (of_list : Chan) (cues others : List Cue) (fs gs : List ℕ) (rs qs : List (Option ℕ)) (k : ℕ) : Type 0 where
+  pub first : AllByRecursion (IsSettledFor k) (cues_on of_list cues)
+      → (channel One (after (field_of_channel of_list) (pairs_before (slot (field_timeline of_list cues others fs gs rs qs)) (suc k)))).displayed
+      ≡ authored_grid of_list cues k
+  pub second : AllByRecursion (IsSettledFor k) (cues_on of_list others)
+      → (channel Two (after (field_of_channel of_list) (pairs_before (slot (field_timeline of_list cues others fs gs rs qs)) (suc k)))).displayed
+      ≡ authored_grid of_list others k
 
 -- a code for data channel 2 does what it does for data channel 1
 second_writable : (code : Code) → IsWritable code → IsWritable (as_second code)
@@ -298,7 +325,7 @@ holds_second : (f : FieldNumber) (events : Timeline) (n : ℕ) → holds (second
 holds_second f events zero = some_second f (events zero)
 holds_second f events (suc n) = rw (some_second f (events (suc n)), some_second f (events n)) refl
 
-module _ (of_list : Chan) (slots : ℕ) (cues others : List Cue) (fs gs : List ℕ) (rs qs : List (Option ℕ)) (are : AreShared of_list slots cues others fs gs rs qs) where
+module _ (of_list : Chan) (slots : ℕ) (cues others : List Cue) (fs gs : List ℕ) (rs qs : List (Option ℕ)) (are : IsShared of_list slots cues others fs gs rs qs) where
   f : FieldNumber
   f = field_of_channel of_list
 
@@ -364,5 +391,6 @@ module _ (of_list : Chan) (slots : ℕ) (cues others : List Cue) (fs gs : List �
       }
 
 -- in a field that two lists share each channel shows what its own list authors
-pub field_seen : SharedFieldIsSeen
+pub field_seen : (of_list : Chan) (slots : ℕ) (cues others : List Cue) (fs gs : List ℕ) (rs qs : List (Option ℕ))
+    → IsShared of_list slots cues others fs gs rs qs → (k : ℕ) → EachShows of_list cues others fs gs rs qs k
 field_seen of_list slots cues others fs gs rs qs are k = shows of_list slots cues others fs gs rs qs are k

@@ -1,32 +1,20 @@
 -- What a viewer sees of a field that two cue lists share: the second list's codes are those of data channel 2.
-use Rattle.std.specs.Prelude.{◌≡◌, ℕ, suc, true, false, List, Option, map, option_map, All}
-use Rattle.std.specs.List.{AllByRecursion}
+use Rattle.std.specs.Prelude.{ℕ, true, List, Option, map, option_map}
 use Rattle.line21_codes.specs.declared.channels.Chan.{Chan}
-use Rattle.line21_codes.specs.declared.channels.DataChannel.TheVariants as data_channels
 use Rattle.line21_codes.specs.declared.channels.FieldNumber.{FieldNumber}
 use Rattle.line21_codes.specs.declared.codes.Code.{Code}
 use Rattle.line21_codes.specs.declared.codes.Code.TheVariants.{Null, Text, Xds, Control}
 use Rattle.line21_codes.specs.Channels.{field_of_channel}
 use Rattle.line21_codes.specs.Reading.{code_of}
 use Rattle.line21_codes.specs.Writing.{written}
-use Rattle.cue_lists.specs.AuthoredGrid.{IsSettledFor, authored_grid}
-use Rattle.cue_lists.specs.Cues.{IsCueFormed}
 use Rattle.cue_lists.specs.declared.cue.Cue.{Cue}
-use Rattle.line21_author.specs.Channels.{cues_on}
 use Rattle.line21_author.specs.CueEvents.{channel_events}
 use Rattle.line21_author.specs.declared.unit.Unit.{Unit}
-use Rattle.line21_author.proofs.SlotSequenceLemmas.{AreInSlots}
-use Rattle.line21_screen.specs.Fields.{channel}
-use Rattle.line21_screen.specs.Meaning.{after}
 use Rattle.frame_scheduler.specs.LaneEvents.{event_at}
-use Rattle.frame_scheduler.specs.Timeline.{Timeline, over, slot}
-use Rattle.line21_shown.specs.Reading.{pairs_before}
-use Rattle.resumed_lanes.specs.ResumedLane.{Stand}
-use Rattle.resumed_lanes.specs.Spans.{in_spans}
+use Rattle.frame_scheduler.specs.Timeline.{Timeline, over}
 use Rattle.resumed_lanes.specs.declared.part.Part.{Part}
 use Rattle.shared_field_shown.specs.Lanes.{whole}
 use Rattle.shared_field_shown.specs.ChannelParts.{channel_parts}
-use Rattle.resumed_lanes.specs.FieldSlots.{first_slots, holds, second_slots}
 
 -- the code of data channel 2 that does what this one does for data channel 1
 abbrev pub as_second : Code → Code
@@ -62,33 +50,8 @@ first_events of_list cues = event_at (channel_events of_list cues)
 abbrev pub second_events : Chan → List Cue → Timeline
 second_events of_list cues = second_timeline (field_of_channel of_list) (event_at (channel_events of_list cues))
 
--- the cues of both lists keep the rules, no slot is held by events of both, and the units are placed
-pub record AreShared (of_list : Chan) (slots : ℕ) (cues others : List Cue) (fs gs : List ℕ) (rs qs : List (Option ℕ)) : Type 0 where
-  pub formed : All IsCueFormed cues
-  pub others_formed : All IsCueFormed others
-  pub sequence : AreInSlots slots (cues_on of_list cues)
-  pub others_sequence : AreInSlots slots (cues_on of_list others)
-  pub clash : (n : ℕ) → holds (first_events of_list cues) n ≡ true → holds (second_events of_list others) n ≡ false
-  pub stand : Stand (first_slots (first_events of_list cues) (second_events of_list others)) 0 (channel_parts of_list cues) fs rs
-  pub beside : Stand (second_slots (first_events of_list cues) (second_events of_list others) (in_spans (channel_parts of_list cues) fs)) 0
-      (second_parts (field_of_channel of_list) (channel_parts of_list others)) gs qs
-
 -- the field's timeline
 abbrev pub field_timeline : Chan → List Cue → List Cue → List ℕ → List ℕ → List (Option ℕ) → List (Option ℕ) → Timeline
 field_timeline of_list cues others fs gs rs qs =
     over (whole (first_events of_list cues) (channel_parts of_list cues) fs rs)
     (whole (second_events of_list others) (second_parts (field_of_channel of_list) (channel_parts of_list others)) gs qs)
-
--- at a slot that is settled for it each channel shows what its own list authors
-pub record EachShows (of_list : Chan) (cues others : List Cue) (fs gs : List ℕ) (rs qs : List (Option ℕ)) (k : ℕ) : Type 0 where
-  pub first : AllByRecursion (IsSettledFor k) (cues_on of_list cues)
-      → (channel data_channels.One (after (field_of_channel of_list) (pairs_before (slot (field_timeline of_list cues others fs gs rs qs)) (suc k)))).displayed
-      ≡ authored_grid of_list cues k
-  pub second : AllByRecursion (IsSettledFor k) (cues_on of_list others)
-      → (channel data_channels.Two (after (field_of_channel of_list) (pairs_before (slot (field_timeline of_list cues others fs gs rs qs)) (suc k)))).displayed
-      ≡ authored_grid of_list others k
-
--- so it is at each slot
-abbrev pub SharedFieldIsSeen : Type 0
-SharedFieldIsSeen = (of_list : Chan) (slots : ℕ) (cues others : List Cue) (fs gs : List ℕ) (rs qs : List (Option ℕ))
-    → AreShared of_list slots cues others fs gs rs qs → (k : ℕ) → EachShows of_list cues others fs gs rs qs k

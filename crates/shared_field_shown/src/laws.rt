@@ -5,7 +5,6 @@ ghost use Rattle.shared_field_shown.specs.Expanded.{ResumedIsOneLane};
 ghost use Rattle.shared_field_shown.specs.Own.{ChannelsAreOwn};
 ghost use Rattle.shared_field_shown.specs.Resuming.{ResumesChangeNothing};
 ghost use Rattle.shared_field_shown.specs.Rows.{RowTwo};
-ghost use Rattle.shared_field_shown.specs.Seen.{SharedFieldIsSeen};
 ghost use Rattle.shared_field_shown.specs.Sharing.{SharedAreOwn};
 ghost use Rattle.shared_field_shown.specs.Together.{TogetherIsAlone};
 
@@ -27,11 +26,6 @@ pub fn resumes_change_nothing()
 /// In a field that two lists share each channel gets what its own list gives it.
 pub fn together_is_alone()
     ensures { TogetherIsAlone }
-{}
-
-/// In a field that two cue lists share each channel shows, at each slot that is settled for it, what its own list authors.
-pub fn shared_field_is_seen()
-    ensures { SharedFieldIsSeen }
 {}
 
 /// The pair of a slot that two lanes share is that of the first, and where it is null that of the second.
