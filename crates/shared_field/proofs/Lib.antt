@@ -2,3 +2,4 @@ pub mod LanesLemmas
 pub mod OthersLemmas
 pub mod JoinedLemmas
 pub mod PlaceableLemmas
+pub mod PlacedUnitsLemmas

@@ -5,3 +5,4 @@ pub mod SecondLanes
 pub mod Joined
 pub mod Others
 pub mod Placeable
+pub mod PlacedUnits

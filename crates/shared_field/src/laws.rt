@@ -1,6 +1,7 @@
 //! Laws of shared fields: functions that do nothing, with the laws as their contracts.
 ghost use Rattle.shared_field.specs.Joined.{LanesAreJoined};
 ghost use Rattle.shared_field.specs.Others.{LanesPutOtherPairs};
+ghost use Rattle.shared_field.specs.PlacedUnits.{UnitsAreOfOneLane};
 ghost use Rattle.shared_field.specs.Placeable.{ChannelsAreReady, SecondEventsBegin};
 
 /// The frames of two lanes carry the timeline of their field.
@@ -22,4 +23,9 @@ pub fn channels_are_ready()
 /// The events with the codes for data channel 2 begin where theirs do.
 pub fn second_events_begin()
     ensures { SecondEventsBegin }
+{}
+
+/// The units in their places are those of one lane of the longer list of units.
+pub fn units_are_of_one_lane()
+    ensures { UnitsAreOfOneLane }
 {}

@@ -3,11 +3,13 @@
 #![tactic(auto)]
 
 pub use crate::parts::channel_parts;
+pub use crate::placed_units::units_in;
 pub use crate::second_channel::{second_events, second_parts};
 pub use crate::second_lanes::{Dual, SecondLanes, dual};
 
 pub mod laws;
 mod parts;
+mod placed_units;
 mod second_channel;
 mod second_lanes;
 #[cfg(test)]

@@ -3,13 +3,17 @@ ghost use Rattle.frame_scheduler.specs.LanePlan.{piece_cue};
 ghost use Rattle.line21_author.specs.EventOrder.{AreApart};
 ghost use Rattle.placements.specs.LaneRoom.{AreInCueOrder};
 
-use crate::{Dual, SecondLanes, dual};
+use crate::{Dual, SecondLanes, channel_parts, dual, units_in};
 use cc_base::Rate;
+use cue_lists::parse;
 use frame_scheduler::lane::piece::Piece;
 use frame_scheduler::lane::placed::{FieldLane, PlacedLane};
+use frame_scheduler::lane::placed_unit::PlacedUnit;
 use frame_scheduler::{Frames, Plan};
 use line21_author::{Event, Unit};
-use line21_codes::Pair;
+use line21_codes::{Chan, Pair};
+use line21_slots::Cadence;
+use resumed_lanes::Place;
 use std::alloc::Global;
 use std::test::Fail;
 
@@ -94,5 +98,61 @@ fn second_pairs_stand_in_null_slots(rt: HostRuntime) -> Result<(), Fail> {
         assert_eq!(rt; bytes.two, Some(two));
     }
     assert!(rt; frames.next().is_none());
+    Ok(())
+}
+
+const RCL: Unit = Unit {
+    pair: Pair { a: 0x94, b: 0x20 },
+    doubled: true,
+};
+
+const ENM: Unit = Unit {
+    pair: Pair { a: 0x94, b: 0xAE },
+    doubled: true,
+};
+
+const ROW_15: Unit = Unit {
+    pair: Pair { a: 0x94, b: 0x70 },
+    doubled: true,
+};
+
+// A caption's four units, of which the last stands behind RCL once more.
+#[test]
+fn a_caption_goes_on_behind_its_first_unit(rt: HostRuntime) -> Result<(), Fail> {
+    let alloc = rt.alloc();
+    let bytes = b"ccsuite,1,29.97,30\npop,CC1,0,12,20\nrun,15,0,white,HI\n";
+    let Ok(list) = parse(alloc, bytes) else {
+        return Err(Fail::from("the list is good"));
+    };
+    let cadence = Cadence::of(list.rate(), Chan::Cc1);
+    let parts = channel_parts(alloc, list.cues(), Chan::Cc1, cadence)?;
+    let asked: Vec<(Unit, bool, u32)> = parts
+        .iter()
+        .map(|part| (part.first, part.later, part.piece.until))
+        .collect(alloc)?;
+    assert!(rt;
+        asked.as_slice()
+            == [
+                (RCL, false, 12),
+                (RCL, true, 12),
+                (RCL, true, 12),
+                (RCL, true, 12)
+            ]
+            .as_slice()
+    );
+    let mut places = Vec::new(alloc);
+    for (slot, resume) in [(0, None), (2, None), (4, None), (11, Some(8))] {
+        places.push(Place { slot, resume })?;
+    }
+    let units = units_in(alloc, &parts, &places)?;
+    let text = Unit {
+        pair: HI,
+        doubled: false,
+    };
+    let expected = [(RCL, 0), (ENM, 2), (ROW_15, 4), (RCL, 8), (text, 11)];
+    assert_eq!(rt; units.len(), expected.len());
+    for (placed, (unit, slot)) in units.iter().zip(expected) {
+        assert_eq!(rt; *placed, PlacedUnit { unit, slot });
+    }
     Ok(())
 }
