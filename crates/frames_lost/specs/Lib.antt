@@ -1,0 +1,3 @@
+pub mod Delivered
+pub mod Recovered
+pub mod Numbers
