@@ -118,6 +118,22 @@ pub tail_same : (front xs ys : List ℕ) → front ++ xs ≡ front ++ ys → xs 
 tail_same [] xs ys same = same
 tail_same (f ∷ front) xs ys same = tail_same front xs ys cc
 
+-- a file with which bytes begin is no longer, where no packet ends behind a file of them
+pub not_longer : (file behind other rest : List ℕ) → NoPacketEnds file behind → file ++ behind ≡ other ++ rest → (packets : List AncillaryPacket) → IsWordsFile packets other
+    → length other ≤ length file
+not_longer file behind other rest quiet spelled packets is = elim (no_more (length other) (length file)) [
+  | inl short ↦ short
+  | inr long ↦
+      let (more, parted) = front_of file other behind rest spelled (omega (arith, long)) in
+      let size = ap length parted ∙ length-append file more in
+      let all = ap length spelled in
+      let tails : more ++ rest ≡ behind = tail_same file (more ++ rest) behind (sym (append_assoc file more rest) ∙ ap (λ o. o ++ rest) (sym parted) ∙ sym spelled) in
+      let cut : take (length more) behind ≡ more = ap (take (length more)) (sym tails) ∙ take-append_seam more rest in
+      let fits = ap length tails in
+      absurd (quiet packets (length more) (omega (arith, size, long)) (omega (arith, fits, length-append more rest))
+      (subst (IsWordsFile packets) (parted ∙ ap (λ m. file ++ m) (sym cut)) is))
+]
+
 -- a file, and bytes behind it with which no packet ends, have the file's frames
 pub frames_here : (frames : List Frame) (file behind : List ℕ) → IsFileUnder caption_channel frames file → NoPacketEnds file behind
     → AreFramesOf caption_channel frames (file ++ behind)
@@ -126,19 +142,5 @@ frames_here frames file behind under quiet = record {
   behind = behind;
   spelled = refl;
   is_file = under;
-  longest = λ others other rest spelled is. no_longer other rest spelled is.file.packets is.file.file;
+  longest = λ others other rest spelled is. not_longer file behind other rest quiet spelled is.file.packets is.file.file;
 }
-  where
-    no_longer : (other rest : List ℕ) → file ++ behind ≡ other ++ rest → (packets : List AncillaryPacket) → IsWordsFile packets other → length other ≤ length file
-    no_longer other rest spelled packets is = elim (no_more (length other) (length file)) [
-      | inl short ↦ short
-      | inr long ↦
-          let (more, parted) = front_of file other behind rest spelled (omega (arith, long)) in
-          let size = ap length parted ∙ length-append file more in
-          let all = ap length spelled in
-          let tails : more ++ rest ≡ behind = tail_same file (more ++ rest) behind (sym (append_assoc file more rest) ∙ ap (λ o. o ++ rest) (sym parted) ∙ sym spelled) in
-          let cut : take (length more) behind ≡ more = ap (take (length more)) (sym tails) ∙ take-append_seam more rest in
-          let fits = ap length tails in
-          absurd (quiet packets (length more) (omega (arith, size, long)) (omega (arith, fits, length-append more rest))
-          (subst (IsWordsFile packets) (parted ∙ ap (λ m. file ++ m) (sym cut)) is))
-    ]

@@ -1,14 +1,14 @@
 -- Words that can take a list's captions are answered Ok, and a refused list is answered with its one refusal.
-use Rattle.std.proofs.Common.{◌≡◌, ◌∙◌, ◌<◌, ◌≤◌, ◌++◌, ◌∷◌, ap, append_assoc, append-nil, arith, inl, inr, length, length-append, refl, subst, sym, ℕ, List, [], IfSome, Option, Some}
+use Rattle.std.proofs.Common.{◌≡◌, ◌∙◌, ◌++◌, ◌∷◌, ap, append_assoc, append-nil, arith, inl, inr, length, refl, subst, sym, ℕ, List, [], IfSome, Option, Some}
 use Rattle.std.proofs.lemmas.List.Elements.{All-head, All-tail}
 use Rattle.std.specs.List.{All}
 use Rattle.anc_words.proofs.WordsFileLemmas.{IsWordsFile-nil, IsWordsFile-one}
 use Rattle.cc_base.specs.declared.limit_of.LimitOf.TheVariants as limit
 use Rattle.cc_base.specs.declared.refusal.Refusal.{Refusal}
-use Rattle.cc_base.specs.declared.streams.Put.{Put}
 use Rattle.cc_base.specs.declared.streams.Put.TheVariants as put
 use Rattle.cc_data.specs.declared.triplet.Triplet.{Triplet}
 use Rattle.cdp_packets.specs.Packets.{Packet as Frame}
+use Rattle.command_base.specs.Counts.{IsReadOf}
 use Rattle.command_base.specs.Ends.{Ends}
 use Rattle.command_base.specs.declared.status.Place.TheVariants.{Byte, Field}
 use Rattle.command_base.specs.declared.status.Status.{Status}
@@ -18,21 +18,25 @@ use Rattle.cue_list_commands.specs.Accepted.{IsAccepted, IsRefused}
 use Rattle.cue_list_commands.specs.SideEnds.{SideEnds}
 use Rattle.cue_list_commands.specs.SideLists.{RefusedSideIsAnswered, RefusesSide}
 use Rattle.cue_lists.specs.Listing.{Listing}
-use Rattle.findings.specs.declared.finding.Finding.{Finding}
 use Rattle.frame_scheduler.specs.Planned.{Placement}
 use Rattle.cue_list_commands.specs.Output.{list_framing}
+use Rattle.programmes.specs.Framing.{Framing}
 use Rattle.inserted_words.proofs.FileLemmas.{foreign_file}
 use Rattle.inserted_words.specs.InsertedFile.{AreInserted, BringsFrame}
 use Rattle.inserted_words.specs.InsertedFile.AreInserted.{nothing, foreign as copied, caption as replaced}
-use Rattle.words_reading.proofs.KnownLemmas.{known_judged, known_whole}
-use Rattle.words_files.proofs.EndingLemmas.{file_has_no_offence, offence_stays}
+use Rattle.words_reading.proofs.KnownLemmas.{known_judged, known_whole, malformed_no_file, within_passes}
+use Rattle.words_reading.proofs.KnownLemmas.{refused_so as words_refused}
+use Rattle.words_reading.specs.Causes.{IsAnyhow, IsRefusedWith, PassesLimit}
+use Rattle.words_reading.specs.Reading.{Stops}
 use Rattle.words_files.proofs.FrameLemmas.{joined, one_list}
 use Rattle.words_files.proofs.FramesOfLemmas.{carry_front, file_front}
 use Rattle.words_files.specs.Frames.{CarryFrames, IsFileOf}
 use Rattle.words_files.specs.Frames.CarryFrames.{none, caption}
-use Rattle.words_files.specs.Offences.{FirstOffendingWord, IsFileUnder}
+use Rattle.words_files.specs.Offences.{IsFileUnder}
 use Rattle.services_files.specs.CaptionChannel.{caption_channel}
-use Rattle.insert_commands.specs.InsertAnswer.{Cause, ExceedsPacketLength, IsFoundAt, IsRefusedBehind, InsertAnswer, IsShort, OfAcceptedList, PassesLimitBehind, Stops}
+use Rattle.insert_commands.specs.InsertAnswer.{HaltsInserting, InsertAnswer, IsShort, OfAcceptedList, SaysInserted}
+use Rattle.insert_commands.specs.declared.inserting.Halt.{Halt}
+use Rattle.insert_commands.specs.declared.inserting.Halt.TheVariants as halt
 use Rattle.insert_commands.specs.InsertVerdict.{CanTake, InsertedIsAnswered}
 
 -- what holds of the list of a side file holds of every accepted list that it spells
@@ -76,37 +80,17 @@ front_frames some all front rest is whole =
     let carries = carry_front is.packets packets.rest some all is.carried (subst (λ ps. CarryFrames ps all) packets.spelled file.carried) in
     (carries.behind, carries.spelled)
 
--- a packet behind those that were put brings the next frame
-module _ (list : Listing) (placed : Placement) (Why : Cause) (bytes : List ℕ) (old new : Ends) (answer : Put) (known : old.left ≡ Some bytes)
-    (stops : Stops (list_framing list placed) Why answer old new) (all : List Frame) (file : IsFileUnder caption_channel all bytes) where
-  judged_front : (rest : List ℕ) × (bytes ≡ (stops.file ++ stops.behind) ++ (stops.unjudged ++ rest))
-  judged_front = known_judged old.left new.left bytes (stops.file ++ stops.behind) stops.unjudged known stops.taken
-
-  put_file : IsFileOf stops.frames stops.file
-  put_file = taken_file _ stops.frames stops.file stops.puts.text stops.puts.inserted
-
-  pub next_frame : (last : Frame) → BringsFrame last stops.behind → (behind : List Frame) × (all ≡ stops.frames ++ last ∷ behind)
-  next_frame last brings =
-      let (rest, is) = judged_front in
-      let front = joined stops.frames (last ∷ []) stops.file stops.behind put_file (brought_file last stops.behind brings) in
-      let (behind, same) = front_frames (stops.frames ++ last ∷ []) all (stops.file ++ stops.behind) (stops.unjudged ++ rest) front
-      (subst (IsFileUnder caption_channel all) is file) in
-      (behind, same ∙ append_assoc stops.frames (last ∷ []) behind)
-
-  -- no word of a file offends
-  pub never_offends : (refusal : Refusal) → FirstOffendingWord caption_channel ((stops.file ++ stops.behind) ++ stops.unjudged) refusal → ⊥
-  never_offends refusal offends =
-      let (rest, is) = judged_front in
-      file_has_no_offence caption_channel all bytes refusal file
-      (subst (λ b. FirstOffendingWord caption_channel b refusal) (append_assoc (stops.file ++ stops.behind) stops.unjudged rest ∙ sym is)
-      (offence_stays caption_channel ((stops.file ++ stops.behind) ++ stops.unjudged) rest refusal offends))
-
-  -- bytes within a number are judged in part
-  pub never_past : (limit : ℕ) → length bytes ≤ limit → length (stops.file ++ stops.behind) ≡ limit → 0 < length stops.unjudged → ⊥
-  never_past limit within full past =
-      let (rest, is) = judged_front in
-      let long = ap length is in
-      omega (arith, within, full, past, long, length-append (stops.file ++ stops.behind) (stops.unjudged ++ rest), length-append stops.unjudged rest)
+-- the packet at which a run stopped brings the next frame of the words
+next_frame : (list : Framing) (why : Halt) (bytes : List ℕ) (all : List Frame) (old new : Ends) → IsFileUnder caption_channel all bytes → old.left ≡ Some bytes
+    → (stops : Stops (HaltsInserting list why) IsAnyhow put.Done old new) → (behind : List Frame) × (all ≡ stops.says.frames ++ stops.says.last ∷ behind)
+next_frame list why bytes all old new is_file known stops =
+    let halts = stops.says in
+    let (rest, is) = known_judged old.left new.left bytes stops.judged stops.unjudged known stops.taken in
+    let before = taken_file _ halts.frames halts.file stops.text halts.inserted in
+    let front = joined halts.frames (halts.last ∷ []) halts.file halts.packet before (brought_file halts.last halts.packet halts.brings) in
+    let (behind, same) = front_frames (halts.frames ++ halts.last ∷ []) all (halts.file ++ halts.packet) (stops.unjudged ++ rest) front
+    (subst (IsFileUnder caption_channel all) (is ∙ ap (λ judged. judged ++ (stops.unjudged ++ rest)) halts.spelled) is_file) in
+    (behind, same ∙ append_assoc halts.frames (halts.last ∷ []) behind)
 
 -- each frame of those has what all have
 frame_has : (P : Frame → Type 0) (front : List Frame) (frame : Frame) (behind : List Frame) → All P (front ++ frame ∷ behind) → P frame
@@ -114,40 +98,33 @@ frame_has P [] frame behind all = All-head P frame behind all
 frame_has P (f ∷ front) frame behind all = frame_has P front frame behind (All-tail P f (front ++ frame ∷ behind) all)
 
 -- the causes don't hold of words that can take the captions
-module _ (list : Listing) (placed : Placement) (bytes : List ℕ) (old new : Ends) (can : CanTake list placed bytes) (known : old.left ≡ Some bytes) where
-  never_passes : Stops (list_framing list placed) PassesLimitBehind put.Done old new → ⊥
-  never_passes stops = never_past list placed PassesLimitBehind bytes old new put.Done known stops can.frames can.file _ can.within stops.cause.full stops.cause.past
+module _ (list : Listing) (placed : Placement) (bytes : List ℕ) (old new : Ends) (can : CanTake list placed bytes) (read : IsReadOf bytes old new) where
+  abbrev framing : Framing
+  framing = list_framing list placed
 
-  never_long : Stops (list_framing list placed) ExceedsPacketLength put.Done old new → ⊥
-  never_long stops =
-      let cause = stops.cause in
-      let (behind, same) = next_frame list placed ExceedsPacketLength bytes old new put.Done known stops can.frames can.file cause.last cause.brings in
-      let fits = can.fit stops.frames behind cause.last cause.new same cause.inserted in
-      let long = cause.long in
+  never_passes : Stops (SaysInserted (list_framing list placed)) PassesLimit put.Done old new → ⊥
+  never_passes stops = within_passes (SaysInserted framing) bytes put.Done old new can.within read stops
+
+  never_halts : (why : Halt) → Stops (HaltsInserting (list_framing list placed) why) IsAnyhow put.Done old new → ⊥
+  never_halts halt.Packet stops =
+      let (behind, same) = next_frame framing halt.Packet bytes can.frames old new can.file read.left stops in
+      let (rate, (bigger, inserted, long)) = stops.says.is in
+      let fits = can.fit stops.says.frames behind stops.says.last bigger same inserted in
       omega (arith, fits, long)
+  never_halts (halt.Found finding) stops =
+      let (behind, same) = next_frame framing (halt.Found finding) bytes can.frames old new can.file read.left stops in
+      stops.says.is.0 (frame_has (λ f. f.rate ≡ list.rate) stops.says.frames stops.says.last behind (subst (All (λ f. f.rate ≡ list.rate)) same can.rates))
 
-  never_other : (finding : Finding) → Stops (list_framing list placed) (IsFoundAt finding) put.Done old new → ⊥
-  never_other finding stops =
-      let cause = stops.cause in
-      let (behind, same) = next_frame list placed (IsFoundAt finding) bytes old new put.Done known stops can.frames can.file cause.last cause.brings in
-      cause.other (frame_has (λ f. f.rate ≡ list.rate) stops.frames cause.last behind (subst (All (λ f. f.rate ≡ list.rate)) same can.rates))
+  never_malformed : (refusal : Refusal) → Stops (SaysInserted (list_framing list placed)) (IsRefusedWith refusal old.left) put.Done old new → ⊥
+  never_malformed refusal stops =
+      malformed_no_file bytes refusal can.frames (words_refused (SaysInserted framing) bytes refusal put.Done old new read stops) can.file
 
-  never_malformed : (refusal : Refusal) → Stops (list_framing list placed) (IsRefusedBehind refusal old.left) put.Done old new → ⊥
-  never_malformed refusal stops = elim stops.cause [
-    | inl is ↦ never_offends list placed (IsRefusedBehind refusal old.left) bytes old new put.Done known stops can.frames can.file refusal is.stands.offends
-    | inr is ↦
-        is.cut.no_file can.frames
-        (subst (IsFileUnder caption_channel can.frames) (known_whole old.left bytes (stops.file ++ stops.behind) known is.whole.0) can.file)
-  ]
-
-  never_short : (count : ℕ) → Stops (list_framing list placed) (IsShort old.left count) put.Done old new → ⊥
+  never_short : (count : ℕ) → Stops (SaysInserted (list_framing list placed)) (IsShort (list_framing list placed) count old.left) put.Done old new → ⊥
   never_short count stops =
-      let cause = stops.cause in
-      let whole = cause.whole in
-      let same = one_list stops.frames can.frames bytes
-      (subst (λ b. IsFileUnder caption_channel stops.frames b) (sym (known_whole old.left bytes stops.file known whole.whole.0)) whole.is_file).file can.file.file in
+      let (whole, (frames, file, count_is, few)) = stops.cause in
+      let same = one_list frames can.frames bytes (subst (IsFileUnder caption_channel frames) (sym (known_whole old.left bytes stops.judged read.left whole.0)) file).file
+      can.file.file in
       let size = ap length same in
-      let few = cause.few in
       let enough = can.enough in
       omega (arith, size, few, enough)
 
@@ -161,20 +138,20 @@ inserted_answered text bytes list placed side later old new status.WriteFault ac
 inserted_answered text bytes list placed side later old new (status.Limit limit.Bytes) accepted can side_is read (inl is) =
     absurd (never_refused text list placed side later old new (status.Limit limit.Bytes) side_is.left accepted is)
 inserted_answered text bytes list placed side later old new (status.Limit limit.Bytes) accepted can side_is read (inr is) =
-    absurd (never_passes list placed bytes old new can read.left
-    (list_known text side list placed (λ l p. Stops (list_framing l p) PassesLimitBehind put.Done old new) side_is.left accepted is.2))
+    absurd (never_passes list placed bytes old new can read
+    (list_known text side list placed (λ l p. Stops (SaysInserted (list_framing l p)) PassesLimit put.Done old new) side_is.left accepted is.2))
 inserted_answered text bytes list placed side later old new (status.Limit limit.Packet) accepted can side_is read is =
-    absurd (never_long list placed bytes old new can read.left
-    (list_known text side list placed (λ l p. Stops (list_framing l p) ExceedsPacketLength put.Done old new) side_is.left accepted is.2))
+    absurd (never_halts list placed bytes old new can read halt.Packet
+    (list_known text side list placed (λ l p. Stops (HaltsInserting (list_framing l p) halt.Packet) IsAnyhow put.Done old new) side_is.left accepted is.2))
 inserted_answered text bytes list placed side later old new (status.Malformed (Byte place) why) accepted can side_is read is =
-    absurd (never_malformed list placed bytes old new can read.left (record { place = place; why = why })
-    (list_known text side list placed (λ l p. Stops (list_framing l p) (IsRefusedBehind (record { place = place; why = why }) old.left) put.Done old new) side_is.left accepted is.2))
+    absurd (never_malformed list placed bytes old new can read (record { place = place; why = why })
+    (list_known text side list placed (λ l p. Stops (SaysInserted (list_framing l p)) (IsRefusedWith (record { place = place; why = why }) old.left) put.Done old new) side_is.left accepted is.2))
 inserted_answered text bytes list placed side later old new (status.Differs finding) accepted can side_is read is =
-    absurd (never_other list placed bytes old new can read.left finding
-    (list_known text side list placed (λ l p. Stops (list_framing l p) (IsFoundAt finding) put.Done old new) side_is.left accepted is.2))
+    absurd (never_halts list placed bytes old new can read (halt.Found finding)
+    (list_known text side list placed (λ l p. Stops (HaltsInserting (list_framing l p) (halt.Found finding)) IsAnyhow put.Done old new) side_is.left accepted is.2))
 inserted_answered text bytes list placed side later old new (status.Short count) accepted can side_is read is =
-    absurd (never_short list placed bytes old new can read.left count
-    (list_known text side list placed (λ l p. Stops (list_framing l p) (IsShort old.left count) put.Done old new) side_is.left accepted is.2))
+    absurd (never_short list placed bytes old new can read count
+    (list_known text side list placed (λ l p. Stops (SaysInserted (list_framing l p)) (IsShort (list_framing l p) count old.left) put.Done old new) side_is.left accepted is.2))
 inserted_answered text bytes list placed side later old new (status.Limit limit.Frames) accepted can side_is read is =
     absurd (never_refused text list placed side later old new (status.Limit limit.Frames) side_is.left accepted is)
 inserted_answered text bytes list placed side later old new (status.Limit limit.Cues) accepted can side_is read is =

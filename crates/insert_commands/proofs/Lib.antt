@@ -1,9 +1,6 @@
 pub mod RoomLemmas
 pub mod EndLemmas
-pub mod FlushLemmas
 pub mod StepLemmas
-pub mod JudgeLemmas
-pub mod StopLemmas
 pub mod FeedLemmas
 pub mod SizeLemmas
 pub mod RefusedLemmas

@@ -7,13 +7,14 @@ use Rattle.anc_words.specs.WordsFiles.{IsPacketBytes, IsWordsFile}
 use Rattle.anc_words.proofs.WordsFileLemmas.{IsWordsFile-append, IsWordsFile-first, IsWordsFile-one}
 use Rattle.cc_base.specs.declared.refusal.Refusal.{Refusal}
 use Rattle.cdp_packets.specs.Packets.{Packet as Frame}
+use Rattle.words_files.specs.FramesOf.{AreFramesOf}
 use Rattle.words_files.specs.Offences.{AreWholeWords, Begins, FirstOffendingWord, IsFileUnder}
 use Rattle.services_files.specs.CaptionChannel.{caption_channel}
 use Rattle.words_files.proofs.FramesOfLemmas.{empty_file, file_front}
 use Rattle.words_files.proofs.OffenceLemmas.{past_offence}
 use Rattle.words_files.proofs.WordLemmas.{AreWords-whole, front_of}
-use Rattle.insert_commands.specs.OpenPackets.{EndsNoSooner, NoPacketEnds, RefusesWord}
-use Rattle.insert_commands.proofs.EndLemmas.{has_bytes, no_more, tail_same}
+use Rattle.insert_commands.specs.OpenPackets.{EndsNoSooner, NoPacketEnds, OffendsBehind, RefusesWord}
+use Rattle.insert_commands.proofs.EndLemmas.{has_bytes, no_more, not_longer, tail_same}
 
 -- the first packet of a file that isn't empty
 pub record HasFirst (bytes : List ℕ) : Type 0 where
@@ -111,3 +112,29 @@ refused_behind frames file held bytes more refusal under none sooner within offe
             (subst (λ b. IsWordsFile others (file ++ b)) cut is);
       };
     }
+
+-- no longer file goes on up to the word that offends and past it
+pub no_longer : (refusal : Refusal) (file behind rest : List ℕ) → OffendsBehind refusal file behind rest → (others : List Frame) (other after : List ℕ)
+    → (file ++ behind) ++ rest ≡ other ++ after → IsFileUnder caption_channel others other → length other ≤ length file
+no_longer refusal file behind rest stands others other after spelled is = elim (no_more (length other) (length (file ++ behind))) [
+  | inl within ↦
+      let (tail, parted) = front_of other (file ++ behind) after rest (sym spelled) within in
+      not_longer file behind other tail stands.none parted is.file.packets is.file.file
+  | inr past ↦
+      let whole = stands.offends.whole in
+      let same = ap length stands.before in
+      let even = even_file is.file.packets other is.file.file in
+      absurd (past_offence caption_channel other after ((file ++ behind) ++ rest) refusal stands.offends (sym spelled) (omega (arith, past, whole, same, even))
+      (file_begins others other is))
+]
+
+-- bytes up to a word that offends, before which no packet ends behind a file, have the file's frames
+abbrev pub frames_up_to : (refusal : Refusal) (frames : List Frame) (file behind rest : List ℕ) → IsFileUnder caption_channel frames file → OffendsBehind refusal file behind rest
+    → AreFramesOf caption_channel frames ((file ++ behind) ++ rest)
+frames_up_to refusal frames file behind rest under stands = record {
+  file = file;
+  behind = behind ++ rest;
+  spelled = append_assoc file behind rest;
+  is_file = under;
+  longest = no_longer refusal file behind rest stands;
+}

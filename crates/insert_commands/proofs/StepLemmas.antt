@@ -1,6 +1,6 @@
--- A packet of words in which captions are inserted, as it ends.
-use Rattle.std.proofs.Common.{◌≡◌, ◌≢◌, ℕ, ◌+◌, ◌-◌, ◌%◌, ◌≤◌, List, [], ◌∷◌, ◌++◌, length, take, drop, Option, Ok, Err, refl, ap, sym, subst, ◌∙◌, append_assoc, append-nil, length-append, arith}
-use Rattle.std.proofs.lemmas.List.{length-map, length-take-le, take-append-drop}
+-- Words in which captions are inserted are judged packet by packet.
+use Rattle.std.proofs.Common.{◌≡◌, ℕ, ◌%◌, ◌<◌, ◌≤◌, inl, All, List, [], ◌∷◌, ◌++◌, length, take, drop, Option, Ok, Err, refl, ap, sym, subst, ◌∙◌, append_assoc, append-nil, length-append, arith}
+use Rattle.std.proofs.lemmas.List.{length-map, take-append-drop}
 use Rattle.std.proofs.lemmas.List.Elements.{All-append, All-cons, All-nil}
 use Rattle.std.specs.List.{concat}
 use Rattle.cc_base.specs.Rate.{rate_code, rate_of}
@@ -17,26 +17,30 @@ use Rattle.cc_receiver.specs.declared.receiver.Receiver.{Receiver}
 use Rattle.cc_receiver.proofs.TakenLemmas.{frames_count}
 use Rattle.cdp_packets.specs.Packets.{Packet as Frame}
 use Rattle.cdp_packets.proofs.PacketLemmas.{rate_of-code}
-use Rattle.packet_inserter.specs.Insertion.{IsInserted, packet_length}
-use Rattle.words_files.specs.Offences.{IsFileUnder, IsUnoffending}
+use Rattle.words_files.specs.Offences.{FirstOffendingWord, IsFileUnder, IsUnoffending}
 use Rattle.services_files.specs.CaptionChannel.{caption_channel}
 use Rattle.words_files.proofs.FramesOfLemmas.{file_frames}
 use Rattle.text_output.proofs.PageLemmas.{gathered_more}
-use Rattle.text_output.specs.Gathered.{Gathers, held_of}
+use Rattle.text_output.specs.Gathered.{Gathers}
+use Rattle.words_reading.proofs.WayLemmas.{way_unwritten}
 use Rattle.words_reading.specs.Causes.{words_limit}
-use Rattle.insert_commands.proofs.FlushLemmas.{inserted_unwritten}
-use Rattle.insert_commands.specs.InsertSteps.{GathersInserted, HasJudged, HasLastFrame, HasStopped, Replaces, StopsBy}
-use Rattle.inserted_words.specs.InsertedFile.{BringsFrame, IsForeign, carried_words}
-use Rattle.inserted_words.specs.InsertedFile.AreInserted.{caption, foreign}
+use Rattle.words_reading.specs.Judging.{HasGathered, HasStopped, IsReady}
+use Rattle.words_reading.specs.declared.judge.Stop.TheVariants as stop
+use Rattle.insert_commands.proofs.EndLemmas.{not_longer}
+use Rattle.insert_commands.proofs.RefusedLemmas.{frames_up_to}
+use Rattle.insert_commands.specs.InsertAnswer.{HaltsInserting, SaysInserted}
+use Rattle.insert_commands.specs.InsertSteps.{HasJudged, HasLastFrame, HasReadWords, Replaces}
+use Rattle.inserted_words.specs.InsertedFile.{AreInserted, BringsFrame}
+use Rattle.inserted_words.specs.InsertedFile.AreInserted.{caption, foreign, nothing}
+use Rattle.inserted_words.specs.Soundness.{HaveRate}
 use Rattle.programmes.specs.Framing.{Framing}
 use Rattle.inserted_words.specs.Captions.{captions_of}
 use Rattle.insert_commands.specs.ListCaptions.{GivesCaptions}
 use Rattle.insert_commands.specs.OpenPackets.{EndsCaption, EndsForeign, HasRead, IsEndedAs, MayFollow, NoPacketEnds, ReadsFront, RefusesWord, open_bytes}
 use Rattle.frame_scheduler.specs.declared.frames.Plan.{Plan}
 use Rattle.insert_commands.specs.declared.captions.Captions.{Captions}
+use Rattle.insert_commands.specs.declared.inserting.Halt.{Halt}
 use Rattle.insert_commands.specs.declared.inserting.Inserting.{Inserting}
-use Rattle.insert_commands.specs.declared.inserting.Stop.{Stop}
-use Rattle.insert_commands.specs.declared.inserting.Stop.TheVariants as stop
 use Rattle.insert_commands.specs.declared.packets.Packets.{Packets}
 
 -- a rate is told by its code
@@ -61,147 +65,243 @@ begun frames file bytes receiver new received few unoffending under same none =
     }
 
 -- the bytes judged, and a front of those behind them
-parted : (before file kept bytes front new : List ℕ) → before ≡ file ++ kept → new ≡ kept ++ front → before ++ front ≡ file ++ new
-parted before file kept bytes front new is more =
+parted : (before file kept front new : List ℕ) → before ≡ file ++ kept → new ≡ kept ++ front → before ++ front ≡ file ++ new
+parted before file kept front new is more =
     ap (λ b. b ++ front) is ∙ append_assoc file kept front ∙ ap (λ b. file ++ b) (sym more)
 
 rest_parted : (before bytes : List ℕ) (used : ℕ) → before ++ bytes ≡ (before ++ take used bytes) ++ drop used bytes
 rest_parted before bytes used =
     ap (λ l. before ++ l) (sym (take-append-drop used bytes)) ∙ sym (append_assoc before (take used bytes) (drop used bytes))
 
-module _ (list : Framing) (start now : Option (List ℕ)) (before bytes : List ℕ) (old : Inserting) (had : HasJudged list start now before old) where
-  -- a word was refused
-  pub step_refused : (refusal : Refusal) → RefusesWord had.file (open_bytes old.packets ++ bytes) refusal
-      → HasStopped list start now (before ++ bytes) (held_of old.gathered) (stop.Refused refusal)
-  step_refused refusal refuses = record {
-    frames = had.frames;
-    file = had.file;
-    behind = refuses.behind;
-    unjudged = refuses.rest;
-    spelled = ap (λ b. b ++ bytes) had.spelled ∙ append_assoc had.file (open_bytes old.packets) bytes ∙ ap (λ b. had.file ++ b) refuses.spelled
-        ∙ sym (append_assoc had.file refuses.behind refuses.rest);
-    gathers = had.gathers;
-    cause = refuses.stands;
-  }
+-- how a packet ended
+pub ends_foreign : (answer : Ended) (frames : List Frame) (file : List ℕ) (mid : Packets) → answer ≡ ended.Foreign → IsEndedAs answer frames file mid
+    → EndsForeign frames file (open_bytes mid) mid
+ends_foreign answer frames file mid is ends = subst (λ e. IsEndedAs e frames file mid) is ends
 
-  -- a put failed of what was gathered before
-  pub step_unwritten : (then : Option (List ℕ)) (held : List ℕ) → Puts now then put.Failed (held_of old.gathered)
-      → HasStopped list start then (before ++ bytes) held stop.Unwritten
-  step_unwritten then held failed = record {
-    frames = had.frames;
-    file = had.file;
-    behind = open_bytes old.packets;
-    unjudged = bytes;
-    spelled = ap (λ b. b ++ bytes) had.spelled;
-    gathers = inserted_unwritten list had.frames had.file start now then (held_of old.gathered) held had.gathers failed;
-    cause = tt;
-  }
+pub ends_caption : (answer : Ended) (frames : List Frame) (file : List ℕ) (mid : Packets) → answer ≡ ended.Caption → IsEndedAs answer frames file mid
+    → EndsCaption frames file (open_bytes mid) mid
+ends_caption answer frames file mid is ends = subst (λ e. IsEndedAs e frames file mid) is ends
+
+pub ends_no : (answer : Ended) (frames : List Frame) (file : List ℕ) (mid : Packets) → answer ≡ ended.No → IsEndedAs answer frames file mid → HasRead frames file mid
+ends_no answer frames file mid is ends = subst (λ e. IsEndedAs e frames file mid) is ends
+
+-- what is judged of a file, and of the bytes of the packet that is open behind it
+pub judged_so : (list : Framing) (frames : List Frame) (file text bytes : List ℕ) (inserting : Inserting) → bytes ≡ file ++ open_bytes inserting.packets
+    → HasRead frames file inserting.packets → GivesCaptions list (length frames) inserting.captions → AreInserted (captions_of list) frames file text
+    → HaveRate list.rate frames → HasJudged list bytes text inserting
+judged_so list frames file text bytes inserting spelled read gives inserted rates = record {
+  says = record {
+    frames = frames;
+    frames_are = record {
+      file = file;
+      behind = open_bytes inserting.packets;
+      spelled = spelled;
+      is_file = read.under;
+      longest = λ others other rest is is_file.
+          not_longer file (open_bytes inserting.packets) other rest read.none (sym spelled ∙ is) is_file.file.packets is_file.file.file;
+    };
+    bytes_are = subst (All (λ byte. byte < 256)) (sym spelled) read.received.bytes_are;
+    inserted = inserted;
+    rates = rates;
+  };
+  unoffending = subst (IsUnoffending caption_channel) (sym spelled) read.unoffending;
+  spelled = spelled;
+  read = read;
+  gives = gives;
+}
+
+-- nothing was judged
+pub nothing_judged : (list : Framing) (inserting : Inserting) → HasRead [] [] inserting.packets → open_bytes inserting.packets ≡ []
+    → GivesCaptions list 0 inserting.captions → HasJudged list [] [] inserting
+nothing_judged list inserting read none gives =
+    judged_so list [] [] [] [] inserting (sym none) read gives (nothing (captions_of list)) (All-nil (λ f. f.rate ≡ list.rate))
+
+-- what was judged was read
+abbrev pub has_read : (list : Framing) (bytes text : List ℕ) (inserting : Inserting) → HasJudged list bytes text inserting → HasReadWords bytes inserting
+has_read list bytes text inserting had =
+    record { frames = had.says.frames; file = had.says.frames_are.file; spelled = had.spelled; read = had.read }
+
+-- what may follow
+pub may_follow : (inserting : Inserting) (more : ℕ) → IsReady HasReadWords inserting more → MayFollow words_limit inserting.packets more
+may_follow inserting more ready =
+    let within = ready.within in
+    let long = ap length ready.read.spelled in
+    record { frames = ready.read.frames; file = ready.read.file; read = ready.read.read; within = omega (arith, within, long) }
+
+-- bytes are read behind others
+module _ (before bytes : List ℕ) (old : Inserting) (had : HasReadWords before old) (mid : Packets) (fed : Fed)
+    (read : ReadsFront had.frames had.file bytes old.packets mid fed) where
+  abbrev whole : List ℕ
+  whole = had.file ++ open_bytes mid
+
+  pub spelled_whole : before ++ take fed.used bytes ≡ had.file ++ open_bytes mid
+  spelled_whole = parted before had.file (open_bytes old.packets) (take fed.used bytes) (open_bytes mid) had.spelled read.kept
+
+  pub spelled_rest : before ++ bytes ≡ (had.file ++ open_bytes mid) ++ drop fed.used bytes
+  spelled_rest = rest_parted before bytes fed.used ∙ ap (λ b. b ++ drop fed.used bytes) spelled_whole
+
+  pub spelled_past : (new : Packets) → open_bytes new ≡ [] → before ++ take fed.used bytes ≡ whole ++ open_bytes new
+  spelled_past new none = spelled_whole ∙ sym (ap (λ b. whole ++ b) none ∙ append-nil whole)
 
   -- no packet ended
-  pub step_still : (new : Inserting) (fed : Fed) → ReadsFront had.frames had.file bytes old.packets new.packets fed → fed.ended ≡ ended.No
-      → new.captions ≡ old.captions → new.gathered ≡ old.gathered → HasJudged list start now (before ++ take fed.used bytes) new
-  step_still new fed read still same kept = record {
-    frames = had.frames;
-    file = had.file;
-    spelled = parted before had.file (open_bytes old.packets) bytes (take fed.used bytes) (open_bytes new.packets) had.spelled read.kept;
-    read = subst (λ e. IsEndedAs e had.frames had.file new.packets) still read.ends;
-    gives = subst (GivesCaptions list (length had.frames)) (sym same) had.gives;
-    gathers = subst (λ g. GathersInserted list had.frames had.file put.Done start now (held_of g)) (sym kept) had.gathers;
+  abbrev pub read_still : (captions : Captions Plan) → fed.ended ≡ ended.No → HasReadWords (before ++ take fed.used bytes) (record { packets = mid; captions = captions })
+  read_still captions still =
+      record { frames = had.frames; file = had.file; spelled = spelled_whole; read = ends_no fed.ended had.frames had.file mid still read.ends }
+
+  -- or one ended
+  abbrev pub read_foreign : (new : Packets) (captions : Captions Plan) → fed.ended ≡ ended.Foreign → new.receiver ≡ mid.receiver → open_bytes new ≡ []
+      → HasReadWords (before ++ take fed.used bytes) (record { packets = new; captions = captions })
+  read_foreign new captions is_foreign receiver none =
+      let is = ends_foreign fed.ended had.frames had.file mid is_foreign read.ends in
+      record {
+        frames = had.frames;
+        file = whole;
+        spelled = spelled_past new none;
+        read = begun had.frames had.file (open_bytes mid) mid.receiver new is.received is.few is.unoffending is.under receiver none;
+      }
+
+  abbrev pub read_caption : (new : Packets) (captions : Captions Plan) → fed.ended ≡ ended.Caption → new.receiver ≡ mid.receiver → open_bytes new ≡ []
+      → HasReadWords (before ++ take fed.used bytes) (record { packets = new; captions = captions })
+  read_caption new captions is_caption receiver none =
+      let is = ends_caption fed.ended had.frames had.file mid is_caption read.ends in
+      record {
+        frames = had.frames ++ is.frame ∷ [];
+        file = whole;
+        spelled = spelled_past new none;
+        read = begun (had.frames ++ is.frame ∷ []) had.file (open_bytes mid) mid.receiver new is.received is.few is.unoffending is.under receiver none;
+      }
+
+module _ (list : Framing) (start now : Option (List ℕ)) (held before bytes : List ℕ) (old : Inserting)
+    (had : HasGathered (HasJudged list) start now held before old) where
+  abbrev frames : List Frame
+  frames = had.judged.says.frames
+
+  abbrev file : List ℕ
+  file = had.judged.says.frames_are.file
+
+  abbrev was : HasReadWords before old
+  was = has_read list before had.text old had.judged
+
+  -- a word was refused
+  pub word_refused : (refusal : Refusal) → All (λ byte. byte < 256) bytes → RefusesWord had.judged.says.frames_are.file (open_bytes old.packets ++ bytes) refusal
+      → HasStopped (SaysInserted list) (HaltsInserting list) start now held (before ++ bytes) (stop.Refused refusal)
+  word_refused refusal are refuses =
+      let all : before ++ bytes ≡ (file ++ refuses.behind) ++ refuses.rest =
+      ap (λ b. b ++ bytes) had.judged.spelled ∙ append_assoc file (open_bytes old.packets) bytes ∙ ap (λ b. file ++ b) refuses.spelled
+      ∙ sym (append_assoc file refuses.behind refuses.rest) in
+      let frames_are = frames_up_to refusal frames file refuses.behind refuses.rest had.judged.read.under refuses.stands in
+      let bytes_are : All (λ byte. byte < 256) (before ++ bytes) = All-append (λ byte. byte < 256) before bytes had.judged.says.bytes_are are in
+      let said : SaysInserted list ((file ++ refuses.behind) ++ refuses.rest) had.text = record {
+        frames = frames;
+        frames_are = frames_are;
+        bytes_are = subst (All (λ byte. byte < 256)) all bytes_are;
+        inserted = had.judged.says.inserted;
+        rates = had.judged.says.rates;
+      } in
+      record {
+        judged = before ++ bytes;
+        unjudged = [];
+        text = had.text;
+        spelled = sym (append-nil (before ++ bytes));
+        cause = (
+          refl,
+          subst (λ b. FirstOffendingWord caption_channel b refusal) (sym all) refuses.stands.offends,
+          subst (λ b. SaysInserted list b had.text) (sym all) said,
+        );
+        way = had.way;
+      }
+
+  -- a put failed of what was gathered before
+  pub words_unwritten : (then : Option (List ℕ)) (after : List ℕ) → Puts now then put.Failed held
+      → HasStopped (SaysInserted list) (HaltsInserting list) start then after (before ++ bytes) stop.WriteFault
+  words_unwritten then after failed = record {
+    judged = before;
+    unjudged = bytes;
+    text = had.text;
+    spelled = refl;
+    cause = inl had.judged.says;
+    way = way_unwritten start now then held had.text had.way failed;
   }
 
-  module _ (mid : Packets) (fed : Fed) (read : ReadsFront had.frames had.file bytes old.packets mid fed) where
-    abbrev whole : List ℕ
-    whole = had.file ++ open_bytes mid
-
-    spelled_whole : before ++ take fed.used bytes ≡ whole
-    spelled_whole = parted before had.file (open_bytes old.packets) bytes (take fed.used bytes) (open_bytes mid) had.spelled read.kept
-
-    spelled_rest : before ++ bytes ≡ (had.file ++ open_bytes mid) ++ drop fed.used bytes
-    spelled_rest = rest_parted before bytes fed.used ∙ ap (λ b. b ++ drop fed.used bytes) spelled_whole
-
-    foreign_gathers : (then : Option (List ℕ)) (after : List ℕ) → IsForeign (open_bytes mid)
-        → Gathers now then (held_of old.gathered) after put.Done (open_bytes mid) → GathersInserted list had.frames whole put.Done start then after
-    foreign_gathers then after is gathers = record {
-      text = had.gathers.text ++ open_bytes mid;
-      inserted = foreign (captions_of list) had.frames had.file had.gathers.text (open_bytes mid) whole (had.gathers.text ++ open_bytes mid)
-          had.gathers.inserted is refl refl;
-      rates = had.gathers.rates;
-      way = gathered_more start now then put.Done (held_of old.gathered) after (open_bytes mid) had.gathers.text had.gathers.way gathers;
-    }
+  module _ (mid : Packets) (fed : Fed) (read : ReadsFront had.judged.says.frames had.judged.says.frames_are.file bytes old.packets mid fed) where
+    -- no packet ended
+    pub judged_still : fed.ended ≡ ended.No
+        → HasGathered (HasJudged list) start now held (before ++ take fed.used bytes) (record { packets = mid; captions = old.captions })
+    judged_still still =
+        let new = read_still before bytes old was mid fed read old.captions still in
+        record {
+          text = had.text;
+          judged = judged_so list frames file had.text _ (record { packets = mid; captions = old.captions }) new.spelled new.read had.judged.gives
+              had.judged.says.inserted had.judged.says.rates;
+          way = had.way;
+        }
 
     -- a packet that isn't one of captions was copied
-    pub step_copied : (then : Option (List ℕ)) (new : Inserting) → EndsForeign had.frames had.file (open_bytes mid) mid
-        → Gathers now then (held_of old.gathered) (held_of new.gathered) put.Done (open_bytes mid)
-        → new.packets.receiver ≡ mid.receiver → open_bytes new.packets ≡ [] → new.captions ≡ old.captions
-        → HasJudged list start then (before ++ take fed.used bytes) new
-    step_copied then new is gathers receiver none same = record {
-      frames = had.frames;
-      file = whole;
-      spelled = spelled_whole ∙ sym (ap (λ b. whole ++ b) none ∙ append-nil whole);
-      read = begun had.frames had.file (open_bytes mid) mid.receiver new.packets is.received is.few is.unoffending is.under receiver none;
-      gives = subst (GivesCaptions list (length had.frames)) (sym same) had.gives;
-      gathers = foreign_gathers then (held_of new.gathered) (record { packet = is.packet; is = is.is; is_foreign = is.is_foreign }) gathers;
-    }
+    pub judged_foreign : (new : Packets) (then : Option (List ℕ)) (after : List ℕ) → fed.ended ≡ ended.Foreign
+        → Gathers now then held after put.Done (open_bytes mid) → new.receiver ≡ mid.receiver → open_bytes new ≡ []
+        → HasGathered (HasJudged list) start then after (before ++ take fed.used bytes) (record { packets = new; captions = old.captions })
+    judged_foreign new then after is_foreign gathers receiver none =
+        let is = ends_foreign fed.ended frames file mid is_foreign read.ends in
+        let next = read_foreign before bytes old was mid fed read new old.captions is_foreign receiver none in
+        record {
+          text = had.text ++ open_bytes mid;
+          judged = judged_so list frames (file ++ open_bytes mid) (had.text ++ open_bytes mid) _ (record { packets = new; captions = old.captions }) next.spelled next.read
+              had.judged.gives
+              (foreign (captions_of list) frames file had.text (open_bytes mid) (file ++ open_bytes mid) (had.text ++ open_bytes mid)
+              had.judged.says.inserted (record { packet = is.packet; is = is.is; is_foreign = is.is_foreign }) refl refl)
+              had.judged.says.rates;
+          way = gathered_more start now then put.Done held after (open_bytes mid) had.text had.way gathers;
+        }
 
-    brings : EndsCaption had.frames had.file (open_bytes mid) mid → (frame : Frame) × BringsFrame frame (open_bytes mid)
-    brings is = (is.frame, record { packet = is.packet; is = is.is; is_caption = is.is_caption; carries = is.carries })
+    -- a frame, with the packet that brought it
+    abbrev pub last_of : fed.ended ≡ ended.Caption → EndsCaption had.judged.says.frames had.judged.says.frames_are.file (open_bytes mid) mid
+    last_of is_caption = ends_caption fed.ended frames file mid is_caption read.ends
 
-    caption_gathers : (then : Option (List ℕ)) (after : List ℕ) (new_frame : Frame) (is : EndsCaption had.frames had.file (open_bytes mid) mid)
-        → is.frame.rate ≡ list.rate → IsInserted (captions_of list (length had.frames)) is.frame new_frame → packet_length new_frame ≤ 255
-        → Gathers now then (held_of old.gathered) after put.Done (carried_words new_frame)
-        → GathersInserted list (had.frames ++ is.frame ∷ []) whole put.Done start then after
-    unfolding brings
-    caption_gathers then after new_frame is rate inserted fits gathers = record {
-      text = had.gathers.text ++ carried_words new_frame;
-      inserted = caption (captions_of list) had.frames (had.frames ++ is.frame ∷ []) is.frame new_frame had.file had.gathers.text
-          (open_bytes mid) whole (had.gathers.text ++ carried_words new_frame) had.gathers.inserted (brings is).1 inserted fits refl refl refl;
-      rates = All-append (λ f. f.rate ≡ list.rate) had.frames (is.frame ∷ []) had.gathers.rates
-          (All-cons (λ f. f.rate ≡ list.rate) is.frame [] rate (All-nil (λ f. f.rate ≡ list.rate)));
-      way = gathered_more start now then put.Done (held_of old.gathered) after (carried_words new_frame) had.gathers.text had.gathers.way gathers;
-    }
-
-    one_more : (frame : Frame) → length (had.frames ++ frame ∷ []) ≡ length had.frames + 1
-    one_more frame = length-append had.frames (frame ∷ [])
-
-    -- the captions of a frame were gathered
-    pub step_replaced : (then : Option (List ℕ)) (new : Inserting) (words : List ℕ) (is : EndsCaption had.frames had.file (open_bytes mid) mid)
-        → Replaces list (length had.frames) is.frame new.captions words (Ok tt)
-        → Gathers now then (held_of old.gathered) (held_of new.gathered) put.Done words
-        → new.packets.receiver ≡ mid.receiver → open_bytes new.packets ≡ [] → HasJudged list start then (before ++ take fed.used bytes) new
-    step_replaced then new words is (rate, gives, (new_frame, inserted, fits, words_are)) gathers receiver none = record {
-      frames = had.frames ++ is.frame ∷ [];
-      file = whole;
-      spelled = spelled_whole ∙ sym (ap (λ b. whole ++ b) none ∙ append-nil whole);
-      read = begun (had.frames ++ is.frame ∷ []) had.file (open_bytes mid) mid.receiver new.packets is.received is.few is.unoffending is.under receiver none;
-      gives = subst (λ n. GivesCaptions list n new.captions) (sym (one_more is.frame)) gives;
-      gathers = caption_gathers then (held_of new.gathered) new_frame is rate inserted fits
-          (subst (Gathers now then (held_of old.gathered) (held_of new.gathered) put.Done) words_are gathers);
-    }
+    -- the captions of the frame were gathered
+    pub judged_caption : (new : Packets) (captions : Captions Plan) (words : List ℕ) (then : Option (List ℕ)) (after : List ℕ) (is_caption : fed.ended ≡ ended.Caption)
+        → Replaces list had.judged.says.frames (last_of is_caption).frame captions words (Ok tt)
+        → Gathers now then held after put.Done words → new.receiver ≡ mid.receiver → open_bytes new ≡ []
+        → HasGathered (HasJudged list) start then after (before ++ take fed.used bytes) (record { packets = new; captions = captions })
+    judged_caption new captions words then after is_caption (rate, gives, (new_frame, inserted, fits, words_are)) gathers receiver none =
+        let is = last_of is_caption in
+        let next = read_caption before bytes old was mid fed read new captions is_caption receiver none in
+        let brings : BringsFrame is.frame (open_bytes mid) = record { packet = is.packet; is = is.is; is_caption = is.is_caption; carries = is.carries } in
+        record {
+          text = had.text ++ words;
+          judged = judged_so list (frames ++ is.frame ∷ []) (file ++ open_bytes mid) (had.text ++ words) _ (record { packets = new; captions = captions })
+              next.spelled next.read (subst (λ n. GivesCaptions list n captions) (sym (length-append frames (is.frame ∷ []))) gives)
+              (caption (captions_of list) frames (frames ++ is.frame ∷ []) is.frame new_frame file had.text (open_bytes mid) (file ++ open_bytes mid) (had.text ++ words)
+              had.judged.says.inserted brings inserted fits refl refl (ap (λ w. had.text ++ w) words_are))
+              (All-append (λ f. f.rate ≡ list.rate) frames (is.frame ∷ []) had.judged.says.rates
+              (All-cons (λ f. f.rate ≡ list.rate) is.frame [] rate (All-nil (λ f. f.rate ≡ list.rate))));
+          way = gathered_more start now then put.Done held after words had.text had.way gathers;
+        }
 
     -- the run stopped at the frame
-    pub step_stopped : (captions : Captions Plan) (words : List ℕ) (why : Stop) (is : EndsCaption had.frames had.file (open_bytes mid) mid)
-        → Replaces list (length had.frames) is.frame captions words (Err why) → HasStopped list start now (before ++ bytes) (held_of old.gathered) why
-    unfolding brings
-    step_stopped captions words (stop.Refused refusal) is replaces = absurd replaces
-    step_stopped captions words stop.Unwritten is replaces = absurd replaces
-    step_stopped captions words (stop.Found finding) is (other, found) = record {
-      frames = had.frames;
-      file = had.file;
-      behind = open_bytes mid;
-      unjudged = drop fed.used bytes;
-      spelled = spelled_rest;
-      gathers = had.gathers;
-      cause = record { last = is.frame; brings = (brings is).1; unoffending = is.unoffending; other = other; is = found };
-    }
-    step_stopped captions words stop.Packet is (rate, (new_frame, inserted, long)) = record {
-      frames = had.frames;
-      file = had.file;
-      behind = open_bytes mid;
-      unjudged = drop fed.used bytes;
-      spelled = spelled_rest;
-      gathers = had.gathers;
-      cause = record { last = is.frame; brings = (brings is).1; unoffending = is.unoffending; rate_is = rate; new = new_frame; inserted = inserted; long = long };
-    }
+    pub halted : (captions : Captions Plan) (words : List ℕ) (why : Halt) (is_caption : fed.ended ≡ ended.Caption)
+        → Replaces list had.judged.says.frames (last_of is_caption).frame captions words (Err why)
+        → HasStopped (SaysInserted list) (HaltsInserting list) start now held (before ++ bytes) (stop.Own why)
+    halted captions words why is_caption replaces =
+        let is = last_of is_caption in
+        record {
+          judged = file ++ open_bytes mid;
+          unjudged = drop fed.used bytes;
+          text = had.text;
+          spelled = spelled_rest before bytes old was mid fed read;
+          cause = record {
+            frames = frames;
+            file = file;
+            packet = open_bytes mid;
+            spelled = refl;
+            inserted = had.judged.says.inserted;
+            rates = had.judged.says.rates;
+            last = is.frame;
+            brings = record { packet = is.packet; is = is.is; is_caption = is.is_caption; carries = is.carries };
+            unoffending = is.unoffending;
+            is = replaces;
+          };
+          way = had.way;
+        }
 
 -- a packet of captions that ended brought a frame, whose sections fit
 pub has_frame : (frames : List Frame) (file bytes : List ℕ) (packets : Packets) → EndsCaption frames file bytes packets → HasLastFrame packets.receiver
@@ -223,71 +323,3 @@ has_frame frames file bytes packets is =
       sections = carries.sections;
       short = omega (arith, low, many, spelled, long);
     }
-
--- what may follow
-pub follow_more : (bytes : List ℕ) (more used : ℕ) (old new : Packets) (may : MayFollow words_limit old (length bytes + more)) (frames : List Frame) (file : List ℕ)
-    → used ≤ length bytes → HasRead frames file new → length (file ++ open_bytes new) ≡ length (may.file ++ open_bytes old) + used
-    → MayFollow words_limit new (length bytes - used + more)
-follow_more bytes more used old new may frames file within read long =
-    let fits = may.within in
-    record { frames = frames; file = file; read = read; within = omega (arith, fits, long, within) }
-
--- a stop that isn't for want of the output
-pub stops_by : (before now : ℕ) (why : Stop) → why ≢ stop.Unwritten → now ≡ before → StopsBy before now why
-stops_by before now stop.Unwritten other same = absurd (other refl)
-stops_by before now (stop.Refused refusal) other same = same
-stops_by before now (stop.Found finding) other same = same
-stops_by before now stop.Packet other same = same
-
--- how a packet ended
-pub ends_foreign : (answer : Ended) (frames : List Frame) (file : List ℕ) (mid : Packets) → answer ≡ ended.Foreign → IsEndedAs answer frames file mid
-    → EndsForeign frames file (open_bytes mid) mid
-ends_foreign answer frames file mid is ends = subst (λ e. IsEndedAs e frames file mid) is ends
-
-pub ends_caption : (answer : Ended) (frames : List Frame) (file : List ℕ) (mid : Packets) → answer ≡ ended.Caption → IsEndedAs answer frames file mid
-    → EndsCaption frames file (open_bytes mid) mid
-ends_caption answer frames file mid is ends = subst (λ e. IsEndedAs e frames file mid) is ends
-
-pub ends_no : (answer : Ended) (frames : List Frame) (file : List ℕ) (mid : Packets) → answer ≡ ended.No → IsEndedAs answer frames file mid → HasRead frames file mid
-ends_no answer frames file mid is ends = subst (λ e. IsEndedAs e frames file mid) is ends
-
--- how many bytes were read
-kept_long : (frames : List Frame) (file bytes : List ℕ) (old mid : Packets) (fed : Fed) → ReadsFront frames file bytes old mid fed
-    → length (file ++ open_bytes mid) ≡ length (file ++ open_bytes old) + fed.used
-kept_long frames file bytes old mid fed read =
-    let size = ap length read.kept in
-    omega (
-      arith,
-      size,
-      length-append file (open_bytes mid),
-      length-append file (open_bytes old),
-      length-append (open_bytes old) (take fed.used bytes),
-      length-take-le fed.used bytes read.within,
-    )
-
-pub more_no : (bytes : List ℕ) (more : ℕ) (old mid : Packets) (fed : Fed) (may : MayFollow words_limit old (length bytes + more))
-    → ReadsFront may.frames may.file bytes old mid fed → fed.ended ≡ ended.No → MayFollow words_limit mid (length bytes - fed.used + more)
-more_no bytes more old mid fed may read is =
-    follow_more bytes more fed.used old mid may may.frames may.file read.within (ends_no fed.ended may.frames may.file mid is read.ends)
-    (kept_long may.frames may.file bytes old mid fed read)
-
-begun_long : (file bytes kept : List ℕ) → kept ≡ [] → length ((file ++ bytes) ++ kept) ≡ length (file ++ bytes)
-begun_long file bytes kept none = ap length (ap (λ b. (file ++ bytes) ++ b) none ∙ append-nil (file ++ bytes))
-
-pub more_foreign : (bytes : List ℕ) (more : ℕ) (old mid new : Packets) (fed : Fed) (may : MayFollow words_limit old (length bytes + more))
-    → ReadsFront may.frames may.file bytes old mid fed → fed.ended ≡ ended.Foreign → new.receiver ≡ mid.receiver → open_bytes new ≡ []
-    → MayFollow words_limit new (length bytes - fed.used + more)
-more_foreign bytes more old mid new fed may read is same none =
-    let ends = ends_foreign fed.ended may.frames may.file mid is read.ends in
-    follow_more bytes more fed.used old new may may.frames (may.file ++ open_bytes mid) read.within
-    (begun may.frames may.file (open_bytes mid) mid.receiver new ends.received ends.few ends.unoffending ends.under same none)
-    (begun_long may.file (open_bytes mid) (open_bytes new) none ∙ kept_long may.frames may.file bytes old mid fed read)
-
-pub more_caption : (bytes : List ℕ) (more : ℕ) (old mid new : Packets) (fed : Fed) (may : MayFollow words_limit old (length bytes + more))
-    → ReadsFront may.frames may.file bytes old mid fed → fed.ended ≡ ended.Caption → new.receiver ≡ mid.receiver → open_bytes new ≡ []
-    → MayFollow words_limit new (length bytes - fed.used + more)
-more_caption bytes more old mid new fed may read is same none =
-    let ends = ends_caption fed.ended may.frames may.file mid is read.ends in
-    follow_more bytes more fed.used old new may (may.frames ++ ends.frame ∷ []) (may.file ++ open_bytes mid) read.within
-    (begun (may.frames ++ ends.frame ∷ []) may.file (open_bytes mid) mid.receiver new ends.received ends.few ends.unoffending ends.under same none)
-    (begun_long may.file (open_bytes mid) (open_bytes new) none ∙ kept_long may.frames may.file bytes old mid fed read)

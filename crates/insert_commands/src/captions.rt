@@ -18,11 +18,12 @@ const NULL: Pair = Pair { a: 0x80, b: 0x80 };
 
 /// The captions of a programme, frame by frame.
 #[derive(Drop)]
-pub(crate) struct Captions<F> {
+pub struct Captions<F> {
     rate: Rate,
+    // The next frame; None behind the programme's end.
+    ahead: Option<FrameBytes>,
+    // Those behind it.
     frames: F,
-    // Whether the last of the frames was given.
-    over: bool,
     carrier: Carrier,
 }
 
@@ -31,11 +32,12 @@ impl<F: Frames + Drop> Captions<F> {
     pub(crate) fn new(programme: Programme<F>) -> Captions<F>
         ensures { (list : Framing) → HasFraming F.left F.Gives list programme → GivesFramed F.left F.Gives list 0 result }
     {
+        let Programme { rate, mut frames } = programme;
         Captions {
-            rate: programme.rate,
-            carrier: Carrier::new(programme.rate),
-            frames: programme.frames,
-            over: false,
+            rate,
+            ahead: frames.next(),
+            frames,
+            carrier: Carrier::new(rate),
         }
     }
 
@@ -62,21 +64,21 @@ impl<F: Frames + Drop> Captions<F> {
         ensures gives { (list : Framing) → GivesFramed F.left F.Gives list frame self.old
             → (result ≡ padded list frame) × GivesPlanned F.left F.Gives list frame self.new }
     {
-        if !self.over {
-            if let Some(bytes) = self.frames.next() {
-                return bytes;
+        match self.ahead.take() {
+            Some(bytes) => {
+                self.ahead = self.frames.next();
+                bytes
             }
-            self.over = true;
+            None => silent(self.rate, frame),
         }
-        silent(self.rate, frame)
     }
 
     /// Whether the programme has no frame from the next one on.
-    pub(crate) fn is_over(&mut self) -> bool
-        ensures { (list : Framing) (frame : ℕ) → GivesFramed F.left F.Gives list frame self.old
+    pub(crate) fn is_over(&self) -> bool
+        ensures { (list : Framing) (frame : ℕ) → GivesFramed F.left F.Gives list frame self.now
             → MatchBool result (list.count ≤ frame) (frame < list.count) }
     {
-        self.over || self.frames.next().is_none()
+        self.ahead.is_none()
     }
 }
 

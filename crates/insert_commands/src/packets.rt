@@ -19,7 +19,7 @@ const COUNT: usize = 11;
 
 /// A receiver of words, with the bytes of the packet that is open.
 #[derive(Drop)]
-pub(crate) struct Packets {
+pub struct Packets {
     pub(crate) receiver: Receiver,
     held: ArrayVec<u8, PACKET_ROOM>,
 }

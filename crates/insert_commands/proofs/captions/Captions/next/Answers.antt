@@ -1,4 +1,4 @@
-use Rattle.std.proofs.Common.{add-one, ap, ◌≡◌, ◌∙◌, arith, subst, sym, ℕ, ◌+◌}
+use Rattle.std.proofs.Common.{add-one, ap, ◌≡◌, ◌∙◌, subst, sym, ℕ, ◌+◌}
 use Rattle.cc_base.specs.declared.rate.Rate.{Rate}
 use Rattle.frame_carrier.specs.Carrying.{IsAt, channel_packet, packet_count, packets_before}
 use Rattle.frame_carrier.specs.FrameTriplets.{frame_triplets}
@@ -24,9 +24,7 @@ returns-clause-gives g c list had =
           ∙ ap (λ (b : FrameBytes). frame_triplets list.rate b (channel_packet before b.blocks.items)) given.0,
       record {
         rate_is = given.1.rate_is;
-        planned = given.1.planned;
-        has_left = given.1.has_left;
-        none_left = λ over. let most = given.1.none_left over in omega (arith, most);
+        next = given.1.next;
         carrier = carried_next list.rate (padded list) frame _ _ given.0 (c.triplets.ensures.next list.rate frame before given.1.carrier);
       },
     )

@@ -1,8 +1,10 @@
-use Rattle.insert_commands.proofs.StopLemmas.{may_begin}
+use Rattle.std.proofs.Common.{[], sym}
+use Rattle.insert_commands.proofs.StepLemmas.{nothing_judged}
 use Rattle.insert_commands.proofs.inserting.Inserting.new.Goals as goal
 
-pub returns-clause-may : goal.returns-clause-may
-returns-clause-may c = may_begin c.in_ok-new.field-0 c.in_ok-new.ensures.read c.in_ok-new.ensures.none
+pub returns-clause-read : goal.returns-clause-read
+returns-clause-read c = record { frames = []; file = []; spelled = sym c.in_ok-new.ensures.none; read = c.in_ok-new.ensures.read }
 
-pub returns-clause-gives : goal.returns-clause-gives
-returns-clause-gives c list has = c.new-2.ensures list has
+pub returns-clause-judged : goal.returns-clause-judged
+returns-clause-judged c list has =
+    nothing_judged list (record { packets = c.in_ok-new.field-0; captions = c.new-2.result }) c.in_ok-new.ensures.read c.in_ok-new.ensures.none (c.new-2.ensures list has)
