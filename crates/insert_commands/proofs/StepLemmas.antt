@@ -290,14 +290,14 @@ module _ (list : Framing) (start now : Option (List ℕ)) (held before bytes : L
           spelled = spelled_rest before bytes old was mid fed read;
           cause = record {
             frames = frames;
+            last = is.frame;
+            is_file = is.under;
             file = file;
             packet = open_bytes mid;
             spelled = refl;
+            brings = record { packet = is.packet; is = is.is; is_caption = is.is_caption; carries = is.carries };
             inserted = had.judged.says.inserted;
             rates = had.judged.says.rates;
-            last = is.frame;
-            brings = record { packet = is.packet; is = is.is; is_caption = is.is_caption; carries = is.carries };
-            unoffending = is.unoffending;
             is = replaces;
           };
           way = had.way;

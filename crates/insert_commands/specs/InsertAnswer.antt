@@ -1,7 +1,7 @@
 -- What `insert` answers: each status has its cause, and what was put, in one place. The side file's cue list is read to its end and
 -- judged first, and so is its room; then the bytes of a words file are judged in order, up to the limit, and what stands for each
 -- packet is put before more are taken.
-use Rattle.std.specs.Prelude.{◌≡◌, ◌≢◌, ◌<◌, ◌≤◌, ◌⊎◌, ℕ, List, ◌++◌, length, Option, IfSome}
+use Rattle.std.specs.Prelude.{◌≡◌, ◌≢◌, ◌<◌, ◌≤◌, ◌⊎◌, ℕ, List, [], ◌∷◌, ◌++◌, length, Option, IfSome}
 use Rattle.std.specs.List.{All}
 use Rattle.cc_base.specs.Streams.{Rose, TakesWithin, whole_limit}
 use Rattle.cc_base.specs.declared.limit_of.LimitOf.TheVariants as limit
@@ -21,7 +21,7 @@ use Rattle.findings.specs.declared.finding.Kind45.TheVariants as kind
 use Rattle.frame_scheduler.specs.Planned.{Placement}
 use Rattle.packet_inserter.specs.Insertion.{IsInserted, packet_length}
 use Rattle.words_files.specs.FramesOf.{AreFramesOf}
-use Rattle.words_files.specs.Offences.{IsFileUnder, IsUnoffending}
+use Rattle.words_files.specs.Offences.{IsFileUnder}
 use Rattle.services_files.specs.CaptionChannel.{caption_channel}
 use Rattle.inserted_words.specs.InsertedFile.{AreInserted, BringsFrame}
 use Rattle.cue_list_commands.specs.Output.{list_framing}
@@ -57,18 +57,17 @@ abbrev pub IsHalt : Framing → Halt → List Frame → Frame → Type 0
 IsHalt list (halt.Found finding) frames last = HasOtherRate list finding frames last
 IsHalt list halt.Packet frames last = ExceedsPacketLength list frames last
 
--- the bytes, of which no word offends, end with the packet of a frame at which an insertion stops so, and this text stands for the file
--- before it
+-- the bytes are a words file that ends with the packet of a frame at which an insertion stops so, and this text stands for the file before it
 pub record HaltsInserting (list : Framing) (why : Halt) (bytes text : List ℕ) : Type 0 where
   pub frames : List Frame
+  pub last : Frame
+  pub is_file : IsFileUnder caption_channel (frames ++ last ∷ []) bytes
   pub file : List ℕ
   pub packet : List ℕ
   pub spelled : bytes ≡ file ++ packet
+  pub brings : BringsFrame last packet
   pub inserted : AreInserted (captions_of list) frames file text
   pub rates : HaveRate list.rate frames
-  pub last : Frame
-  pub brings : BringsFrame last packet
-  pub unoffending : IsUnoffending caption_channel bytes
   pub is : IsHalt list why frames last
 
 -- the whole input is a words file with as many frames as the list has, at least
