@@ -47,10 +47,10 @@ use Rattle.words_commands.proofs.WordsAnswerLemmas.{HasEndedCounted}
 
 -- what is displayed now is the concealed grid of each channel
 grid_now : (frames : List Frame) (concealer : Concealer) → Conceals frames concealer → (chan : Chan) → displayed_now concealer chan ≡ concealed_grids frames chan
-grid_now frames concealer conceals Cc1 = ap (λ (s : FieldState). (channel (data_channel_of Cc1) s).displayed) conceals.behind.first.state
-grid_now frames concealer conceals Cc2 = ap (λ (s : FieldState). (channel (data_channel_of Cc2) s).displayed) conceals.behind.first.state
-grid_now frames concealer conceals Cc3 = ap (λ (s : FieldState). (channel (data_channel_of Cc3) s).displayed) conceals.behind.second.state
-grid_now frames concealer conceals Cc4 = ap (λ (s : FieldState). (channel (data_channel_of Cc4) s).displayed) conceals.behind.second.state
+grid_now frames concealer conceals Cc1 = ap (λ (s : FieldState). (channel (data_channel_of Cc1) s).displayed) conceals.acted.behind.first.state
+grid_now frames concealer conceals Cc2 = ap (λ (s : FieldState). (channel (data_channel_of Cc2) s).displayed) conceals.acted.behind.first.state
+grid_now frames concealer conceals Cc3 = ap (λ (s : FieldState). (channel (data_channel_of Cc3) s).displayed) conceals.acted.behind.second.state
+grid_now frames concealer conceals Cc4 = ap (λ (s : FieldState). (channel (data_channel_of Cc4) s).displayed) conceals.acted.behind.second.state
 
 pub screens_now : (frames : List Frame) (concealer : Concealer) → Conceals frames concealer
     → screens_of (displayed_now concealer) (concealed_windows frames) ≡ concealed_screens frames
