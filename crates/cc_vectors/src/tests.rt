@@ -7,6 +7,7 @@ use std::alloc::Global;
 use std::test::Fail;
 
 mod build;
+mod conceal;
 mod cues;
 mod decode;
 mod double_rates;

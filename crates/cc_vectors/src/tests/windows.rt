@@ -19,7 +19,7 @@ const COLOURED: &str =
     "ccsuite,2,29.97,200\nshare,1,31\nwin,1,0,0,60,100,0,0,60,50,1,10,0,1,1\nattr,2,0,3,1,0,0,0,3000,3,300\nrun,0,0,plain,HI\ncolour,0330,3000,000\n";
 
 /// Captions of both fields and of a service.
-const PROGRAMME: &str =
+pub(super) const PROGRAMME: &str =
     "ccsuite,1,29.97,900\nshare,1,31\npop,CC1,30,90,240\nrun,14,0,white,THE COUNCIL VOTED LATE ON MONDAY\nrun,15,0,white,TO REOPEN THE NORTH BRIDGES.\nwin,1,0,250,300,450,10,7,70,105,2,32,0,1,1\nrun,0,0,plain,ENGINEERS FOUND NO NEW CRACKS\nrun,1,2,plain-i,(applause)\nroll,CC3,2,500,540,\nrun,15,0,white,>> GOOD EVENING\nroll,CC3,2,545,600,800\nrun,15,0,white,AND WELCOME.\n";
 
 /// The bytes of the channel packet that a frame of 29.97 carries: its triplets begin at word 15, the first two of them are
