@@ -30,6 +30,6 @@ pub fn run_conceal<M: Source, O: Sink>(alloc: Global, input: &mut M, out: &mut O
             Put::Done => Status::Ok,
             Put::Failed => Status::WriteFault,
         },
-        Err(stop) => stop.status(),
+        Err(stop) => stop.plain_status(),
     }
 }

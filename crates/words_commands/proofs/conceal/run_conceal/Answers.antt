@@ -33,4 +33,4 @@ returns g c =
     let begun = nothing_concealed (record { concealer = c.in-Ok-new.concealer; shown = c.in-Ok.shown }) c.in-Ok-new.ensures c.in-Ok.ensures.grids c.in-Ok.ensures.windows in
     changes_stopped concealed_changes _ _ c.in-Err.stop _
     (c.in-Err.ensures.words tt (g.O.Sink.written c.args.out.now) [] begun (nothing_put (g.O.Sink.written c.args.out.now)))
-    c.status.ensures
+    c.plain_status.ensures

@@ -31,4 +31,4 @@ returns g c =
     changes_stopped changes_of _ _ c.in-Err.stop _
     (c.in-Err.ensures.words tt (g.O.Sink.written c.args.out.now) [] (nothing_decoded c.in-Ok-new.frames c.in-Ok.shown c.in-Ok-new.ensures.received c.in-Ok-new.ensures.maker
     c.in-Ok.ensures.grids c.in-Ok.ensures.windows) (nothing_put (g.O.Sink.written c.args.out.now)))
-    c.status.ensures
+    c.plain_status.ensures

@@ -23,4 +23,4 @@ pub returns : goal.returns
 returns g c =
     show_stopped c.args.frame _ _ c.in-Err.stop _
     (c.in-Err.ensures.words c.args.frame (g.O.Sink.written c.args.out.now) [] (nothing_printed c.args.frame c.in-Ok.frames c.in-Ok.ensures.received c.in-Ok.ensures.maker)
-    (nothing_put (g.O.Sink.written c.args.out.now))) c.status.ensures
+    (nothing_put (g.O.Sink.written c.args.out.now))) c.plain_status.ensures
