@@ -1,5 +1,5 @@
--- A receiver that is fed the words that were built shows what was authored.
-use Rattle.std.proofs.Common.{◌≡◌, ◌∙◌, ◌++◌, ◌∷◌, ◌+◌, ◌<◌, add-one, ap, append_assoc, arith, length, length-append, subst, suc, sym, take, ℕ, List}
+-- A receiver that is fed the words that were built, or into which captions were inserted, shows what was authored.
+use Rattle.std.proofs.Common.{◌≡◌, ◌∙◌, ◌++◌, ◌∷◌, ◌+◌, ◌<◌, add-one, ap, append_assoc, arith, length, length-append, refl, subst, suc, sym, take, ℕ, List, []}
 use Rattle.std.proofs.lemmas.List.{take-append-le, take_all}
 use Rattle.cdp_packets.specs.Packets.{Packet as Frame}
 use Rattle.frame_scheduler.specs.Planned.{Placement, columns_of}
@@ -20,8 +20,16 @@ use Rattle.services_files.specs.CaptionChannel.{caption_channel}
 use Rattle.services_files.proofs.ChannelFiles.{got_frames}
 use Rattle.cue_list_commands.proofs.Outputs.{sound_words}
 use Rattle.cue_lists.specs.Listing.{Listing}
-use Rattle.cue_list_commands.specs.Output.{IsSoundWords, build_output, built_packets}
-use Rattle.ccsuite_cli.specs.Seen.{BuiltWordsAreSeen}
+use Rattle.cue_list_commands.specs.Output.{IsSoundWords, build_output, built_packets, list_grids, list_told, list_windows}
+use Rattle.cc_data.specs.declared.triplet.Triplet.{Triplet}
+use Rattle.cc_receiver.specs.Receivers.{HasReceived, frame_count}
+use Rattle.cc_receiver.specs.declared.receiver.Receiver.{Receiver}
+use Rattle.inserted_words.proofs.SoundLemmas.{insertions_sound}
+use Rattle.inserted_words.specs.Soundness.{HaveCaptions}
+use Rattle.inserted_words.specs.Soundness.HaveCaptions.{none, more}
+use Rattle.services_shown.specs.Buffers.{BuffersNeverFill}
+use Rattle.sound_frames.specs.Showing.{ShowsFrames}
+use Rattle.ccsuite_cli.specs.Seen.{BuiltWordsAreSeen, InsertedWordsAreSeen, IsSeenAsAuthored}
 use Rattle.ccsuite_cli.proofs.FilledLemmas.{none_filled}
 
 -- what is built is a words file whose caption channel is whole
@@ -33,37 +41,60 @@ pub front_is : (packets frames behind : List Frame) (n : ℕ) → packets ≡ fr
 front_is packets frames behind n is count =
     ap (take n) is ∙ take-append-le n frames behind (omega arith) ∙ take_all n frames (omega arith)
 
-pub built_seen : BuiltWordsAreSeen
-built_seen bytes list placed words rest receiver frame accepted output had counted =
-    let sound = sound_words bytes (record { list = list; placed = placed }) accepted in
-    let packets = built_packets list placed in
+-- a receiver that was fed a front of a file whose frames show a list
+words_seen : (list : Listing) (packets : List Frame) (file words rest : List ℕ) (receiver : Receiver) (frame : ℕ) → IsFileUnder caption_channel packets file
+    → ShowsFrames (list_told list) (list_grids list) (list_windows list) (length packets) packets → BuffersNeverFill packets → file ≡ words ++ rest
+    → HasReceived words receiver → frame_count receiver ≡ frame + 1 → IsSeenAsAuthored list frame words receiver
+words_seen list packets file words rest receiver frame is_file shows fills spelled had counted =
     let gotten = got_frames words had.bytes_are in
     let frames = gotten.frames in
     let whole : AreFramesOf caption_channel packets (words ++ rest) =
-    subst (AreFramesOf caption_channel packets) output (file_frames caption_channel packets (build_output list placed) (built_file list placed sound)) in
+    subst (AreFramesOf caption_channel packets) spelled (file_frames caption_channel packets file is_file) in
     let (behind, grown) = frames_grow caption_channel frames packets words rest gotten.are whole in
     let count : frame + 1 ≡ length frames = sym counted ∙ frames_count frames words receiver had gotten.are in
     let front : take (suc frame) packets ≡ frames = front_is packets frames behind (suc frame) grown (sym (add-one frame) ∙ count) in
     let size : length packets ≡ length frames + length behind = ap length grown ∙ length-append frames behind in
-    let all : length packets ≡ list.frames = packets_count list.rate (columns_of list placed) 0 list.frames in
-    let below : frame < list.frames = omega arith in
+    let below : frame < length packets = omega arith in
     let cc1 = shown_received frames words receiver Cc1 had gotten.are ∙ ap (λ (f : List Frame). received_grids f Cc1) (sym front) in
     let cc2 = shown_received frames words receiver Cc2 had gotten.are ∙ ap (λ (f : List Frame). received_grids f Cc2) (sym front) in
     let cc3 = shown_received frames words receiver Cc3 had gotten.are ∙ ap (λ (f : List Frame). received_grids f Cc3) (sym front) in
     let cc4 = shown_received frames words receiver Cc4 had gotten.are ∙ ap (λ (f : List Frame). received_grids f Cc4) (sym front) in
     record {
-      cc1 = λ settled. cc1 ∙ sound.shows.has_grids frame below Cc1 settled;
-      cc2 = cc2 ∙ sound.shows.has_grids frame below Cc2 tt;
-      cc3 = λ settled. cc3 ∙ sound.shows.has_grids frame below Cc3 settled;
-      cc4 = cc4 ∙ sound.shows.has_grids frame below Cc4 tt;
+      cc1 = λ settled. cc1 ∙ shows.has_grids frame below Cc1 settled;
+      cc2 = cc2 ∙ shows.has_grids frame below Cc2 tt;
+      cc3 = λ settled. cc3 ∙ shows.has_grids frame below Cc3 settled;
+      cc4 = cc4 ∙ shows.has_grids frame below Cc4 tt;
       windows = λ service id numbered low.
           windows_received frames words receiver service id had gotten.are numbered
           ∙ ap (λ (f : List Frame). received_windows f service id) (sym front)
-          ∙ sound.shows.has_windows frame below service id numbered low;
+          ∙ shows.has_windows frame below service id numbered low;
       unfilled = λ service earlier last later numbered are.
           let same : packets ≡ earlier ++ last ∷ (later ++ behind) =
           grown ∙ ap (λ (f : List Frame). f ++ behind) (frames_of_once caption_channel frames (earlier ++ last ∷ later) words gotten.are are)
           ∙ append_assoc earlier (last ∷ later) behind in
           none_filled service earlier last (later ++ behind)
-          (subst (λ (f : List Frame). AllFill 127 start (service_events service f)) same (sound.frames.fills service numbered));
+          (subst (λ (f : List Frame). AllFill 127 start (service_events service f)) same (fills service numbered));
     }
+
+pub built_seen : BuiltWordsAreSeen
+built_seen bytes list placed words rest receiver frame accepted output had counted =
+    let sound = sound_words bytes (record { list = list; placed = placed }) accepted in
+    let all : length (built_packets list placed) ≡ list.frames = packets_count list.rate (columns_of list placed) 0 list.frames in
+    words_seen list (built_packets list placed) (build_output list placed) words rest receiver frame (built_file list placed sound)
+    (subst (λ n. ShowsFrames (list_told list) (list_grids list) (list_windows list) n (built_packets list placed)) (sym all) sound.shows)
+    (λ service numbered. sound.frames.fills service numbered) output had counted
+
+-- as many frames have captions in place of their own
+news_count : (captions : ℕ → List Triplet) (frames news : List Frame) → HaveCaptions captions frames news → length news ≡ length frames
+news_count _ _ _ (none captions) = refl
+news_count _ _ _ (more captions frames news all all_news old new before inserted all_is news_is) =
+    ap length news_is ∙ length-append news (new ∷ []) ∙ ap (λ n. n + 1) (news_count captions frames news before)
+    ∙ sym (ap length all_is ∙ length-append frames (old ∷ []))
+
+pub inserted_seen : InsertedWordsAreSeen
+inserted_seen bytes list placed frames file text words rest receiver frame accepted inserted rates enough spelled had counted =
+    let sound = insertions_sound bytes list placed frames file text accepted inserted rates enough in
+    let all : length sound.news ≡ length frames = news_count _ frames sound.news sound.have in
+    words_seen list sound.news text words rest receiver frame sound.whole
+    (subst (λ n. ShowsFrames (list_told list) (list_grids list) (list_windows list) n sound.news) (sym all) sound.shows)
+    sound.fills spelled had counted

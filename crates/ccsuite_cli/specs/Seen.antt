@@ -1,6 +1,6 @@
--- From the words that `build` puts of a cue list to the screens and the services of a receiver that is fed them: what is authored
--- is what is seen, on line 21 and in the services.
-use Rattle.std.specs.Prelude.{◌≡◌, ◌++◌, ◌+◌, ◌<◌, ℕ, false, List, ◌∷◌}
+-- From the words that `build` puts of a cue list, or `insert` with its captions, to the screens and the services of a receiver that is
+-- fed them: what is authored is what is seen, on line 21 and in the services.
+use Rattle.std.specs.Prelude.{◌≡◌, ◌++◌, ◌+◌, ◌<◌, ◌≤◌, ℕ, false, length, List, ◌∷◌}
 use Rattle.authored_grids.specs.AuthoredServiceGrid.{authored_windows}
 use Rattle.cc_receiver.specs.ReceivedServices.{fills_in}
 use Rattle.cc_receiver.specs.Receivers.{HasReceived, displayed_grid, frame_count}
@@ -15,7 +15,10 @@ use Rattle.line21_codes.specs.declared.channels.Chan.TheVariants.{Cc1, Cc2, Cc3,
 use Rattle.words_files.specs.FramesOf.{AreFramesOf}
 use Rattle.services_files.specs.CaptionChannel.{caption_channel}
 use Rattle.cue_list_commands.specs.Accepted.{IsAccepted}
-use Rattle.cue_list_commands.specs.Output.{build_output}
+use Rattle.cue_list_commands.specs.Output.{build_output, list_framing}
+use Rattle.inserted_words.specs.Captions.{captions_of}
+use Rattle.inserted_words.specs.InsertedFile.{AreInserted}
+use Rattle.inserted_words.specs.Soundness.{HaveRate}
 
 -- a receiver that was fed these words shows what a list authors at a frame: the authored grids on CC1 and CC3, where the frame is
 -- settled for the channel, nothing on CC2 and CC4, and of each service the authored windows; and in no frame of the words the
@@ -36,3 +39,10 @@ abbrev pub BuiltWordsAreSeen : Type 0
 BuiltWordsAreSeen = (bytes : List ℕ) (list : Listing) (placed : Placement) (words rest : List ℕ) (receiver : Receiver) (frame : ℕ)
     → IsAccepted bytes list placed → build_output list placed ≡ words ++ rest → HasReceived words receiver → frame_count receiver ≡ frame + 1
     → IsSeenAsAuthored list frame words receiver
+
+-- so does one that was fed a front of what `insert` puts of a words file with the captions of an accepted list, where the file's frames have the
+-- list's rate and are as many as it has, at least; and behind the list's end what it shows stays
+abbrev pub InsertedWordsAreSeen : Type 0
+InsertedWordsAreSeen = (bytes : List ℕ) (list : Listing) (placed : Placement) (frames : List Frame) (file text words rest : List ℕ) (receiver : Receiver) (frame : ℕ)
+    → IsAccepted bytes list placed → AreInserted (captions_of (list_framing list placed)) frames file text → HaveRate list.rate frames → list.frames ≤ length frames
+    → text ≡ words ++ rest → HasReceived words receiver → frame_count receiver ≡ frame + 1 → IsSeenAsAuthored list frame words receiver

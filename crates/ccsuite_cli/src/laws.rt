@@ -1,5 +1,5 @@
 //! Laws of what a run answers and puts: functions that do nothing, with the laws as their contracts.
-ghost use Rattle.ccsuite_cli.specs.Seen.{BuiltWordsAreSeen};
+ghost use Rattle.ccsuite_cli.specs.Seen.{BuiltWordsAreSeen, InsertedWordsAreSeen};
 ghost use Rattle.ccsuite_cli.specs.Verdict.{AcceptedIsAnswered, FaultsAreTold, FileIsDecoded, FileIsShown, GoodListIsWritten, LoadIsAnswered, LongWordsAreRefused, MalformedIsRefused, RefusedImportIsAnswered, RefusedListIsAnswered, SccFileIsImported};
 ghost use Rattle.ccsuite_cli.specs.Verified.{BuiltWordsAreVerified};
 ghost use Rattle.scc_commands.specs.ExportVerdict.{FileIsExported, MalformedIsNotExported, StopIsAnswered};
@@ -89,6 +89,13 @@ pub fn faults_are_told()
 /// the authored windows; and no service's buffer was filled.
 pub fn built_words_are_seen()
     ensures { BuiltWordsAreSeen }
+{}
+
+/// The law that so it is seen where it is inserted: a receiver that was fed any front of what `insert` puts of a words file with the
+/// captions of an accepted cue list, cut anywhere, where the file's frames have the list's rate and are as many as it has, at least,
+/// shows what is authored at the last frame that it counts, behind the list's end too; and no service's buffer was filled.
+pub fn inserted_words_are_seen()
+    ensures { InsertedWordsAreSeen }
 {}
 
 /// The law that the words that `build` puts of an accepted cue list are verified against that list: a words file within the limit,
