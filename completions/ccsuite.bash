@@ -4,7 +4,7 @@ _ccsuite() {
     local word=${COMP_WORDS[COMP_CWORD]}
     COMPREPLY=()
     if ((COMP_CWORD == 1)); then
-        COMPREPLY=($(compgen -W 'pairs build cues decode show verify insert import export load' -- "$word"))
+        COMPREPLY=($(compgen -W 'pairs build cues decode show conceal verify insert import export load' -- "$word"))
     elif ((COMP_CWORD == 2)) && [[ ${COMP_WORDS[1]} == @(verify|insert) ]]; then
         compopt -o filenames 2> /dev/null
         mapfile -t COMPREPLY < <(compgen -f -- "$word")

@@ -62,11 +62,13 @@ for shell in bash zsh fish; do
         echo "$shell isn't installed: its completions weren't tried"
         continue
     fi
-    offers "$shell" 'ccsuite ' 'pairs build cues decode show verify insert import export load'
+    offers "$shell" 'ccsuite ' 'pairs build cues decode show conceal verify insert import export load'
     offers "$shell" 'ccsuite b' 'build'
+    offers "$shell" 'ccsuite c' 'cues conceal'
     offers "$shell" 'ccsuite q' ''
     offers "$shell" 'ccsuite show ' ''
     offers "$shell" 'ccsuite build ' ''
+    offers "$shell" 'ccsuite conceal ' ''
     offers "$shell" 'ccsuite verify ' 'build list.csv'
     offers "$shell" 'ccsuite verify list.csv ' ''
     offers "$shell" 'ccsuite insert l' 'list.csv'
