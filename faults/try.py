@@ -56,7 +56,7 @@ class Case:
 
     @property
     def reads_words(self):
-        return bool(self.words) and self.words[0] in ("decode", "show", "verify", "insert", "export")
+        return bool(self.words) and self.words[0] in ("decode", "show", "conceal", "verify", "insert", "export")
 
     def __str__(self):
         return f"{' '.join(self.words)} on {len(self.given)} bytes"
@@ -136,22 +136,27 @@ def reads_of_input(calls, takes):
 # ---- What is due -----------------------------------------------------------------------------------------------------------------
 
 def packet_ends(words):
-    """Where each ancillary packet of a words file ends, and whether it is a frame."""
+    """Where each ancillary packet of a words file ends, and the counter of the frame that it is, if it is one."""
     ends, place = [], 0
     while place + 12 <= len(words):
         frame = words[place + 7] == 0x61 and words[place + 9] == 0x01
+        # The bytes of a frame begin at word 6, each in the second byte of its word, and its counter is bytes 5 and 6.
+        counter = int.from_bytes(words[place + 23:place + 26:2], "big") if frame else None
         place += 2 * (7 + words[place + 11])
-        ends.append((place, frame))
+        ends.append((place, counter))
     return ends
 
 
 def due(case, whole, taken):
     """What is written of the first bytes of the input, if the next take fails."""
-    ends = [(end, frame) for end, frame in packet_ends(case.given) if end <= taken]
-    frames = sum(frame for _, frame in ends)
-    if case.words[0] == "decode":
-        blocks = re.finditer(rb"frame (\d+)\n(?:(?!frame).*\n)*", whole.out)
-        return b"".join(it[0] for it in blocks if int(it[1]) < frames)
+    ends = [(end, counter) for end, counter in packet_ends(case.given) if end <= taken]
+    counters = [counter for _, counter in ends if counter is not None]
+    frames = len(counters)
+    if case.words[0] in ("decode", "conceal"):
+        # `conceal` numbers frames by their counters, which stay below 65,536 in the cases here.
+        behind = counters[-1] + 1 if counters and case.words[0] == "conceal" else frames
+        blocks = re.finditer(rb"(?:frame|lost \d+ before) (\d+)\n(?:(?!frame|lost).*\n)*", whole.out)
+        return b"".join(it[0] for it in blocks if int(it[1]) < behind)
     if case.words[0] == "show":
         return whole.out if frames > int(case.words[1]) else b""
     if case.words[0] == "insert":
@@ -331,8 +336,8 @@ def built(text):
 
 def commands():
     """Each command with its cases, and the sizes of the pieces in which they are read."""
-    usage = b"usage: ccsuite pairs|build|decode|show FRAME|verify CUES|insert CUES|import|export TIME|cues|load N\n"
-    yield "usage", [Case(it, b"x", 1, usage) for it in ([], ["load", "0"], ["load", "03"], ["show"], ["show", "01"], ["pairs", "x"])], []
+    usage = b"usage: ccsuite pairs|build|decode|show FRAME|verify CUES|insert CUES|import|export TIME|cues|load N|conceal\n"
+    yield "usage", [Case(it, b"x", 1, usage) for it in ([], ["load", "0"], ["load", "03"], ["show"], ["show", "01"], ["pairs", "x"], ["conceal", "x"])], []
     hello = example("hello.csv")
     dense = hello.replace(b",0,7,20", b",0,6,20")
     clash = hello.replace(b",0,7,20", b",0,7,8")
@@ -363,6 +368,12 @@ def commands():
         Case(["show", "12"], words), Case(["show", "0"], mixed), Case(["show", "3"], mixed, 10, b"short: 3 frames\n"),
         Case(["show", "2"], flagged, 6, b"malformed at byte 320: Flag\n"), Case(["show", "1"], flagged, 6, b"malformed at byte 320: Flag\n"),
     ], [16, 160, 4000]
+    # The words of HI without frames 12 and 13.
+    conceal, lossy = ["conceal"], words[:1920] + words[2240:]
+    yield "conceal", [
+        Case(conceal, lossy), Case(conceal, mixed), Case(conceal, b""), Case(conceal, lossy[:2100], 6, b"malformed at byte 2100: Truncated\n"),
+        Case(conceal, flagged, 6, b"malformed at byte 320: Flag\n"),
+    ], [80, 160, 4000]
     late = hello.replace(b",0,7,20", b",0,8,20")
     differs = b"differs at frame 7: GridDiffers CC1\n"
     yield "verify", [
