@@ -2,7 +2,8 @@
 # `decode` of 100,000 built frames with captions all along, beside a pass in C that only reads the same 16,000,000 bytes and
 # sums them, and beside `cat` of them, by turns in one run: the least processor time of ten runs each, for a frame. First of
 # captions as most programmes have them (pop-on captions of two rows on CC1, paint-on ones on CC3), then of a live programme
-# (pop-on and paint-on captions on CC1, roll-up captions on CC3 without a rest), where two of five frames change a screen. Then
+# (pop-on and paint-on captions on CC1, roll-up captions on CC3 without a rest), where two of five frames change a screen; and of
+# the usual programme with every tenth frame lost. `conceal` of the same words runs beside `decode`. Then
 # the peak memory of `decode` and `show` on 1,000 and on 1,000,000 frames. The same of captions of services: of one, which is sent bytes in
 # five of 60 frames, and of six, which are in 30 of 60; and of 1,000,000 frames in which nothing comes. Needs build/ccsuite (make) and gcc.
 source "$(dirname "$0")/lists.sh"
@@ -62,10 +63,12 @@ timed() {
     if [ -z "${least[$1]-}" ] || [ "$took" -lt "${least[$1]}" ]; then least[$1]=$took; fi
 }
 
-for programme in usual live one all none; do
-    frames=100000
+for programme in usual lossy live one all none; do
+    frames=100000 shown=99999
     case $programme in
         usual | live) "$program" build < "$work/$programme.csv" > "$work/words" ;;
+        # frames of 160 bytes, each tenth of them left out
+        lossy) frames=90000 shown=89999 && "$program" build < "$work/usual.csv" | perl -ne 'BEGIN { $/ = \160 } print if $. % 10' > "$work/words" ;;
         none) frames=1000000 && "$work/services_words" $frames none > "$work/words" ;;
         *) "$work/services_words" $frames "$programme" > "$work/words" ;;
     esac
@@ -76,9 +79,10 @@ for programme in usual live one all none; do
         timed cat cat
         timed 'read loop' "$work/read_loop"
         timed decode "$program" decode
-        timed show "$program" show 99999
+        timed conceal "$program" conceal
+        timed show "$program" show "$shown"
     done
-    for name in cat 'read loop' decode show; do
+    for name in cat 'read loop' decode conceal show; do
         printf '%-32s %s ns a frame\n' "$programme: $name" $((least[$name] * 1000 / frames))
     done
 done
