@@ -83,19 +83,24 @@ fn missing_frames_are_told_and_what_came_before_is_forgotten(rt: HostRuntime) ->
     Ok(())
 }
 
-/// The bytes of frame 6, which begins at byte 960, that are others where its pair is C8C9 and not C849: words 17 and 78 of the packet. The
-/// sum of the distribution packet goes from A2 to 22, and the checksum word stays: 149 + 1A2 = 0C9 + 022 modulo 200.
-const BAD_PARITY: [(usize, u8); 4] = [(994, 0x02), (995, 0xC9), (1116, 0x02), (1117, 0x22)];
+/// The bytes of frame 6, which begins at byte 960, that are others where its pair is C8C9 and not C849, as they are and as they are then:
+/// words 17 and 78 of the packet. The sum of the distribution packet goes from A2 to 22, and the checksum word stays:
+/// 149 + 1A2 = 0C9 + 022 modulo 200.
+const BAD_PARITY: [(usize, u8, u8); 4] = [
+    (994, 0x01, 0x02),
+    (995, 0x49, 0xC9),
+    (1116, 0x01, 0x02),
+    (1117, 0xA2, 0x22),
+];
 
 #[test]
 fn a_byte_of_bad_parity_is_a_solid_block(rt: HostRuntime) -> Result<(), Fail> {
     let alloc = rt.alloc();
     let mut words = hi_words(alloc)?;
-    assert_eq!(rt; words.get(994..996), Some(b"\x01\x49".as_slice()));
-    assert_eq!(rt; words.get(1116..1118), Some(b"\x01\xA2".as_slice()));
-    for (place, byte) in BAD_PARITY {
+    for (place, byte, other) in BAD_PARITY {
         if let Some(at) = words.get_mut(place) {
-            *at = byte;
+            assert_eq!(rt; *at, byte, "byte {place}");
+            *at = other;
         }
     }
     let concealed = run_to_end(alloc, conceal_of(&words))?;

@@ -3,8 +3,10 @@
 
 ghost use Rattle.std.specs.Prelude.{None};
 
+use crate::tests::insert::insert_of;
+use crate::tests::verify::verify_of;
 use crate::tests::words::{SILENT, bytes_of, hi_words};
-use crate::tests::{Ended, Given, HI, build_of, decode_of, run_to_end, words_of};
+use crate::tests::{Ended, Given, HI, build_of, run_to_end, words_of};
 use cc_base::{LimitOf, MemorySink, Source, SteadySource, Took, Why};
 use ccsuite_cli::{Place, Status, run};
 use cue_lists::RuleFault;
@@ -200,18 +202,8 @@ fn the_longest_programmes_are_built_verified_and_left_as_they_are_by_insert(
         )?;
         assert_eq!(rt; built.status, Status::Ok, "build of {cues} cues");
         assert_eq!(rt; built.out.bytes().len(), room, "build of {cues} cues");
-        let words = Given {
-            side: list.as_bytes(),
-            room,
-            ..decode_of(built.out.bytes())
-        };
-        let verified = run_to_end(
-            alloc,
-            Given {
-                words: &["verify", "list.csv"],
-                ..words
-            },
-        )?;
+        let words = built.out.bytes();
+        let verified = run_to_end(alloc, verify_of(list.as_bytes(), words))?;
         assert_eq!(rt; verified.status, Status::Ok, "verify of {cues} cues");
         assert_eq!(rt;
             verified.out.bytes(),
@@ -221,12 +213,12 @@ fn the_longest_programmes_are_built_verified_and_left_as_they_are_by_insert(
         let inserted = run_to_end(
             alloc,
             Given {
-                words: &["insert", "list.csv"],
-                ..words
+                room,
+                ..insert_of(list.as_bytes(), words)
             },
         )?;
         assert_eq!(rt; inserted.status, Status::Ok, "insert of {cues} cues");
-        let is_same = inserted.out.bytes() == built.out.bytes();
+        let is_same = inserted.out.bytes() == words;
         assert!(rt; is_same, "insert of {cues} cues");
     }
     Ok(())
