@@ -1,12 +1,10 @@
-//! Inputs as long as the limits let them be, and inputs that are longer by one byte or one cue, given piece by piece; and programmes of
-//! as many frames, and as many cues, as there may be.
+//! Inputs as long as the limits let them be, and inputs that are longer by one byte or one cue. They are given piece by piece, and no
+//! test holds one as a whole.
 
 ghost use Rattle.std.specs.Prelude.{None};
 
-use crate::tests::insert::insert_of;
-use crate::tests::verify::verify_of;
 use crate::tests::words::{SILENT, bytes_of, hi_words};
-use crate::tests::{Ended, Given, HI, build_of, run_to_end, words_of};
+use crate::tests::{Ended, HI, words_of};
 use cc_base::{LimitOf, MemorySink, Source, SteadySource, Took, Why};
 use ccsuite_cli::{Place, Status, run};
 use cue_lists::RuleFault;
@@ -167,59 +165,4 @@ fn words_of_more_than_2147483647_bytes_are_the_limit_behind_their_changes(
             (2_147_483_648, limit, changes, b"limit Bytes\n"),
         ],
     )
-}
-
-/// A list of so many pop-on cues, each 40 frames behind the one before, on so many frames.
-fn list_of(alloc: Global, cues: u32, frames: usize) -> Result<String, Fail> {
-    let mut list = format!(in alloc; "ccsuite,2,29.97,{frames}\n")?;
-    for number in 0..cues {
-        let load = 40 * u64::from(number);
-        let cue = format!(in alloc;
-            "pop,CC1,{load},{},{}\nrun,15,0,white,HI\n",
-            load + 20,
-            load + 30
-        )?;
-        list.push_str(&cue)?;
-    }
-    Ok(list)
-}
-
-#[test]
-fn the_longest_programmes_are_built_verified_and_left_as_they_are_by_insert(
-    rt: HostRuntime,
-) -> Result<(), Fail> {
-    let alloc = rt.alloc();
-    for (cues, frames) in [(1, 1_000_000), (20_000, 800_040)] {
-        let list = list_of(alloc, cues, frames)?;
-        // A frame at 29.97 has 160 bytes.
-        let room = 160 * frames;
-        let built = run_to_end(
-            alloc,
-            Given {
-                room,
-                ..build_of(list.as_bytes())
-            },
-        )?;
-        assert_eq!(rt; built.status, Status::Ok, "build of {cues} cues");
-        assert_eq!(rt; built.out.bytes().len(), room, "build of {cues} cues");
-        let words = built.out.bytes();
-        let verified = run_to_end(alloc, verify_of(list.as_bytes(), words))?;
-        assert_eq!(rt; verified.status, Status::Ok, "verify of {cues} cues");
-        assert_eq!(rt;
-            verified.out.bytes(),
-            b"ok\n".as_slice(),
-            "verify of {cues} cues"
-        );
-        let inserted = run_to_end(
-            alloc,
-            Given {
-                room,
-                ..insert_of(list.as_bytes(), words)
-            },
-        )?;
-        assert_eq!(rt; inserted.status, Status::Ok, "insert of {cues} cues");
-        let is_same = inserted.out.bytes() == words;
-        assert!(rt; is_same, "insert of {cues} cues");
-    }
-    Ok(())
 }

@@ -82,7 +82,7 @@ const FULL: [u16; 400] = [
 ];
 
 /// `verify` on a list and words, with no fault.
-pub(super) fn verify_of<'a>(list: &'a [u8], text: &'a [u8]) -> Given<'a> {
+fn verify_of<'a>(list: &'a [u8], text: &'a [u8]) -> Given<'a> {
     Given {
         words: &["verify", "list.csv"],
         side: list,
