@@ -33,12 +33,16 @@ reason_number why.DelayCovers = 27
 reason_number why.Share = 28
 reason_number why.PastEnd = 29
 reason_number why.OffSlot = 31
+reason_number why.FieldClash = 32
+reason_number why.OtherList = 33
+reason_number why.MccSyntax = 34
 reason_number why.CounterJump = 40
 reason_number why.WrongCount = 41
 reason_number why.BufferFull = 42
 reason_number why.GridDiffers = 43
 reason_number why.WrongRate = 44
 reason_number why.TwoPairs = 45
+reason_number why.EightBits = 46
 
 -- the name of a reason, as it is printed
 abbrev pub name_of : Why → List ℕ
@@ -70,9 +74,13 @@ name_of why.DelayCovers = codes "DelayCovers"
 name_of why.Share = codes "Share"
 name_of why.PastEnd = codes "PastEnd"
 name_of why.OffSlot = codes "OffSlot"
+name_of why.FieldClash = codes "FieldClash"
+name_of why.OtherList = codes "OtherList"
+name_of why.MccSyntax = codes "MccSyntax"
 name_of why.CounterJump = codes "CounterJump"
 name_of why.WrongCount = codes "WrongCount"
 name_of why.BufferFull = codes "BufferFull"
 name_of why.GridDiffers = codes "GridDiffers"
 name_of why.WrongRate = codes "WrongRate"
 name_of why.TwoPairs = codes "TwoPairs"
+name_of why.EightBits = codes "EightBits"

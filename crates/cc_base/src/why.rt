@@ -61,6 +61,12 @@ pub enum Why {
     PastEnd,
     /// A line 21 cue is shown or hidden in a frame in which its field has no slot.
     OffSlot,
+    /// Events of two lists hold one slot of a field.
+    FieldClash,
+    /// A second list has another rate or another number of frames than the first, or a share.
+    OtherList,
+    /// No line of an MCC file goes on with this byte.
+    MccSyntax,
     /// A packet's counter isn't the one before plus 1 modulo 65536.
     CounterJump,
     /// A packet hasn't its rate's number of triplets.
@@ -73,11 +79,13 @@ pub enum Why {
     WrongRate,
     /// A frame has more than one valid field 1 triplet.
     TwoPairs,
+    /// A user word of an ancillary packet isn't an eight-bit word with its parity bits.
+    EightBits,
 }
 
 impl Why {
     /// The reason's number: 1 to 13 for words and packets, 14 to 17 for SCC files, 20 to 29 and 31 for cue lists and
-    /// their rules, 40 to 45 for findings.
+    /// their rules, 32 and 33 for two lists, 34 for MCC files, 40 to 46 for findings.
     pub fn number(self) -> u8
         ensures { result ≡ reason_number self }
     {
@@ -110,12 +118,16 @@ impl Why {
             Why::Share => 28,
             Why::PastEnd => 29,
             Why::OffSlot => 31,
+            Why::FieldClash => 32,
+            Why::OtherList => 33,
+            Why::MccSyntax => 34,
             Why::CounterJump => 40,
             Why::WrongCount => 41,
             Why::BufferFull => 42,
             Why::GridDiffers => 43,
             Why::WrongRate => 44,
             Why::TwoPairs => 45,
+            Why::EightBits => 46,
         }
     }
 
@@ -152,12 +164,16 @@ impl Why {
             Why::Share => "Share",
             Why::PastEnd => "PastEnd",
             Why::OffSlot => "OffSlot",
+            Why::FieldClash => "FieldClash",
+            Why::OtherList => "OtherList",
+            Why::MccSyntax => "MccSyntax",
             Why::CounterJump => "CounterJump",
             Why::WrongCount => "WrongCount",
             Why::BufferFull => "BufferFull",
             Why::GridDiffers => "GridDiffers",
             Why::WrongRate => "WrongRate",
             Why::TwoPairs => "TwoPairs",
+            Why::EightBits => "EightBits",
         }
     }
 }
