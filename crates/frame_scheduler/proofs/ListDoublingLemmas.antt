@@ -30,12 +30,12 @@ use Rattle.line21_author.proofs.CueUnitsLemmas.{units_of_carried}
 use Rattle.line21_author.proofs.SlotSequenceLemmas.{IsSoundInSlots, all_sound_in_slots}
 use Rattle.frame_scheduler.specs.declared.lane.piece.Piece.{Piece}
 use Rattle.frame_scheduler.specs.ChannelLane.{IsChannelPlaced, channel_pieces, cue_pieces, pieces_from}
-use Rattle.frame_scheduler.specs.Columns.{first_pairs}
+use Rattle.frame_scheduler.specs.Columns.{Columns, first_pairs, pair_in}
 use Rattle.frame_scheduler.specs.DoubledPairs.{IsDoubled}
 use Rattle.frame_scheduler.specs.LaneDoubling.{AreDoubledControls, AreEnded}
 use Rattle.frame_scheduler.specs.LaneEvents.{AreOver}
 use Rattle.frame_scheduler.specs.LaneTimeline.{lane_timeline}
-use Rattle.frame_scheduler.specs.Planned.{IsListPlaced, Placement, channel_pair, columns_of}
+use Rattle.frame_scheduler.specs.Planned.{IsListPlaced, Placement, columns_of}
 use Rattle.frame_scheduler.specs.SlotLists.{slot_cues, slots_in_list}
 use Rattle.frame_scheduler.specs.Timeline.{Timeline, column, slot}
 use Rattle.frame_scheduler.proofs.DoublingLemmas.{lane_doubled}
@@ -127,20 +127,25 @@ column_and c t n = by_test (has_slot_in c n) refl
     by_test true test = rw test (ap (column t) (sym (slot_more c n test)))
     by_test false test = rw test (append-nil (column t (slot_from c n)) ∙ ap (column t) (sym (slot_no_more c n test)))
 
+-- where the pairs of a field are the slots of a timeline, frame by frame, those of the frames below n are its slots in these frames
+pub pairs_column : (c : Cadence) (t : Timeline) (in_field : FieldNumber) (columns : Columns)
+    → ((n : ℕ) → pair_in in_field (columns n) ≡ option_map (slot t) (slot_in c n)) → (n : ℕ) → first_pairs in_field columns n ≡ column t (slot_from c n)
+pairs_column c t in_field columns have zero = ap (column t) (sym (slot_from_first c))
+pairs_column c t in_field columns have (suc n) =
+    ap (λ (o : Option Pair). first_pairs in_field columns n ++ option_to_list o) (have n)
+    ∙ ap (λ (l : List Pair). l ++ option_to_list (option_map (slot t) (slot_in c n))) (pairs_column c t in_field columns have n)
+    ∙ column_and c t n
+
 -- the pairs of a field in the frames below n are the slots of its channel in these frames
 pub field_one_is : (list : Listing) (placed : Placement) (n : ℕ)
     → first_pairs One (columns_of list placed) n ≡ column (channel_timeline list Cc1 (placed (Channel Cc1))) (slot_from (cadence_of list.rate Cc1) n)
-field_one_is list placed zero = ap (column (channel_timeline list Cc1 (placed (Channel Cc1)))) (sym (slot_from_first (cadence_of list.rate Cc1)))
-field_one_is list placed (suc n) =
-    ap (λ (pairs : List Pair). pairs ++ option_to_list (channel_pair list Cc1 (placed (Channel Cc1)) n)) (field_one_is list placed n)
-    ∙ column_and (cadence_of list.rate Cc1) (channel_timeline list Cc1 (placed (Channel Cc1))) n
+field_one_is list placed =
+    pairs_column (cadence_of list.rate Cc1) (channel_timeline list Cc1 (placed (Channel Cc1))) One (columns_of list placed) (λ n. refl)
 
 pub field_two_is : (list : Listing) (placed : Placement) (n : ℕ)
     → first_pairs Two (columns_of list placed) n ≡ column (channel_timeline list Cc3 (placed (Channel Cc3))) (slot_from (cadence_of list.rate Cc3) n)
-field_two_is list placed zero = ap (column (channel_timeline list Cc3 (placed (Channel Cc3)))) (sym (slot_from_first (cadence_of list.rate Cc3)))
-field_two_is list placed (suc n) =
-    ap (λ (pairs : List Pair). pairs ++ option_to_list (channel_pair list Cc3 (placed (Channel Cc3)) n)) (field_two_is list placed n)
-    ∙ column_and (cadence_of list.rate Cc3) (channel_timeline list Cc3 (placed (Channel Cc3))) n
+field_two_is list placed =
+    pairs_column (cadence_of list.rate Cc3) (channel_timeline list Cc3 (placed (Channel Cc3))) Two (columns_of list placed) (λ n. refl)
 
 -- the pairs of each field of a placed list are doubled
 pub columns_doubled : (list : Listing) (placed : Placement) → IsFormed list → IsRuled list → IsListPlaced list placed

@@ -193,7 +193,7 @@ module _ (l : Listing) (formed : IsFormed l) (ruled : IsRuled l) where
   planned_numbered plans are = numbered (shared_below l 7) plans (small_below 7) are
 
   -- a service from 7 on has room
-  far_roomy : (service : ℕ) → 7 ≤ service → IsRoomy l (Service service)
+  pub far_roomy : (service : ℕ) → 7 ≤ service → IsRoomy l (Service service)
   far_roomy service far = unshared_roomy l service ruled (unshared l formed ruled service (λ least most. omega (arith, most, far)))
 
   pub cover : (on : Lane) → IsAny on → IsField on ⊎ (IsServiceBelow 7 on ⊎ IsRoomy l on)
@@ -234,7 +234,7 @@ module _ (l : Listing) (formed : IsFormed l) (ruled : IsRuled l) where
       (fault_of_both l IsField (IsServiceBelow 7) IsAny cover (λ on field. tt) (λ on below. tt) fault two first second))
 
   -- the frames in which the units of each service stand
-  frames_of : (plans : List PlannedService) → AreServicesPlanned l (shared_below l 7) plans → (service : ℕ)
+  pub frames_of : (plans : List PlannedService) → AreServicesPlanned l (shared_below l 7) plans → (service : ℕ)
       → (frames : List ℕ) × IsLanePlaced l (Service service) frames
   frames_of plans are service =
       elim (cases_lt service 7) [
@@ -306,7 +306,7 @@ module _ (l : Listing) (formed : IsFormed l) (ruled : IsRuled l) where
       joined : (p q r s t u : List ℕ) → (((((([] ++ p) ++ q) ++ r) ++ s) ++ t) ++ u) ≡ p ++ (q ++ (r ++ (s ++ (t ++ (u ++ [])))))
       joined p q r s t u = simp (append_assoc, append-nil)
 
-  planned_blocks : (placed : Placement) (frame : ℕ) → ((service : ℕ) → IsLanePlaced l (Service service) (placed (Service service)))
+  pub planned_blocks : (placed : Placement) (frame : ℕ) → ((service : ℕ) → IsLanePlaced l (Service service) (placed (Service service)))
       → (plans : List PlannedService) → AreServicesPlanned l (shared_below l 7) plans → blocks_of plans frame ≡ frame_blocks l placed frame
   planned_blocks placed frame all plans are =
       lanes_are placed frame all (shared_below l 7) plans are

@@ -61,7 +61,7 @@ fn placed_fields(alloc: Global, list: &CueList) -> Result<(PlacedLane, PlacedLan
 }
 
 /// Places the units of each service of which the list has a share.
-fn placed_services(alloc: Global, list: &CueList) -> Result<Vec<PlacedService>, PlanFault>
+pub fn placed_services(alloc: Global, list: &CueList) -> Result<Vec<PlacedService>, PlanFault>
     requires { IsRuled list.now }
     ensures services { AreServices list.now 7 result }
     ensures formed { IsFormed list.now }
@@ -129,7 +129,7 @@ fn beside(
 }
 
 /// The fault of one lane, beside that of another, if it has one.
-fn fault_beside(one: PlanFault, two: Option<PlanFault>) -> PlanFault
+pub fn fault_beside(one: PlanFault, two: Option<PlanFault>) -> PlanFault
     ensures { result ≡ fault_beside one two }
 {
     match two {

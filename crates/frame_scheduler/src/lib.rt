@@ -3,7 +3,7 @@
 #![tactic(auto)]
 
 pub use crate::frames::{FrameBytes, Frames, Plan};
-pub use crate::lanes::plan;
+pub use crate::lanes::{fault_beside, placed_services, plan};
 pub use placements::PlanFault;
 
 mod blocks;

@@ -1,7 +1,5 @@
 -- What a viewer sees of the frames of two cue lists.
-use Rattle.std.proofs.Common.{◌≡◌, ℕ, zero, suc, Bool, true, false, List, [], ◌∷◌, ◌++◌, Option, option_map, append-nil, reverse, refl, sym, ap, ◌∙◌, subst}
-use Rattle.std.specs.Prelude.{option_to_list}
-use Rattle.std.proofs.lemmas.List.{reverse-append}
+use Rattle.std.proofs.Common.{◌≡◌, ℕ, zero, suc, List, [], ◌∷◌, ◌++◌, reverse, refl, sym, ap, ◌∙◌, subst}
 use Rattle.line21_codes.specs.declared.channels.Chan.{Chan}
 use Rattle.line21_codes.specs.declared.channels.FieldNumber.{FieldNumber}
 use Rattle.line21_codes.specs.declared.pairs.Pair.{Pair}
@@ -11,43 +9,20 @@ use Rattle.line21_screen.specs.Fields.{FieldState}
 use Rattle.line21_screen.specs.Meaning.{after}
 use Rattle.line21_screen.proofs.MeaningLemmas.{after-none}
 use Rattle.cue_lists.specs.Listing.{Listing}
-use Rattle.line21_slots.specs.Cadences.{cadence_of, has_slot_in, slot_from, slot_in}
-use Rattle.line21_slots.specs.declared.cadence.Cadence.{Cadence}
-use Rattle.line21_slots.proofs.CadenceLemmas.{slot_from_first, slot_more, slot_no_more}
+use Rattle.line21_slots.specs.Cadences.{cadence_of, slot_from}
 use Rattle.line21_author.specs.Channels.{cues_on}
 use Rattle.line21_author.proofs.SlotSequenceLemmas.{AreInSlots}
-use Rattle.frame_scheduler.specs.Columns.{Columns, first_pairs, pair_in}
 use Rattle.frame_scheduler.specs.SlotLists.{slot_cues, slots_in_list}
-use Rattle.frame_scheduler.specs.Timeline.{Timeline, column, slot}
+use Rattle.frame_scheduler.specs.Timeline.{Timeline, slot}
+use Rattle.frame_scheduler.proofs.ListDoublingLemmas.{pairs_column}
 use Rattle.frame_scheduler.proofs.SlotLemmas.{slot_cues_formed, slot_sequence}
 use Rattle.line21_shown.specs.Reading.{pairs_before}
 use Rattle.line21_shown.specs.Shown.{state_at}
+use Rattle.line21_shown.proofs.SequenceLemmas.{newest_pairs}
 use Rattle.line21_shown.proofs.SlotGridLemmas.{grid_before_slots, grid_in_slots, settled_in_slots}
 use Rattle.shared_field_shown.specs.Dual.{BothAreSeen, IsDual, Places, ShowsBoth}
 use Rattle.shared_field_shown.specs.Seen.{field_timeline}
 use Rattle.shared_field_shown.proofs.SeenLemmas.{IsShared, field_seen}
-
--- the pairs of the frames are those of the slots
-column_and : (c : Cadence) (t : Timeline) (n : ℕ)
-    → column t (slot_from c n) ++ option_to_list (option_map (slot t) (slot_in c n)) ≡ column t (slot_from c (suc n))
-column_and c t n = by_test (has_slot_in c n) refl
-  where
-    by_test : (b : Bool) → has_slot_in c n ≡ b
-        → column t (slot_from c n) ++ option_to_list (option_map (slot t) (slot_in c n)) ≡ column t (slot_from c (suc n))
-    by_test true test = rw test (ap (column t) (sym (slot_more c n test)))
-    by_test false test = rw test (append-nil (column t (slot_from c n)) ∙ ap (column t) (sym (slot_no_more c n test)))
-
-pub pairs_column : (c : Cadence) (t : Timeline) (in_field : FieldNumber) (columns : Columns)
-    → ((n : ℕ) → pair_in in_field (columns n) ≡ option_map (slot t) (slot_in c n)) → (n : ℕ) → first_pairs in_field columns n ≡ column t (slot_from c n)
-pairs_column c t in_field columns have zero = ap (column t) (sym (slot_from_first c))
-pairs_column c t in_field columns have (suc n) =
-    ap (λ (o : Option Pair). first_pairs in_field columns n ++ option_to_list o) (have n)
-    ∙ ap (λ (l : List Pair). l ++ option_to_list (option_map (slot t) (slot_in c n))) (pairs_column c t in_field columns have n)
-    ∙ column_and c t n
-
-newest_pairs : (t : Timeline) (n : ℕ) → reverse (column t n) ≡ pairs_before (slot t) n
-newest_pairs t zero = refl
-newest_pairs t (suc n) = reverse-append (column t n) (slot t n ∷ []) ∙ ap (λ (pairs : List Pair). slot t n ∷ pairs) (newest_pairs t n)
 
 module _ (first second : Listing) (of_list : Chan) (places : Places) (is : IsDual first second of_list places) where
   same_cadence : cadence_of second.rate of_list ≡ cadence_of first.rate of_list

@@ -47,7 +47,7 @@ use Rattle.shared_field_shown.specs.Sharing.{IsFor, is_text}
 use Rattle.resumed_lanes.specs.FieldSlots.{first_slots, holds, second_slots}
 use Rattle.shared_field_shown.specs.Together.{AreOfChannel, AreTogether, IsListed, IsOfChannel}
 use Rattle.shared_field_shown.proofs.ListedLemmas.{channel_listed, pieces_from_back}
-use Rattle.shared_field_shown.proofs.TogetherLemmas.{together_alone}
+use Rattle.shared_field_shown.proofs.TogetherLemmas.{both_not, together_alone}
 
 -- the cues of both lists keep the rules, no slot is held by events of both, and the units are placed
 pub record IsShared (of_list : Chan) (slots : ℕ) (cues others : List Cue) (fs gs : List ℕ) (rs qs : List (Option ℕ)) : Type 0 where
@@ -202,7 +202,7 @@ module _ (f : FieldNumber) where
       quiet_second ps quiet.1,
     )
 
-    listed_second : IsListed Two (second_timeline f events) (second_parts f parts)
+    pub listed_second : IsListed Two (second_timeline f events) (second_parts f parts)
     listed_second = record {
       apart = λ n unit is. let w = events_second n unit is in none_second (events (suc n)) (listed.apart n w.0 w.1.0);
       controls = λ n unit is.
@@ -280,7 +280,7 @@ no_unit : (u : Option Unit) → is_some u ≡ false → u ≡ None
 no_unit None is = refl
 no_unit (Some unit) is = cc
 
-free_unless : (es : List Event) (n : ℕ) → holds (event_at es) n ≡ false → IsFree es n
+pub free_unless : (es : List Event) (n : ℕ) → holds (event_at es) n ≡ false → IsFree es n
 free_unless es zero is = free_of es zero (no_unit (event_at es zero) is) (λ m e. absurd (omega arith))
 free_unless es (suc n) is =
     let parts = either_false (is_some (event_at es (suc n))) (is_some (event_at es n)) is in
@@ -308,12 +308,7 @@ stand_placed events slots free before end at (part ∷ parts) (g ∷ fs) (r ∷ 
   stand_placed events slots free (before ++ (part.piece, g) ∷ []) (g + size_of part) (end_push before part.piece g) parts fs rs stand.2,
 )
 
-both_not : (a b : Bool) → (not a && not b) ≡ true → (a ≡ false) × (b ≡ false)
-both_not false false is = (refl, refl)
-both_not false true is = cc
-both_not true b is = cc
-
-second_not : (a b c : Bool) → (not a && (not b && not c)) ≡ true → b ≡ false
+pub second_not : (a b c : Bool) → (not a && (not b && not c)) ≡ true → b ≡ false
 second_not false b c is = (both_not b c is).0
 second_not true b c is = cc
 
@@ -321,7 +316,7 @@ some_second : (f : FieldNumber) (u : Option Unit) → is_some (option_map (secon
 some_second f None = refl
 some_second f (Some unit) = refl
 
-holds_second : (f : FieldNumber) (events : Timeline) (n : ℕ) → holds (second_timeline f events) n ≡ holds events n
+pub holds_second : (f : FieldNumber) (events : Timeline) (n : ℕ) → holds (second_timeline f events) n ≡ holds events n
 holds_second f events zero = some_second f (events zero)
 holds_second f events (suc n) = rw (some_second f (events (suc n)), some_second f (events n)) refl
 
@@ -335,7 +330,7 @@ module _ (of_list : Chan) (slots : ℕ) (cues others : List Cue) (fs gs : List �
   others_listed : IsListed One (first_events of_list others) (channel_parts of_list others)
   others_listed = channel_listed of_list slots others are.others_formed are.others_sequence
 
-  together : AreTogether (first_events of_list cues) (second_events of_list others) (channel_parts of_list cues) (second_parts (field_of_channel of_list) (channel_parts of_list others)) fs gs rs qs
+  pub together : AreTogether (first_events of_list cues) (second_events of_list others) (channel_parts of_list cues) (second_parts (field_of_channel of_list) (channel_parts of_list others)) fs gs rs qs
   together = record {
     first = listed;
     second = listed_second (field_of_channel of_list) (first_events of_list others) (channel_parts of_list others) others_listed;

@@ -315,7 +315,7 @@ module _ (c : DataChannel) (slots : Slots) (events : Timeline) (parts : List Par
         (or_else (plain events parts fs n) (again parts rs n) unit is)
 
 -- the tests of the slots
-both_not : (a b : Bool) → (not a && not b) ≡ true → (a ≡ false) × (b ≡ false)
+pub both_not : (a b : Bool) → (not a && not b) ≡ true → (a ≡ false) × (b ≡ false)
 both_not false false is = (refl, refl)
 both_not false true is = cc
 both_not true b is = cc
