@@ -1,4 +1,5 @@
 use crate::finding::{Kind45, Which};
+use crate::misfit::MisfitKind;
 use cc_base::Rate;
 use line21_codes::Chan;
 
@@ -40,5 +41,19 @@ fn findings_have_the_reasons_40_to_45(rt: HostRuntime) {
     ] {
         assert_eq!(rt; kind.why().number(), number);
         assert_eq!(rt; kind.why().name(), name);
+    }
+}
+
+#[test]
+fn misfits_have_their_names(rt: HostRuntime) {
+    for (kind, name) in [
+        (MisfitKind::Rate(5), "Rate"),
+        (MisfitKind::Count(19), "Count"),
+        (MisfitKind::One(2), "One"),
+        (MisfitKind::Two(2), "Two"),
+        (MisfitKind::Many(19), "Many"),
+        (MisfitKind::Changed(Which::Service(1)), "Changed"),
+    ] {
+        assert_eq!(rt; kind.name(), name);
     }
 }
