@@ -1,6 +1,7 @@
 ghost use Rattle.std.specs.Prelude.{◌≡◌, ◌≤◌, ◌+◌, ℕ};
 ghost use Rattle.frame_scheduler.specs.Columns.{Columns};
 
+use crate::overlaid::Overlaid;
 use frame_scheduler::{FrameBytes, Frames};
 
 /// What puts pairs of its own into frames that others give, frame by frame: a second channel of a field, or data of another service
@@ -19,20 +20,14 @@ pub trait Overlay {
             → (result ≡ columns frame) × Lays firsts columns (frame + 1) self.new };
 }
 
-/// Frames with what is laid over them.
-#[derive(Drop)]
-pub struct Overlaid<F: Frames, L: Overlay> {
-    frames: F,
-    overlay: L,
-    ghost within: { F.left frames ≤ L.lasts overlay },
-}
-
 impl<F: Frames + Drop, L: Overlay + Drop> Overlaid<F, L> {
+    ghost use Rattle.programmes.specs.OverlaidFrames.{frames_under, overlay_of};
+
     /// Frames over which this is laid, which lasts for all of them.
     pub fn new(frames: F, overlay: L) -> Overlaid<F, L>
         requires { F.left frames ≤ L.lasts overlay }
-        ensures frames { result.frames ≡ frames }
-        ensures overlay { result.overlay ≡ overlay }
+        ensures frames { frames_under result ≡ frames }
+        ensures overlay { overlay_of result ≡ overlay }
     {
         Overlaid { frames, overlay }
     }

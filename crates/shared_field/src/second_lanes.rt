@@ -1,14 +1,13 @@
 ghost use Rattle.std.specs.Prelude.{◌≡◌, ◌≤◌, ◌+◌, ◌^◌, ◌<◌};
-ghost use Rattle.frame_scheduler.specs.Frames.{frames_left};
 ghost use Rattle.frame_scheduler.specs.LanePlan.{behind_frame, given_in};
-ghost use Rattle.shared_field.specs.Beside.{beside, lanes_last};
+ghost use Rattle.shared_field.specs.Beside.{beside};
 
 use cc_base::Rate;
+use frame_scheduler::FrameBytes;
 use frame_scheduler::lane::placed::PlacedLane;
-use frame_scheduler::{FrameBytes, Plan};
 use line21_codes::{Chan, Pair};
 use line21_slots::Cadence;
-use programmes::{Overlaid, Overlay};
+use programmes::Overlay;
 
 /// The second lanes of both fields, whose pairs go into null slots.
 #[derive(Drop)]
@@ -20,9 +19,11 @@ pub struct SecondLanes {
 }
 
 impl SecondLanes {
+    ghost use Rattle.shared_field.specs.SecondLanes.{lanes_at_first};
+
     /// The lanes of field 1 and of field 2, from frame 0 on.
     pub fn new(one: PlacedLane, two: PlacedLane, rate: Rate) -> SecondLanes
-        ensures { result ≡ record { one = one; two = two; rate = rate; frame = 0 } }
+        ensures { result ≡ lanes_at_first one two rate }
     {
         SecondLanes {
             one,
@@ -51,18 +52,6 @@ impl Overlay for SecondLanes {
             blocks: bytes.blocks,
         }
     }
-}
-
-/// The frames of a plan with second lanes.
-pub type Dual = Overlaid<Plan, SecondLanes>;
-
-/// The frames of a plan with second lanes, which last for all of them.
-pub fn dual(plan: Plan, lanes: SecondLanes) -> Dual
-    requires { frames_left plan ≤ lanes_last lanes.one lanes.two lanes.frame }
-    ensures frames { result.frames ≡ plan }
-    ensures overlay { result.overlay ≡ lanes }
-{
-    Overlaid::new(plan, lanes)
 }
 
 // The pair of a frame, with that of the second lane where the first is null.
