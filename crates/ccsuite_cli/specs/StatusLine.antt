@@ -1,5 +1,5 @@
 -- The one line of each status in the error output.
-use Rattle.std.specs.Prelude.{◌≡◌, ◌⊎◌, ℕ, List, [], ◌∷◌, Option, Some, None, codes, decimal}
+use Rattle.std.specs.Prelude.{◌≡◌, ◌⊎◌, ◌++◌, ℕ, List, [], ◌∷◌, Option, Some, None, codes, decimal}
 use Rattle.std.specs.Io.KnownBytes.{Appends}
 use Rattle.cc_base.specs.LimitOf.{limit_name_of}
 use Rattle.cc_base.specs.Streams.{Puts, Rose}
@@ -14,6 +14,9 @@ use Rattle.findings.specs.declared.finding.Kind45.{Kind45}
 use Rattle.findings.specs.declared.finding.Kind45.TheVariants as kind
 use Rattle.findings.specs.declared.finding.Which.{Which}
 use Rattle.findings.specs.declared.finding.Which.TheVariants as which
+use Rattle.findings.specs.declared.misfit.MisfitKind.{MisfitKind}
+use Rattle.findings.specs.declared.misfit.MisfitKind.TheVariants as misfit
+use Rattle.findings.specs.Misfits.{misfit_name}
 use Rattle.line21_codes.specs.declared.channels.Chan.{Chan}
 use Rattle.line21_codes.specs.declared.channels.Chan.TheVariants as chan
 use Rattle.ccsuite_cli.specs.Command.{usage_line}
@@ -74,6 +77,22 @@ line_of_kind frame (kind.TwoPairs seen) = seen_line frame why.TwoPairs 1 seen
 abbrev pub finding_line : Finding → List ℕ
 finding_line finding = line_of_kind finding.frame finding.kind
 
+-- the line of a misfit of which this was seen
+abbrev pub misfit_text : ℕ → MisfitKind → List ℕ → List ℕ
+misfit_text frame kind seen =
+    text (codes "misfit at frame " ∷ decimal frame ∷ codes ": " ∷ misfit_name kind ∷ codes " " ∷ seen ∷ codes "\n" ∷ [])
+
+-- the same with what was seen: the rate's code, a number of triplets, or the name of the grid
+abbrev pub line_of_misfit : ℕ → MisfitKind → List ℕ
+line_of_misfit frame (misfit.Rate code) = misfit_text frame (misfit.Rate code) (decimal code)
+line_of_misfit frame (misfit.Count seen) = misfit_text frame (misfit.Count seen) (decimal seen)
+line_of_misfit frame (misfit.One seen) = misfit_text frame (misfit.One seen) (decimal seen)
+line_of_misfit frame (misfit.Two seen) = misfit_text frame (misfit.Two seen) (decimal seen)
+line_of_misfit frame (misfit.Many seen) = misfit_text frame (misfit.Many seen) (decimal seen)
+line_of_misfit frame (misfit.Changed (which.Chan chan)) = misfit_text frame (misfit.Changed (which.Chan chan)) (channel_name chan)
+line_of_misfit frame (misfit.Changed (which.Service service)) =
+    misfit_text frame (misfit.Changed (which.Service service)) (codes "S" ++ decimal service)
+
 -- the line of a status; Ok has none
 abbrev pub status_line : Status → List ℕ
 status_line status.Ok = []
@@ -87,6 +106,9 @@ status_line (status.Rule fault) = rule_line fault.why fault.cue fault.other
 status_line (status.NoRoom cue) = text (codes "no room: cue " ∷ decimal cue ∷ codes "\n" ∷ [])
 status_line (status.Differs finding) = finding_line finding
 status_line (status.Short frames) = text (codes "short: " ∷ decimal frames ∷ codes " frames\n" ∷ [])
+status_line (status.NoRoomBeside cue) = text (codes "no room in CUES: cue " ∷ decimal cue ∷ codes "\n" ∷ [])
+status_line (status.NoXdsRoom packet) = text (codes "no room: packet " ∷ decimal packet ∷ codes "\n" ∷ [])
+status_line (status.Misfit misfit) = line_of_misfit misfit.frame misfit.kind
 
 -- the line of a status was put, or, where the count of faults rose, a front of it
 abbrev pub PutsLine : Option (List ℕ) → Option (List ℕ) → ℕ → ℕ → Status → Type 0

@@ -109,7 +109,7 @@ fn put_channel<E: Sink>(frame: u32, why: Why, chan: Chan, err: &mut E) -> Put
 }
 
 /// The name of a channel, as grids are printed.
-fn channel_name(chan: Chan) -> &'static [u8]
+pub fn channel_name(chan: Chan) -> &'static [u8]
     ensures { result.now ≡ channel_name chan }
 {
     match chan {

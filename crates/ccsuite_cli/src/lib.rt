@@ -11,6 +11,7 @@ pub use side_files::SideFile;
 mod command;
 mod finding_line;
 pub mod laws;
+mod misfit_line;
 mod program;
 mod standard_streams;
 mod status_line;

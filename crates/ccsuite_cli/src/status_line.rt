@@ -4,6 +4,7 @@ ghost use Rattle.ccsuite_cli.specs.StatusLine.{status_line};
 
 use crate::command::USAGE;
 use crate::finding_line::put_finding;
+use crate::misfit_line::put_misfit;
 use cc_base::{Put, Sink, Why, put_pieces};
 use command_base::{Place, Status};
 use cue_lists::RuleFault;
@@ -40,6 +41,23 @@ pub fn put_status<E: Sink>(status: Status, err: &mut E) -> Put
             ],
             err,
         ),
+        Status::NoRoomBeside(second) => put_pieces(
+            &[
+                b"no room in CUES: cue ",
+                Buffer::new().format(second).as_bytes(),
+                b"\n",
+            ],
+            err,
+        ),
+        Status::NoXdsRoom(packet) => put_pieces(
+            &[
+                b"no room: packet ",
+                Buffer::new().format(packet).as_bytes(),
+                b"\n",
+            ],
+            err,
+        ),
+        Status::Misfit(misfit) => put_misfit(misfit.frame, misfit.kind, err),
     }
 }
 

@@ -1,13 +1,14 @@
 -- Commands that read their input to its end and judge it before they put anything.
-use Rattle.std.proofs.Common.{◌≡◌, ◌⊎◌, ◌<◌, ℕ, List, length, Option, Some, None, Result, Ok, Err, inl, inr, refl, subst, sym}
+use Rattle.std.proofs.Common.{◌≡◌, ◌∙◌, ◌⊎◌, ◌<◌, ◌+◌, ℕ, List, length, length-append, Option, Some, None, Result, Ok, Err, ap, arith, inl, inr, refl, subst, sym}
+use Rattle.std.proofs.lemmas.List.{nil_from_length}
 use Rattle.std.specs.Prelude.{IfSome}
-use Rattle.std.specs.Io.KnownBytes.{Keeps}
+use Rattle.std.specs.Io.KnownBytes.{Consumes, Keeps}
 use Rattle.cc_base.specs.declared.limit_of.LimitOf.TheVariants as limit
 use Rattle.command_base.proofs.CountLemmas.{read_told, steady_told, write_told}
 use Rattle.command_base.specs.Counts.{IsReadOf, TellsFaults}
 use Rattle.command_base.specs.Ends.{Ends, ends}
 use Rattle.cc_base.specs.Streams.{whole_limit}
-use Rattle.command_base.specs.WholeInput.{IsRefusal, IsTooLong, JudgesInput, Putting, ReadsInput, WholeAnswer}
+use Rattle.command_base.specs.WholeInput.{IsReadToEnd, IsRefusal, IsTooLong, JudgesInput, Putting, ReadsInput, WholeAnswer}
 use Rattle.command_base.specs.declared.status.Status.{Status}
 use Rattle.command_base.specs.declared.status.Status.TheVariants as status
 
@@ -29,8 +30,20 @@ read_refused Whole Front Is Refused left now_left written before now faults (sta
 read_refused Whole Front Is Refused left now_left written before now faults (status.Malformed place why) h = (h.0, (refl, keeps_same written), h.1)
 read_refused Whole Front Is Refused left now_left written before now faults (status.Rule fault) h = (h.0, (refl, keeps_same written), h.1)
 read_refused Whole Front Is Refused left now_left written before now faults (status.NoRoom cue) h = (h.0, (refl, keeps_same written), h.1)
+read_refused Whole Front Is Refused left now_left written before now faults (status.NoRoomBeside cue) h = (h.0, (refl, keeps_same written), h.1)
+read_refused Whole Front Is Refused left now_left written before now faults (status.NoXdsRoom packet) h = (h.0, (refl, keeps_same written), h.1)
+read_refused Whole Front Is Refused left now_left written before now faults (status.Misfit misfit) h = (h.0, (refl, keeps_same written), h.1)
 read_refused Whole Front Is Refused left now_left written before now faults (status.Differs finding) h = (h.0, (refl, keeps_same written), h.1)
 read_refused Whole Front Is Refused left now_left written before now faults (status.Short frames) h = (h.0, (refl, keeps_same written), h.1)
+
+-- where all bytes that were left were taken, none is left
+pub read_to_end : (left now_left : Option (List ℕ)) (bytes : List ℕ) → IfSome left (λ all. bytes ≡ all) → Consumes left now_left bytes → IsReadToEnd left now_left
+read_to_end None now_left bytes is taken = tt
+read_to_end (Some all) None bytes is taken = absurd taken
+read_to_end (Some all) (Some rest) bytes is taken =
+    let long : length all ≡ length bytes + length rest = ap length taken ∙ length-append bytes rest in
+    let same : length bytes ≡ length all = ap length is in
+    ap Some (nil_from_length rest (omega (arith, long, same)))
 
 -- a fact of the bytes that were read is one of the bytes that were left
 of_left : (P : List ℕ → Type 0) (left : Option (List ℕ)) (bytes : List ℕ) → IfSome left (λ all. bytes ≡ all) → P bytes → IfSome left P
@@ -49,24 +62,30 @@ AreRefusals Refused = (bytes : List ℕ) (answer : Status) → Refused bytes ans
 -- the judgement of the bytes that were read to their end
 pub judged : {A : Type 0} (Is : List ℕ → A → Type 0) (Refused : List ℕ → Status → Type 0) → AreRefusals Refused → (left now_left : Option (List ℕ))
     (before now : ℕ) (bytes : List ℕ) (r : Result A Status)
-    → IfSome left (λ all. bytes ≡ all) → now ≡ before → JudgesInput Is Refused bytes r → ReadsInput Is Refused left now_left before now r
-judged Is Refused are left now_left before now bytes (Ok value) is same fact = (same, of_left (λ all. Is all value) left bytes is fact)
-judged Is Refused are left now_left before now bytes (Err status.Ok) is same fact = absurd (are bytes status.Ok fact)
-judged Is Refused are left now_left before now bytes (Err status.Usage) is same fact = absurd (are bytes status.Usage fact)
-judged Is Refused are left now_left before now bytes (Err status.ReadFault) is same fact = absurd (are bytes status.ReadFault fact)
-judged Is Refused are left now_left before now bytes (Err status.WriteFault) is same fact = absurd (are bytes status.WriteFault fact)
-judged Is Refused are left now_left before now bytes (Err status.Memory) is same fact = same
-judged Is Refused are left now_left before now bytes (Err (status.Limit which)) is same fact =
+    → IfSome left (λ all. bytes ≡ all) → IsReadToEnd left now_left → now ≡ before → JudgesInput Is Refused bytes r → ReadsInput Is Refused left now_left before now r
+judged Is Refused are left now_left before now bytes (Ok value) is end same fact = (same, end, of_left (λ all. Is all value) left bytes is fact)
+judged Is Refused are left now_left before now bytes (Err status.Ok) is end same fact = absurd (are bytes status.Ok fact)
+judged Is Refused are left now_left before now bytes (Err status.Usage) is end same fact = absurd (are bytes status.Usage fact)
+judged Is Refused are left now_left before now bytes (Err status.ReadFault) is end same fact = absurd (are bytes status.ReadFault fact)
+judged Is Refused are left now_left before now bytes (Err status.WriteFault) is end same fact = absurd (are bytes status.WriteFault fact)
+judged Is Refused are left now_left before now bytes (Err status.Memory) is end same fact = same
+judged Is Refused are left now_left before now bytes (Err (status.Limit which)) is end same fact =
     (same, of_left (λ all. Refused all (status.Limit which)) left bytes is fact)
-judged Is Refused are left now_left before now bytes (Err (status.Malformed place why)) is same fact =
+judged Is Refused are left now_left before now bytes (Err (status.Malformed place why)) is end same fact =
     (same, of_left (λ all. Refused all (status.Malformed place why)) left bytes is fact)
-judged Is Refused are left now_left before now bytes (Err (status.Rule fault)) is same fact =
+judged Is Refused are left now_left before now bytes (Err (status.Rule fault)) is end same fact =
     (same, of_left (λ all. Refused all (status.Rule fault)) left bytes is fact)
-judged Is Refused are left now_left before now bytes (Err (status.NoRoom cue)) is same fact =
+judged Is Refused are left now_left before now bytes (Err (status.NoRoom cue)) is end same fact =
     (same, of_left (λ all. Refused all (status.NoRoom cue)) left bytes is fact)
-judged Is Refused are left now_left before now bytes (Err (status.Differs finding)) is same fact =
+judged Is Refused are left now_left before now bytes (Err (status.NoRoomBeside cue)) is end same fact =
+    (same, of_left (λ all. Refused all (status.NoRoomBeside cue)) left bytes is fact)
+judged Is Refused are left now_left before now bytes (Err (status.NoXdsRoom packet)) is end same fact =
+    (same, of_left (λ all. Refused all (status.NoXdsRoom packet)) left bytes is fact)
+judged Is Refused are left now_left before now bytes (Err (status.Misfit misfit)) is end same fact =
+    (same, of_left (λ all. Refused all (status.Misfit misfit)) left bytes is fact)
+judged Is Refused are left now_left before now bytes (Err (status.Differs finding)) is end same fact =
     (same, of_left (λ all. Refused all (status.Differs finding)) left bytes is fact)
-judged Is Refused are left now_left before now bytes (Err (status.Short frames)) is same fact =
+judged Is Refused are left now_left before now bytes (Err (status.Short frames)) is end same fact =
     (same, of_left (λ all. Refused all (status.Short frames)) left bytes is fact)
 
 -- bytes that were too many are refused so
@@ -87,6 +106,9 @@ unread Is Refused long left now_left before now (status.Limit which) h = (h.0, t
 unread Is Refused long left now_left before now (status.Malformed place why) h = (h.0, too_long Refused long left (status.Malformed place why) h.1)
 unread Is Refused long left now_left before now (status.Rule fault) h = (h.0, too_long Refused long left (status.Rule fault) h.1)
 unread Is Refused long left now_left before now (status.NoRoom cue) h = (h.0, too_long Refused long left (status.NoRoom cue) h.1)
+unread Is Refused long left now_left before now (status.NoRoomBeside cue) h = (h.0, too_long Refused long left (status.NoRoomBeside cue) h.1)
+unread Is Refused long left now_left before now (status.NoXdsRoom packet) h = (h.0, too_long Refused long left (status.NoXdsRoom packet) h.1)
+unread Is Refused long left now_left before now (status.Misfit misfit) h = (h.0, too_long Refused long left (status.Misfit misfit) h.1)
 unread Is Refused long left now_left before now (status.Differs finding) h = (h.0, too_long Refused long left (status.Differs finding) h.1)
 unread Is Refused long left now_left before now (status.Short frames) h = (h.0, too_long Refused long left (status.Short frames) h.1)
 
@@ -102,7 +124,7 @@ of_bytes P bytes old new read fact = subst (λ l. IfSome l P) read.left fact
 pub answered : (Whole Front : Putting) (Refused : List ℕ → Status → Type 0) (bytes : List ℕ) (old new : Ends) (answer : Status)
     → IsReadOf bytes old new → WholeAnswer Whole Front Refused old new answer → IsAnswered Whole Refused bytes old new answer
 answered Whole Front Refused bytes old new status.Ok read answer =
-    inl (refl, of_bytes (λ all. Whole all old.written new.written) bytes old new read answer.2)
+    inl (refl, of_bytes (λ all. Whole all old.written new.written) bytes old new read answer.3)
 answered Whole Front Refused bytes old new status.Memory read answer = inr (inl refl)
 answered Whole Front Refused bytes old new status.Usage read answer = absurd answer
 answered Whole Front Refused bytes old new status.ReadFault read answer = absurd (read.reads answer.0)
@@ -115,6 +137,12 @@ answered Whole Front Refused bytes old new (status.Rule fault) read answer =
     inr (inr (of_bytes (λ all. Refused all (status.Rule fault)) bytes old new read answer.2))
 answered Whole Front Refused bytes old new (status.NoRoom cue) read answer =
     inr (inr (of_bytes (λ all. Refused all (status.NoRoom cue)) bytes old new read answer.2))
+answered Whole Front Refused bytes old new (status.NoRoomBeside cue) read answer =
+    inr (inr (of_bytes (λ all. Refused all (status.NoRoomBeside cue)) bytes old new read answer.2))
+answered Whole Front Refused bytes old new (status.NoXdsRoom packet) read answer =
+    inr (inr (of_bytes (λ all. Refused all (status.NoXdsRoom packet)) bytes old new read answer.2))
+answered Whole Front Refused bytes old new (status.Misfit misfit) read answer =
+    inr (inr (of_bytes (λ all. Refused all (status.Misfit misfit)) bytes old new read answer.2))
 answered Whole Front Refused bytes old new (status.Differs finding) read answer =
     inr (inr (of_bytes (λ all. Refused all (status.Differs finding)) bytes old new read answer.2))
 answered Whole Front Refused bytes old new (status.Short frames) read answer =
@@ -147,5 +175,8 @@ told Whole Front Refused old new (status.Limit which) answer = steady_told old n
 told Whole Front Refused old new (status.Malformed place why) answer = steady_told old new _ answer.0 answer.1.0
 told Whole Front Refused old new (status.Rule fault) answer = steady_told old new _ answer.0 answer.1.0
 told Whole Front Refused old new (status.NoRoom cue) answer = steady_told old new _ answer.0 answer.1.0
+told Whole Front Refused old new (status.NoRoomBeside cue) answer = steady_told old new _ answer.0 answer.1.0
+told Whole Front Refused old new (status.NoXdsRoom packet) answer = steady_told old new _ answer.0 answer.1.0
+told Whole Front Refused old new (status.Misfit misfit) answer = steady_told old new _ answer.0 answer.1.0
 told Whole Front Refused old new (status.Differs finding) answer = steady_told old new _ answer.0 answer.1.0
 told Whole Front Refused old new (status.Short count) answer = steady_told old new _ answer.0 answer.1.0

@@ -16,3 +16,6 @@ status_code (status.Rule fault) = 7
 status_code (status.NoRoom cue) = 8
 status_code (status.Differs finding) = 9
 status_code (status.Short frames) = 10
+status_code (status.NoRoomBeside cue) = 11
+status_code (status.NoXdsRoom packet) = 12
+status_code (status.Misfit misfit) = 13

@@ -3,7 +3,7 @@ ghost use Rattle.command_base.specs.StatusCode.{status_code};
 
 use cc_base::{LimitOf, Why};
 use cue_lists::RuleFault;
-use findings::Finding;
+use findings::{Finding, Misfit};
 
 /// Where an input is malformed.
 #[derive(Clone, Copy, Debug, PartialEq, Eq)]
@@ -39,6 +39,12 @@ pub enum Status {
     Differs(Finding),
     /// The words file has only so many frames.
     Short(u32),
+    /// The cue of this number, counted from 1, is the first of the second list without a placement beside the first list.
+    NoRoomBeside(u32),
+    /// The XDS packet of this number, counted from 1, is the first that doesn't end in a free slot.
+    NoXdsRoom(u32),
+    /// The frame can't be converted to 59.94.
+    Misfit(Misfit),
 }
 
 impl Status {
@@ -58,6 +64,9 @@ impl Status {
             Status::NoRoom(_) => 8,
             Status::Differs(_) => 9,
             Status::Short(_) => 10,
+            Status::NoRoomBeside(_) => 11,
+            Status::NoXdsRoom(_) => 12,
+            Status::Misfit(_) => 13,
         }
     }
 }

@@ -1,7 +1,7 @@
 use crate::status::{Place, Status};
 use cc_base::{LimitOf, Why};
 use cue_lists::RuleFault;
-use findings::{Finding, Kind45};
+use findings::{Finding, Kind45, Misfit, MisfitKind};
 
 /// A list whose first cue breaks the rule of shares.
 const SHARE_BROKEN: RuleFault = RuleFault {
@@ -14,6 +14,12 @@ const SHARE_BROKEN: RuleFault = RuleFault {
 const FOUND: Finding = Finding {
     frame: 0,
     kind: Kind45::TwoPairs(2),
+};
+
+/// A frame at 25 where 29.97 is converted.
+const RATE_OF_25: Misfit = Misfit {
+    frame: 0,
+    kind: MisfitKind::Rate(3),
 };
 
 #[test]
@@ -30,6 +36,9 @@ fn each_status_has_its_code(rt: HostRuntime) {
         (Status::NoRoom(1), 8),
         (Status::Differs(FOUND), 9),
         (Status::Short(3), 10),
+        (Status::NoRoomBeside(1), 11),
+        (Status::NoXdsRoom(1), 12),
+        (Status::Misfit(RATE_OF_25), 13),
     ] {
         assert_eq!(rt; status.code(), code);
     }

@@ -53,6 +53,9 @@ list_refused left later before now old (status.Malformed (Byte place) why) h = (
 list_refused left later before now old (status.Malformed (Field rec field) why) h = (h.0, refl, h.1)
 list_refused left later before now old (status.Rule fault) h = (h.0, refl, h.1)
 list_refused left later before now old (status.NoRoom cue) h = (h.0, refl, h.1)
+list_refused left later before now old (status.NoRoomBeside cue) h = (h.0, refl, h.1)
+list_refused left later before now old (status.NoXdsRoom packet) h = (h.0, refl, h.1)
+list_refused left later before now old (status.Misfit misfit) h = (h.0, refl, h.1)
 list_refused left later before now old (status.Differs finding) h = (h.0, record { reads = refl; writes = refl }, never_so _ left h.1)
 list_refused left later before now old (status.Short count) h = (h.0, record { reads = refl; writes = refl }, never_so _ left h.1)
 
@@ -81,17 +84,17 @@ words_stopped : (left later : Option (List ℕ)) (before now : ℕ) (programme :
     → ((list : Framing) → HasFraming frames_left GivesFrom list programme → StopsEarly (SaysInserted list) (HaltsInserting list) old new why)
     → InsertAnswer (side_ends left before) (side_ends later now) old new (stop_status halt_status why)
 words_stopped left later before now programme old new stop.ReadFault reads counts words =
-    inr (reads.0, counts.0, counts.1, of_captions left before programme _ _ put.Done old new reads.1 (λ list has. (words list has).2))
+    inr (reads.0, counts.0, counts.1, of_captions left before programme _ _ put.Done old new reads.2 (λ list has. (words list has).2))
 words_stopped left later before now programme old new stop.WriteFault reads counts words =
-    (reads.0, counts.0, counts.1, of_captions left before programme _ _ put.Failed old new reads.1 (λ list has. (words list has).2))
+    (reads.0, counts.0, counts.1, of_captions left before programme _ _ put.Failed old new reads.2 (λ list has. (words list has).2))
 words_stopped left later before now programme old new stop.Limit reads counts words =
-    inr (reads.0, record { reads = counts.0; writes = counts.1 }, of_captions left before programme _ _ put.Done old new reads.1 (λ list has. (words list has).1))
+    inr (reads.0, record { reads = counts.0; writes = counts.1 }, of_captions left before programme _ _ put.Done old new reads.2 (λ list has. (words list has).1))
 words_stopped left later before now programme old new (stop.Refused refusal) reads counts words =
-    (reads.0, record { reads = counts.0; writes = counts.1 }, of_captions left before programme _ _ put.Done old new reads.1 (λ list has. (words list has).1))
+    (reads.0, record { reads = counts.0; writes = counts.1 }, of_captions left before programme _ _ put.Done old new reads.2 (λ list has. (words list has).1))
 words_stopped left later before now programme old new (stop.Own (halt.Found finding)) reads counts words =
-    (reads.0, record { reads = counts.0; writes = counts.1 }, of_captions left before programme _ _ put.Done old new reads.1 (λ list has. (words list has).1))
+    (reads.0, record { reads = counts.0; writes = counts.1 }, of_captions left before programme _ _ put.Done old new reads.2 (λ list has. (words list has).1))
 words_stopped left later before now programme old new (stop.Own halt.Packet) reads counts words =
-    (reads.0, record { reads = counts.0; writes = counts.1 }, of_captions left before programme _ _ put.Done old new reads.1 (λ list has. (words list has).1))
+    (reads.0, record { reads = counts.0; writes = counts.1 }, of_captions left before programme _ _ put.Done old new reads.2 (λ list has. (words list has).1))
 
 pub stopped_answer : (left later : Option (List ℕ)) (before now : ℕ) (programme : Programme Plan) (old new : Ends) (why : Stop Halt) (answer : Status)
     → ReadsProgramme left later before now (Ok programme) → CountsBy old.read_faults new.read_faults old.write_faults new.write_faults (Err why)
@@ -152,7 +155,8 @@ pub whole_answer : (left later : Option (List ℕ)) (before now : ℕ) (programm
 whole_answer left later before now programme inserting old new reads counts words enough = (
   reads.0,
   record { reads = counts.0; writes = counts.1 },
-  of_list left before programme (λ list placed. InsertsWhole list placed old new) reads.1
+  reads.1,
+  of_list left before programme (λ list placed. InsertsWhole list placed old new) reads.2
       (λ text is. inserts_whole text programme inserting old new is (words (list_framing is.made.list is.made.placed) (list_captions text programme is))
       (enough (list_framing is.made.list is.made.placed))),
 )
@@ -165,7 +169,7 @@ pub short_answer : (left later : Option (List ℕ)) (before now : ℕ) (programm
 short_answer left later before now programme inserting old new count reads counts words short = (
   reads.0,
   record { reads = counts.0; writes = counts.1 },
-  of_captions left before programme SaysInserted (λ list. IsShort list count old.left) put.Done old new reads.1
+  of_captions left before programme SaysInserted (λ list. IsShort list count old.left) put.Done old new reads.2
       (λ list has.
       let ended = words list has in
       let is = short list ended.1.judged ended.1.text ended.1.says in

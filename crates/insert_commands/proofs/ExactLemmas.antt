@@ -73,7 +73,7 @@ AnswersWords list placed old new _ = ⊥
 words_answered : (text bytes : List ℕ) (list : Listing) (placed : Placement) (side later : SideEnds) (old new : Ends) (answer : Status) → IsAccepted text list placed
     → IsSideOf text side later → IsReadOf bytes old new → InsertAnswer side later old new answer → AnswersWords list placed old new answer
 words_answered text bytes list placed side later old new status.Ok accepted side_is read is =
-    list_known text side list placed (λ l p. AnswersWords l p old new status.Ok) side_is.left accepted is.2
+    list_known text side list placed (λ l p. AnswersWords l p old new status.Ok) side_is.left accepted is.3
 words_answered text bytes list placed side later old new status.Memory accepted side_is read is = tt
 words_answered text bytes list placed side later old new status.Usage accepted side_is read is = absurd is
 words_answered text bytes list placed side later old new status.ReadFault accepted side_is read (inl is) = absurd (side_is.faults is.0)
@@ -347,7 +347,7 @@ refused_so text refusal side later old new answer known refused is =
     refused_once text answer refusal (subst (λ (l : Option (List ℕ)). IfSome l (λ t. IsRefused t answer)) known is.2) refused
 
 pub refused_side : RefusedSideIsAnswered IsRefused InsertAnswer
-refused_side text refusal side later old new status.Ok refused side_is is = absurd (no_list text refusal side _ side_is.left refused is.2)
+refused_side text refusal side later old new status.Ok refused side_is is = absurd (no_list text refusal side _ side_is.left refused is.3)
 refused_side text refusal side later old new status.Memory refused side_is is = inr refl
 refused_side text refusal side later old new status.Usage refused side_is is = absurd is
 refused_side text refusal side later old new status.ReadFault refused side_is (inl is) = absurd (side_is.faults is.0)

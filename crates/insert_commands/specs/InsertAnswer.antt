@@ -9,6 +9,7 @@ use Rattle.cc_base.specs.declared.streams.Put.{Put}
 use Rattle.cc_base.specs.declared.streams.Put.TheVariants as put
 use Rattle.cdp_packets.specs.Packets.{Packet as Frame}
 use Rattle.command_base.specs.Ends.{Ends, IsSteady}
+use Rattle.command_base.specs.WholeInput.{IsReadToEnd}
 use Rattle.command_base.specs.declared.status.Place.TheVariants.{Byte}
 use Rattle.command_base.specs.declared.status.Status.{Status}
 use Rattle.command_base.specs.declared.status.Status.TheVariants as status
@@ -102,7 +103,8 @@ JudgesWords Says Why side later old new = (later.faults ≡ side.faults) × IsSt
 -- what `insert` answers
 abbrev pub InsertAnswer : SideEnds → SideEnds → Ends → Ends → Status → Type 0
 InsertAnswer side later old new status.Ok =
-    (later.faults ≡ side.faults) × IsSteady old new × OfAcceptedList side (λ list placed. InsertsWhole list placed old new)
+    (later.faults ≡ side.faults) × IsSteady old new × IsReadToEnd side.left later.left
+    × OfAcceptedList side (λ list placed. InsertsWhole list placed old new)
 InsertAnswer side later old new status.Usage = ⊥
 InsertAnswer side later old new status.ReadFault =
     (Rose side.faults later.faults × TakesWithin whole_limit side.left later.left × (new ≡ old))

@@ -57,6 +57,9 @@ module _ (count : ℕ) (some : 1 ≤ count) (most : count ≤ most_load) where
   not_refused new (status.Malformed place why) reads other = accepted_not_refused _ _ _ (status.Malformed place why) list_accepted reads.1
   not_refused new (status.Rule fault) reads other = accepted_not_refused _ _ _ (status.Rule fault) list_accepted reads.1
   not_refused new (status.NoRoom cue) reads other = accepted_not_refused _ _ _ (status.NoRoom cue) list_accepted reads.1
+  not_refused new (status.NoRoomBeside cue) reads other = accepted_not_refused _ _ _ (status.NoRoomBeside cue) list_accepted reads.1
+  not_refused new (status.NoXdsRoom packet) reads other = accepted_not_refused _ _ _ (status.NoXdsRoom packet) list_accepted reads.1
+  not_refused new (status.Misfit misfit) reads other = accepted_not_refused _ _ _ (status.Misfit misfit) list_accepted reads.1
   not_refused new (status.Differs finding) reads other = accepted_not_refused _ _ _ (status.Differs finding) list_accepted reads.1
   not_refused new (status.Short frames) reads other = accepted_not_refused _ _ _ (status.Short frames) list_accepted reads.1
 

@@ -25,8 +25,8 @@ made_put IsAccepted framing_of output IsSound left Gives answer (Some bytes) old
 -- what is read with something else that follows
 read_as : {A : Type 0} (Is Other : List ℕ → A → Type 0) (Refused : List ℕ → Status → Type 0) (old new : Option (List ℕ)) (before now : ℕ) (r : Result A Status)
     → ((bytes : List ℕ) (value : A) → Is bytes value → Other bytes value) → ReadsInput Is Refused old new before now r → ReadsInput Other Refused old new before now r
-read_as Is Other Refused None new before now (Ok value) follows read = (read.0, tt)
-read_as Is Other Refused (Some bytes) new before now (Ok value) follows read = (read.0, follows bytes value read.1)
+read_as Is Other Refused None new before now (Ok value) follows read = (read.0, read.1, tt)
+read_as Is Other Refused (Some bytes) new before now (Ok value) follows read = (read.0, read.1, follows bytes value read.2)
 read_as Is Other Refused old new before now (Err status.Ok) follows read = read
 read_as Is Other Refused old new before now (Err status.Usage) follows read = read
 read_as Is Other Refused old new before now (Err status.ReadFault) follows read = read
@@ -36,6 +36,9 @@ read_as Is Other Refused old new before now (Err (status.Limit which)) follows r
 read_as Is Other Refused old new before now (Err (status.Malformed place why)) follows read = read
 read_as Is Other Refused old new before now (Err (status.Rule fault)) follows read = read
 read_as Is Other Refused old new before now (Err (status.NoRoom cue)) follows read = read
+read_as Is Other Refused old new before now (Err (status.NoRoomBeside cue)) follows read = read
+read_as Is Other Refused old new before now (Err (status.NoXdsRoom packet)) follows read = read
+read_as Is Other Refused old new before now (Err (status.Misfit misfit)) follows read = read
 read_as Is Other Refused old new before now (Err (status.Differs finding)) follows read = read
 read_as Is Other Refused old new before now (Err (status.Short frames)) follows read = read
 

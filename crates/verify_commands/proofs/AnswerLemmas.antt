@@ -9,6 +9,7 @@ use Rattle.cc_receiver.proofs.TakenLemmas.{frames_count}
 use Rattle.cc_verifier.specs.Verifiers.{verified_frames}
 use Rattle.cdp_packets.specs.Packets.{Packet as Frame}
 use Rattle.command_base.specs.Ends.{Ends, IsSteady, ends}
+use Rattle.command_base.specs.WholeInput.{IsReadToEnd}
 use Rattle.command_base.specs.declared.status.Place.TheVariants.{Byte}
 use Rattle.command_base.specs.declared.status.Status.{Status}
 use Rattle.command_base.specs.declared.status.Status.TheVariants as status
@@ -145,13 +146,14 @@ enough_of list verifying first after reads then count ended is enough =
 
 -- and the line is put, or a front of it
 pub verified_put : (left later first after written now_written : Option (List ℕ)) (before now reads then writes still count : ℕ) (list : Listing) (verifying : Verifying)
-    → now ≡ before → IfSome left (λ text. IsGoodList text list) → HasEnded list verifying first after reads then → count ≡ verified_frames verifying.verifier
-    → list.frames ≤ count → Appends written now_written ok_line → still ≡ writes
+    → now ≡ before → IsReadToEnd left later → IfSome left (λ text. IsGoodList text list) → HasEnded list verifying first after reads then
+    → count ≡ verified_frames verifying.verifier → list.frames ≤ count → Appends written now_written ok_line → still ≡ writes
     → VerifyAnswer (side_ends left before) (side_ends later now) (ends first reads written writes) (ends after then now_written still) status.Ok
-verified_put left later first after written now_written before now reads then writes still count list verifying steady good ended is enough puts kept = (
+verified_put left later first after written now_written before now reads then writes still count list verifying steady end good ended is enough puts kept = (
   steady,
   record { reads = ended.0.reads; writes = kept },
   puts,
+  end,
   of_list left before list _ good
       (line_put list verifying ok_line (HasEnough list first) put.Done first after written now_written reads then writes still ended puts
       (enough_of list verifying first after reads then count ended is enough)),

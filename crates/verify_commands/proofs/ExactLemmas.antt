@@ -58,7 +58,7 @@ AnswersWords list old new _ = ⊥
 words_answered : (text bytes : List ℕ) (list : Listing) (side later : SideEnds) (old new : Ends) (answer : Status) → IsGoodList text list → IsSideOf text side later
     → IsReadOf bytes old new → VerifyAnswer side later old new answer → AnswersWords list old new answer
 words_answered text bytes list side later old new status.Ok good side_is read is =
-    list_known text side list (λ (l : Listing). Stops (FindsNothing l ok_line) (HasEnough l old.left) put.Done old new) side_is.left good is.3
+    list_known text side list (λ (l : Listing). Stops (FindsNothing l ok_line) (HasEnough l old.left) put.Done old new) side_is.left good is.4
 words_answered text bytes list side later old new status.Memory good side_is read is = tt
 words_answered text bytes list side later old new status.Usage good side_is read is = absurd is
 words_answered text bytes list side later old new status.ReadFault good side_is read (inl is) = absurd (side_is.faults is.0)
@@ -250,7 +250,7 @@ finding_answered text bytes list frames behind last finding side later old new a
 -- and no others
 pub ok_verified : OkIsVerified
 ok_verified text bytes list side later old new good side_left left is =
-    let stops = list_known text side list (λ (l : Listing). Stops (FindsNothing l ok_line) (HasEnough l old.left) put.Done old new) side_left good is.3 in
+    let stops = list_known text side list (λ (l : Listing). Stops (FindsNothing l ok_line) (HasEnough l old.left) put.Done old new) side_left good is.4 in
     let (whole, (frames, file, enough)) = stops.cause in
     let same = known_whole old.left bytes stops.judged left whole.0 in
     let own = frames_of_once caption_channel stops.says.frames frames stops.judged stops.says.frames_are (file_frames caption_channel frames stops.judged file) in
@@ -275,7 +275,7 @@ side_refused text refusal side later old new answer known refused is =
     list_refused_once text answer refusal (subst (λ (l : Option (List ℕ)). IfSome l (λ t. IsRefusedList t answer)) known is.2) refused
 
 pub refused_side : RefusedSideIsAnswered IsRefusedList VerifyAnswer
-refused_side text refusal side later old new status.Ok refused side_is is = absurd (no_list text refusal side _ side_is.left refused is.3)
+refused_side text refusal side later old new status.Ok refused side_is is = absurd (no_list text refusal side _ side_is.left refused is.4)
 refused_side text refusal side later old new status.Memory refused side_is is = inr refl
 refused_side text refusal side later old new status.Usage refused side_is is = absurd is
 refused_side text refusal side later old new status.ReadFault refused side_is (inl is) = absurd (side_is.faults is.0)

@@ -8,6 +8,7 @@ use Rattle.cc_base.specs.declared.streams.Put.TheVariants as put
 use Rattle.cc_verifier.specs.Findings.{AreClean, IsFirstFound}
 use Rattle.cdp_packets.specs.Packets.{Packet as Frame}
 use Rattle.command_base.specs.Ends.{Ends, IsSteady, PutsNothing}
+use Rattle.command_base.specs.WholeInput.{IsReadToEnd}
 use Rattle.command_base.specs.declared.status.Place.TheVariants.{Byte}
 use Rattle.command_base.specs.declared.status.Status.{Status}
 use Rattle.command_base.specs.declared.status.Status.TheVariants as status
@@ -62,7 +63,7 @@ ok_line = codes "ok\n"
 -- what `verify` answers
 abbrev pub VerifyAnswer : SideEnds → SideEnds → Ends → Ends → Status → Type 0
 VerifyAnswer side later old new status.Ok =
-    (later.faults ≡ side.faults) × IsSteady old new × Appends old.written new.written ok_line
+    (later.faults ≡ side.faults) × IsSteady old new × Appends old.written new.written ok_line × IsReadToEnd side.left later.left
     × OfGoodList side (λ list. Stops (FindsNothing list ok_line) (HasEnough list old.left) put.Done old new)
 VerifyAnswer side later old new status.Usage = ⊥
 VerifyAnswer side later old new status.ReadFault =

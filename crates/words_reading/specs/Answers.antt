@@ -19,6 +19,7 @@ abbrev pub IsOwn : Status → Type 0
 IsOwn (status.Limit limit.Day) = ⊤
 IsOwn (status.Limit limit.Packet) = ⊤
 IsOwn (status.Differs finding) = ⊤
+IsOwn (status.Misfit misfit) = ⊤
 IsOwn _ = ⊥
 
 -- the run stopped for such a reason, which this says of the bytes and of their text

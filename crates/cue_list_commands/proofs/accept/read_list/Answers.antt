@@ -6,7 +6,7 @@ use Rattle.cue_list_commands.proofs.accept.read_list.Goals as goal
 
 pub returns-clause-reads : goal.returns-clause-reads
 returns-clause-reads g c =
-    judged IsGoodList IsRefusedList list_refusals _ _ _ _ c.in_ok-bytes.bytes.items c.judge_list.result c.in_ok-bytes.ensures.bytes.1 c.in_ok-bytes.ensures.bytes.0
+    judged IsGoodList IsRefusedList list_refusals _ _ _ _ c.in_ok-bytes.bytes.items c.judge_list.result c.in_ok-bytes.ensures.bytes.2 c.in_ok-bytes.ensures.bytes.1 c.in_ok-bytes.ensures.bytes.0
     (rw c.deref.ensures.value at c.judge_list.ensures)
 
 pub returns-clause-ruled : goal.returns-clause-ruled

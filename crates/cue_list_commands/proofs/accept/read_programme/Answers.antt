@@ -7,7 +7,7 @@ use Rattle.cue_list_commands.proofs.accept.read_programme.Goals as goal
 
 pub returns : goal.returns
 returns g c =
-    judged IsProgrammeOf IsRefused are_refusals _ _ _ _ c.in_ok-bytes.bytes.items c.judge.result c.in_ok-bytes.ensures.bytes.1 c.in_ok-bytes.ensures.bytes.0
+    judged IsProgrammeOf IsRefused are_refusals _ _ _ _ c.in_ok-bytes.bytes.items c.judge.result c.in_ok-bytes.ensures.bytes.2 c.in_ok-bytes.ensures.bytes.1 c.in_ok-bytes.ensures.bytes.0
     (rw c.deref.ensures.value at c.judge.ensures)
 
 pub returns-in_err-bytes : goal.returns-in_err-bytes

@@ -9,12 +9,12 @@ use Rattle.load_commands.proofs.AnswerLemmas.{not_refused, programme_sendable, s
 use Rattle.load_commands.proofs.load.load.Goals as goal
 
 pub receive-requires : goal.receive-requires
-receive-requires c = programme_sendable _ c.in-Ok.programme c.in-Ok.ensures.1
+receive-requires c = programme_sendable _ c.in-Ok.programme c.in-Ok.ensures.2
 
 pub returns-in-Ok : goal.returns-in-Ok
 returns-in-Ok c =
     let text = c.new-text.ensures ∙ c.in_ok-print.ensures.bytes ∙ ap list_bytes c.in_ok-list.ensures in
-    let is = subst (λ (bytes : List ℕ). IsProgrammeOf bytes c.in-Ok.programme) text c.in-Ok.ensures.1 in
+    let is = subst (λ (bytes : List ℕ). IsProgrammeOf bytes c.in-Ok.programme) text c.in-Ok.ensures.2 in
     let frames = c.frames.ensures ∙ ap (λ (list : Listing). list.frames) c.in_ok-list.ensures in
     let bytes = c.bytes.ensures in
     let changes = c.changes.ensures in

@@ -9,14 +9,15 @@ pub returns-in-Done : goal.returns-in-Done
 returns-in-Done g c = (
   c.in-Ok.ensures.0,
   c.in-Done.ensures.cause,
-  made_put (g.C.Makes.IsAccepted c.args.command) g.C.Makes.framing_of g.C.Puts.Output.bytes_of g.C.Makes.IsSound _ _ put.Done _ _ _ c.in-Ok.programme c.in-Ok.ensures.1 c.in-Done.ensures.bytes,
+  c.in-Ok.ensures.1,
+  made_put (g.C.Makes.IsAccepted c.args.command) g.C.Makes.framing_of g.C.Puts.Output.bytes_of g.C.Makes.IsSound _ _ put.Done _ _ _ c.in-Ok.programme c.in-Ok.ensures.2 c.in-Done.ensures.bytes,
 )
 
 pub returns-in-Failed : goal.returns-in-Failed
 returns-in-Failed g c = (
   c.in-Ok.ensures.0,
   c.in-Failed.ensures.cause.1,
-  made_put (g.C.Makes.IsAccepted c.args.command) g.C.Makes.framing_of g.C.Puts.Output.bytes_of g.C.Makes.IsSound _ _ put.Failed _ _ _ c.in-Ok.programme c.in-Ok.ensures.1 c.in-Failed.ensures.bytes,
+  made_put (g.C.Makes.IsAccepted c.args.command) g.C.Makes.framing_of g.C.Puts.Output.bytes_of g.C.Makes.IsSound _ _ put.Failed _ _ _ c.in-Ok.programme c.in-Ok.ensures.2 c.in-Failed.ensures.bytes,
 )
 
 pub returns-in-Err : goal.returns-in-Err

@@ -6,7 +6,7 @@ use Rattle.scc_commands.proofs.import.read_pairs.Goals as goal
 
 pub returns-clause-reads : goal.returns-clause-reads
 returns-clause-reads g c =
-    judged IsImport IsRefusedImport import_refusals _ _ _ _ c.in_ok-bytes.bytes.items c.judge.result c.in_ok-bytes.ensures.bytes.1 c.in_ok-bytes.ensures.bytes.0
+    judged IsImport IsRefusedImport import_refusals _ _ _ _ c.in_ok-bytes.bytes.items c.judge.result c.in_ok-bytes.ensures.bytes.2 c.in_ok-bytes.ensures.bytes.1 c.in_ok-bytes.ensures.bytes.0
     (rw c.deref.ensures.value at c.judge.ensures)
 
 pub returns-clause-placed : goal.returns-clause-placed

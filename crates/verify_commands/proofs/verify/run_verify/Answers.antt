@@ -14,25 +14,25 @@ pub returns-then-frames-wanted : goal.returns-then-frames-wanted
 returns-then-frames-wanted g c =
     let begun = nothing_judged c.in-Ok.list c.in-Ok-new.verifier c.in-Ok-new.ensures.verified c.in-Ok-new.ensures.list c.in-Ok-new.ensures.none in
     short_answer (g.S.Source.left c.args.side.now) (g.S.Source.left c.args.side.now) _ _ _ _ _ _ _ _ c.frames-frames.result c.in-Ok.list c.read_words.new.judge
-    c.in-Ok.ensures.reads.0 c.in-Ok.ensures.reads.1 (c.in-Ok-read_words.ensures.words c.in-Ok.list None [] begun tt) c.frames-frames.ensures
+    c.in-Ok.ensures.reads.0 c.in-Ok.ensures.reads.2 (c.in-Ok-read_words.ensures.words c.in-Ok.list None [] begun tt) c.frames-frames.ensures
     (rw c.frames-wanted.ensures at c.if-frames-wanted.true)
 
 pub returns-in-Done : goal.returns-in-Done
 returns-in-Done g c =
     let begun = nothing_judged c.in-Ok.list c.in-Ok-new.verifier c.in-Ok-new.ensures.verified c.in-Ok-new.ensures.list c.in-Ok-new.ensures.none in
-    verified_put (g.S.Source.left c.args.side.now) (g.S.Source.left c.args.side.now) _ _ _ _ _ _ _ _ _ _ c.frames-frames.result c.in-Ok.list c.read_words.new.judge
-    c.in-Ok.ensures.reads.0 c.in-Ok.ensures.reads.1 (c.in-Ok-read_words.ensures.words c.in-Ok.list None [] begun tt) c.frames-frames.ensures
+    verified_put (g.S.Source.left c.args.side.now) _ _ _ _ _ _ _ _ _ _ _ c.frames-frames.result c.in-Ok.list c.read_words.new.judge
+    c.in-Ok.ensures.reads.0 c.in-Ok.ensures.reads.1 c.in-Ok.ensures.reads.2 (c.in-Ok-read_words.ensures.words c.in-Ok.list None [] begun tt) c.frames-frames.ensures
     (rw c.frames-wanted.ensures at c.if-frames-wanted.false) c.in-Done.ensures.bytes c.in-Done.ensures.cause
 
 pub returns-in-Ok-read_words : goal.returns-in-Ok-read_words
 returns-in-Ok-read_words g c =
     let begun = nothing_judged c.in-Ok.list c.in-Ok-new.verifier c.in-Ok-new.ensures.verified c.in-Ok-new.ensures.list c.in-Ok-new.ensures.none in
     verified_failed (g.S.Source.left c.args.side.now) (g.S.Source.left c.args.side.now) _ _ _ _ _ _ _ _ _ _ c.frames-frames.result c.in-Ok.list c.read_words.new.judge
-    c.in-Ok.ensures.reads.0 c.in-Ok.ensures.reads.1 (c.in-Ok-read_words.ensures.words c.in-Ok.list None [] begun tt) c.frames-frames.ensures
+    c.in-Ok.ensures.reads.0 c.in-Ok.ensures.reads.2 (c.in-Ok-read_words.ensures.words c.in-Ok.list None [] begun tt) c.frames-frames.ensures
     (rw c.frames-wanted.ensures at c.if-frames-wanted.false) c.in-Failed.ensures.bytes c.in-Failed.ensures.cause.1
 
 pub returns : goal.returns
 returns g c =
     let begun = nothing_judged c.in-Ok.list c.in-Ok-new.verifier c.in-Ok-new.ensures.verified c.in-Ok-new.ensures.list c.in-Ok-new.ensures.none in
-    stopped_answer (g.S.Source.left c.args.side.now) _ _ _ _ _ _ _ _ _ c.in-Ok.list c.in-Err-read_words.stop c.status.result c.in-Ok.ensures.reads.0 c.in-Ok.ensures.reads.1
+    stopped_answer (g.S.Source.left c.args.side.now) _ _ _ _ _ _ _ _ _ c.in-Ok.list c.in-Err-read_words.stop c.status.result c.in-Ok.ensures.reads.0 c.in-Ok.ensures.reads.2
     (c.in-Err-read_words.ensures.words c.in-Ok.list None [] begun tt) c.status.ensures
