@@ -19,5 +19,6 @@ pub mod KeepsLemmas
 pub mod IdleLemmas
 pub mod ServedLemmas
 pub mod SeenLemmas
+pub mod StayLemmas
 pub mod FedFrames
 pub mod GridLemmas

@@ -1,6 +1,6 @@
 -- What a receiver is after more bytes.
 use Rattle.std.proofs.Common.{Some, arith, ◌≡◌, ◌≢◌, ℕ, ◌+◌, ◌%◌, ◌^◌, ◌<◌, ◌≤◌, ◌⊎◌, inl, inr, ◌++◌, List, [], ◌∷◌, length, map, Option, None, ap, sym, subst, ◌∙◌, length-append}
-use Rattle.std.proofs.lemmas.List.{append-nil, length-map, length-reverse, nil_from_length}
+use Rattle.std.proofs.lemmas.List.{length-map, length-reverse}
 use Rattle.std.proofs.lemmas.List.Elements.{All-append}
 use Rattle.std.specs.List.{All}
 use Rattle.cc_base.specs.declared.refusal.Refusal.{Refusal}
@@ -14,8 +14,6 @@ use Rattle.anc_words.specs.Readers.{HasRead, kept_refusal}
 use Rattle.anc_words.specs.Reading.{anc_syntax}
 use Rattle.cdp_packets.specs.PacketParts.{packet_parts}
 use Rattle.cdp_packets.specs.Packets.{Packet as Frame}
-use Rattle.line21_codes.specs.declared.channels.Chan.{Chan}
-use Rattle.words_files.specs.Received.{received_grids}
 use Rattle.words_files.specs.Catching.{caption_verdict, caught_in, refusal_of}
 use Rattle.services_files.specs.Services.{services_say}
 use Rattle.services_files.specs.CaptionChannel.{caption_channel}
@@ -23,13 +21,12 @@ use Rattle.services_files.proofs.ChannelFiles.{bring_at_most_one, caught_channel
 use Rattle.words_files.specs.FramesOf.{AreFramesOf}
 use Rattle.words_files.specs.Offences.{IsFileUnder}
 use Rattle.anc_words.proofs.ByteLemmas.{file_is_read}
-use Rattle.words_files.proofs.FramesOfLemmas.{file_frames, frames_grow}
+use Rattle.words_files.proofs.FramesOfLemmas.{file_frames}
 use Rattle.words_files.proofs.OffenceLemmas.{some_or_none}
 use Rattle.cc_receiver.specs.declared.receiver.Receiver.{Receiver}
 use Rattle.cc_receiver.specs.declared.receiver.Ended.TheVariants as ended
 use Rattle.cc_receiver.specs.Catchers.{HasCaught}
-use Rattle.cc_receiver.specs.Receivers.{HasReceived, displayed_grid, frame_count}
-use Rattle.cc_receiver.proofs.ReceivedLemmas.{shown_received}
+use Rattle.cc_receiver.specs.Receivers.{HasReceived, frame_count}
 use Rattle.cc_receiver.specs.Receiving.{EndsBy}
 
 -- at most one more
@@ -151,18 +148,3 @@ refused_counts before piece refusal old new few some had has =
     λ others is. some_or_none (refusal_of services_say (before ++ piece)) refusal some (channel_caught others (before ++ piece) is).1 in
     let are = no_channel_end first.frames before piece few no_file first.are in
     frames_count first.frames (before ++ piece) new has are ∙ sym (frames_count first.frames before old had first.are)
-
--- more bytes that bring no frame leave the screens
-pub screens_stay : (before more : List ℕ) (old new : Receiver) (chan : Chan) → HasReceived before old → HasReceived (before ++ more) new
-    → frame_count new ≡ frame_count old → displayed_grid new chan ≡ displayed_grid old chan
-screens_stay before more old new chan had has same =
-    let first = got_frames before had.bytes_are in
-    let next = got_frames (before ++ more) has.bytes_are in
-    let (behind, spelled) = frames_grow caption_channel first.frames next.frames before more first.are next.are in
-    let was = frames_count first.frames before old had first.are in
-    let is = frames_count next.frames (before ++ more) new has next.are in
-    let long = ap length spelled ∙ length-append first.frames behind in
-    let none : behind ≡ [] = nil_from_length behind (omega (arith, same, was, is, long)) in
-    let one : next.frames ≡ first.frames = spelled ∙ ap (λ fs. first.frames ++ fs) none ∙ append-nil first.frames in
-    shown_received next.frames (before ++ more) new chan has next.are ∙ ap (λ fs. received_grids fs chan) one
-    ∙ sym (shown_received first.frames before old chan had first.are)

@@ -25,9 +25,12 @@ pub fn receiver_equals_meaning()
         → seen_windows receiver service id ≡ received_windows frames service id }
 {}
 
-/// More bytes that bring no frame leave all screens. So where a word is refused, and from then on, they stay those of the last
-/// whole frame.
+/// More bytes that bring no frame leave all screens, and the windows of each service. So where a word is refused, and from then on,
+/// they stay those of the last whole frame.
 pub fn refusal_stays()
-    ensures { (before more : List ℕ) (old new : ReceiverOf) (chan : Chan) → HasReceived before old → HasReceived (before ++ more) new
-        → frame_count new ≡ frame_count old → displayed_grid new chan ≡ displayed_grid old chan }
+    ensures shown { (before more : List ℕ) (old new : ReceiverOf) (chan : Chan) → HasReceived before old
+        → HasReceived (before ++ more) new → frame_count new ≡ frame_count old → displayed_grid new chan ≡ displayed_grid old chan }
+    ensures windows { (before more : List ℕ) (old new : ReceiverOf) (service id : ℕ) → HasReceived before old
+        → HasReceived (before ++ more) new → frame_count new ≡ frame_count old → IsService service
+        → seen_windows new service id ≡ seen_windows old service id }
 {}
