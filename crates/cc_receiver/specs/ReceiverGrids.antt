@@ -1,5 +1,5 @@
 -- What is seen of the windows of a receiver, by the bytes that it was fed (CTA-708-E, caption windows).
-use Rattle.std.specs.Prelude.{◌≡◌, ℕ, List, Option}
+use Rattle.std.specs.Prelude.{◌≡◌, ℕ, List, [], ◌∷◌, ◌++◌, Option}
 use Rattle.cdp_packets.specs.Packets.{Packet as Frame}
 use Rattle.dtvcc_windows.specs.Showing.{ShownWindow}
 use Rattle.words_files.specs.FramesOf.{AreFramesOf}
@@ -15,3 +15,13 @@ pub record ShowsWindows (receiver : Receiver) (seen : ℕ → ℕ → Option Sho
   pub received : HasReceived bytes receiver
   pub frames_are : AreFramesOf caption_channel frames bytes
   pub seen_are : seen ≡ received_windows frames
+
+-- the last frame of these bytes turned what was seen of the windows into this
+pub record TurnedWindows (receiver : Receiver) (was seen : ℕ → ℕ → Option ShownWindow) : Type 0 where
+  pub bytes : List ℕ
+  pub earlier : List Frame
+  pub last : Frame
+  pub received : HasReceived bytes receiver
+  pub frames_are : AreFramesOf caption_channel (earlier ++ last ∷ []) bytes
+  pub was_are : was ≡ received_windows earlier
+  pub seen_are : seen ≡ received_windows (earlier ++ last ∷ [])

@@ -1,4 +1,4 @@
-ghost use Rattle.std.specs.Prelude.{◌≡◌, ℕ, false, None, Option, IfSome, IsTrue, MatchOption};
+ghost use Rattle.std.specs.Prelude.{◌≡◌, ◌<◌, ℕ, false, None, Option, IfSome, IsTrue, MatchOption};
 ghost use Rattle.dtvcc_services.specs.Numbers.{IsService};
 ghost use Rattle.dtvcc_windows.specs.Objects.{is_live, window_of};
 ghost use Rattle.dtvcc_windows.specs.Showing.{ShownWindow, shown};
@@ -37,6 +37,22 @@ pub trait Grids {
         ensures { (seen : ℕ → ℕ → Option ShownWindow) → shows self.now seen → result ≡ false → (id : ℕ) → seen service id ≡ None };
 }
 
+/// What shows grids frame by frame, and tells whether the last frame touched what is seen of the services (CTA-708-E).
+pub trait Touched {
+    /// There was a frame.
+    ghost has_frame: { Self → Type 0 };
+
+    /// What was seen of the windows before the last frame, and what is seen of them behind it, by the service and the window's id.
+    ghost turned: { Self → (ℕ → ℕ → Option ShownWindow) → (ℕ → ℕ → Option ShownWindow) → Type 0 };
+
+    /// Whether something that is seen of a service may have changed in the last frame: where it says no, all windows of all services
+    /// are seen as they were before it (CTA-708-E).
+    fn is_touched(&self) -> bool
+        requires { has_frame self.now }
+        ensures { (was seen : ℕ → ℕ → Option ShownWindow) → turned self.now was seen → result ≡ false → (service id : ℕ)
+            → IsService service → seen service id ≡ was service id };
+}
+
 impl Grids for Receiver {
     ghost use Rattle.cc_receiver.specs.Receivers.{displayed_grid};
     ghost use Rattle.cc_receiver.specs.ReceiverGrids.{ShowsWindows};
@@ -55,5 +71,18 @@ impl Grids for Receiver {
 
     fn is_used(&self, service: u8) -> bool {
         Receiver::is_used(self, service)
+    }
+}
+
+impl Touched for Receiver {
+    ghost use Rattle.cc_receiver.specs.Receivers.{frame_count};
+    ghost use Rattle.cc_receiver.specs.ReceiverGrids.{TurnedWindows};
+
+    ghost has_frame = { λ receiver. 0 < frame_count receiver };
+
+    ghost turned = { TurnedWindows };
+
+    fn is_touched(&self) -> bool {
+        Receiver::is_touched(self)
     }
 }

@@ -13,7 +13,7 @@ mod services;
 mod triplets;
 
 pub use findings::{Finding, Kind45, Which};
-pub use grids::Grids;
+pub use grids::{Grids, Touched};
 pub use receiver::{Ended, Fed, Receiver};
 pub use services::Served;
 
