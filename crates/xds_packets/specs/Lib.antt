@@ -1,0 +1,10 @@
+pub mod Segments
+pub mod Reading
+pub mod EndsOfPackets
+pub mod OneByOne
+pub mod Reader
+pub mod PacketCodes
+pub mod Sending
+pub mod Places
+pub mod Carried
+pub mod Examples
