@@ -1,16 +1,14 @@
+pub use Rattle.record_files.proofs.Passing
 pub mod CodedFacts
 pub mod Complete
 pub mod Faults
-pub mod FieldFacts
 pub mod Goodness
 pub mod Judged
 pub mod LastRun
 pub mod ListLimits
 pub mod NumberFacts
-pub mod Passing
 pub mod PlainTexts
 pub mod RecordFacts
-pub mod Rows
 pub mod ShareRoom
 pub mod Spelled
 pub mod Steps

@@ -24,7 +24,7 @@ use Rattle.cue_form.specs.Fields.{channel_field, fill_field, frame_field, is_two
 use Rattle.cue_form.specs.Form.{cue_columns, first_row, frame_or_none_field, is_coded, last_row, run_pen_field, suits_row, version_words}
 use Rattle.cue_form.specs.Judgements.{attribute_judgements, colour_judgements, head_judgements, rolled_judgements, run_judgements, share_judgements, shown_judgements, window_judgements}
 use Rattle.cue_form.specs.Reading.{attributes_of, colours_of, cue_of, head_of, number, record_fill, rgb, rolled_cue_of, run_of, share_record_of, shown_cue_of, window_cue_of}
-use Rattle.cue_form.specs.Records.{Field, Record, field}
+use Rattle.record_files.specs.Records.{Field, Record, field}
 use Rattle.cue_form.specs.Spelling.{attribute_record, channel_word, colour_record, cue_record, fill_word, head_record, hide_word, pen_word, rgb_word, run_record, share_record, wrap_number}
 use Rattle.cue_types.specs.declared.cue.Cue.{Cue}
 use Rattle.cue_types.specs.declared.cue.Kind.{Kind}
@@ -38,44 +38,12 @@ use Rattle.cue_types.specs.declared.list.Share.{Share}
 use Rattle.cue_form.specs.declared.record_kind.RecordKind.{RecordKind}
 use Rattle.cue_form.specs.declared.record_kind.RecordKind.TheVariants as record_kind
 use Rattle.cue_form.proofs.Goodness.{good_of}
-use Rattle.cue_form.proofs.NumberFacts.{frame_passed, number_passed, within_passed}
-use Rattle.cue_form.proofs.Passing.{both_of, not_of, on_test, with_value}
+use Rattle.cue_form.proofs.NumberFacts.{frame_passed}
+use Rattle.record_files.proofs.FieldFacts.{field_is, fields_listed, listed}
+use Rattle.record_files.proofs.NumberFacts.{number_good, number_passed, within_passed}
+use Rattle.record_files.proofs.Passing.{both_of, not_of, on_test, with_value}
 use Rattle.cue_form.proofs.TextFacts.{TextPassed, text_passed}
 use Rattle.cue_form.proofs.WordFacts.{channel_passed, kind_word, pen_passed, rate_passed, version_passed, window_pen_passed}
-
--- the fields from a place on, so many
-abbrev pub listed : ℕ → ℕ → Record → Record
-listed zero from r = []
-listed (suc n) from r = field r from ∷ listed n (suc from) r
-
-drop_field : (r : Record) (from : ℕ) → from < length r → drop from r ≡ field r from ∷ drop (suc from) r
-drop_field [] from within = absurd (omega arith)
-drop_field (f ∷ fs) zero within = refl
-drop_field (f ∷ fs) (suc from) within = drop_field fs from (omega arith)
-
-drop_none : (r : Record) (from : ℕ) → length r ≡ from → drop from r ≡ []
-drop_none [] zero e = refl
-drop_none [] (suc from) e = absurd (omega arith)
-drop_none (f ∷ fs) zero e = absurd (omega arith)
-drop_none (f ∷ fs) (suc from) e = drop_none fs from (omega arith)
-
-fields_from : (n from : ℕ) (r : Record) → length r ≡ from + n → drop from r ≡ listed n from r
-fields_from zero from r e = drop_none r from (omega arith)
-fields_from (suc n) from r e = drop_field r from (omega arith) ∙ ap (λ fs. field r from ∷ fs) (fields_from n (suc from) r (omega arith))
-
--- a record by its fields
-pub fields_listed : (n : ℕ) (r : Record) → (length r == n) ≡ true → r ≡ listed n 0 r
-fields_listed n r e = let all : length r ≡ n = eqb-true (length r) n e in fields_from n 0 r (omega arith)
-
--- records are equal by their fields
-pub field_is : {a b : Field} {xs ys : Record} → a ≡ b → xs ≡ ys → a ∷ xs ≡ b ∷ ys
-field_is {a} {b} {xs} {ys} e f = ap (λ (x : Field). x ∷ xs) e ∙ ap (λ (rest : Record). b ∷ rest) f
-
--- a number in its range
-pub number_good : (low high : ℕ) (text : Field) → is_some (number_within low high text) ≡ true
-    → (text ≡ decimal (unwrap_or (number_within low high text) 0)) × (low ≤ unwrap_or (number_within low high text) 0) × (unwrap_or (number_within low high text) 0 ≤ high)
-number_good low high text good =
-    with_value _ (number_within low high text) (λ none. let q = rw none at good in cc) (λ n is. rw is (within_passed low high text n is))
 
 -- the number of a frame
 pub frame_good : (text : Field) → is_some (frame_field text) ≡ true → (text ≡ decimal (unwrap_or (frame_field text) 0)) × (unwrap_or (frame_field text) 0 < 2 ^ 32)

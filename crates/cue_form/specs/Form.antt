@@ -6,7 +6,7 @@ use Rattle.dtvcc_codes.specs.CharacterSpellings.{spelling_of as dtv_spelling_of}
 use Rattle.cue_form.specs.Begun.{Begun, awaits_run, no_runs}
 use Rattle.cue_form.specs.Fields.{frame_field, named, pen_field, plain_words}
 use Rattle.cue_types.specs.Line21Cues.{base_row}
-use Rattle.cue_form.specs.Records.{Field}
+use Rattle.record_files.specs.Records.{Field}
 use Rattle.cue_types.specs.declared.cue.Cue.{Cue}
 use Rattle.cue_types.specs.declared.cue.Kind.{Kind}
 use Rattle.cue_types.specs.declared.cue.Kind.TheVariants as kind
@@ -89,10 +89,6 @@ may_stand b record_kind.Attr = is_second b.head && awaits_attributes b.last
 may_stand b record_kind.Run = is_some b.last
 may_stand b record_kind.Colour = is_second b.head && awaits_colours b.last
 may_stand b _ = is_some b.head && not (awaits_run b.last)
-
--- the field at which a record of another number of fields than `count` offends: one past the last that it has, or that belongs
-abbrev pub count_place : ℕ → ℕ → ℕ
-count_place count given = if nat_lt given count then given + 1 else count + 1
 
 -- the frame of a HIDE that may be empty
 abbrev pub frame_or_none_field : Field → Option (Option ℕ)

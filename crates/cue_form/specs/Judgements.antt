@@ -10,8 +10,9 @@ use Rattle.cc_base.specs.declared.why.Why.TheVariants as why
 use Rattle.cc_base.specs.Options.{passes}
 use Rattle.cue_form.specs.Begun.{Begun, cues_of}
 use Rattle.cue_form.specs.Fields.{channel_field, fill_field, frame_field, named, number_field, number_within, rate_field, rgb_field}
-use Rattle.cue_form.specs.Form.{count_place, cue_columns, first_row, frame_or_none_field, is_coded, last_row, may_stand, record_kind_of, run_pen_field, suits_row, version_words}
-use Rattle.cue_form.specs.Records.{Record, field}
+use Rattle.cue_form.specs.Form.{cue_columns, first_row, frame_or_none_field, is_coded, last_row, may_stand, record_kind_of, run_pen_field, suits_row, version_words}
+pub use Rattle.record_files.specs.Judgements.{Judgement, count_judgement, first_offence, judge, within}
+use Rattle.record_files.specs.Records.{Record, field}
 use Rattle.cue_types.specs.Listing.{most_cues, most_frames}
 use Rattle.cue_types.specs.Shares.{share_room, shares_taken}
 use Rattle.cue_types.specs.declared.cue.Cue.{Cue}
@@ -19,31 +20,14 @@ use Rattle.cue_types.specs.declared.cue.Kind.{Kind}
 use Rattle.cue_types.specs.declared.cue.Run.{Run}
 use Rattle.cue_types.specs.declared.head.Head.{Head}
 use Rattle.cue_types.specs.declared.list.Share.{Share}
-use Rattle.cue_form.specs.declared.offence.Offence.{Offence}
-use Rattle.cue_form.specs.declared.offence.Offence.TheVariants as offence
+use Rattle.record_files.specs.declared.offence.Offence.{Offence}
+use Rattle.record_files.specs.declared.offence.Offence.TheVariants as offence
 use Rattle.cue_form.specs.declared.record_kind.RecordKind.{RecordKind}
 use Rattle.cue_form.specs.declared.record_kind.RecordKind.TheVariants as record_kind
-
--- whether something is good, and what offends where it isn't
-pub record Judgement : Type 0 where
-  pub good : Bool
-  pub offence : Offence
-
--- of a field, counted from 1
-abbrev pub judge : Bool → ℕ → Why → Judgement
-judge good place why = record { good = good; offence = offence.At place why }
 
 -- of a limit
 abbrev pub bound : Bool → LimitOf → Judgement
 bound good which = record { good = good; offence = offence.Limit which }
-
--- of the number of fields: too few offend one past the last, too many one past the last that belongs
-abbrev pub count_judgement : Record → ℕ → Judgement
-count_judgement r count = judge (length r == count) (count_place count (length r)) why.Field
-
--- a number in its range, at a place counted from 0
-abbrev pub within : Record → ℕ → ℕ → ℕ → Judgement
-within r place low high = judge (is_some (number_within low high (field r place))) (place + 1) why.Field
 
 -- the number of a frame
 abbrev pub in_time : Record → ℕ → Judgement
@@ -186,8 +170,3 @@ judgements_by_kind b (Some kind) r = standing_judgement b kind ∷ field_judgeme
 
 abbrev pub judgements : Begun → Record → List Judgement
 judgements b r = judgements_by_kind b (record_kind_of (field r 0)) r
-
--- the first that isn't good
-abbrev pub first_offence : List Judgement → Option Offence
-first_offence [] = None
-first_offence (j ∷ js) = if j.good then first_offence js else Some j.offence

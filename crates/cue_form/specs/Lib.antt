@@ -5,6 +5,7 @@ pub use Rattle.cue_types.specs.Line21Cues
 pub use Rattle.cue_types.specs.Listing
 pub use Rattle.cue_types.specs.Shares
 pub use Rattle.cue_types.specs.Windows
+pub use Rattle.record_files.specs.Records
 pub mod Answers
 pub mod Begun
 pub mod Fields
@@ -12,6 +13,5 @@ pub mod FirstFault
 pub mod Form
 pub mod Judgements
 pub mod Reading
-pub mod Records
 pub mod Spelling
 pub mod Texts

@@ -13,7 +13,8 @@ use Rattle.cue_form.specs.Begun.{Begun, nothing, cues_of, with_cue, cue_with_run
 use Rattle.cue_form.specs.Fields.{channel_field, fill_field, frame_field, named, number_field, number_within, rate_field, rgb_field}
 use Rattle.cue_form.specs.Form.{cue_columns, first_row, frame_or_none_field, last_row, record_kind_of, run_pen_field, version_words}
 use Rattle.cue_form.specs.Judgements.{Judgement, attribute_judgements, colour_judgements, first_offence, head_judgements, rolled_judgements, room_at, room_judgement, run_judgements, share_judgements, shown_judgements, standing_judgement, window_judgements}
-use Rattle.cue_form.specs.Records.{Record, field, records_of}
+pub use Rattle.record_files.specs.Judgements.{judged_value, number, on_ok, unless}
+use Rattle.record_files.specs.Records.{Record, field, records_of}
 use Rattle.cue_types.specs.Listing.{Listing}
 use Rattle.cue_types.specs.declared.cue.Cue.{Cue}
 use Rattle.cue_types.specs.declared.cue.Kind.{Kind}
@@ -25,28 +26,10 @@ use Rattle.cue_types.specs.declared.head.Version.TheVariants as version
 use Rattle.cue_types.specs.declared.list.Share.{Share}
 use Rattle.cue_form.specs.declared.fault.CueFault.{CueFault}
 use Rattle.cue_form.specs.declared.fault.CueFault.TheVariants as fault
-use Rattle.cue_form.specs.declared.offence.Offence.{Offence}
-use Rattle.cue_form.specs.declared.offence.Offence.TheVariants as offence
+use Rattle.record_files.specs.declared.offence.Offence.{Offence}
+use Rattle.record_files.specs.declared.offence.Offence.TheVariants as offence
 use Rattle.cue_form.specs.declared.record_kind.RecordKind.{RecordKind}
 use Rattle.cue_form.specs.declared.record_kind.RecordKind.TheVariants as record_kind
-
--- what goes on from a value, unless there was a fault
-abbrev pub on_ok : {A B E : Type 0} → Result A E → (A → Result B E) → Result B E
-on_ok (Ok value) rest = rest value
-on_ok (Err error) rest = Err error
-
--- the value of what has no offence
-abbrev pub unless : {A : Type 0} → Option Offence → A → Result A Offence
-unless None value = Ok value
-unless (Some offence) value = Err offence
-
--- the value of a record, unless one of its judgements isn't good
-abbrev pub judged_value : {A : Type 0} → List Judgement → A → Result A Offence
-judged_value js value = unless (first_offence js) value
-
--- a number in its range
-abbrev pub number : Record → ℕ → ℕ → ℕ → ℕ
-number r place low high = unwrap_or (number_within low high (field r place)) 0
 
 -- the number of a frame
 abbrev pub frame : Record → ℕ → ℕ

@@ -9,16 +9,15 @@ ghost use Rattle.cue_form.specs.Judgements.{room_at};
 ghost use Rattle.cue_types.specs.Shares.{shares_taken};
 ghost use Rattle.cue_form.specs.Reading.{next, list_ended, adds, opens, runs_on, share_record_of};
 
-use crate::fault::CueFault;
-use crate::fields::{field, read_within};
-use crate::offence::{Offence, out_of_form};
+use crate::fault::{CueFault, in_record};
 use crate::record_kind::RecordKind;
-use crate::records::{count_place, read_attributes, read_colours, read_cue, read_head, read_run};
+use crate::records::{read_attributes, read_colours, read_cue, read_head, read_run};
 use cc_base::LimitOf;
 use csv::ByteRecord;
 use cue_types::lane::is_win;
 use cue_types::list::share_room;
 use cue_types::{Cue, CueList, Head, Kind, MOST_CUES, Run, Share, Version};
+use record_files::{Offence, count_place, field, out_of_form, read_within};
 use std::alloc::{AllocError, Global};
 use std::marker::Model;
 
@@ -72,10 +71,10 @@ impl Draft {
         ensures { Answers (list_ended self self.head rec) result }
     {
         let Some(head) = self.head else {
-            return Err(out_of_form(1).in_record(rec));
+            return Err(in_record(out_of_form(1), rec));
         };
         if self.awaits_run() {
-            return Err(out_of_form(1).in_record(rec));
+            return Err(in_record(out_of_form(1), rec));
         }
         let Draft {
             head: _,

@@ -1,62 +1,12 @@
-ghost use Rattle.std.specs.Prelude.{◌≡◌, ◌≤◌, IfSome, bytes_eq};
-ghost use Rattle.csv.specs.Records.{fields_of};
-ghost use Rattle.cue_form.specs.Fields.{has_number_length, number_field, number_within, frame_field, rate_field, channel_field, plain_pen_field, pen_field, fill_field, is_two_bits, named, plain_words, rgb_field};
+ghost use Rattle.std.specs.Prelude.{◌≡◌};
+ghost use Rattle.cue_form.specs.Fields.{frame_field, rate_field, channel_field, plain_pen_field, pen_field, fill_field, is_two_bits, named, plain_words, rgb_field};
 ghost use Rattle.cue_form.specs.Form.{version_words};
-ghost use Rattle.cue_form.specs.Records.{field};
 
 use cc_base::Rate;
-use csv::ByteRecord;
 use cue_types::{Pen, Version};
 use dtvcc_codes::{Fill, Rgb};
 use line21_codes::{Chan, Colour, Style};
-
-/// Whether a field is this word.
-pub fn is_word(text: &[u8], word: &str) -> bool
-    ensures { result ≡ bytes_eq text.now word.now }
-{
-    text == word.as_bytes()
-}
-
-/// The field at a place, counted from 0; none is empty.
-pub fn field(row: &ByteRecord, place: usize) -> &[u8]
-    ensures { result.now ≡ field (fields_of row.now) place }
-{
-    row.get(place).unwrap_or(b"")
-}
-
-/// The number that a field has: 1 to 10 decimal digits, without a sign and without a leading zero, except 0 itself.
-pub fn read_number(text: &[u8]) -> Option<u64>
-    ensures { result ≡ number_field text.now }
-{
-    if !has_number_length(text) {
-        return None;
-    }
-    let mut value = 0u64;
-    for byte in text {
-        if !byte.is_ascii_digit() {
-            return None;
-        }
-        value = value * 10 + u64::from(*byte - b'0');
-    }
-    Some(value)
-}
-
-fn has_number_length(text: &[u8]) -> bool
-    ensures { result ≡ has_number_length text.now }
-{
-    !text.is_empty() && text.len() <= 10 && (text.len() == 1 || text[0] != b'0')
-}
-
-/// A number from low to high.
-pub fn read_within(low: u64, high: u64, text: &[u8]) -> Option<u64>
-    ensures value { result ≡ number_within low high text.now }
-    ensures within { IfSome result (λ n. (low ≤ n) × (n ≤ high)) }
-{
-    match read_number(text) {
-        Some(number) if low <= number && number <= high => Some(number),
-        _ => None,
-    }
-}
+use record_files::{is_word, read_within};
 
 /// The number of a frame, 0 to 4,294,967,295.
 pub fn read_frame(text: &[u8]) -> Option<u32>

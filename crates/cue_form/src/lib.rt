@@ -2,14 +2,13 @@
 #![tactic(auto)]
 
 pub use crate::fault::CueFault;
-pub use crate::fields::read_within;
 pub use crate::reading::parse;
+pub use record_files::read_within;
 
 mod draft;
 pub mod fault;
 mod fields;
 pub mod laws;
-mod offence;
 mod reading;
 mod record_kind;
 mod records;

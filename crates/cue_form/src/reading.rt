@@ -3,11 +3,11 @@ ghost use Rattle.cue_form.specs.Answers.{Answers};
 ghost use Rattle.cue_form.specs.FirstFault.{FaultsFirst};
 ghost use Rattle.cue_form.specs.Reading.{read_list};
 ghost use Rattle.cc_base.specs.Streams.{whole_limit};
-ghost use Rattle.cue_form.specs.Records.{records_of};
+ghost use Rattle.record_files.specs.Records.{records_of};
 ghost use Rattle.cue_form.specs.Spelling.{SpellsList};
 
 use crate::draft::Draft;
-use crate::fault::CueFault;
+use crate::fault::{CueFault, in_record};
 use csv::{ByteRecord, ReaderBuilder};
 use cue_types::CueList;
 use std::alloc::{AllocError, Global};
@@ -43,7 +43,7 @@ pub fn parse(alloc: Global, bytes: &[u8]) -> Result<CueList, CueFault>
             Err(_) => return Err(CueFault::Memory(AllocError)),
         }
         if let Err(offence) = draft.take(alloc, &row) {
-            return Err(offence.in_record(record_number));
+            return Err(in_record(offence, record_number));
         }
         record_number += 1;
     }

@@ -1,21 +1,21 @@
 ghost use Rattle.std.specs.Prelude.{◌≡◌, ◌<◌, ◌≤◌, ◌^◌, length};
 ghost use Rattle.csv.specs.Records.{fields_of};
 ghost use Rattle.cue_form.specs.Answers.{Gives};
-ghost use Rattle.cue_form.specs.Form.{count_place, first_row, frame_or_none_field, last_row, run_pen_field, suits_row};
+ghost use Rattle.cue_form.specs.Form.{first_row, frame_or_none_field, last_row, run_pen_field, suits_row};
 ghost use Rattle.cue_types.specs.declared.cue.Kind.TheVariants as kind;
 ghost use Rattle.cue_form.specs.Reading.{attributes_of, colours_of, cue_of, head_of, rolled_cue_of, run_of, shown_cue_of, window_cue_of};
 
 use crate::fields::{
-    field, read_channel, read_fill, read_frame, read_number, read_pen, read_rate, read_rgb,
-    read_version, read_window_pen, read_within,
+    read_channel, read_fill, read_frame, read_pen, read_rate, read_rgb, read_version,
+    read_window_pen,
 };
-use crate::offence::{Offence, out_of_form};
 use crate::record_kind::RecordKind;
 use crate::texts::{columns_of, read_text};
 use cc_base::LimitOf;
 use csv::ByteRecord;
 use cue_types::{Cue, Head, Kind, MOST_FRAMES, Pen, Run, Runs, WinCue};
 use dtvcc_codes::{PenColors, WinAttr};
+use record_files::{Offence, count_place, field, out_of_form, read_number, read_within};
 use std::alloc::Global;
 
 // The value of a field, which is refused where it has none.
@@ -49,18 +49,6 @@ pub fn read_head(row: &ByteRecord) -> Result<Head, Offence>
         rate,
         frames: frames as u32,
     })
-}
-
-/// The field at which a record of another number of fields than `count` offends.
-pub fn count_place(count: u32, given: usize) -> u32
-    requires { count < 100 }
-    ensures { result ≡ count_place count given }
-{
-    if given < count as usize {
-        given as u32 + 1
-    } else {
-        count + 1
-    }
 }
 
 /// The cue of a record of its kind, which has no run yet.

@@ -1,8 +1,8 @@
 use Rattle.std.proofs.Common.{◌≡◌, ◌<◌, ◌^◌, drop}
 use Rattle.std.specs.List.{list_all}
 use Rattle.std.specs.Char.{is_ascii_digit}
-use Rattle.cue_form.specs.Fields.{value_after}
-use Rattle.cue_form.proofs.fields.read_number.Given as goal
+use Rattle.record_files.specs.Numbers.{value_after}
+use Rattle.record_files.proofs.fields.read_number.Given as goal
 
 -- the digits so far are taken, and what is left decides
 abbrev pub invariant-loop-byte : goal.invariant-loop-byte
