@@ -1,2 +1,3 @@
-pub mod Counting
+pub mod CountLemmas
+pub mod InEachCount
 pub mod TextLemmas

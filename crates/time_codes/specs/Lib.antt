@@ -1,3 +1,4 @@
 pub mod TimeCodes
 pub mod Frames
+pub mod Countings
 pub mod Texts

@@ -1,9 +1,12 @@
 ghost use Rattle.std.specs.Prelude.{◌≡◌};
 
-/// A time code: hours, minutes, seconds and frames of a day that is counted at 30 frames a second (SMPTE ST 12-1).
+use crate::counting::Counting;
+
+/// A time code: hours, minutes, seconds and frames of a day (SMPTE ST 12-1), which is counted at 30 frames a second or as a
+/// `Counting` says.
 ///
-/// It has any eight-bit values. A time code of the day has hours below 24, minutes and seconds below 60, frames below 30, and isn't
-/// one that drop frame leaves out.
+/// It has any eight-bit values. A time code of the day at 30 frames a second has hours below 24, minutes and seconds below 60, frames
+/// below 30, and isn't one that drop frame leaves out.
 #[derive(Clone, Copy, Debug, PartialEq, Eq)]
 pub struct TimeCode {
     /// Hours.
@@ -22,18 +25,18 @@ pub struct TimeCode {
 impl TimeCode {
     ghost use Rattle.time_codes.specs.TimeCodes.{is_left_out, is_time_code};
 
-    /// Whether drop frame leaves it out: the first two frames of each minute, except for minutes 00, 10, 20, 30, 40 and 50
-    /// (SMPTE ST 12-1, drop frame compensation).
+    /// Whether drop frame leaves it out at 30 frames a second: the first two frames of each minute, except for minutes 00, 10, 20,
+    /// 30, 40 and 50 (SMPTE ST 12-1, drop frame compensation).
     pub fn is_left_out(self) -> bool
         ensures { result ≡ is_left_out self }
     {
-        self.drop_frame && self.s == 0 && self.f < 2 && self.m % 10 != 0
+        Counting::at_30(self.drop_frame).leaves_out(self)
     }
 
-    /// Whether a frame of the day has it.
+    /// Whether a frame of the day at 30 frames a second has it.
     pub fn is_of_day(self) -> bool
         ensures { result ≡ is_time_code self }
     {
-        self.h < 24 && self.m < 60 && self.s < 60 && self.f < 30 && !self.is_left_out()
+        Counting::at_30(self.drop_frame).has(self)
     }
 }

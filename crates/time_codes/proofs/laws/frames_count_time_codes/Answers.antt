@@ -1,4 +1,4 @@
-use Rattle.time_codes.proofs.Counting.{counted, counts}
+use Rattle.time_codes.proofs.CountLemmas.{counted, counts}
 use Rattle.time_codes.proofs.laws.frames_count_time_codes.Goals as goal
 
 pub returns-clause-counts : goal.returns-clause-counts
