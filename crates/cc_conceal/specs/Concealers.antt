@@ -128,3 +128,13 @@ pub record ShowsConcealed (concealer : Concealer) (seen : ℕ → ℕ → Option
   pub frames : List Frame
   pub conceals : Conceals frames concealer
   pub seen_are : seen ≡ concealed_windows frames
+
+-- the last of the frames that it conceals turned what was seen of the windows into this
+pub record TurnedConcealed (concealer : Concealer) (was seen : ℕ → ℕ → Option ShownWindow) : Type 0 where
+  pub bytes : List ℕ
+  pub earlier : List Frame
+  pub last : Frame
+  pub had : HasConcealed bytes concealer
+  pub frames_are : AreFramesOf caption_channel (earlier ++ last ∷ []) bytes
+  pub was_are : was ≡ concealed_windows earlier
+  pub seen_are : seen ≡ concealed_windows (earlier ++ last ∷ [])

@@ -1,5 +1,7 @@
+ghost use Rattle.std.specs.Prelude.{◌<◌};
+
 use crate::concealer::Concealer;
-use cc_receiver::Grids;
+use cc_receiver::{Grids, Touched};
 use dtvcc_windows::Window;
 use line21_codes::Chan;
 use line21_screen::Memory;
@@ -21,5 +23,17 @@ impl Grids for Concealer {
 
     fn is_used(&self, service: u8) -> bool {
         Concealer::is_used(self, service)
+    }
+}
+
+impl Touched for Concealer {
+    ghost use Rattle.cc_conceal.specs.Concealers.{TurnedConcealed, concealed_frames};
+
+    ghost has_frame = { λ concealer. 0 < concealed_frames concealer };
+
+    ghost turned = { TurnedConcealed };
+
+    fn is_touched(&self) -> bool {
+        Concealer::is_touched(self)
     }
 }
