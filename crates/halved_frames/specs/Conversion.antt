@@ -1,0 +1,94 @@
+-- What frames at 29.97 frames a second become at 59.94 (SMPTE ST 334-2; CTA-708-E, cc_data()): each becomes two, its halves, which carry
+-- what it carried. Other sections than cc_data, and other ancillary packets than those of captions, are left out.
+use Rattle.std.specs.Prelude.{◌≡◌, ℕ, suc, ◌+◌, ◌-◌, ◌*◌, ◌%◌, ◌≤◌, ◌==◌, ◌&&◌, Bool, List, [], ◌∷◌, ◌++◌, drop, filter, length, replicate, take}
+use Rattle.anc_words.specs.Writing.{packet_bytes}
+use Rattle.cc_base.specs.declared.rate.Rate.TheVariants.{F2997, F5994}
+use Rattle.cc_data.specs.Triplets.{filler}
+use Rattle.cc_data.specs.declared.triplet.Triplet.{Triplet}
+use Rattle.cdp_packets.specs.PacketTriplets.{packet_triplets}
+use Rattle.cdp_packets.specs.Packets.{Packet as Frame}
+use Rattle.cdp_packets.specs.Written.{cc_data_section, written_packet}
+use Rattle.channel_packets.specs.ChannelPackets.{channel_triplets}
+use Rattle.line21_codes.specs.declared.channels.FieldNumber.{FieldNumber}
+use Rattle.line21_codes.specs.declared.channels.FieldNumber.TheVariants.{One, Two}
+use Rattle.words_files.specs.Received.{field_kind}
+
+-- a triplet counts and is of a field of line 21
+abbrev pub is_of : FieldNumber → Triplet → Bool
+is_of in_field triplet = triplet.valid && (triplet.kind == field_kind in_field)
+
+abbrev pub of_field : FieldNumber → List Triplet → List Triplet
+of_field in_field triplets = filter (is_of in_field) triplets
+
+-- a frame can be converted: it is at 29.97 and has the twenty triplets of this rate; of those that count each field has one at most, and at
+-- most eighteen are of channel packets
+pub record IsConvertible (frame : Frame) : Type 0 where
+  pub rate : frame.rate ≡ F2997
+  pub count : length (packet_triplets frame) ≡ 20
+  pub few : (in_field : FieldNumber) → length (of_field in_field (packet_triplets frame)) ≤ 1
+  pub most : length (channel_triplets (packet_triplets frame)) ≤ 18
+
+-- the first of triplets, or FA 00 00 where there is none
+abbrev pub first_or_filler : List Triplet → Triplet
+first_or_filler [] = filler
+first_or_filler (triplet ∷ triplets) = triplet
+
+-- ten triplets: one of a field, some of channel packets, and FA 00 00 up to ten
+abbrev pub ten_triplets : List Triplet → List Triplet → List Triplet
+ten_triplets field channel = first_or_filler field ∷ (channel ++ replicate (9 - length channel) filler)
+
+-- the first half has the triplet of field 1, and of those of channel packets the first nine; the second half has that of field 2, and the
+-- others
+abbrev pub first_half : List Triplet → List Triplet
+first_half triplets = ten_triplets (of_field One triplets) (take 9 (channel_triplets triplets))
+
+abbrev pub second_half : List Triplet → List Triplet
+second_half triplets = ten_triplets (of_field Two triplets) (drop 9 (channel_triplets triplets))
+
+-- the flags of a packet with cc_data and nothing else, of an active service: 0100 0011
+abbrev pub half_flags : ℕ
+half_flags = 0x43
+
+-- the packet of a half, by its frame number: the rate 59.94, one section of cc_data, and the number as the counter
+abbrev pub half_packet : ℕ → List Triplet → Frame
+half_packet number triplets = record {
+  rate = F5994;
+  flags = half_flags;
+  counter = number % 65536;
+  sections = cc_data_section triplets ∷ [];
+}
+
+-- the halves of the frame of a number
+abbrev pub first_of : ℕ → Frame → Frame
+first_of number frame = half_packet (2 * number) (first_half (packet_triplets frame))
+
+abbrev pub second_of : ℕ → Frame → Frame
+second_of number frame = half_packet (2 * number + 1) (second_half (packet_triplets frame))
+
+-- those of frames, of which the first has this number
+abbrev pub conversion_from : ℕ → List Frame → List Frame
+conversion_from number [] = []
+conversion_from number (frame ∷ frames) = first_of number frame ∷ second_of number frame ∷ conversion_from (suc number) frames
+
+-- and of the frames of a file
+abbrev pub conversion : List Frame → List Frame
+conversion frames = conversion_from 0 frames
+
+-- the bytes of the ancillary packet of a half with this counter (SMPTE ST 334-1); the marker bits of triplets are ones
+abbrev pub written_half : ℕ → List Triplet → List ℕ
+written_half counter triplets = packet_bytes 0x61 0x01 (written_packet F5994 half_flags counter (cc_data_section triplets))
+
+abbrev pub half_bytes : ℕ → List Triplet → List ℕ
+half_bytes number triplets = written_half (number % 65536) triplets
+
+-- of both halves of the frame of a number
+abbrev pub converted_bytes : ℕ → Frame → List ℕ
+converted_bytes number frame = half_bytes (2 * number) (first_half (packet_triplets frame)) ++ half_bytes (2 * number + 1) (second_half (packet_triplets frame))
+
+-- and of all frames
+abbrev pub conversion_bytes_from : ℕ → List Frame → List ℕ
+conversion_bytes_from number [] = []
+conversion_bytes_from number (frame ∷ frames) = converted_bytes number frame ++ conversion_bytes_from (suc number) frames
+
+abbrev pub conversion_bytes : List Frame → List ℕ
+conversion_bytes frames = conversion_bytes_from 0 frames
