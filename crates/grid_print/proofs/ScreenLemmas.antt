@@ -6,7 +6,7 @@ use Rattle.std.proofs.lemmas.Bool.Decides.{nat_tests}
 use Rattle.std.proofs.lemmas.List.{take-append-le, take_all}
 use Rattle.std.specs.List.{flat_map, list_any}
 use Rattle.cc_receiver.specs.ReceivedServices.{received_windows}
-use Rattle.cc_receiver.specs.ReceiverGrids.{ShowsWindows}
+use Rattle.cc_receiver.specs.ReceiverGrids.{ShowsWindows, TurnedWindows}
 use Rattle.cc_receiver.specs.Receivers.{displayed_grid}
 use Rattle.cc_receiver.specs.declared.receiver.Receiver.{Receiver}
 use Rattle.cc_receiver.proofs.ReceivedLemmas.{shown_received}
@@ -83,6 +83,12 @@ grids_behind frames receiver behind = fun_ext (λ chan. shown_received frames be
 -- and what is seen of its windows
 pub windows_behind : (frames : List Frame) (receiver : Receiver) → IsBehind frames receiver → ShowsWindows receiver (received_windows frames)
 windows_behind frames receiver behind = record { bytes = behind.bytes; frames = frames; received = behind.received; frames_are = behind.frames_are; seen_are = refl }
+
+-- and how its last frame turned this
+pub turned_behind : (earlier : List Frame) (last : Frame) (receiver : Receiver) → IsBehind (earlier ++ last ∷ []) receiver
+    → TurnedWindows receiver (received_windows earlier) (received_windows (earlier ++ last ∷ []))
+turned_behind earlier last receiver behind =
+    record { bytes = behind.bytes; earlier = earlier; last = last; received = behind.received; frames_are = behind.frames_are; was_are = refl; seen_are = refl }
 
 -- a service of which the same is seen doesn't differ
 pub same_service : (old new : ℕ → Option ShownWindow) → ((id : ℕ) → id < 8 → old id ≡ new id) → service_differs old new ≡ false

@@ -1,8 +1,9 @@
-ghost use Rattle.std.specs.Prelude.{◌≡◌, ℕ, List, Option, if◌then◌else◌, [], None, false, IfOk, vec_len, length};
+ghost use Rattle.std.specs.Prelude.{◌≡◌, ℕ, List, Option, if◌then◌else◌, [], ◌∷◌, None, false, IfOk, vec_len, length};
 ghost use Rattle.std.specs.List.{flat_map};
 ghost use Rattle.dtvcc_windows.specs.Showing.{ShownWindow};
 ghost use Rattle.cdp_packets.specs.Packets.{Packet as Frame};
 ghost use Rattle.cc_receiver.specs.ReceivedServices.{received_windows};
+ghost use Rattle.cc_receiver.specs.Receivers.{frame_count};
 ghost use Rattle.line21_screen.specs.Differences.{grid_differs};
 ghost use Rattle.line21_screen.specs.Objects.{grid_in};
 ghost use Rattle.text_output.specs.Pages.{Writes, WritesSome, page};
@@ -15,7 +16,7 @@ use crate::kept::Kept;
 use crate::service::{SERVICES, service_at, write_service};
 use crate::text::{write_frame, write_grid};
 use cc_base::{Put, Sink};
-use cc_receiver::{Grids, Receiver};
+use cc_receiver::{Grids, Receiver, Touched};
 use line21_codes::Chan;
 use line21_screen::Memory;
 use std::alloc::{AllocError, Global};
@@ -57,10 +58,31 @@ impl Shown {
         })
     }
 
-    /// Writes the text of what changed from the screens that were shown last to those of a frame, of whatever shows them, which is
-    /// empty where nothing changed; these screens are then the ones that were shown last. Where `touched` says no, what is seen of
-    /// the services is what was shown last, and isn't compared.
-    pub fn write_changes_of<G: Grids, O: Sink>(
+    /// Writes the text of what changed from the screens that were shown last, which are those before the last frame, to those of this
+    /// frame, of whatever shows them, which is empty where nothing changed; these screens are then the ones that were shown last. Where
+    /// the frame didn't touch the services, what is seen of them isn't compared.
+    pub fn write_changes_of<G: Grids + Touched, O: Sink>(
+        &mut self,
+        r: &G,
+        frame: u64,
+        text: &mut Gathered,
+        out: &mut O,
+    )
+        requires { G.has_frame r.now }
+        ensures some { WritesSome (page text.old (O.written out.old) (O.faults out.old)) (page text.new (O.written out.new) (O.faults out.new)) }
+        ensures text { (was seen : ℕ → ℕ → Option ShownWindow) → G.turned r.now was seen → G.shows r.now seen
+            → HaveSameWindows (last_shown self.old).windows was
+            → Writes (page text.old (O.written out.old) (O.faults out.old)) (page text.new (O.written out.new) (O.faults out.new)) (changes_text frame (last_shown self.old) (screens_of (G.grids r.now) seen)) }
+        ensures now { (was seen : ℕ → ℕ → Option ShownWindow) → G.turned r.now was seen → G.shows r.now seen
+            → HaveSameWindows (last_shown self.old).windows was
+            → LookAlike (last_shown self.new) (screens_of (G.grids r.now) seen) }
+    {
+        self.write_screens(r, frame, r.is_touched(), text, out)
+    }
+
+    // Writes the text of what changed from the screens that were shown last to those of a frame, and keeps them. Where `touched` says no,
+    // what is seen of the services is what was shown last, and isn't compared.
+    fn write_screens<G: Grids, O: Sink>(
         &mut self,
         r: &G,
         frame: u64,
@@ -184,7 +206,7 @@ impl Shown {
     {
         let mut text = Gathered::new();
         text.begin();
-        self.write_changes_of(r, frame, true, &mut text, out);
+        self.write_screens(r, frame, true, &mut text, out);
         text.finish(out)
     }
 
@@ -200,26 +222,26 @@ impl Shown {
         self.put_changes_of(r, u64::from(frame), out)
     }
 
-    /// Writes the text of what changed from the screens that were shown last to those of a receiver at a frame, which is empty where
-    /// nothing changed; these screens are then the ones that were shown last. Where `touched` says no, what is seen of the services
-    /// is what was shown last, and isn't compared.
+    /// Writes the text of what changed from the screens that were shown last, which are those before the last frame, to those of a
+    /// receiver at this frame, which is empty where nothing changed; these screens are then the ones that were shown last. Where the
+    /// frame didn't touch the services, what is seen of them isn't compared.
     pub fn write_changes<O: Sink>(
         &mut self,
         r: &Receiver,
         frame: u32,
-        touched: bool,
         text: &mut Gathered,
         out: &mut O,
     )
+        requires { 0 < frame_count r.now }
         ensures some { WritesSome (page text.old (O.written out.old) (O.faults out.old)) (page text.new (O.written out.new) (O.faults out.new)) }
-        ensures text { (frames : List Frame) → IsBehind frames r.now
-            → (touched ≡ false → HaveSameWindows (last_shown self.old).windows (received_windows frames))
-            → Writes (page text.old (O.written out.old) (O.faults out.old)) (page text.new (O.written out.new) (O.faults out.new)) (changes_text frame (last_shown self.old) (received_screens frames)) }
-        ensures now { (frames : List Frame) → IsBehind frames r.now
-            → (touched ≡ false → HaveSameWindows (last_shown self.old).windows (received_windows frames))
-            → LookAlike (last_shown self.new) (received_screens frames) }
+        ensures text { (earlier : List Frame) (last : Frame) → IsBehind (earlier ++ last ∷ []) r.now
+            → HaveSameWindows (last_shown self.old).windows (received_windows earlier)
+            → Writes (page text.old (O.written out.old) (O.faults out.old)) (page text.new (O.written out.new) (O.faults out.new)) (changes_text frame (last_shown self.old) (received_screens (earlier ++ last ∷ []))) }
+        ensures now { (earlier : List Frame) (last : Frame) → IsBehind (earlier ++ last ∷ []) r.now
+            → HaveSameWindows (last_shown self.old).windows (received_windows earlier)
+            → LookAlike (last_shown self.new) (received_screens (earlier ++ last ∷ [])) }
     {
-        self.write_changes_of(r, u64::from(frame), touched, text, out)
+        self.write_changes_of(r, u64::from(frame), text, out)
     }
 
     /// Whether the screens of a receiver differ from those that were shown last, so that there is something to write. They are then

@@ -16,7 +16,7 @@ use Rattle.command_base.specs.Ends.{Ends, IsSteady}
 use Rattle.dtvcc_services.specs.Numbers.{IsService}
 use Rattle.grid_print.proofs.ScreenLemmas.{changes_alike, no_changes}
 use Rattle.grid_print.specs.GridTexts.{changes_text}
-use Rattle.grid_print.specs.Screens.{HaveSameWindows, LookAlike, Screens, screens_of}
+use Rattle.grid_print.specs.Screens.{LookAlike, Screens, screens_of}
 use Rattle.grid_print.specs.Shown.{last_shown}
 use Rattle.grid_print.specs.declared.shown.Shown.{Shown}
 use Rattle.line21_codes.specs.Channels.{data_channel_of}
@@ -56,12 +56,6 @@ pub screens_now : (frames : List Frame) (concealer : Concealer) → Conceals fra
     → screens_of (displayed_now concealer) (concealed_windows frames) ≡ concealed_screens frames
 screens_now frames concealer conceals =
     ap (λ (grids : Chan → Grid). screens_of grids (concealed_windows frames)) (fun_ext (grid_now frames concealer conceals))
-
--- where a frame changed nothing of the services, what was shown of them before it still is
-pub same_windows : (frames : List Frame) (last : Frame) (shown : Screens) → LookAlike shown (concealed_screens frames)
-    → ((service id : ℕ) → IsService service → concealed_windows (frames ++ last ∷ []) service id ≡ concealed_windows frames service id)
-    → HaveSameWindows shown.windows (concealed_windows (frames ++ last ∷ []))
-same_windows frames last shown alike same service id is small = alike.windows service id is small ∙ sym (same service id is)
 
 -- a frame before which none is missing, and that leaves the screens as they were, has no text
 pub idle_kept : (start now : Option (List ℕ)) (held : List ℕ) (frames : List Frame) (last : Frame) (shown : Shown) (missing : ℕ)

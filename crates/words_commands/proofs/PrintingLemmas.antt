@@ -18,9 +18,8 @@ use Rattle.text_output.specs.Gathered.{GathersText, IsGathered, answer_of, held_
 use Rattle.text_output.specs.Pages.{Page, Writes}
 use Rattle.text_output.proofs.PageLemmas.{begun_written}
 use Rattle.cc_receiver.specs.ReceivedServices.{received_windows}
-use Rattle.dtvcc_services.specs.Numbers.{IsService}
 use Rattle.grid_print.specs.GridTexts.{all_text, changes_text}
-use Rattle.grid_print.specs.Screens.{HaveSameWindows, LookAlike, Screens, received_screens}
+use Rattle.grid_print.specs.Screens.{LookAlike, Screens, received_screens}
 use Rattle.grid_print.proofs.ScreenLemmas.{changes_alike, no_changes}
 use Rattle.words_commands.specs.Screens.{changes_of, next_changes, show_output, texts_behind}
 use Rattle.words_files.specs.Received.{received_grids}
@@ -111,12 +110,6 @@ alike_after a b c first next = record {
   grids = first.grids ∙ next.grids;
   windows = λ service id is small. first.windows service id is small ∙ next.windows service id is small;
 }
-
--- where a frame changed nothing of the services, what was shown of them before it still is
-pub same_behind : (last : Screens) (frames : List Frame) (next : Frame) → LookAlike last (received_screens frames)
-    → ((service id : ℕ) → IsService service → received_windows (frames ++ next ∷ []) service id ≡ received_windows frames service id)
-    → HaveSameWindows last.windows (received_windows (frames ++ next ∷ []))
-same_behind last frames next alike same service id is small = alike.windows service id is small ∙ sym (same service id is)
 
 -- a frame that leaves the screens as they were has no changes
 pub idle_gathered : (a b : Option (List ℕ)) (held : List ℕ) (frames : List Frame) (next : Frame)

@@ -44,7 +44,7 @@ impl Concealing {
         text.begin();
         write_lost(missing, frame, text, out);
         self.shown
-            .write_changes_of(&self.concealer, frame, touched, text, out);
+            .write_changes_of(&self.concealer, frame, text, out);
         match text.answer() {
             Put::Done => Ok(()),
             Put::Failed => Err(Stop::WriteFault),

@@ -4,7 +4,7 @@ use Rattle.cc_base.specs.Streams.{PutCause}
 use Rattle.cc_receiver.proofs.FedFrames.{frames_shown}
 use Rattle.grid_print.specs.Screens.{IsBehind, LookAlike, received_screens}
 use Rattle.text_output.proofs.PageLemmas.{some_cause}
-use Rattle.words_commands.proofs.PrintingLemmas.{alike_after, changes_gathered, idle_gathered, same_behind}
+use Rattle.words_commands.proofs.PrintingLemmas.{alike_after, changes_gathered, idle_gathered}
 use Rattle.words_commands.proofs.changes.ChangesPerFrame.frame.Goals as goal
 
 pub returns-then-is_idle-clause-makes : goal.returns-then-is_idle-clause-makes
@@ -20,14 +20,14 @@ pub returns-in-Done-clause-makes : goal.returns-in-Done-clause-makes
 returns-in-Done-clause-makes g c given start bytes frames next alike way received are number =
     let behind : IsBehind (frames ++ next ∷ []) c.args.receiver.now = record { bytes = bytes; received = received; frames_are = are } in
     let made = changes_gathered start _ _ c.answer.result frames next c.args.number _ (rw (sym c.begin.ensures.held) at way) c.begin.ensures.answer
-    (c.write_changes.ensures.text (frames ++ next ∷ []) behind (λ none. same_behind _ frames next alike (c.is_touched-touched.ensures bytes frames next received are none))) c.answer.ensures alike number in
-    (c.write_changes.ensures.now (frames ++ next ∷ []) behind (λ none. same_behind _ frames next alike (c.is_touched-touched.ensures bytes frames next received are none)), rw c.in-Done.is at made)
+    (c.write_changes.ensures.text frames next behind alike.windows) c.answer.ensures alike number in
+    (c.write_changes.ensures.now frames next behind alike.windows, rw c.in-Done.is at made)
 
 pub returns-in-Failed-clause-makes : goal.returns-in-Failed-clause-makes
 returns-in-Failed-clause-makes g c given start bytes frames next alike way received are number =
     let behind : IsBehind (frames ++ next ∷ []) c.args.receiver.now = record { bytes = bytes; received = received; frames_are = are } in
     let made = changes_gathered start _ _ c.answer.result frames next c.args.number _ (rw (sym c.begin.ensures.held) at way) c.begin.ensures.answer
-    (c.write_changes.ensures.text (frames ++ next ∷ []) behind (λ none. same_behind _ frames next alike (c.is_touched-touched.ensures bytes frames next received are none))) c.answer.ensures alike number in
+    (c.write_changes.ensures.text frames next behind alike.windows) c.answer.ensures alike number in
     (tt, rw c.in-Failed.is at made)
 
 pub returns-in-Done-clause-cause : goal.returns-in-Done-clause-cause
