@@ -1,0 +1,2 @@
+pub mod CueEventLemmas
+pub mod ClashLemmas

@@ -1,0 +1,2 @@
+pub mod CueEvents
+pub mod Clashes

@@ -1,0 +1,13 @@
+//! Laws of clashes: functions that do nothing, with the laws as their contracts.
+ghost use Rattle.field_clashes.specs.Clashes.{NoSlotIsSharedUnlessCuesClash};
+ghost use Rattle.field_clashes.specs.CueEvents.{EventsAreThoseOfTheChannel};
+
+/// The events with the numbers of their cues begin where the channel's events do, one for one.
+pub fn events_are_those_of_the_channel()
+    ensures { EventsAreThoseOfTheChannel }
+{}
+
+/// Where no cues clash, no slot of a field is held by events of both lists.
+pub fn no_slot_is_shared_unless_cues_clash()
+    ensures { NoSlotIsSharedUnlessCuesClash }
+{}
