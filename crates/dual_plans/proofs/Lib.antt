@@ -1,0 +1,5 @@
+pub mod ListLaneLemmas
+pub mod PlacesLemmas
+pub mod DualLemmas
+pub mod ShareLemmas
+pub mod PlacedLaneLemmas

@@ -1,0 +1,46 @@
+-- Two lists of which all units are placed, and what their frames carry.
+use Rattle.std.specs.Prelude.{ℕ, List, Option, option_map}
+use Rattle.line21_codes.specs.declared.channels.Chan.{Chan}
+use Rattle.line21_codes.specs.declared.channels.Chan.TheVariants.{Cc1, Cc3}
+use Rattle.line21_codes.specs.declared.channels.FieldNumber.{FieldNumber}
+use Rattle.line21_codes.specs.declared.channels.FieldNumber.TheVariants.{One, Two}
+use Rattle.line21_codes.specs.declared.pairs.Pair.{Pair}
+use Rattle.line21_slots.specs.Cadences.{cadence_of, slot_in}
+use Rattle.cue_lists.specs.Listing.{Listing}
+use Rattle.cue_lists.specs.declared.lane.Lane.TheVariants.{Service}
+use Rattle.frame_scheduler.specs.Columns.{Columns}
+use Rattle.frame_scheduler.specs.Planned.{IsLanePlaced, Placement, authored_channel, frame_blocks}
+use Rattle.frame_scheduler.specs.SlotLists.{slot_cues}
+use Rattle.frame_scheduler.specs.Timeline.{slot}
+use Rattle.shared_field_shown.specs.Dual.{Places}
+use Rattle.shared_field_shown.specs.Seen.{field_timeline}
+use Rattle.dual_plans.specs.FieldPlaces.{AreFieldsPlaces}
+
+-- where the units of both lists stand in field 1 and in field 2, and those of the first list's services
+pub record DualPlacement : Type 0 where
+  pub one : Places
+  pub two : Places
+  pub services : Placement
+
+abbrev pub places_in : DualPlacement → FieldNumber → Places
+places_in placed One = placed.one
+places_in placed Two = placed.two
+
+-- all stand in their earliest placements
+pub record IsDualPlaced (one two : Listing) (placed : DualPlacement) : Type 0 where
+  pub fields : (in_field : FieldNumber) → AreFieldsPlaces one two (authored_channel in_field) (places_in placed in_field)
+  pub services : (service : ℕ) → IsLanePlaced one (Service service) (placed.services (Service service))
+
+-- the pair of a frame in the field of a channel, where the frame has a slot of it
+abbrev pub both_pair : Listing → Listing → Chan → Places → ℕ → Option Pair
+both_pair one two channel places frame =
+    option_map (slot (field_timeline channel (slot_cues one channel) (slot_cues two channel) places.first places.second places.first_again places.second_again))
+    (slot_in (cadence_of one.rate channel) frame)
+
+-- what each frame carries: the events and units of both lists in both fields, and the first list's service blocks
+abbrev pub dual_columns : Listing → Listing → DualPlacement → Columns
+dual_columns one two placed frame = record {
+  one = both_pair one two Cc1 placed.one frame;
+  two = both_pair one two Cc3 placed.two frame;
+  blocks = record { items = frame_blocks one placed.services frame };
+}

@@ -1,0 +1,56 @@
+-- Two lists that go together, and where their units stand in the field of a channel.
+use Rattle.std.specs.Prelude.{ℕ, List}
+use Rattle.line21_codes.specs.declared.channels.Chan.{Chan}
+use Rattle.line21_codes.specs.declared.channels.FieldNumber.{FieldNumber}
+use Rattle.line21_codes.specs.Channels.{field_of_channel}
+use Rattle.cue_lists.specs.Listing.{IsFormed, Listing}
+use Rattle.cue_lists.specs.Rules.{IsRuled}
+use Rattle.field_clashes.specs.Clashes.{IsFieldClash}
+use Rattle.frame_scheduler.specs.Planned.{authored_channel}
+use Rattle.frame_scheduler.specs.SlotLists.{slot_cues}
+use Rattle.placements.specs.Placing.{IsEarliest}
+use Rattle.resumed_lanes.specs.FieldSlots.{first_slots, second_slots}
+use Rattle.resumed_lanes.specs.ResumedLane.{Stand, lane}
+use Rattle.resumed_lanes.specs.Slots.{Slots}
+use Rattle.resumed_lanes.specs.Spans.{in_spans}
+use Rattle.resumed_lanes.specs.declared.part.Part.{Part}
+use Rattle.shared_field_shown.specs.ChannelParts.{channel_parts}
+use Rattle.shared_field_shown.specs.Dual.{IsDual, Places}
+use Rattle.shared_field_shown.specs.Seen.{first_events, second_events, second_parts}
+use Rattle.dual_plans.specs.OtherList.{AreAlike}
+
+-- the units of the first list in the field of a channel, and those of the second
+abbrev pub first_units : Listing → Chan → List Part
+first_units list channel = channel_parts channel (slot_cues list channel)
+
+abbrev pub second_units : Listing → Chan → List Part
+second_units list channel = second_parts (field_of_channel channel) (channel_parts channel (slot_cues list channel))
+
+-- the slots for the units of the first list, and for those of the second beside the first list's in these slots
+abbrev pub slots_for_first : Listing → Listing → Chan → Slots
+slots_for_first one two channel = first_slots (first_events channel (slot_cues one channel)) (second_events channel (slot_cues two channel))
+
+abbrev pub slots_for_second : Listing → Listing → Chan → List ℕ → Slots
+slots_for_second one two channel fs =
+    second_slots (first_events channel (slot_cues one channel)) (second_events channel (slot_cues two channel)) (in_spans (first_units one channel) fs)
+
+-- the units of both lists stand in their earliest placements, the first list's before the second's
+pub record AreFieldsPlaces (one two : Listing) (channel : Chan) (places : Places) : Type 0 where
+  pub first : IsEarliest (lane (slots_for_first one two channel)) (first_units one channel) places.first
+  pub first_stand : Stand (slots_for_first one two channel) 0 (first_units one channel) places.first places.first_again
+  pub second : IsEarliest (lane (slots_for_second one two channel places.first)) (second_units two channel) places.second
+  pub second_stand : Stand (slots_for_second one two channel places.first) 0 (second_units two channel) places.second places.second_again
+
+-- both lists keep the rules, the second is as the first asks, and no cues clash
+pub record GoTogether (one two : Listing) : Type 0 where
+  pub formed : IsFormed one
+  pub ruled : IsRuled one
+  pub second_formed : IsFormed two
+  pub second_ruled : IsRuled two
+  pub alike : AreAlike one two
+  pub apart : (second first : ℕ) → IsFieldClash one two second first → ⊥
+
+-- so their fields are as what a viewer sees of them asks
+abbrev pub PlacedFieldsAreDual : Type 0
+PlacedFieldsAreDual = (one two : Listing) → GoTogether one two → (in_field : FieldNumber) (places : Places)
+    → AreFieldsPlaces one two (authored_channel in_field) places → IsDual one two (authored_channel in_field) places

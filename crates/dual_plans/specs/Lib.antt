@@ -1,0 +1,5 @@
+pub mod OtherList
+pub mod ListLanes
+pub mod FieldPlaces
+pub mod DualPlacement
+pub mod PlacedLanes

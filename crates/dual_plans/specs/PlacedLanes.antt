@@ -1,0 +1,16 @@
+-- Lanes whose units stand in their places.
+use Rattle.std.specs.Prelude.{◌≡◌, ℕ, true, List, None}
+use Rattle.frame_scheduler.specs.LaneEvents.{IsFree}
+use Rattle.resumed_lanes.specs.Filled.{resumes_at, slots_at}
+use Rattle.resumed_lanes.specs.ResumedLane.{Stand}
+use Rattle.resumed_lanes.specs.Slots.{Slots}
+use Rattle.resumed_lanes.specs.declared.place.Place.{Place}
+use Rattle.shared_field_shown.specs.Lanes.{AreCues}
+use Rattle.dual_plans.specs.declared.list_lane.ListLane.{ListLane}
+
+-- the units are those of cues, and stand in free slots, in which no event of the lane does
+pub record CanStand (lane : ListLane) (places : List Place) : Type 0 where
+  pub slots : Slots
+  pub free : (n : ℕ) → slots.free n ≡ true → IsFree lane.events.items n
+  pub cues : AreCues None lane.parts.items
+  pub stand : Stand slots 0 lane.parts.items (slots_at places) (resumes_at places)

@@ -1,0 +1,15 @@
+//! The plan of two cue lists that share both fields: whether the second goes beside the first, and where the units of both stand.
+#![tactic(auto)]
+
+pub use crate::fault::DualFault;
+pub use crate::list_lane::{ListLane, first_lane, second_lane};
+pub use crate::other_list::{OtherField, other_field};
+pub use crate::placed::placed_lane;
+pub use crate::places::{first_places, second_places};
+
+mod fault;
+pub mod laws;
+mod list_lane;
+mod other_list;
+mod placed;
+mod places;

@@ -1,0 +1,52 @@
+ghost use Rattle.std.specs.Prelude.{IfErr, IfOk};
+ghost use Rattle.frame_scheduler.specs.LaneEvents.{event_at};
+ghost use Rattle.resumed_lanes.specs.FieldSlots.{first_slots, second_slots};
+ghost use Rattle.resumed_lanes.specs.Filled.{IsFault, IsFilled, slots_at};
+ghost use Rattle.resumed_lanes.specs.Spans.{in_spans};
+ghost use Rattle.dual_plans.specs.ListLanes.{HasUnitsWithin};
+
+use crate::list_lane::ListLane;
+use placements::PlanFault;
+use resumed_lanes::{Place, place_all, table, table_beside};
+use std::alloc::Global;
+
+/// Places the units of the first lane in a field of so many slots, beside the events of the second. The answer is the earliest
+/// placement, or the first cue that has no room, or want of memory.
+pub fn first_places(
+    alloc: Global,
+    count: usize,
+    one: &ListLane,
+    two: &ListLane,
+) -> Result<Vec<Place>, PlanFault>
+    requires { HasUnitsWithin count one.now }
+    ensures filled { IfOk result (λ places. IsFilled (first_slots (event_at one.now.events.items) (event_at two.now.events.items)) one.now.parts.items places.items) }
+    ensures fault { IfErr result (IsFault (first_slots (event_at one.now.events.items) (event_at two.now.events.items)) one.now.parts.items) }
+{
+    match table(alloc, count, &one.events, &two.events) {
+        Ok(uses) => place_all(alloc, &uses, &one.parts),
+        Err(error) => Err(PlanFault::Memory(error)),
+    }
+}
+
+/// Places the units of the second lane in a field of so many slots, beside the events of the first and its spans, where its units
+/// stand in these places. The answer is as for the first.
+pub fn second_places(
+    alloc: Global,
+    count: usize,
+    one: &ListLane,
+    places: &[Place],
+    two: &ListLane,
+) -> Result<Vec<Place>, PlanFault>
+    requires first { HasUnitsWithin count one.now }
+    requires placed { IsFilled (first_slots (event_at one.now.events.items) (event_at two.now.events.items)) one.now.parts.items places.now }
+    requires second { HasUnitsWithin count two.now }
+    ensures filled { IfOk result (λ others. IsFilled (second_slots (event_at one.now.events.items) (event_at two.now.events.items)
+        (in_spans one.now.parts.items (slots_at places.now))) two.now.parts.items others.items) }
+    ensures fault { IfErr result (IsFault (second_slots (event_at one.now.events.items) (event_at two.now.events.items)
+        (in_spans one.now.parts.items (slots_at places.now))) two.now.parts.items) }
+{
+    match table_beside(alloc, count, &one.events, &two.events, &one.parts, places) {
+        Ok(uses) => place_all(alloc, &uses, &two.parts),
+        Err(error) => Err(PlanFault::Memory(error)),
+    }
+}
