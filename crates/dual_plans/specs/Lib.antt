@@ -3,3 +3,5 @@ pub mod ListLanes
 pub mod FieldPlaces
 pub mod DualPlacement
 pub mod PlacedLanes
+pub mod StartedFields
+pub mod DualAnswer

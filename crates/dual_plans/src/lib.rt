@@ -2,12 +2,14 @@
 #![tactic(auto)]
 
 pub use crate::fault::DualFault;
+pub use crate::field::{StartedField, first_field, second_field};
 pub use crate::list_lane::{ListLane, first_lane, second_lane};
 pub use crate::other_list::{OtherField, other_field};
 pub use crate::placed::placed_lane;
 pub use crate::places::{first_places, second_places};
 
 mod fault;
+mod field;
 pub mod laws;
 mod list_lane;
 mod other_list;

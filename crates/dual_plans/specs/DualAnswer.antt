@@ -1,0 +1,69 @@
+-- What planning two lists together answers.
+use Rattle.std.specs.Prelude.{◌≡◌, ⊤, ◌⊎◌, ℕ, ◌<◌, List, Some}
+use Rattle.line21_codes.specs.declared.channels.FieldNumber.{FieldNumber}
+use Rattle.cue_lists.specs.Listing.{Listing}
+use Rattle.cue_lists.specs.declared.lane.Lane.TheVariants.{Service}
+use Rattle.field_clashes.specs.Clashes.{IsFieldClash, IsLeastClash}
+use Rattle.frame_scheduler.specs.Frames.{GivesFrom, frames_left}
+use Rattle.frame_scheduler.specs.declared.frames.Plan.{Plan}
+use Rattle.frame_scheduler.specs.Planned.{IsLanePlaced, LaneHasRoom, LaneLacksRoom, authored_channel}
+use Rattle.placements.specs.LaneRoom.{HasNoRoom, HasRoom}
+use Rattle.placements.specs.Placing.{IsEarliest}
+use Rattle.programmes.specs.Overlays.{GivesOverlaid}
+use Rattle.resumed_lanes.specs.Parts.{part_cue}
+use Rattle.resumed_lanes.specs.ResumedLane.{lane}
+use Rattle.shared_field.specs.SecondLanes.{LaysBoth}
+use Rattle.shared_field.specs.declared.second_lanes.SecondLanes.{SecondLanes}
+use Rattle.dual_plans.specs.DualPlacement.{DualPlacement, IsDualPlaced, dual_columns}
+use Rattle.dual_plans.specs.FieldPlaces.{GoTogether, first_units, second_units, slots_for_first, slots_for_second}
+use Rattle.dual_plans.specs.OtherList.{AreAlike, IsJudged}
+use Rattle.dual_plans.specs.declared.fault.DualFault.{DualFault}
+use Rattle.dual_plans.specs.declared.fault.DualFault.TheVariants.{Memory, OtherList, FieldClash, NoRoom, NoRoomBeside}
+
+-- the units of the first list in a field up to the cue of this number have no placement, or have one
+abbrev pub FieldLacksRoom : Listing → Listing → FieldNumber → ℕ → Type 0
+FieldLacksRoom one two in_field cue =
+    HasNoRoom (lane (slots_for_first one two (authored_channel in_field))) part_cue (first_units one (authored_channel in_field)) cue
+
+abbrev pub FieldHasRoom : Listing → Listing → FieldNumber → ℕ → Type 0
+FieldHasRoom one two in_field cue =
+    HasRoom (lane (slots_for_first one two (authored_channel in_field))) part_cue (first_units one (authored_channel in_field)) cue
+
+-- the cue is the first of the first list without a placement, in a field or of a service
+pub record IsFirstWithout (one two : Listing) (cue : ℕ) : Type 0 where
+  pub none : ((in_field : FieldNumber) × FieldLacksRoom one two in_field cue) ⊎ ((service : ℕ) × LaneLacksRoom one (Service service) cue)
+  pub fields : (earlier : ℕ) → earlier < cue → (in_field : FieldNumber) → FieldHasRoom one two in_field earlier
+  pub services : (earlier : ℕ) → earlier < cue → (service : ℕ) → LaneHasRoom one (Service service) earlier
+
+-- the units of the second list in a field up to a cue have no placement beside those of the first in these slots, or have one
+abbrev pub LacksRoomBeside : Listing → Listing → FieldNumber → List ℕ → ℕ → Type 0
+LacksRoomBeside one two in_field fs cue =
+    HasNoRoom (lane (slots_for_second one two (authored_channel in_field) fs)) part_cue (second_units two (authored_channel in_field)) cue
+
+abbrev pub HasRoomBeside : Listing → Listing → FieldNumber → List ℕ → ℕ → Type 0
+HasRoomBeside one two in_field fs cue =
+    HasRoom (lane (slots_for_second one two (authored_channel in_field) fs)) part_cue (second_units two (authored_channel in_field)) cue
+
+-- the first list has its placements, and the cue is the first of the second without one
+pub record IsFirstWithoutBeside (one two : Listing) (cue : ℕ) : Type 0 where
+  pub placed : FieldNumber → List ℕ
+  pub fields : (in_field : FieldNumber) → IsEarliest (lane (slots_for_first one two (authored_channel in_field))) (first_units one (authored_channel in_field)) (placed in_field)
+  pub services : (service : ℕ) → (frames : List ℕ) × IsLanePlaced one (Service service) frames
+  pub none : (in_field : FieldNumber) × LacksRoomBeside one two in_field (placed in_field) cue
+  pub first : (earlier : ℕ) → earlier < cue → (in_field : FieldNumber) → HasRoomBeside one two in_field (placed in_field) earlier
+
+-- a plan with second lanes has the frames of both lists
+pub record IsPlanned (one two : Listing) (plan : Plan) (lanes : SecondLanes) : Type 0 where
+  pub together : GoTogether one two
+  pub placed : DualPlacement
+  pub placed_is : IsDualPlaced one two placed
+  pub gives : GivesOverlaid GivesFrom LaysBoth (dual_columns one two placed) 0 plan lanes
+  pub left : frames_left plan ≡ one.frames
+
+-- why two lists have no plan together, each refusal where none before it is; want of memory may come in the place of any
+abbrev pub IsDualFault : Listing → Listing → DualFault → Type 0
+IsDualFault one two (Memory error) = ⊤
+IsDualFault one two (OtherList rec field) = IsJudged one two (Some (record { rec = rec; field = field }))
+IsDualFault one two (FieldClash second first) = AreAlike one two × IsLeastClash (IsFieldClash one two) (record { second = second; first = first })
+IsDualFault one two (NoRoom cue) = GoTogether one two × IsFirstWithout one two cue
+IsDualFault one two (NoRoomBeside cue) = GoTogether one two × IsFirstWithoutBeside one two cue
