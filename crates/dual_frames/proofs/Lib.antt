@@ -1,0 +1,2 @@
+pub mod DualShownLemmas
+pub mod DualBlocksLemmas

@@ -1,0 +1,2 @@
+pub mod DualShown
+pub mod DualBlocks

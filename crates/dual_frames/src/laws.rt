@@ -1,0 +1,14 @@
+//! Laws of such frames: functions that do nothing, with the laws as their contracts.
+ghost use Rattle.dual_frames.specs.DualShown.{BothListsAreShown};
+ghost use Rattle.dual_frames.specs.DualBlocks.{DualBlocksAreFit};
+
+/// At each frame that is settled for a channel by its own list, CC1 and CC3 show what the first list authors, and CC2 and CC4 what the
+/// second one does.
+pub fn both_lists_are_shown()
+    ensures { BothListsAreShown }
+{}
+
+/// The service blocks are those of the first list alone: they are fit, and each service shows what it shows of that.
+pub fn dual_blocks_are_fit()
+    ensures { DualBlocksAreFit }
+{}

@@ -1,0 +1,4 @@
+//! What holds of the frames of two cue lists that share both fields. Definitions and laws.
+#![tactic(auto)]
+
+pub mod laws;
