@@ -1,2 +1,5 @@
 pub mod DualShownLemmas
 pub mod DualBlocksLemmas
+pub mod SentLemmas
+pub mod SendableLemmas
+pub mod DualPairsLemmas

@@ -1,2 +1,3 @@
 pub mod DualShown
 pub mod DualBlocks
+pub mod DualPairs
