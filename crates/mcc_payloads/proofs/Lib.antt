@@ -1,0 +1,12 @@
+pub mod LetterLemmas
+pub mod StepLemmas
+pub mod PacketLemmas
+pub mod ReadLemmas
+pub mod SoundLemmas
+pub mod WriteLemmas
+pub mod WrittenLemmas
+pub mod ItemLemmas
+pub mod CompleteLemmas
+pub mod FirstLemmas
+pub mod WordLemmas
+pub mod SumLemmas

@@ -1,0 +1,10 @@
+pub mod Letters
+pub mod Items
+pub mod Payloads
+pub mod Reading
+pub mod Counts
+pub mod Readers
+pub mod Fillers
+pub mod Writing
+pub mod Offences
+pub mod PayloadWords

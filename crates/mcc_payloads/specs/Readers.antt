@@ -1,0 +1,21 @@
+-- What a reader of payloads makes of a byte of the text.
+use Rattle.std.specs.Prelude.{◌≡◌, ℕ, true, List, None, Result, Ok, Err}
+use Rattle.cc_base.specs.declared.why.Why.{Why}
+use Rattle.mcc_payloads.specs.Reading.{Open, joined}
+use Rattle.mcc_payloads.specs.declared.reader.Offence.{Offence}
+use Rattle.mcc_payloads.specs.declared.reader.PayloadReader.{PayloadReader}
+
+-- the bytes of an item more were taken, or one of them offends and nothing changed
+abbrev pub TakesItem : PayloadReader → List ℕ → PayloadReader → Result (Unit {0}) Why → Type 0
+TakesItem old brought new (Ok _) =
+    (joined true old.bytes.items brought ≡ Ok new.bytes.items) × (new.digit ≡ None)
+TakesItem old brought new (Err reason) = (joined true old.bytes.items brought ≡ Err reason) × (new ≡ old)
+
+-- what is open in a reader
+abbrev pub open_of : PayloadReader → Open
+open_of reader = record { digit = reader.digit; bytes = reader.bytes.items }
+
+-- a byte of the text more was taken, to which this is due; or it offends and nothing changed
+abbrev pub StepsTo : Result Open Offence → PayloadReader → PayloadReader → Result (Unit {0}) Offence → Type 0
+StepsTo due old new (Ok _) = due ≡ Ok (open_of new)
+StepsTo due old new (Err offence) = (due ≡ Err offence) × (new ≡ old)

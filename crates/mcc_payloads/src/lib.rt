@@ -1,0 +1,14 @@
+//! The payloads of MCC files, by which captioning houses exchange whole ancillary packets: which text is the payload of which
+//! packet, where another text first offends, and how packets are written.
+#![tactic(auto)]
+
+pub use crate::letters::letter_bytes;
+pub use crate::reader::{Offence, PayloadReader};
+pub use crate::writer::write_payload;
+
+pub mod laws;
+mod letters;
+mod reader;
+#[cfg(test)]
+mod tests;
+mod writer;

@@ -1,0 +1,233 @@
+use crate::letters::letter_bytes;
+use crate::reader::PayloadReader;
+use crate::writer::{write_bytes, write_payload};
+use arrayvec::ArrayVec;
+use cc_base::Why;
+use std::process::Abort;
+
+// The payload of a frame without captions at 29.97, and the bytes of its packet.
+const FRAME: &[u8] = b"T49S494F43ZZ72F4QROO74ZZBFAB";
+
+const FRAME_BYTES: [u8; 77] = [
+    0x61, 0x01, 0x49, 0x96, 0x69, 0x49, 0x4F, 0x43, 0x00, 0x00, 0x72, 0xF4, 0xFC, 0x80, 0x80, 0xFD,
+    0x80, 0x80, 0xFA, 0, 0, 0xFA, 0, 0, 0xFA, 0, 0, 0xFA, 0, 0, 0xFA, 0, 0, 0xFA, 0, 0, 0xFA, 0, 0,
+    0xFA, 0, 0, 0xFA, 0, 0, 0xFA, 0, 0, 0xFA, 0, 0, 0xFA, 0, 0, 0xFA, 0, 0, 0xFA, 0, 0, 0xFA, 0, 0,
+    0xFA, 0, 0, 0xFA, 0, 0, 0xFA, 0, 0, 0x74, 0x00, 0x00, 0xBF, 0xAB,
+];
+
+// The place and the reason of a text's first offence, if it is no payload.
+fn offence(text: &[u8]) -> Option<(usize, Why)> {
+    let mut reader = PayloadReader::new();
+    for (at, byte) in text.iter().enumerate() {
+        if let Err(offence) = reader.take(*byte) {
+            return Some((at.saturating_sub(usize::from(offence.back)), offence.why));
+        }
+    }
+    if reader.is_whole() {
+        None
+    } else {
+        Some((text.len(), Why::MccSyntax))
+    }
+}
+
+#[test]
+fn letters_stand_for_bytes(rt: HostRuntime) {
+    for (letter, size) in [
+        (b'G', 3),
+        (b'H', 6),
+        (b'I', 9),
+        (b'J', 12),
+        (b'K', 15),
+        (b'L', 18),
+        (b'M', 21),
+        (b'N', 24),
+        (b'O', 27),
+    ] {
+        let Some(bytes) = letter_bytes(letter) else {
+            panic!(&rt; "no letter");
+        };
+        assert_eq!(rt; bytes.len(), size);
+        for (place, byte) in bytes.iter().enumerate() {
+            let expected = if place % 3 == 0 { 0xFA } else { 0x00 };
+            assert_eq!(rt; *byte, expected);
+        }
+    }
+    let others: [(u8, &[u8]); 7] = [
+        (b'P', &[0xFB, 0x80, 0x80]),
+        (b'Q', &[0xFC, 0x80, 0x80]),
+        (b'R', &[0xFD, 0x80, 0x80]),
+        (b'S', &[0x96, 0x69]),
+        (b'T', &[0x61, 0x01]),
+        (b'U', &[0xE1, 0x00, 0x00, 0x00]),
+        (b'Z', &[0x00]),
+    ];
+    for (letter, bytes) in others {
+        assert_eq!(rt; letter_bytes(letter), Some(bytes));
+    }
+    for other in b"AF0VWXYgoz /\n" {
+        assert_eq!(rt; letter_bytes(*other), None);
+    }
+}
+
+#[test]
+fn payloads_are_taken(rt: HostRuntime) {
+    let texts: [&[u8]; 14] = [
+        FRAME,
+        b"6101499669494F43000072F4FC8080FD8080OO740000BFAB",
+        b"T49S494f43zz72F4QROO74ZZBFAB",
+        b"80010177F9",
+        b"80010178FA",
+        b"80010178fa",
+        b"80010081",
+        b"8001Z81",
+        b"800101Z82",
+        b"800103G7E",
+        b"800104U66",
+        b"ZZZZ",
+        b"GFA",
+        b"T0062",
+    ];
+    for (row, text) in texts.iter().enumerate() {
+        let expected = if row == 2 {
+            // a lower-case letter is none
+            Some((10, Why::MccSyntax))
+        } else {
+            None
+        };
+        assert_eq!(rt; offence(text), expected, "row {row}");
+    }
+    let mut reader = PayloadReader::new();
+    for byte in FRAME {
+        assert!(rt; reader.take(*byte).is_ok());
+    }
+    assert_eq!(rt; reader.bytes(), FRAME_BYTES.as_slice());
+}
+
+// No item begins or goes on with the byte, the text ends too soon, or a byte is one too many.
+#[test]
+fn other_texts_offend_in_form(rt: HostRuntime) {
+    let rows: [(&[u8], usize); 31] = [
+        (b"", 0),
+        (b"8", 1),
+        (b"80", 2),
+        (b"8001", 4),
+        (b"800101", 6),
+        (b"80010177", 8),
+        (b"80010177F", 9),
+        (b"T4", 2),
+        (b"T49S4", 5),
+        (b"80010278FA", 10),
+        (b"80010178FA0", 10),
+        (b"80010178FAZ", 10),
+        (b"80010178FAG", 10),
+        (b"80010178FA ", 10),
+        (b"80010178FA\n", 10),
+        (b"80010178G", 8),
+        (b"ZZZZZ", 4),
+        (b"GG", 1),
+        (b"GH", 1),
+        (b"H", 0),
+        (b"O", 0),
+        (b"8g", 1),
+        (b"8G", 1),
+        (b"8 ", 1),
+        (b"80x", 2),
+        (b"8001017y", 7),
+        (b"V", 0),
+        (b"g", 0),
+        (b" ", 0),
+        (b"\r", 0),
+        (b"\xFF", 0),
+    ];
+    for (text, place) in rows {
+        assert_eq!(rt; offence(text), Some((place, Why::MccSyntax)), "at {place}");
+    }
+}
+
+// An item brings another checksum byte, also where it brings a byte too many behind it.
+#[test]
+fn wrong_checksum_bytes_offend(rt: HostRuntime) {
+    let rows: [(&[u8], usize); 14] = [
+        (b"80010177F8", 8),
+        (b"80010178F9", 8),
+        (b"80010177G", 8),
+        (b"80010080", 6),
+        (b"80010078FA", 6),
+        (b"8001ZZ81", 5),
+        (b"800101G", 6),
+        (b"800102G7E", 6),
+        (b"ZZZP", 3),
+        (b"ZZZU", 3),
+        (b"ZZZ01", 3),
+        (b"GFB", 1),
+        (b"GZ", 1),
+        (b"U", 0),
+    ];
+    for (text, place) in rows {
+        assert_eq!(rt; offence(text), Some((place, Why::AncSum)), "at {place}");
+    }
+}
+
+#[test]
+fn longest_letters_are_written(rt: HostRuntime) {
+    let rows: [(&[u8], &[u8]); 21] = [
+        (&FRAME_BYTES, FRAME),
+        (&[], b""),
+        (&[0x80, 0x01, 0x01, 0x77, 0xF9], b"80010177F9"),
+        (&[0x61, 0x01, 0x00, 0x62], b"TZ62"),
+        (&[0xFA, 0, 0], b"G"),
+        (&[0xFA, 0, 0, 0xFA, 0, 0], b"H"),
+        (&[0xFA, 0, 0, 0], b"GZ"),
+        (&[0xFA, 0, 0, 0xFA, 0], b"GFAZ"),
+        (&[0xFA, 0], b"FAZ"),
+        (&[0xFA, 1, 0], b"FA01Z"),
+        (&[0, 0xFA, 0, 0], b"ZG"),
+        (&[0xFB, 0x80, 0x80], b"P"),
+        (&[0xFB, 0x80], b"FB80"),
+        (&[0xFC, 0x80, 0x80], b"Q"),
+        (&[0xFD, 0x80, 0x80], b"R"),
+        (&[0xFD, 0x80, 0x81], b"FD8081"),
+        (&[0x96, 0x69], b"S"),
+        (&[0x96, 0x68], b"9668"),
+        (&[0x61, 0x02], b"6102"),
+        (&[0xE1, 0, 0, 0], b"E1ZZZ"),
+        (&[0x0A], b"0A"),
+    ];
+    for (row, (bytes, text)) in rows.iter().enumerate() {
+        let mut out = ArrayVec::new();
+        write_bytes(bytes, &mut out);
+        assert_eq!(rt; out.as_slice(), *text, "row {row}");
+    }
+}
+
+// Nine triplets that don't count are one letter, and ten are two.
+#[test]
+fn fillers_are_written_by_nines(rt: HostRuntime) {
+    let texts: [&[u8]; 12] = [
+        b"", b"G", b"H", b"I", b"J", b"K", b"L", b"M", b"N", b"O", b"OG", b"OH",
+    ];
+    let mut bytes: ArrayVec<u8, 259> = ArrayVec::new();
+    for text in texts {
+        let mut out = ArrayVec::new();
+        write_bytes(bytes.as_slice(), &mut out);
+        assert_eq!(rt; out.as_slice(), text);
+        let _ = bytes.try_extend_from_slice(&[0xFA, 0, 0]);
+    }
+}
+
+#[test]
+fn packets_are_written_with_their_checksum_byte(rt: HostRuntime) {
+    let rows: [(u8, u8, &[u8], &[u8]); 6] = [
+        (0x61, 0x01, &FRAME_BYTES[3..76], FRAME),
+        (0x80, 0x01, &[0x77], b"80010177F9"),
+        (0x80, 0x01, &[0x78], b"80010178FA"),
+        (0x80, 0x01, &[], b"8001Z81"),
+        (0xFA, 0x00, &[], b"GFA"),
+        (0xFF, 0xFF, &[0xFF, 0xFF], b"FFFF02FFFFFE"),
+    ];
+    for (did, sdid, user, text) in rows {
+        let mut out = ArrayVec::new();
+        write_payload(did, sdid, user, &mut out);
+        assert_eq!(rt; out.as_slice(), text);
+    }
+}

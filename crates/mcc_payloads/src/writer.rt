@@ -1,0 +1,102 @@
+ghost use Rattle.std.specs.Prelude.{◌≡◌, ◌≤◌, ◌<◌, ◌+◌, ◌++◌, [], length, take, drop, MatchOption, IfSome, None};
+ghost use Rattle.mcc_payloads.specs.Writing.{FitsBest, FitsNone, IsWritten};
+ghost use Rattle.mcc_payloads.specs.Payloads.{checksum_byte, payload_bytes};
+ghost use Rattle.mcc_payloads.specs.Fillers.{AreAhead};
+
+use arrayvec::ArrayVec;
+use hex_digits::upper_hex_digit;
+
+/// How many triplets FA 00 00 stand at the front of `bytes`, at most 9.
+fn fillers_ahead(bytes: &[u8]) -> u8
+    ensures { AreAhead result bytes.now }
+{
+    let mut rest = bytes;
+    for count in 0..9 {
+        match rest {
+            [0xFA, 0, 0, behind @ ..] => rest = behind,
+            _ => return count,
+        }
+    }
+    9
+}
+
+/// The letter with the most bytes that `bytes` begin with, and how many these are; None where there is none.
+fn letter_ahead(bytes: &[u8]) -> Option<(u8, usize)>
+    ensures best { MatchOption result (FitsNone bytes.now) (λ found. FitsBest bytes.now found.0 (take found.1 bytes.now) (drop found.1 bytes.now)) }
+    ensures some { IfSome result (λ found. 0 < found.1) }
+    ensures within { IfSome result (λ found. found.1 ≤ length bytes.now) }
+{
+    match bytes {
+        [0xFA, 0, 0, ..] => {
+            let count = fillers_ahead(bytes);
+            Some((b'F' + count, 3 * usize::from(count)))
+        }
+        [0xFB, 0x80, 0x80, ..] => Some((b'P', 3)),
+        [0xFC, 0x80, 0x80, ..] => Some((b'Q', 3)),
+        [0xFD, 0x80, 0x80, ..] => Some((b'R', 3)),
+        [0x96, 0x69, ..] => Some((b'S', 2)),
+        [0x61, 0x01, ..] => Some((b'T', 2)),
+        [0, ..] => Some((b'Z', 1)),
+        _ => None,
+    }
+}
+
+/// Writes the bytes of a packet, at most 259, as a payload's text into `out`, which is empty before.
+pub(crate) fn write_bytes(bytes: &[u8], out: &mut ArrayVec<u8, 518>)
+    requires few { length bytes.now ≤ 259 }
+    requires empty { out.old.items ≡ [] }
+    ensures { IsWritten bytes.now out.new.items }
+{
+    let mut rest = bytes;
+    while let [first, behind @ ..] = rest {
+        match letter_ahead(rest) {
+            Some((letter, size)) => {
+                out.push(letter);
+                rest = &rest[size..];
+            }
+            None => {
+                out.push(upper_hex_digit(first / 16));
+                out.push(upper_hex_digit(first % 16));
+                rest = behind;
+            }
+        }
+    }
+}
+
+/// The low eight bits of the checksum word of a packet.
+fn checksum_byte(did: u8, sdid: u8, user: &[u8]) -> u8
+    requires { length user.now ≤ 255 }
+    ensures { result ≡ checksum_byte (record { did = did; sdid = sdid; user = user.now }) }
+{
+    let count = user.len() as u8;
+    let mut sum = did.wrapping_add(sdid).wrapping_add(count);
+    for byte in user {
+        sum = sum.wrapping_add(*byte);
+    }
+    sum
+}
+
+/// Writes the payload of a packet with these identifiers and user bytes, at most 255, each an 8-bit word there, into `out`, which is
+/// empty before: DID, SDID, count, the user bytes and the low eight bits of the checksum word (SMPTE ST 291-1), at each byte the
+/// letter with the most bytes that fits, of `G` to `T` and `Z`, else two upper-case hex digits.
+pub fn write_payload(did: u8, sdid: u8, user: &[u8], out: &mut ArrayVec<u8, 518>)
+    requires few { length user.now ≤ 255 }
+    requires empty { out.old.items ≡ [] }
+    ensures { IsWritten (payload_bytes (record { did = did; sdid = sdid; user = user.now })) out.new.items }
+{
+    let mut bytes: ArrayVec<u8, 259> = ArrayVec::new();
+    add(&[did, sdid, user.len() as u8], &mut bytes);
+    add(user, &mut bytes);
+    add(&[checksum_byte(did, sdid, user)], &mut bytes);
+    write_bytes(&bytes, out);
+}
+
+/// Adds bytes for which there is room.
+fn add(more: &[u8], bytes: &mut ArrayVec<u8, 259>)
+    requires { length bytes.old.items + length more.now ≤ 259 }
+    ensures { bytes.new.items ≡ bytes.old.items ++ more.now }
+{
+    if bytes.try_extend_from_slice(more).is_err() {
+        unreachable!();
+    }
+}
