@@ -1,40 +1,28 @@
 -- Lists that go together, whose units are placed.
-use Rattle.std.proofs.Common.{◌≡◌, ℕ, zero, suc, true, false, List, Option, Some, None, option_map, is_some, refl, sym, ap, ◌∙◌, subst}
-use Rattle.std.specs.Prelude.{◌||◌}
+use Rattle.std.proofs.Common.{◌≡◌, ℕ, List, ap, ◌∙◌, subst}
 use Rattle.std.proofs.Math.Path.{fun_ext}
 use Rattle.line21_codes.specs.declared.channels.Chan.{Chan}
-use Rattle.line21_codes.specs.declared.channels.FieldNumber.{FieldNumber}
 use Rattle.line21_codes.specs.Channels.{field_of_channel}
 use Rattle.cue_lists.specs.Listing.{Listing}
 use Rattle.line21_author.specs.CueEvents.{channel_events}
 use Rattle.line21_author.specs.declared.event.Event.{Event}
-use Rattle.line21_author.specs.declared.unit.Unit.{Unit}
 use Rattle.field_clashes.proofs.ClashLemmas.{none_shared}
 use Rattle.frame_scheduler.specs.LaneEvents.{event_at}
 use Rattle.frame_scheduler.specs.Planned.{authored_channel}
 use Rattle.frame_scheduler.specs.SlotLists.{slot_cues}
 use Rattle.frame_scheduler.specs.Timeline.{Timeline}
 use Rattle.placements.specs.declared.planning.PlanFault.{PlanFault}
-use Rattle.resumed_lanes.specs.FieldSlots.{first_slots, holds, second_slots}
-use Rattle.resumed_lanes.specs.Filled.{IsFault, IsFilled, slots_at}
+use Rattle.resumed_lanes.specs.FieldSlots.{first_slots, second_slots}
+use Rattle.resumed_lanes.specs.Filled.{IsFault, IsFilled}
 use Rattle.resumed_lanes.specs.Spans.{in_spans}
 use Rattle.resumed_lanes.specs.declared.part.Part.{Part}
 use Rattle.resumed_lanes.specs.declared.place.Place.{Place}
-use Rattle.shared_field.specs.SecondChannel.{second_events as coded_events}
 use Rattle.shared_field.proofs.PlaceableLemmas.{second_begin}
-use Rattle.shared_field_shown.specs.Seen.{first_events, second_events, second_timeline, second_unit}
+use Rattle.shared_field_shown.specs.Seen.{first_events, second_events}
+use Rattle.shared_field_shown.proofs.SeenLemmas.{holds_second}
 use Rattle.dual_plans.specs.FieldPlaces.{PlacedFieldsAreDual, first_units, second_units, slots_for_first, slots_for_second}
 use Rattle.dual_plans.specs.ListLanes.{IsFirstLane, IsSecondLane}
 use Rattle.dual_plans.specs.declared.list_lane.ListLane.{ListLane}
-
--- events hold the same slots with their codes for data channel 2
-some_second : (f : FieldNumber) (u : Option Unit) → is_some (option_map (second_unit f) u) ≡ is_some u
-some_second f None = refl
-some_second f (Some unit) = refl
-
-holds_second : (f : FieldNumber) (events : Timeline) (n : ℕ) → holds (second_timeline f events) n ≡ holds events n
-holds_second f events zero = some_second f (events zero)
-holds_second f events (suc n) = rw (some_second f (events (suc n)), some_second f (events n)) refl
 
 pub placed_dual : PlacedFieldsAreDual
 placed_dual one two together in_field places are = record {
@@ -53,10 +41,10 @@ placed_dual one two together in_field places are = record {
 
 -- the lanes of both lists have the slots of the field
 module _ (one two : Listing) (channel : Chan) (first second : ListLane) (first_is : IsFirstLane one channel first) (second_is : IsSecondLane two channel second) where
-  first_at : event_at first.events.items ≡ first_events channel (slot_cues one channel)
+  pub first_at : event_at first.events.items ≡ first_events channel (slot_cues one channel)
   first_at = ap (λ (es : List Event). event_at es) first_is.events
 
-  second_at : event_at second.events.items ≡ second_events channel (slot_cues two channel)
+  pub second_at : event_at second.events.items ≡ second_events channel (slot_cues two channel)
   second_at =
       ap (λ (es : List Event). event_at es) second_is.events
       ∙ fun_ext (λ n. second_begin (field_of_channel channel) (channel_events channel (slot_cues two channel)) n)

@@ -1,5 +1,5 @@
 -- The fields of two lists that go together.
-use Rattle.std.proofs.Common.{◌≡◌, ℕ, List, sym, ap, ◌∙◌, subst}
+use Rattle.std.proofs.Common.{◌≡◌, ap, ◌∙◌}
 use Rattle.std.specs.Prelude.{IfErr, IfOk, Result, Ok, Err, Vec}
 use Rattle.std.specs.Global.{Global}
 use Rattle.line21_codes.specs.declared.channels.Chan.{Chan}
@@ -13,7 +13,6 @@ use Rattle.resumed_lanes.specs.Filled.{IsFault, IsFilled, slots_at}
 use Rattle.resumed_lanes.specs.Spans.{in_spans}
 use Rattle.resumed_lanes.specs.declared.place.Place.{Place}
 use Rattle.dual_plans.specs.FieldPlaces.{second_units, slots_for_second}
-use Rattle.dual_plans.specs.ListLanes.{HasUnitsWithin}
 use Rattle.dual_plans.specs.OtherList.{AreAlike}
 use Rattle.dual_plans.specs.StartedFields.{IsStarted}
 use Rattle.dual_plans.specs.declared.field.StartedField.{StartedField}

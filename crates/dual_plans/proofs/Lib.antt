@@ -5,3 +5,10 @@ pub mod ShareLemmas
 pub mod PlacedLaneLemmas
 pub mod FieldLemmas
 pub mod RoomLemmas
+pub mod StandLemmas
+pub mod FirstPlacedLemmas
+pub mod SecondPlacedLemmas
+pub mod JoinedLemmas
+pub mod LaneDecided
+pub mod AloneLemmas
+pub mod PairDecided

@@ -1,26 +1,17 @@
 -- The first cue without room among the lanes of both fields, and of services.
-use Rattle.std.proofs.Common.{◌≡◌, ◌<◌, ◌⊎◌, inl, inr, ℕ, min, sym, subst, arith, Option, Some, None}
-use Rattle.std.specs.Prelude.{⊤}
+use Rattle.std.proofs.Common.{◌≡◌, ◌<◌, inl, inr, ℕ, min, sym, subst, arith}
 use Rattle.std.proofs.lemmas.Bool.{cases_lt}
 use Rattle.line21_codes.specs.declared.channels.FieldNumber.{FieldNumber}
 use Rattle.line21_codes.specs.declared.channels.FieldNumber.TheVariants.{One, Two}
 use Rattle.placements.specs.declared.planning.PlanFault.{PlanFault}
 use Rattle.placements.specs.declared.planning.PlanFault.TheVariants.{Memory, NoRoom}
 use Rattle.frame_scheduler.specs.LanePlan.{earlier_fault}
+use Rattle.dual_plans.specs.FieldFaults.{IsFaultOf, IsFirstOfFields}
 
--- the cue is the first without room in one of two fields
-pub record IsFirstOfFields (Lacks Has : FieldNumber → ℕ → Type 0) (cue : ℕ) : Type 0 where
-  pub none : (in_field : FieldNumber) × Lacks in_field cue
-  pub first : (earlier : ℕ) → earlier < cue → (in_field : FieldNumber) → Has in_field earlier
-
--- in one of them
+-- up to the cue a field has no room, and up to each earlier cue it has
 pub record IsFirstOfField (Lacks Has : ℕ → Type 0) (cue : ℕ) : Type 0 where
   pub none : Lacks cue
   pub first : (earlier : ℕ) → earlier < cue → Has earlier
-
-abbrev pub IsFaultOf : (ℕ → Type 0) → PlanFault → Type 0
-IsFaultOf Is (Memory error) = ⊤
-IsFaultOf Is (NoRoom cue) = Is cue
 
 module _ (Lacks Has : FieldNumber → ℕ → Type 0) where
   abbrev pub First : FieldNumber → ℕ → Type 0

@@ -5,3 +5,6 @@ pub mod DualPlacement
 pub mod PlacedLanes
 pub mod StartedFields
 pub mod DualAnswer
+pub mod FieldFaults
+pub mod DualParts
+pub mod Verdict

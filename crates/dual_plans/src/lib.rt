@@ -7,6 +7,8 @@ pub use crate::list_lane::{ListLane, first_lane, second_lane};
 pub use crate::other_list::{OtherField, other_field};
 pub use crate::placed::placed_lane;
 pub use crate::places::{first_places, second_places};
+pub use crate::plan::plan_dual;
+pub use shared_field::Dual;
 
 mod fault;
 mod field;
@@ -15,3 +17,4 @@ mod list_lane;
 mod other_list;
 mod placed;
 mod places;
+mod plan;
