@@ -1,4 +1,5 @@
 mod ConcealingLemmas
+mod PacketLinesLemmas
 pub mod PrintingLemmas
 mod WordsAnswerLemmas
 pub mod WordsVerdictLemmas

@@ -1,5 +1,6 @@
 pub mod ConcealedScreens
 pub mod Concealing
 pub mod Screens
+pub mod PacketLines
 pub mod WordsAnswer
 pub mod WordsVerdict

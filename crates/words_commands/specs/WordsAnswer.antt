@@ -14,6 +14,7 @@ use Rattle.words_reading.specs.Causes.{Cause, IsWholeFile, IsWholeInput}
 use Rattle.words_reading.specs.FrameTexts.{FramesSay}
 use Rattle.words_reading.specs.Reading.{Stops}
 use Rattle.words_commands.specs.ConcealedScreens.{concealed_changes}
+use Rattle.words_commands.specs.PacketLines.{packet_lines}
 use Rattle.words_commands.specs.Screens.{changes_of, counted, show_output}
 
 -- this is the text of the frames that bytes bring
@@ -28,7 +29,7 @@ NeverHalts answer bytes text = ⊥
 abbrev pub StopsEarly : (List Frame → List ℕ) → Ends → Ends → Status → Type 0
 StopsEarly text_of old new answer = StopsEarlyAs (IsTextOf text_of) NeverHalts old new answer
 
--- what is answered where the changes of frames are put, and at the end their number
+-- what is answered where the changes of frames, or other lines of them, are put, and at the end their number
 abbrev pub ChangesAnswer : (List Frame → List ℕ) → Ends → Ends → Status → Type 0
 ChangesAnswer changes old new status.Ok = IsSteady old new × Stops (IsTextOf (counted changes)) (IsWholeFile old.left) put.Done old new
 ChangesAnswer changes old new status.WriteFault =
@@ -38,12 +39,15 @@ ChangesAnswer changes old new status.WriteFault =
 ChangesAnswer changes old new status.Memory = new ≡ old
 ChangesAnswer changes old new answer = StopsEarly changes old new answer
 
--- what `decode` answers, and what `conceal` does
+-- what `decode` answers, what `conceal` does, and what `xds-show` does
 abbrev pub DecodeAnswer : Ends → Ends → Status → Type 0
 DecodeAnswer old new answer = ChangesAnswer changes_of old new answer
 
 abbrev pub ConcealAnswer : Ends → Ends → Status → Type 0
 ConcealAnswer old new answer = ChangesAnswer concealed_changes old new answer
+
+abbrev pub XdsShowAnswer : Ends → Ends → Status → Type 0
+XdsShowAnswer old new answer = ChangesAnswer packet_lines old new answer
 
 -- the input is a words file that has the frame of this number
 abbrev pub HasFrame : ℕ → Option (List ℕ) → Cause
