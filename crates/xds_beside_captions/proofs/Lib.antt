@@ -1,0 +1,5 @@
+pub mod OutsideLemmas
+pub mod PacketLemmas
+pub mod BesideLemmas
+pub mod FreeLemmas
+pub mod XdsLemmas
