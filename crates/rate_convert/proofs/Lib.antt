@@ -1,0 +1,9 @@
+pub mod ConversionLemmas
+pub mod FitLemmas
+pub mod ServedLemmas
+pub mod SortedLemmas
+pub mod HalvesLemmas
+pub mod HalverLemmas
+pub mod LawLemmas
+pub mod OnceLemmas
+pub mod ConverterLemmas

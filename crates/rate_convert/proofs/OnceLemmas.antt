@@ -1,0 +1,103 @@
+-- A frame has one misfit at most.
+use Rattle.std.proofs.Common.{◌≡◌, ℕ, ◌<◌, List, [], ◌∷◌, ◌++◌, append-nil, append_assoc, refl, subst, sym, ap, ◌∙◌, arith}
+use Rattle.cdp_packets.specs.Packets.{Packet as Frame}
+use Rattle.findings.specs.declared.finding.Which.{Which}
+use Rattle.findings.specs.declared.finding.Which.TheVariants as which
+use Rattle.findings.specs.declared.misfit.Misfit.{Misfit}
+use Rattle.findings.specs.declared.misfit.MisfitKind.{MisfitKind}
+use Rattle.findings.specs.declared.misfit.MisfitKind.TheVariants as misfit
+use Rattle.line21_codes.specs.declared.channels.Chan.TheVariants.{Cc1, Cc2, Cc3, Cc4}
+use Rattle.rate_convert.specs.Grids.{HasGrid, IsFirstChanged, grid_place}
+use Rattle.rate_convert.specs.Laws.{MisfitIsOne}
+use Rattle.rate_convert.specs.Misfits.{AreFitBehind, IsFit, IsMisfit, rank}
+
+-- a number stands before another, or behind it, or they are the same
+ordered : (m n : ℕ) → (m < n → ⊥) → (n < m → ⊥) → m ≡ n
+ordered m n less more = omega arith
+
+-- the places of channels and services are their own
+which_once : (a b : Which) → HasGrid a → HasGrid b → grid_place a ≡ grid_place b → a ≡ b
+which_once (which.Chan Cc1) (which.Chan Cc1) has also same = refl
+which_once (which.Chan Cc1) (which.Chan Cc2) has also same = absurd (omega arith)
+which_once (which.Chan Cc1) (which.Chan Cc3) has also same = absurd (omega arith)
+which_once (which.Chan Cc1) (which.Chan Cc4) has also same = absurd (omega arith)
+which_once (which.Chan Cc2) (which.Chan Cc1) has also same = absurd (omega arith)
+which_once (which.Chan Cc2) (which.Chan Cc2) has also same = refl
+which_once (which.Chan Cc2) (which.Chan Cc3) has also same = absurd (omega arith)
+which_once (which.Chan Cc2) (which.Chan Cc4) has also same = absurd (omega arith)
+which_once (which.Chan Cc3) (which.Chan Cc1) has also same = absurd (omega arith)
+which_once (which.Chan Cc3) (which.Chan Cc2) has also same = absurd (omega arith)
+which_once (which.Chan Cc3) (which.Chan Cc3) has also same = refl
+which_once (which.Chan Cc3) (which.Chan Cc4) has also same = absurd (omega arith)
+which_once (which.Chan Cc4) (which.Chan Cc1) has also same = absurd (omega arith)
+which_once (which.Chan Cc4) (which.Chan Cc2) has also same = absurd (omega arith)
+which_once (which.Chan Cc4) (which.Chan Cc3) has also same = absurd (omega arith)
+which_once (which.Chan Cc4) (which.Chan Cc4) has also same = refl
+which_once (which.Chan Cc1) (which.Service s) has also same = let one = also.from in absurd (omega arith)
+which_once (which.Chan Cc2) (which.Service s) has also same = let one = also.from in absurd (omega arith)
+which_once (which.Chan Cc3) (which.Service s) has also same = let one = also.from in absurd (omega arith)
+which_once (which.Chan Cc4) (which.Service s) has also same = let one = also.from in absurd (omega arith)
+which_once (which.Service s) (which.Chan Cc1) has also same = let one = has.from in absurd (omega arith)
+which_once (which.Service s) (which.Chan Cc2) has also same = let one = has.from in absurd (omega arith)
+which_once (which.Service s) (which.Chan Cc3) has also same = let one = has.from in absurd (omega arith)
+which_once (which.Service s) (which.Chan Cc4) has also same = let one = has.from in absurd (omega arith)
+which_once (which.Service s) (which.Service t) has also same = let e : s ≡ t = omega arith in ap which.Service e
+
+first_once : (frames : List Frame) (a b : Which) → IsFirstChanged frames a → IsFirstChanged frames b → a ≡ b
+first_once frames a b one other =
+    which_once a b one.has other.has
+    (ordered (grid_place a) (grid_place b) (λ less. other.before a one.has less one.changed) (λ more. one.before b other.has more other.changed))
+
+kind_once : (earlier : List Frame) (frame : Frame) (a b : MisfitKind) → IsMisfit earlier frame a → IsMisfit earlier frame b → rank a ≡ rank b → a ≡ b
+kind_once earlier frame (misfit.Rate m) (misfit.Rate n) is also same = ap misfit.Rate (is.holds.1 ∙ sym also.holds.1)
+kind_once earlier frame (misfit.Rate m) (misfit.Count n) is also same = absurd (omega arith)
+kind_once earlier frame (misfit.Rate m) (misfit.One n) is also same = absurd (omega arith)
+kind_once earlier frame (misfit.Rate m) (misfit.Two n) is also same = absurd (omega arith)
+kind_once earlier frame (misfit.Rate m) (misfit.Many n) is also same = absurd (omega arith)
+kind_once earlier frame (misfit.Count m) (misfit.Rate n) is also same = absurd (omega arith)
+kind_once earlier frame (misfit.Count m) (misfit.Count n) is also same = ap misfit.Count (is.holds.1 ∙ sym also.holds.1)
+kind_once earlier frame (misfit.Count m) (misfit.One n) is also same = absurd (omega arith)
+kind_once earlier frame (misfit.Count m) (misfit.Two n) is also same = absurd (omega arith)
+kind_once earlier frame (misfit.Count m) (misfit.Many n) is also same = absurd (omega arith)
+kind_once earlier frame (misfit.One m) (misfit.Rate n) is also same = absurd (omega arith)
+kind_once earlier frame (misfit.One m) (misfit.Count n) is also same = absurd (omega arith)
+kind_once earlier frame (misfit.One m) (misfit.One n) is also same = ap misfit.One (is.holds.1 ∙ sym also.holds.1)
+kind_once earlier frame (misfit.One m) (misfit.Two n) is also same = absurd (omega arith)
+kind_once earlier frame (misfit.One m) (misfit.Many n) is also same = absurd (omega arith)
+kind_once earlier frame (misfit.Two m) (misfit.Rate n) is also same = absurd (omega arith)
+kind_once earlier frame (misfit.Two m) (misfit.Count n) is also same = absurd (omega arith)
+kind_once earlier frame (misfit.Two m) (misfit.One n) is also same = absurd (omega arith)
+kind_once earlier frame (misfit.Two m) (misfit.Two n) is also same = ap misfit.Two (is.holds.1 ∙ sym also.holds.1)
+kind_once earlier frame (misfit.Two m) (misfit.Many n) is also same = absurd (omega arith)
+kind_once earlier frame (misfit.Many m) (misfit.Rate n) is also same = absurd (omega arith)
+kind_once earlier frame (misfit.Many m) (misfit.Count n) is also same = absurd (omega arith)
+kind_once earlier frame (misfit.Many m) (misfit.One n) is also same = absurd (omega arith)
+kind_once earlier frame (misfit.Many m) (misfit.Two n) is also same = absurd (omega arith)
+kind_once earlier frame (misfit.Many m) (misfit.Many n) is also same = ap misfit.Many (is.holds.1 ∙ sym also.holds.1)
+kind_once earlier frame (misfit.Rate m) (misfit.Changed w) is also same = absurd (omega arith)
+kind_once earlier frame (misfit.Changed w) (misfit.Rate m) is also same = absurd (omega arith)
+kind_once earlier frame (misfit.Count m) (misfit.Changed w) is also same = absurd (omega arith)
+kind_once earlier frame (misfit.Changed w) (misfit.Count m) is also same = absurd (omega arith)
+kind_once earlier frame (misfit.One m) (misfit.Changed w) is also same = absurd (omega arith)
+kind_once earlier frame (misfit.Changed w) (misfit.One m) is also same = absurd (omega arith)
+kind_once earlier frame (misfit.Two m) (misfit.Changed w) is also same = absurd (omega arith)
+kind_once earlier frame (misfit.Changed w) (misfit.Two m) is also same = absurd (omega arith)
+kind_once earlier frame (misfit.Many m) (misfit.Changed w) is also same = absurd (omega arith)
+kind_once earlier frame (misfit.Changed w) (misfit.Many m) is also same = absurd (omega arith)
+kind_once earlier frame (misfit.Changed v) (misfit.Changed w) is also same = ap misfit.Changed (first_once (earlier ++ frame ∷ []) v w is.holds also.holds)
+
+misfit_same : (a b : Misfit) → a.frame ≡ b.frame → a.kind ≡ b.kind → a ≡ b
+misfit_same a b frame kind =
+    ap (λ n. record { frame = n; kind = a.kind }) frame ∙ ap (λ (k : MisfitKind). record { frame = b.frame; kind = k }) kind
+
+pub misfit_once : MisfitIsOne
+misfit_once earlier frame a b one other =
+    misfit_same a b (one.0 ∙ sym other.0)
+    (kind_once earlier frame a.kind b.kind one.1 other.1
+    (ordered (rank a.kind) (rank b.kind) (λ less. other.1.first a.kind less one.1.holds) (λ more. one.1.first b.kind more other.1.holds)))
+
+-- one frame among others that are fit is fit
+pub fit_among : (earlier frames : List Frame) (last : Frame) (behind : List Frame) → AreFitBehind earlier ((frames ++ last ∷ []) ++ behind) → IsFit (earlier ++ frames) last
+fit_among earlier [] last behind are = subst (λ (fs : List Frame). IsFit fs last) (sym (append-nil earlier)) are.0
+fit_among earlier (frame ∷ frames) last behind are =
+    subst (λ (fs : List Frame). IsFit fs last) (append_assoc earlier (frame ∷ []) frames) (fit_among (earlier ++ frame ∷ []) frames last behind are.1)

@@ -1,0 +1,32 @@
+-- What a halver is behind the frames that it took.
+use Rattle.std.specs.Prelude.{◌≡◌, ◌*◌, List, [], ◌∷◌, ◌++◌, length, Option, Some, None}
+use Rattle.cdp_packets.specs.Packets.{Packet as Frame}
+use Rattle.dtvcc_services.specs.Objects.{all_ticks}
+use Rattle.findings.specs.declared.misfit.Misfit.{Misfit}
+use Rattle.halved_frames.specs.Conversion.{conversion, converted_bytes}
+use Rattle.rate_convert.specs.Grids.{KeepsGrids}
+use Rattle.rate_convert.specs.Misfits.{AreFit, IsMisfitAt}
+use Rattle.rate_convert.specs.ServedFrames.{AreServed}
+use Rattle.rate_convert.specs.declared.halver.Halver.{Halver}
+
+-- the misfit of the last frame that it took, if it has one
+abbrev pub misfit_of : Halver → Option Misfit
+misfit_of halver = halver.misfit
+
+-- it took these frames, none of which has a misfit; the services of its own output took what they become; and it has the bytes of both
+-- halves of the last one
+pub record HasHalved (frames : List Frame) (halver : Halver) : Type 0 where
+  pub fit : AreFit frames
+  pub keeps : KeepsGrids frames
+  pub served : AreServed (conversion frames) halver.served
+  pub ticks : all_ticks halver.served.services ≡ 2 * length frames
+  pub none : misfit_of halver ≡ None
+  pub words : (earlier : List Frame) (last : Frame) → frames ≡ earlier ++ last ∷ [] → halver.words.items ≡ converted_bytes (length earlier) last
+
+-- it took one more frame behind earlier ones: that has a misfit, or else it is as before
+abbrev pub TookBy : Option Misfit → List Frame → Frame → Halver → Type 0
+TookBy None earlier last halver = HasHalved (earlier ++ last ∷ []) halver
+TookBy (Some found) earlier last halver = IsMisfitAt earlier last found
+
+abbrev pub Took : List Frame → Frame → Halver → Type 0
+Took earlier last halver = TookBy (misfit_of halver) earlier last halver

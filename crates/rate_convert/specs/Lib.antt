@@ -1,0 +1,7 @@
+pub mod Grids
+pub mod Misfits
+pub mod ServedFrames
+pub mod SortedTriplets
+pub mod Halvers
+pub mod Converters
+pub mod Laws

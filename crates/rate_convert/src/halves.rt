@@ -1,0 +1,168 @@
+ghost use Rattle.std.specs.Prelude.{◌≡◌, ◌≤◌, ◌<◌, ◌+◌, ◌*◌, ◌++◌, ◌∷◌, [], ℕ, List, All, false, length};
+ghost use Rattle.arrayvec.specs.ArrayVec.{array_vec_len};
+ghost use Rattle.cc_data.specs.declared.triplet.Triplet.{Triplet as TripletOf};
+ghost use Rattle.cc_receiver.specs.ReceivedServices.{received_windows};
+ghost use Rattle.cdp_packets.specs.Packets.{Packet as Frame};
+ghost use Rattle.dtvcc_services.specs.Numbers.{IsService};
+ghost use Rattle.dtvcc_services.specs.Objects.{all_ticks};
+ghost use Rattle.halved_frames.specs.Conversion.{first_half, first_or_filler, half_bytes, second_half, ten_triplets, written_half};
+ghost use Rattle.rate_convert.specs.ServedFrames.{AreNext, AreServed};
+ghost use Rattle.rate_convert.specs.SortedTriplets.{AreSorted, IsSorted};
+
+use crate::sorted::Sorted;
+use anc_words::write_packet;
+use arrayvec::ArrayVec;
+use cc_base::Rate;
+use cc_data::Triplet;
+use cc_receiver::Served;
+use cdp_packets::{cc_section, write_cdp};
+
+/// The identifiers of ancillary packets of captions (SMPTE ST 334-1).
+const CAPTION_DID: u8 = 0x61;
+
+const CAPTION_SDID: u8 = 0x01;
+
+/// The flags of a distribution packet with cc_data alone, of an active caption service (SMPTE ST 334-2).
+const CAPTION_FLAGS: u8 = 0x43;
+
+/// A triplet that doesn't count, with which sections are filled up (CTA-708-E, cc_data()).
+const FILLER: Triplet = Triplet {
+    valid: false,
+    kind: 2,
+    a: 0,
+    b: 0,
+};
+
+/// The most triplets of channel packets of a half.
+const MOST: usize = 9;
+
+/// The triplets of the two frames at 59.94 that a frame becomes (CTA-708-E, cc_data()).
+#[derive(Clone, Copy)]
+pub(crate) struct Halves {
+    pub(crate) first: [Triplet; 10],
+    pub(crate) second: [Triplet; 10],
+}
+
+impl Halves {
+    /// Those of sorted triplets, of which at most eighteen are of channel packets.
+    pub(crate) fn of(sorted: &Sorted) -> Halves
+        requires sorted { IsSorted sorted.now }
+        requires few { length sorted.now.channel.items ≤ 18 }
+        ensures halves { (triplets : List TripletOf) → AreSorted triplets sorted.now
+            → (result.first ≡ first_half triplets) × (result.second ≡ second_half triplets) }
+        ensures kinds { All (λ t. t.kind < 4) result.first × All (λ t. t.kind < 4) result.second }
+    {
+        Halves {
+            first: first_half(sorted),
+            second: second_half(sorted),
+        }
+    }
+
+    /// The bytes of the ancillary packets of both, where the frame has this number: its first half has twice the number, and its second
+    /// one more (SMPTE ST 334-1 and ST 334-2).
+    pub(crate) fn words(&self, frame: u32) -> ArrayVec<u8, 200>
+        requires { All (λ t. t.kind < 4) self.now.first × All (λ t. t.kind < 4) self.now.second }
+        ensures { result.items ≡ half_bytes (2 * frame) self.now.first ++ half_bytes (2 * frame + 1) self.now.second }
+    {
+        let counter = 2 * (frame % 32_768) as u16;
+        let mut words = ArrayVec::new();
+        put_half(counter, &self.first, &mut words);
+        put_half(counter + 1, &self.second, &mut words);
+        words
+    }
+
+    /// Services take both, one behind the other. Says whether something that is seen of a service may have changed.
+    pub(crate) fn serve(&self, served: &mut Served) -> bool
+        ensures served { (frames : List Frame) (one two : Frame) → AreNext frames served.old self.now.first self.now.second one two
+            → AreServed ((frames ++ one ∷ []) ++ two ∷ []) served.new }
+        ensures same { (frames : List Frame) (one two : Frame) → AreNext frames served.old self.now.first self.now.second one two
+            → result ≡ false → (service id : ℕ) → IsService service
+            → received_windows ((frames ++ one ∷ []) ++ two ∷ []) service id ≡ received_windows frames service id }
+        ensures ticks { all_ticks served.old.services + 1 < 4294967295 → all_ticks served.new.services ≡ all_ticks served.old.services + 2 }
+    {
+        served.frame(Rate::F5994, &self.first);
+        let first = served.is_touched();
+        served.frame(Rate::F5994, &self.second);
+        let second = served.is_touched();
+        first | second
+    }
+}
+
+// The triplets of the first half: that of field 1, and the first nine of channel packets.
+fn first_half(sorted: &Sorted) -> [Triplet; 10]
+    ensures { (triplets : List TripletOf) → AreSorted triplets sorted.now → result ≡ first_half triplets }
+{
+    let channel = sorted.channel.as_slice();
+    let cut = channel.len().min(MOST);
+    ten_triplets(&sorted.ones, &channel[..cut])
+}
+
+// The triplets of the second half: that of field 2, and the others of channel packets, of which there are eighteen at most.
+fn second_half(sorted: &Sorted) -> [Triplet; 10]
+    requires { length sorted.now.channel.items ≤ 18 }
+    ensures { (triplets : List TripletOf) → AreSorted triplets sorted.now → result ≡ second_half triplets }
+{
+    let channel = sorted.channel.as_slice();
+    let cut = channel.len().min(MOST);
+    ten_triplets(&sorted.twos, &channel[cut..])
+}
+
+// The ten triplets of a half: the first of those of a field, if there is one, and those of channel packets, of which there are at most nine.
+fn ten_triplets(field: &[Triplet], channel: &[Triplet]) -> [Triplet; 10]
+    requires few { length channel.now ≤ 9 }
+    ensures { result ≡ ten_triplets field.now channel.now }
+{
+    let mut triplets = [FILLER; 10];
+    triplets[0] = first_or_filler(field);
+    let behind = channel.len() + 1;
+    triplets[1..behind].copy_from_slice(channel);
+    triplets
+}
+
+// The first of triplets, or one that doesn't count where there is none.
+fn first_or_filler(triplets: &[Triplet]) -> Triplet
+    ensures { result ≡ first_or_filler triplets.now }
+{
+    match triplets {
+        [first, ..] => *first,
+        [] => FILLER,
+    }
+}
+
+// Puts the bytes of the ancillary packet of a half behind others, by the low 16 bits of its frame number and its triplets.
+fn put_half(counter: u16, triplets: &[Triplet; 10], out: &mut ArrayVec<u8, 200>)
+    requires kinds { All (λ t. t.kind < 4) triplets.now }
+    requires room { array_vec_len out.old ≤ 100 }
+    ensures bytes { out.new.items ≡ out.old.items ++ written_half counter triplets.now }
+    ensures len { array_vec_len out.new ≡ array_vec_len out.old + 100 }
+{
+    let mut words = ArrayVec::new();
+    write_half(counter, triplets, &mut words);
+    append(&words, out);
+}
+
+// Writes the bytes of the ancillary packet of a half into an empty `out`.
+#[tactic(auto, using(crate::proofs::HalvesLemmas::no_sections))]
+fn write_half(counter: u16, triplets: &[Triplet; 10], out: &mut ArrayVec<u8, 524>)
+    requires kinds { All (λ t. t.kind < 4) triplets.now }
+    requires empty { out.old.items ≡ [] }
+    ensures { out.new.items ≡ written_half counter triplets.now }
+{
+    let mut section = ArrayVec::new();
+    cc_section(triplets, &mut section);
+    let mut packet = ArrayVec::new();
+    write_cdp(Rate::F5994, CAPTION_FLAGS, counter, &section, &mut packet);
+    write_packet(CAPTION_DID, CAPTION_SDID, &packet, out);
+}
+
+// Puts the hundred bytes of a packet behind others.
+fn append(packet: &ArrayVec<u8, 524>, out: &mut ArrayVec<u8, 200>)
+    requires size { array_vec_len packet.now ≡ 100 }
+    requires room { array_vec_len out.old ≤ 100 }
+    ensures bytes { out.new.items ≡ out.old.items ++ packet.now.items }
+    ensures len { array_vec_len out.new ≡ array_vec_len out.old + 100 }
+{
+    if out.try_extend_from_slice(packet).is_err() {
+        unreachable!();
+    }
+}
