@@ -1,0 +1,5 @@
+use Rattle.dual_commands.proofs.VerdictLemmas.{refused_once}
+use Rattle.dual_commands.proofs.laws.refusal_is_one.Goals as goal
+
+pub returns : goal.returns
+returns c = refused_once

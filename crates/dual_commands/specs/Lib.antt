@@ -1,0 +1,5 @@
+pub mod DualLists
+pub mod DualStatus
+pub mod DualWords
+pub mod DualAnswer
+pub mod DualVerdict
