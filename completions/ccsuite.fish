@@ -12,4 +12,5 @@ complete -c ccsuite -n __fish_use_subcommand -a insert -d 'Words with the captio
 complete -c ccsuite -n __fish_use_subcommand -a import -d 'The words of an SCC file'
 complete -c ccsuite -n __fish_use_subcommand -a export -d 'The SCC file of words'
 complete -c ccsuite -n __fish_use_subcommand -a load -d 'A list of many captions, carried and received'
-complete -c ccsuite -n '__fish_seen_subcommand_from verify insert; and test (count (commandline -opc)) -eq 2' -F
+complete -c ccsuite -n __fish_use_subcommand -a dual -d 'The words of two cue lists, the second on CC2 and CC4'
+complete -c ccsuite -n '__fish_seen_subcommand_from verify insert dual; and test (count (commandline -opc)) -eq 2' -F

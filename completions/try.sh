@@ -62,7 +62,7 @@ for shell in bash zsh fish; do
         echo "$shell isn't installed: its completions weren't tried"
         continue
     fi
-    offers "$shell" 'ccsuite ' 'pairs build cues decode show conceal verify insert import export load'
+    offers "$shell" 'ccsuite ' 'pairs build cues decode show conceal verify insert import export load dual'
     offers "$shell" 'ccsuite b' 'build'
     offers "$shell" 'ccsuite c' 'cues conceal'
     offers "$shell" 'ccsuite q' ''
@@ -74,6 +74,7 @@ for shell in bash zsh fish; do
     offers "$shell" 'ccsuite insert l' 'list.csv'
     offers "$shell" 'ccsuite insert list.csv ' ''
     offers "$shell" 'ccsuite load ' ''
+    offers "$shell" 'ccsuite dual l' 'list.csv'
     [ "$failed" = 0 ] && echo "completions of $shell: as they should be"
 done
 exit "$failed"

@@ -52,7 +52,7 @@ class Case:
 
     @property
     def reads_nothing(self):
-        return self.words[:1] == ["load"] or self.status == 1 or self.listed is not None and self.status in (7, 8)
+        return self.words[:1] == ["load"] or self.status == 1 or self.listed is not None and self.status in (7, 8) and self.words[0] != "dual"
 
     @property
     def reads_words(self):
@@ -256,7 +256,7 @@ def try_puts(case, whole):
     pieces = [int(result) for called, arguments, result in whole.calls if called == "write" and arguments.startswith("1,")]
     for put, number in enumerate(writes):
         before = sum(pieces[:put])
-        if case.words[0] in ("build", "import") and before % (100 if b",59.94," in case.given else 160):
+        if case.words[0] in ("build", "dual", "import") and before % (100 if b",59.94," in case.given else 160):
             fail(case, f"put {put}", whole, "a frame is written in parts")
         for how in ("error=EIO", "error=ENOSPC", "retval=0"):
             need(case, f"put {put}, {how}", run(case, inject=(f"write:{how}:when={number}",)), 3, whole.out[:before])
@@ -313,7 +313,7 @@ def try_ends(case, whole):
 def try_case(case, sizes):
     whole = run(case, traced=True)
     need(case, "nothing fails", whole, case.status, whole.out, case.line)
-    if case.status in (5, 6, 7, 8) and not case.reads_words:
+    if case.status in (5, 6, 7, 8, 11) and not case.reads_words:
         need(case, "refused", whole, case.status, b"", case.line)
     if case.status == 0 and case.words[0] == "insert" and case.listed == b"ccsuite,1,29.97,3\n":
         need(case, "a list without captions into words without captions", whole, 0, case.given)
@@ -336,7 +336,7 @@ def built(text):
 
 def commands():
     """Each command with its cases, and the sizes of the pieces in which they are read."""
-    usage = b"usage: ccsuite pairs|build|decode|show FRAME|verify CUES|insert CUES|import|export TIME|cues|load N|conceal\n"
+    usage = b"usage: ccsuite pairs|build|decode|show FRAME|verify CUES|insert CUES|import|export TIME|cues|load N|dual CUES|conceal\n"
     yield "usage", [Case(it, b"x", 1, usage) for it in ([], ["load", "0"], ["load", "03"], ["show"], ["show", "01"], ["pairs", "x"], ["conceal", "x"])], []
     hello = example("hello.csv")
     dense = hello.replace(b",0,7,20", b",0,6,20")
@@ -385,6 +385,13 @@ def commands():
         Case(["insert"], mixed, listed=three), Case(["insert"], mixed, 10, b"short: 3 frames\n", four), Case(["insert"], words, listed=hello),
         Case(["insert"], mixed, 8, b"no room: cue 1\n", dense), Case(["insert"], flagged, 6, b"malformed at byte 320: Flag\n", three),
     ], [80, 160, 4000]
+    beside = hello.replace(b",0,7,20", b",0,18,24").replace(b"HI", b"OK")
+    meets = b"rule FieldClash: cue 1 and cue 1\n"
+    yield "dual", [
+        Case(["dual"], hello, listed=beside), Case(["dual"], hello, 7, meets, hello), Case(["dual"], dense, 8, b"no room: cue 1\n", beside),
+        Case(["dual"], hello, 11, b"no room in CUES: cue 1\n", beside.replace(b",0,18,", b",13,17,")),
+        Case(["dual"], hello, 6, b"malformed at record 1 field 4: OtherList\n", b"ccsuite,1,29.97,31\n"), Case(["dual"], *lists[2], beside),
+    ], [1, 7, 4096]
     archive = example("archive.scc")
     yield "import", [
         Case(["import"], archive), Case(["import"], archive.replace(b";00", b";01").replace(b"02;01", b"00;01"), 6, b"malformed at byte 98: NoSuchTime\n"),

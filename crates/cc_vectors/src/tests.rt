@@ -11,6 +11,7 @@ mod conceal;
 mod cues;
 mod decode;
 mod double_rates;
+mod dual;
 mod insert;
 mod limits;
 mod load;
@@ -119,9 +120,9 @@ fn broken(why: Why) -> Status {
 #[test]
 fn words_that_are_no_command_are_usage(rt: HostRuntime) -> Result<(), Fail> {
     let usage =
-        b"usage: ccsuite pairs|build|decode|show FRAME|verify CUES|insert CUES|import|export TIME|cues|load N|conceal\n";
+        b"usage: ccsuite pairs|build|decode|show FRAME|verify CUES|insert CUES|import|export TIME|cues|load N|dual CUES|conceal\n";
     let none: [&str; 0] = [];
-    let lists: [&[&str]; 32] = [
+    let lists: [&[&str]; 34] = [
         &none,
         &["pairs", "x"],
         &["Pairs"],
@@ -154,6 +155,8 @@ fn words_that_are_no_command_are_usage(rt: HostRuntime) -> Result<(), Fail> {
         &["load", "10001"],
         &["load", "3", "3"],
         &["conceal", "x"],
+        &["dual"],
+        &["dual", "a", "b"],
     ];
     for words in lists {
         let ended = run_to_end(
@@ -171,12 +174,14 @@ fn words_that_are_no_command_are_usage(rt: HostRuntime) -> Result<(), Fail> {
 }
 
 #[test]
-fn verify_and_insert_name_a_side_file(rt: HostRuntime) -> Result<(), Fail> {
+fn verify_insert_and_dual_name_a_side_file(rt: HostRuntime) -> Result<(), Fail> {
     let alloc = rt.alloc();
     for (line, path) in [
         ("verify|list.csv", Some("list.csv")),
         ("insert|list.csv", Some("list.csv")),
         ("insert|", Some("")),
+        ("dual|list.csv", Some("list.csv")),
+        ("dual", None),
         ("verify", None),
         ("verify|a|b", None),
         ("show|3", None),

@@ -7,6 +7,7 @@ use Rattle.command_base.specs.declared.status.Status.{Status}
 use Rattle.cue_list_commands.specs.SideEnds.{SideEnds}
 use Rattle.cue_list_commands.specs.SideLists.{TellsSideFaults}
 use Rattle.cue_list_commands.proofs.SideLemmas.{side_kept}
+use Rattle.dual_commands.proofs.VerdictLemmas.{faults_told as dual_told}
 use Rattle.insert_commands.proofs.VerdictLemmas.{insert_told}
 use Rattle.load_commands.proofs.VerdictLemmas.{load_told}
 use Rattle.verify_commands.proofs.VerdictLemmas.{verify_told}
@@ -14,7 +15,7 @@ use Rattle.words_commands.proofs.WordsVerdictLemmas.{changes_long, changes_refus
 use Rattle.words_commands.specs.ConcealedScreens.{concealed_changes}
 use Rattle.words_commands.specs.Screens.{changes_of}
 use Rattle.ccsuite_cli.specs.Verdict.{AcceptedIsAnswered, FaultsAreTold, FileIsDecoded, LongWordsAreRefused, MalformedIsRefused, RefusedListIsAnswered}
-use Rattle.ccsuite_cli.specs.declared.command.Command.TheVariants.{Build, Conceal, Cues, Decode, Export, Import, Insert, Load, Pairs, Show, Verify}
+use Rattle.ccsuite_cli.specs.declared.command.Command.TheVariants.{Build, Conceal, Cues, Decode, Dual, Export, Import, Insert, Load, Pairs, Show, Verify}
 
 -- an accepted list
 pub accepted_answered : AcceptedIsAnswered
@@ -65,6 +66,7 @@ faults_told (Some Decode) side later old new answer is = (side_same side later a
 faults_told (Some (Show frame)) side later old new answer is = (side_same side later answer is.0, show_told frame old new answer is.1)
 faults_told (Some Verify) side later old new answer is = verify_told side later old new answer is
 faults_told (Some Insert) side later old new answer is = insert_told side later old new answer is
+faults_told (Some Dual) side later old new answer is = dual_told side later old new answer is
 faults_told (Some Import) side later old new answer is = (side_same side later answer is.0, told_import old new answer is.1)
 faults_told (Some (Export time)) side later old new answer is = (side_same side later answer is.0, told_export time old new answer is.1)
 faults_told (Some (Load count)) side later old new answer is = (side_same side later answer is.0, load_told count old new answer is.1)

@@ -11,8 +11,9 @@ use Rattle.cue_list_commands.specs.SideEnds.{SideEnds}
 use Rattle.verify_commands.specs.VerifyAnswer.{VerifyAnswer}
 use Rattle.insert_commands.specs.InsertAnswer.{InsertAnswer}
 use Rattle.load_commands.specs.LoadAnswer.{LoadAnswer}
+use Rattle.dual_commands.specs.DualAnswer.{DualAnswer}
 use Rattle.ccsuite_cli.specs.declared.command.Command.{Command}
-use Rattle.ccsuite_cli.specs.declared.command.Command.TheVariants.{Build, Conceal, Cues, Decode, Export, Import, Insert, Load, Pairs, Show, Verify}
+use Rattle.ccsuite_cli.specs.declared.command.Command.TheVariants.{Build, Conceal, Cues, Decode, Dual, Export, Import, Insert, Load, Pairs, Show, Verify}
 
 -- what a run answers: by its side file too, where its command reads one, and else it leaves that
 abbrev pub Answer : Option Command → SideEnds → SideEnds → Ends → Ends → Status → Type 0
@@ -27,4 +28,5 @@ Answer (Some Insert) side later old new answer = InsertAnswer side later old new
 Answer (Some Import) side later old new answer = (later ≡ side) × ImportAnswer old new answer
 Answer (Some (Export time)) side later old new answer = (later ≡ side) × ExportAnswer time old new answer
 Answer (Some (Load count)) side later old new answer = (later ≡ side) × LoadAnswer count old new answer
+Answer (Some Dual) side later old new answer = DualAnswer side later old new answer
 Answer (Some Conceal) side later old new answer = (later ≡ side) × ConcealAnswer old new answer

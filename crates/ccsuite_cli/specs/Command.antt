@@ -7,7 +7,7 @@ use Rattle.time_codes.specs.Texts.{time_of_text}
 use Rattle.time_codes.specs.TimeCodes.{is_time_code}
 use Rattle.time_codes.specs.declared.time_code.TimeCode.{TimeCode}
 use Rattle.ccsuite_cli.specs.declared.command.Command.{Command}
-use Rattle.ccsuite_cli.specs.declared.command.Command.TheVariants.{Build, Conceal, Cues, Decode, Export, Import, Insert, Load, Pairs, Show, Verify}
+use Rattle.ccsuite_cli.specs.declared.command.Command.TheVariants.{Build, Conceal, Cues, Decode, Dual, Export, Import, Insert, Load, Pairs, Show, Verify}
 
 -- the last frame that `show` can name
 abbrev pub last_frame : ℕ
@@ -42,6 +42,7 @@ commands =
     ∷ (codes "export", Argument (codes "TIME") (λ time. option_map Export (start_of time)))
     ∷ (codes "cues", Nothing Cues)
     ∷ (codes "load", Argument (codes "N") (λ count. option_map Load (number_within 1 most_load count)))
+    ∷ (codes "dual", Argument (codes "CUES") (λ path. Some Dual))
     ∷ (codes "conceal", Nothing Conceal)
     ∷ []
 
@@ -65,6 +66,7 @@ command_of _ = None
 abbrev pub has_side_file : Option Command → Bool
 has_side_file (Some Verify) = true
 has_side_file (Some Insert) = true
+has_side_file (Some Dual) = true
 has_side_file _ = false
 
 -- the path of the side file of these words: the argument of a command that reads one

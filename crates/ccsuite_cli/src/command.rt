@@ -32,13 +32,15 @@ pub enum Command {
     Export(TimeCode),
     /// `load N`: what comes of a list of so many captions, 1 to 10,000.
     Load(u32),
+    /// `dual CUES`: the ancillary words of each frame of a cue list, with the one of the side file beside it on CC2 and CC4.
+    Dual,
     /// `conceal`: the changed screens of each frame of a words file from which frames may be missing.
     Conceal,
 }
 
 /// The line for words that are no command.
 pub(crate) const USAGE: &[u8] =
-    b"usage: ccsuite pairs|build|decode|show FRAME|verify CUES|insert CUES|import|export TIME|cues|load N|conceal\n";
+    b"usage: ccsuite pairs|build|decode|show FRAME|verify CUES|insert CUES|import|export TIME|cues|load N|dual CUES|conceal\n";
 
 /// The last frame that `show` can name.
 const LAST_FRAME: u64 = 4_294_967_294;
@@ -58,7 +60,7 @@ pub fn side_of(words: &[String]) -> Option<&str>
 fn reads_side_file(command: Option<Command>) -> bool
     ensures { result ≡ has_side_file command }
 {
-    matches!(command, Some(Command::Verify | Command::Insert))
+    matches!(command, Some(Command::Verify | Command::Insert | Command::Dual))
 }
 
 /// The command of the words after the program's name; None where they are no command.
@@ -89,8 +91,8 @@ fn read_word(word: &str) -> Option<Command>
     }
 }
 
-/// The command of a word and its argument: `show` with the number of a frame, `verify` and `insert` with the path of a side file,
-/// whatever it is, `export` with a time code, `load` with the number of captions.
+/// The command of a word and its argument: `show` with the number of a frame, `verify`, `insert` and `dual` with the path of a side
+/// file, whatever it is, `export` with a time code, `load` with the number of captions.
 fn read_two(word: &str, argument: &str) -> Option<Command>
     ensures command { result ≡ command_of (word.now ∷ argument.now ∷ []) }
     ensures runnable { IsRunnable result }
@@ -99,6 +101,7 @@ fn read_two(word: &str, argument: &str) -> Option<Command>
         "show" => read_frame(argument).map(Command::Show),
         "verify" => Some(Command::Verify),
         "insert" => Some(Command::Insert),
+        "dual" => Some(Command::Dual),
         "export" => match read_start(argument) {
             Some(time) => Some(Command::Export(time)),
             None => None,

@@ -10,6 +10,7 @@ use crate::status_line::put_status;
 use cc_base::{Sink, Source};
 use command_base::Status;
 use cue_list_commands::{run_build, run_cues, run_pairs};
+use dual_commands::run_dual;
 use insert_commands::run_insert;
 use load_commands::run_load;
 use scc_commands::{run_export, run_import};
@@ -86,6 +87,7 @@ fn perform<M: Source, S: Source, O: Sink>(
         Command::Import => run_import(alloc, input, out),
         Command::Export(time) => run_export(alloc, time, input, out),
         Command::Load(count) => run_load(alloc, count, out),
+        Command::Dual => run_dual(alloc, input, side, out),
         Command::Conceal => run_conceal(alloc, input, out),
     }
 }

@@ -40,6 +40,12 @@ returns-in-Insert-clause-answer g c = rw c.in-Insert.is c.run_insert.ensures
 pub returns-in-Insert-clause-side : goal.returns-in-Insert-clause-side
 returns-in-Insert-clause-side g c = rw c.in-Insert.is (λ none. cc)
 
+pub returns-in-Dual-clause-answer : goal.returns-in-Dual-clause-answer
+returns-in-Dual-clause-answer g c = rw c.in-Dual.is c.run_dual.ensures
+
+pub returns-in-Dual-clause-side : goal.returns-in-Dual-clause-side
+returns-in-Dual-clause-side g c = rw c.in-Dual.is (λ none. cc)
+
 pub run_load-requires : goal.run_load-requires
 run_load-requires g c = let within = rw c.in-Load.is at c.requires in record { some = within.0; most = within.1 }
 
