@@ -3,7 +3,7 @@
 # sums them, and beside `cat` of them, by turns in one run: the least processor time of ten runs each, for a frame. First of
 # captions as most programmes have them (pop-on captions of two rows on CC1, paint-on ones on CC3), then of a live programme
 # (pop-on and paint-on captions on CC1, roll-up captions on CC3 without a rest), where two of five frames change a screen; and of
-# the usual programme with every tenth frame lost. `conceal` of the same words runs beside `decode`. Then
+# the usual programme with every tenth frame lost. `conceal` and `xds-show` of the same words run beside `decode`. Then
 # the peak memory of `decode` and `show` on 1,000 and on 1,000,000 frames. The same of captions of services: of one, which is sent bytes in
 # five of 60 frames, and of six, which are in 30 of 60; and of 1,000,000 frames in which nothing comes. Needs build/ccsuite (make) and gcc.
 source "$(dirname "$0")/lists.sh"
@@ -80,9 +80,10 @@ for programme in usual lossy live one all none; do
         timed 'read loop' "$work/read_loop"
         timed decode "$program" decode
         timed conceal "$program" conceal
+        timed xds-show "$program" xds-show
         timed show "$program" show "$shown"
     done
-    for name in cat 'read loop' decode conceal show; do
+    for name in cat 'read loop' decode conceal xds-show show; do
         printf '%-32s %s ns a frame\n' "$programme: $name" $((least[$name] * 1000 / frames))
     done
 done

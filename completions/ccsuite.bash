@@ -4,7 +4,7 @@ _ccsuite() {
     local word=${COMP_WORDS[COMP_CWORD]}
     COMPREPLY=()
     if ((COMP_CWORD == 1)); then
-        COMPREPLY=($(compgen -W 'pairs build cues decode show conceal verify insert import export load dual' -- "$word"))
+        COMPREPLY=($(compgen -W 'pairs build cues decode show conceal xds-show verify insert import export load dual' -- "$word"))
     elif ((COMP_CWORD == 2)) && [[ ${COMP_WORDS[1]} == @(verify|insert|dual) ]]; then
         compopt -o filenames 2> /dev/null
         mapfile -t COMPREPLY < <(compgen -f -- "$word")

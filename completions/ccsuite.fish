@@ -7,6 +7,7 @@ complete -c ccsuite -n __fish_use_subcommand -a cues -d 'A cue list as it is wri
 complete -c ccsuite -n __fish_use_subcommand -a decode -d 'The changed screens of each frame of a words file'
 complete -c ccsuite -n __fish_use_subcommand -a show -d 'All screens at a frame of a words file'
 complete -c ccsuite -n __fish_use_subcommand -a conceal -d 'The changed screens of words from which frames are missing'
+complete -c ccsuite -n __fish_use_subcommand -a xds-show -d 'The packets of extended data of a words file'
 complete -c ccsuite -n __fish_use_subcommand -a verify -d 'Whether words show what a cue list says'
 complete -c ccsuite -n __fish_use_subcommand -a insert -d 'Words with the captions of a cue list'
 complete -c ccsuite -n __fish_use_subcommand -a import -d 'The words of an SCC file'

@@ -62,13 +62,15 @@ for shell in bash zsh fish; do
         echo "$shell isn't installed: its completions weren't tried"
         continue
     fi
-    offers "$shell" 'ccsuite ' 'pairs build cues decode show conceal verify insert import export load dual'
+    offers "$shell" 'ccsuite ' 'pairs build cues decode show conceal xds-show verify insert import export load dual'
     offers "$shell" 'ccsuite b' 'build'
     offers "$shell" 'ccsuite c' 'cues conceal'
     offers "$shell" 'ccsuite q' ''
     offers "$shell" 'ccsuite show ' ''
     offers "$shell" 'ccsuite build ' ''
     offers "$shell" 'ccsuite conceal ' ''
+    offers "$shell" 'ccsuite x' 'xds-show'
+    offers "$shell" 'ccsuite xds-show ' ''
     offers "$shell" 'ccsuite verify ' 'build list.csv'
     offers "$shell" 'ccsuite verify list.csv ' ''
     offers "$shell" 'ccsuite insert l' 'list.csv'

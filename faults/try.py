@@ -29,6 +29,10 @@ import threading
 from dataclasses import dataclass, field
 
 EXAMPLES = pathlib.Path(__file__).resolve().parent.parent / "examples"
+sys.dont_write_bytecode = True
+sys.path.insert(0, str(EXAMPLES))
+import cdp  # noqa: E402
+
 LINES = {2: b"read fault\n", 3: b"write fault\n", 4: b"out of memory\n"}
 PROGRAM = str(pathlib.Path(sys.argv[1]).resolve())
 
@@ -56,7 +60,7 @@ class Case:
 
     @property
     def reads_words(self):
-        return bool(self.words) and self.words[0] in ("decode", "show", "conceal", "verify", "insert", "export")
+        return bool(self.words) and self.words[0] in ("decode", "show", "conceal", "xds-show", "verify", "insert", "export")
 
     def __str__(self):
         return f"{' '.join(self.words)} on {len(self.given)} bytes"
@@ -152,6 +156,8 @@ def due(case, whole, taken):
     ends = [(end, counter) for end, counter in packet_ends(case.given) if end <= taken]
     counters = [counter for _, counter in ends if counter is not None]
     frames = len(counters)
+    if case.words[0] == "xds-show":
+        return b"".join(it[0] for it in re.finditer(rb"frame (\d+) .*\n", whole.out) if int(it[1]) < frames)
     if case.words[0] in ("decode", "conceal"):
         # `conceal` numbers frames by their counters, which stay below 65,536 in the cases here.
         behind = counters[-1] + 1 if counters and case.words[0] == "conceal" else frames
@@ -334,10 +340,21 @@ def built(text):
     return run(Case(["build"], text)).out
 
 
+def with_field_two(words, pairs):
+    """Words as `build` writes them, whose first frames have these pairs of field 2 in place of their own."""
+    packets, place = bytearray(cdp.from_words(words)), 0
+    for it in range(0, len(pairs), 2):
+        end = place + packets[place + 2]
+        packets[place + 13:place + 15] = pairs[it:it + 2]
+        packets[end - 1] = -sum(packets[place:end - 1]) % 256
+        place = end
+    return cdp.to_words(bytes(packets))
+
+
 def commands():
     """Each command with its cases, and the sizes of the pieces in which they are read."""
-    usage = b"usage: ccsuite pairs|build|decode|show FRAME|verify CUES|insert CUES|import|export TIME|cues|load N|dual CUES|conceal\n"
-    yield "usage", [Case(it, b"x", 1, usage) for it in ([], ["load", "0"], ["load", "03"], ["show"], ["show", "01"], ["pairs", "x"], ["conceal", "x"])], []
+    usage = b"usage: ccsuite pairs|build|decode|show FRAME|verify CUES|insert CUES|import|export TIME|cues|load N|dual CUES|xds-show|conceal\n"
+    yield "usage", [Case(it, b"x", 1, usage) for it in ([], ["load", "0"], ["load", "03"], ["show"], ["show", "01"], ["pairs", "x"], ["xds-show", "x"], ["conceal", "x"])], []
     hello = example("hello.csv")
     dense = hello.replace(b",0,7,20", b",0,6,20")
     clash = hello.replace(b",0,7,20", b",0,7,8")
@@ -373,6 +390,12 @@ def commands():
     yield "conceal", [
         Case(conceal, lossy), Case(conceal, mixed), Case(conceal, b""), Case(conceal, lossy[:2100], 6, b"malformed at byte 2100: Truncated\n"),
         Case(conceal, flagged, 6, b"malformed at byte 320: Flag\n"),
+    ], [80, 160, 4000]
+    # Two packets, NEWS in frames 1 to 4 and A in frames 5 to 7, in the words of HI.
+    xds_show, extended = ["xds-show"], with_field_two(words, bytes.fromhex("8080 0183 CE45 57D3 8FB0 0101 C180 8FAE"))
+    yield "xds-show", [
+        Case(xds_show, extended), Case(xds_show, mixed), Case(xds_show, b""), Case(xds_show, extended[:900], 6, b"malformed at byte 900: Truncated\n"),
+        Case(xds_show, flagged, 6, b"malformed at byte 320: Flag\n"),
     ], [80, 160, 4000]
     late = hello.replace(b",0,7,20", b",0,8,20")
     differs = b"differs at frame 7: GridDiffers CC1\n"

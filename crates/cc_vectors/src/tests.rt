@@ -23,6 +23,7 @@ mod show;
 mod verify;
 mod windows;
 mod words;
+mod xds_show;
 
 /// The list of the caption HI on 30 frames.
 const HI: &[u8] = b"ccsuite,1,29.97,30\npop,CC1,0,7,20\nrun,15,0,white,HI\n";
@@ -120,9 +121,9 @@ fn broken(why: Why) -> Status {
 #[test]
 fn words_that_are_no_command_are_usage(rt: HostRuntime) -> Result<(), Fail> {
     let usage =
-        b"usage: ccsuite pairs|build|decode|show FRAME|verify CUES|insert CUES|import|export TIME|cues|load N|dual CUES|conceal\n";
+        b"usage: ccsuite pairs|build|decode|show FRAME|verify CUES|insert CUES|import|export TIME|cues|load N|dual CUES|xds-show|conceal\n";
     let none: [&str; 0] = [];
-    let lists: [&[&str]; 34] = [
+    let lists: [&[&str]; 36] = [
         &none,
         &["pairs", "x"],
         &["Pairs"],
@@ -154,6 +155,8 @@ fn words_that_are_no_command_are_usage(rt: HostRuntime) -> Result<(), Fail> {
         &["load", "+3"],
         &["load", "10001"],
         &["load", "3", "3"],
+        &["xds-show", "x"],
+        &["xds_show"],
         &["conceal", "x"],
         &["dual"],
         &["dual", "a", "b"],

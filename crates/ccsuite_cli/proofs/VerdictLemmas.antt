@@ -13,9 +13,10 @@ use Rattle.load_commands.proofs.VerdictLemmas.{load_told}
 use Rattle.verify_commands.proofs.VerdictLemmas.{verify_told}
 use Rattle.words_commands.proofs.WordsVerdictLemmas.{changes_long, changes_refused, changes_told, file_changes, show_long, show_refused, show_told}
 use Rattle.words_commands.specs.ConcealedScreens.{concealed_changes}
+use Rattle.words_commands.specs.PacketLines.{packet_lines}
 use Rattle.words_commands.specs.Screens.{changes_of}
 use Rattle.ccsuite_cli.specs.Verdict.{AcceptedIsAnswered, FaultsAreTold, FileIsDecoded, LongWordsAreRefused, MalformedIsRefused, RefusedListIsAnswered}
-use Rattle.ccsuite_cli.specs.declared.command.Command.TheVariants.{Build, Conceal, Cues, Decode, Dual, Export, Import, Insert, Load, Pairs, Show, Verify}
+use Rattle.ccsuite_cli.specs.declared.command.Command.TheVariants.{Build, Conceal, Cues, Decode, Dual, Export, Import, Insert, Load, Pairs, Show, Verify, XdsShow}
 
 -- an accepted list
 pub accepted_answered : AcceptedIsAnswered
@@ -36,6 +37,7 @@ pub malformed_refused : MalformedIsRefused
 malformed_refused bytes refusal Decode side later old new answer reads malformed within read is = changes_refused changes_of bytes refusal old new answer malformed within read is.1
 malformed_refused bytes refusal Conceal side later old new answer reads malformed within read is =
     changes_refused concealed_changes bytes refusal old new answer malformed within read is.1
+malformed_refused bytes refusal XdsShow side later old new answer reads malformed within read is = changes_refused packet_lines bytes refusal old new answer malformed within read is.1
 malformed_refused bytes refusal (Show frame) side later old new answer reads malformed within read is = show_refused frame bytes refusal old new answer malformed within read is.1
 malformed_refused bytes refusal _ side later old new answer reads malformed within read is = absurd reads
 
@@ -43,12 +45,14 @@ malformed_refused bytes refusal _ side later old new answer reads malformed with
 pub file_put : FileIsDecoded
 file_put bytes frames Decode side later old new answer puts file within read is = file_changes changes_of bytes frames old new answer file within read is.1
 file_put bytes frames Conceal side later old new answer puts file within read is = file_changes concealed_changes bytes frames old new answer file within read is.1
+file_put bytes frames XdsShow side later old new answer puts file within read is = file_changes packet_lines bytes frames old new answer file within read is.1
 file_put bytes frames _ side later old new answer puts file within read is = absurd puts
 
 -- words past the limit
 pub long_refused : LongWordsAreRefused
 long_refused bytes Decode side later old new answer reads past read is = changes_long changes_of bytes old new answer past read is.1
 long_refused bytes Conceal side later old new answer reads past read is = changes_long concealed_changes bytes old new answer past read is.1
+long_refused bytes XdsShow side later old new answer reads past read is = changes_long packet_lines bytes old new answer past read is.1
 long_refused bytes (Show frame) side later old new answer reads past read is = show_long frame bytes old new answer past read is.1
 long_refused bytes _ side later old new answer reads past read is = absurd reads
 
@@ -70,4 +74,5 @@ faults_told (Some Dual) side later old new answer is = dual_told side later old 
 faults_told (Some Import) side later old new answer is = (side_same side later answer is.0, told_import old new answer is.1)
 faults_told (Some (Export time)) side later old new answer is = (side_same side later answer is.0, told_export time old new answer is.1)
 faults_told (Some (Load count)) side later old new answer is = (side_same side later answer is.0, load_told count old new answer is.1)
+faults_told (Some XdsShow) side later old new answer is = (side_same side later answer is.0, changes_told packet_lines old new answer is.1)
 faults_told (Some Conceal) side later old new answer is = (side_same side later answer is.0, changes_told concealed_changes old new answer is.1)

@@ -4,7 +4,7 @@ use Rattle.command_base.specs.Ends.{Ends}
 use Rattle.command_base.specs.declared.status.Status.{Status}
 use Rattle.command_base.specs.declared.status.Status.TheVariants as status
 use Rattle.cue_list_commands.specs.ListAnswer.{BuildAnswer, CuesAnswer, PairsAnswer}
-use Rattle.words_commands.specs.WordsAnswer.{ConcealAnswer, DecodeAnswer, ShowAnswer}
+use Rattle.words_commands.specs.WordsAnswer.{ConcealAnswer, DecodeAnswer, ShowAnswer, XdsShowAnswer}
 use Rattle.scc_commands.specs.Export.{ExportAnswer}
 use Rattle.scc_commands.specs.Import.{ImportAnswer}
 use Rattle.cue_list_commands.specs.SideEnds.{SideEnds}
@@ -13,7 +13,7 @@ use Rattle.insert_commands.specs.InsertAnswer.{InsertAnswer}
 use Rattle.load_commands.specs.LoadAnswer.{LoadAnswer}
 use Rattle.dual_commands.specs.DualAnswer.{DualAnswer}
 use Rattle.ccsuite_cli.specs.declared.command.Command.{Command}
-use Rattle.ccsuite_cli.specs.declared.command.Command.TheVariants.{Build, Conceal, Cues, Decode, Dual, Export, Import, Insert, Load, Pairs, Show, Verify}
+use Rattle.ccsuite_cli.specs.declared.command.Command.TheVariants.{Build, Conceal, Cues, Decode, Dual, Export, Import, Insert, Load, Pairs, Show, Verify, XdsShow}
 
 -- what a run answers: by its side file too, where its command reads one, and else it leaves that
 abbrev pub Answer : Option Command → SideEnds → SideEnds → Ends → Ends → Status → Type 0
@@ -29,4 +29,5 @@ Answer (Some Import) side later old new answer = (later ≡ side) × ImportAnswe
 Answer (Some (Export time)) side later old new answer = (later ≡ side) × ExportAnswer time old new answer
 Answer (Some (Load count)) side later old new answer = (later ≡ side) × LoadAnswer count old new answer
 Answer (Some Dual) side later old new answer = DualAnswer side later old new answer
+Answer (Some XdsShow) side later old new answer = (later ≡ side) × XdsShowAnswer old new answer
 Answer (Some Conceal) side later old new answer = (later ≡ side) × ConcealAnswer old new answer

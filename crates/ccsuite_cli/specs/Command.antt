@@ -7,7 +7,7 @@ use Rattle.time_codes.specs.Texts.{time_of_text}
 use Rattle.time_codes.specs.TimeCodes.{is_time_code}
 use Rattle.time_codes.specs.declared.time_code.TimeCode.{TimeCode}
 use Rattle.ccsuite_cli.specs.declared.command.Command.{Command}
-use Rattle.ccsuite_cli.specs.declared.command.Command.TheVariants.{Build, Conceal, Cues, Decode, Dual, Export, Import, Insert, Load, Pairs, Show, Verify}
+use Rattle.ccsuite_cli.specs.declared.command.Command.TheVariants.{Build, Conceal, Cues, Decode, Dual, Export, Import, Insert, Load, Pairs, Show, Verify, XdsShow}
 
 -- the last frame that `show` can name
 abbrev pub last_frame : ℕ
@@ -43,6 +43,7 @@ commands =
     ∷ (codes "cues", Nothing Cues)
     ∷ (codes "load", Argument (codes "N") (λ count. option_map Load (number_within 1 most_load count)))
     ∷ (codes "dual", Argument (codes "CUES") (λ path. Some Dual))
+    ∷ (codes "xds-show", Nothing XdsShow)
     ∷ (codes "conceal", Nothing Conceal)
     ∷ []
 

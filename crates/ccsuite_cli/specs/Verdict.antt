@@ -22,7 +22,7 @@ use Rattle.cue_list_commands.specs.SideEnds.{SideEnds}
 use Rattle.cue_list_commands.specs.SideLists.{TellsAllFaults}
 use Rattle.ccsuite_cli.specs.Answer.{Answer}
 use Rattle.ccsuite_cli.specs.declared.command.Command.{Command}
-use Rattle.ccsuite_cli.specs.declared.command.Command.TheVariants.{Build, Conceal, Cues, Decode, Import, Load, Pairs, Show}
+use Rattle.ccsuite_cli.specs.declared.command.Command.TheVariants.{Build, Conceal, Cues, Decode, Import, Load, Pairs, Show, XdsShow}
 
 -- the commands that read a cue list
 abbrev pub ReadsCueList : Command → Type 0
@@ -56,10 +56,11 @@ RefusedListIsAnswered = (bytes : List ℕ) (refusal : Status) (command : Command
     → Refuses command bytes refusal → IsReadOf bytes old new → Answer (Some command) side later old new answer
     → (answer ≡ refusal) ⊎ (answer ≡ status.Memory)
 
--- the commands that put the changes of a words file
+-- the commands that put the changes, or other lines, of the frames of a words file
 abbrev pub PutsChanges : Command → Type 0
 PutsChanges Decode = Unit {0}
 PutsChanges Conceal = Unit {0}
+PutsChanges XdsShow = Unit {0}
 PutsChanges _ = ⊥
 
 -- they answer a words file Ok, or want of memory
@@ -78,6 +79,7 @@ FileIsShown = (frame : ℕ) (bytes : List ℕ) (frames : List Frame) (side later
 abbrev pub ReadsWordsFile : Command → Type 0
 ReadsWordsFile Decode = Unit {0}
 ReadsWordsFile Conceal = Unit {0}
+ReadsWordsFile XdsShow = Unit {0}
 ReadsWordsFile (Show frame) = Unit {0}
 ReadsWordsFile _ = ⊥
 

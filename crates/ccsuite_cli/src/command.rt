@@ -34,13 +34,15 @@ pub enum Command {
     Load(u32),
     /// `dual CUES`: the ancillary words of each frame of a cue list, with the one of the side file beside it on CC2 and CC4.
     Dual,
+    /// `xds-show`: the packets of extended data that end in each frame of a words file.
+    XdsShow,
     /// `conceal`: the changed screens of each frame of a words file from which frames may be missing.
     Conceal,
 }
 
 /// The line for words that are no command.
 pub(crate) const USAGE: &[u8] =
-    b"usage: ccsuite pairs|build|decode|show FRAME|verify CUES|insert CUES|import|export TIME|cues|load N|dual CUES|conceal\n";
+    b"usage: ccsuite pairs|build|decode|show FRAME|verify CUES|insert CUES|import|export TIME|cues|load N|dual CUES|xds-show|conceal\n";
 
 /// The last frame that `show` can name.
 const LAST_FRAME: u64 = 4_294_967_294;
@@ -60,7 +62,10 @@ pub fn side_of(words: &[String]) -> Option<&str>
 fn reads_side_file(command: Option<Command>) -> bool
     ensures { result ≡ has_side_file command }
 {
-    matches!(command, Some(Command::Verify | Command::Insert | Command::Dual))
+    matches!(
+        command,
+        Some(Command::Verify | Command::Insert | Command::Dual)
+    )
 }
 
 /// The command of the words after the program's name; None where they are no command.
@@ -86,6 +91,7 @@ fn read_word(word: &str) -> Option<Command>
         "cues" => Some(Command::Cues),
         "decode" => Some(Command::Decode),
         "import" => Some(Command::Import),
+        "xds-show" => Some(Command::XdsShow),
         "conceal" => Some(Command::Conceal),
         _ => None,
     }

@@ -21,7 +21,7 @@ pub fn refused_list_is_answered()
     ensures { RefusedListIsAnswered }
 {}
 
-/// The law that `decode` and `conceal` answer Ok to an input that is a words file within the limit, or Memory, where neither count of
+/// The law that `decode`, `conceal` and `xds-show` answer Ok to an input that is a words file within the limit, or Memory, where neither count of
 /// faults rose.
 pub fn file_is_decoded()
     ensures { FileIsDecoded }

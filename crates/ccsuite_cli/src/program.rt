@@ -16,7 +16,7 @@ use load_commands::run_load;
 use scc_commands::{run_export, run_import};
 use std::alloc::Global;
 use verify_commands::run_verify;
-use words_commands::{run_conceal, run_decode, run_show};
+use words_commands::{run_conceal, run_decode, run_show, run_xds_show};
 
 /// Runs the command of the words behind the program's name: reads `input`, puts to `out`, and ends with a status, whose
 /// one line is put to `err`. `side` is the file that a command names; a command that names none leaves it.
@@ -88,6 +88,7 @@ fn perform<M: Source, S: Source, O: Sink>(
         Command::Export(time) => run_export(alloc, time, input, out),
         Command::Load(count) => run_load(alloc, count, out),
         Command::Dual => run_dual(alloc, input, side, out),
+        Command::XdsShow => run_xds_show(alloc, input, out),
         Command::Conceal => run_conceal(alloc, input, out),
     }
 }

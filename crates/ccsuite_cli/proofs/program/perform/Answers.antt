@@ -16,6 +16,9 @@ returns-in-Cues-clause-answer g c = rw c.in-Cues.is (refl, c.run_cues.ensures)
 pub returns-in-Decode-clause-answer : goal.returns-in-Decode-clause-answer
 returns-in-Decode-clause-answer g c = rw c.in-Decode.is (refl, c.run_decode.ensures)
 
+pub returns-in-XdsShow-clause-answer : goal.returns-in-XdsShow-clause-answer
+returns-in-XdsShow-clause-answer g c = rw c.in-XdsShow.is (refl, c.run_xds_show.ensures)
+
 pub returns-in-Conceal-clause-answer : goal.returns-in-Conceal-clause-answer
 returns-in-Conceal-clause-answer g c = rw c.in-Conceal.is (refl, c.run_conceal.ensures)
 
