@@ -12,7 +12,8 @@ use Rattle.time_codes.specs.TimeCodes.{is_time_code}
 use Rattle.time_codes.specs.declared.time_code.TimeCode.{TimeCode}
 use Rattle.cc_base.specs.declared.why.Why.TheVariants as why
 use Rattle.scc_files.specs.Lines.{AreBlanks, AreLines, AreSpacedWords, AreSpaces, IsForm, IsLineEnd, IsPairWord, IsTimedLine, TimedLine}
-use Rattle.scc_files.specs.Phases.{ended, fits, hex_value, is_blank, may_end, phase_after, why_in, word_or_end}
+use Rattle.hex_digits.specs.HexDigits.{hex_value}
+use Rattle.scc_files.specs.Phases.{ended, fits, is_blank, may_end, phase_after, why_in, word_or_end}
 use Rattle.scc_files.specs.Reading.{at_first, at_first_frame, behind, judged, line_at, pairs_on, read_file, read_from, reached, step_to, text_done, timed, timed_form, with_pair}
 use Rattle.scc_files.specs.SccFiles.{AreTimed, IsSccFile, one_a_frame, placed_from}
 use Rattle.scc_files.specs.declared.phase.Phase.{Phase}

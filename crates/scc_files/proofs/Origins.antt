@@ -8,7 +8,8 @@ use Rattle.std.proofs.lemmas.List.{length-set, length-take-le}
 use Rattle.cc_base.specs.declared.why.Why.TheVariants as why
 use Rattle.time_codes.specs.Texts.{is_digit}
 use Rattle.scc_files.specs.Offences.{EndsLine}
-use Rattle.scc_files.specs.Phases.{ended, first_text, fits, hex_value, is_blank, phase_after, why_in, word_or_end}
+use Rattle.hex_digits.specs.HexDigits.{hex_value}
+use Rattle.scc_files.specs.Phases.{ended, first_text, fits, is_blank, phase_after, why_in, word_or_end}
 use Rattle.scc_files.specs.Reading.{Stepped, at_first, judged, reached, step}
 use Rattle.scc_files.specs.declared.phase.Phase.{Phase}
 use Rattle.scc_files.specs.declared.phase.Phase.TheVariants as phase

@@ -4,7 +4,7 @@ use Rattle.std.proofs.lemmas.Grind.{common_steps}
 use Rattle.line21_codes.specs.declared.pairs.Pair.{Pair}
 use Rattle.time_codes.specs.Frames.{frame_number}
 use Rattle.scc_files.specs.Lines.{AreLines, AreSpacedWords, IsPairWord, TimedLine}
-use Rattle.scc_files.specs.Phases.{hex_value}
+use Rattle.hex_digits.specs.HexDigits.{hex_value}
 use Rattle.scc_files.specs.SccFiles.{AreBytes, AreRising, IsSccFile, one_a_frame, placed_from}
 
 pub rising_lower : (pairs : List (ℕ × Pair)) (low lower : ℕ) → lower ≤ low → AreRising low pairs → AreRising lower pairs

@@ -9,9 +9,9 @@ use Rattle.time_codes.specs.Frames.{frame_number, frame_of, time_at}
 use Rattle.time_codes.specs.Texts.{HasTwoDigits, text_of}
 use Rattle.time_codes.specs.TimeCodes.{day_frames}
 use Rattle.scc_files.specs.Lines.{AreLines, AreSpacedWords, IsPairWord, IsTimedLine, TimedLine}
-use Rattle.scc_files.specs.Phases.{hex_value}
+use Rattle.hex_digits.specs.HexDigits.{hex_value, lower_hex_digit}
 use Rattle.scc_files.specs.SccFiles.{AreTimed, IsSccFile, one_a_frame, placed_from}
-use Rattle.scc_files.specs.Words.{lower_hex_digit, pair_word}
+use Rattle.scc_files.specs.Words.{pair_word}
 use Rattle.scc_files.specs.Writing.{Standing, between}
 use Rattle.scc_files.specs.Written.{AreWritable, counted, counted_from, pairs_not_null, text_from, written_file}
 use Rattle.scc_files.proofs.Complete.{number_is}

@@ -15,7 +15,8 @@ use Rattle.time_codes.specs.Frames.{frame_of}
 use Rattle.time_codes.specs.Texts.{IsTimeText, is_digit, time_of_text}
 use Rattle.time_codes.specs.declared.time_code.TimeCode.{TimeCode}
 use Rattle.scc_files.specs.Lines.{AreBlanks, AreLines, AreSpacedWords, AreSpaces, IsForm, IsLine, IsPairWord, TimedLine}
-use Rattle.scc_files.specs.Phases.{ended, first_text, fits, hex_value, is_blank, phase_after, word_or_end}
+use Rattle.hex_digits.specs.HexDigits.{hex_value}
+use Rattle.scc_files.specs.Phases.{ended, first_text, fits, is_blank, phase_after, word_or_end}
 use Rattle.scc_files.specs.Reading.{at_first, at_first_frame, behind, judged, pairs_on, read_from, reached, step_to, text_done, timed, timed_form, with_pair}
 use Rattle.scc_files.specs.SccFiles.{one_a_frame}
 use Rattle.scc_files.specs.declared.phase.Phase.{Phase}

@@ -5,7 +5,8 @@ use Rattle.std.specs.Prelude.{◌≡◌, ℕ, ◌+◌, ◌*◌, ◌⊎◌, true,
 use Rattle.line21_codes.specs.declared.pairs.Pair.{Pair}
 use Rattle.time_codes.specs.Texts.{IsTimeText}
 use Rattle.time_codes.specs.declared.time_code.TimeCode.{TimeCode}
-use Rattle.scc_files.specs.Phases.{first_text, hex_value, is_blank}
+use Rattle.hex_digits.specs.HexDigits.{hex_value}
+use Rattle.scc_files.specs.Phases.{first_text, is_blank}
 
 -- spaces, perhaps none
 abbrev pub AreSpaces : List ℕ → Type 0

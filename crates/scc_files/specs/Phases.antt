@@ -3,6 +3,7 @@ use Rattle.std.specs.Prelude.{ℕ, ◌+◌, ◌-◌, ◌*◌, ◌<◌, ◌==◌,
 use Rattle.std.specs.Option.{option_map}
 use Rattle.cc_base.specs.declared.why.Why.{Why}
 use Rattle.cc_base.specs.declared.why.Why.TheVariants as why
+use Rattle.hex_digits.specs.HexDigits.{hex_value}
 use Rattle.time_codes.specs.Texts.{is_digit}
 use Rattle.scc_files.specs.declared.phase.Phase.{Phase}
 use Rattle.scc_files.specs.declared.phase.Phase.TheVariants as phase
@@ -10,14 +11,6 @@ use Rattle.scc_files.specs.declared.phase.Phase.TheVariants as phase
 -- the text of the first line
 abbrev pub first_text : List ℕ
 first_text = codes "Scenarist_SCC V1.0"
-
--- the value of a hex digit of either case
-abbrev pub hex_value : ℕ → Option ℕ
-hex_value byte =
-    if nat_le 48 byte && nat_le byte 57 then Some (byte - 48)
-    else if nat_le 65 byte && nat_le byte 70 then Some (byte - 65 + 10)
-    else if nat_le 97 byte && nat_le byte 102 then Some (byte - 97 + 10)
-    else None
 
 -- a TAB or a space
 abbrev pub is_blank : ℕ → Bool

@@ -1,10 +1,7 @@
 -- The words of pairs as they are written.
-use Rattle.std.specs.Prelude.{ℕ, ◌+◌, ◌/◌, ◌%◌, if◌then◌else◌, nat_lt, List, [], ◌∷◌}
+use Rattle.std.specs.Prelude.{ℕ, ◌/◌, ◌%◌, List, [], ◌∷◌}
+use Rattle.hex_digits.specs.HexDigits.{lower_hex_digit}
 use Rattle.line21_codes.specs.declared.pairs.Pair.{Pair}
-
--- the lower-case hex digit of a value below 16
-abbrev pub lower_hex_digit : ℕ → ℕ
-lower_hex_digit value = if nat_lt value 10 then 48 + value else 87 + value
 
 -- a pair's word: four lower-case hex digits
 abbrev pub pair_word : Pair → List ℕ

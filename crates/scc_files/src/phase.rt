@@ -1,7 +1,9 @@
 ghost use Rattle.std.specs.Prelude.{◌≡◌, ◌<◌, ◌==◌, if◌then◌else◌, IfSome, Some, None};
-ghost use Rattle.scc_files.specs.Phases.{HasNumbersInRange, ended, first_text_ended, first_text_moved, fits, hex_value, may_end, phase_after, started, text_moved, why_in, word_or_end};
+ghost use Rattle.hex_digits.specs.HexDigits.{hex_value};
+ghost use Rattle.scc_files.specs.Phases.{HasNumbersInRange, ended, first_text_ended, first_text_moved, fits, may_end, phase_after, started, text_moved, why_in, word_or_end};
 
 use cc_base::Why;
+use hex_digits::hex_value;
 use line21_codes::Pair;
 
 /// The text of an SCC file's first line.
@@ -51,19 +53,6 @@ pub enum Phase {
     Whole(Pair),
     /// Behind spaces that follow a word.
     Between,
-}
-
-/// The value of a hex digit of either case.
-fn hex_value(byte: u8) -> Option<u8>
-    ensures value { result ≡ hex_value byte }
-    ensures small { IfSome result (λ value. value < 16) }
-{
-    match byte {
-        b'0'..=b'9' => Some(byte - b'0'),
-        b'A'..=b'F' => Some(byte - b'A' + 10),
-        b'a'..=b'f' => Some(byte - b'a' + 10),
-        _ => None,
-    }
 }
 
 /// Whether a byte may stand at a place, below 11, of a time code's text.

@@ -1,0 +1,76 @@
+ghost use Rattle.std.specs.Prelude.{◌≡◌, ◌≤◌, ◌<◌, ◌+◌, ◌++◌, [], length};
+ghost use Rattle.time_codes.specs.Countings.{day_frames_in};
+ghost use Rattle.mcc_files.specs.Lines.{first_text};
+ghost use Rattle.mcc_files.specs.Writing.{IsWrittenLine, head_text, written_version};
+
+use arrayvec::ArrayVec;
+use mcc_payloads::write_payload;
+use time_codes::{Counting, time_in, time_text};
+
+/// The most bytes of a head.
+pub const HEAD: usize = 184;
+
+/// The most bytes of a packet's line: a time code, TAB, a payload and LF.
+pub const LINE: usize = 531;
+
+/// What stands between the first line and the time code rate: an empty line and four attributes.
+const ATTRIBUTES: &[u8; 132] =
+    b"\n\nUUID=00000000-0000-0000-0000-000000000000\nCreation Program=ccsuite\nCreation Date=Thursday, January 1, 1970\nCreation Time=00:00:00\n";
+
+/// The text of the first line: of version 2 at 60 frames a second with drop frame, else of version 1.
+fn first_line(count: Counting) -> &'static [u8; 31]
+    ensures { result.now ≡ first_text (written_version count) }
+{
+    match count {
+        Counting::F60Drop => b"File Format=MacCaption_MCC V2.0",
+        _ => b"File Format=MacCaption_MCC V1.0",
+    }
+}
+
+/// The head of a file whose time codes count so, into `out`, which is empty before: the first line, an empty one, attributes with the
+/// time code rate, and an empty line.
+pub fn head(count: Counting, out: &mut ArrayVec<u8, HEAD>)
+    requires { out.old.items ≡ [] }
+    ensures { out.new.items ≡ head_text count }
+{
+    add(first_line(count), out);
+    add(ATTRIBUTES, out);
+    add(b"Time Code Rate=", out);
+    add(count.text(), out);
+    add(b"\n\n", out);
+}
+
+/// The line of a packet with these identifiers and user bytes, at most 255, at a frame of the day, into `out`, which is empty before:
+/// the frame's time code with a colon throughout, TAB, the payload and LF.
+pub fn packet_line(
+    count: Counting,
+    frame: u32,
+    did: u8,
+    sdid: u8,
+    user: &[u8],
+    out: &mut ArrayVec<u8, LINE>,
+)
+    requires day { frame < day_frames_in count }
+    requires few { length user.now ≤ 255 }
+    requires empty { out.old.items ≡ [] }
+    ensures { IsWrittenLine count frame (record { did = did; sdid = sdid; user = user.now }) out.new.items }
+{
+    let mut time = time_in(count, frame);
+    time.drop_frame = false;
+    let mut payload = ArrayVec::new();
+    write_payload(did, sdid, user, &mut payload);
+    add(&time_text(time), out);
+    add(b"\t", out);
+    add(&payload, out);
+    add(b"\n", out);
+}
+
+/// Adds bytes for which there is room.
+fn add<const ROOM: usize>(more: &[u8], out: &mut ArrayVec<u8, ROOM>)
+    requires { length out.old.items + length more.now ≤ ROOM }
+    ensures { out.new.items ≡ out.old.items ++ more.now }
+{
+    if out.try_extend_from_slice(more).is_err() {
+        unreachable!();
+    }
+}
