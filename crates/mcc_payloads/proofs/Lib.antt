@@ -10,3 +10,4 @@ pub mod CompleteLemmas
 pub mod FirstLemmas
 pub mod WordLemmas
 pub mod SumLemmas
+pub mod OneLemmas

@@ -20,10 +20,12 @@ pub fn payloads_are_read()
         → (payload : Payload) × IsPayload payload text × (bytes ≡ payload_bytes payload) }
 {}
 
-/// A text that isn't read as bytes is no payload, and has the first offence with which it is refused.
+/// A text that isn't read as bytes is no payload, and its first offence is the one with which it is refused.
 pub fn other_texts_offend()
     ensures offence { (text : List ℕ) (refusal : Refused) → read_payload text ≡ Err refusal → IsFirstOffence text refusal }
-    ensures none { (text : List ℕ) (refusal : Refused) (payload : Payload) → read_payload text ≡ Err refusal → IsPayload payload text → ⊥ }
+    ensures refused { (text : List ℕ) (refusal : Refused) → IsFirstOffence text refusal → read_payload text ≡ Err refusal }
+    ensures none { (text : List ℕ) (refusal : Refused) (payload : Payload) → IsFirstOffence text refusal → IsPayload payload text → ⊥ }
+    ensures one { (text : List ℕ) (one other : Refused) → IsFirstOffence text one → IsFirstOffence text other → one ≡ other }
 {}
 
 /// What is written of a payload's bytes is the payload, and so it is read.
