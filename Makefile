@@ -2,24 +2,30 @@
 # make          proves every crate and builds the program: build/ccsuite
 # make check    the gate: every proof, the must-fail edits, the tests, the program by two compilers; on a new machine from nothing, later without
 #               the proofs and edits that passed there, of crates that are as they were, with all below them
-# make bench    how fast `pairs`, `build` and `insert` write and `decode` and `verify` read, and what cue lists, the receiver's frames and pairs and bytes of services cost
-# make install  puts the program, its man page, completions, documents, examples and viewer under PREFIX (/usr/local), behind DESTDIR if it is set
+# make bench    measures each command, and cue lists, the receiver's frames, pairs and bytes of services by themselves, and puts the rows into bench/README.md
+# make lib      proves the library for C and builds it: build/libccsuite.a, in one file with what it needs of the kit, and build/libccsuite.so
+# make install  puts the program, the library with its header, the man page, completions, documents, examples and viewer under PREFIX
+#               (/usr/local), behind DESTDIR if it is set; with LIBRARY= all but the library
 # make uninstall      takes away what install puts
 # make faults   makes memory, reads and writes fail at each place of short runs, and compares how each run ends (needs strace)
 # make check-install  tries both in a folder of its own: the files, the man page, each shell's completions
 # make deb      builds the Debian package of what install puts: build/ccsuite_VERSION_ARCHITECTURE.deb
 # make check-deb      tries it in a folder of its own: lintian, what is installed, the program, and that nothing is left when it goes
+# make check-lib      tries the library by C programs: against the program, byte for byte, with sanitizers, refused memory, threads (needs gcc)
 # make scale    tries an archive of 50 parts, two of them with damage, by GNU parallel and by a one-node Slurm
 # make try      runs the commands of the manual, the cookbook and the man page and compares what they print; tries subtitles.py, and the viewer in a Chromium
 
 PREFIX ?= /usr/local
-# the program that install puts
+# the program and the library that install puts
 PROGRAM ?= build/ccsuite
+LIBRARY ?= build/libccsuite.a build/libccsuite.so
 ROOT = $(DESTDIR)$(PREFIX)
 # where Debian's zsh looks: a package's completions stand apart from those of this machine's own programs
 ZSH = $(ROOT)/share/zsh/$(if $(filter /usr,$(PREFIX)),vendor-completions,site-functions)
 DOCUMENTS = README.md docs/MANUAL.md docs/COOKBOOK.md docs/PROVED.md docs/GLOSSARY.md docs/SCALE.md
-EXAMPLES = $(wildcard examples/*)
+EXAMPLES = $(wildcard examples/*.*)
+# the kit that `rt` is of
+KIT = $(dir $(realpath $(shell command -v rt)))..
 # the version that the man page and the package tell
 VERSION := $(shell sed -n '1s/.*(\(.*\)).*/\1/p' package/changes)
 DEB = build/ccsuite_$(VERSION)_$(shell dpkg --print-architecture).deb
@@ -43,6 +49,21 @@ build/ccsuite: $(SOURCES)
 	@cd crates/ccsuite && rt run -- pairs < ../../$(LIST) >> ../../$(LOG) 2>&1 || { echo 'Not built: see $(LOG)'; exit 1; }
 	@cp crates/ccsuite/out/ccsuite $@
 
+lib: build/libccsuite.a build/libccsuite.so
+
+# The library's object with the kit's functions on malloc: it needs the C library alone.
+build/libccsuite.a: $(SOURCES)
+	@mkdir -p build
+	@cd crates/ccsuite_c && rt lib > ../../build/lib.log 2>&1 || { echo 'Not built: see build/lib.log'; exit 1; }
+	@rm -rf build/library && mkdir build/library
+	@cp crates/ccsuite_c/out/libccsuite_c.a build/library/libccsuite.a
+	@cd build/library && ar x $(KIT)/c/liblibc_c.a heap.pic.o && ar q libccsuite.a heap.pic.o && ranlib libccsuite.a
+	@mv build/library/libccsuite.a $@ && rm -r build/library
+
+build/libccsuite.so: build/libccsuite.a library/exports
+	@gcc -shared -o $@ -Wl,-soname,libccsuite.so -Wl,--version-script,library/exports -Wl,--no-undefined -Wl,--gc-sections \
+	    -Wl,--whole-archive $< -Wl,--no-whole-archive
+
 demo:
 	@mkdir -p build
 	@echo 'ccsuite pairs < $(LIST), not yet proved:'
@@ -54,7 +75,7 @@ demo:
 check:
 	rt ci
 
-bench: build/ccsuite
+bench: build/ccsuite $(LIBRARY)
 	bench/pairs.sh
 	bench/build.sh
 	bench/decode.sh
@@ -66,8 +87,14 @@ bench: build/ccsuite
 	bench/dtvcc_codes.sh
 	bench/services.sh
 	bench/scc.sh
+	bench/dual.sh
+	bench/xds.sh
+	bench/convert.sh
+	bench/mcc.sh
+	bench/library.sh
+	bench/table.py
 
-install: $(PROGRAM)
+install: $(PROGRAM) $(LIBRARY)
 	install -D -m 755 $(PROGRAM) $(ROOT)/bin/ccsuite
 	install -d $(ROOT)/share/man/man1
 	sed 's/@VERSION@/$(VERSION)/' man/ccsuite.1 | install -m 644 /dev/stdin $(ROOT)/share/man/man1/ccsuite.1
@@ -78,13 +105,19 @@ install: $(PROGRAM)
 	install -d $(ROOT)/share/doc/ccsuite/examples
 	install -m 644 $(DOCUMENTS) $(ROOT)/share/doc/ccsuite
 	install -m 644 $(EXAMPLES) $(ROOT)/share/doc/ccsuite/examples
+	$(if $(LIBRARY),install -d $(ROOT)/lib/pkgconfig $(ROOT)/share/doc/ccsuite/examples/c)
+	$(if $(LIBRARY),install -m 644 $(LIBRARY) $(ROOT)/lib)
+	$(if $(LIBRARY),install -D -m 644 library/ccsuite.h $(ROOT)/include/ccsuite.h)
+	$(if $(LIBRARY),sed 's|@PREFIX@|$(PREFIX)|; s/@VERSION@/$(VERSION)/' library/ccsuite.pc | install -m 644 /dev/stdin $(ROOT)/lib/pkgconfig/ccsuite.pc)
+	$(if $(LIBRARY),install -m 644 $(wildcard examples/c/*) $(ROOT)/share/doc/ccsuite/examples/c)
 
 uninstall:
 	rm -f $(ROOT)/bin/ccsuite $(ROOT)/share/man/man1/ccsuite.1 $(ROOT)/share/bash-completion/completions/ccsuite \
-	    $(ZSH)/_ccsuite $(ROOT)/share/fish/vendor_completions.d/ccsuite.fish
+	    $(ZSH)/_ccsuite $(ROOT)/share/fish/vendor_completions.d/ccsuite.fish \
+	    $(ROOT)/lib/libccsuite.a $(ROOT)/lib/libccsuite.so $(ROOT)/lib/pkgconfig/ccsuite.pc $(ROOT)/include/ccsuite.h
 	rm -rf $(ROOT)/share/doc/ccsuite $(ROOT)/share/ccsuite
 
-check-install: $(PROGRAM)
+check-install: $(PROGRAM) $(LIBRARY)
 	man/check_install.sh $(PROGRAM)
 
 deb: $(PROGRAM)
@@ -97,8 +130,12 @@ check-deb: deb
 faults: $(PROGRAM)
 	faults/try.py $(PROGRAM)
 
-try: $(PROGRAM)
+check-lib: $(PROGRAM) $(LIBRARY)
+	library/check.sh $(PROGRAM)
+
+try: $(PROGRAM) $(LIBRARY)
 	docs/try.py $(PROGRAM)
+	examples/c/try.sh $(PROGRAM)
 	docs/try_subtitles.py $(PROGRAM)
 	viewer/try.py $(PROGRAM)
 
@@ -108,4 +145,4 @@ scale: $(PROGRAM)
 clean:
 	rm -rf build crates/*/out
 
-.PHONY: all demo check bench install uninstall check-install deb check-deb faults try scale clean
+.PHONY: all lib demo check check-lib bench install uninstall check-install deb check-deb faults try scale clean

@@ -17,6 +17,7 @@ done
 say_times cat 'write loop' build 'write loop, processor' 'build, processor'
 say_ratio build 'write loop'
 say_ratio 'build, processor' 'write loop, processor'
+row '`build` of one caption, a frame' "$(ns build 1000000)" ns "$(ns 'write loop' 1000000)" 'the same write calls in C' 'at most 1.5'
 
 # every 60 frames a caption of twelve rows of 40 letters in a window of each service
 awk 'BEGIN {
@@ -39,6 +40,8 @@ done
 say_times 'write loop' 'build of services' 'write loop, processor' 'build of services, processor'
 say_ratio 'build of services' 'write loop'
 say_ratio 'build of services, processor' 'write loop, processor'
+row '`build` of three services without a rest, a frame' "$(ns 'build of services' 100000)" ns \
+    "$(ns 'write loop' 100000)" 'the same write calls in C' 'at most 2'
 
 if command -v strace > /dev/null; then
     strace -f -c -e trace=write -o "$work/calls" "$program" build < "$work/short.csv" > /dev/null
@@ -48,7 +51,8 @@ fi
 # at fixed addresses, since the pages that are touched differ a little with the places of the stack and the heap
 for command in pairs build; do
     for list in short long; do
-        setarch -R /usr/bin/time -f %M -o "$work/peak" "$program" "$command" < "$work/$list.csv" > /dev/null
-        printf '%-34s %s KB\n' "peak, $command, $list list" "$(cat "$work/peak")"
+        setarch -R /usr/bin/time -f %M -o "$work/peak-$list" "$program" "$command" < "$work/$list.csv" > /dev/null
+        printf '%-34s %s KB\n' "peak, $command, $list list" "$(cat "$work/peak-$list")"
     done
+    row "peak memory of \`$command\` of 1,000,000 frames" "$(cat "$work/peak-long")" KB "$(cat "$work/peak-short")" '1,000 frames' 'at most 1'
 done

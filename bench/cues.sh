@@ -2,16 +2,7 @@
 # What a cue list costs to read, check and plan, with 2,000 and with 20,000 pop-on cues, and with as many cues in eight windows
 # of one service, each with a delay, beside csv that only goes through the records of the same bytes, by turns in one run. Proves and builds
 # bench/cues in a folder of its own.
-set -eu
-cd "$(dirname "$0")/.."
-work=$(mktemp -d)
-trap 'rm -rf "$work"' EXIT
-mkdir -p "$work/crates/cues_bench/src"
-. bench/crates.sh
-take_crate cue_lists
-take_crate frame_scheduler
-cp bench/cues/main.txt "$work/crates/cues_bench/src/main.rt"
-echo 'cues_bench: cc_base cue_lists frame_scheduler csv' >> "$work/crates.txt"
+. "$(dirname "$0")/crates.sh"
 
 # a list of so many cues, each of two rows, 50 frames apart
 list() {
@@ -41,25 +32,20 @@ list 2000 > "$work/lines-2000"
 list 20000 > "$work/lines-20000"
 windows 2000 > "$work/windows-2000"
 windows 20000 > "$work/windows-20000"
-(cd "$work/crates/cues_bench" && rt run -- plan < "$work/lines-2000" > /dev/null)
-program=$work/crates/cues_bench/out/cues_bench
+first_words=(plan)
+build_program cues cc_base cue_lists frame_scheduler csv < "$work/lines-2000"
 
-# the least processor time of several runs, each of ten rounds, in tenths of a millisecond a round, and for a byte of the list
-TIMEFORMAT=%U
-measure() {
-    local list=$1 what=$2 best= took bytes
-    bytes=$(wc -c < "$work/$list")
-    for _ in 1 2 3 4 5; do
-        took=$({ time "$program" "$what" < "$work/$list" > /dev/null; } 2>&1 | tr -d .)
-        took=$((10#$took))
-        if [ -z "$best" ] || [ "$took" -lt "$best" ]; then best=$took; fi
-    done
-    printf '%-14s %-5s %d.%d ms, %d ns a byte\n' "$list" "$what" $((best / 10)) $((best % 10)) $((best * 100000 / bytes))
-}
-
-for cues in 2000 20000; do
-    for list in "lines-$cues" "windows-$cues"; do
-        "$program" check < "$work/$list" | tail -n 1
-        for what in csv check plan; do measure "$list" "$what"; done
+# what a round of ten takes, in milliseconds, and for a byte of the list in nanoseconds
+round() { part "${least["$1, processor"]}" 10000; }
+byte() { ns "$1 $2, processor" $((10 * $(wc -c < "$work/$1"))); }
+for list in lines-2000 windows-2000 lines-20000 windows-20000; do
+    "$program" check < "$work/$list" | tail -n 1
+    for what in csv check plan; do
+        for _ in 1 2 3 4 5; do time_command "$list $what" "$program" "$what" < "$work/$list"; done
+        printf '%-14s %-5s %s ms, %s ns a byte\n' "$list" "$what" "$(round "$list $what")" "$(byte "$list" "$what")"
     done
 done
+csv=$(round 'lines-20000 csv')
+row '20,000 pop-on cues read and checked' "$(round 'lines-20000 check')" ms "$csv" '`csv` alone' 'at most 1,000 ms'
+row 'the same and planned' "$(round 'lines-20000 plan')" ms "$csv" '`csv` alone' 'at most 1,000 ms'
+row '20,000 window cues read, checked and planned, a byte' "$(byte windows-20000 plan)" ns "$(byte lines-20000 plan)" 'pop-on cues' 'at most 1.5'

@@ -53,14 +53,32 @@ int main(void) {
 }
 END
 
-# keeps the least processor time of each name, in microseconds
-declare -A least
-TIMEFORMAT='%3U %3S'
-timed() {
-    { time "${@:2}" < "$work/words" > /dev/null; } 2> "$work/took"
-    read -r user system < "$work/took"
-    took=$(((10#${user/./} + 10#${system/./}) * 1000))
-    if [ -z "${least[$1]-}" ] || [ "$took" -lt "${least[$1]}" ]; then least[$1]=$took; fi
+# rows: a command, the words that it reads, and the aim, beside the loop or beside `decode`
+beside_loop() { row "\`$1\` $2, a frame" "$(ns "$1, processor" "$frames")" ns "$(ns 'read loop, processor' "$frames")" 'a loop that sums the bytes' "${3-}"; }
+beside_decode() { row "\`$1\` $2, a frame" "$(ns "$1, processor" "$frames")" ns "$(ns 'decode, processor' "$frames")" '`decode` of the same words' "$3"; }
+rows_of() {
+    case $1 in
+        usual)
+            beside_loop decode 'of a usual programme' 'at most 500 ns'
+            beside_loop show 'of a usual programme'
+            beside_decode conceal 'of a usual programme' 'at most 1.3'
+            beside_decode xds-show 'of a usual programme' 'at most 1'
+            ;;
+        lossy) beside_decode conceal 'of a usual programme, each tenth frame lost' 'at most 1.5' ;;
+        live)
+            beside_loop decode 'of a live programme'
+            beside_decode conceal 'of a live programme' 'at most 1.3'
+            ;;
+        one) beside_loop decode 'of one service' ;;
+        all)
+            beside_loop decode 'of six services in half of the frames'
+            beside_decode conceal 'of six services in half of the frames' 'at most 1.3'
+            ;;
+        none)
+            beside_loop decode 'without captions' 'at most 120 ns'
+            beside_decode xds-show 'without captions' 'at most 1'
+            ;;
+    esac
 }
 
 for programme in usual lossy live one all none; do
@@ -76,19 +94,21 @@ for programme in usual lossy live one all none; do
     blocks=$("$program" decode < "$work/words" | grep -c '^frame ' || true)
     printf '%-32s %s\n' "$programme: bytes read" "$(wc -c < "$work/words")" "$programme: frames that change" "$blocks"
     for _ in 1 2 3 4 5 6 7 8 9 10; do
-        timed cat cat
-        timed 'read loop' "$work/read_loop"
-        timed decode "$program" decode
-        timed conceal "$program" conceal
-        timed xds-show "$program" xds-show
-        timed show "$program" show "$shown"
+        time_command cat cat < "$work/words"
+        time_command 'read loop' "$work/read_loop" < "$work/words"
+        time_command decode "$program" decode < "$work/words"
+        time_command conceal "$program" conceal < "$work/words"
+        time_command xds-show "$program" xds-show < "$work/words"
+        time_command show "$program" show "$shown" < "$work/words"
     done
     for name in cat 'read loop' decode conceal xds-show show; do
-        printf '%-32s %s ns a frame\n' "$programme: $name" $((least[$name] * 1000 / frames))
+        printf '%-32s %s ns a frame\n' "$programme: $name" "$(ns "$name, processor" "$frames")"
     done
+    rows_of "$programme"
 done
 
 # at fixed addresses, since the pages that are touched differ a little with the places of the stack and the heap
+declare -A peak
 for list in short long 1000 1000000; do
     case $list in
         short | long) "$program" build < "$work/$list.csv" > "$work/words" ;;
@@ -96,7 +116,11 @@ for list in short long 1000 1000000; do
     esac
     for command in 'decode' 'show 999'; do
         # shellcheck disable=SC2086
-        setarch -R /usr/bin/time -f %M -o "$work/peak" "$program" $command < "$work/words" > /dev/null
-        printf '%-32s %s KB\n' "peak, $command, $list" "$(cat "$work/peak")"
+        setarch -R /usr/bin/time -f %M -o "$work/took" "$program" $command < "$work/words" > /dev/null
+        peak[$command, $list]=$(cat "$work/took")
+        printf '%-32s %s KB\n' "peak, $command, $list" "${peak[$command, $list]}"
     done
 done
+row_of_peaks() { row "peak memory of \`decode\` of 1,000,000 frames of $1" "${peak[decode, $2]}" KB "${peak[decode, $3]}" '1,000 frames' 'at most 1'; }
+row_of_peaks 'line 21' long short
+row_of_peaks 'six services' 1000000 1000

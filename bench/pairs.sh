@@ -4,20 +4,20 @@
 . "$(dirname "$0")/lists.sh"
 "$program" pairs < "$work/long.csv" > "$work/lines"
 
-# the least of several runs, in milliseconds
-least() {
-    best=
-    for _ in 1 2 3 4 5 6 7 8 9 10; do
-        begin=$(date +%s%N); eval "$1"; end=$(date +%s%N)
-        took=$(((end - begin) / 1000))
-        if [ -z "$best" ] || [ "$took" -lt "$best" ]; then best=$took; fi
-    done
-    printf '%-28s %s.%03d ms\n' "$2" $((best / 1000)) $((best % 1000))
+# times a writer and the `cat` that reads it, up to the end of both
+time_pipe() {
+    begin=$(date +%s%N)
+    "${@:2}" | cat > /dev/null
+    keep "$1" $((($(date +%s%N) - begin) / 1000))
 }
 
 wc -c < "$work/lines" | xargs printf 'bytes put                    %s\n'
-least "cat '$work/lines' | cat > /dev/null" 'cat'
-least "'$program' pairs < '$work/long.csv' | cat > /dev/null" 'pairs'
+for _ in {1..30}; do
+    time_pipe cat cat "$work/lines"
+    time_pipe pairs "$program" pairs < "$work/long.csv"
+done
+for name in cat pairs; do printf '%-28s %s ms\n' "$name" "$(ms "$name")"; done
+row '`pairs` of one caption, a frame' "$(ns pairs 1000000)" ns "$(ns cat 1000000)" '`cat` of the bytes' 'at most 5'
 for list in short long; do
     /usr/bin/time -f "peak memory, $list list       %M KB" "$program" pairs < "$work/$list.csv" 2>&1 > /dev/null
 done

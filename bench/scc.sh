@@ -30,3 +30,6 @@ for name in 'write loop' import cat export ffmpeg; do say_times "$name" "$name, 
 say_ratio import 'write loop'
 say_ratio export ffmpeg
 say_ratio 'export, processor' 'ffmpeg, processor'
+frames=$((size / 160))
+row '`import`, a frame' "$(ns import $frames)" ns "$(ns 'write loop' $frames)" 'the same write calls in C' 'at most 1.5'
+row '`export`, a frame' "$(ns export $frames)" ns "$(ns ffmpeg $frames)" '`ffmpeg`' 'at most 0.25'

@@ -1,5 +1,4 @@
-# Sourced behind lists.sh by the scripts that time writers: a loop that makes write calls, the least times of names over runs, and their
-# ratios. Needs gcc.
+# Sourced behind lists.sh by the scripts that time writers: a loop that makes write calls, and what the names of rows.sh took. Needs gcc.
 
 gcc -O2 -o "$work/write_loop" -x c - <<'END'
 // Reads standard input whole, writes it in pieces of 160 bytes, and says how many microseconds, and how many of processor
@@ -29,12 +28,6 @@ int main(void) {
 }
 END
 
-# keeps the least number of microseconds of each name
-declare -A least
-keep() {
-    if [ -z "${least[$1]-}" ] || [ "$2" -lt "${least[$1]}" ]; then least[$1]=$2; fi
-}
-
 # times the write loop on these words
 time_write_loop() {
     { "$work/write_loop" < "$1" | cat > /dev/null; } 2> "$work/took"
@@ -44,12 +37,9 @@ time_write_loop() {
 }
 
 # times a writer of a name on an input, into `cat`: the time and the processor time
-TIMEFORMAT='%3R %3U %3S'
 time_writer() {
-    { time "${@:3}" < "$2"; } 2> "$work/took" | cat > /dev/null
-    read -r real user system < <(tail -n 1 "$work/took")
-    keep "$1" $((10#${real/./} * 1000))
-    keep "$1, processor" $(((10#${user/./} + 10#${system/./}) * 1000))
+    "$work/timed" "$work/took" "${@:3}" < "$2" | cat > /dev/null
+    keep_took "$1"
 }
 
 # says the times of these names, where they were taken

@@ -41,6 +41,9 @@ for name in cat 'write loop' decode show verify insert; do say_frame "$name, pro
 say_ratio 'verify, processor' 'decode, processor'
 least['decode and write loop, processor']=$((least['decode, processor'] + least['write loop, processor']))
 say_ratio 'insert, processor' 'decode and write loop, processor'
+row '`verify`, a frame' "$(ns 'verify, processor' "$frames")" ns "$(ns 'decode, processor' "$frames")" '`decode`' 'at most 1.3'
+row '`insert`, a frame' "$(ns 'insert, processor' "$frames")" ns \
+    "$(ns 'decode and write loop, processor' "$frames")" '`decode` and the write calls in C' 'at most 1.5'
 
 for count in 1000 10000; do
     load_list "$count" > "$work/list.csv"
@@ -52,8 +55,14 @@ done
 head -c 160 "$work/words" > "$work/one"
 for _ in 1 2 3 4 5 6 7 8 9 10; do time_writer 'decode of one frame' "$work/one" "$program" decode; done
 say_times 'decode of one frame'
+row '`decode` of one frame, from its start to its end' "$(ms 'decode of one frame')" ms
+declare -A peak
 for command in decode "verify $work/list.csv" "insert $work/list.csv"; do
     # shellcheck disable=SC2086
-    setarch -R /usr/bin/time -f %M -o "$work/peak" "$program" $command < "$work/words" > /dev/null
-    printf '%-34s %s KB\n' "peak, ${command%% *}, 900,120 frames" "$(cat "$work/peak")"
+    setarch -R /usr/bin/time -f %M -o "$work/took" "$program" $command < "$work/words" > /dev/null
+    peak[${command%% *}]=$(cat "$work/took")
+    printf '%-34s %s KB\n' "peak, ${command%% *}, 900,120 frames" "${peak[${command%% *}]}"
+done
+for command in verify insert; do
+    row "peak memory of \`$command\` of 900,120 frames" "${peak[$command]}" KB "${peak[decode]}" '`decode`'
 done

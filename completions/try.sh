@@ -62,21 +62,27 @@ for shell in bash zsh fish; do
         echo "$shell isn't installed: its completions weren't tried"
         continue
     fi
-    offers "$shell" 'ccsuite ' 'pairs build cues decode show conceal xds-show verify insert import export load dual'
+    offers "$shell" 'ccsuite ' 'pairs build cues decode show conceal xds-show convert verify insert import export import-mcc export-mcc load dual xds'
     offers "$shell" 'ccsuite b' 'build'
-    offers "$shell" 'ccsuite c' 'cues conceal'
+    offers "$shell" 'ccsuite c' 'cues conceal convert'
     offers "$shell" 'ccsuite q' ''
     offers "$shell" 'ccsuite show ' ''
     offers "$shell" 'ccsuite build ' ''
     offers "$shell" 'ccsuite conceal ' ''
-    offers "$shell" 'ccsuite x' 'xds-show'
+    offers "$shell" 'ccsuite x' 'xds xds-show'
     offers "$shell" 'ccsuite xds-show ' ''
+    offers "$shell" 'ccsuite convert ' ''
     offers "$shell" 'ccsuite verify ' 'build list.csv'
     offers "$shell" 'ccsuite verify list.csv ' ''
     offers "$shell" 'ccsuite insert l' 'list.csv'
     offers "$shell" 'ccsuite insert list.csv ' ''
     offers "$shell" 'ccsuite load ' ''
     offers "$shell" 'ccsuite dual l' 'list.csv'
+    offers "$shell" 'ccsuite i' 'insert import import-mcc'
+    offers "$shell" 'ccsuite import-mcc ' ''
+    offers "$shell" 'ccsuite export-mcc 6' '60 60DF'
+    offers "$shell" 'ccsuite export-mcc 60 ' ''
+    offers "$shell" 'ccsuite xds l' 'list.csv'
     [ "$failed" = 0 ] && echo "completions of $shell: as they should be"
 done
 exit "$failed"

@@ -4,7 +4,7 @@
 In a block of the kind `console`, a line that begins with `$ ` is a command, `> ` goes on with it, and the lines below are what it prints, to
 standard output and error. The commands of a document are run by one bash, in a folder of its own with the folder examples/ in it, where
 `ccsuite` is PROGRAM. A word behind `console` names a program that the block needs, or a package of Debian's Python (`python3-webvtt`): where that
-isn't installed, the block is passed over.
+isn't installed, the block is passed over. `libccsuite.so` is build/libccsuite.so, which the commands find.
 """
 
 import pathlib
@@ -41,6 +41,8 @@ def is_installed(name):
     if name.startswith("python3-"):
         words = [PYTHON, "-c", f"import {name.removeprefix('python3-')}"]
         return bool(shutil.which(PYTHON)) and subprocess.run(words, stderr=subprocess.DEVNULL).returncode == 0
+    if name == "libccsuite.so":
+        return (TOP / "build" / name).exists()
     return bool(shutil.which(name))
 
 
@@ -64,7 +66,7 @@ def run(commands, program):
         (home / ".bin" / "ccsuite").symlink_to(program)
         # Each command sees the status of the one before.
         lines = [f"{command}\n{{ status=$?; echo '{MARK}'; (exit $status); }}\n" for command, _ in commands]
-        script = f"exec 2>&1\nPATH={home}/.bin:$PATH\n" + "".join(lines)
+        script = f"exec 2>&1\nPATH={home}/.bin:$PATH\nexport LD_LIBRARY_PATH={TOP}/build\n" + "".join(lines)
         ran = subprocess.run(["bash", "-c", script], cwd=home, stdout=subprocess.PIPE, text=True, timeout=600)
         return ran.stdout.split(f"{MARK}\n")
 

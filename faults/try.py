@@ -1,10 +1,11 @@
 #!/usr/bin/env python3
-"""Tries the program at every place at which its surroundings can fail it: try.py PROGRAM [COMMAND..]
+"""Tries the program at every place at which its surroundings can fail it: try.py PROGRAM [--quick] [COMMAND..]
 
 Each command is run over short inputs, and
 
 - each allocation is refused in turn: `out of memory`, status 4, nothing written, and none comes at a forbidden place (a command that reads words
-  takes no memory once a byte of them was taken, any other none once a byte was written);
+  takes no memory once a byte of them was taken, any other none once a byte was written); with --quick, of the many of a receiver the first 60,
+  the last 60 and each 29th between;
 - each read fails in turn, over input in pieces of several sizes: `read fault`, status 2, and of the output what was due of the bytes before; and so
   each read of a cue list that is named, before a byte of the input is taken;
 - each write fails in turn: `write fault`, status 3, and the writes before it stand; and a file that is full at each byte has just these bytes;
@@ -35,6 +36,7 @@ import cdp  # noqa: E402
 
 LINES = {2: b"read fault\n", 3: b"write fault\n", 4: b"out of memory\n"}
 PROGRAM = str(pathlib.Path(sys.argv[1]).resolve())
+QUICK, CHOSEN = "--quick" in sys.argv, [it for it in sys.argv[2:] if it != "--quick"]
 
 
 @dataclass
@@ -56,11 +58,13 @@ class Case:
 
     @property
     def reads_nothing(self):
-        return self.words[:1] == ["load"] or self.status == 1 or self.listed is not None and self.status in (7, 8) and self.words[0] != "dual"
+        return self.words[:1] == ["load"] or self.status == 1 or self.listed is not None and self.status in (7, 8) and self.words[0] not in ("dual", "xds")
 
     @property
-    def reads_words(self):
-        return bool(self.words) and self.words[0] in ("decode", "show", "conceal", "xds-show", "verify", "insert", "export")
+    def streams(self):
+        """Whether its input is taken, judged and put piece by piece, with no memory behind the first byte."""
+        streaming = ("decode", "show", "conceal", "xds-show", "convert", "verify", "insert", "export", "import-mcc", "export-mcc")
+        return bool(self.words) and self.words[0] in streaming
 
     def __str__(self):
         return f"{' '.join(self.words)} on {len(self.given)} bytes"
@@ -151,8 +155,22 @@ def packet_ends(words):
     return ends
 
 
+def mcc_of(words):
+    """The MCC file of the packets of words, in digits alone, each at a frame of its own."""
+    text, start = b"File Format=MacCaption_MCC V1.0\n\nTime Code Rate=30\n\n", 0
+    for frame, (end, _) in enumerate(packet_ends(words)):
+        text += b"00:00:%02d:%02d\t" % divmod(frame, 30) + words[start + 7:end:2].hex().upper().encode() + b"\n"
+        start = end
+    return text
+
+
 def due(case, whole, taken):
     """What is written of the first bytes of the input, if the next take fails."""
+    taken = min(taken, len(case.given))
+    if case.words[0] == "import-mcc":
+        # The cases have no gaps: a packet is put of each line that has ended.
+        lines = len(re.findall(rb"^\d.*\n", case.given[:taken], re.M))
+        return whole.out[:([0] + [end for end, _ in packet_ends(whole.out)])[lines]]
     ends = [(end, counter) for end, counter in packet_ends(case.given) if end <= taken]
     counters = [counter for _, counter in ends if counter is not None]
     frames = len(counters)
@@ -163,6 +181,9 @@ def due(case, whole, taken):
         behind = counters[-1] + 1 if counters and case.words[0] == "conceal" else frames
         blocks = re.finditer(rb"(?:frame|lost \d+ before) (\d+)\n(?:(?!frame|lost).*\n)*", whole.out)
         return b"".join(it[0] for it in blocks if int(it[1]) < behind)
+    if case.words[0] == "convert":
+        # A frame becomes two of 100 bytes.
+        return whole.out[:200 * frames]
     if case.words[0] == "show":
         return whole.out if frames > int(case.words[1]) else b""
     if case.words[0] == "insert":
@@ -170,6 +191,9 @@ def due(case, whole, taken):
         return whole.out[:ends[-1][0] if ends else 0]
     if case.words[0] == "export":
         return exported(whole.out, frames, time_of(case.words[1]))
+    if case.words[0] == "export-mcc":
+        # The head is eight lines, and each packet is one.
+        return b"".join(whole.out.splitlines(keepends=True)[:8 + len(ends)])
     return b""
 
 
@@ -202,6 +226,8 @@ def try_allocations(case, whole):
     before = sum(1 for called, _, _ in whole.calls[:started] if called == "mmap")
     # The first is the heap's own cache.
     places = [it for it in numbers(whole.calls, "mmap", "NULL") if it > before + 1]
+    if QUICK:
+        places = [number for it, number in enumerate(places) if it < 60 or it >= len(places) - 60 or it % 29 == 0]
     for number in places:
         here = f"allocation {number - before - 1} refused"
         for last in (f"{number + 1}", ""):
@@ -211,8 +237,8 @@ def try_allocations(case, whole):
                 need(case, here, ended, whole.status, whole.out, whole.err)
             else:
                 need(case, here, ended, 4, b"")
-            if case.reads_words and ended.status == 4 and taken(ended):
-                fail(case, here, ended, "memory is taken behind a byte of the words")
+            if case.streams and ended.status == 4 and taken(ended):
+                fail(case, here, ended, "memory is taken behind a byte of the input")
     return len(places)
 
 
@@ -262,7 +288,7 @@ def try_puts(case, whole):
     pieces = [int(result) for called, arguments, result in whole.calls if called == "write" and arguments.startswith("1,")]
     for put, number in enumerate(writes):
         before = sum(pieces[:put])
-        if case.words[0] in ("build", "dual", "import") and before % (100 if b",59.94," in case.given else 160):
+        if case.words[0] in ("build", "dual", "xds", "import") and before % (100 if b",59.94," in case.given else 160):
             fail(case, f"put {put}", whole, "a frame is written in parts")
         for how in ("error=EIO", "error=ENOSPC", "retval=0"):
             need(case, f"put {put}, {how}", run(case, inject=(f"write:{how}:when={number}",)), 3, whole.out[:before])
@@ -319,7 +345,7 @@ def try_ends(case, whole):
 def try_case(case, sizes):
     whole = run(case, traced=True)
     need(case, "nothing fails", whole, case.status, whole.out, case.line)
-    if case.status in (5, 6, 7, 8, 11) and not case.reads_words:
+    if case.status in (5, 6, 7, 8, 11, 12) and not case.streams:
         need(case, "refused", whole, case.status, b"", case.line)
     if case.status == 0 and case.words[0] == "insert" and case.listed == b"ccsuite,1,29.97,3\n":
         need(case, "a list without captions into words without captions", whole, 0, case.given)
@@ -353,8 +379,8 @@ def with_field_two(words, pairs):
 
 def commands():
     """Each command with its cases, and the sizes of the pieces in which they are read."""
-    usage = b"usage: ccsuite pairs|build|decode|show FRAME|verify CUES|insert CUES|import|export TIME|cues|load N|dual CUES|xds-show|conceal\n"
-    yield "usage", [Case(it, b"x", 1, usage) for it in ([], ["load", "0"], ["load", "03"], ["show"], ["show", "01"], ["pairs", "x"], ["xds-show", "x"], ["conceal", "x"])], []
+    usage = b"usage: ccsuite pairs|build|decode|show FRAME|verify CUES|insert CUES|import|export TIME|cues|load N|dual CUES|xds PACKETS|xds-show|conceal|convert|import-mcc|export-mcc RATE TIME\n"
+    yield "usage", [Case(it, b"x", 1, usage) for it in ([], ["load", "0"], ["load", "03"], ["show"], ["show", "01"], ["pairs", "x"], ["xds-show", "x"], ["conceal", "x"], ["convert", "x"], ["import-mcc", "x"], ["export-mcc", "30", "00:00:00;00"])], []
     hello = example("hello.csv")
     dense = hello.replace(b",0,7,20", b",0,6,20")
     clash = hello.replace(b",0,7,20", b",0,7,8")
@@ -397,6 +423,11 @@ def commands():
         Case(xds_show, extended), Case(xds_show, mixed), Case(xds_show, b""), Case(xds_show, extended[:900], 6, b"malformed at byte 900: Truncated\n"),
         Case(xds_show, flagged, 6, b"malformed at byte 320: Flag\n"),
     ], [80, 160, 4000]
+    convert, other = ["convert"], built(hello.replace(b"29.97", b"30"))
+    yield "convert", [
+        Case(convert, words), Case(convert, mixed), Case(convert, b""), Case(convert, words[:900], 6, b"malformed at byte 900: Truncated\n"),
+        Case(convert, flagged, 6, b"malformed at byte 320: Flag\n"), Case(convert, words[:1600] + other, 13, b"misfit at frame 10: Rate 5\n"),
+    ], [80, 160, 4000]
     late = hello.replace(b",0,7,20", b",0,8,20")
     differs = b"differs at frame 7: GridDiffers CC1\n"
     yield "verify", [
@@ -415,6 +446,12 @@ def commands():
         Case(["dual"], hello, 11, b"no room in CUES: cue 1\n", beside.replace(b",0,18,", b",13,17,")),
         Case(["dual"], hello, 6, b"malformed at record 1 field 4: OtherList\n", b"ccsuite,1,29.97,31\n"), Case(["dual"], *lists[2], beside),
     ], [1, 7, 4096]
+    news = b"xds,2,1,3,NEWS\n"
+    yield "xds", [
+        Case(["xds"], hello, listed=news), Case(["xds"], hello.replace(b"CC1", b"CC3"), listed=news), Case(["xds"], hello, listed=b""),
+        Case(["xds"], hello, 12, b"no room: packet 1\n", news.replace(b",2,", b",28,")), Case(["xds"], dense, 8, b"no room: cue 1\n", news),
+        Case(["xds"], *lists[2], news),
+    ], [1, 7, 4096]
     archive = example("archive.scc")
     yield "import", [
         Case(["import"], archive), Case(["import"], archive.replace(b";00", b";01").replace(b"02;01", b"00;01"), 6, b"malformed at byte 98: NoSuchTime\n"),
@@ -425,6 +462,18 @@ def commands():
         Case(export, words), Case(export, mixed), Case(export, flagged, 6, b"malformed at byte 320: Flag\n"), Case(export, b""),
         Case(["export", "23:59:59:15"], words, 5, b"limit Day\n"),
     ], [80, 160, 4000]
+    export_mcc, no_byte = ["export-mcc", "30", "00:00:00:00"], bytes.fromhex("000003FF03FF018001010101017702F9")
+    yield "export-mcc", [
+        Case(export_mcc, words), Case(export_mcc, mixed), Case(export_mcc, flagged, 6, b"malformed at byte 320: Flag\n"), Case(export_mcc, b""),
+        Case(["export-mcc", "30", "23:59:59:15"], words, 5, b"limit Day\n"), Case(["export-mcc", "25", "00:00:00:00"], words, 9, b"differs at frame 0: WrongRate expected 3 seen 4\n"),
+        Case(export_mcc, mixed + no_byte, 9, b"differs at frame 3: EightBits\n"),
+    ], [80, 160, 4000]
+    mcc = mcc_of(words)
+    yield "import-mcc", [
+        Case(["import-mcc"], mcc), Case(["import-mcc"], mcc[:-1]), Case(["import-mcc"], mcc[1:], 6, b"malformed at byte 0: Header\n"),
+        Case(["import-mcc"], b"File", 6, b"malformed at byte 4: Header\n"), Case(["import-mcc"], mcc + b"x", 6, b"malformed at byte %d: MccSyntax\n" % len(mcc)),
+    ], [160, 4096]
+    yield "import-mcc a byte at a time", [Case(["import-mcc"], mcc_of(silent[:320]))], [1, 7]
     yield "load", [Case(["load", "3"], b"")], []
 
 
@@ -485,14 +534,14 @@ def main():
     if not shutil.which("strace"):
         sys.exit("strace is needed: apt-get install strace")
     for name, cases, sizes in commands():
-        if sys.argv[2:] and name not in sys.argv[2:]:
+        if CHOSEN and name not in CHOSEN:
             continue
         tried = {}
         for case in cases:
             for kind, places in try_case(case, sizes).items():
                 tried[kind] = tried.get(kind, 0) + places
         print(f"{name}: {len(cases)} inputs; " + ", ".join(f"{places} {kind}" for kind, places in tried.items()), flush=True)
-    if not sys.argv[2:]:
+    if not CHOSEN:
         try_limits()
 
 

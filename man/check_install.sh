@@ -16,7 +16,7 @@ fail() {
 
 # Runs make with the program that is tried, for PREFIX $2, behind the folder of its own.
 run_make() {
-    make --no-print-directory "$1" PREFIX="$2" DESTDIR="$folder" PROGRAM="$program" > "$folder.log" 2>&1 || fail "$(cat "$folder.log")"
+    make --no-print-directory "$1" PREFIX="$2" DESTDIR="$folder" PROGRAM="$program" LIBRARY= > "$folder.log" 2>&1 || fail "$(cat "$folder.log")"
     rm -f "$folder.log"
 }
 
@@ -26,7 +26,7 @@ wanted() {
     echo "644 share/bash-completion/completions/ccsuite"
     echo "644 share/ccsuite/viewer.html"
     for document in COOKBOOK GLOSSARY MANUAL PROVED README SCALE; do echo "644 share/doc/ccsuite/$document.md"; done
-    for example in examples/*; do echo "644 share/doc/ccsuite/$example"; done
+    for example in examples/*.*; do echo "644 share/doc/ccsuite/$example"; done
     echo "644 share/fish/vendor_completions.d/ccsuite.fish"
     echo "644 share/man/man1/ccsuite.1"
     echo "644 share/zsh/$1/_ccsuite"

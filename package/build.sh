@@ -13,7 +13,7 @@ umask 022
 
 architecture=$(dpkg --print-architecture)
 version=$(sed -n '1s/.*(\(.*\)).*/\1/p' package/changes)
-make --no-print-directory install PREFIX=/usr DESTDIR="$root" PROGRAM="$program" > /dev/null
+make --no-print-directory install PREFIX=/usr DESTDIR="$root" PROGRAM="$program" LIBRARY= > /dev/null
 chmod 755 "$root"
 strip --remove-section=.comment --remove-section=.note "$root/usr/bin/ccsuite"
 gzip -9n "$root/usr/share/man/man1/ccsuite.1"

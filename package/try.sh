@@ -22,7 +22,7 @@ fail() {
 
 # The files that make install puts, and those that a package adds: the man page is packed.
 wanted() {
-    make --no-print-directory install PREFIX=/usr DESTDIR="$folder/plain" PROGRAM="$program" > /dev/null
+    make --no-print-directory install PREFIX=/usr DESTDIR="$folder/plain" PROGRAM="$program" LIBRARY= > /dev/null
     (cd "$folder/plain" && find . -type f -printf '/%P\n' | sed 's/\.1$/.1.gz/')
     printf '/usr/share/doc/ccsuite/%s\n' changelog.gz copyright
 }

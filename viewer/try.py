@@ -1,10 +1,10 @@
 #!/usr/bin/env python3
 """Tries the viewer in a headless Chromium: try.py PROGRAM [PICTURE]
 
-The lists of examples/ are built and decoded by PROGRAM, and viewer/windows.txt has a window of each kind. Each text is opened in the page, by
-the file field or by a drop; at each frame that changes, and the one before, the cells that are drawn are compared with the text, which is read
-here a second time. Positions, colours, keys, the line of time, the list of captions, time codes, playing and what takes room are compared with
-values worked out by hand. PICTURE is written from the realistic programme.
+The lists of examples/ are built and decoded by PROGRAM, of one of them frames are dropped for `conceal`, and viewer/windows.txt has a window of each
+kind. Each text is opened in the page, by the file field or by a drop; at each frame that changes, and the one before, the cells that are drawn are
+compared with the text, which is read here a second time. Positions, colours, keys, the line of time, the list of captions, lost frames, time codes,
+playing and what takes room are compared with values worked out by hand. PICTURE is written from the realistic programme.
 """
 
 import base64
@@ -142,6 +142,16 @@ function rooms() {
   return ["controls", "play", "dropping", "fault", "time", "shown", "captions"].filter(it => page[it].offsetHeight > 0);
 }
 
+/** The frames of so many at which the page tells that there is none, each with the rows of the list that are marked. */
+function losses(frames) {
+  return [...Array(frames).keys()].flatMap(frame => {
+    goTo(frame);
+    const safe = document.querySelector(".safe");
+    const told = getComputedStyle(safe).visibility === "hidden" && getComputedStyle(safe.parentElement, "::after").content !== "none";
+    return told ? [[frame, ...listed().filter(it => it.at(-1) === "now").map(it => it.at(-2))]] : [];
+  });
+}
+
 /** The columns of the line of time that are marked. */
 function marks() {
   const canvas = document.querySelector("canvas");
@@ -151,14 +161,15 @@ function marks() {
 }
 
 async function tryText({ text, frames, drop, keys, more }) {
+  const since = performance.now();
   await give(text, drop);
-  const at = [];
+  const [took, at] = [performance.now() - since, []];
   for (const frame of frames) {
     goTo(frame);
     at.push(drawn());
   }
-  const answer = { fault: page.fault.textContent, at, keys: keys.map(it => key(it)), marks: marks(), list: listed() };
-  if (more) answer.more = await { codes, clicks, plays }[more[0]](more[1]);
+  const answer = { took, fault: page.fault.textContent, at, keys: keys.map(it => key(it)), marks: marks(), list: listed() };
+  if (more) answer.more = await { codes, clicks, plays, losses }[more[0]](more[1]);
   return { ...answer, rooms: rooms() };
 }
 
@@ -213,11 +224,14 @@ def screen_of(lines):
 
 def changes_of(text):
     """Each frame that changes with all screens from then on, and the number of frames."""
-    lines, screens, changes, frames = text.decode().split("\n")[:-1], {}, [], None
+    lines, screens, changes, frames, lost = text.decode().split("\n")[:-1], {}, [], None, 0
     while lines:
-        word, number = lines.pop(0).split()
+        word, number, *_ = lines.pop(0).split()
+        if word == "lost":
+            lost += int(number)
+            continue
         if word == "frames":
-            frames = int(number)
+            frames = int(number) + lost
             continue
         while lines and lines[0][0] in "CS":
             name, screen = screen_of(lines)
@@ -338,7 +352,13 @@ UNREAD = [
     (HELLO.replace(b"15 0", b"15 31"), 3, "32 columns"),
     (HELLO.replace(b"white", b"black"), 3, "a run"),
     (HELLO.replace(b"frame 20", b"frame 7"), 4, "frames rise"),
-    (HELLO.replace(b"frames 30", b"frames 20"), 6, "the number of frames"),
+    (HELLO.replace(b"frames 30", b"frames 13"), 6, "14 frames came"),
+    (HELLO.replace(b"frame 20", b"lost 12 before 20\nframe 20").replace(b"30", b"1"), 7, "2 frames came"),
+    (HELLO.replace(b"frame 20", b"lost 0 before 20\nframe 20"), 4, "1 to 65,535"),
+    (HELLO.replace(b"frame 20", b"lost 13 before 20\nframe 20"), 4, "stand behind"),
+    (HELLO.replace(b"frame 20", b"lost 3 before 21\nframe 20"), 5, "frames rise"),
+    (HELLO.replace(b"frame 20", b"lost 3 before 12\nlost 1 before 13\nframe 20"), 5, "stand behind"),
+    (b"lost 5 before 5\nframes 1\n", 1, "stand behind"),
     (HELLO + b"\n", 7, "the last line"),
     (HELLO[:-1], 6, "no end"),
     (HELLO.replace(b"HI", b"H\xff"), 3, "UTF-8"),
@@ -396,6 +416,19 @@ CAPTIONS_WRITTEN = [
 ]
 
 
+# What `conceal` tells of words with lost frames, and of words without that begin in the middle of a programme: frame 31,300 is the last of 900.
+LOSSES = (
+    "frame 7\nCC1 1\n15 0 white HI\nlost 3 before 15\nframe 15\nCC1 0\nlost 1 before 24\nframes 26\n"
+).encode()
+LISTED_LOSSES = [
+    ["CC1", "00:00:00;07", "7", "00:00:00;15", "15", "HI"],
+    ["Lost", "00:00:00;12", "12", "00:00:00;15", "15", "3 frames lost"], ["Lost", "00:00:00;23", "23", "00:00:00;24", "24", "1 frame lost"],
+]
+LOST_AT = [[12, "3 frames lost"], [13, "3 frames lost"], [14, "3 frames lost"], [23, "1 frame lost"]]
+FROM_THE_MIDDLE = HELLO.replace(b"frame 7", b"frame 31290").replace(b"frame 20", b"frame 31300").replace(b"frames 30", b"frames 900")
+ENDS_OF_IT = [("Home", 30401), ("End", 31300), (",", 31290), ("Home", 30401)]
+
+
 def check_list(name, answer, wanted):
     rows = [row[:-1] for row in answer["list"]]
     assert rows == wanted, f"{name}: {rows}"
@@ -442,8 +475,9 @@ def decoded(program, name):
 
 def check_hand(texts, ask):
     """What a hand does: keys, clicks, a rate, playing; and what takes room."""
-    _, keys, written, codes, clicks, plays = show([
-        ask(HELLO, [29], True, [it for it, _ in KEYS]), ask(WRITTEN, [131]), ask(b"frames 3000000\n", more=["codes", CODES]),
+    _, keys, written, lost, middle, codes, clicks, plays = show([
+        ask(HELLO, [29], True, [it for it, _ in KEYS]), ask(WRITTEN, [131]),
+        ask(LOSSES, more=["losses", 30]), ask(FROM_THE_MIDDLE, keys=[it for it, _ in ENDS_OF_IT]), ask(b"frames 3000000\n", more=["codes", CODES]),
         ask(texts["windows.csv"], more=["clicks", None]), ask(b"frames 1000\n", more=["plays", PLAYS]),
     ])
     assert keys["keys"] == [it for _, it in KEYS], keys["keys"]
@@ -456,10 +490,23 @@ def check_hand(texts, ask):
     assert clicks["more"] == [[int(row[3]) for row in CAPTIONS["windows.csv"]]] * 2, clicks["more"]
     print(f"{len(clicks['more'][0])} rows lead to their frames, by a click and by a key")
     check_plays(plays["more"])
+    assert lost["more"] == LOST_AT, lost["more"]
+    check_list("with lost frames", lost, LISTED_LOSSES)
+    assert middle["keys"] == [it for _, it in ENDS_OF_IT], middle["keys"]
+    print(f"{len(LOST_AT)} frames are lost, and told so; words from the middle of a programme are shown at their numbers")
     *rooms, at_30 = show([*(ask(text) for text, _ in ROOMS), ask(HELLO, more=["codes", [["30", True, 0]]])])
     wanted = [[], *(it for _, it in ROOMS), ROOMS_AT_30]
     assert [it["rooms"] for it in (*rooms, at_30)] == wanted, [it["rooms"] for it in (*rooms, at_30)]
     print(f"{len(wanted)} pages: what they don't use takes no room")
+
+
+def check_long(ask):
+    """A text of 20,000 captions with a loss behind every second one, which is opened in seconds."""
+    captions = (f"frame {100 * it}\nCC1 1\n15 0 white CAPTION {it}\nframe {100 * it + 60}\nCC1 0\n" for it in range(20000))
+    text = "".join(it + f"lost 3 before {100 * place + 70}\n" * (place % 2) for place, it in enumerate(captions))
+    _, answer = show([ask(text.encode() + b"frames 2000000\n")])
+    assert len(answer["list"]) == 30000 and answer["took"] < 10000, f"{len(answer['list'])} rows in {answer['took']} ms"
+    print(f"20,000 captions and 10,000 losses are opened in {answer['took'] / 1000:.1f} s")
 
 
 def main():
@@ -467,9 +514,11 @@ def main():
         print("no Chromium is installed: the viewer wasn't tried")
         return
     program = str(pathlib.Path(sys.argv[1]).resolve())
-    texts = {it.name: decoded(program, it.name) for it in sorted(EXAMPLES.glob("*.csv"))}
+    texts = {it.name: decoded(program, it.name) for it in sorted(EXAMPLES.glob("*.csv")) if it.name != "packets.csv"}
     shown = subprocess.run([program, "show", "12"], input=words_of(program, "hello.csv"), capture_output=True, check=True).stdout
-    texts |= {"windows.txt": (HERE / "windows.txt").read_bytes(), "show 12": shown}
+    whole = words_of(program, "programme.csv")
+    concealed = subprocess.run([program, "conceal"], input=whole[:160 * 40] + whole[160 * 42:], capture_output=True, check=True).stdout
+    texts |= {"windows.txt": (HERE / "windows.txt").read_bytes(), "show 12": shown, "programme.csv without frames 40 and 41": concealed}
     ask = lambda text, frames=(), drop=False, keys=(), more=None: {"text": text, "frames": frames, "drop": drop, "keys": keys, "more": more}
     _, *answers = show([ask(text, frames_of(text), place % 2 == 1) for place, text in enumerate(texts.values())])
     for (name, text), answer in zip(texts.items(), answers, strict=True):
@@ -480,6 +529,7 @@ def main():
             check_list(name, answer, CAPTIONS[name])
     check_unread(show([ask(text) for text, _, _ in UNREAD])[1:])
     check_hand(texts, ask)
+    check_long(ask)
     if len(sys.argv) > 2:
         text = base64.b64encode(texts["programme.csv"]).decode()
         script = f'open(Uint8Array.from(atob("{text}"), it => it.charCodeAt(0))); go(555);'

@@ -1,3 +1,4 @@
+-- Between crates: the program's answer stands on none of these definitions.
 -- The words of a packet of captions, as they stand at the front of bytes, and whether they are right.
 use Rattle.std.specs.Prelude.{◌≡◌, ℕ, ◌+◌, ◌*◌, ◌%◌, List, ◌∷◌, ◌++◌, length, get_or, true}
 use Rattle.std.specs.List.{list_all}

@@ -1,3 +1,4 @@
+-- Believed: the program's answer stands on these definitions.
 -- The checksum word (SMPTE ST 291-1): its low nine bits are the sum, modulo 512, of the low nine bits of the
 -- words from DID to the last user word, and bit 9 is the inverse of bit 8.
 use Rattle.std.specs.Prelude.{◌≡◌, ℕ, ◌%◌, ◌<◌, List}

@@ -1,3 +1,4 @@
+-- Believed: the program's answer stands on these definitions.
 -- 8-bit words (SMPTE ST 291-1): bits 7 to 0 carry a value, bit 8 is even parity of bits 7 to 0, and bit 9
 -- is the inverse of bit 8.
 use Rattle.std.specs.Prelude.{◌≡◌, ℕ, ◌+◌, ◌-◌, ◌%◌, ◌<◌, count_ones}

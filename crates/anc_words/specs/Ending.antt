@@ -1,3 +1,4 @@
+-- Between crates: the program's answer stands on none of these definitions.
 -- How far the end of an ancillary packet is at least (SMPTE ST 291-1): a packet has the flag of three words, DID, SDID, the
 -- count, as many user words as it says, and the checksum word.
 use Rattle.std.specs.Prelude.{ℕ, ◌+◌, ◌-◌, ◌*◌, ◌%◌, List, [], ◌∷◌, length, Option, Some, None}

@@ -1,3 +1,4 @@
+-- Believed: the program's answer stands on these definitions.
 -- Where a word of an ancillary packet can be refused, and for what (SMPTE ST 291-1, SMPTE ST 334-1): by the words of the packet
 -- before it, and by what the word is.
 use Rattle.std.specs.Prelude.{◌≡◌, ◌≢◌, ℕ, ◌%◌, ◌<◌, ◌≤◌, List, [], ◌∷◌, length, ⊤}

@@ -1,3 +1,4 @@
+-- Believed in part: the program's answer stands on some of these definitions.
 -- The ten-bit words of ancillary data (SMPTE ST 291-1) as bytes: each word is two bytes, the high byte
 -- first, with six zero bits on top. That a file writes them so is this project's choice.
 use Rattle.std.specs.Prelude.{◌≡◌, ℕ, ◌+◌, ◌*◌, ◌<◌, List, [], ◌∷◌, ⊤}

@@ -1,3 +1,4 @@
+-- Believed: the program's answer stands on these definitions.
 -- Words files: ancillary packets one after another, as bytes.
 use Rattle.std.specs.Prelude.{◌≡◌, ℕ, List, [], ◌∷◌, ◌++◌}
 use Rattle.anc_words.specs.Words.{AreWords}

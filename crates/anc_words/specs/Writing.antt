@@ -1,3 +1,4 @@
+-- Believed in part: the program's answer stands on some of these definitions.
 -- The one way in which a packet of bytes is written: each byte as its 8-bit word, whatever the packet's
 -- identifiers, and each word as two bytes (SMPTE ST 291-1).
 use Rattle.std.specs.Prelude.{ℕ, ◌+◌, ◌/◌, ◌%◌, ◌==◌, nat_lt, if◌then◌else◌, List, [], ◌∷◌, ◌++◌, map, length, count_ones}

@@ -23,8 +23,10 @@ impl<'a> CaptionPacket<'a> {
     /// The packet of captions with which `bytes` begin, whatever follows it. `None` where they don't begin with a whole one:
     /// where it is cut, another packet, or a word of it would be refused.
     pub fn at_front(bytes: &'a [u8]) -> Option<CaptionPacket<'a>>
-        ensures packet { IfSome result (λ packet. IsCaptionAhead bytes.now (caption_packet_size packet) (carried_by packet)) }
-        ensures none { (size : ℕ) (user : List ℕ) → IsCaptionAhead bytes.now size user → IsSome result }
+        ensures packet { IfSome result
+            (λ packet. IsCaptionAhead bytes.now (caption_packet_size packet) (carried_by packet)) }
+        ensures none { (size : ℕ) (user : List ℕ) → IsCaptionAhead bytes.now size user
+            → IsSome result }
     {
         let words = CaptionWords::at_front(bytes)?;
         let sum = words.right_sum()?;

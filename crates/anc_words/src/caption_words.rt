@@ -26,10 +26,15 @@ impl<'a> CaptionWords<'a> {
     /// end before the checksum word.
     #[inline]
     pub(crate) fn at_front(bytes: &'a [u8]) -> Option<CaptionWords<'a>>
-        ensures words { IfSome result (λ words. BeginsWithCaptions bytes.now words.count (map word_of words.user.now) words.checksum) }
-        ensures bytes { IfSome result (λ words. map low_of words.user.now ≡ map (λ word. word % 256) (map word_of words.user.now)) }
+        ensures words { IfSome result
+            (λ words. BeginsWithCaptions bytes.now words.count
+            (map word_of words.user.now) words.checksum) }
+        ensures bytes { IfSome result
+            (λ words. map low_of words.user.now
+            ≡ map (λ word. word % 256) (map word_of words.user.now)) }
         ensures few { IfSome result (λ words. length words.user.now ≤ 255) }
-        ensures none { (count : ℕ) (user : List ℕ) (checksum : ℕ) → BeginsWithCaptions bytes.now count user checksum → IsSome result }
+        ensures none { (count : ℕ) (user : List ℕ) (checksum : ℕ)
+            → BeginsWithCaptions bytes.now count user checksum → IsSome result }
     {
         let (head, rest) = bytes.split_first_chunk::<10>()?;
         if *head != HEAD {
@@ -51,9 +56,12 @@ impl<'a> CaptionWords<'a> {
     /// where they aren't.
     #[inline]
     pub(crate) fn right_sum(&self) -> Option<u16>
-        ensures right { IfSome result (λ total. AreRight self.now.count (map word_of self.now.user.now) self.now.checksum) }
-        ensures total { IfSome result (λ total. total ≡ sum (map word_of self.now.user.now) % 2 ^ 16) }
-        ensures none { IfNone result (AreRight self.now.count (map word_of self.now.user.now) self.now.checksum → ⊥) }
+        ensures right { IfSome result
+            (λ total. AreRight self.now.count (map word_of self.now.user.now) self.now.checksum) }
+        ensures total { IfSome result
+            (λ total. total ≡ sum (map word_of self.now.user.now) % 2 ^ 16) }
+        ensures none { IfNone result
+            (AreRight self.now.count (map word_of self.now.user.now) self.now.checksum → ⊥) }
     {
         let user = sum_of(self.user)?;
         let sum = HEAD_SUM + u32::from(self.count) + u32::from(user);
@@ -68,7 +76,8 @@ impl<'a> CaptionWords<'a> {
 // The sum of words, modulo 2^16. `None` where one of them isn't an 8-bit word.
 #[inline]
 fn sum_of(words: &[[u8; 2]]) -> Option<u16>
-    ensures { let all = map word_of words.now in result ≡ (if list_all is_eight_bit all then Some (sum all % 2 ^ 16) else None) }
+    ensures { let all = map word_of words.now in result
+        ≡ (if list_all is_eight_bit all then Some (sum all % 2 ^ 16) else None) }
 {
     let (eights, rest) = words.as_chunks::<8>();
     Some(sum_of_eights(eights)?.wrapping_add(sum_of_rest(rest)?))
@@ -77,7 +86,8 @@ fn sum_of(words: &[[u8; 2]]) -> Option<u16>
 // The same of words in eights.
 #[inline]
 fn sum_of_eights(eights: &[[[u8; 2]; 8]]) -> Option<u16>
-    ensures { let all = map word_of (flat_map (λ eight. eight) eights.now) in result ≡ (if list_all is_eight_bit all then Some (sum all % 2 ^ 16) else None) }
+    ensures { let all = map word_of (flat_map (λ eight. eight) eights.now) in result
+        ≡ (if list_all is_eight_bit all then Some (sum all % 2 ^ 16) else None) }
 {
     let mut sums = u16x8::splat(0);
     for eight in eights {
@@ -93,7 +103,8 @@ fn sum_of_eights(eights: &[[[u8; 2]; 8]]) -> Option<u16>
 // The same of words one by one.
 #[inline]
 fn sum_of_rest(words: &[[u8; 2]]) -> Option<u16>
-    ensures { let all = map word_of words.now in result ≡ (if list_all is_eight_bit all then Some (sum all % 2 ^ 16) else None) }
+    ensures { let all = map word_of words.now in result
+        ≡ (if list_all is_eight_bit all then Some (sum all % 2 ^ 16) else None) }
 {
     let mut total = 0u16;
     for word in words {

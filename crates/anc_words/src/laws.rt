@@ -23,8 +23,10 @@ ghost use Rattle.anc_words.specs.Writing.{checksum_word, packet_bytes};
 
 /// Bytes are at most one list of words, and words have one list of bytes.
 pub fn words_are_spelled_one_way()
-    ensures words { (bytes words others : List ℕ) → AreWords bytes words → AreWords bytes others → words ≡ others }
-    ensures bytes { (bytes others words : List ℕ) → AreWords bytes words → AreWords others words → bytes ≡ others }
+    ensures words { (bytes words others : List ℕ) → AreWords bytes words → AreWords bytes others
+        → words ≡ others }
+    ensures bytes { (bytes others words : List ℕ) → AreWords bytes words → AreWords others words
+        → bytes ≡ others }
 {}
 
 /// Words are at most one packet, whatever follows them, and a packet has one list of words.
@@ -48,15 +50,18 @@ pub fn packet_bytes_are_spelled_one_way()
 /// Each packet whose identifiers are bytes and that has at most 255 user words, as they may be there, can be sent: it has
 /// bytes. Those of a packet that isn't of captions may be any words of ten bits.
 pub fn packets_have_bytes()
-    ensures bytes { (packet : AncillaryPacket) → packet.did < 256 → packet.sdid < 256 → length packet.user ≤ 255
+    ensures bytes { (packet : AncillaryPacket) → packet.did < 256 → packet.sdid < 256
+        → length packet.user ≤ 255
         → All (IsUserWord packet) packet.user → (bytes : List ℕ) × IsPacketBytes packet bytes }
-    ensures free { (packet : AncillaryPacket) (word : ℕ) → word < 1024 → (IsCaption packet → ⊥) → IsUserWord packet word }
+    ensures free { (packet : AncillaryPacket) (word : ℕ) → word < 1024 → (IsCaption packet → ⊥)
+        → IsUserWord packet word }
 {}
 
 /// The packets of captions are exactly those that are written: their bytes are the ones written of the bytes that they
 /// carry.
 pub fn captions_are_written()
-    ensures { (packet : AncillaryPacket) (bytes : List ℕ) → IsCaption packet → IsPacketBytes packet bytes
+    ensures { (packet : AncillaryPacket) (bytes : List ℕ) → IsCaption packet
+        → IsPacketBytes packet bytes
         → bytes ≡ packet_bytes packet.did packet.sdid (user_bytes packet) }
 {}
 
@@ -64,8 +69,10 @@ pub fn captions_are_written()
 /// the other words.
 pub fn captions_ahead_are_found_one_way()
     ensures one { (bytes : List ℕ) (size other : ℕ) (user others : List ℕ)
-        → IsCaptionAhead bytes size user → IsCaptionAhead bytes other others → (size ≡ other) × (user ≡ others) }
-    ensures size { (bytes : List ℕ) (size : ℕ) (user : List ℕ) → IsCaptionAhead bytes size user → size ≡ 2 * length user + 14 }
+        → IsCaptionAhead bytes size user → IsCaptionAhead bytes other others
+        → (size ≡ other) × (user ≡ others) }
+    ensures size { (bytes : List ℕ) (size : ℕ) (user : List ℕ) → IsCaptionAhead bytes size user
+        → size ≡ 2 * length user + 14 }
 {}
 
 /// What was written is read back: where a packet stands at the front of the bytes written and of any bytes behind
@@ -105,42 +112,54 @@ pub fn files_are_joined()
 pub fn files_are_read()
     ensures read { (packets : List AncillaryPacket) (bytes : List ℕ) → IsWordsFile packets bytes
         → Reads anc_syntax nothing_open bytes (flat_map packet_parts packets) nothing_open }
-    ensures handed { (verdict : Verdict Part) (packets : List AncillaryPacket) (bytes : List ℕ) → IsWordsFile packets bytes
+    ensures handed { (verdict : Verdict Part) (packets : List AncillaryPacket) (bytes : List ℕ)
+        → IsWordsFile packets bytes
         → AreAccepted verdict [] (flat_map packet_parts packets)
-        → read_under anc_syntax 2 verdict bytes ≡ record { parts = flat_map packet_parts packets; refusal = None } }
+        → read_under anc_syntax 2 verdict bytes
+        ≡ record { parts = flat_map packet_parts packets; refusal = None } }
 {}
 
 /// What is read is a file: bytes of which no word is refused and behind which nothing is open are packets. Where there is no
 /// refusal, no word was refused, and the layer above took all parts.
 pub fn what_is_read_is_a_file()
-    ensures file { (bytes : List ℕ) → All (λ byte. byte < 256) bytes → AllRead anc_syntax bytes → open_behind anc_syntax bytes ≡ nothing_open
+    ensures file { (bytes : List ℕ) → All (λ byte. byte < 256) bytes → AllRead anc_syntax bytes
+        → open_behind anc_syntax bytes ≡ nothing_open
         → (packets : List AncillaryPacket) × IsWordsFile packets bytes }
-    ensures unrefused { (verdict : Verdict Part) (bytes : List ℕ) → (read_under anc_syntax 2 verdict bytes).refusal ≡ None
+    ensures unrefused { (verdict : Verdict Part) (bytes : List ℕ)
+        → (read_under anc_syntax 2 verdict bytes).refusal ≡ None
         → AllRead anc_syntax bytes × AreAccepted verdict [] (parts_of anc_syntax bytes) }
 {}
 
 /// Words none of which is refused begin some file, and no file begins with words whose last one is refused.
 pub fn a_word_is_refused_where_no_file_goes_on()
     ensures begun { (bytes words : List ℕ) → AreWords bytes words → AllRead anc_syntax bytes
-        → (more : List ℕ) × ((packets : List AncillaryPacket) × IsWordsFile packets (bytes ++ more)) }
-    ensures refused { (bytes : List ℕ) (byte : ℕ) (reason : Reason) (more : List ℕ) (packets : List AncillaryPacket)
-        → judge_byte (open_behind anc_syntax bytes) byte ≡ Refuse reason → IsWordsFile packets (bytes ++ byte ∷ more) → ⊥ }
+        → (more : List ℕ) × ((packets : List AncillaryPacket)
+        × IsWordsFile packets (bytes ++ more)) }
+    ensures refused { (bytes : List ℕ) (byte : ℕ) (reason : Reason) (more : List ℕ)
+        (packets : List AncillaryPacket)
+        → judge_byte (open_behind anc_syntax bytes) byte ≡ Refuse reason
+        → IsWordsFile packets (bytes ++ byte ∷ more) → ⊥ }
 {}
 
 /// A packet ends no sooner than its count says: fewer bytes than come at least, down to the last one of a packet, end none.
 pub fn a_packet_ends_no_sooner()
-    ensures { (bytes more : List ℕ) (packets : List AncillaryPacket) → 0 < length more → length more < bytes_to_end (open_behind anc_syntax bytes)
+    ensures { (bytes more : List ℕ) (packets : List AncillaryPacket) → 0 < length more
+        → length more < bytes_to_end (open_behind anc_syntax bytes)
         → IsWordsFile packets (bytes ++ more) → ⊥ }
 {}
 
 /// The tests by which words are judged say what they are named for, and a word's high bits come before all else. A word is
 /// refused exactly where it offends by the words of its packet, and for that reason.
 pub fn words_are_judged_by_the_standard()
-    ensures high_bits { (words : List ℕ) (word : ℕ) → 1024 ≤ word → judge_word words word ≡ Refuse why.HighBits }
-    ensures ten_bits { (words : List ℕ) (word : ℕ) → word < 1024 → judge_word words word ≡ judge_ten_bits words word }
+    ensures high_bits { (words : List ℕ) (word : ℕ) → 1024 ≤ word
+        → judge_word words word ≡ Refuse why.HighBits }
+    ensures ten_bits { (words : List ℕ) (word : ℕ) → word < 1024
+        → judge_word words word ≡ judge_ten_bits words word }
     ensures eight_bit { (word : ℕ) → IsTrue (is_eight_bit word) ↔ IsEightBit (word % 256) word }
-    ensures caption { (did sdid : ℕ) → IsTrue (is_caption did sdid) ↔ ((did % 256 ≡ 0x61) × (sdid % 256 ≡ 0x01)) }
-    ensures checksum { (words : List ℕ) (word : ℕ) → (word ≡ checksum_word words) ↔ IsChecksum words word }
+    ensures caption { (did sdid : ℕ)
+        → IsTrue (is_caption did sdid) ↔ ((did % 256 ≡ 0x61) × (sdid % 256 ≡ 0x01)) }
+    ensures checksum { (words : List ℕ) (word : ℕ)
+        → (word ≡ checksum_word words) ↔ IsChecksum words word }
     ensures refused { (words : List ℕ) (word : ℕ) (reason : Reason)
         → (judge_word words word ≡ Refuse reason) ↔ WordOffends words word reason }
 {}
@@ -148,6 +167,7 @@ pub fn words_are_judged_by_the_standard()
 /// A refusal is that of the first refused word: its place is the number of the word's first byte, and its reason is the word's
 /// own, by the words before it, or that of the layer above for the part which the word completes.
 pub fn a_refusal_is_of_the_first_refused_word()
-    ensures { (verdict : Verdict Part) (bytes : List ℕ) (refused : Refused) → (read_under anc_syntax 2 verdict bytes).refusal ≡ Some refused
+    ensures { (verdict : Verdict Part) (bytes : List ℕ) (refused : Refused)
+        → (read_under anc_syntax 2 verdict bytes).refusal ≡ Some refused
         → HasRefusedWord verdict bytes refused }
 {}

@@ -14,7 +14,7 @@ mod word_lanes;
 mod words;
 
 pub use caption_packet::CaptionPacket;
-pub use packets::write_packet;
+pub use packets::{CAPTION_DID, CAPTION_SDID, write_packet};
 pub use parts::WordPart;
 pub use reader::WordReader;
 

@@ -7,6 +7,7 @@ ghost use Rattle.anc_words.specs.declared.parts.WordPart.TheVariants as part;
 ghost use Rattle.anc_words.specs.Reading.{Open, anc_syntax, is_eight_bit, judge_word, nothing_open, words_after};
 ghost use Rattle.anc_words.specs.Writing.{nine_bit_word};
 
+use crate::packets::{CAPTION_DID, CAPTION_SDID};
 use crate::parts::WordPart;
 use crate::words::Word;
 use cc_base::{Machine, Step, Why};
@@ -140,7 +141,8 @@ impl OpenPacket {
 
     // Judges the checksum word, which ends the packet.
     fn checksum(&mut self, word: u16) -> Step<WordPart>
-        ensures says { result ≡ (if word == nine_bit_word self.old.sum then One part.End else Refuse why.AncSum) }
+        ensures says { result
+            ≡ (if word == nine_bit_word self.old.sum then One part.End else Refuse why.AncSum) }
         ensures next { word ≡ nine_bit_word self.old.sum → self.new.next ≡ next.Zeros }
         ensures sum { word ≡ nine_bit_word self.old.sum → self.new.sum ≡ 0 }
         ensures high { self.new.high ≡ self.old.high }
@@ -155,10 +157,13 @@ impl OpenPacket {
 
     // Judges the next word, and goes on behind it where it isn't refused.
     fn word(&mut self, word: u16) -> Step<WordPart>
-        ensures says { (words : List ℕ) → self.old.next ≡ next_of words → self.old.sum ≡ sum_of words → result ≡ judge_word words word }
-        ensures next { (words : List ℕ) → self.old.next ≡ next_of words → self.old.sum ≡ sum_of words → IsTaken result
+        ensures says { (words : List ℕ) → self.old.next ≡ next_of words
+            → self.old.sum ≡ sum_of words → result ≡ judge_word words word }
+        ensures next { (words : List ℕ) → self.old.next ≡ next_of words
+            → self.old.sum ≡ sum_of words → IsTaken result
             → self.new.next ≡ next_of (words_after words word) }
-        ensures sum { (words : List ℕ) → self.old.next ≡ next_of words → self.old.sum ≡ sum_of words → IsTaken result
+        ensures sum { (words : List ℕ) → self.old.next ≡ next_of words → self.old.sum ≡ sum_of words
+            → IsTaken result
             → self.new.sum ≡ sum_of (words_after words word) }
         ensures high { self.new.high ≡ self.old.high }
     {
@@ -177,7 +182,7 @@ impl OpenPacket {
                 Step::Nothing,
             ),
             Next::Count { did, sdid } => {
-                let is_caption = did == 0x61 && sdid == 0x01;
+                let is_caption = did == CAPTION_DID && sdid == CAPTION_SDID;
                 let start = WordPart::Start {
                     did,
                     sdid,

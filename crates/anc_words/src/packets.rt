@@ -8,6 +8,12 @@ ghost use Rattle.anc_words.specs.Writing.{eight_bit_word, word_bytes, packet_byt
 use crate::words::Word;
 use arrayvec::ArrayVec;
 
+/// The DID of ancillary packets of closed captions (SMPTE ST 334-1).
+pub const CAPTION_DID: u8 = 0x61;
+
+/// The SDID of ancillary packets of closed captions (SMPTE ST 334-1).
+pub const CAPTION_SDID: u8 = 0x01;
+
 // The bytes of the longest packet: 255 user words and seven others, two bytes each.
 const ROOM: usize = 524;
 
@@ -37,7 +43,8 @@ pub fn write_packet(did: u8, sdid: u8, user: &[u8], out: &mut ArrayVec<u8, 524>)
 fn put_user(user: &[u8], out: &mut ArrayVec<u8, ROOM>) -> u32
     requires few { length user.now ≤ 255 }
     requires room { array_vec_len out.old + 2 * length user.now ≤ ROOM }
-    ensures items { out.new.items ≡ out.old.items ++ flat_map word_bytes (map eight_bit_word user.now) }
+    ensures items { out.new.items
+        ≡ out.old.items ++ flat_map word_bytes (map eight_bit_word user.now) }
     ensures len { array_vec_len out.new ≡ array_vec_len out.old + 2 * length user.now }
     ensures sum { result ≡ sum (map eight_bit_word user.now) }
     ensures small { result ≤ 1023 * length user.now }

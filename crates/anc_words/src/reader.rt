@@ -42,7 +42,8 @@ impl WordReader {
     /// The number of bytes that come at least, down to the last one of an ancillary packet: of the open one, or of the next one
     /// where none is open. Fewer bytes end no packet.
     pub fn bytes_to_end(&self) -> usize
-        ensures least { (bytes : List ℕ) → HasRead bytes self.now → result ≡ bytes_to_end (open_behind anc_syntax bytes) }
+        ensures least { (bytes : List ℕ) → HasRead bytes self.now
+            → result ≡ bytes_to_end (open_behind anc_syntax bytes) }
         ensures some { 0 < result }
     {
         self.fed.machine.bytes_to_end()
@@ -50,7 +51,8 @@ impl WordReader {
 
     /// Whether nothing is open: no word was refused, and the bytes fed may end here.
     pub fn is_closed(&self) -> bool
-        ensures closed { (bytes : List ℕ) → HasRead bytes self.now → (IsTrue result ↔ (open_behind anc_syntax bytes ≡ nothing_open)) }
+        ensures closed { (bytes : List ℕ) → HasRead bytes self.now
+            → (IsTrue result ↔ (open_behind anc_syntax bytes ≡ nothing_open)) }
         ensures unrefused { IsTrue result → kept_refusal self.now ≡ None }
     {
         self.fed.refusal.is_none() && self.fed.machine.is_closed()
@@ -59,8 +61,10 @@ impl WordReader {
     /// Passes over the bytes of a whole packet of captions, as if they were fed, where nothing is open: their number is
     /// counted, and nothing is handed upward.
     pub fn pass_over(&mut self, packet: &CaptionPacket<'_>)
-        ensures passed { (before piece : List ℕ) (said : AncillaryPacket) → HasRead before self.old → open_behind anc_syntax before ≡ nothing_open
-            → IsPacketBytes said piece → length piece ≡ caption_packet_size packet.now → HasRead (before ++ piece) self.new }
+        ensures passed { (before piece : List ℕ) (said : AncillaryPacket) → HasRead before self.old
+            → open_behind anc_syntax before ≡ nothing_open
+            → IsPacketBytes said piece → length piece ≡ caption_packet_size packet.now
+            → HasRead (before ++ piece) self.new }
         ensures refusal { kept_refusal self.new ≡ kept_refusal self.old }
     {
         self.fed.taken = self.fed.taken.wrapping_add(packet.size() as u64);
@@ -76,11 +80,15 @@ impl WordReader {
     /// Says whether the bytes fed may end here: the kept refusal, if there is one; else `Truncated`, at the number of bytes
     /// fed, where bytes were fed and the last of them doesn't end a packet.
     pub fn finish(&self) -> Result<(), Refusal>
-        ensures kept { (refused : Refused) → kept_refusal self.now ≡ Some refused → result_err result ≡ Some refused }
-        ensures whole { (bytes : List ℕ) → HasRead bytes self.now → IsOk result → (packets : List AncillaryPacket) × IsWordsFile packets bytes }
-        ensures file { (bytes : List ℕ) (packets : List AncillaryPacket) → HasRead bytes self.now → IsWordsFile packets bytes → IsOk result }
+        ensures kept { (refused : Refused) → kept_refusal self.now ≡ Some refused
+            → result_err result ≡ Some refused }
+        ensures whole { (bytes : List ℕ) → HasRead bytes self.now → IsOk result
+            → (packets : List AncillaryPacket) × IsWordsFile packets bytes }
+        ensures file { (bytes : List ℕ) (packets : List AncillaryPacket) → HasRead bytes self.now
+            → IsWordsFile packets bytes → IsOk result }
         ensures cut { (bytes : List ℕ) → HasRead bytes self.now
-            → IfErr result (λ refused. (refused.why ≡ why.Truncated) × (refused.place ≡ length bytes % 2 ^ 64)) }
+            → IfErr result (λ refused. (refused.why ≡ why.Truncated)
+            × (refused.place ≡ length bytes % 2 ^ 64)) }
     {
         if let Some(refusal) = self.fed.refusal {
             return Err(refusal);

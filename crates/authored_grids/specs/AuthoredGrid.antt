@@ -1,3 +1,4 @@
+-- Believed: the program's answer stands on these definitions.
 -- What a line 21 channel is to show at a frame, by the LOAD, SHOW and HIDE of its cues and the rows and columns of their
 -- runs alone (caption area, pop-on, paint-on and roll-up captions: CTA-608-E; 47 CFR 79.101). No byte and no receiver
 -- stands in it.

@@ -1,3 +1,4 @@
+-- Believed in part: the program's answer stands on some of these definitions.
 -- What a DTVCC service is to show at a frame, by the SHOW and HIDE of its cues, their windows, and the rows, columns and
 -- pens of their runs alone (CTA-708-E, caption windows and predefined styles). No byte and no receiver stands in it: it
 -- shares the tables of styles with them, and the shape of what is seen.

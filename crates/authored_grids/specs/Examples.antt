@@ -1,3 +1,4 @@
+-- Between crates: the program's answer stands on none of these definitions.
 -- Lists as literals, whose authored grids are worked out by hand.
 use Rattle.std.specs.Prelude.{ℕ, false, List, [], ◌∷◌, Option, Some, None}
 use Rattle.line21_codes.specs.declared.channels.Chan.TheVariants as chan

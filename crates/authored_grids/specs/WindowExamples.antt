@@ -1,3 +1,4 @@
+-- Between crates: the program's answer stands on none of these definitions.
 -- A list with a window as literals, whose authored windows are worked out by hand.
 use Rattle.std.specs.Prelude.{ℕ, Bool, true, false, List, [], ◌∷◌, Option, Some, None}
 use Rattle.dtvcc_codes.specs.declared.pens.Fill.{Fill}

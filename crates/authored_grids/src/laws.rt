@@ -36,23 +36,32 @@ pub fn a_service_shows_the_windows_of_its_cues()
 /// size and priority.
 pub fn a_window_shows_from_its_show_to_its_hide()
     ensures before { authored_windows 1 two_windows 59 0 ≡ None }
-    ensures first { option_map seen_place (authored_windows 1 two_windows 60 0) ≡ Some (60, 50, 1, 10, 0) }
-    ensures both { option_map seen_place (authored_windows 1 two_windows 99 1) ≡ Some (10, 50, 2, 10, 7) }
+    ensures first { option_map seen_place (authored_windows 1 two_windows 60 0)
+        ≡ Some (60, 50, 1, 10, 0) }
+    ensures both { option_map seen_place (authored_windows 1 two_windows 99 1)
+        ≡ Some (10, 50, 2, 10, 7) }
     ensures hidden { authored_windows 1 two_windows 100 0 ≡ None }
     ensures elsewhere { authored_windows 2 two_windows 60 0 ≡ None }
 {}
 
 /// A window's place isn't relative, both its locks are on, and it has its own attributes, or else those of its style.
 pub fn a_window_has_its_attributes()
-    ensures own { option_map ways_of (authored_windows 1 two_windows 60 0) ≡ Some (false, true, true, centred) }
-    ensures of_style { option_map (λ w. w.attributes) (authored_windows 1 two_windows 90 1) ≡ Some (window_style 4) }
+    ensures own { option_map ways_of (authored_windows 1 two_windows 60 0)
+        ≡ Some (false, true, true, centred) }
+    ensures of_style { option_map (λ w. w.attributes) (authored_windows 1 two_windows 90 1)
+        ≡ Some (window_style 4) }
 {}
 
 /// A run has its characters from its COL on, in its own colours, or else in those of the pen style, with its own italics.
 pub fn a_window_has_the_cells_of_its_runs()
-    ensures coloured { option_and_then (λ w. w.cells 0 1) (authored_windows 1 two_windows 60 0) ≡ cell 73 false yellow }
-    ensures between { option_and_then (λ w. w.cells 0 3) (authored_windows 1 two_windows 60 0) ≡ None }
-    ensures italic { option_and_then (λ w. w.cells 0 4) (authored_windows 1 two_windows 60 0) ≡ cell 88 true example_white }
-    ensures below { option_and_then (λ w. w.cells 1 0) (authored_windows 1 two_windows 60 0) ≡ None }
-    ensures second_row { option_and_then (λ w. w.cells 1 0) (authored_windows 1 two_windows 90 1) ≡ cell 65 false example_white }
+    ensures coloured { option_and_then (λ w. w.cells 0 1) (authored_windows 1 two_windows 60 0)
+        ≡ cell 73 false yellow }
+    ensures between { option_and_then (λ w. w.cells 0 3) (authored_windows 1 two_windows 60 0)
+        ≡ None }
+    ensures italic { option_and_then (λ w. w.cells 0 4) (authored_windows 1 two_windows 60 0)
+        ≡ cell 88 true example_white }
+    ensures below { option_and_then (λ w. w.cells 1 0) (authored_windows 1 two_windows 60 0)
+        ≡ None }
+    ensures second_row { option_and_then (λ w. w.cells 1 0) (authored_windows 1 two_windows 90 1)
+        ≡ cell 65 false example_white }
 {}

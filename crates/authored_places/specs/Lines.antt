@@ -1,3 +1,4 @@
+-- Between crates: the program's answer stands on none of these definitions.
 -- What stands in a row of a channel, as the runs of a cue in a row of theirs.
 use Rattle.std.specs.Prelude.{ℕ, List, slice_get, Option, Some, None}
 use Rattle.line21_codes.specs.declared.styles.Cell.{Cell}

@@ -26,7 +26,8 @@ pub(crate) fn last_on(channel: Chan, cues: &[Cue], count: usize) -> Option<usize
 pub(crate) fn chain_cue(channel: Chan, cues: &[Cue], number: usize, places: u8) -> Option<usize>
     requires { number < length cues.now }
     ensures { (cue : CueOf) → slice_get cues.now number ≡ Some cue
-        → slice_get (chain_of cue (newest channel cues.now number)) places ≡ cue_at cues.now result }
+        → slice_get (chain_of cue (newest channel cues.now number)) places
+        ≡ cue_at cues.now result }
 {
     let mut at = number;
     let mut left = places;

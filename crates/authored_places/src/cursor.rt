@@ -49,11 +49,13 @@ impl ChannelCursor {
     /// Goes on to the next frame, of this number, and says whether what the channel is to show may have changed.
     pub fn advance(&mut self, cues: &[Cue], frame: u32) -> bool
         requires timed { AreCuesTimed 0 (cues_on (cursor_channel self.now) cues.now) }
-        requires stands { (former : ℕ) × (frame ≡ former + 1) × StandsAtFrame cues.now former self.now }
+        requires stands { (former : ℕ) × (frame ≡ former + 1)
+            × StandsAtFrame cues.now former self.now }
         ensures channel { cursor_channel self.new ≡ cursor_channel self.old }
         ensures stands { StandsAtFrame cues.now frame self.new }
         ensures same { (former : ℕ) → frame ≡ former + 1 → result ≡ false
-            → authored_grid (cursor_channel self.old) cues.now frame ≡ authored_grid (cursor_channel self.old) cues.now former }
+            → authored_grid (cursor_channel self.old) cues.now frame
+            ≡ authored_grid (cursor_channel self.old) cues.now former }
     {
         let next = self.next;
         self.pass(cues, frame);
@@ -98,7 +100,8 @@ impl ChannelCursor {
         requires timed { AreCuesTimed 0 (cues_on (cursor_channel self.now) cues.now) }
         requires stands { StandsAtFrame cues.now frame self.now }
         ensures settled { result ≡ true → IsSettled (cursor_channel self.now) cues.now frame }
-        ensures unsettled { result ≡ false → IsSettled (cursor_channel self.now) cues.now frame → ⊥ }
+        ensures unsettled { result ≡ false → IsSettled (cursor_channel self.now) cues.now frame
+            → ⊥ }
     {
         match cues.get(self.next) {
             Some(cue) => is_pop(cue.kind) || frame < cue.load,
@@ -110,7 +113,8 @@ impl ChannelCursor {
     pub fn line(&self, cues: &[Cue], frame: u32, row: u8) -> Option<Line>
         requires timed { AreCuesTimed 0 (cues_on (cursor_channel self.now) cues.now) }
         requires stands { StandsAtFrame cues.now frame self.now }
-        ensures { (column : ℕ) → authored_grid (cursor_channel self.now) cues.now frame row column ≡ line_cell cues.now result column }
+        ensures { (column : ℕ) → authored_grid (cursor_channel self.now) cues.now frame row column
+            ≡ line_cell cues.now result column }
     {
         let number = self.last?;
         let cue = &cues[number];

@@ -35,7 +35,8 @@ impl Budget {
     /// Spends so many bytes, where as many are left; else the answer is false, and nothing is spent.
     pub fn spend(&mut self, bytes: u8) -> bool
         ensures fits { IsTrue result ↔ (bytes ≤ self.old.left) }
-        ensures spent { OnTrue result (self.new ≡ record self.old { left = self.old.left - bytes }) }
+        ensures spent { OnTrue result
+            (self.new ≡ record self.old { left = self.old.left - bytes }) }
         ensures refused { OnFalse result (self.new ≡ self.old) }
     {
         if bytes > self.left {

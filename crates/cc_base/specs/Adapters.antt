@@ -1,3 +1,4 @@
+-- Between crates: the program's answer stands on none of these definitions.
 -- What the adapters hold, and what they answer: the reader or writer below, how often it failed, and what a call of it comes to.
 use Rattle.std.specs.Prelude.{ℕ, zero, suc, ◌+◌, ◌-◌, ◌^◌, min, Bool, true, false, Option, Some, None}
 use Rattle.cc_base.specs.declared.adapters.ReaderSource.{ReaderSource}

@@ -1,3 +1,4 @@
+-- Between crates: the program's answer stands on none of these definitions.
 -- What a sink over memory holds: the bytes written, its room, the puts that fail, and their counts.
 use Rattle.std.specs.Prelude.{◌≡◌, ◌↔◌, ℕ, ◌+◌, ◌-◌, ◌^◌, ◌<◌, ◌⊎◌, ◌==◌, min, List, Contains, if◌then◌else◌}
 use Rattle.std.specs.Prelude.{length}

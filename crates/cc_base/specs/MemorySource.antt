@@ -1,3 +1,4 @@
+-- Between crates: the program's answer stands on none of these definitions.
 -- What the sources over memory hold: the bytes left, the sizes of their pieces, the calls that fail, and their counts.
 use Rattle.std.specs.Prelude.{◌≡◌, ◌↔◌, ℕ, ◌+◌, ◌-◌, ◌%◌, ◌^◌, ◌<◌, max, min, List, [], ◌∷◌, drop, length, slice_index, Contains}
 use Rattle.cc_base.specs.declared.memory_source.MemorySource.{MemorySource}

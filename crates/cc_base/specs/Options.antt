@@ -1,3 +1,4 @@
+-- Believed: the program's answer stands on these definitions.
 -- What holds of values that may not be there.
 use Rattle.std.specs.Prelude.{Bool, false, Option, Some, None}
 

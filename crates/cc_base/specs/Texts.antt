@@ -1,3 +1,4 @@
+-- Believed: the program's answer stands on these definitions.
 -- Texts that are made of pieces.
 use Rattle.std.specs.Prelude.{ℕ, List}
 use Rattle.std.specs.List.{flat_map}

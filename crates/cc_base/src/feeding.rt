@@ -16,12 +16,18 @@ pub fn feed_pieces<I, P, R: Resume<I, P>, U: Upward<P>>(
     second: &[I],
     up: &mut U,
 ) -> Result<(), Refusal>
-    ensures answer { (given : R.Given) (before : List I) (above : List P) → R.Leads given before reader.old → U.Took above up.old
-        → result_err result ≡ (reading (R.judge given) U.verdict R.place before above (first.now ++ second.now)).refusal }
-    ensures handed { (given : R.Given) (before : List I) (above : List P) → R.Leads given before reader.old → U.Took above up.old
-        → U.Took (above ++ (reading (R.judge given) U.verdict R.place before above (first.now ++ second.now)).parts) up.new }
-    ensures leads { (given : R.Given) (before : List I) (above : List P) → R.Leads given before reader.old → U.Took above up.old
-        → result_err result ≡ None → R.Leads given (before ++ (first.now ++ second.now)) reader.new }
+    ensures answer { (given : R.Given) (before : List I) (above : List P)
+        → R.Leads given before reader.old → U.Took above up.old
+        → result_err result ≡ (reading (R.judge given) U.verdict R.place before above
+        (first.now ++ second.now)).refusal }
+    ensures handed { (given : R.Given) (before : List I) (above : List P)
+        → R.Leads given before reader.old → U.Took above up.old
+        → U.Took (above ++ (reading (R.judge given) U.verdict R.place before above
+        (first.now ++ second.now)).parts) up.new }
+    ensures leads { (given : R.Given) (before : List I) (above : List P)
+        → R.Leads given before reader.old → U.Took above up.old
+        → result_err result ≡ None
+        → R.Leads given (before ++ (first.now ++ second.now)) reader.new }
     ensures kept { (refused : Refused) → R.refusal reader.old ≡ Some refused
         → (result_err result ≡ Some refused) × (reader.new ≡ reader.old) × (up.new ≡ up.old) }
     ensures told { R.refusal reader.new ≡ result_err result }

@@ -29,8 +29,10 @@ pub trait Machine<I, P> {
 
     /// Judges the next item, and goes on behind it where it isn't refused.
     fn step(&mut self, item: I) -> Step<P>
-        ensures says { (given : Given) (front : Front) → Matches given front self.old → result ≡ (syntax given).judge front item }
-        ensures leads { (given : Given) (front : Front) → Matches given front self.old → IsTaken result
+        ensures says { (given : Given) (front : Front) → Matches given front self.old
+            → result ≡ (syntax given).judge front item }
+        ensures leads { (given : Given) (front : Front) → Matches given front self.old
+            → IsTaken result
             → Matches given ((syntax given).after front item) self.new };
 
     /// Places are told apart.
@@ -69,13 +71,19 @@ impl<M> Fed<M> {
     pub fn step<I: Copy, P>(&mut self, item: I) -> Step<P>
     where
         M: Machine<I, P>,
-        ensures says { (given : M.Given) (items : List I) → HasTaken (M.syntax given) (M.Matches given) items self.old
+        ensures says { (given : M.Given) (items : List I)
+            → HasTaken (M.syntax given) (M.Matches given) items self.old
             → result ≡ (M.syntax given).judge (open_behind (M.syntax given) items) item }
-        ensures leads { (given : M.Given) (items : List I) → HasTaken (M.syntax given) (M.Matches given) items self.old
-            → IsTaken result → HasTaken (M.syntax given) (M.Matches given) (items ++ item ∷ []) self.new }
-        ensures refused { (given : M.Given) (items : List I) (why : Reason) → HasTaken (M.syntax given) (M.Matches given) items self.old
-            → result ≡ Refuse why → self.new.refusal ≡ Some (record { place = place_by M.UNIT items; why = why }) }
-        ensures kept { (refused : Refused) → self.old.refusal ≡ Some refused → (result ≡ Refuse refused.why) × (self.new ≡ self.old) }
+        ensures leads { (given : M.Given) (items : List I)
+            → HasTaken (M.syntax given) (M.Matches given) items self.old
+            → IsTaken result → HasTaken (M.syntax given) (M.Matches given)
+            (items ++ item ∷ []) self.new }
+        ensures refused { (given : M.Given) (items : List I) (why : Reason)
+            → HasTaken (M.syntax given) (M.Matches given) items self.old
+            → result ≡ Refuse why → self.new.refusal
+            ≡ Some (record { place = place_by M.UNIT items; why = why }) }
+        ensures kept { (refused : Refused) → self.old.refusal ≡ Some refused
+            → (result ≡ Refuse refused.why) × (self.new ≡ self.old) }
         ensures told { step_why result ≡ why_of self.new.refusal }
     {
         if let Some(refusal) = self.refusal {
@@ -94,7 +102,8 @@ impl<M> Fed<M> {
     // Refuses the next item, where so many items have one place, and keeps the refusal.
     fn refuse(&mut self, unit: u64, why: Why) -> Refusal
         requires { 0 < unit }
-        ensures refusal { result ≡ record { place = self.old.taken - self.old.taken % unit; why = why } }
+        ensures refusal { result
+            ≡ record { place = self.old.taken - self.old.taken % unit; why = why } }
         ensures kept { self.new ≡ record self.old { refusal = Some result } }
     {
         let refusal = Refusal {
@@ -108,8 +117,10 @@ impl<M> Fed<M> {
 
 /// Hands the parts of a step upward, up to the first refused one, and says why the item is refused, if it is.
 fn hand_up<P: Copy, U: Upward<P>>(step: Step<P>, up: &mut U) -> Option<Why>
-    ensures why { (above : List P) → U.Took above up.old → result ≡ (hand U.verdict above step).why }
-    ensures took { (above : List P) → U.Took above up.old → U.Took (above ++ (hand U.verdict above step).parts) up.new }
+    ensures why { (above : List P) → U.Took above up.old
+        → result ≡ (hand U.verdict above step).why }
+    ensures took { (above : List P) → U.Took above up.old
+        → U.Took (above ++ (hand U.verdict above step).parts) up.new }
 {
     match step {
         Step::Nothing => None,

@@ -58,9 +58,11 @@ impl Sink for MemorySink {
     ghost faults = { λ s. sink_faults s };
 
     fn put(&mut self, bytes: &[u8]) -> Put
-        ensures bytes { Puts (Some (sink_written self.old)) (Some (sink_written self.new)) result bytes.now }
+        ensures bytes { Puts (Some (sink_written self.old))
+            (Some (sink_written self.new)) result bytes.now }
         ensures cause { PutCause (sink_faults self.old) (sink_faults self.new) result }
-        ensures empty { PutsEmpty (Some (sink_written self.old)) (Some (sink_written self.new)) result bytes.now }
+        ensures empty { PutsEmpty (Some (sink_written self.old))
+            (Some (sink_written self.new)) result bytes.now }
         ensures memory { PutsInMemory self.old self.new result (length bytes.now) }
     {
         if bytes.is_empty() {

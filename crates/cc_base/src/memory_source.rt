@@ -70,7 +70,8 @@ impl Source for MemorySource {
 
     fn take(&mut self, buf: &mut [u8]) -> Took
         requires { 0 < length buf.old }
-        ensures bytes { Takes (Some (source_left self.old)) (Some (source_left self.new)) result buf.new }
+        ensures bytes { Takes (Some (source_left self.old))
+            (Some (source_left self.new)) result buf.new }
         ensures cause { TakeCause (source_faults self.old) (source_faults self.new) result }
         ensures memory { TakesFromMemory self.old self.new result (length buf.old) }
     {
@@ -121,10 +122,12 @@ impl Source for SteadySource {
 
     fn take(&mut self, buf: &mut [u8]) -> Took
         requires { 0 < length buf.old }
-        ensures bytes { Takes (Some (steady_left self.old)) (Some (steady_left self.new)) result buf.new }
+        ensures bytes { Takes (Some (steady_left self.old))
+            (Some (steady_left self.new)) result buf.new }
         ensures cause { TakeCause 0 0 result }
         ensures never_fails { result ≢ Took.Failed }
-        ensures most { (n : ℕ) → result ≡ Took.Got n → n ≡ min (length (steady_left self.old)) (length buf.old) }
+        ensures most { (n : ℕ) → result ≡ Took.Got n
+            → n ≡ min (length (steady_left self.old)) (length buf.old) }
     {
         let count = copy_front(&self.bytes, self.at, usize::MAX, buf);
         self.at += count;

@@ -16,8 +16,10 @@ pub trait Upward<P> {
 
     /// Takes the next part, or says why it is refused.
     fn part(&mut self, part: P) -> Result<(), Why>
-        ensures answer { (before : List P) → Took before self.old → result_err result ≡ verdict before part }
-        ensures took { (before : List P) → Took before self.old → Took (before ++ part ∷ []) self.new };
+        ensures answer { (before : List P) → Took before self.old
+            → result_err result ≡ verdict before part }
+        ensures took { (before : List P) → Took before self.old
+            → Took (before ++ part ∷ []) self.new };
 }
 
 /// A reader that can be fed its items in any pieces, and hands the parts upward that they make.
@@ -39,11 +41,16 @@ pub trait Resume<I, P> {
     ///
     /// Feeding two pieces in turn answers, hands upward and leads to what feeding both at once does.
     fn feed<U: Upward<P>>(&mut self, input: &[I], up: &mut U) -> Result<(), Refusal>
-        ensures answer { (given : Given) (before : List I) (above : List P) → Leads given before self.old → U.Took above up.old
-            → result_err result ≡ (reading (judge given) U.verdict place before above input.now).refusal }
-        ensures handed { (given : Given) (before : List I) (above : List P) → Leads given before self.old → U.Took above up.old
-            → U.Took (above ++ (reading (judge given) U.verdict place before above input.now).parts) up.new }
-        ensures leads { (given : Given) (before : List I) (above : List P) → Leads given before self.old → U.Took above up.old
+        ensures answer { (given : Given) (before : List I) (above : List P)
+            → Leads given before self.old → U.Took above up.old
+            → result_err result ≡ (reading
+            (judge given) U.verdict place before above input.now).refusal }
+        ensures handed { (given : Given) (before : List I) (above : List P)
+            → Leads given before self.old → U.Took above up.old
+            → U.Took (above ++ (reading
+            (judge given) U.verdict place before above input.now).parts) up.new }
+        ensures leads { (given : Given) (before : List I) (above : List P)
+            → Leads given before self.old → U.Took above up.old
             → result_err result ≡ None → Leads given (before ++ input.now) self.new }
         ensures kept { (refused : Refused) → refusal self.old ≡ Some refused
             → (result_err result ≡ Some refused) × (self.new ≡ self.old) × (up.new ≡ up.old) }

@@ -24,11 +24,15 @@ pub fn read_whole<S: Source>(
     source: &mut S,
     limit: usize,
 ) -> Result<Vec<u8>, ReadError>
-    ensures whole { IfOk result (λ v. IsWhole limit (S.left source.old) (S.left source.new) v.items) }
-    ensures fault { IsErrOf result ReadError.Fault → Rose (S.faults source.old) (S.faults source.new) }
-    ensures in_limit { IsErrOf result ReadError.Fault → TakesWithin limit (S.left source.old) (S.left source.new) }
+    ensures whole { IfOk result
+        (λ v. IsWhole limit (S.left source.old) (S.left source.new) v.items) }
+    ensures fault { IsErrOf result ReadError.Fault
+        → Rose (S.faults source.old) (S.faults source.new) }
+    ensures in_limit { IsErrOf result ReadError.Fault
+        → TakesWithin limit (S.left source.old) (S.left source.new) }
     ensures steady { result ≢ Err ReadError.Fault → S.faults source.new ≡ S.faults source.old }
-    ensures limit { IsErrOf result ReadError.Limit → IfSome (S.left source.old) (λ bytes. limit < length bytes) }
+    ensures limit { IsErrOf result ReadError.Limit
+        → IfSome (S.left source.old) (λ bytes. limit < length bytes) }
 {
     let mut whole = Vec::new(alloc);
     let mut buf = [0u8; CHUNK];

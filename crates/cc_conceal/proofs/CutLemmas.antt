@@ -1,7 +1,7 @@
 -- The frames that are heard begin behind the last jump of the counter.
 use Rattle.std.proofs.Common.{◌≡◌, ◌∙◌, Bool, true, false, if◌then◌else◌, List, [], ◌∷◌, ◌++◌, reverse, refl, sym, ap, subst}
 use Rattle.std.proofs.lemmas.List.{reverse-append, reverse-reverse}
-use Rattle.cdp_packets.specs.Packets.{Packet as Frame}
+use Rattle.cdp_packets.specs.Packets.{Frame}
 use Rattle.cc_conceal.specs.Concealed.{goes_on, heard_back}
 use Rattle.cc_conceal.specs.Laws.{GoOn, HeardSinceTheJump, JumpsBetween}
 use Rattle.cc_conceal.proofs.HeardLemmas.{lasts_are, no_last, turned}

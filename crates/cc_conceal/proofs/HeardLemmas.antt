@@ -1,8 +1,8 @@
 -- The frames since the last jump, when one more comes.
 use Rattle.std.proofs.Common.{◌≡◌, ◌∙◌, ℕ, ◌+◌, ◌-◌, ◌*◌, ◌<◌, ◌≤◌, arith, ◌%◌, ◌==◌, not, Bool, true, false, if◌then◌else◌, List, [], ◌∷◌, ◌++◌, reverse, Option, Some, None, refl, sym, ap}
 use Rattle.std.proofs.lemmas.List.{reverse-append, reverse-reverse}
-use Rattle.cdp_packets.specs.Packets.{Packet as Frame}
-use Rattle.cc_conceal.specs.Concealed.{distance, goes_on, heard_back, heard_of, missing_before, number_behind, number_of}
+use Rattle.cdp_packets.specs.Packets.{Frame}
+use Rattle.cc_conceal.specs.Concealed.{distance, frame_number_behind, goes_on, heard_back, heard_of, missing_before, number_of_last}
 use Rattle.cc_conceal.specs.Concealers.{IsLastCounter, jumps_from, kept_at, next_missing, next_number}
 
 -- the newest of frames
@@ -59,7 +59,7 @@ heard_suffix frames =
 
 -- the number of one more frame, and how many are missing before it
 number_more : (n : ℕ) (former : Frame) (fs : List Frame) (last next : Frame) (before : List Frame) → former ∷ fs ≡ before ++ last ∷ []
-    → number_behind n former (fs ++ next ∷ []) ≡ number_behind n former fs + distance last.counter next.counter
+    → frame_number_behind n former (fs ++ next ∷ []) ≡ frame_number_behind n former fs + distance last.counter next.counter
 number_more n former [] last next [] is = let same : former ≡ last = cc in ap (λ (f : Frame). n + distance f.counter next.counter) same
 number_more n former [] last next (b ∷ []) is = cc
 number_more n former [] last next (b ∷ (d ∷ before)) is = cc
@@ -69,15 +69,15 @@ number_more n former (f ∷ fs) last next (b ∷ before) is =
     number_more (n + distance former.counter f.counter) f fs last next before rest
 
 pub number_next_is : (frames : List Frame) (counter : Option ℕ) (next : Frame) → IsLastCounter frames counter
-    → number_of (frames ++ next ∷ []) ≡ next_number counter (number_of frames) next.counter
-number_next_is frames None next none = ap (λ (l : List Frame). number_of (l ++ next ∷ [])) none
+    → number_of_last (frames ++ next ∷ []) ≡ next_number counter (number_of_last frames) next.counter
+number_next_is frames None next none = ap (λ (l : List Frame). number_of_last (l ++ next ∷ [])) none
 number_next_is frames (Some counter) next (before, (last, is, same)) = at frames is
   where
-    at : (fs : List Frame) → fs ≡ before ++ last ∷ [] → number_of (fs ++ next ∷ []) ≡ number_of fs + distance counter next.counter
+    at : (fs : List Frame) → fs ≡ before ++ last ∷ [] → number_of_last (fs ++ next ∷ []) ≡ number_of_last fs + distance counter next.counter
     at [] none = absurd (no_last before last none)
     at (f ∷ fs) here =
         number_more f.counter f fs last next before here
-        ∙ ap (λ (n : ℕ). number_behind f.counter f fs + distance n next.counter) (sym same)
+        ∙ ap (λ (n : ℕ). frame_number_behind f.counter f fs + distance n next.counter) (sym same)
 
 missing_more : (before : List Frame) (last next : Frame) → missing_before ((before ++ last ∷ []) ++ next ∷ []) ≡ distance last.counter next.counter - 1
 missing_more [] last next = refl

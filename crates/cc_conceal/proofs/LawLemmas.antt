@@ -8,7 +8,7 @@ use Rattle.line21_codes.specs.Channels.{data_channel_of, field_of_channel}
 use Rattle.line21_codes.specs.Parity.{has_odd_parity, is_odd}
 use Rattle.line21_screen.specs.Fields.{channel}
 use Rattle.line21_screen.specs.Meaning.{after}
-use Rattle.cdp_packets.specs.Packets.{Packet as Frame}
+use Rattle.cdp_packets.specs.Packets.{Frame}
 use Rattle.words_files.specs.Received.{received_pairs}
 use Rattle.cc_receiver.specs.ReceivedServices.{received_windows}
 use Rattle.cc_conceal.specs.Concealed.{concealed, heard_back, heard_of}

@@ -6,9 +6,9 @@ use Rattle.cc_base.specs.declared.rate.Rate.{Rate}
 use Rattle.cc_base.specs.declared.refusal.Refusal.{Refusal}
 use Rattle.cc_receiver.specs.declared.receiver.Fed.{Fed}
 use Rattle.cc_data.specs.declared.triplet.Triplet.{Triplet}
-use Rattle.cdp_packets.specs.Packets.{Packet as Frame}
+use Rattle.cdp_packets.specs.Packets.{Frame}
 use Rattle.cdp_packets.specs.PacketTriplets.{packet_triplets}
-use Rattle.dtvcc_screen.specs.Meaning.{Event, Reset, Served, Tick, after, cleaned, start}
+use Rattle.dtvcc_screen.specs.Meaning.{Event, Reset, Served, Tick, cleaned, served_after, start}
 use Rattle.dtvcc_screen.specs.Screens.{ScreenState}
 use Rattle.dtvcc_screen.specs.Shown.{grids}
 use Rattle.dtvcc_screen.specs.declared.clock.Clock.{Clock}
@@ -56,8 +56,8 @@ lead_more heard last e l rate triplets rate_is triplets_are lead service =
     ∙ ap (λ (ts : List Triplet). Tick rate ∷ events_of service (heard_behind (file_triplets heard) ts)) (sym triplets_are) in (
       w.0,
       after_append start (e service ++ l service) given
-          ∙ ap (λ (s : Served). after s given) w.1
-          ∙ sym (ap (after (cleaned w.0)) (events_more service heard last ∙ ap (λ (es : List Event). service_events service heard ++ es) said)
+          ∙ ap (λ (s : Served). served_after s given) w.1
+          ∙ sym (ap (served_after (cleaned w.0)) (events_more service heard last ∙ ap (λ (es : List Event). service_events service heard ++ es) said)
           ∙ after_append (cleaned w.0) (service_events service heard) given),
     )
 
@@ -85,8 +85,8 @@ reset_served heard old new resets was = record {
   has = resets (file_triplets heard) was.earlier was.last was.has;
   leads = λ service.
       let all = was.earlier service ++ was.last service in (
-        (after start all).clock,
-        ap (after start) (sym (append_assoc (was.earlier service) (was.last service) (Reset ∷ []))) ∙ after_append start all (Reset ∷ []),
+        (served_after start all).clock,
+        ap (served_after start) (sym (append_assoc (was.earlier service) (was.last service) (Reset ∷ []))) ∙ after_append start all (Reset ∷ []),
       );
   before = λ others newest none. absurd (no_last others newest none);
 }
@@ -147,13 +147,13 @@ concealed_still before more old new had now counted =
     }
 
 -- whatever the clock, a service has the screen of its events from reset
-pub same_screen : (service : ℕ) (heard : List Frame) (clock : Clock) → (after (cleaned clock) (service_events service heard)).core.screen ≡ (received_service heard service).screen
+pub same_screen : (service : ℕ) (heard : List Frame) (clock : Clock) → (served_after (cleaned clock) (service_events service heard)).core.screen ≡ (received_service heard service).screen
 same_screen service [] clock = refl
 same_screen service (f ∷ fs) clock =
     same_clock start.clock clock f.rate (events_of service (said_behind [] (packet_triplets f)) ++ events_behind service ([] ++ packet_triplets f) fs)
 
 -- so what is seen of it is what its events from reset leave
-pub seen_from_reset : (service id : ℕ) (heard : List Frame) (s : Served) → (clock : Clock) × (s ≡ after (cleaned clock) (service_events service heard))
+pub seen_from_reset : (service id : ℕ) (heard : List Frame) (s : Served) → (clock : Clock) × (s ≡ served_after (cleaned clock) (service_events service heard))
     → grids (received_service heard service).screen id ≡ grids s.core.screen id
 seen_from_reset service id heard s w =
     ap (λ (screen : ScreenState). grids screen id) (sym (ap (λ (s : Served). s.core.screen) w.1 ∙ same_screen service heard w.0))

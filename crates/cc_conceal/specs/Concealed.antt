@@ -1,3 +1,4 @@
+-- Believed: the program's answer stands on these definitions.
 -- What a concealing receiver makes of frames of which some are missing, or in which bytes of line 21 have bad parity (this
 -- project's own choice): it is reset where the counters of distribution packets jump (SMPTE ST 334-2, cdp_hdr_sequence_cntr), and shows
 -- a solid block for a byte of a text that it can't read (CTA-608-E).
@@ -11,7 +12,7 @@ use Rattle.line21_codes.specs.Parity.{is_odd, low_bits}
 use Rattle.line21_screen.specs.Fields.{FieldState, channel}
 use Rattle.line21_screen.specs.Grid.{Grid}
 use Rattle.line21_screen.specs.Meaning.{after}
-use Rattle.cdp_packets.specs.Packets.{Packet as Frame}
+use Rattle.cdp_packets.specs.Packets.{Frame}
 use Rattle.words_files.specs.Received.{received_pairs}
 use Rattle.dtvcc_windows.specs.Showing.{ShownWindow}
 use Rattle.cc_receiver.specs.ReceivedServices.{received_windows}
@@ -60,13 +61,13 @@ abbrev pub distance : ℕ → ℕ → ℕ
 distance former counter = let d = (counter + 65536 - former) % 65536 in if d == 0 then 65536 else d
 
 -- the number of the last frame: the counter of the first one, and so many more as the counters tell
-abbrev pub number_behind : ℕ → Frame → List Frame → ℕ
-number_behind number former [] = number
-number_behind number former (frame ∷ frames) = number_behind (number + distance former.counter frame.counter) frame frames
+abbrev pub frame_number_behind : ℕ → Frame → List Frame → ℕ
+frame_number_behind number former [] = number
+frame_number_behind number former (frame ∷ frames) = frame_number_behind (number + distance former.counter frame.counter) frame frames
 
-abbrev pub number_of : List Frame → ℕ
-number_of [] = 0
-number_of (frame ∷ frames) = number_behind frame.counter frame frames
+abbrev pub number_of_last : List Frame → ℕ
+number_of_last [] = 0
+number_of_last (frame ∷ frames) = frame_number_behind frame.counter frame frames
 
 -- how many frames are missing right before the last one
 abbrev pub missing_before : List Frame → ℕ

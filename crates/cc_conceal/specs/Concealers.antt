@@ -1,3 +1,4 @@
+-- Between crates: the program's answer stands on none of these definitions.
 -- What a concealing receiver is, behind the bytes that it was fed.
 use Rattle.std.specs.Prelude.{◌≡◌, ◌≤◌, ℕ, ◌+◌, ◌-◌, ◌*◌, ◌%◌, ◌==◌, not, Bool, true, false, if◌then◌else◌, List, [], ◌∷◌, ◌++◌, length, map, reverse, take, Option, Some, None, Result, Ok, Err}
 use Rattle.cc_base.specs.declared.refusal.Refusal.{Refusal}
@@ -9,13 +10,13 @@ use Rattle.line21_screen.specs.Fields.{channel}
 use Rattle.line21_screen.specs.Grid.{Grid}
 use Rattle.line21_screen.specs.declared.field.Field.{Field}
 use Rattle.line21_screen.specs.Objects as fields
-use Rattle.cdp_packets.specs.Packets.{Packet as Frame}
+use Rattle.cdp_packets.specs.Packets.{Frame}
 use Rattle.words_files.specs.FramesOf.{AreFramesOf}
 use Rattle.words_files.specs.Received.{received_pairs}
 use Rattle.services_files.specs.CaptionChannel.{caption_channel}
 use Rattle.services_files.specs.CarriedChannel.{file_triplets}
 use Rattle.services_files.specs.Events.{service_events}
-use Rattle.dtvcc_screen.specs.Meaning.{after, cleaned}
+use Rattle.dtvcc_screen.specs.Meaning.{cleaned, served_after}
 use Rattle.dtvcc_screen.specs.declared.clock.Clock.{Clock}
 use Rattle.dtvcc_services.specs.Objects.{Events, all_ticks, served_now, service_behind}
 use Rattle.cc_receiver.specs.Receivers.{HasReceived, frame_count}
@@ -24,7 +25,7 @@ use Rattle.cc_receiver.specs.declared.services.Served.{Served}
 use Rattle.cc_receiver.specs.declared.receiver.Fed.{Fed}
 use Rattle.cc_receiver.specs.declared.receiver.Receiver.{Receiver}
 use Rattle.dtvcc_windows.specs.Showing.{ShownWindow}
-use Rattle.cc_conceal.specs.Concealed.{concealed, concealed_windows, distance, heard_of, missing_before, number_of}
+use Rattle.cc_conceal.specs.Concealed.{concealed, concealed_windows, distance, heard_of, missing_before, number_of_last}
 use Rattle.cc_conceal.specs.declared.concealer.Concealer.{Concealer}
 
 -- the receiver that reads and refuses its bytes
@@ -69,12 +70,12 @@ kept_at jumps heard = if jumps then [] else heard
 -- each service is where its events in the frames lead from a reset
 abbrev pub LeadFromReset : List Frame → Events → Events → Type 0
 LeadFromReset heard earlier last =
-    (service : ℕ) → (clock : Clock) × (served_now earlier last service ≡ after (cleaned clock) (service_events service heard))
+    (service : ℕ) → (clock : Clock) × (served_now earlier last service ≡ served_after (cleaned clock) (service_events service heard))
 
 -- and where its events before the last frame lead
 abbrev pub LeadBefore : List Frame → Events → Type 0
 LeadBefore earlier events =
-    (service : ℕ) → (clock : Clock) × (service_behind events service ≡ after (cleaned clock) (service_events service earlier))
+    (service : ℕ) → (clock : Clock) × (service_behind events service ≡ served_after (cleaned clock) (service_events service earlier))
 
 -- services took these frames, as if they had been reset before them
 pub record AreServed (heard : List Frame) (served : Served) : Type 0 where
@@ -98,7 +99,7 @@ pub record HasActed (frames : List Frame) (concealer : Concealer) : Type 0 where
   pub behind : IsBehind (heard_of frames) concealer
   pub together : concealer.apart ≡ false → heard_of frames ≡ frames
   pub ticks : all_ticks concealer.served.services ≤ length frames
-  pub number : concealer.number ≡ number_of frames
+  pub number : concealer.number ≡ number_of_last frames
   pub missing : concealer.missing ≡ missing_before frames
   pub small : concealer.number ≤ 65536 * length frames
   pub goes_on : concealer.jumped ≡ false → (earlier : List Frame) (last : Frame) → frames ≡ earlier ++ last ∷ []

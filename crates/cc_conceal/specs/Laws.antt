@@ -1,10 +1,11 @@
+-- Between crates: the program's answer stands on none of these definitions.
 -- What the laws say of concealed frames.
 use Rattle.std.specs.Prelude.{◌≡◌, ⊤, ℕ, true, false, List, [], ◌∷◌, ◌++◌, All}
 use Rattle.line21_codes.specs.declared.channels.Chan.{Chan}
 use Rattle.line21_codes.specs.declared.channels.FieldNumber.{FieldNumber}
 use Rattle.line21_codes.specs.declared.pairs.Pair.{Pair}
 use Rattle.line21_codes.specs.Parity.{has_odd_parity}
-use Rattle.cdp_packets.specs.Packets.{Packet as Frame}
+use Rattle.cdp_packets.specs.Packets.{Frame}
 use Rattle.words_files.specs.Received.{received_grids, received_pairs}
 use Rattle.cc_receiver.specs.ReceivedServices.{received_windows}
 use Rattle.cc_conceal.specs.Concealed.{concealed_grids, concealed_windows, goes_on, heard_of}

@@ -1,5 +1,5 @@
 ghost use Rattle.std.specs.Prelude.{None, Some, ◌^◌, true, false, if◌then◌else◌, ◌≡◌, ◌≢◌, ◌≤◌, ◌<◌, ◌+◌, ◌++◌, ℕ, List, [], ◌∷◌, IfErr, IfOk, IfSome, IsOk, IsTrue, MatchOption, length};
-ghost use Rattle.cdp_packets.specs.Packets.{Packet as Frame};
+ghost use Rattle.cdp_packets.specs.Packets.{Frame};
 ghost use Rattle.words_files.specs.FramesOf.{AreFramesOf};
 ghost use Rattle.cc_receiver.specs.Feeds.{Feeds};
 ghost use Rattle.words_files.specs.Offences.{IsFileUnder, IsMalformed};
@@ -50,7 +50,7 @@ pub struct Concealer {
 
 impl Concealer {
     ghost use Rattle.line21_screen.specs.Objects.{grid_in};
-    ghost use Rattle.cc_conceal.specs.Concealed.{concealed_grids, concealed_windows, heard_of, missing_before, number_of};
+    ghost use Rattle.cc_conceal.specs.Concealed.{concealed_grids, concealed_windows, heard_of, missing_before, number_of_last};
     ghost use Rattle.cc_conceal.specs.Concealers.{Conceals, ConcealsOn, HasActed, HasConcealed, IsBehind, concealed_frames, displayed_now, jumps_from, kept_at, next_missing, next_number, receiver_of};
 
     /// A receiver that was fed nothing. The error comes where memory for its screens isn't found.
@@ -76,8 +76,10 @@ impl Concealer {
     pub fn feed(&mut self, bytes: &[u8]) -> Result<Fed, Refusal>
         requires few { concealed_frames self.now < 4294967295 }
         requires on { (before : List ℕ) × HasConcealed before self.old }
-        ensures conceals { (before : List ℕ) → HasConcealed before self.old → ConcealsOn before bytes.now self.new result }
-        ensures feeds { (before : List ℕ) → HasConcealed before self.old → Feeds before bytes.now (receiver_of self.old) (receiver_of self.new) result }
+        ensures conceals { (before : List ℕ) → HasConcealed before self.old
+            → ConcealsOn before bytes.now self.new result }
+        ensures feeds { (before : List ℕ) → HasConcealed before self.old
+            → Feeds before bytes.now (receiver_of self.old) (receiver_of self.new) result }
         ensures within { IfOk result (λ fed. fed.used ≤ length bytes.now) }
         ensures all { IfOk result (λ fed. fed.ended ≡ ended.No → fed.used ≡ length bytes.now) }
         ensures some { IfOk result (λ fed. fed.ended ≢ ended.No → 0 < fed.used) }
@@ -98,9 +100,11 @@ impl Concealer {
     pub fn finish(&self) -> Result<(), Refusal>
         ensures whole { (bytes : List ℕ) → HasConcealed bytes self.now → IsOk result
             → (frames : List Frame) × IsFileUnder caption_channel frames bytes }
-        ensures file { (bytes : List ℕ) (frames : List Frame) → HasConcealed bytes self.now → IsFileUnder caption_channel frames bytes
+        ensures file { (bytes : List ℕ) (frames : List Frame) → HasConcealed bytes self.now
+            → IsFileUnder caption_channel frames bytes
             → IsOk result }
-        ensures malformed { (bytes : List ℕ) → HasConcealed bytes self.now → IfErr result (λ refused. IsMalformed caption_channel bytes refused) }
+        ensures malformed { (bytes : List ℕ) → HasConcealed bytes self.now
+            → IfErr result (λ refused. IsMalformed caption_channel bytes refused) }
     {
         self.receiver.finish()
     }
@@ -111,8 +115,10 @@ impl Concealer {
         requires few { all_ticks self.old.served.services < 4294967295 }
         requires small { self.old.number + 65536 < 2 ^ 64 }
         ensures receiver { self.new.receiver ≡ self.old.receiver }
-        ensures acted { (bytes : List ℕ) (earlier : List Frame) (last : Frame) → HasReceived bytes self.old.receiver
-            → AreFramesOf caption_channel (earlier ++ last ∷ []) bytes → HasActed earlier self.old → HasActed (earlier ++ last ∷ []) self.new }
+        ensures acted { (bytes : List ℕ) (earlier : List Frame) (last : Frame)
+            → HasReceived bytes self.old.receiver
+            → AreFramesOf caption_channel (earlier ++ last ∷ []) bytes → HasActed earlier self.old
+            → HasActed (earlier ++ last ∷ []) self.new }
     {
         let counter = self.receiver.counter();
         self.reset_at(counter);
@@ -148,7 +154,8 @@ impl Concealer {
     /// The number of whole frames.
     pub fn frames(&self) -> u32
         ensures count { result ≡ concealed_frames self.now }
-        ensures frames { (bytes : List ℕ) (frames : List Frame) → HasConcealed bytes self.now → AreFramesOf caption_channel frames bytes
+        ensures frames { (bytes : List ℕ) (frames : List Frame) → HasConcealed bytes self.now
+            → AreFramesOf caption_channel frames bytes
             → result ≡ length frames }
     {
         self.receiver.frames()
@@ -158,7 +165,8 @@ impl Concealer {
     /// counters modulo 65,536 says, with 65,536 in place of 0.
     pub fn frame(&self) -> u64
         requires { 0 < concealed_frames self.now }
-        ensures { (frames : List Frame) → Conceals frames self.now → result ≡ number_of frames }
+        ensures { (frames : List Frame) → Conceals frames self.now
+            → result ≡ number_of_last frames }
     {
         self.number
     }
@@ -166,7 +174,8 @@ impl Concealer {
     /// How many frames are missing right before the last whole one, from 0 to 65,535; none before the first.
     pub fn missing(&self) -> u64
         requires { 0 < concealed_frames self.now }
-        ensures { (frames : List Frame) → Conceals frames self.now → result ≡ missing_before frames }
+        ensures { (frames : List Frame) → Conceals frames self.now
+            → result ≡ missing_before frames }
     {
         self.missing
     }
@@ -186,9 +195,11 @@ impl Concealer {
         ensures receiver { self.new.receiver ≡ self.old.receiver }
         ensures counter { self.new.counter ≡ self.old.counter }
         ensures number { self.new.number ≡ self.old.number }
-        ensures apart { self.new.apart ≡ (if jumps_from self.old.counter counter then true else self.old.apart) }
+        ensures apart { self.new.apart
+            ≡ (if jumps_from self.old.counter counter then true else self.old.apart) }
         ensures ticks { all_ticks self.new.served.services ≡ all_ticks self.old.served.services }
-        ensures behind { (heard : List Frame) → IsBehind heard self.old → IsBehind (kept_at (jumps_from self.old.counter counter) heard) self.new }
+        ensures behind { (heard : List Frame) → IsBehind heard self.old
+            → IsBehind (kept_at (jumps_from self.old.counter counter) heard) self.new }
     {
         if self.jumps(counter) {
             self.reset();
@@ -218,9 +229,12 @@ impl Concealer {
         ensures counter { self.new.counter ≡ self.old.counter }
         ensures number { self.new.number ≡ self.old.number }
         ensures apart { self.new.apart ≡ self.old.apart }
-        ensures ticks { all_ticks self.new.served.services ≤ all_ticks self.old.served.services + 1 }
-        ensures behind { (bytes : List ℕ) (earlier heard : List Frame) (last : Frame) → HasReceived bytes self.old.receiver
-            → AreFramesOf caption_channel (earlier ++ last ∷ []) bytes → IsHeard (file_triplets (heard ++ last ∷ [])) → IsBehind heard self.old
+        ensures ticks { all_ticks self.new.served.services
+            ≤ all_ticks self.old.served.services + 1 }
+        ensures behind { (bytes : List ℕ) (earlier heard : List Frame) (last : Frame)
+            → HasReceived bytes self.old.receiver
+            → AreFramesOf caption_channel (earlier ++ last ∷ []) bytes
+            → IsHeard (file_triplets (heard ++ last ∷ [])) → IsBehind heard self.old
             → IsBehind (heard ++ last ∷ []) self.new }
     {
         apply_pairs(&mut self.first, self.receiver.pairs_one());
@@ -236,7 +250,8 @@ impl Concealer {
         requires row_from { 1 ≤ row }
         requires row_to { row ≤ 15 }
         requires col { col < 32 }
-        ensures { (frames : List Frame) → Conceals frames self.now → result ≡ concealed_grids frames chan row col }
+        ensures { (frames : List Frame) → Conceals frames self.now
+            → result ≡ concealed_grids frames chan row col }
     {
         let second = chan.data_channel() == DataChannel::Two;
         match chan.field() {
@@ -248,7 +263,8 @@ impl Concealer {
     /// The displayed memory of a channel behind the last whole frame (CTA-608-E; 47 CFR 79.101).
     pub fn displayed(&self, chan: Chan) -> &Memory
         ensures grid { grid_in result.now ≡ displayed_now self.now chan }
-        ensures concealed { (frames : List Frame) → Conceals frames self.now → grid_in result.now ≡ concealed_grids frames chan }
+        ensures concealed { (frames : List Frame) → Conceals frames self.now
+            → grid_in result.now ≡ concealed_grids frames chan }
     {
         let data_channel = chan.data_channel();
         match chan.field() {
@@ -260,7 +276,8 @@ impl Concealer {
     /// The window of an id of a service, 1 to 63, behind the last whole frame, where there is one (CTA-708-E).
     pub fn window(&self, service: u8, id: u8) -> Option<&Window>
         requires { IsService service }
-        ensures window { (frames : List Frame) → Conceals frames self.now → let windows = (received_service (heard_of frames) service).screen.windows in
+        ensures window { (frames : List Frame) → Conceals frames self.now
+            → let windows = (received_service (heard_of frames) service).screen.windows in
             MatchOption result (windows id ≡ None) (λ window. window_of window.now ≡ windows id) }
         ensures live { IfSome result (λ window. IsTrue (is_live window.now)) }
     {
@@ -274,7 +291,8 @@ impl Concealer {
     /// Whether a service, 1 to 63, may have a window: where it says no, it has none (CTA-708-E).
     pub fn is_used(&self, service: u8) -> bool
         requires { IsService service }
-        ensures { (frames : List Frame) → Conceals frames self.now → result ≡ false → (id : ℕ) → concealed_windows frames service id ≡ None }
+        ensures { (frames : List Frame) → Conceals frames self.now → result ≡ false → (id : ℕ)
+            → concealed_windows frames service id ≡ None }
     {
         if self.apart {
             self.served.is_used(service)
@@ -287,8 +305,10 @@ impl Concealer {
     /// all channels as they were (CTA-608-E).
     pub fn is_idle(&self) -> bool
         requires { 0 < concealed_frames self.now }
-        ensures { (bytes : List ℕ) (earlier : List Frame) (last : Frame) → HasConcealed bytes self.now
-            → AreFramesOf caption_channel (earlier ++ last ∷ []) bytes → IsTrue result → (chan : Channel)
+        ensures { (bytes : List ℕ) (earlier : List Frame) (last : Frame)
+            → HasConcealed bytes self.now
+            → AreFramesOf caption_channel (earlier ++ last ∷ []) bytes → IsTrue result
+            → (chan : Channel)
             → concealed_grids (earlier ++ last ∷ []) chan ≡ concealed_grids earlier chan }
     {
         if self.jumped {
@@ -301,9 +321,12 @@ impl Concealer {
     /// it says no, all windows of all services are seen as they were before it (CTA-708-E).
     pub fn is_touched(&self) -> bool
         requires { 0 < concealed_frames self.now }
-        ensures { (bytes : List ℕ) (earlier : List Frame) (last : Frame) → HasConcealed bytes self.now
-            → AreFramesOf caption_channel (earlier ++ last ∷ []) bytes → result ≡ false → (service id : ℕ) → IsService service
-            → concealed_windows (earlier ++ last ∷ []) service id ≡ concealed_windows earlier service id }
+        ensures { (bytes : List ℕ) (earlier : List Frame) (last : Frame)
+            → HasConcealed bytes self.now
+            → AreFramesOf caption_channel (earlier ++ last ∷ []) bytes → result ≡ false
+            → (service id : ℕ) → IsService service
+            → concealed_windows (earlier ++ last ∷ []) service id
+            ≡ concealed_windows earlier service id }
     {
         if self.jumped {
             return true;

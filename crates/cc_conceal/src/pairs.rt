@@ -5,11 +5,8 @@ ghost use Rattle.line21_codes.specs.declared.pairs.Pair.{Pair as PairOf};
 ghost use Rattle.line21_screen.specs.Objects.{Leads};
 ghost use Rattle.cc_conceal.specs.Concealed.{begins_no_text, concealed};
 
-use line21_codes::Pair;
+use line21_codes::{NULL_PAIR, Pair};
 use line21_screen::Field;
-
-// Each byte of a null pair.
-const NULL: u8 = 0x80;
 
 // A solid block, with its parity.
 const BLOCK: u8 = 0x7F;
@@ -35,13 +32,13 @@ fn concealed(pair: Pair) -> Pair
     ensures { result ≡ concealed pair }
 {
     if !is_odd(pair.a) {
-        return Pair { a: NULL, b: NULL };
+        return NULL_PAIR;
     }
     if is_odd(pair.b) {
         return pair;
     }
     if begins_no_text(pair.a) {
-        Pair { a: NULL, b: NULL }
+        NULL_PAIR
     } else {
         Pair {
             a: pair.a,

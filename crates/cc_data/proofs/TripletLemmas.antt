@@ -3,7 +3,7 @@ use Rattle.std.proofs.Common.{◌≡◌, ℕ, ◌+◌, ◌-◌, ◌*◌, ◌/◌
 use Rattle.std.proofs.lemmas.Bool.Decides.{nat_tests}
 use Rattle.std.proofs.lemmas.List.Elements.{All-head, All-tail}
 use Rattle.cc_data.specs.declared.triplet.Triplet.{Triplet}
-use Rattle.cc_data.specs.Triplets.{valid_bit, first_byte, IsTriplet, AreTriplets, triplet_of, triplets_of, written, all_written}
+use Rattle.cc_data.specs.Triplets.{valid_bit, first_byte, IsTriplet, AreTriplets, triplet_of, triplets_of, bytes_of_triplet, all_written}
 
 -- a bit that is tested and written again
 valid_bit-test : (bit : ℕ) → bit < 2 → valid_bit (bit == 1) ≡ bit
@@ -38,7 +38,7 @@ marked-first_byte true kind = refl
 marked-first_byte false kind = refl
 
 -- the bytes of a triplet
-pub written-is_triplet : (t : Triplet) → t.kind < 4 → IsTriplet t (written t)
+pub written-is_triplet : (t : Triplet) → t.kind < 4 → IsTriplet t (bytes_of_triplet t)
 written-is_triplet t small = record {
   marker = 31;
   five_bits = lit< tt;

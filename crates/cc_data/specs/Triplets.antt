@@ -1,3 +1,4 @@
+-- Believed in part: the program's answer stands on some of these definitions.
 -- Triplets of cc_data (CTA-708-E, cc_data()): the first of three bytes has five marker bits, the bit that says whether
 -- the triplet counts, and two bits of its kind, from the top; the other two are bytes of captions.
 use Rattle.std.specs.Prelude.{◌≡◌, ℕ, ◌+◌, ◌*◌, ◌/◌, ◌%◌, ◌<◌, ◌==◌, if◌then◌else◌, Bool, true, false, List, [], ◌∷◌}
@@ -37,12 +38,12 @@ triplets_of _ = []
 
 -- the bytes that a triplet is written as, whose marker bits are ones: the first is FC to FF where the triplet counts,
 -- and F8 to FB where it doesn't
-abbrev pub written : Triplet → List ℕ
-written t = ((if t.valid then 0xFC else 0xF8) + t.kind) ∷ t.a ∷ t.b ∷ []
+abbrev pub bytes_of_triplet : Triplet → List ℕ
+bytes_of_triplet t = ((if t.valid then 0xFC else 0xF8) + t.kind) ∷ t.a ∷ t.b ∷ []
 
 -- the bytes that triplets are written as
 abbrev pub all_written : List Triplet → List ℕ
-all_written ts = flat_map written ts
+all_written ts = flat_map bytes_of_triplet ts
 
 -- FA 00 00, with which encoders fill a section up: it would be of a channel packet, if it counted
 abbrev pub filler : Triplet

@@ -1,5 +1,5 @@
 ghost use Rattle.std.specs.Prelude.{◌≡◌, ◌<◌, slice_index};
-ghost use Rattle.cc_data.specs.Triplets.{IsTriplet, triplet_of, written};
+ghost use Rattle.cc_data.specs.Triplets.{IsTriplet, bytes_of_triplet, triplet_of};
 
 /// A triplet of cc_data: two bytes of captions, what they belong to and whether they count
 /// (CTA-708-E, cc_data()).
@@ -16,11 +16,33 @@ pub struct Triplet {
     pub b: u8,
 }
 
+/// The kind of a pair of line 21's field 1 (CTA-708-E, cc_type).
+pub const FIELD_1: u8 = 0;
+
+/// The kind of a pair of line 21's field 2 (CTA-708-E, cc_type).
+pub const FIELD_2: u8 = 1;
+
+/// The kind of further bytes of a caption channel packet (CTA-708-E, cc_type).
+pub const PACKET_DATA: u8 = 2;
+
+/// The kind of the first bytes of a caption channel packet (CTA-708-E, cc_type).
+pub const PACKET_START: u8 = 3;
+
+/// A filler: a triplet that doesn't count, with which the triplets of a frame are filled up to its rate's number
+/// (CTA-708-E, cc_data()).
+pub const FILLER: Triplet = Triplet {
+    valid: false,
+    kind: PACKET_DATA,
+    a: 0,
+    b: 0,
+};
+
 /// The triplet that three bytes are. The marker bits, the top five of the first byte, aren't checked
 /// (CTA-708-E, cc_data()).
 pub fn read_triplet(bytes: [u8; 3]) -> Triplet
     ensures triplet { IsTriplet result bytes }
-    ensures value { result ≡ triplet_of (slice_index bytes 0) (slice_index bytes 1) (slice_index bytes 2) }
+    ensures value { result ≡ triplet_of (slice_index bytes 0) (slice_index bytes 1)
+        (slice_index bytes 2) }
 {
     let [first, a, b] = bytes;
     Triplet {
@@ -35,7 +57,7 @@ pub fn read_triplet(bytes: [u8; 3]) -> Triplet
 /// `read_triplet` gives the triplet back (CTA-708-E, cc_data()).
 pub fn write_triplet(t: Triplet) -> [u8; 3]
     requires { t.kind < 4 }
-    ensures bytes { result ≡ written t }
+    ensures bytes { result ≡ bytes_of_triplet t }
     ensures triplet { IsTriplet t result }
 {
     let marked = if t.valid { COUNTS } else { IGNORED };

@@ -11,8 +11,8 @@ use Rattle.cc_data.specs.Triplets.{triplet_of, triplets_of}
 use Rattle.cdp_packets.specs.declared.parts.CdpPart.TheVariants as part
 use Rattle.cdp_packets.specs.PacketParts.{packet_parts, section_parts, triplet_parts}
 use Rattle.cdp_packets.specs.PacketTriplets.{packet_triplets, section_triplets}
-use Rattle.cdp_packets.specs.Packets.{Packet}
-use Rattle.cdp_packets.specs.Sections.{AreSections, IsSection, rest_of}
+use Rattle.cdp_packets.specs.Packets.{Frame}
+use Rattle.cdp_packets.specs.Sections.{AreSections, IsSection, section_rest}
 use Rattle.cdp_packets.proofs.BegunLemmas.{test-same}
 use Rattle.line21_codes.specs.declared.channels.FieldNumber.{FieldNumber}
 use Rattle.line21_codes.specs.declared.channels.FieldNumber.TheVariants.{One, Two}
@@ -180,12 +180,12 @@ bytes_gathered rate flags counter sections triplets one two (b ∷ bytes) room =
 
 -- the bytes behind a section's first two
 rest_gathered : (test : Bool) (id second : ℕ) (rate : Rate) (flags counter : ℕ) (sections : List ℕ) (triplets : List Triplet) (one two : List Pair) (rest : List ℕ)
-    → (id == 0x72) ≡ test → length rest ≡ rest_of id second → Room sections triplets one two (length rest)
+    → (id == 0x72) ≡ test → length rest ≡ section_rest id second → Room sections triplets one two (length rest)
     → front_from gather (held rate flags counter sections triplets one two) (if test then triplet_parts rest else map part.SectionByte rest)
     ≡ with_triplets rate flags counter sections triplets one two rest (if test then triplets_of rest else [])
 rest_gathered true id second rate flags counter sections triplets one two rest is long room =
     let same : id ≡ 0x72 = test-same id 0x72 is in
-    triplets_gathered rate flags counter sections triplets one two rest (second % 32) (long ∙ ap (λ i. rest_of i second) same) room
+    triplets_gathered rate flags counter sections triplets one two rest (second % 32) (long ∙ ap (λ i. section_rest i second) same) room
 rest_gathered false id second rate flags counter sections triplets one two rest is long room =
     bytes_gathered rate flags counter sections triplets one two rest room.bytes
     ∙ ap (λ x. held rate flags counter (sections ++ rest) x one two) (sym (append-nil triplets))
@@ -285,7 +285,7 @@ sections_gathered rate flags counter sections triplets one two (section ∷ cut)
     ∙ more_behind rate flags counter sections triplets one two section (concat cut) (section_triplets section) (flat_map section_triplets cut)
 
 -- a packet
-pub packet_gathered : (packet : Packet) → AreSections packet.sections → length (concat packet.sections) ≤ 244
+pub packet_gathered : (packet : Frame) → AreSections packet.sections → length (concat packet.sections) ≤ 244
     → gathered (packet_parts packet) ≡ record {
       rate = packet.rate;
       flags = packet.flags;

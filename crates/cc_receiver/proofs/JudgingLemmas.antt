@@ -6,7 +6,7 @@ use Rattle.std.proofs.lemmas.List.{reverse-append}
 use Rattle.cdp_packets.specs.declared.parts.CdpPart.{CdpPart}
 use Rattle.cdp_packets.specs.PacketParts.{packet_parts}
 use Rattle.cdp_packets.specs.PacketTriplets.{packet_triplets}
-use Rattle.cdp_packets.specs.Packets.{Packet as Frame}
+use Rattle.cdp_packets.specs.Packets.{Frame}
 use Rattle.services_files.specs.Services.{whole_triplet, whole_triplets}
 use Rattle.services_files.proofs.TakenLemmas.{whole_triplets-append}
 use Rattle.services_files.proofs.WholeFileLemmas.{frames_whole}

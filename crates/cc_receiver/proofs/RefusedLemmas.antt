@@ -1,7 +1,7 @@
 -- Bytes behind a refused word change nothing.
 use Rattle.std.proofs.lemmas.List.Elements.{All-append}
 use Rattle.std.specs.List.{All}
-use Rattle.std.proofs.Common.{◌≡◌, ◌<◌, ℕ, ◌++◌, List, [], length, Some, ap, sym, subst, ◌∙◌}
+use Rattle.std.proofs.Common.{◌≡◌, ◌+◌, ◌<◌, ◌≤◌, ℕ, ◌++◌, ◌∷◌, List, [], length, Some, ap, append_assoc, arith, length-append, sym, subst, ◌∙◌}
 use Rattle.cc_base.specs.declared.refusal.Refusal.{Refusal}
 use Rattle.cc_base.specs.Feeding.{Reading, place_by, read_first, reading}
 use Rattle.cc_base.specs.Syntax.{judge_by, read_under}
@@ -10,6 +10,8 @@ use Rattle.anc_words.specs.declared.parts.WordPart.{WordPart}
 use Rattle.anc_words.specs.Reading.{anc_syntax}
 use Rattle.cc_receiver.specs.declared.receiver.Receiver.{Receiver}
 use Rattle.words_files.specs.Catching.{caption_verdict, caught_of, refusal_of}
+use Rattle.words_files.specs.Offences.{FirstOffendingWord}
+use Rattle.services_files.specs.CaptionChannel.{caption_channel}
 use Rattle.services_files.specs.Services.{services_say}
 use Rattle.cc_receiver.specs.Catchers.{HasCaught}
 use Rattle.cc_receiver.specs.Receivers.{HasReceived}
@@ -42,3 +44,25 @@ received-refused before more refused receiver some bytes had =
       bytes_are = All-append (λ byte. byte < 256) before more had.bytes_are bytes;
       counted = had.counted ∙ ap (λ ps. length (caught_of services_say ps).frames) parts;
     }
+
+-- what offends first offends first where bytes follow
+abbrev pub offends-still : (bytes more all : List ℕ) (refused : Refusal) → bytes ++ more ≡ all → FirstOffendingWord caption_channel bytes refused
+    → FirstOffendingWord caption_channel all refused
+offends-still bytes more all refused are has = record {
+  before = has.before;
+  high = has.high;
+  low = has.low;
+  rest = has.rest ++ more;
+  spelled = sym are ∙ ap (λ b. b ++ more) has.spelled ∙ append_assoc has.before (has.high ∷ has.low ∷ has.rest) more;
+  whole = has.whole;
+  begins = has.begins;
+  offends = has.offends;
+  place_is = has.place_is;
+  why_is = has.why_is;
+}
+
+-- the word stands within the bytes
+pub offends-within : (bytes : List ℕ) (refused : Refusal) (has : FirstOffendingWord caption_channel bytes refused) → length has.before + 2 ≤ length bytes
+offends-within bytes refused has =
+    let size = ap length has.spelled ∙ length-append has.before (has.high ∷ has.low ∷ has.rest) in
+    omega (arith, size)

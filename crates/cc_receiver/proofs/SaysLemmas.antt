@@ -7,7 +7,7 @@ use Rattle.std.specs.List.{concat}
 use Rattle.cc_data.specs.declared.triplet.Triplet.{Triplet}
 use Rattle.cdp_packets.specs.PacketParts.{packet_parts}
 use Rattle.cdp_packets.specs.PacketTriplets.{packet_triplets}
-use Rattle.cdp_packets.specs.Packets.{Packet}
+use Rattle.cdp_packets.specs.Packets.{Frame as FrameOf}
 use Rattle.cdp_packets.specs.Sections.{AreSections}
 use Rattle.cc_receiver.specs.Counting.{NoneCounts}
 use Rattle.cc_receiver.specs.Gatherers.{HasGathered, Holds}
@@ -58,7 +58,7 @@ behind_kept said kept has =
     ap none_counts behind ∙ is_none others has.has_front.none
 
 -- a frame that says what a packet says took its parts
-pub frame_says : (said : Packet) (frame : Frame) → AreSections said.sections → length (concat said.sections) ≤ 244
+pub frame_says : (said : FrameOf) (frame : Frame) → AreSections said.sections → length (concat said.sections) ≤ 244
     → (frame.rate ≡ said.rate) × (frame.flags ≡ said.flags) × (frame.counter ≡ said.counter) → frame.sections.items ≡ concat said.sections
     → AreOf (packet_triplets said) frame.triplets frame.pairs_one.items frame.pairs_two.items → length frame.triplets.cells ≡ 81
     → HasGathered (packet_parts said) frame

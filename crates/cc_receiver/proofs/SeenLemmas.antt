@@ -2,8 +2,8 @@
 use Rattle.std.proofs.Common.{◌≡◌, ◌∙◌, ◌+◌, ◌-◌, ◌<◌, ◌≤◌, ◌⊎◌, inl, inr, ℕ, List, ◌++◌, Option, Some, None, length, get_or, refl, ap, sym, arith}
 use Rattle.std.specs.Prelude.{slice_get}
 use Rattle.std.proofs.lemmas.Option.{slice_get_cases}
-use Rattle.cdp_packets.specs.Packets.{Packet as Frame}
-use Rattle.dtvcc_screen.specs.Meaning.{Event, after, start}
+use Rattle.cdp_packets.specs.Packets.{Frame}
+use Rattle.dtvcc_screen.specs.Meaning.{Event, served_after, start}
 use Rattle.dtvcc_screen.specs.Screens.{ScreenState}
 use Rattle.dtvcc_screen.specs.Shown.{grids}
 use Rattle.dtvcc_services.specs.Numbers.{IsService}
@@ -38,5 +38,5 @@ windows_received frames bytes receiver service id had are numbered = at (slice_g
     at (Some member) some =
         let place : service - 1 + 1 ≡ service = omega (arith, numbered.from) in
         ap (λ (s : ScreenState). grids s id) (served.leads.serves (service - 1) member some).stands.carries.screen
-        ∙ ap (λ (events : List Event). grids (after start events).core.screen id)
+        ∙ ap (λ (events : List Event). grids (served_after start events).core.screen id)
         (ap (λ (n : ℕ). served.earlier n ++ served.last n) place ∙ served.all service)

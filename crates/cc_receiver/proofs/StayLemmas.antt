@@ -1,7 +1,7 @@
 -- More bytes that bring no frame leave all that is shown.
 use Rattle.std.proofs.Common.{◌≡◌, ℕ, ◌++◌, List, [], length, ap, subst, sym, ◌∙◌, append-nil, arith, length-append}
 use Rattle.std.proofs.lemmas.List.{nil_from_length}
-use Rattle.cdp_packets.specs.Packets.{Packet as Frame}
+use Rattle.cdp_packets.specs.Packets.{Frame}
 use Rattle.dtvcc_services.specs.Numbers.{IsService}
 use Rattle.line21_codes.specs.declared.channels.Chan.{Chan}
 use Rattle.services_files.specs.CaptionChannel.{caption_channel}

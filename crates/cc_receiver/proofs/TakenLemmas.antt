@@ -13,7 +13,7 @@ use Rattle.anc_words.specs.WordsFiles.{IsWordsFile}
 use Rattle.anc_words.specs.Readers.{HasRead, kept_refusal}
 use Rattle.anc_words.specs.Reading.{anc_syntax}
 use Rattle.cdp_packets.specs.PacketParts.{packet_parts}
-use Rattle.cdp_packets.specs.Packets.{Packet as Frame}
+use Rattle.cdp_packets.specs.Packets.{Frame}
 use Rattle.words_files.specs.Catching.{caption_verdict, caught_in, refusal_of}
 use Rattle.services_files.specs.Services.{services_say}
 use Rattle.services_files.specs.CaptionChannel.{caption_channel}

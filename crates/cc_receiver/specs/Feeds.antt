@@ -1,5 +1,6 @@
+-- Between crates: the program's answer stands on none of these definitions.
 -- What a receiver makes of the next bytes behind those that it was fed: it reads a front of them, or refuses a word.
-use Rattle.std.specs.Prelude.{◌≡◌, ℕ, ◌+◌, ◌<◌, ◌++◌, List, take, Result, Ok, Err}
+use Rattle.std.specs.Prelude.{◌≡◌, ℕ, ◌+◌, ◌<◌, ◌≤◌, ◌++◌, List, length, take, Result, Ok, Err}
 use Rattle.cc_base.specs.declared.refusal.Refusal.{Refusal}
 use Rattle.anc_words.specs.Packets.{AncillaryPacket}
 use Rattle.anc_words.specs.WordsFiles.{IsWordsFile}
@@ -26,10 +27,12 @@ pub record HasFed (before bytes : List ℕ) (old new : Receiver) (fed : Fed) : T
   pub first : (packets : List AncillaryPacket) (fewer : ℕ) → 0 < fewer → fewer < fed.used → IsWordsFile packets (before ++ take fewer bytes) → ⊥
   pub counts : Counts (frame_count old) (frame_count new) fed.ended
 
--- it was fed all of the bytes, of which this word is the first that offends, and counts the frames that it counted
+-- it was fed all of the bytes, of which this word is the first that offends; no packet ends in them before it, and it counts the frames
+-- that it counted
 pub record HasRefused (before bytes : List ℕ) (old new : Receiver) (refusal : Refusal) : Type 0 where
   pub received : HasReceived (before ++ bytes) new
   pub offence : FirstOffendingWord caption_channel (before ++ bytes) refusal
+  pub first : (packets : List AncillaryPacket) (n : ℕ) → 0 < n → length before + n ≤ length offence.before → IsWordsFile packets (before ++ take n bytes) → ⊥
   pub stays : frame_count new ≡ frame_count old
 
 -- the one or the other

@@ -1,10 +1,11 @@
+-- Between crates: the program's answer stands on none of these definitions.
 -- Frames whose pairs of line 21 do nothing: a field that has nothing to say carries null pairs (CTA-608-E).
 use Rattle.std.specs.Prelude.{◌&&◌, Bool, List}
 use Rattle.std.specs.List.{list_all}
 use Rattle.line21_codes.specs.declared.channels.FieldNumber.TheVariants.{One, Two}
 use Rattle.line21_codes.specs.declared.pairs.Pair.{Pair}
 use Rattle.line21_codes.specs.NullPairs.{is_null}
-use Rattle.cdp_packets.specs.Packets.{Packet as Frame}
+use Rattle.cdp_packets.specs.Packets.{Frame}
 use Rattle.cdp_packets.specs.PacketTriplets.{packet_triplets}
 use Rattle.words_files.specs.Received.{field_pairs}
 

@@ -1,6 +1,7 @@
+-- Between crates: the program's answer stands on none of these definitions.
 -- What is seen of the windows of a receiver, by the bytes that it was fed (CTA-708-E, caption windows).
 use Rattle.std.specs.Prelude.{◌≡◌, ℕ, List, [], ◌∷◌, ◌++◌, Option}
-use Rattle.cdp_packets.specs.Packets.{Packet as Frame}
+use Rattle.cdp_packets.specs.Packets.{Frame}
 use Rattle.dtvcc_windows.specs.Showing.{ShownWindow}
 use Rattle.words_files.specs.FramesOf.{AreFramesOf}
 use Rattle.services_files.specs.CaptionChannel.{caption_channel}

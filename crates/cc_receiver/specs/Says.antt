@@ -1,3 +1,4 @@
+-- Between crates: the program's answer stands on none of these definitions.
 -- What the sections of a packet say (SMPTE ST 334-2; CTA-708-E, cc_data()): their triplets, and the pairs of line 21 among those that
 -- count.
 use Rattle.std.specs.Prelude.{◌≡◌, ℕ, not, Bool, List, take, drop, true}

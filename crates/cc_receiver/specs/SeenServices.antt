@@ -1,3 +1,4 @@
+-- Between crates: the program's answer stands on none of these definitions.
 -- What a viewer sees of the services of a receiver (CTA-708-E, caption windows).
 use Rattle.std.specs.Prelude.{ℕ, ◌-◌, Option, Some, None, slice_get}
 use Rattle.dtvcc_screen.specs.Objects.{screen_in}

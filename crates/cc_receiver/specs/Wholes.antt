@@ -1,3 +1,4 @@
+-- Between crates: the program's answer stands on none of these definitions.
 -- What a receiver is behind a whole packet of captions that it read in one pass.
 use Rattle.std.specs.Prelude.{◌≡◌, ℕ, ◌+◌, ◌<◌, ◌++◌, List, None, take}
 use Rattle.anc_words.specs.Packets.{AncillaryPacket}

@@ -4,7 +4,7 @@ ghost use Rattle.channel_packets.specs.ChannelPackets.{channel_triplets};
 ghost use Rattle.cc_data.specs.declared.triplet.Triplet.{Triplet as TripletOf};
 ghost use Rattle.cdp_packets.specs.declared.parts.CdpPart.{CdpPart as Part};
 ghost use Rattle.cdp_packets.specs.PacketParts.{packet_parts};
-ghost use Rattle.cdp_packets.specs.Packets.{IsCdp, Packet as FrameOf};
+ghost use Rattle.cdp_packets.specs.Packets.{Frame as FrameOf, IsCdp};
 ghost use Rattle.cdp_packets.specs.Sections.{AreSections};
 ghost use Rattle.cdp_packets.specs.WholePackets.{SaysPacket};
 ghost use Rattle.line21_codes.specs.declared.channels.FieldNumber.{FieldNumber};
@@ -22,18 +22,13 @@ use crate::channel::Channel;
 use crate::frame::Frame;
 use crate::services::Served;
 use crate::triplets::Triplets;
-use anc_words::WordPart;
+use anc_words::{CAPTION_DID, CAPTION_SDID, WordPart};
 use cc_base::{Step, Upward, Why};
 use cdp_packets::{CdpPart, CdpReader, WholePacket, read_summed_packet};
 use line21_codes::{FieldNumber, Pair};
 use line21_screen::Field;
 use std::alloc::{AllocError, Global};
 use std::mem;
-
-/// The identifiers of ancillary packets of captions (SMPTE ST 334-1).
-const CAPTION_DID: u8 = 0x61;
-
-const CAPTION_SDID: u8 = 0x01;
 
 /// Takes the parts of ancillary packets. It reads the distribution packet of each one of captions, and applies its pairs of
 /// line 21 when the packet ends, behind a good checksum word.
@@ -74,9 +69,12 @@ fn apply_all(field: &mut Field, pairs: &[Pair])
 
 // A frame gathers the next part of a distribution packet, and the part is judged: why it is refused, if it is.
 fn take_part(frame: &mut Frame, judging: &mut Channel, part: CdpPart) -> Option<Why>
-    ensures why { (before : List Part) → HasTried before judging.old → result ≡ services_say before part }
-    ensures gathered { (parts : List Part) → HasGathered parts frame.old → HasGathered (parts ++ part ∷ []) frame.new }
-    ensures tried { (before : List Part) → HasTried before judging.old → result ≡ None → HasTried (before ++ part ∷ []) judging.new }
+    ensures why { (before : List Part) → HasTried before judging.old
+        → result ≡ services_say before part }
+    ensures gathered { (parts : List Part) → HasGathered parts frame.old
+        → HasGathered (parts ++ part ∷ []) frame.new }
+    ensures tried { (before : List Part) → HasTried before judging.old → result ≡ None
+        → HasTried (before ++ part ∷ []) judging.new }
 {
     frame.gather(part);
     judging.judge(part)
@@ -84,12 +82,17 @@ fn take_part(frame: &mut Frame, judging: &mut Channel, part: CdpPart) -> Option<
 
 // Takes the parts of a step in the same way, up to one that is refused.
 fn take_step(frame: &mut Frame, judging: &mut Channel, step: Step<CdpPart>) -> Option<Why>
-    ensures why { (frames : List (List Part)) (parts : List Part) → HasTried (frames_parts frames ++ parts) judging.old
+    ensures why { (frames : List (List Part)) (parts : List Part)
+        → HasTried (frames_parts frames ++ parts) judging.old
         → result ≡ (hand (verdict_behind services_say frames) parts step).why }
-    ensures gathered { (frames : List (List Part)) (parts : List Part) → HasTried (frames_parts frames ++ parts) judging.old → HasGathered parts frame.old
-        → HasGathered (parts ++ (hand (verdict_behind services_say frames) parts step).parts) frame.new }
-    ensures tried { (frames : List (List Part)) (parts : List Part) → HasTried (frames_parts frames ++ parts) judging.old → result ≡ None
-        → HasTried (frames_parts frames ++ (parts ++ (hand (verdict_behind services_say frames) parts step).parts)) judging.new }
+    ensures gathered { (frames : List (List Part)) (parts : List Part)
+        → HasTried (frames_parts frames ++ parts) judging.old → HasGathered parts frame.old
+        → HasGathered (parts ++ (hand
+        (verdict_behind services_say frames) parts step).parts) frame.new }
+    ensures tried { (frames : List (List Part)) (parts : List Part)
+        → HasTried (frames_parts frames ++ parts) judging.old → result ≡ None
+        → HasTried (frames_parts frames
+        ++ (parts ++ (hand (verdict_behind services_say frames) parts step).parts)) judging.new }
 {
     match step {
         Step::Nothing => None,
@@ -169,7 +172,8 @@ impl Captions {
 
     // Ends the open packet. One of captions is a frame, whose pairs act now.
     fn end(&mut self)
-        ensures { (caught : Caught) → Keeps caught self.old → self.old.refused ≡ None → Keeps (packet_ended caught) self.new }
+        ensures { (caught : Caught) → Keeps caught self.old → self.old.refused ≡ None
+            → Keeps (packet_ended caught) self.new }
     {
         if self.open.is_some() {
             mem::swap(&mut self.gathered, &mut self.last);
@@ -181,9 +185,12 @@ impl Captions {
     // A frame ended, `last` is what it says, and `channel` took its triplets: its pairs and its bytes of services act now, and no packet
     // is open.
     fn act(&mut self)
-        ensures { (caught : Caught) (parts : List Part) (gathered last : Said) (judging channel : ChannelOf)
-            → Keeps caught (record self.old { gathered = gathered; judging = judging; last = last; channel = channel })
-            → HasGathered parts self.old.last → HasTried (frames_parts (parts ∷ caught.frames)) self.old.channel
+        ensures { (caught : Caught) (parts : List Part) (gathered last : Said)
+            (judging channel : ChannelOf)
+            → Keeps caught
+            (record self.old { gathered = gathered; judging = judging; last = last; channel = channel })
+            → HasGathered parts self.old.last
+            → HasTried (frames_parts (parts ∷ caught.frames)) self.old.channel
             → Keeps (with_frame parts caught) self.new }
     {
         self.open = None;
@@ -199,7 +206,8 @@ impl Captions {
     pub(crate) fn whole(&mut self, bytes: &[u8], sum: u8) -> bool
         requires { sum ≡ total bytes.now % 256 }
         ensures frame { (caught : Caught) → Keeps caught self.old → IsTrue result
-            → (frame : FrameOf) × IsCdp frame bytes.now × Keeps (with_frame (packet_parts frame) caught) self.new }
+            → (frame : FrameOf) × IsCdp frame bytes.now
+            × Keeps (with_frame (packet_parts frame) caught) self.new }
         ensures none { result ≡ false → self.new ≡ self.old }
     {
         let Some(packet) = read_summed_packet(bytes, sum) else {
@@ -221,8 +229,10 @@ impl Captions {
         requires few { length packet.sections.now ≤ 244 }
         requires sections { self.old.last.sections.items ≡ packet.sections.now }
         requires are { let last = self.old.last in AreOfSections packet.sections.now last.triplets last.pairs_one.items last.pairs_two.items }
-        requires silent { (triplets : List TripletOf) → HasTriplets triplets self.old.last.triplets → channel_triplets triplets ≡ [] }
-        ensures { (caught : Caught) (frame : FrameOf) → Keeps caught self.old → AreSections frame.sections → SaysPacket packet.entry frame
+        requires silent { (triplets : List TripletOf) → HasTriplets triplets self.old.last.triplets
+            → channel_triplets triplets ≡ [] }
+        ensures { (caught : Caught) (frame : FrameOf) → Keeps caught self.old
+            → AreSections frame.sections → SaysPacket packet.entry frame
             → Keeps (with_frame (packet_parts frame) caught) self.new }
     {
         self.last.head(packet);
@@ -235,7 +245,8 @@ impl Captions {
         requires few { length packet.sections.now ≤ 244 }
         requires sections { self.old.last.sections.items ≡ packet.sections.now }
         requires are { let last = self.old.last in AreOfSections packet.sections.now last.triplets last.pairs_one.items last.pairs_two.items }
-        ensures frame { (caught : Caught) (frame : FrameOf) → Keeps caught self.old → AreSections frame.sections → SaysPacket packet.entry frame
+        ensures frame { (caught : Caught) (frame : FrameOf) → Keeps caught self.old
+            → AreSections frame.sections → SaysPacket packet.entry frame
             → IsTrue result → Keeps (with_frame (packet_parts frame) caught) self.new }
         ensures none { result ≡ false → self.new ≡ self.old }
     {
@@ -252,7 +263,8 @@ impl Captions {
     // Takes a whole packet, and reads its sections. Says whether nothing is refused; else nothing has changed.
     fn anew(&mut self, packet: WholePacket<'_>) -> bool
         requires few { length packet.sections.now ≤ 244 }
-        ensures frame { (caught : Caught) (frame : FrameOf) → Keeps caught self.old → AreSections frame.sections → SaysPacket packet.entry frame
+        ensures frame { (caught : Caught) (frame : FrameOf) → Keeps caught self.old
+            → AreSections frame.sections → SaysPacket packet.entry frame
             → IsTrue result → Keeps (with_frame (packet_parts frame) caught) self.new }
         ensures none { result ≡ false → self.new ≡ self.old }
     {
@@ -270,7 +282,8 @@ impl Captions {
 
     // Takes the next part, unless one was refused.
     fn go_on(&mut self, part: WordPart)
-        ensures { (caught : Caught) → Keeps caught self.old → Keeps (caught_after services_say caught part) self.new }
+        ensures { (caught : Caught) → Keeps caught self.old
+            → Keeps (caught_after services_say caught part) self.new }
     {
         if self.refused.is_some() {
             return;

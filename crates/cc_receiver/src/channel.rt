@@ -11,15 +11,10 @@ ghost use Rattle.service_blocks.specs.Reading.{block_syntax, judge_part};
 ghost use Rattle.services_files.specs.Services.{services_say, why_unheard};
 
 use cc_base::{Step, Why};
-use cc_data::Triplet;
+use cc_data::{PACKET_DATA, PACKET_START, Triplet};
 use cdp_packets::CdpPart;
 use channel_packets::{PacketPart, PacketReader};
 use service_blocks::BlockReader;
-
-/// The kinds of triplets of channel packets (CTA-708-E, cc_type).
-const PACKET_DATA: u8 = 2;
-
-const PACKET_START: u8 = 3;
 
 /// Whether a triplet counts and is one of channel packets, and not of line 21.
 pub(crate) fn is_of_channel(triplet: Triplet) -> bool
@@ -30,7 +25,8 @@ pub(crate) fn is_of_channel(triplet: Triplet) -> bool
 
 /// Whether none of the triplets counts and is one of channel packets.
 pub(crate) fn are_silent(triplets: &[Triplet]) -> bool
-    ensures { result ≡ list_all (λ triplet. not (starts triplet || continues_packet triplet)) triplets.now }
+    ensures { result ≡ list_all
+        (λ triplet. not (starts triplet || continues_packet triplet)) triplets.now }
 {
     triplets.iter().all(|triplet| !is_of_channel(*triplet))
 }
@@ -60,7 +56,8 @@ impl Channel {
     fn piece(&mut self, piece: PacketPart) -> Option<Why>
         ensures why { (pieces : List Piece) → HasRead pieces self.old.blocks
             → result ≡ step_why (judge_part (open_behind block_syntax pieces) piece) }
-        ensures read { (pieces : List Piece) → HasRead pieces self.old.blocks → result ≡ None → HasRead (pieces ++ piece ∷ []) self.new.blocks }
+        ensures read { (pieces : List Piece) → HasRead pieces self.old.blocks → result ≡ None
+            → HasRead (pieces ++ piece ∷ []) self.new.blocks }
         ensures packets { self.new.packets ≡ self.old.packets }
     {
         match self.blocks.step(piece) {
@@ -72,8 +69,10 @@ impl Channel {
     /// Takes the next triplet, and says why it is refused, if it is: where a header of a service block in it passes its packet.
     #[inline(always)]
     pub(crate) fn take(&mut self, triplet: Triplet) -> Option<Why>
-        ensures why { (before : List TripletOf) → HasHeard before self.old → result ≡ why_unheard before (triplet ∷ []) }
-        ensures heard { (before : List TripletOf) → HasHeard before self.old → result ≡ None → HasHeard (before ++ triplet ∷ []) self.new }
+        ensures why { (before : List TripletOf) → HasHeard before self.old
+            → result ≡ why_unheard before (triplet ∷ []) }
+        ensures heard { (before : List TripletOf) → HasHeard before self.old → result ≡ None
+            → HasHeard (before ++ triplet ∷ []) self.new }
     {
         if !is_of_channel(triplet) {
             return None;
@@ -91,8 +90,10 @@ impl Channel {
     /// Judges the next part of a distribution packet, and says why it is refused, if it is. A triplet is tried on a copy as soon as
     /// its second byte has come, so that a header in it is refused at its own byte; it is taken when it is whole.
     pub(crate) fn judge(&mut self, part: CdpPart) -> Option<Why>
-        ensures why { (before : List Part) → HasTried before self.old → result ≡ services_say before part }
-        ensures tried { (before : List Part) → HasTried before self.old → result ≡ None → HasTried (before ++ part ∷ []) self.new }
+        ensures why { (before : List Part) → HasTried before self.old
+            → result ≡ services_say before part }
+        ensures tried { (before : List Part) → HasTried before self.old → result ≡ None
+            → HasTried (before ++ part ∷ []) self.new }
     {
         match part {
             CdpPart::Half(triplet) => {
@@ -110,7 +111,8 @@ impl Channel {
 
     /// Takes triplets, up to one that is refused, and says whether none is.
     pub(crate) fn takes(&mut self, triplets: &[Triplet]) -> bool
-        ensures { (before : List TripletOf) → HasHeard before self.old → IsTrue result → HasHeard (before ++ triplets.now) self.new }
+        ensures { (before : List TripletOf) → HasHeard before self.old → IsTrue result
+            → HasHeard (before ++ triplets.now) self.new }
     {
         for triplet in triplets {
             if self.take(*triplet).is_some() {

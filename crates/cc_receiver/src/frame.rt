@@ -2,7 +2,7 @@ ghost use Rattle.std.specs.Prelude.{◌≡◌, ◌≤◌, ℕ, true, List, [], I
 ghost use Rattle.std.specs.List.{concat, flat_map, list_all};
 ghost use Rattle.cc_data.specs.declared.triplet.Triplet.{Triplet as TripletOf};
 ghost use Rattle.channel_packets.specs.ChannelPackets.{channel_triplets};
-ghost use Rattle.cdp_packets.specs.Packets.{Packet};
+ghost use Rattle.cdp_packets.specs.Packets.{Frame as FrameOf};
 ghost use Rattle.cdp_packets.specs.PacketParts.{packet_parts};
 ghost use Rattle.cdp_packets.specs.PacketTriplets.{section_triplets};
 ghost use Rattle.cdp_packets.specs.Sections.{AreSections};
@@ -19,7 +19,7 @@ use crate::channel::are_silent;
 use crate::triplets::Triplets;
 use arrayvec::ArrayVec;
 use cc_base::Rate;
-use cc_data::Triplet;
+use cc_data::{FIELD_1, FIELD_2, Triplet};
 use cdp_packets::{CdpPart, WholePacket};
 use line21_codes::Pair;
 
@@ -27,13 +27,8 @@ use line21_codes::Pair;
 fn are_null(pairs: &[Pair]) -> bool
     ensures { result ≡ list_all is_null pairs.now }
 {
-    pairs.iter().all(|pair| pair.a == 0x80 && pair.b == 0x80)
+    pairs.iter().all(|pair| pair.is_null())
 }
-
-/// The kinds of triplets of line 21's fields (CTA-708-E, cc_type).
-const FIELD_ONE: u8 = 0;
-
-const FIELD_TWO: u8 = 1;
 
 // Puts the pair of a triplet, if it counts and is of this kind, behind others, where there is room.
 fn put_pair(triplet: Triplet, kind: u8, pairs: &mut ArrayVec<Pair, 81>)
@@ -50,7 +45,8 @@ fn put_pair(triplet: Triplet, kind: u8, pairs: &mut ArrayVec<Pair, 81>)
 
 // Puts the pairs of at most 81 triplets, of those that count and are of this kind, into an empty list.
 fn put_pairs(triplets: &[Triplet], kind: u8, pairs: &mut ArrayVec<Pair, 81>)
-    ensures { (in_field : FieldNumber) → kind ≡ field_kind in_field → length triplets.now ≤ 81 → pairs.old.items ≡ []
+    ensures { (in_field : FieldNumber) → kind ≡ field_kind in_field → length triplets.now ≤ 81
+        → pairs.old.items ≡ []
         → pairs.new.items ≡ field_pairs in_field triplets.now }
 {
     for triplet in triplets {
@@ -113,7 +109,8 @@ impl Frame {
 
     /// Whether it is of a whole packet with these bytes of sections. Then its triplets and its pairs are theirs.
     pub(crate) fn is_of(&self, sections: &[u8]) -> bool
-        ensures { IsTrue result → AreOfSections sections.now self.now.triplets self.now.pairs_one.items self.now.pairs_two.items
+        ensures { IsTrue result
+            → AreOfSections sections.now self.now.triplets self.now.pairs_one.items self.now.pairs_two.items
             × (self.now.sections.items ≡ sections.now) }
     {
         self.whole && self.sections.as_slice() == sections
@@ -121,7 +118,8 @@ impl Frame {
 
     /// Whether none of its triplets counts and is one of channel packets.
     pub(crate) fn is_silent(&self) -> bool
-        ensures { (triplets : List TripletOf) → HasTriplets triplets self.now.triplets → IsTrue result → channel_triplets triplets ≡ [] }
+        ensures { (triplets : List TripletOf) → HasTriplets triplets self.now.triplets
+            → IsTrue result → channel_triplets triplets ≡ [] }
     {
         are_silent(self.triplets.front())
     }
@@ -129,18 +127,20 @@ impl Frame {
     /// Says what a whole packet says, whose triplets these are.
     pub(crate) fn fill(&mut self, packet: WholePacket<'_>, triplets: &Triplets)
         requires few { length packet.sections.now ≤ 244 }
-        requires triplets { (cut : List (List ℕ)) → AreSections cut → concat cut ≡ packet.sections.now
+        requires triplets { (cut : List (List ℕ)) → AreSections cut
+            → concat cut ≡ packet.sections.now
             → HasTriplets (flat_map section_triplets cut) triplets.now }
-        ensures { (said : Packet) → AreSections said.sections → SaysPacket packet.entry said → HasGathered (packet_parts said) self.new }
+        ensures { (said : FrameOf) → AreSections said.sections → SaysPacket packet.entry said
+            → HasGathered (packet_parts said) self.new }
     {
         self.whole = false;
         self.sections.clear();
         let _ = self.sections.try_extend_from_slice(packet.sections);
         self.triplets.copy_from(triplets);
         self.pairs_one.clear();
-        put_pairs(triplets.front(), FIELD_ONE, &mut self.pairs_one);
+        put_pairs(triplets.front(), FIELD_1, &mut self.pairs_one);
         self.pairs_two.clear();
-        put_pairs(triplets.front(), FIELD_TWO, &mut self.pairs_two);
+        put_pairs(triplets.front(), FIELD_2, &mut self.pairs_two);
         self.whole = true;
         self.head(packet);
     }
@@ -150,7 +150,8 @@ impl Frame {
         requires few { length packet.sections.now ≤ 244 }
         requires sections { self.old.sections.items ≡ packet.sections.now }
         requires are { AreOfSections packet.sections.now self.old.triplets self.old.pairs_one.items self.old.pairs_two.items }
-        ensures { (said : Packet) → AreSections said.sections → SaysPacket packet.entry said → HasGathered (packet_parts said) self.new }
+        ensures { (said : FrameOf) → AreSections said.sections → SaysPacket packet.entry said
+            → HasGathered (packet_parts said) self.new }
     {
         self.rate = packet.rate;
         self.flags = packet.flags;
@@ -166,17 +167,19 @@ impl Frame {
 
     // Takes the next triplet, and its pair where it counts and is of line 21.
     fn triplet(&mut self, triplet: Triplet)
-        ensures { (gathered : Gathered) → Holds gathered self.old → Holds (with_triplet triplet gathered) self.new }
+        ensures { (gathered : Gathered) → Holds gathered self.old
+            → Holds (with_triplet triplet gathered) self.new }
     {
         self.whole = false;
         self.triplets.push(triplet);
-        put_pair(triplet, FIELD_ONE, &mut self.pairs_one);
-        put_pair(triplet, FIELD_TWO, &mut self.pairs_two);
+        put_pair(triplet, FIELD_1, &mut self.pairs_one);
+        put_pair(triplet, FIELD_2, &mut self.pairs_two);
     }
 
     /// Takes the next part.
     pub(crate) fn gather(&mut self, part: CdpPart)
-        ensures { (gathered : Gathered) → Holds gathered self.old → Holds (gather gathered part) self.new }
+        ensures { (gathered : Gathered) → Holds gathered self.old
+            → Holds (gather gathered part) self.new }
     {
         match part {
             CdpPart::Rate(rate) => self.rate = rate,

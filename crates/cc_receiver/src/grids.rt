@@ -28,13 +28,15 @@ pub trait Grids {
     fn window(&self, service: u8, id: u8) -> Option<&Window>
         requires { IsService service }
         ensures seen { (seen : ℕ → ℕ → Option ShownWindow) → shows self.now seen
-            → MatchOption result (seen service id ≡ None) (λ window. seen service id ≡ shown (window_of window.now)) }
+            → MatchOption result (seen service id ≡ None)
+            (λ window. seen service id ≡ shown (window_of window.now)) }
         ensures live { IfSome result (λ window. IsTrue (is_live window.now)) };
 
     /// Whether a service, 1 to 63, may have a window: where it says no, it has none (CTA-708-E).
     fn is_used(&self, service: u8) -> bool
         requires { IsService service }
-        ensures { (seen : ℕ → ℕ → Option ShownWindow) → shows self.now seen → result ≡ false → (id : ℕ) → seen service id ≡ None };
+        ensures { (seen : ℕ → ℕ → Option ShownWindow) → shows self.now seen → result ≡ false
+            → (id : ℕ) → seen service id ≡ None };
 }
 
 /// What shows grids frame by frame, and tells whether the last frame touched what is seen of the services (CTA-708-E).
@@ -49,7 +51,8 @@ pub trait Touched {
     /// are seen as they were before it (CTA-708-E).
     fn is_touched(&self) -> bool
         requires { has_frame self.now }
-        ensures { (was seen : ℕ → ℕ → Option ShownWindow) → turned self.now was seen → result ≡ false → (service id : ℕ)
+        ensures { (was seen : ℕ → ℕ → Option ShownWindow) → turned self.now was seen
+            → result ≡ false → (service id : ℕ)
             → IsService service → seen service id ≡ was service id };
 }
 

@@ -7,7 +7,7 @@ ghost use Rattle.anc_words.specs.Ending.{bytes_to_end};
 ghost use Rattle.anc_words.specs.Packets.{AncillaryPacket};
 ghost use Rattle.anc_words.specs.Reading.{anc_syntax};
 ghost use Rattle.anc_words.specs.WordsFiles.{IsWordsFile};
-ghost use Rattle.cdp_packets.specs.Packets.{Packet as FrameOf};
+ghost use Rattle.cdp_packets.specs.Packets.{Frame as FrameOf};
 ghost use Rattle.cdp_packets.specs.PacketTriplets.{packet_triplets};
 ghost use Rattle.words_files.specs.Catching.{refusal_of};
 ghost use Rattle.services_files.specs.Services.{services_say};
@@ -89,7 +89,8 @@ impl Receiver {
     /// place is the number of the word's first byte. A refusal is kept and answered from then on, with nothing read.
     pub fn feed(&mut self, bytes: &[u8]) -> Result<Fed, Refusal>
         requires few { frame_count self.now < 4294967295 }
-        ensures feeds { (before : List ℕ) → HasReceived before self.old → Feeds before bytes.now self.old self.new result }
+        ensures feeds { (before : List ℕ) → HasReceived before self.old
+            → Feeds before bytes.now self.old self.new result }
         ensures within { IfOk result (λ fed. fed.used ≤ length bytes.now) }
         ensures all { IfOk result (λ fed. fed.ended ≡ ended.No → fed.used ≡ length bytes.now) }
         ensures some { IfOk result (λ fed. fed.ended ≢ ended.No → 0 < fed.used) }
@@ -149,16 +150,22 @@ impl Receiver {
     fn read(&mut self, piece: &[u8]) -> Result<Ended, Refusal>
         requires some { 0 < length piece.now }
         requires few { frame_count self.now < 4294967295 }
-        ensures received { (before : List ℕ) → HasReceived before self.old → length piece.now ≤ bytes_to_end (open_behind anc_syntax before)
+        ensures received { (before : List ℕ) → HasReceived before self.old
+            → length piece.now ≤ bytes_to_end (open_behind anc_syntax before)
             → HasReceived (before ++ piece.now) self.new }
-        ensures refusal { (before : List ℕ) → HasReceived before self.old → length piece.now ≤ bytes_to_end (open_behind anc_syntax before)
+        ensures refusal { (before : List ℕ) → HasReceived before self.old
+            → length piece.now ≤ bytes_to_end (open_behind anc_syntax before)
             → result_err result ≡ refusal_of services_say (before ++ piece.now) }
-        ensures ended { (before : List ℕ) → HasReceived before self.old → length piece.now ≤ bytes_to_end (open_behind anc_syntax before)
+        ensures ended { (before : List ℕ) → HasReceived before self.old
+            → length piece.now ≤ bytes_to_end (open_behind anc_syntax before)
             → IfOk result (λ answer. EndsBy answer (before ++ piece.now)) }
         ensures told { receiver_refusal self.new ≡ result_err result }
-        ensures more { (before : List ℕ) → HasReceived before self.old → length piece.now ≤ bytes_to_end (open_behind anc_syntax before)
-            → IfOk result (λ answer. answer ≡ ended.Caption → frame_count self.new ≡ frame_count self.old + 1) }
-        ensures same { IfOk result (λ answer. answer ≢ ended.Caption → frame_count self.new ≡ frame_count self.old) }
+        ensures more { (before : List ℕ) → HasReceived before self.old
+            → length piece.now ≤ bytes_to_end (open_behind anc_syntax before)
+            → IfOk result (λ answer. answer ≡ ended.Caption
+            → frame_count self.new ≡ frame_count self.old + 1) }
+        ensures same { IfOk result
+            (λ answer. answer ≢ ended.Caption → frame_count self.new ≡ frame_count self.old) }
     {
         let frames = self.captions.frames;
         self.take(piece)?;
@@ -175,9 +182,11 @@ impl Receiver {
     fn take(&mut self, piece: &[u8]) -> Result<(), Refusal>
         requires some { 0 < length piece.now }
         requires few { frame_count self.now < 4294967295 }
-        ensures received { (before : List ℕ) → HasReceived before self.old → length piece.now ≤ bytes_to_end (open_behind anc_syntax before)
+        ensures received { (before : List ℕ) → HasReceived before self.old
+            → length piece.now ≤ bytes_to_end (open_behind anc_syntax before)
             → HasReceived (before ++ piece.now) self.new }
-        ensures refusal { (before : List ℕ) → HasReceived before self.old → length piece.now ≤ bytes_to_end (open_behind anc_syntax before)
+        ensures refusal { (before : List ℕ) → HasReceived before self.old
+            → length piece.now ≤ bytes_to_end (open_behind anc_syntax before)
             → result_err result ≡ refusal_of services_say (before ++ piece.now) }
         ensures told { receiver_refusal self.new ≡ result_err result }
     {
@@ -187,12 +196,15 @@ impl Receiver {
     /// Says whether the bytes fed may end here: the kept refusal, if there is one; else `Truncated`, at the number of bytes
     /// fed, where bytes were fed and the last of them doesn't end a packet.
     pub fn finish(&self) -> Result<(), Refusal>
-        ensures kept { (refused : Refused) → receiver_refusal self.now ≡ Some refused → result_err result ≡ Some refused }
+        ensures kept { (refused : Refused) → receiver_refusal self.now ≡ Some refused
+            → result_err result ≡ Some refused }
         ensures whole { (bytes : List ℕ) → HasReceived bytes self.now → IsOk result
             → (frames : List FrameOf) × IsFileUnder caption_channel frames bytes }
-        ensures file { (bytes : List ℕ) (frames : List FrameOf) → HasReceived bytes self.now → IsFileUnder caption_channel frames bytes
+        ensures file { (bytes : List ℕ) (frames : List FrameOf) → HasReceived bytes self.now
+            → IsFileUnder caption_channel frames bytes
             → IsOk result }
-        ensures malformed { (bytes : List ℕ) → HasReceived bytes self.now → IfErr result (λ refused. IsMalformed caption_channel bytes refused) }
+        ensures malformed { (bytes : List ℕ) → HasReceived bytes self.now
+            → IfErr result (λ refused. IsMalformed caption_channel bytes refused) }
     {
         self.words.finish()
     }
@@ -200,7 +212,8 @@ impl Receiver {
     /// The number of whole frames.
     pub fn frames(&self) -> u32
         ensures count { result ≡ frame_count self.now }
-        ensures frames { (bytes : List ℕ) (frames : List FrameOf) → HasReceived bytes self.now → AreFramesOf caption_channel frames bytes
+        ensures frames { (bytes : List ℕ) (frames : List FrameOf) → HasReceived bytes self.now
+            → AreFramesOf caption_channel frames bytes
             → result ≡ length frames }
     {
         self.captions.frames
@@ -213,7 +226,8 @@ impl Receiver {
         requires row_to { row ≤ 15 }
         requires col { col < 32 }
         ensures shown { result ≡ displayed_grid self.now chan row col }
-        ensures received { (bytes : List ℕ) (frames : List FrameOf) → HasReceived bytes self.now → AreFramesOf caption_channel frames bytes
+        ensures received { (bytes : List ℕ) (frames : List FrameOf) → HasReceived bytes self.now
+            → AreFramesOf caption_channel frames bytes
             → result ≡ received_grids frames chan row col }
     {
         self.displayed(chan).cell(row, col)
@@ -232,10 +246,13 @@ impl Receiver {
     /// screens as they were (CTA-608-E).
     pub fn is_idle(&self) -> bool
         requires { 0 < frame_count self.now }
-        ensures idle { (bytes : List ℕ) (earlier : List FrameOf) (last : FrameOf) → HasReceived bytes self.now
+        ensures idle { (bytes : List ℕ) (earlier : List FrameOf) (last : FrameOf)
+            → HasReceived bytes self.now
             → AreFramesOf caption_channel (earlier ++ last ∷ []) bytes → result ≡ is_idle last }
-        ensures still { (bytes : List ℕ) (earlier : List FrameOf) (last : FrameOf) → HasReceived bytes self.now
-            → AreFramesOf caption_channel (earlier ++ last ∷ []) bytes → IsTrue result → (chan : Channel)
+        ensures still { (bytes : List ℕ) (earlier : List FrameOf) (last : FrameOf)
+            → HasReceived bytes self.now
+            → AreFramesOf caption_channel (earlier ++ last ∷ []) bytes → IsTrue result
+            → (chan : Channel)
             → displayed_grid self.now chan ≡ received_grids earlier chan }
     {
         self.captions.last.is_idle()
@@ -244,7 +261,8 @@ impl Receiver {
     /// The window of an id of a service, 1 to 63, behind the last whole frame, where there is one (CTA-708-E).
     pub fn window(&self, service: u8, id: u8) -> Option<&Window>
         requires { IsService service }
-        ensures received { (bytes : List ℕ) (frames : List FrameOf) → HasReceived bytes self.now → AreFramesOf caption_channel frames bytes
+        ensures received { (bytes : List ℕ) (frames : List FrameOf) → HasReceived bytes self.now
+            → AreFramesOf caption_channel frames bytes
             → let windows = (received_service frames service).screen.windows in
             MatchOption result (windows id ≡ None) (λ window. window_of window.now ≡ windows id) }
         ensures live { IfSome result (λ window. IsTrue (is_live window.now)) }
@@ -255,7 +273,8 @@ impl Receiver {
     /// The number of bytes that a delay of a service, 1 to 63, holds behind the last whole frame, at most 127 (CTA-708-E, Delay).
     pub fn held(&self, service: u8) -> u8
         requires { IsService service }
-        ensures received { (bytes : List ℕ) (frames : List FrameOf) → HasReceived bytes self.now → AreFramesOf caption_channel frames bytes
+        ensures received { (bytes : List ℕ) (frames : List FrameOf) → HasReceived bytes self.now
+            → AreFramesOf caption_channel frames bytes
             → result ≡ length (received_service frames service).held }
         ensures most { result ≤ 127 }
     {
@@ -266,7 +285,8 @@ impl Receiver {
     /// reset, and it has none.
     pub fn is_used(&self, service: u8) -> bool
         requires { IsService service }
-        ensures { (bytes : List ℕ) (frames : List FrameOf) → HasReceived bytes self.now → AreFramesOf caption_channel frames bytes
+        ensures { (bytes : List ℕ) (frames : List FrameOf) → HasReceived bytes self.now
+            → AreFramesOf caption_channel frames bytes
             → result ≡ false → (id : ℕ) → received_windows frames service id ≡ None }
     {
         self.captions.served.services.is_used(service)
@@ -276,9 +296,12 @@ impl Receiver {
     /// services are seen as they were before it.
     pub fn is_touched(&self) -> bool
         requires { 0 < frame_count self.now }
-        ensures { (bytes : List ℕ) (earlier : List FrameOf) (last : FrameOf) → HasReceived bytes self.now
-            → AreFramesOf caption_channel (earlier ++ last ∷ []) bytes → result ≡ false → (service id : ℕ) → IsService service
-            → received_windows (earlier ++ last ∷ []) service id ≡ received_windows earlier service id }
+        ensures { (bytes : List ℕ) (earlier : List FrameOf) (last : FrameOf)
+            → HasReceived bytes self.now
+            → AreFramesOf caption_channel (earlier ++ last ∷ []) bytes → result ≡ false
+            → (service id : ℕ) → IsService service
+            → received_windows (earlier ++ last ∷ []) service id
+            ≡ received_windows earlier service id }
     {
         self.captions.served.services.is_touched()
     }
@@ -287,8 +310,10 @@ impl Receiver {
     /// Delay).
     pub fn filled(&self) -> Option<u8>
         requires { 0 < frame_count self.now }
-        ensures { (bytes : List ℕ) (earlier : List FrameOf) (last : FrameOf) → HasReceived bytes self.now
-            → AreFramesOf caption_channel (earlier ++ last ∷ []) bytes → IsLowest (fills_in earlier last) result }
+        ensures { (bytes : List ℕ) (earlier : List FrameOf) (last : FrameOf)
+            → HasReceived bytes self.now
+            → AreFramesOf caption_channel (earlier ++ last ∷ []) bytes
+            → IsLowest (fills_in earlier last) result }
     {
         self.captions.served.services.filled()
     }
@@ -296,7 +321,8 @@ impl Receiver {
     /// The frame rate of the last whole frame, where there is one (SMPTE ST 334-2, cdp_header).
     pub fn rate(&self) -> Rate
         requires { 0 < frame_count self.now }
-        ensures { (bytes : List ℕ) (earlier : List FrameOf) (last : FrameOf) → HasReceived bytes self.now
+        ensures { (bytes : List ℕ) (earlier : List FrameOf) (last : FrameOf)
+            → HasReceived bytes self.now
             → AreFramesOf caption_channel (earlier ++ last ∷ []) bytes → result ≡ last.rate }
     {
         self.captions.last.rate
@@ -305,7 +331,8 @@ impl Receiver {
     /// The flags of the last whole frame, where there is one (SMPTE ST 334-2, cdp_header).
     pub fn flags(&self) -> u8
         requires { 0 < frame_count self.now }
-        ensures { (bytes : List ℕ) (earlier : List FrameOf) (last : FrameOf) → HasReceived bytes self.now
+        ensures { (bytes : List ℕ) (earlier : List FrameOf) (last : FrameOf)
+            → HasReceived bytes self.now
             → AreFramesOf caption_channel (earlier ++ last ∷ []) bytes → result ≡ last.flags }
     {
         self.captions.last.flags
@@ -314,7 +341,8 @@ impl Receiver {
     /// The counter of the last whole frame, where there is one (SMPTE ST 334-2, cdp_header).
     pub fn counter(&self) -> u16
         requires { 0 < frame_count self.now }
-        ensures { (bytes : List ℕ) (earlier : List FrameOf) (last : FrameOf) → HasReceived bytes self.now
+        ensures { (bytes : List ℕ) (earlier : List FrameOf) (last : FrameOf)
+            → HasReceived bytes self.now
             → AreFramesOf caption_channel (earlier ++ last ∷ []) bytes → result ≡ last.counter }
     {
         self.captions.last.counter
@@ -324,8 +352,10 @@ impl Receiver {
     /// cc_data()).
     pub fn triplet_count(&self) -> u16
         requires { 0 < frame_count self.now }
-        ensures { (bytes : List ℕ) (earlier : List FrameOf) (last : FrameOf) → HasReceived bytes self.now
-            → AreFramesOf caption_channel (earlier ++ last ∷ []) bytes → result ≡ length (packet_triplets last) }
+        ensures { (bytes : List ℕ) (earlier : List FrameOf) (last : FrameOf)
+            → HasReceived bytes self.now
+            → AreFramesOf caption_channel (earlier ++ last ∷ []) bytes
+            → result ≡ length (packet_triplets last) }
     {
         self.captions.last.triplets.as_slice().len() as u16
     }
@@ -333,8 +363,10 @@ impl Receiver {
     /// The bytes of the sections of the last whole frame, where there is one, one section behind another (SMPTE ST 334-2).
     pub fn sections(&self) -> &[u8]
         requires { 0 < frame_count self.now }
-        ensures { (bytes : List ℕ) (earlier : List FrameOf) (last : FrameOf) → HasReceived bytes self.now
-            → AreFramesOf caption_channel (earlier ++ last ∷ []) bytes → result.now ≡ concat last.sections }
+        ensures { (bytes : List ℕ) (earlier : List FrameOf) (last : FrameOf)
+            → HasReceived bytes self.now
+            → AreFramesOf caption_channel (earlier ++ last ∷ []) bytes
+            → result.now ≡ concat last.sections }
     {
         self.captions.last.sections.as_slice()
     }
@@ -343,8 +375,10 @@ impl Receiver {
     /// cc_data()).
     pub fn triplets(&self) -> &[Triplet]
         requires { 0 < frame_count self.now }
-        ensures { (bytes : List ℕ) (earlier : List FrameOf) (last : FrameOf) → HasReceived bytes self.now
-            → AreFramesOf caption_channel (earlier ++ last ∷ []) bytes → result.now ≡ packet_triplets last }
+        ensures { (bytes : List ℕ) (earlier : List FrameOf) (last : FrameOf)
+            → HasReceived bytes self.now
+            → AreFramesOf caption_channel (earlier ++ last ∷ []) bytes
+            → result.now ≡ packet_triplets last }
     {
         self.captions.last.triplets.as_slice()
     }
@@ -352,8 +386,10 @@ impl Receiver {
     /// The triplets of the last whole frame, where there is one, in order, down to the last one that counts (CTA-708-E, cc_data()).
     pub fn front_of_triplets(&self) -> &[Triplet]
         requires { 0 < frame_count self.now }
-        ensures { (bytes : List ℕ) (earlier : List FrameOf) (last : FrameOf) → HasReceived bytes self.now
-            → AreFramesOf caption_channel (earlier ++ last ∷ []) bytes → HasFront result.now (packet_triplets last) }
+        ensures { (bytes : List ℕ) (earlier : List FrameOf) (last : FrameOf)
+            → HasReceived bytes self.now
+            → AreFramesOf caption_channel (earlier ++ last ∷ []) bytes
+            → HasFront result.now (packet_triplets last) }
     {
         self.captions.last.triplets.front()
     }
@@ -362,8 +398,10 @@ impl Receiver {
     /// (CTA-708-E, cc_data()).
     pub fn pairs_one(&self) -> &[Pair]
         requires { 0 < frame_count self.now }
-        ensures { (bytes : List ℕ) (earlier : List FrameOf) (last : FrameOf) → HasReceived bytes self.now
-            → AreFramesOf caption_channel (earlier ++ last ∷ []) bytes → result.now ≡ field_pairs One (packet_triplets last) }
+        ensures { (bytes : List ℕ) (earlier : List FrameOf) (last : FrameOf)
+            → HasReceived bytes self.now
+            → AreFramesOf caption_channel (earlier ++ last ∷ []) bytes
+            → result.now ≡ field_pairs One (packet_triplets last) }
     {
         self.captions.last.pairs_one.as_slice()
     }
@@ -372,8 +410,10 @@ impl Receiver {
     /// (CTA-708-E, cc_data()).
     pub fn pairs_two(&self) -> &[Pair]
         requires { 0 < frame_count self.now }
-        ensures { (bytes : List ℕ) (earlier : List FrameOf) (last : FrameOf) → HasReceived bytes self.now
-            → AreFramesOf caption_channel (earlier ++ last ∷ []) bytes → result.now ≡ field_pairs Two (packet_triplets last) }
+        ensures { (bytes : List ℕ) (earlier : List FrameOf) (last : FrameOf)
+            → HasReceived bytes self.now
+            → AreFramesOf caption_channel (earlier ++ last ∷ []) bytes
+            → result.now ≡ field_pairs Two (packet_triplets last) }
     {
         self.captions.last.pairs_two.as_slice()
     }

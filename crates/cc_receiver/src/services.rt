@@ -64,10 +64,13 @@ impl Served {
 
     /// A frame of a rate brings its triplets. Fewer than 4,294,967,295 frames came before; a further one changes nothing.
     pub fn frame(&mut self, rate: Rate, triplets: &[Triplet])
-        ensures served { (before : List TripletOf) (earlier last : Events) → HasServed before earlier last self.old
+        ensures served { (before : List TripletOf) (earlier last : Events)
+            → HasServed before earlier last self.old
             → all_ticks self.old.services < 4294967295 → IsHeard (before ++ triplets.now)
-            → HasServed (before ++ triplets.now) (followed_by earlier last) (given_by rate before triplets.now) self.new }
-        ensures frames { all_ticks self.old.services < 4294967295 → all_ticks self.new.services ≡ all_ticks self.old.services + 1 }
+            → HasServed (before ++ triplets.now) (followed_by earlier last)
+            (given_by rate before triplets.now) self.new }
+        ensures frames { all_ticks self.old.services < 4294967295
+            → all_ticks self.new.services ≡ all_ticks self.old.services + 1 }
     {
         if self.services.frames() >= MOST_FRAMES {
             return;
@@ -81,7 +84,8 @@ impl Served {
     /// Resets all services, and forgets the channel packets: one that is open stays unfinished, and the next one makes no gap (CTA-708-E,
     /// section 5 and Reset). The frames that came still count.
     pub fn reset(&mut self)
-        ensures served { (before : List TripletOf) (earlier last : Events) → HasServed before earlier last self.old
+        ensures served { (before : List TripletOf) (earlier last : Events)
+            → HasServed before earlier last self.old
             → HasServed [] earlier (λ service. last service ++ Reset ∷ []) self.new }
         ensures frames { all_ticks self.new.services ≡ all_ticks self.old.services }
     {
@@ -92,7 +96,8 @@ impl Served {
     /// The window of an id of a service, 1 to 63, behind the last frame, where there is one (CTA-708-E).
     pub fn window(&self, service: u8, id: u8) -> Option<&Window>
         requires { IsService service }
-        ensures window { (triplets : List TripletOf) (earlier last : Events) → HasServed triplets earlier last self.now
+        ensures window { (triplets : List TripletOf) (earlier last : Events)
+            → HasServed triplets earlier last self.now
             → let windows = (screen_at (served_now earlier last service)).windows in
             MatchOption result (windows id ≡ None) (λ window. window_of window.now ≡ windows id) }
         ensures live { IfSome result (λ window. IsTrue (is_live window.now)) }
@@ -103,7 +108,8 @@ impl Served {
     /// Whether a service, 1 to 63, may have a window behind the last frame: where it says no, it has none (CTA-708-E).
     pub fn is_used(&self, service: u8) -> bool
         requires { IsService service }
-        ensures { (triplets : List TripletOf) (earlier last : Events) → HasServed triplets earlier last self.now
+        ensures { (triplets : List TripletOf) (earlier last : Events)
+            → HasServed triplets earlier last self.now
             → result ≡ false → screen_at (served_now earlier last service) ≡ empty_screen }
     {
         self.services.is_used(service)
@@ -112,8 +118,11 @@ impl Served {
     /// Whether something that is seen of a service may have changed in the last frame: where it says no, all windows of all services are
     /// seen as they were before it (CTA-708-E).
     pub fn is_touched(&self) -> bool
-        ensures { (triplets : List TripletOf) (earlier last : Events) → HasServed triplets earlier last self.now → result ≡ false
-            → (service : ℕ) → IsService service → LooksSame (screen_at (service_behind earlier service)) (screen_at (served_now earlier last service)) }
+        ensures { (triplets : List TripletOf) (earlier last : Events)
+            → HasServed triplets earlier last self.now → result ≡ false
+            → (service : ℕ) → IsService service
+            → LooksSame (screen_at (service_behind earlier service))
+            (screen_at (served_now earlier last service)) }
     {
         self.services.is_touched()
     }
@@ -121,8 +130,11 @@ impl Served {
     // Takes the next triplet of the last frame.
     fn triplet(&mut self, triplet: Triplet)
         requires { all_ticks self.old.services < 2 ^ 32 }
-        ensures served { (before : List TripletOf) (earlier last : Events) → HasServed before earlier last self.old → IsHeardBehind before (triplet ∷ [])
-            → HasServed (before ++ triplet ∷ []) earlier (λ service. last service ++ events_of service (heard_behind before (triplet ∷ []))) self.new }
+        ensures served { (before : List TripletOf) (earlier last : Events)
+            → HasServed before earlier last self.old → IsHeardBehind before (triplet ∷ [])
+            → HasServed (before ++ triplet ∷ []) earlier
+            (λ service. last service
+            ++ events_of service (heard_behind before (triplet ∷ []))) self.new }
         ensures frames { all_ticks self.new.services ≡ all_ticks self.old.services }
     {
         if !is_of_channel(triplet) {
@@ -141,10 +153,14 @@ impl Served {
     // Takes the next part of a channel packet.
     fn piece(&mut self, piece: PacketPart)
         requires { all_ticks self.old.services < 2 ^ 32 }
-        ensures read { (pieces : List Piece) → HasRead pieces self.old.channel.blocks → IsTaken (judge_part (open_behind block_syntax pieces) piece)
+        ensures read { (pieces : List Piece) → HasRead pieces self.old.channel.blocks
+            → IsTaken (judge_part (open_behind block_syntax pieces) piece)
             → HasRead (pieces ++ piece ∷ []) self.new.channel.blocks }
-        ensures leads { (pieces : List Piece) (earlier last : Events) → HasRead pieces self.old.channel.blocks → Leads earlier last self.old.services
-            → Leads earlier (λ service. last service ++ events_of service (step_parts (judge_part (open_behind block_syntax pieces) piece))) self.new.services }
+        ensures leads { (pieces : List Piece) (earlier last : Events)
+            → HasRead pieces self.old.channel.blocks → Leads earlier last self.old.services
+            → Leads earlier (λ service. last service
+            ++ events_of service (step_parts
+            (judge_part (open_behind block_syntax pieces) piece))) self.new.services }
         ensures packets { self.new.channel.packets ≡ self.old.channel.packets }
         ensures frames { all_ticks self.new.services ≡ all_ticks self.old.services }
     {

@@ -52,7 +52,8 @@ impl Triplets {
 
     /// The triplets.
     pub(crate) fn as_slice(&self) -> &[Triplet]
-        ensures triplets { (triplets : List TripletOf) → HasTriplets triplets self.now → result.now ≡ triplets }
+        ensures triplets { (triplets : List TripletOf) → HasTriplets triplets self.now
+            → result.now ≡ triplets }
         ensures few { length result.now ≤ 81 }
         ensures items { result.now ≡ take self.now.len self.now.cells }
     {
@@ -61,14 +62,16 @@ impl Triplets {
 
     /// The triplets down to the last one that counts.
     pub(crate) fn front(&self) -> &[Triplet]
-        ensures { (triplets : List TripletOf) → HasTriplets triplets self.now → HasFront result.now triplets }
+        ensures { (triplets : List TripletOf) → HasTriplets triplets self.now
+            → HasFront result.now triplets }
     {
         &self.cells[..self.until]
     }
 
     /// Becomes the same as others.
     pub(crate) fn copy_from(&mut self, other: &Triplets)
-        ensures { (triplets : List TripletOf) → HasTriplets triplets other.now → HasTriplets triplets self.new }
+        ensures { (triplets : List TripletOf) → HasTriplets triplets other.now
+            → HasTriplets triplets self.new }
     {
         self.clear();
         self.append(other.as_slice());
@@ -78,7 +81,8 @@ impl Triplets {
     // Puts triplets behind the others, none of which is told to count.
     fn append(&mut self, triplets: &[Triplet])
         requires { self.old.len + length triplets.now ≤ 81 }
-        ensures items { take self.new.len self.new.cells ≡ take self.old.len self.old.cells ++ triplets.now }
+        ensures items { take self.new.len self.new.cells
+            ≡ take self.old.len self.old.cells ++ triplets.now }
         ensures len { self.new.len ≡ self.old.len + length triplets.now }
         ensures until { self.new.until ≡ self.old.until }
     {
@@ -89,7 +93,8 @@ impl Triplets {
 
     /// Becomes the triplets of sections, read in one pass.
     pub(crate) fn read(&mut self, sections: &[u8])
-        ensures { (cut : List (List ℕ)) → AreSections cut → concat cut ≡ sections.now → length sections.now ≤ 244
+        ensures { (cut : List (List ℕ)) → AreSections cut → concat cut ≡ sections.now
+            → length sections.now ≤ 244
             → HasTriplets (flat_map section_triplets cut) self.new }
     {
         self.clear();
@@ -98,7 +103,8 @@ impl Triplets {
 
     // Takes the triplets of sections.
     fn take_sections(&mut self, sections: &[u8])
-        ensures { (triplets : List TripletOf) (cut : List (List ℕ)) → AreSections cut → concat cut ≡ sections.now → HasTriplets triplets self.old
+        ensures { (triplets : List TripletOf) (cut : List (List ℕ)) → AreSections cut
+            → concat cut ≡ sections.now → HasTriplets triplets self.old
             → HasTriplets (with_more triplets (flat_map section_triplets cut)) self.new }
     {
         let mut rest = sections;
@@ -110,7 +116,8 @@ impl Triplets {
 
     // Takes the triplets of these bytes.
     fn take_bytes(&mut self, bytes: &[u8])
-        ensures { (triplets : List TripletOf) → HasTriplets triplets self.old → HasTriplets (with_more triplets (triplets_of bytes.now)) self.new }
+        ensures { (triplets : List TripletOf) → HasTriplets triplets self.old
+            → HasTriplets (with_more triplets (triplets_of bytes.now)) self.new }
     {
         let mut rest = bytes;
         while let Some((triplet, more)) = rest.split_first_chunk::<3>() {
@@ -140,7 +147,8 @@ impl Triplets {
     /// Takes the next triplet, where there is room.
     #[inline]
     pub(crate) fn push(&mut self, triplet: Triplet)
-        ensures { (triplets : List TripletOf) → HasTriplets triplets self.old → HasTriplets (one_more 81 triplets triplet) self.new }
+        ensures { (triplets : List TripletOf) → HasTriplets triplets self.old
+            → HasTriplets (one_more 81 triplets triplet) self.new }
     {
         self.put(triplet);
         if triplet.valid {
@@ -151,7 +159,8 @@ impl Triplets {
     // Puts a triplet behind the others, where there is room, and doesn't tell whether it counts.
     #[inline]
     fn put(&mut self, triplet: Triplet)
-        ensures items { take self.new.len self.new.cells ≡ one_more 81 (take self.old.len self.old.cells) triplet }
+        ensures items { take self.new.len self.new.cells
+            ≡ one_more 81 (take self.old.len self.old.cells) triplet }
         ensures until { self.new.until ≡ self.old.until }
         ensures len { self.new.len ≡ length (take self.new.len self.new.cells) }
     {

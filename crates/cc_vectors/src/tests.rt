@@ -1,129 +1,31 @@
 ghost use Rattle.std.specs.Prelude.{None};
 
-use cc_base::{LimitOf, MemorySink, MemorySource, Source, SteadySource, Took, Why};
-use ccsuite_cli::{Place, Status, run, side_of};
+use cc_base::{LimitOf, MemorySink, Source, SteadySource, Took, Why};
+use ccsuite_cli::{Status, run, side_of};
 use cue_lists::RuleFault;
+use memory_runs::lists::HI;
+use memory_runs::{Given, broken, build_of, malformed, pairs_of, run_to_end, words_of};
 use std::alloc::Global;
+use std::process::Abort;
 use std::test::Fail;
 
-mod build;
-mod conceal;
 mod cues;
-mod decode;
 mod double_rates;
 mod dual;
-mod insert;
-mod limits;
+mod dual_pairs;
 mod load;
+mod lossy;
 mod pairs;
-mod scc;
 mod seen;
-mod services;
-mod show;
-mod verify;
 mod windows;
-mod words;
-mod xds_show;
-
-/// The list of the caption HI on 30 frames.
-const HI: &[u8] = b"ccsuite,1,29.97,30\npop,CC1,0,7,20\nrun,15,0,white,HI\n";
-
-/// What a run is given: its words, its input in pieces, its side file, the takes and puts that fail, and the room of its output.
-#[derive(Clone, Copy)]
-struct Given<'a> {
-    words: &'a [&'a str],
-    text: &'a [u8],
-    piece: usize,
-    side: &'a [u8],
-    failing_side: &'a [u64],
-    failing_takes: &'a [u64],
-    failing_puts: &'a [u64],
-    room: usize,
-}
-
-/// `pairs` on a text in pieces of a size, with no fault.
-fn pairs_of(text: &[u8], piece: usize) -> Given<'_> {
-    Given {
-        words: &["pairs"],
-        text,
-        piece,
-        side: &[],
-        failing_side: &[],
-        failing_takes: &[],
-        failing_puts: &[],
-        room: 200_000,
-    }
-}
-
-/// `build` on a text, with no fault.
-fn build_of(text: &[u8]) -> Given<'_> {
-    Given {
-        words: &["build"],
-        ..pairs_of(text, usize::MAX)
-    }
-}
-
-/// `decode` on words, with no fault.
-fn decode_of(text: &[u8]) -> Given<'_> {
-    Given {
-        words: &["decode"],
-        ..pairs_of(text, usize::MAX)
-    }
-}
-
-/// How a run ended, and what it put to its output and error output.
-#[derive(Drop)]
-struct Ended {
-    status: Status,
-    out: MemorySink,
-    err: MemorySink,
-}
-
-fn words_of(alloc: Global, words: &[&str]) -> Result<Vec<String>, Fail> {
-    let mut all = Vec::new(alloc);
-    for word in words {
-        all.push(String::from_str(alloc, word)?)?;
-    }
-    Ok(all)
-}
-
-fn run_to_end(alloc: Global, given: Given<'_>) -> Result<Ended, Fail> {
-    let words = words_of(alloc, given.words)?;
-    let mut input = MemorySource::new(
-        given.text.to_vec(alloc)?,
-        [given.piece].to_vec(alloc)?,
-        given.failing_takes.to_vec(alloc)?,
-    );
-    let mut side = MemorySource::new(
-        given.side.to_vec(alloc)?,
-        Vec::new(alloc),
-        given.failing_side.to_vec(alloc)?,
-    );
-    let mut out = MemorySink::new(alloc, given.room, given.failing_puts.to_vec(alloc)?)?;
-    let mut err = MemorySink::new(alloc, 200, Vec::new(alloc))?;
-    let status = run(alloc, &words, &mut input, &mut side, &mut out, &mut err);
-    Ok(Ended { status, out, err })
-}
-
-fn malformed(rec: u32, field: u32, why: Why) -> Status {
-    Status::Malformed(Place::Field { rec, field }, why)
-}
-
-/// The rule that cue 1 breaks by itself.
-fn broken(why: Why) -> Status {
-    Status::Rule(RuleFault {
-        why,
-        cue: 1,
-        other: None,
-    })
-}
+mod xds;
 
 #[test]
 fn words_that_are_no_command_are_usage(rt: HostRuntime) -> Result<(), Fail> {
     let usage =
-        b"usage: ccsuite pairs|build|decode|show FRAME|verify CUES|insert CUES|import|export TIME|cues|load N|dual CUES|xds-show|conceal\n";
+        b"usage: ccsuite pairs|build|decode|show FRAME|verify CUES|insert CUES|import|export TIME|cues|load N|dual CUES|xds PACKETS|xds-show|conceal|convert|import-mcc|export-mcc RATE TIME\n";
     let none: [&str; 0] = [];
-    let lists: [&[&str]; 36] = [
+    let lists: [&[&str]; 39] = [
         &none,
         &["pairs", "x"],
         &["Pairs"],
@@ -155,9 +57,12 @@ fn words_that_are_no_command_are_usage(rt: HostRuntime) -> Result<(), Fail> {
         &["load", "+3"],
         &["load", "10001"],
         &["load", "3", "3"],
+        &["xds"],
+        &["xds", "a", "b"],
         &["xds-show", "x"],
         &["xds_show"],
         &["conceal", "x"],
+        &["convert", "x"],
         &["dual"],
         &["dual", "a", "b"],
     ];
@@ -177,7 +82,7 @@ fn words_that_are_no_command_are_usage(rt: HostRuntime) -> Result<(), Fail> {
 }
 
 #[test]
-fn verify_insert_and_dual_name_a_side_file(rt: HostRuntime) -> Result<(), Fail> {
+fn verify_insert_dual_and_xds_name_a_side_file(rt: HostRuntime) -> Result<(), Fail> {
     let alloc = rt.alloc();
     for (line, path) in [
         ("verify|list.csv", Some("list.csv")),
@@ -185,6 +90,9 @@ fn verify_insert_and_dual_name_a_side_file(rt: HostRuntime) -> Result<(), Fail> 
         ("insert|", Some("")),
         ("dual|list.csv", Some("list.csv")),
         ("dual", None),
+        ("xds|packets.csv", Some("packets.csv")),
+        ("xds", None),
+        ("xds-show|packets.csv", None),
         ("verify", None),
         ("verify|a|b", None),
         ("show|3", None),
@@ -250,6 +158,46 @@ fn a_failing_take_ends_the_run_before_anything_is_put(rt: HostRuntime) -> Result
         );
         assert_eq!(rt; ended.out.bytes(), b"".as_slice());
         assert_eq!(rt; ended.err.bytes(), b"read fault\n".as_slice());
+    }
+    Ok(())
+}
+
+/// That a run over a side file whose words are 1,000 packets is told a fault of each end: of the side file before the input, of the input, and of
+/// each put, behind which a front of the words stands.
+fn each_end_can_fail(rt: &impl Abort, alloc: Global, whole: Given<'_>) -> Result<(), Fail> {
+    let side = run_to_end(
+        alloc,
+        Given {
+            failing_side: &[0],
+            failing_takes: &[0],
+            ..whole
+        },
+    )?;
+    assert_eq!(rt; side.status, Status::ReadFault);
+    let input = run_to_end(
+        alloc,
+        Given {
+            failing_takes: &[0],
+            ..whole
+        },
+    )?;
+    assert_eq!(rt; input.status, Status::ReadFault);
+    let due = run_to_end(alloc, whole)?;
+    assert_eq!(rt; due.status, Status::Ok);
+    // A put has 409 packets of 160 bytes, which fit into 65,536, and the third one the last 182 of the 1,000.
+    for (put, front) in [(0, 0), (1, 65_440), (2, 130_880)] {
+        let cut = run_to_end(
+            alloc,
+            Given {
+                failing_puts: &[put],
+                ..whole
+            },
+        )?;
+        assert_eq!(rt; cut.status, Status::WriteFault, "put {put}");
+        assert!(rt;
+            Some(cut.out.bytes()) == due.out.bytes().get(..front),
+            "put {put}"
+        );
     }
     Ok(())
 }

@@ -8,7 +8,7 @@ use Rattle.cc_base.specs.contracts.rate.Rate.{the_type}
 use Rattle.cc_base.specs.declared.rate.Rate.{Rate}
 use denote.Enum.Bare.{sameb, same_true, true_same}
 use Rattle.cc_receiver.specs.ReceivedServices.{fills_in, received_windows}
-use Rattle.cdp_packets.specs.Packets.{Packet as Frame}
+use Rattle.cdp_packets.specs.Packets.{Frame}
 use Rattle.cdp_packets.specs.PacketTriplets.{packet_triplets}
 use Rattle.cue_types.specs.Lane.{channel_number}
 use Rattle.cue_types.specs.Listing.{Listing}
@@ -120,6 +120,7 @@ tried_one list earlier last no_jump (kind.BufferFull service) found = omega arit
 tried_one list earlier last no_jump (kind.GridDiffers (which.Chan channel)) found = omega arith
 tried_one list earlier last no_jump (kind.GridDiffers (which.Service service)) found = omega arith
 tried_one list earlier last no_jump (kind.TwoPairs n) found = absurd found
+tried_one list earlier last no_jump kind.EightBits found = absurd found
 
 -- a first finding of what was tried before a place stays one
 pub count_first : (list : Listing) (earlier : List Frame) (last : Frame) (expected seen : ℕ) → Tried 1 list earlier last None
@@ -135,6 +136,7 @@ tried_two list earlier last tried same (kind.BufferFull service) found = omega a
 tried_two list earlier last tried same (kind.GridDiffers (which.Chan channel)) found = omega arith
 tried_two list earlier last tried same (kind.GridDiffers (which.Service service)) found = omega arith
 tried_two list earlier last tried same (kind.TwoPairs n) found = absurd found
+tried_two list earlier last tried same kind.EightBits found = absurd found
 
 pub rate_first : (list : Listing) (earlier : List Frame) (last : Frame) (expected seen : Rate) → Tried 2 list earlier last None → expected ≡ list.rate
     → seen ≡ last.rate → seen ≢ expected → IsFirstFound list earlier last (kind.WrongRate expected seen)
@@ -152,6 +154,7 @@ tried_three list earlier last tried rate (kind.BufferFull service) found = let f
 tried_three list earlier last tried rate (kind.GridDiffers (which.Chan channel)) found = omega arith
 tried_three list earlier last tried rate (kind.GridDiffers (which.Service service)) found = omega arith
 tried_three list earlier last tried rate (kind.TwoPairs n) found = absurd found
+tried_three list earlier last tried rate kind.EightBits found = absurd found
 
 -- the lowest service whose buffer was filled
 pub filled_first : (list : Listing) (earlier : List Frame) (last : Frame) (service : ℕ) → Tried 3 list earlier last None
@@ -172,6 +175,7 @@ filled_first list earlier last service tried lowest = record { is = (lowest.is, 
     first (kind.GridDiffers (which.Chan channel)) found = let to = lowest.is.to in omega arith
     first (kind.GridDiffers (which.Service other)) found = let to = lowest.is.to in omega arith
     first (kind.TwoPairs n) found = absurd found
+    first kind.EightBits found = absurd found
 
 pub tried_buffers : (list : Listing) (earlier : List Frame) (last : Frame) → Tried 3 list earlier last None → IsLowest (fills_in earlier last) None
     → Tried 66 list earlier last None
@@ -182,6 +186,7 @@ tried_buffers list earlier last tried none (kind.BufferFull service) found = abs
 tried_buffers list earlier last tried none (kind.GridDiffers (which.Chan channel)) found = let h = number_from channel in omega arith
 tried_buffers list earlier last tried none (kind.GridDiffers (which.Service service)) found = omega arith
 tried_buffers list earlier last tried none (kind.TwoPairs n) found = absurd found
+tried_buffers list earlier last tried none kind.EightBits found = absurd found
 
 -- the first channel that shows another grid
 pub screen_first : (list : Listing) (earlier : List Frame) (last : Frame) (channel : Chan) → Tried 66 list earlier last None
@@ -197,6 +202,7 @@ screen_first list earlier last channel tried is = record { is = is.shows; first 
     first (kind.GridDiffers (which.Chan other)) found = let h = is.first other found in omega arith
     first (kind.GridDiffers (which.Service service)) found = let h = number_to channel in let from = found.0.from in omega arith
     first (kind.TwoPairs n) found = absurd found
+    first kind.EightBits found = absurd found
 
 pub tried_screens : (list : Listing) (earlier : List Frame) (last : Frame) → Tried 66 list earlier last None
     → IsFirstOther list.cues (length earlier) (received_grids (earlier ++ last ∷ [])) None → Tried 70 list earlier last None
@@ -207,6 +213,7 @@ tried_screens list earlier last tried none (kind.BufferFull other) found = let h
 tried_screens list earlier last tried none (kind.GridDiffers (which.Chan channel)) found = absurd (none channel found)
 tried_screens list earlier last tried none (kind.GridDiffers (which.Service service)) found = let from = found.0.from in omega arith
 tried_screens list earlier last tried none (kind.TwoPairs n) found = absurd found
+tried_screens list earlier last tried none kind.EightBits found = absurd found
 
 -- the first service of which a window is seen otherwise
 pub service_first : (list : Listing) (earlier : List Frame) (last : Frame) (service : ℕ) → Tried 70 list earlier last None
@@ -228,6 +235,7 @@ service_first list earlier last service tried is = record { is = (is.is, is.show
     first (kind.GridDiffers (which.Chan channel)) found = let h : 70 ≤ 65 + channel_number channel = tried (kind.GridDiffers (which.Chan channel)) found in let to = number_to channel in absurd (omega arith)
     first (kind.GridDiffers (which.Service other)) found = let h = none_lower other found.0 found.1 in omega arith
     first (kind.TwoPairs n) found = absurd found
+    first kind.EightBits found = absurd found
 
 -- nothing is found where nothing of all that is tried is
 pub clean_services : (list : Listing) (earlier : List Frame) (last : Frame) → Tried 70 list earlier last None
@@ -239,3 +247,4 @@ clean_services list earlier last tried none (kind.BufferFull other) found = let 
 clean_services list earlier last tried none (kind.GridDiffers (which.Chan channel)) found = let h : 70 ≤ 65 + channel_number channel = tried (kind.GridDiffers (which.Chan channel)) found in let to = number_to channel in absurd (omega arith)
 clean_services list earlier last tried none (kind.GridDiffers (which.Service service)) found = found.1.other (none service found.0 found.1.id found.1.id_to)
 clean_services list earlier last tried none (kind.TwoPairs n) found = found
+clean_services list earlier last tried none kind.EightBits found = found

@@ -1,9 +1,10 @@
+-- Believed in part: the program's answer stands on some of these definitions.
 -- What is found at the frames of a words file against a cue list, and what is found first (SMPTE ST 334-2, cdp_header; CTA-708-E,
 -- cc_data() and Delay; CTA-608-E).
 use Rattle.std.specs.Prelude.{◌≡◌, ◌≢◌, ℕ, ◌+◌, ◌%◌, ◌≤◌, true, List, [], ◌∷◌, ◌++◌, length, Option, Some, None}
 use Rattle.cc_base.specs.Rate.{triplets_in_frame}
 use Rattle.cc_receiver.specs.ReceivedServices.{fills_in, received_windows}
-use Rattle.cdp_packets.specs.Packets.{Packet as Frame}
+use Rattle.cdp_packets.specs.Packets.{Frame}
 use Rattle.cdp_packets.specs.PacketTriplets.{packet_triplets}
 use Rattle.cue_types.specs.Lane.{channel_number}
 use Rattle.cue_types.specs.Listing.{Listing}
@@ -40,6 +41,7 @@ IsFound list earlier last (kind.GridDiffers (which.Chan channel)) = ShowsOther l
 IsFound list earlier last (kind.GridDiffers (which.Service service)) =
     IsService service × ShowsOtherWindow list.cues (length earlier) (received_windows (earlier ++ last ∷ [])) service
 IsFound list earlier last (kind.TwoPairs seen) = ⊥
+IsFound list earlier last kind.EightBits = ⊥
 
 -- the order in which they are tried: counter, count, rate, buffers by their services, then the grids of CC1 to CC4 and those of
 -- the services
@@ -51,6 +53,7 @@ place_of (kind.BufferFull service) = 2 + service
 place_of (kind.GridDiffers (which.Chan channel)) = 65 + channel_number channel
 place_of (kind.GridDiffers (which.Service service)) = 69 + service
 place_of (kind.TwoPairs seen) = 133
+place_of kind.EightBits = 134
 
 -- it is found at the frame, and nothing that is tried sooner is
 pub record IsFirstFound (list : Listing) (earlier : List Frame) (last : Frame) (found : Kind45) : Type 0 where

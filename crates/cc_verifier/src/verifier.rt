@@ -1,6 +1,6 @@
 ghost use Rattle.std.specs.Prelude.{◌≡◌, ◌<◌, ◌≤◌, ◌+◌, ◌++◌, ◌∷◌, [], ℕ, List, None, Some, IfOk, length, take};
 ghost use Rattle.cc_receiver.specs.Receivers.{HasReceived};
-ghost use Rattle.cdp_packets.specs.Packets.{Packet as Frame};
+ghost use Rattle.cdp_packets.specs.Packets.{Frame};
 ghost use Rattle.cue_rules.specs.Rules.{IsRuled};
 ghost use Rattle.screen_checks.specs.Differing.{AllSeenWindows};
 ghost use Rattle.cc_verifier.specs.Findings.{AreClean, Tried};
@@ -75,8 +75,10 @@ impl Verifier {
         requires few { verified_frames self.now < 4294967295 }
         requires on { FindsOn self.now }
         ensures list { list_of self.new ≡ list_of self.old }
-        ensures feeds { (before : List ℕ) → HasVerified before self.old → FeedsOn before bytes.now self.old self.new result }
-        ensures verified { (before : List ℕ) → HasVerified before self.old → Verifies before bytes.now self.new result }
+        ensures feeds { (before : List ℕ) → HasVerified before self.old
+            → FeedsOn before bytes.now self.old self.new result }
+        ensures verified { (before : List ℕ) → HasVerified before self.old
+            → Verifies before bytes.now self.new result }
         ensures within { IfOk result (λ fed. fed.used ≤ length bytes.now) }
         ensures moves { 0 < length bytes.now → IfOk result (λ fed. 0 < fed.used) }
     {
@@ -95,8 +97,10 @@ impl Verifier {
         requires { (frame : ℕ) × (verified_frames self.now ≡ frame + 1) × IsReadyAt frame self.now }
         ensures receiver { self.new.receiver ≡ self.old.receiver }
         ensures list { list_of self.new ≡ list_of self.old }
-        ensures judged { (bytes : List ℕ) (earlier : List Frame) (last : Frame) → HasReceived bytes self.old.receiver
-            → AreFramesOf caption_channel (earlier ++ last ∷ []) bytes → self.old.finding ≡ None → AreClean self.old.list earlier → GoesOn earlier self.old
+        ensures judged { (bytes : List ℕ) (earlier : List Frame) (last : Frame)
+            → HasReceived bytes self.old.receiver
+            → AreFramesOf caption_channel (earlier ++ last ∷ []) bytes → self.old.finding ≡ None
+            → AreClean self.old.list earlier → GoesOn earlier self.old
             → HasJudgedFrame self.old.list earlier last self.new }
     {
         let frame = self.receiver.frames() - 1;
@@ -112,8 +116,10 @@ impl Verifier {
         requires ready { IsReadyAt frame self.now }
         ensures same { IsSameBeside self.old self.new }
         ensures ready { IsReadyAt frame self.new }
-        ensures finds { (bytes : List ℕ) (earlier : List Frame) (last : Frame) → HasReceived bytes self.old.receiver
-            → AreFramesOf caption_channel (earlier ++ last ∷ []) bytes → frame ≡ length earlier → GoesOn earlier self.old
+        ensures finds { (bytes : List ℕ) (earlier : List Frame) (last : Frame)
+            → HasReceived bytes self.old.receiver
+            → AreFramesOf caption_channel (earlier ++ last ∷ []) bytes → frame ≡ length earlier
+            → GoesOn earlier self.old
             → Finds self.old.list earlier last self.new result }
     {
         if let Some(kind) = self.find_in_packet() {
@@ -128,8 +134,10 @@ impl Verifier {
     /// The first finding of what the packet of the last frame says.
     fn find_in_packet(&self) -> Option<Kind45>
         requires { 0 < verified_frames self.now }
-        ensures { (bytes : List ℕ) (earlier : List Frame) (last : Frame) → HasReceived bytes self.now.receiver
-            → AreFramesOf caption_channel (earlier ++ last ∷ []) bytes → IsLastCounter earlier self.now.counter
+        ensures { (bytes : List ℕ) (earlier : List Frame) (last : Frame)
+            → HasReceived bytes self.now.receiver
+            → AreFramesOf caption_channel (earlier ++ last ∷ []) bytes
+            → IsLastCounter earlier self.now.counter
             → Tried 3 self.now.list earlier last result }
     {
         if let Some(kind) = self.find_jump() {
@@ -154,8 +162,10 @@ impl Verifier {
     /// The finding of a counter that doesn't go on.
     fn find_jump(&self) -> Option<Kind45>
         requires { 0 < verified_frames self.now }
-        ensures { (bytes : List ℕ) (earlier : List Frame) (last : Frame) → HasReceived bytes self.now.receiver
-            → AreFramesOf caption_channel (earlier ++ last ∷ []) bytes → IsLastCounter earlier self.now.counter
+        ensures { (bytes : List ℕ) (earlier : List Frame) (last : Frame)
+            → HasReceived bytes self.now.receiver
+            → AreFramesOf caption_channel (earlier ++ last ∷ []) bytes
+            → IsLastCounter earlier self.now.counter
             → Tried 1 self.now.list earlier last result }
     {
         let seen = self.receiver.counter();
@@ -178,9 +188,12 @@ impl Verifier {
         requires ready { IsReadyAt frame self.now }
         ensures same { IsSameBeside self.old self.new }
         ensures ready { IsReadyAt frame self.new }
-        ensures finds { (bytes : List ℕ) (earlier : List Frame) (last : Frame) → HasReceived bytes self.old.receiver
-            → AreFramesOf caption_channel (earlier ++ last ∷ []) bytes → frame ≡ length earlier → GoesOn earlier self.old
-            → Tried 66 self.old.list earlier last None → Finds self.old.list earlier last self.new result }
+        ensures finds { (bytes : List ℕ) (earlier : List Frame) (last : Frame)
+            → HasReceived bytes self.old.receiver
+            → AreFramesOf caption_channel (earlier ++ last ∷ []) bytes → frame ≡ length earlier
+            → GoesOn earlier self.old
+            → Tried 66 self.old.list earlier last None
+            → Finds self.old.list earlier last self.new result }
     {
         let is_idle = self.receiver.is_idle();
         let cues = self.list.cues();
@@ -199,9 +212,12 @@ impl Verifier {
         requires ready { (former : ℕ) × (frame ≡ former + 1) × IsReadyAt former self.now }
         ensures same { IsSameBeside self.old self.new }
         ensures ready { IsReadyAt frame self.new }
-        ensures counter { (bytes : List ℕ) (earlier : List Frame) (last : Frame) → HasReceived bytes self.old.receiver
-            → AreFramesOf caption_channel (earlier ++ last ∷ []) bytes → IsLastCounter (earlier ++ last ∷ []) self.new.counter }
-        ensures knows { (former : ℕ) (screens : Chan → GridOf) (windows : AllSeenWindows) → frame ≡ former + 1 → IsReadyAt former self.old
+        ensures counter { (bytes : List ℕ) (earlier : List Frame) (last : Frame)
+            → HasReceived bytes self.old.receiver
+            → AreFramesOf caption_channel (earlier ++ last ∷ []) bytes
+            → IsLastCounter (earlier ++ last ∷ []) self.new.counter }
+        ensures knows { (former : ℕ) (screens : Chan → GridOf) (windows : AllSeenWindows)
+            → frame ≡ former + 1 → IsReadyAt former self.old
             → KnowsAt former screens windows self.old → KnowsAt frame screens windows self.new }
     {
         let cues = self.list.cues();
@@ -227,7 +243,8 @@ impl Verifier {
     /// How the words are judged, if they end here: the finding, where there is one; else the refusal of words that are malformed
     /// or may not end here, as the receiver's; else that there are too few frames; else Ok.
     pub fn verdict(&self) -> Result<Verdict, Refusal>
-        ensures { (bytes : List ℕ) → HasVerified bytes self.now → JudgesFile (list_of self.now) bytes result }
+        ensures { (bytes : List ℕ) → HasVerified bytes self.now
+            → JudgesFile (list_of self.now) bytes result }
     {
         if let Some(finding) = self.finding {
             return Ok(Verdict::Differs(finding));
@@ -238,7 +255,8 @@ impl Verifier {
 
     /// How the frames of a words file at which nothing is found are judged by their number.
     fn count(&self) -> Verdict
-        ensures { (bytes : List ℕ) (frames : List Frame) → HasVerified bytes self.now → finding_of self.now ≡ None → IsFileUnder caption_channel frames bytes
+        ensures { (bytes : List ℕ) (frames : List Frame) → HasVerified bytes self.now
+            → finding_of self.now ≡ None → IsFileUnder caption_channel frames bytes
             → JudgedAs (list_of self.now) bytes result }
     {
         let frames = self.receiver.frames();

@@ -1,11 +1,11 @@
--- At no frame of the words that are built of a list is anything found.
+-- At no frame of words that show a list is anything found.
 use Rattle.std.proofs.Common.{◌≡◌, ◌≢◌, ◌∙◌, ℕ, zero, suc, ◌+◌, ◌%◌, ◌<◌, Bool, true, false, Option, List, [], ◌∷◌, ◌++◌, All, length, take, ap, sym, subst, refl, arith, append_assoc, length-append}
 use Rattle.std.proofs.lemmas.List.Elements.{All-head, All-tail}
 use Rattle.cc_base.specs.Rate.{triplets_in_frame}
 use Rattle.cc_base.specs.declared.rate.Rate.{Rate}
 use Rattle.cc_receiver.specs.ReceivedServices.{fills_in, received_windows}
 use Rattle.cc_verifier.specs.Findings.{AreClean, IsClean, Jumps, Miscounts}
-use Rattle.cdp_packets.specs.Packets.{Packet as Frame}
+use Rattle.cdp_packets.specs.Packets.{Frame}
 use Rattle.cdp_packets.specs.PacketTriplets.{packet_triplets}
 use Rattle.cue_lists.proofs.ChannelCues.{same_channel_is}
 use Rattle.cue_types.specs.Channels.{cues_on, is_on}
@@ -23,7 +23,6 @@ use Rattle.findings.specs.declared.finding.Which.TheVariants as which
 use Rattle.frame_carrier.specs.Carried.{AreCarried}
 use Rattle.frame_carrier.specs.Carrying.{channel_packet_of, column_packets, frame_packet}
 use Rattle.frame_scheduler.specs.Columns.{Columns}
-use Rattle.frame_scheduler.specs.Planned.{Placement, columns_of}
 use Rattle.line21_codes.specs.declared.channels.FieldNumber.TheVariants.{One, Two}
 use Rattle.line21_codes.specs.declared.channels.Chan.{Chan}
 use Rattle.line21_codes.specs.declared.channels.Chan.TheVariants.{Cc1, Cc2, Cc3, Cc4}
@@ -80,15 +79,12 @@ nothing_authored channel other cues frame formed = rw (none_on channel other cue
 counts_on : (n : ℕ) → (n + 1) % 65536 ≡ (n % 65536 + 1) % 65536
 counts_on n = omega arith
 
-module _ (list : Listing) (placed : Placement) (formed : IsFormed list) (carried : AreCarried list.rate (columns_of list placed) list.frames)
-    (fills : BuffersNeverFill (column_packets list.rate (columns_of list placed) 0 list.frames))
+module _ (list : Listing) (columns : Columns) (formed : IsFormed list) (carried : AreCarried list.rate columns list.frames)
+    (fills : BuffersNeverFill (column_packets list.rate columns 0 list.frames))
     (shown : (frame : ℕ) → frame < list.frames
-    → ShowsList list (λ in_field. received_at in_field (column_packets list.rate (columns_of list placed) 0 list.frames) frame) frame)
-    (windows : (frame : ℕ) → frame < list.frames → ShowAuthoredWindows list.cues (column_packets list.rate (columns_of list placed) 0 list.frames) frame)
-    (earlier : List Frame) (last : Frame) (later : List Frame) (split : column_packets list.rate (columns_of list placed) 0 list.frames ≡ earlier ++ last ∷ later) where
-  abbrev columns : Columns
-  columns = columns_of list placed
-
+    → ShowsList list (λ in_field. received_at in_field (column_packets list.rate columns 0 list.frames) frame) frame)
+    (windows : (frame : ℕ) → frame < list.frames → ShowAuthoredWindows list.cues (column_packets list.rate columns 0 list.frames) frame)
+    (earlier : List Frame) (last : Frame) (later : List Frame) (split : column_packets list.rate columns 0 list.frames ≡ earlier ++ last ∷ later) where
   abbrev packets : List Frame
   packets = column_packets list.rate columns 0 list.frames
 
@@ -165,12 +161,12 @@ module _ (list : Listing) (placed : Placement) (formed : IsFormed list) (carried
   clean_at (kind.GridDiffers (which.Chan channel)) found = no_other_grid channel found
   clean_at (kind.GridDiffers (which.Service service)) found = no_other_window service found.0 found.1
   clean_at (kind.TwoPairs seen) found = found
+  clean_at kind.EightBits found = found
 
-pub nothing_found : (list : Listing) (placed : Placement) → IsFormed list → AreCarried list.rate (columns_of list placed) list.frames
-    → BuffersNeverFill (column_packets list.rate (columns_of list placed) 0 list.frames)
-    → ((frame : ℕ) → frame < list.frames
-    → ShowsList list (λ in_field. received_at in_field (column_packets list.rate (columns_of list placed) 0 list.frames) frame) frame)
-    → ((frame : ℕ) → frame < list.frames → ShowAuthoredWindows list.cues (column_packets list.rate (columns_of list placed) 0 list.frames) frame)
-    → AreClean list (column_packets list.rate (columns_of list placed) 0 list.frames)
-nothing_found list placed formed carried fills shown windows =
-    λ earlier last later split. clean_at list placed formed carried fills shown windows earlier last later split
+pub nothing_found : (list : Listing) (columns : Columns) → IsFormed list → AreCarried list.rate columns list.frames
+    → BuffersNeverFill (column_packets list.rate columns 0 list.frames)
+    → ((frame : ℕ) → frame < list.frames → ShowsList list (λ in_field. received_at in_field (column_packets list.rate columns 0 list.frames) frame) frame)
+    → ((frame : ℕ) → frame < list.frames → ShowAuthoredWindows list.cues (column_packets list.rate columns 0 list.frames) frame)
+    → AreClean list (column_packets list.rate columns 0 list.frames)
+nothing_found list columns formed carried fills shown windows =
+    λ earlier last later split. clean_at list columns formed carried fills shown windows earlier last later split

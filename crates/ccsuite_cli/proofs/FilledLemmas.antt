@@ -3,10 +3,10 @@ use Rattle.std.proofs.Common.{◌≡◌, ◌∙◌, ℕ, ◌≤◌, ◌==◌, fa
 use Rattle.std.proofs.lemmas.Bool.Decides.{nat_tests}
 use Rattle.cc_data.specs.declared.triplet.Triplet.{Triplet}
 use Rattle.cc_receiver.specs.ReceivedServices.{fills_in}
-use Rattle.cdp_packets.specs.Packets.{Packet as Frame}
+use Rattle.cdp_packets.specs.Packets.{Frame}
 use Rattle.cdp_packets.specs.PacketTriplets.{packet_triplets}
 use Rattle.dtvcc_screen.specs.Cores.{fill}
-use Rattle.dtvcc_screen.specs.Meaning.{Byte, Event, Reset, Served, Tick, after, on_event, start}
+use Rattle.dtvcc_screen.specs.Meaning.{Byte, Event, Reset, Served, Tick, on_event, served_after, start}
 use Rattle.dtvcc_services.specs.Filling.{is_filled}
 use Rattle.dtvcc_shown.specs.Filling.{AllFill}
 use Rattle.dtvcc_screen.proofs.MeaningLemmas.{after_append}
@@ -21,7 +21,7 @@ first_fill s (Byte byte ∷ events) more all = (all.0, first_fill (on_event (Byt
 first_fill s (Reset ∷ events) more all = first_fill (on_event Reset s) events more all
 
 -- and those that follow them
-rest_fill : (s : Served) (events more : List Event) → AllFill 127 s (events ++ more) → AllFill 127 (after s events) more
+rest_fill : (s : Served) (events more : List Event) → AllFill 127 s (events ++ more) → AllFill 127 (served_after s events) more
 rest_fill s [] more all = all
 rest_fill s (Tick rate ∷ events) more all = rest_fill (on_event (Tick rate) s) events more all
 rest_fill s (Byte byte ∷ events) more all = rest_fill (on_event (Byte byte) s) events more all.1
@@ -40,7 +40,7 @@ unfilled s (Reset ∷ events) all = unfilled (on_event Reset s) events all
 -- so it is at a frame behind others
 frame_unfilled : (service : ℕ) (before : List Triplet) (s : Served) (earlier : List Frame) (last : Frame) (later : List Frame)
     → AllFill 127 s (events_behind service before (earlier ++ last ∷ later))
-    → is_filled (after s (events_behind service before earlier)) (frame_events service (before ++ file_triplets earlier) last) ≡ false
+    → is_filled (served_after s (events_behind service before earlier)) (frame_events service (before ++ file_triplets earlier) last) ≡ false
 frame_unfilled service before s [] last later all =
     subst (λ (ts : List Triplet). is_filled s (frame_events service ts last) ≡ false) (sym (append-nil before))
     (unfilled s (frame_events service before last)
@@ -48,9 +48,9 @@ frame_unfilled service before s [] last later all =
 frame_unfilled service before s (frame ∷ earlier) last later all =
     let here = frame_events service before frame in
     let next = before ++ packet_triplets frame in
-    let rest = frame_unfilled service next (after s here) earlier last later (rest_fill s here (events_behind service next (earlier ++ last ∷ later)) all) in
+    let rest = frame_unfilled service next (served_after s here) earlier last later (rest_fill s here (events_behind service next (earlier ++ last ∷ later)) all) in
     ap (λ (t : Served). is_filled t (frame_events service (before ++ file_triplets (frame ∷ earlier)) last)) (after_append s here (events_behind service next earlier))
-    ∙ ap (λ (ts : List Triplet). is_filled (after (after s here) (events_behind service next earlier)) (frame_events service ts last))
+    ∙ ap (λ (ts : List Triplet). is_filled (served_after (served_after s here) (events_behind service next earlier)) (frame_events service ts last))
     (sym (append_assoc before (packet_triplets frame) (file_triplets earlier)))
     ∙ rest
 

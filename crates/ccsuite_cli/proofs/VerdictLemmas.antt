@@ -1,6 +1,7 @@
 -- The verdict of a run, command by command.
 use Rattle.std.proofs.Common.{◌≡◌, Some, None, ap}
 use Rattle.command_base.proofs.CountLemmas.{same_told}
+use Rattle.convert_commands.proofs.ConvertVerdictLemmas.{told_convert}
 use Rattle.cue_list_commands.proofs.ListAnswerLemmas.{accepted_build, accepted_cues, accepted_pairs, refused_build, refused_cues, refused_pairs, told_build, told_cues, told_pairs}
 use Rattle.scc_commands.proofs.SccVerdictLemmas.{told_export, told_import}
 use Rattle.command_base.specs.declared.status.Status.{Status}
@@ -15,8 +16,12 @@ use Rattle.words_commands.proofs.WordsVerdictLemmas.{changes_long, changes_refus
 use Rattle.words_commands.specs.ConcealedScreens.{concealed_changes}
 use Rattle.words_commands.specs.PacketLines.{packet_lines}
 use Rattle.words_commands.specs.Screens.{changes_of}
+use Rattle.mcc_export.proofs.VerdictLemmas.{mcc_told}
+use Rattle.mcc_export.specs.ExportMcc.{start_at}
+use Rattle.mcc_import.proofs.VerdictLemmas.{import_mcc_told}
 use Rattle.ccsuite_cli.specs.Verdict.{AcceptedIsAnswered, FaultsAreTold, FileIsDecoded, LongWordsAreRefused, MalformedIsRefused, RefusedListIsAnswered}
-use Rattle.ccsuite_cli.specs.declared.command.Command.TheVariants.{Build, Conceal, Cues, Decode, Dual, Export, Import, Insert, Load, Pairs, Show, Verify, XdsShow}
+use Rattle.ccsuite_cli.specs.declared.command.Command.TheVariants.{Build, Conceal, Convert, Cues, Decode, Dual, Export, ExportMcc, Import, ImportMcc, Insert, Load, Pairs, Show, Verify, Xds, XdsShow}
+use Rattle.xds_commands.proofs.VerdictLemmas.{faults_told as xds_told}
 
 -- an accepted list
 pub accepted_answered : AcceptedIsAnswered
@@ -71,8 +76,12 @@ faults_told (Some (Show frame)) side later old new answer is = (side_same side l
 faults_told (Some Verify) side later old new answer is = verify_told side later old new answer is
 faults_told (Some Insert) side later old new answer is = insert_told side later old new answer is
 faults_told (Some Dual) side later old new answer is = dual_told side later old new answer is
+faults_told (Some Xds) side later old new answer is = xds_told side later old new answer is
 faults_told (Some Import) side later old new answer is = (side_same side later answer is.0, told_import old new answer is.1)
 faults_told (Some (Export time)) side later old new answer is = (side_same side later answer is.0, told_export time old new answer is.1)
 faults_told (Some (Load count)) side later old new answer is = (side_same side later answer is.0, load_told count old new answer is.1)
 faults_told (Some XdsShow) side later old new answer is = (side_same side later answer is.0, changes_told packet_lines old new answer is.1)
 faults_told (Some Conceal) side later old new answer is = (side_same side later answer is.0, changes_told concealed_changes old new answer is.1)
+faults_told (Some Convert) side later old new answer is = (side_same side later answer is.0, told_convert old new answer is.1)
+faults_told (Some ImportMcc) side later old new answer is = (side_same side later answer is.0, import_mcc_told old new answer is.1)
+faults_told (Some (ExportMcc count time)) side later old new answer is = (side_same side later answer is.0, mcc_told (start_at count time) old new answer is.1)

@@ -1,30 +1,67 @@
--- What is built of an accepted list is verified against it.
-use Rattle.std.proofs.Common.{◌≤◌, ◌*◌, length, arith}
-use Rattle.cue_lists.specs.Listing.{IsFormed}
+-- What is built of an accepted list, with packets or without, is verified against it.
+use Rattle.std.proofs.Common.{◌≤◌, ◌*◌, ◌<◌, ℕ, length, arith}
+use Rattle.cue_lists.specs.Listing.{IsFormed, Listing}
 use Rattle.cue_lists.specs.declared.lane.Lane.TheVariants.{Service}
+use Rattle.frame_carrier.specs.Carried.{AreRoomy}
+use Rattle.frame_carrier.specs.Carrying.{column_bytes, column_packets}
+use Rattle.frame_scheduler.specs.Columns.{Columns}
 use Rattle.frame_scheduler.specs.Planned.{columns_of}
+use Rattle.line21_codes.specs.declared.channels.Chan.TheVariants.{Cc1, Cc2, Cc3, Cc4}
+use Rattle.line21_codes.specs.declared.channels.FieldNumber.TheVariants.{One, Two}
+use Rattle.line21_shown.specs.Shown.{ShowsList}
 use Rattle.services_carried.proofs.RoomLemmas.{frames_roomy}
 use Rattle.services_shown.proofs.ToldLemmas.{packets_count}
-use Rattle.cue_list_commands.specs.Output.{PlacedList, build_output, built_packets}
-use Rattle.cue_list_commands.proofs.Outputs.{fields_shown, sound_words}
-use Rattle.ccsuite_cli.specs.Verified.{BuiltWordsAreVerified}
+use Rattle.sound_frames.specs.Showing.{ShowsFrames}
+use Rattle.sound_frames.specs.Sound.{IsSoundFrames}
+use Rattle.verify_commands.specs.VerifyVerdict.{AreVerified}
+use Rattle.words_files.specs.Received.{received_at}
+use Rattle.cue_list_commands.specs.Output.{PlacedList, list_grids, list_told, list_windows}
+use Rattle.cue_list_commands.proofs.Outputs.{sound_words}
+use Rattle.xds_beside_captions.proofs.XdsLemmas.{packets_leave_sound}
+use Rattle.xds_beside_captions.specs.XdsFrames.{AreSendable, IsSoundBeside, xds_columns}
+use Rattle.xds_commands.proofs.MadeLemmas.{listed_packets}
+use Rattle.xds_commands.proofs.SoundLemmas.{sound_placed}
+use Rattle.xds_commands.specs.XdsWords.{IsSoundXds}
+use Rattle.ccsuite_cli.specs.Verified.{BuiltWordsAreVerified, XdsWordsAreVerified}
 use Rattle.ccsuite_cli.proofs.CleanLemmas.{nothing_found}
-use Rattle.ccsuite_cli.proofs.SeenLemmas.{built_file}
 use Rattle.ccsuite_cli.proofs.SizeLemmas.{columns_size}
+
+-- sound frames that show a list
+frames_verified : (list : Listing) (columns : Columns) → IsFormed list → AreRoomy list.rate columns → IsSoundFrames list.rate list.frames columns
+    → ShowsFrames (list_told list) (list_grids list) (list_windows list) list.frames (column_packets list.rate columns 0 list.frames)
+    → AreVerified list (column_bytes list.rate columns 0 list.frames)
+frames_verified list columns formed roomy sound shows =
+    let most : list.frames ≤ 1000000 = formed.frames in
+    let size : length (column_bytes list.rate columns 0 list.frames) ≤ 190 * list.frames = columns_size list.rate columns 0 list.frames roomy in
+    let count = packets_count list.rate columns 0 list.frames in
+    record {
+      frames = column_packets list.rate columns 0 list.frames;
+      file = record { file = sound.carried.file; accepted = sound.whole };
+      within = omega (arith, most, size);
+      enough = omega (arith, count);
+      clean = nothing_found list columns formed sound.carried sound.fills shown shows.has_windows;
+    }
+  where
+    shown : (frame : ℕ) → frame < list.frames → ShowsList list (λ in_field. received_at in_field (column_packets list.rate columns 0 list.frames) frame) frame
+    shown frame below One = record { first = shows.has_grids frame below Cc1; second = shows.has_grids frame below Cc2 tt }
+    shown frame below Two = record { first = shows.has_grids frame below Cc3; second = shows.has_grids frame below Cc4 tt }
 
 pub built_verified : BuiltWordsAreVerified
 built_verified bytes list placed accepted =
     let formed : IsFormed list = accepted.good.spelled.formed in
     let made : PlacedList = record { list = list; placed = placed } in
     let sound = sound_words bytes made accepted in
-    let most : list.frames ≤ 1000000 = formed.frames in
-    let size : length (build_output list placed) ≤ 190 * list.frames =
-    columns_size list.rate (columns_of list placed) 0 list.frames (frames_roomy list placed formed accepted.good.ruled (λ service. accepted.placement (Service service))) in
-    let count = packets_count list.rate (columns_of list placed) 0 list.frames in
-    record {
-      frames = built_packets list placed;
-      file = built_file list placed sound;
-      within = omega (arith, most, size);
-      enough = omega (arith, count);
-      clean = nothing_found list placed formed sound.frames.carried sound.frames.fills (fields_shown made sound) sound.shows.has_windows;
-    }
+    frames_verified list (columns_of list placed) formed (frames_roomy list placed formed accepted.good.ruled (λ service. accepted.placement (Service service))) sound.frames sound.shows
+
+pub xds_verified : XdsWordsAreVerified
+xds_verified text bytes made good accepted =
+    let formed : IsFormed made.list = accepted.accepted.good.spelled.formed in
+    let are : AreSendable made.list made.placed made.listed = record {
+      formed = formed;
+      ruled = accepted.accepted.good.ruled;
+      placed_is = accepted.accepted.placement;
+      packets = listed_packets made.listed good.spelled.in_range;
+    } in
+    let sound : IsSoundXds made = sound_placed made.list made.placed made.listed are accepted.room in
+    let beside : IsSoundBeside made.list made.placed made.listed = packets_leave_sound made.list made.placed made.listed are in
+    frames_verified made.list (xds_columns made.list made.placed made.listed) formed beside.alike.fit.roomy sound.frames sound.shows

@@ -1,13 +1,17 @@
+-- Between crates: the program's answer stands on none of these definitions.
 -- The command lines of the program: the words of each command, the line of usage, and the side file that a command reads.
-use Rattle.std.specs.Prelude.{◌≡◌, ◌≤◌, ◌++◌, ℕ, List, [], ◌∷◌, map, Option, option_map, Some, None, codes, if◌then◌else◌, Bool, true, false, ⊤}
+use Rattle.std.specs.Prelude.{◌≡◌, ◌≤◌, ◌++◌, ◌&&◌, not, ℕ, List, [], ◌∷◌, map, Option, option_map, Some, None, codes, if◌then◌else◌, Bool, true, false, ⊤}
 use Rattle.std.specs.Option.{option_and_then}
 use Rattle.cue_lists.specs.Fields.{named, number_within}
 use Rattle.load_lists.specs.LoadList.{most_load}
+use Rattle.time_codes.specs.Countings.{has_drop_frame, is_time_code_in}
 use Rattle.time_codes.specs.Texts.{time_of_text}
 use Rattle.time_codes.specs.TimeCodes.{is_time_code}
+use Rattle.time_codes.specs.declared.counting.Counting.{Counting}
+use Rattle.time_codes.specs.declared.counting.Counting.TheVariants as counting
 use Rattle.time_codes.specs.declared.time_code.TimeCode.{TimeCode}
 use Rattle.ccsuite_cli.specs.declared.command.Command.{Command}
-use Rattle.ccsuite_cli.specs.declared.command.Command.TheVariants.{Build, Conceal, Cues, Decode, Dual, Export, Import, Insert, Load, Pairs, Show, Verify, XdsShow}
+use Rattle.ccsuite_cli.specs.declared.command.Command.TheVariants.{Build, Conceal, Convert, Cues, Decode, Dual, Export, ExportMcc, Import, ImportMcc, Insert, Load, Pairs, Show, Verify, Xds, XdsShow}
 
 -- the last frame that `show` can name
 abbrev pub last_frame : ℕ
@@ -17,17 +21,46 @@ last_frame = 4294967294
 abbrev pub start_of : List ℕ → Option TimeCode
 start_of text = option_and_then (λ t. if is_time_code t then Some t else None) (time_of_text text)
 
+-- how time codes of a rate count, each by its text
+abbrev pub countings : List (List ℕ × Counting)
+countings =
+    (codes "24", counting.F24)
+    ∷ (codes "25", counting.F25)
+    ∷ (codes "30", counting.F30)
+    ∷ (codes "30DF", counting.F30Drop)
+    ∷ (codes "50", counting.F50)
+    ∷ (codes "60", counting.F60)
+    ∷ (codes "60DF", counting.F60Drop)
+    ∷ []
+
+abbrev pub counting_of : List ℕ → Option Counting
+counting_of text = named countings text
+
+-- a time code has the mark of drop frame exactly where the count has drop frame
+abbrev pub is_marked : Counting → TimeCode → Bool
+is_marked count t = if has_drop_frame count then t.drop_frame else not t.drop_frame
+
+-- the time code of a text, if it spells one so marked, and a frame of the day has it
+abbrev pub start_in : Counting → List ℕ → Option TimeCode
+start_in count text = option_and_then (λ t. if is_time_code_in count t && is_marked count t then Some t else None) (time_of_text text)
+
+-- the command of a rate and a time code
+abbrev pub mcc_of : List ℕ → List ℕ → Option Command
+mcc_of rate time = option_and_then (λ count. option_map (λ start. ExportMcc count start) (start_in count time)) (counting_of rate)
+
 -- a command whose time code, if it has one, is of the day, and whose number of captions, if it has one, is that of a load
 abbrev pub IsRunnable : Option Command → Type 0
 IsRunnable (Some (Export time)) = is_time_code time ≡ true
+IsRunnable (Some (ExportMcc count time)) = is_time_code_in count time ≡ true
 IsRunnable (Some (Load count)) = (1 ≤ count) × (count ≤ most_load)
 IsRunnable _ = ⊤
 
--- what stands behind the word of a command: nothing, or one argument, by its name in the line of usage, which makes it a command, if
--- it makes it one
+-- what stands behind the word of a command: nothing, or one or two arguments, by their names in the line of usage, which make it a
+-- command, if they make it one
 pub data Behind : Type 0 where
   Nothing : Command → Behind
   Argument : List ℕ → (List ℕ → Option Command) → Behind
+  Arguments : List ℕ → List ℕ → (List ℕ → List ℕ → Option Command) → Behind
 
 -- the commands, each by its word and what stands behind it, as the line of usage has them
 abbrev pub commands : List (List ℕ × Behind)
@@ -43,24 +76,34 @@ commands =
     ∷ (codes "cues", Nothing Cues)
     ∷ (codes "load", Argument (codes "N") (λ count. option_map Load (number_within 1 most_load count)))
     ∷ (codes "dual", Argument (codes "CUES") (λ path. Some Dual))
+    ∷ (codes "xds", Argument (codes "PACKETS") (λ path. Some Xds))
     ∷ (codes "xds-show", Nothing XdsShow)
     ∷ (codes "conceal", Nothing Conceal)
+    ∷ (codes "convert", Nothing Convert)
+    ∷ (codes "import-mcc", Nothing ImportMcc)
+    ∷ (codes "export-mcc", Arguments (codes "RATE") (codes "TIME") (λ rate time. mcc_of rate time))
     ∷ []
 
 -- the command of a word behind which nothing stands
 abbrev pub alone : Behind → Option Command
 alone (Nothing command) = Some command
-alone (Argument name command) = None
+alone _ = None
 
 -- the command of a word and this argument
 abbrev pub with_argument : List ℕ → Behind → Option Command
-with_argument argument (Nothing command) = None
 with_argument argument (Argument name command) = command argument
+with_argument argument _ = None
+
+-- and these two
+abbrev pub with_arguments : List ℕ → List ℕ → Behind → Option Command
+with_arguments one other (Arguments name another command) = command one other
+with_arguments one other _ = None
 
 -- the command that these words are, if they are one
 abbrev pub command_of : List (List ℕ) → Option Command
 command_of (word ∷ []) = option_and_then alone (named commands word)
 command_of (word ∷ argument ∷ []) = option_and_then (with_argument argument) (named commands word)
+command_of (word ∷ one ∷ other ∷ []) = option_and_then (with_arguments one other) (named commands word)
 command_of _ = None
 
 -- the command reads a side file
@@ -68,6 +111,7 @@ abbrev pub has_side_file : Option Command → Bool
 has_side_file (Some Verify) = true
 has_side_file (Some Insert) = true
 has_side_file (Some Dual) = true
+has_side_file (Some Xds) = true
 has_side_file _ = false
 
 -- the path of the side file of these words: the argument of a command that reads one
@@ -79,6 +123,7 @@ side_path _ = None
 abbrev pub usage_of : List ℕ × Behind → List ℕ
 usage_of (word, Nothing command) = word
 usage_of (word, Argument name command) = word ++ codes " " ++ name
+usage_of (word, Arguments name another command) = word ++ codes " " ++ name ++ codes " " ++ another
 
 -- texts, with a bar between each two
 abbrev pub with_bars : List (List ℕ) → List ℕ

@@ -1,5 +1,6 @@
 pub mod Answer
 pub mod Command
+pub mod Converted
 pub mod Seen
 pub mod StatusLine
 pub mod Verdict

@@ -1,12 +1,13 @@
--- From the words that `build` puts of a cue list, or `insert` with its captions, to the screens and the services of a receiver that is
--- fed them: what is authored is what is seen, on line 21 and in the services.
+-- Between crates: the program's answer stands on none of these definitions.
+-- From the words that `build` puts of a cue list, `insert` with its captions, or `dual` of two lists, to the screens and the services of
+-- a receiver that is fed them: what is authored is what is seen, on line 21 and in the services.
 use Rattle.std.specs.Prelude.{◌≡◌, ◌++◌, ◌+◌, ◌<◌, ◌≤◌, ℕ, false, length, List, ◌∷◌}
 use Rattle.authored_grids.specs.AuthoredServiceGrid.{authored_windows}
 use Rattle.cc_receiver.specs.ReceivedServices.{fills_in}
 use Rattle.cc_receiver.specs.Receivers.{HasReceived, displayed_grid, frame_count}
 use Rattle.cc_receiver.specs.SeenServices.{seen_windows}
 use Rattle.cc_receiver.specs.declared.receiver.Receiver.{Receiver}
-use Rattle.cdp_packets.specs.Packets.{Packet as Frame}
+use Rattle.cdp_packets.specs.Packets.{Frame}
 use Rattle.cue_lists.specs.AuthoredGrid.{IsSettled, authored_grid, blank}
 use Rattle.cue_lists.specs.Listing.{Listing}
 use Rattle.dtvcc_services.specs.Numbers.{IsService}
@@ -16,6 +17,9 @@ use Rattle.words_files.specs.FramesOf.{AreFramesOf}
 use Rattle.services_files.specs.CaptionChannel.{caption_channel}
 use Rattle.cue_list_commands.specs.Accepted.{IsAccepted}
 use Rattle.cue_list_commands.specs.Output.{build_output, list_framing}
+use Rattle.dual_commands.specs.DualLists.{IsPlacedBeside, PlacedLists}
+use Rattle.dual_commands.specs.DualWords.{dual_framing}
+use Rattle.programmes.specs.Framing.{words_of}
 use Rattle.inserted_words.specs.Captions.{captions_of}
 use Rattle.inserted_words.specs.InsertedFile.{AreInserted}
 use Rattle.inserted_words.specs.Soundness.{HaveRate}
@@ -46,3 +50,21 @@ abbrev pub InsertedWordsAreSeen : Type 0
 InsertedWordsAreSeen = (bytes : List ℕ) (list : Listing) (placed : Placement) (frames : List Frame) (file text words rest : List ℕ) (receiver : Receiver) (frame : ℕ)
     → IsAccepted bytes list placed → AreInserted (captions_of (list_framing list placed)) frames file text → HaveRate list.rate frames → list.frames ≤ length frames
     → text ≡ words ++ rest → HasReceived words receiver → frame_count receiver ≡ frame + 1 → IsSeenAsAuthored list frame words receiver
+
+-- so two lists: the authored grids of the first on CC1 and CC3, and of the second on CC2 and CC4, each where the frame is settled for the
+-- channel by its own list, and the first list's windows
+pub record AreSeenAsAuthored (one two : Listing) (frame : ℕ) (words : List ℕ) (receiver : Receiver) : Type 0 where
+  pub cc1 : IsSettled Cc1 one.cues frame → displayed_grid receiver Cc1 ≡ authored_grid Cc1 one.cues frame
+  pub cc2 : IsSettled Cc1 two.cues frame → displayed_grid receiver Cc2 ≡ authored_grid Cc1 two.cues frame
+  pub cc3 : IsSettled Cc3 one.cues frame → displayed_grid receiver Cc3 ≡ authored_grid Cc3 one.cues frame
+  pub cc4 : IsSettled Cc3 two.cues frame → displayed_grid receiver Cc4 ≡ authored_grid Cc3 two.cues frame
+  pub windows : (service id : ℕ) → IsService service → id < 8
+      → seen_windows receiver service id ≡ authored_windows service one.cues frame id
+  pub unfilled : (service : ℕ) (earlier : List Frame) (last : Frame) (later : List Frame) → IsService service
+      → AreFramesOf caption_channel (earlier ++ last ∷ later) words → fills_in earlier last service ≡ false
+
+-- a receiver that was fed a front of what `dual` puts of two lists that are accepted together, in whatever pieces, shows both
+abbrev pub DualWordsAreSeen : Type 0
+DualWordsAreSeen = (second : Listing) (bytes : List ℕ) (lists : PlacedLists) (words rest : List ℕ) (receiver : Receiver) (frame : ℕ)
+    → IsPlacedBeside second bytes lists → words_of (dual_framing lists) ≡ words ++ rest → HasReceived words receiver → frame_count receiver ≡ frame + 1
+    → AreSeenAsAuthored lists.one lists.two frame words receiver

@@ -1,3 +1,4 @@
+-- Between crates: the program's answer stands on none of these definitions.
 -- The one line of each status in the error output.
 use Rattle.std.specs.Prelude.{◌≡◌, ◌⊎◌, ◌++◌, ℕ, List, [], ◌∷◌, Option, Some, None, codes, decimal}
 use Rattle.std.specs.Io.KnownBytes.{Appends}
@@ -43,6 +44,10 @@ seen_line frame why expected seen =
     text (codes "differs at frame " ∷ decimal frame ∷ codes ": " ∷ name_of why ∷ codes " expected " ∷ decimal expected
     ∷ codes " seen " ∷ decimal seen ∷ codes "\n" ∷ [])
 
+-- the line of a finding of which there is nothing more to say
+abbrev pub plain_line : ℕ → Why → List ℕ
+plain_line frame why = text (codes "differs at frame " ∷ decimal frame ∷ codes ": " ∷ name_of why ∷ codes "\n" ∷ [])
+
 -- the line of a finding of a service
 abbrev pub service_line : ℕ → Why → ℕ → List ℕ
 service_line frame why service =
@@ -73,6 +78,7 @@ line_of_kind frame (kind.WrongRate expected seen) = seen_line frame why.WrongRat
 line_of_kind frame (kind.BufferFull service) = service_line frame why.BufferFull service
 line_of_kind frame (kind.GridDiffers which) = grid_line frame which
 line_of_kind frame (kind.TwoPairs seen) = seen_line frame why.TwoPairs 1 seen
+line_of_kind frame kind.EightBits = plain_line frame why.EightBits
 
 abbrev pub finding_line : Finding → List ℕ
 finding_line finding = line_of_kind finding.frame finding.kind

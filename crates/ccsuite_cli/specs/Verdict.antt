@@ -1,9 +1,10 @@
+-- Between crates: the program's answer stands on none of these definitions.
 -- The verdict of a run where no count of faults rose: what is good is answered Ok, and what isn't with its one refusal, or want of
 -- memory. And where a count rose, the answer says so.
 use Rattle.std.specs.Prelude.{◌≡◌, ◌<◌, ◌≤◌, ◌⊎◌, ℕ, List, length, Option, Some}
 use Rattle.cc_base.specs.Streams.{Rose}
 use Rattle.cc_base.specs.declared.refusal.Refusal.{Refusal}
-use Rattle.cdp_packets.specs.Packets.{Packet as Frame}
+use Rattle.cdp_packets.specs.Packets.{Frame}
 use Rattle.cue_lists.specs.Listing.{Listing}
 use Rattle.frame_scheduler.specs.Planned.{Placement}
 use Rattle.words_files.specs.Offences.{IsFileUnder, IsMalformed}
@@ -17,7 +18,7 @@ use Rattle.cue_list_commands.specs.Accepted.{IsAccepted, IsGoodList, IsRefused, 
 use Rattle.words_reading.specs.Answers.{IsPastLimit}
 use Rattle.words_reading.specs.Causes.{words_limit}
 use Rattle.words_commands.specs.WordsVerdict.{IsShown}
-use Rattle.scc_commands.specs.Import.{IsImport, IsRefusedImport, Placed}
+use Rattle.scc_commands.specs.Import.{IsImport, IsRefusedImport, PlacedPairs}
 use Rattle.cue_list_commands.specs.SideEnds.{SideEnds}
 use Rattle.cue_list_commands.specs.SideLists.{TellsAllFaults}
 use Rattle.ccsuite_cli.specs.Answer.{Answer}
@@ -97,7 +98,7 @@ LongWordsAreRefused = (bytes : List ℕ) (command : Command) (side later : SideE
 
 -- `import` answers an SCC file within the limits Ok, or want of memory
 abbrev pub SccFileIsImported : Type 0
-SccFileIsImported = (bytes : List ℕ) (pairs : Placed) (side later : SideEnds) (old new : Ends) (answer : Status)
+SccFileIsImported = (bytes : List ℕ) (pairs : PlacedPairs) (side later : SideEnds) (old new : Ends) (answer : Status)
     → IsImport bytes pairs → IsReadOf bytes old new → Answer (Some Import) side later old new answer → (answer ≡ status.Ok) ⊎ (answer ≡ status.Memory)
 
 -- and any other input with its one refusal, or want of memory

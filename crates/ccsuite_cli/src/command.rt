@@ -1,13 +1,14 @@
 ghost use Rattle.std.specs.Option.{option_copied};
 ghost use Rattle.std.specs.Prelude.{◌≡◌, ◌≤◌, [], ◌∷◌, IfSome, map, string_bytes, true};
-ghost use Rattle.ccsuite_cli.specs.Command.{IsRunnable, command_of, has_side_file, last_frame, side_path, start_of};
+ghost use Rattle.ccsuite_cli.specs.Command.{IsRunnable, command_of, counting_of, has_side_file, is_marked, last_frame, side_path, start_in, start_of};
 ghost use Rattle.cue_lists.specs.Fields.{number_within};
 ghost use Rattle.load_lists.specs.LoadList.{most_load};
+ghost use Rattle.time_codes.specs.Countings.{is_time_code_in};
 ghost use Rattle.time_codes.specs.TimeCodes.{is_time_code};
 
 use cue_lists::read_within;
 use load_lists::MOST_LOAD;
-use time_codes::{TimeCode, frame_of, read_time};
+use time_codes::{Counting, TimeCode, frame_of, read_time};
 
 /// What the words of a command line ask for.
 #[derive(Clone, Copy, Debug, PartialEq, Eq)]
@@ -34,15 +35,24 @@ pub enum Command {
     Load(u32),
     /// `dual CUES`: the ancillary words of each frame of a cue list, with the one of the side file beside it on CC2 and CC4.
     Dual,
+    /// `xds PACKETS`: the ancillary words of each frame of a cue list, with the packets of the side file in the slots of field 2 that its
+    /// captions leave free.
+    Xds,
     /// `xds-show`: the packets of extended data that end in each frame of a words file.
     XdsShow,
     /// `conceal`: the changed screens of each frame of a words file from which frames may be missing.
     Conceal,
+    /// `convert`: a words file at 29.97 frames a second as one at 59.94.
+    Convert,
+    /// `import-mcc`: the words of the packets of an MCC file, with frames without captions where some are missing.
+    ImportMcc,
+    /// `export-mcc RATE TIME`: the MCC file of all packets of a words file, whose time codes count so and whose frame 0 has this one.
+    ExportMcc(Counting, TimeCode),
 }
 
 /// The line for words that are no command.
 pub(crate) const USAGE: &[u8] =
-    b"usage: ccsuite pairs|build|decode|show FRAME|verify CUES|insert CUES|import|export TIME|cues|load N|dual CUES|xds-show|conceal\n";
+    b"usage: ccsuite pairs|build|decode|show FRAME|verify CUES|insert CUES|import|export TIME|cues|load N|dual CUES|xds PACKETS|xds-show|conceal|convert|import-mcc|export-mcc RATE TIME\n";
 
 /// The last frame that `show` can name.
 const LAST_FRAME: u64 = 4_294_967_294;
@@ -64,7 +74,7 @@ fn reads_side_file(command: Option<Command>) -> bool
 {
     matches!(
         command,
-        Some(Command::Verify | Command::Insert | Command::Dual)
+        Some(Command::Verify | Command::Insert | Command::Dual | Command::Xds)
     )
 }
 
@@ -76,6 +86,7 @@ pub fn read_command(words: &[String]) -> Option<Command>
     match words {
         [word] => read_word(word.as_str()),
         [word, argument] => read_two(word.as_str(), argument.as_str()),
+        [word, one, other] => read_three(word.as_str(), one.as_str(), other.as_str()),
         _ => None,
     }
 }
@@ -93,12 +104,14 @@ fn read_word(word: &str) -> Option<Command>
         "import" => Some(Command::Import),
         "xds-show" => Some(Command::XdsShow),
         "conceal" => Some(Command::Conceal),
+        "convert" => Some(Command::Convert),
+        "import-mcc" => Some(Command::ImportMcc),
         _ => None,
     }
 }
 
-/// The command of a word and its argument: `show` with the number of a frame, `verify`, `insert` and `dual` with the path of a side
-/// file, whatever it is, `export` with a time code, `load` with the number of captions.
+/// The command of a word and its argument: `show` with the number of a frame, `verify`, `insert`, `dual` and `xds` with the path of a
+/// side file, whatever it is, `export` with a time code, `load` with the number of captions.
 fn read_two(word: &str, argument: &str) -> Option<Command>
     ensures command { result ≡ command_of (word.now ∷ argument.now ∷ []) }
     ensures runnable { IsRunnable result }
@@ -108,6 +121,7 @@ fn read_two(word: &str, argument: &str) -> Option<Command>
         "verify" => Some(Command::Verify),
         "insert" => Some(Command::Insert),
         "dual" => Some(Command::Dual),
+        "xds" => Some(Command::Xds),
         "export" => match read_start(argument) {
             Some(time) => Some(Command::Export(time)),
             None => None,
@@ -117,6 +131,63 @@ fn read_two(word: &str, argument: &str) -> Option<Command>
             None => None,
         },
         _ => None,
+    }
+}
+
+/// The command of a word and its two arguments: `export-mcc` with a rate and a time code that exists at it.
+fn read_three(word: &str, one: &str, other: &str) -> Option<Command>
+    ensures command { result ≡ command_of (word.now ∷ one.now ∷ other.now ∷ []) }
+    ensures runnable { IsRunnable result }
+{
+    match word {
+        "export-mcc" => match read_rate(one) {
+            Some(count) => match read_start_in(count, other) {
+                Some(time) => Some(Command::ExportMcc(count, time)),
+                None => None,
+            },
+            None => None,
+        },
+        _ => None,
+    }
+}
+
+/// How time codes of a rate count, by its text.
+fn read_rate(text: &str) -> Option<Counting>
+    ensures { result ≡ counting_of text.now }
+{
+    match text {
+        "24" => Some(Counting::F24),
+        "25" => Some(Counting::F25),
+        "30" => Some(Counting::F30),
+        "30DF" => Some(Counting::F30Drop),
+        "50" => Some(Counting::F50),
+        "60" => Some(Counting::F60),
+        "60DF" => Some(Counting::F60Drop),
+        _ => None,
+    }
+}
+
+/// The time code of a text, `HH:MM:SS:FF` or `HH:MM:SS;FF` exactly where the count has drop frame, if a frame of the day has it.
+fn read_start_in(count: Counting, text: &str) -> Option<TimeCode>
+    ensures time { result ≡ start_in count text.now }
+    ensures of_day { IfSome result (λ time. is_time_code_in count time ≡ true) }
+{
+    let time = read_time(text)?;
+    if count.has(time) && is_marked(count, time) {
+        Some(time)
+    } else {
+        None
+    }
+}
+
+/// Whether a time code has the mark of drop frame exactly where the count has drop frame.
+fn is_marked(count: Counting, time: TimeCode) -> bool
+    ensures { result ≡ is_marked count time }
+{
+    if count.has_drop_frame() {
+        time.drop_frame
+    } else {
+        !time.drop_frame
     }
 }
 

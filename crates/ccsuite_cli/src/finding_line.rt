@@ -1,6 +1,6 @@
 ghost use Rattle.std.specs.Prelude.{◌≡◌};
 ghost use Rattle.cc_base.specs.Streams.{PutCause, Puts};
-ghost use Rattle.ccsuite_cli.specs.StatusLine.{channel_line, channel_name, grid_line, line_of_kind, seen_line, service_line};
+ghost use Rattle.ccsuite_cli.specs.StatusLine.{channel_line, channel_name, grid_line, line_of_kind, plain_line, seen_line, service_line};
 
 use cc_base::{Put, Sink, Why, put_pieces};
 use findings::{Kind45, Which};
@@ -35,7 +35,25 @@ pub fn put_finding<E: Sink>(frame: u32, kind: Kind45, err: &mut E) -> Put
         Kind45::BufferFull(service) => put_service(frame, Why::BufferFull, service, err),
         Kind45::GridDiffers(which) => put_grid(frame, which, err),
         Kind45::TwoPairs(seen) => put_seen(frame, Why::TwoPairs, 1, seen, err),
+        Kind45::EightBits => put_plain(frame, Why::EightBits, err),
     }
+}
+
+/// Puts the line of a finding of which there is nothing more to say.
+fn put_plain<E: Sink>(frame: u32, why: Why, err: &mut E) -> Put
+    ensures bytes { Puts (E.written err.old) (E.written err.new) result (plain_line frame why) }
+    ensures cause { PutCause (E.faults err.old) (E.faults err.new) result }
+{
+    put_pieces(
+        &[
+            b"differs at frame ",
+            Buffer::new().format(frame).as_bytes(),
+            b": ",
+            why.name().as_bytes(),
+            b"\n",
+        ],
+        err,
+    )
 }
 
 /// Puts the line of a grid that differs.
@@ -51,7 +69,8 @@ fn put_grid<E: Sink>(frame: u32, which: Which, err: &mut E) -> Put
 
 /// Puts the line of a finding with what is expected and what was seen.
 fn put_seen<E: Sink>(frame: u32, why: Why, expected: u16, seen: u16, err: &mut E) -> Put
-    ensures bytes { Puts (E.written err.old) (E.written err.new) result (seen_line frame why expected seen) }
+    ensures bytes { Puts (E.written err.old) (E.written err.new) result
+        (seen_line frame why expected seen) }
     ensures cause { PutCause (E.faults err.old) (E.faults err.new) result }
 {
     put_pieces(
@@ -72,7 +91,8 @@ fn put_seen<E: Sink>(frame: u32, why: Why, expected: u16, seen: u16, err: &mut E
 
 /// Puts the line of a finding of a service.
 fn put_service<E: Sink>(frame: u32, why: Why, service: u8, err: &mut E) -> Put
-    ensures bytes { Puts (E.written err.old) (E.written err.new) result (service_line frame why service) }
+    ensures bytes { Puts (E.written err.old) (E.written err.new) result
+        (service_line frame why service) }
     ensures cause { PutCause (E.faults err.old) (E.faults err.new) result }
 {
     put_pieces(
@@ -91,7 +111,8 @@ fn put_service<E: Sink>(frame: u32, why: Why, service: u8, err: &mut E) -> Put
 
 /// Puts the line of a finding of a channel.
 fn put_channel<E: Sink>(frame: u32, why: Why, chan: Chan, err: &mut E) -> Put
-    ensures bytes { Puts (E.written err.old) (E.written err.new) result (channel_line frame why chan) }
+    ensures bytes { Puts (E.written err.old) (E.written err.new) result
+        (channel_line frame why chan) }
     ensures cause { PutCause (E.faults err.old) (E.faults err.new) result }
 {
     put_pieces(

@@ -1,7 +1,8 @@
 //! Laws of what a run answers and puts: functions that do nothing, with the laws as their contracts.
-ghost use Rattle.ccsuite_cli.specs.Seen.{BuiltWordsAreSeen, InsertedWordsAreSeen};
+ghost use Rattle.ccsuite_cli.specs.Converted.{BuiltWordsAreFit};
+ghost use Rattle.ccsuite_cli.specs.Seen.{BuiltWordsAreSeen, DualWordsAreSeen, InsertedWordsAreSeen};
 ghost use Rattle.ccsuite_cli.specs.Verdict.{AcceptedIsAnswered, FaultsAreTold, FileIsDecoded, FileIsShown, GoodListIsWritten, LoadIsAnswered, LongWordsAreRefused, MalformedIsRefused, RefusedImportIsAnswered, RefusedListIsAnswered, SccFileIsImported};
-ghost use Rattle.ccsuite_cli.specs.Verified.{BuiltWordsAreVerified};
+ghost use Rattle.ccsuite_cli.specs.Verified.{BuiltWordsAreVerified, XdsWordsAreVerified};
 ghost use Rattle.scc_commands.specs.ExportVerdict.{FileIsExported, MalformedIsNotExported, StopIsAnswered};
 
 /// The law that every command that reads a cue list answers Ok to an input that is an accepted cue list, or Memory, where
@@ -98,8 +99,27 @@ pub fn inserted_words_are_seen()
     ensures { InsertedWordsAreSeen }
 {}
 
+/// The law that so are two lists: a receiver that was fed any front of what `dual` puts of lists that are accepted together, cut anywhere,
+/// shows at the last frame that it counts the authored grids of the first list on CC1 and CC3, and of the second on CC2 and CC4, each
+/// where the frame is settled for the channel by its own list, and of each service the first list's windows; and no service's buffer
+/// was filled.
+pub fn dual_words_are_seen()
+    ensures { DualWordsAreSeen }
+{}
+
 /// The law that the words that `build` puts of an accepted cue list are verified against that list: a words file within the limit,
 /// with the list's frames, at none of which anything is found.
 pub fn built_words_are_verified()
     ensures { BuiltWordsAreVerified }
+{}
+
+/// The law that the words that `build` puts of an accepted cue list at 29.97, whose delays have at most 166 tenths, are a words file within
+/// the limit, none of whose frames has a misfit: so `convert` ends with Ok or Memory, where no count of faults rose.
+pub fn built_words_are_fit()
+    ensures { BuiltWordsAreFit }
+{}
+
+/// The law that so are the words that `xds` puts of one with good packets beside whose captions they have room.
+pub fn xds_words_are_verified()
+    ensures { XdsWordsAreVerified }
 {}

@@ -1,9 +1,10 @@
 //! The program `ccsuite`: its command lines, and the status with which a run of each ends.
 #![tactic(auto)]
 
-pub use crate::command::side_of;
-pub use crate::program::run;
+pub use crate::command::{Command, side_of};
+pub use crate::program::{perform, run};
 pub use crate::standard_streams::start;
+pub use crate::status_line::put_status;
 pub use crate::unread_words::run_without_words;
 pub use command_base::{Place, Status};
 pub use side_files::SideFile;

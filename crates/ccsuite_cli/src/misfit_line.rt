@@ -11,7 +11,8 @@ use line21_codes::Chan;
 
 /// Puts the line of a frame that can't be converted.
 pub fn put_misfit<E: Sink>(frame: u32, kind: MisfitKind, err: &mut E) -> Put
-    ensures bytes { Puts (E.written err.old) (E.written err.new) result (line_of_misfit frame kind) }
+    ensures bytes { Puts (E.written err.old) (E.written err.new) result
+        (line_of_misfit frame kind) }
     ensures cause { PutCause (E.faults err.old) (E.faults err.new) result }
 {
     match kind {
@@ -26,7 +27,8 @@ pub fn put_misfit<E: Sink>(frame: u32, kind: MisfitKind, err: &mut E) -> Put
 
 /// Puts the line of a misfit of which a number was seen.
 fn put_number<E: Sink>(frame: u32, kind: MisfitKind, seen: u16, err: &mut E) -> Put
-    ensures bytes { Puts (E.written err.old) (E.written err.new) result (misfit_text frame kind (decimal seen)) }
+    ensures bytes { Puts (E.written err.old) (E.written err.new) result
+        (misfit_text frame kind (decimal seen)) }
     ensures cause { PutCause (E.faults err.old) (E.faults err.new) result }
 {
     put_pieces(
@@ -45,7 +47,8 @@ fn put_number<E: Sink>(frame: u32, kind: MisfitKind, seen: u16, err: &mut E) -> 
 
 /// Puts the line of a channel or a service that would show something else.
 fn put_changed<E: Sink>(frame: u32, which: Which, err: &mut E) -> Put
-    ensures bytes { Puts (E.written err.old) (E.written err.new) result (line_of_misfit frame (Changed which)) }
+    ensures bytes { Puts (E.written err.old) (E.written err.new) result
+        (line_of_misfit frame (Changed which)) }
     ensures cause { PutCause (E.faults err.old) (E.faults err.new) result }
 {
     let kind = MisfitKind::Changed(which);
@@ -57,7 +60,8 @@ fn put_changed<E: Sink>(frame: u32, which: Which, err: &mut E) -> Put
 
 /// Puts the line of a channel that would show something else.
 fn put_channel<E: Sink>(frame: u32, kind: MisfitKind, chan: Chan, err: &mut E) -> Put
-    ensures bytes { Puts (E.written err.old) (E.written err.new) result (misfit_text frame kind (channel_name chan)) }
+    ensures bytes { Puts (E.written err.old) (E.written err.new) result
+        (misfit_text frame kind (channel_name chan)) }
     ensures cause { PutCause (E.faults err.old) (E.faults err.new) result }
 {
     put_pieces(
@@ -76,7 +80,8 @@ fn put_channel<E: Sink>(frame: u32, kind: MisfitKind, chan: Chan, err: &mut E) -
 
 /// Puts the line of a service that would show something else.
 fn put_service<E: Sink>(frame: u32, kind: MisfitKind, service: u8, err: &mut E) -> Put
-    ensures bytes { Puts (E.written err.old) (E.written err.new) result (misfit_text frame kind (codes "S" ++ decimal service)) }
+    ensures bytes { Puts (E.written err.old) (E.written err.new) result
+        (misfit_text frame kind (codes "S" ++ decimal service)) }
     ensures cause { PutCause (E.faults err.old) (E.faults err.new) result }
 {
     put_pieces(

@@ -9,14 +9,18 @@ use crate::command::{Command, read_command};
 use crate::status_line::put_status;
 use cc_base::{Sink, Source};
 use command_base::Status;
+use convert_commands::run_convert;
 use cue_list_commands::{run_build, run_cues, run_pairs};
 use dual_commands::run_dual;
 use insert_commands::run_insert;
 use load_commands::run_load;
+use mcc_export::run_export_mcc;
+use mcc_import::run_import_mcc;
 use scc_commands::{run_export, run_import};
 use std::alloc::Global;
 use verify_commands::run_verify;
 use words_commands::{run_conceal, run_decode, run_show, run_xds_show};
+use xds_commands::run_xds;
 
 /// Runs the command of the words behind the program's name: reads `input`, puts to `out`, and ends with a status, whose
 /// one line is put to `err`. `side` is the file that a command names; a command that names none leaves it.
@@ -29,11 +33,15 @@ pub fn run<M: Source, S: Source, O: Sink, E: Sink>(
     err: &mut E,
 ) -> Status
     ensures answer { Answer (command_of (map string_bytes words.now))
-        (side_ends (S.left side.old) (S.faults side.old)) (side_ends (S.left side.new) (S.faults side.new))
+        (side_ends (S.left side.old) (S.faults side.old))
+        (side_ends (S.left side.new) (S.faults side.new))
         (ends (M.left input.old) (M.faults input.old) (O.written out.old) (O.faults out.old))
-        (ends (M.left input.new) (M.faults input.new) (O.written out.new) (O.faults out.new)) result }
-    ensures side { has_side_file (command_of (map string_bytes words.now)) ≡ false → side.new ≡ side.old }
-    ensures line { PutsLine (E.written err.old) (E.written err.new) (E.faults err.old) (E.faults err.new) result }
+        (ends (M.left input.new) (M.faults input.new) (O.written out.new)
+        (O.faults out.new)) result }
+    ensures side { has_side_file (command_of (map string_bytes words.now)) ≡ false
+        → side.new ≡ side.old }
+    ensures line { PutsLine (E.written err.old) (E.written err.new) (E.faults err.old)
+        (E.faults err.new) result }
 {
     let status = obey(alloc, read_command(words), input, side, out);
     let _ = put_status(status, err);
@@ -50,9 +58,11 @@ fn obey<M: Source, S: Source, O: Sink>(
 ) -> Status
     requires { IsRunnable command }
     ensures answer { Answer command
-        (side_ends (S.left side.old) (S.faults side.old)) (side_ends (S.left side.new) (S.faults side.new))
+        (side_ends (S.left side.old) (S.faults side.old))
+        (side_ends (S.left side.new) (S.faults side.new))
         (ends (M.left input.old) (M.faults input.old) (O.written out.old) (O.faults out.old))
-        (ends (M.left input.new) (M.faults input.new) (O.written out.new) (O.faults out.new)) result }
+        (ends (M.left input.new) (M.faults input.new) (O.written out.new)
+        (O.faults out.new)) result }
     ensures side { has_side_file command ≡ false → side.new ≡ side.old }
 {
     match command {
@@ -61,8 +71,8 @@ fn obey<M: Source, S: Source, O: Sink>(
     }
 }
 
-/// Runs a command.
-fn perform<M: Source, S: Source, O: Sink>(
+/// Runs a command. One that names no side file leaves `side`.
+pub fn perform<M: Source, S: Source, O: Sink>(
     alloc: Global,
     command: Command,
     input: &mut M,
@@ -71,9 +81,11 @@ fn perform<M: Source, S: Source, O: Sink>(
 ) -> Status
     requires { IsRunnable (Some command) }
     ensures answer { Answer (Some command)
-        (side_ends (S.left side.old) (S.faults side.old)) (side_ends (S.left side.new) (S.faults side.new))
+        (side_ends (S.left side.old) (S.faults side.old))
+        (side_ends (S.left side.new) (S.faults side.new))
         (ends (M.left input.old) (M.faults input.old) (O.written out.old) (O.faults out.old))
-        (ends (M.left input.new) (M.faults input.new) (O.written out.new) (O.faults out.new)) result }
+        (ends (M.left input.new) (M.faults input.new) (O.written out.new)
+        (O.faults out.new)) result }
     ensures side { has_side_file (Some command) ≡ false → side.new ≡ side.old }
 {
     match command {
@@ -88,7 +100,11 @@ fn perform<M: Source, S: Source, O: Sink>(
         Command::Export(time) => run_export(alloc, time, input, out),
         Command::Load(count) => run_load(alloc, count, out),
         Command::Dual => run_dual(alloc, input, side, out),
+        Command::Xds => run_xds(alloc, input, side, out),
         Command::XdsShow => run_xds_show(alloc, input, out),
         Command::Conceal => run_conceal(alloc, input, out),
+        Command::Convert => run_convert(alloc, input, out),
+        Command::ImportMcc => run_import_mcc(alloc, input, out),
+        Command::ExportMcc(count, time) => run_export_mcc(alloc, count, time, input, out),
     }
 }

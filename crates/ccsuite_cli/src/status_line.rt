@@ -63,7 +63,8 @@ pub fn put_status<E: Sink>(status: Status, err: &mut E) -> Put
 
 /// Puts the line of a malformed input.
 fn put_malformed<E: Sink>(place: Place, why: Why, err: &mut E) -> Put
-    ensures bytes { Puts (E.written err.old) (E.written err.new) result (status_line (Status.Malformed place why)) }
+    ensures bytes { Puts (E.written err.old) (E.written err.new) result
+        (status_line (Status.Malformed place why)) }
     ensures cause { PutCause (E.faults err.old) (E.faults err.new) result }
 {
     let name = why.name().as_bytes();
@@ -95,7 +96,8 @@ fn put_malformed<E: Sink>(place: Place, why: Why, err: &mut E) -> Put
 
 /// Puts the line of a broken rule.
 fn put_rule<E: Sink>(fault: RuleFault, err: &mut E) -> Put
-    ensures bytes { Puts (E.written err.old) (E.written err.new) result (status_line (Status.Rule fault)) }
+    ensures bytes { Puts (E.written err.old) (E.written err.new) result
+        (status_line (Status.Rule fault)) }
     ensures cause { PutCause (E.faults err.old) (E.faults err.new) result }
 {
     let name = fault.why.name().as_bytes();

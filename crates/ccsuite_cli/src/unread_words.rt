@@ -11,7 +11,8 @@ use std::io::ErrorKind;
 pub fn run_without_words<E: Sink>(why: ErrorKind, err: &mut E) -> Status
     ensures usage { why ≡ ErrorKind.InvalidData → result ≡ Status.Usage }
     ensures memory { why ≢ ErrorKind.InvalidData → result ≡ Status.Memory }
-    ensures line { PutsLine (E.written err.old) (E.written err.new) (E.faults err.old) (E.faults err.new) result }
+    ensures line { PutsLine (E.written err.old) (E.written err.new) (E.faults err.old)
+        (E.faults err.new) result }
 {
     let status = match why {
         ErrorKind::InvalidData => Status::Usage,

@@ -13,7 +13,7 @@ use Rattle.cc_base.specs.Rate.{rate_of}
 use Rattle.cc_base.specs.Steps.{IsTaken}
 use Rattle.cdp_packets.specs.declared.parts.CdpPart.TheVariants as part
 use Rattle.cdp_packets.specs.Reading.{IsPacketLength, count_fits, id_fits, is_in_sections, judge_behind, judge_footer, judge_rate, judge_section, section_behind}
-use Rattle.cdp_packets.specs.Sections.{AreSections, IsSection, is_id, rest_of}
+use Rattle.cdp_packets.specs.Sections.{AreSections, IsSection, is_id, section_rest}
 use Rattle.cdp_packets.proofs.SectionLemmas.{are-push, concat-push}
 
 -- a step that isn't a refusal has passed its test
@@ -40,9 +40,9 @@ id_fits-is_id left id fits = and-left (is_id id) (nat_le 2 left) (and-left (is_i
 -- stands no single byte
 pub record IsOpenBody (left id second : ℕ) (rest : List ℕ) : Type 0 where
   pub id_is : is_id id ≡ true
-  pub some : length rest < rest_of id second
-  pub room : rest_of id second ≤ left + length rest
-  pub behind : left + length rest ≢ rest_of id second + 1
+  pub some : length rest < section_rest id second
+  pub room : section_rest id second ≤ left + length rest
+  pub behind : left + length rest ≢ section_rest id second + 1
 
 -- the open section, and sections behind it, can have so many more bytes
 abbrev pub CanGoOn : ℕ → List ℕ → Type 0
@@ -75,17 +75,17 @@ count_tells left rest fits = (grind (arith, nat_tests), λ e. grind (arith, nat_
 -- the second byte of another section
 count_goes : (left behind id byte : ℕ) → left ≡ behind + 1 → is_id id ≡ true → count_fits left id byte ≡ true → Ends behind (id ∷ []) byte ⊎ Lasts behind (id ∷ []) byte
 count_goes left behind id byte same id_is fits =
-    let (room, past) = count_tells left (rest_of id byte) fits in
-    let cases : (t : Bool) → (rest_of id byte == 0) ≡ t → Ends behind (id ∷ []) byte ⊎ Lasts behind (id ∷ []) byte = elim [
+    let (room, past) = count_tells left (section_rest id byte) fits in
+    let cases : (t : Bool) → (section_rest id byte == 0) ≡ t → Ends behind (id ∷ []) byte ⊎ Lasts behind (id ∷ []) byte = elim [
       | true ↦ λ none.
-          let zero : rest_of id byte ≡ 0 = test-same (rest_of id byte) 0 none in
+          let zero : section_rest id byte ≡ 0 = test-same (section_rest id byte) 0 none in
           inl (record {
             after = ap (λ (t : Bool). if t then [] else id ∷ byte ∷ []) none;
             is = (id_is, sym zero);
             behind = λ e. past (omega (arith, same, zero, e));
           })
       | false ↦ λ more.
-          let some : 0 < rest_of id byte = grind (arith, nat_tests) in
+          let some : 0 < section_rest id byte = grind (arith, nat_tests) in
           inr (record {
             after = ap (λ (t : Bool). if t then [] else id ∷ byte ∷ []) more;
             goes = record { id_is = id_is; some = some; room = omega arith; behind = λ e. past (omega (arith, same, e)) };
@@ -99,16 +99,16 @@ body_goes left behind id second rest byte same body =
     let long = length-append rest (byte ∷ []) in
     let some = body.some in
     let room = body.room in
-    let cases : (t : Bool) → nat_le (rest_of id second) (length rest + 1) ≡ t → Ends behind (id ∷ second ∷ rest) byte ⊎ Lasts behind (id ∷ second ∷ rest) byte = elim [
+    let cases : (t : Bool) → nat_le (section_rest id second) (length rest + 1) ≡ t → Ends behind (id ∷ second ∷ rest) byte ⊎ Lasts behind (id ∷ second ∷ rest) byte = elim [
       | true ↦ λ last.
-          let whole : rest_of id second ≡ length rest + 1 = grind (arith, nat_tests) in
+          let whole : section_rest id second ≡ length rest + 1 = grind (arith, nat_tests) in
           inl (record {
             after = ap (λ (t : Bool). if t then [] else id ∷ second ∷ (rest ++ byte ∷ [])) last;
             is = (body.id_is, omega (arith, long, whole));
             behind = λ e. body.behind (omega (arith, whole, same, e));
           })
       | false ↦ λ more.
-          let below : length rest + 1 < rest_of id second = grind (arith, nat_tests) in
+          let below : length rest + 1 < section_rest id second = grind (arith, nat_tests) in
           inr (record {
             after = ap (λ (t : Bool). if t then [] else id ∷ second ∷ (rest ++ byte ∷ [])) more;
             goes = record {

@@ -11,12 +11,12 @@ use Rattle.cc_base.specs.declared.why.Why.{Why}
 use Rattle.cc_base.specs.Steps.{IsTaken, step_parts}
 use Rattle.cc_base.specs.Syntax.{AllRead, AllTaken, Reads, open_behind, parts_from}
 use Rattle.cc_base.proofs.SyntaxLemmas.{AllTaken-append, AllTaken-split}
-use Rattle.cdp_packets.specs.Packets.{IsCdp, Packet}
+use Rattle.cdp_packets.specs.Packets.{Frame, IsCdp}
 use Rattle.cc_data.specs.Triplets.{triplet_of}
 use Rattle.cdp_packets.specs.declared.parts.CdpPart.{CdpPart}
 use Rattle.cdp_packets.specs.declared.parts.CdpPart.TheVariants as part
 use Rattle.cdp_packets.specs.Reading.{cdp_syntax, GoesOnWithFilling, IsFilling, IsPacketLength, Open, count_fits, id_fits, is_in_sections, judge_cdp, judge_triplet, nothing_open, triplet_behind}
-use Rattle.cdp_packets.specs.Sections.{rest_of}
+use Rattle.cdp_packets.specs.Sections.{section_rest}
 use Rattle.cdp_packets.specs.Written.{checksum_of}
 use Rattle.cdp_packets.proofs.BegunLemmas.{CanGoOn, InFooter, InSections, IsBegun, IsFoot}
 use Rattle.cdp_packets.proofs.FitLemmas.{count_fits-section, id_fits-choice, or-second}
@@ -121,10 +121,10 @@ abbrev Follows : ℕ → Seven → ℕ → Type 0
 Follows size head left = (done triplet : List ℕ) → length done + 11 + left ≡ size → Completes size (front_of (seven head done) [] triplet)
 
 -- bytes 00 to a section's end, and what follows it
-fill : (size : ℕ) (head : Seven) (count left : ℕ) (done : List ℕ) (id second : ℕ) (rest triplet : List ℕ) → rest_of id second ≡ length rest + suc count
+fill : (size : ℕ) (head : Seven) (count left : ℕ) (done : List ℕ) (id second : ℕ) (rest triplet : List ℕ) → section_rest id second ≡ length rest + suc count
     → length done + 11 + (suc count + left) ≡ size → Follows size head left → Completes size (front_of (seven head done) (id ∷ second ∷ rest) triplet)
 fill size head zero left done id second rest triplet whole long follows =
-    let ends : nat_le (rest_of id second) (length rest + 1) ≡ true = grind (arith, nat_tests) in
+    let ends : nat_le (section_rest id second) (length rest + 1) ≡ true = grind (arith, nat_tests) in
     let longer = length-append done (0 ∷ []) in
     let reads = section_byte size head done (id ∷ second ∷ rest) triplet (1 + left) 0 (zero_step id triplet) (omega (arith, long)) (omega arith) refl (zero_taken (id == 0x72) triplet) in
     let next = follows (done ++ 0 ∷ []) (triplet_behind (id ∷ second ∷ rest) triplet 0) (omega (arith, long, longer)) in
@@ -132,7 +132,7 @@ fill size head zero left done id second rest triplet whole long follows =
     (subst (λ s. Completes size (front_of (seven head (done ++ 0 ∷ [])) s (triplet_behind (id ∷ second ∷ rest) triplet 0)))
     (sym (ap (λ (t : Bool). if t then [] else id ∷ second ∷ (rest ++ 0 ∷ [])) ends)) next)
 fill size head (suc count) left done id second rest triplet whole long follows =
-    let lasts : nat_le (rest_of id second) (length rest + 1) ≡ false = grind (arith, nat_tests) in
+    let lasts : nat_le (section_rest id second) (length rest + 1) ≡ false = grind (arith, nat_tests) in
     let longer = length-append done (0 ∷ []) in
     let reads = section_byte size head done (id ∷ second ∷ rest) triplet (suc (suc count) + left) 0 (zero_step id triplet) (omega (arith, long)) (omega arith) refl (zero_taken (id == 0x72) triplet) in
     let next = fill size head count left (done ++ 0 ∷ []) id second (rest ++ 0 ∷ []) (triplet_behind (id ∷ second ∷ rest) triplet 0)
@@ -142,25 +142,25 @@ fill size head (suc count) left done id second rest triplet whole long follows =
     (sym (ap (λ (t : Bool). if t then [] else id ∷ second ∷ (rest ++ 0 ∷ [])) lasts)) next)
 
 -- a section behind its first two bytes, and what follows it
-body_completes : (size : ℕ) (head : Seven) (left : ℕ) (done : List ℕ) (id second : ℕ) (rest triplet : List ℕ) → length rest < rest_of id second
-    → length done + 11 + (rest_of id second - length rest + left) ≡ size → Follows size head left → Completes size (front_of (seven head done) (id ∷ second ∷ rest) triplet)
+body_completes : (size : ℕ) (head : Seven) (left : ℕ) (done : List ℕ) (id second : ℕ) (rest triplet : List ℕ) → length rest < section_rest id second
+    → length done + 11 + (section_rest id second - length rest + left) ≡ size → Follows size head left → Completes size (front_of (seven head done) (id ∷ second ∷ rest) triplet)
 body_completes size head left done id second rest triplet some long follows =
-    fill size head (rest_of id second - length rest - 1) left done id second rest triplet (omega arith) (omega arith) follows
+    fill size head (section_rest id second - length rest - 1) left done id second rest triplet (omega arith) (omega arith) follows
 
 -- a section's second byte, and what follows the section
 second_completes : (size : ℕ) (head : Seven) (left : ℕ) (done : List ℕ) (id second : ℕ) (triplet : List ℕ) → second < 256
-    → (id == 0x71 || count_fits (1 + rest_of id second + left) id second) ≡ true → length done + 11 + (1 + rest_of id second + left) ≡ size → Follows size head left
+    → (id == 0x71 || count_fits (1 + section_rest id second + left) id second) ≡ true → length done + 11 + (1 + section_rest id second + left) ≡ size → Follows size head left
     → Completes size (front_of (seven head done) (id ∷ []) triplet)
 second_completes size head left done id second triplet small fits long follows =
     let longer = length-append done (second ∷ []) in
-    let reads = section_byte size head done (id ∷ []) triplet (1 + rest_of id second + left) second (One (part.SectionByte second)) long (omega arith)
+    let reads = section_byte size head done (id ∷ []) triplet (1 + section_rest id second + left) second (One (part.SectionByte second)) long (omega arith)
     (ap (λ (t : Bool). let s : Step CdpPart = if t then One (part.SectionByte second) else Refuse why.Count in s) fits) tt in
-    let cases : (t : Bool) → (rest_of id second == 0) ≡ t → Completes size (front_of (seven head (done ++ second ∷ [])) (if t then [] else id ∷ second ∷ []) []) = elim [
+    let cases : (t : Bool) → (section_rest id second == 0) ≡ t → Completes size (front_of (seven head (done ++ second ∷ [])) (if t then [] else id ∷ second ∷ []) []) = elim [
       | true ↦ λ none.
-          let nothing : rest_of id second ≡ 0 = grind (arith, nat_tests) in
+          let nothing : section_rest id second ≡ 0 = grind (arith, nat_tests) in
           follows (done ++ second ∷ []) [] (omega (arith, nothing, long, longer))
       | false ↦ λ more.
-          let some : 0 < rest_of id second = grind (arith, nat_tests) in
+          let some : 0 < section_rest id second = grind (arith, nat_tests) in
           body_completes size head left (done ++ second ∷ []) id second [] [] some (omega (arith, long, longer)) follows
     ] in
     Completes-with size _ _ second _ reads (one_filling (part.SectionByte second) tt) small (omega (arith, longer)) (cases _ refl)
@@ -192,7 +192,7 @@ id_completes size head left done id triplet fits small long high low =
     let chosen = id_fits-choice (left + 1) id fits (omega arith) in
     let left_is = chosen.long in
     second_completes size head chosen.more done id chosen.second triplet chosen.small
-    (or-second (id == 0x71) _ (count_fits-section (1 + rest_of id chosen.second + chosen.more) id chosen.second chosen.more refl chosen.none))
+    (or-second (id == 0x71) _ (count_fits-section (1 + section_rest id chosen.second + chosen.more) id chosen.second chosen.more refl chosen.none))
     (omega arith) (sections_complete size head chosen.more (omega arith) chosen.none high low)
 
 -- sections, or the footer
@@ -203,7 +203,7 @@ section_completes size head left done (id ∷ []) triplet can small long high lo
 section_completes size head left done (id ∷ second ∷ rest) triplet can small long high low =
     let some = can.some in
     let room = can.room in
-    let behind = left + length rest - rest_of id second in
+    let behind = left + length rest - section_rest id second in
     body_completes size head behind done id second rest triplet some (omega (arith, some, room, long))
     (sections_complete size head behind (omega (arith, some, small)) (λ e. can.behind (omega (arith, room, e))) high low)
 
@@ -313,7 +313,7 @@ goes_on size bytes can small are room read =
     record { more = rest.more; bytes_are = rest.bytes_are; long = whole; packet = packet; is = packet_is; filling = rest.filling }
 
 -- and no packet goes on with a byte that is refused
-pub refused_goes_nowhere : (size : ℕ) (bytes : List ℕ) (byte : ℕ) (reason : Why) (more : List ℕ) (packet : Packet)
+pub refused_goes_nowhere : (size : ℕ) (bytes : List ℕ) (byte : ℕ) (reason : Why) (more : List ℕ) (packet : Frame)
     → judge_cdp size (open_behind (cdp_syntax size) bytes) byte ≡ Refuse reason → IsCdp packet (bytes ++ byte ∷ more) → length (bytes ++ byte ∷ more) ≡ size → ⊥
 refused_goes_nowhere size bytes byte reason more packet refused is long =
     let read = subst (λ n. AllRead (cdp_syntax n) (bytes ++ byte ∷ more)) long (packet_read packet (bytes ++ byte ∷ more) is).taken in

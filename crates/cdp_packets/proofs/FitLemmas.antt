@@ -6,7 +6,7 @@ use Rattle.std.proofs.lemmas.List.Elements.{All-append, All-cons, All-nil, All-r
 use Rattle.std.specs.List.{All, concat}
 use Rattle.cdp_packets.specs.Reading.{count_fits, id_fits}
 use Rattle.cdp_packets.specs.Refusals.{CanBegin}
-use Rattle.cdp_packets.specs.Sections.{AreSections, IsSectionList, is_id, rest_of}
+use Rattle.cdp_packets.specs.Sections.{AreSections, IsSectionList, is_id, section_rest}
 use Rattle.cdp_packets.proofs.BegunLemmas.{and-left, count_tells, id_fits-is_id, test-same}
 
 -- a list of sections never has one byte
@@ -37,9 +37,9 @@ multiple_fits left n more long none many =
 abbrev fits_behind : ℕ → ℕ → Bool
 fits_behind left id = if id == 0x71 then nat_le 5 left && not (left == 6) else if nat_le id 0x73 then not (left == 3) else true
 
-behind_fits : (left id second more : ℕ) → is_id id ≡ true → left ≡ 2 + rest_of id second + more → more ≢ 1 → fits_behind left id ≡ true
+behind_fits : (left id second more : ℕ) → is_id id ≡ true → left ≡ 2 + section_rest id second + more → more ≢ 1 → fits_behind left id ≡ true
 behind_fits left id second more is long none =
-    let goal = λ (i : ℕ). left ≡ 2 + rest_of i second + more → fits_behind left i ≡ true in
+    let goal = λ (i : ℕ). left ≡ 2 + section_rest i second + more → fits_behind left i ≡ true in
     let at = λ (i : ℕ) (test : (id == i) ≡ true) (is : goal i). subst goal (sym (test-same id i test)) is long in
     let time : (t : Bool) → (id == 0x71) ≡ t → fits_behind left id ≡ true = elim [
       | true ↦ λ test. at 0x71 test (λ e. time_code_fits left more e none)
@@ -57,14 +57,14 @@ behind_fits left id second more is long none =
           ] in cc_data _ refl
     ] in time _ refl
 
-pub id_fits-section : (left id second more : ℕ) → is_id id ≡ true → left ≡ 2 + rest_of id second + more → more ≢ 1 → id_fits left id ≡ true
+pub id_fits-section : (left id second more : ℕ) → is_id id ≡ true → left ≡ 2 + section_rest id second + more → more ≢ 1 → id_fits left id ≡ true
 id_fits-section left id second more is long none =
     let two : nat_le 2 left ≡ true = grind (arith, nat_tests) in
     and-both (is_id id && nat_le 2 left) _ (and-both (is_id id) (nat_le 2 left) is two) (behind_fits left id second more is long none)
 
 -- and its second byte
-pub count_fits-section : (left id second more : ℕ) → left ≡ 1 + rest_of id second + more → more ≢ 1 → count_fits left id second ≡ true
-count_fits-section left id second more long none = numbers (rest_of id second) long
+pub count_fits-section : (left id second more : ℕ) → left ≡ 1 + section_rest id second + more → more ≢ 1 → count_fits left id second ≡ true
+count_fits-section left id second more long none = numbers (section_rest id second) long
   where
     numbers : (n : ℕ) → left ≡ 1 + n + more → (nat_le (n + 1) left && not (left == n + 2)) ≡ true
     numbers n long = grind (arith, nat_tests)
@@ -75,7 +75,7 @@ pub record Choice (left id : ℕ) : Type 0 where
   pub small : second < 256
   pub more : ℕ
   pub none : more ≢ 1
-  pub long : left ≡ 2 + rest_of id second + more
+  pub long : left ≡ 2 + section_rest id second + more
 
 and-right : (b c : Bool) → (b && c) ≡ true → c ≡ true
 and-right true c is = is
@@ -91,19 +91,19 @@ time_code_choice left fits =
 two_and_more : (left : ℕ) → (nat_le 2 left && not (left == 3)) ≡ true → (2 ≤ left) × (left ≢ 3)
 two_and_more left fits = (grind (arith, nat_tests), λ e. grind (arith, nat_tests))
 
-empty_choice : (left id : ℕ) → (2 ≤ left) × (left ≢ 3) → rest_of id 0 ≡ 0 → Choice left id
+empty_choice : (left id : ℕ) → (2 ≤ left) × (left ≢ 3) → section_rest id 0 ≡ 0 → Choice left id
 empty_choice left id room empty =
     let two = room.0 in
     record { second = 0; small = lit< tt; more = left - 2; none = λ e. room.1 (omega arith); long = omega arith }
 
 -- a section that says itself how long it is
-future_rest : (id n : ℕ) → (id == 0x71) ≡ false → (id == 0x72) ≡ false → (id == 0x73) ≡ false → rest_of id n ≡ n
+future_rest : (id n : ℕ) → (id == 0x71) ≡ false → (id == 0x72) ≡ false → (id == 0x73) ≡ false → section_rest id n ≡ n
 future_rest id n one two three =
     ap (λ (t : Bool). if t then 3 else if id == 0x72 then 3 * (n % 32) else if id == 0x73 then 7 * (n % 16) else n) one
     ∙ ap (λ (t : Bool). if t then 3 * (n % 32) else if id == 0x73 then 7 * (n % 16) else n) two
     ∙ ap (λ (t : Bool). if t then 7 * (n % 16) else n) three
 
-future_choice : (left id : ℕ) → id_fits left id ≡ true → left < 258 → ((n : ℕ) → rest_of id n ≡ n) → Choice left id
+future_choice : (left id : ℕ) → id_fits left id ≡ true → left < 258 → ((n : ℕ) → section_rest id n ≡ n) → Choice left id
 future_choice left id fits few future =
     let two : nat_le 2 left ≡ true = and-right (is_id id) (nat_le 2 left) (and-left (is_id id && nat_le 2 left) _ fits) in
     let some : 2 ≤ left = grind (arith, nat_tests) in
@@ -164,14 +164,14 @@ pub record Continues (left id second : ℕ) : Type 0 where
   pub are : IsSectionList (id ∷ second ∷ rest)
   pub long : length rest + 1 ≡ left
 
-continues : (left id second more : ℕ) → is_id id ≡ true → more ≢ 1 → left < 258 → left ≡ 1 + rest_of id second + more → Continues left id second
+continues : (left id second more : ℕ) → is_id id ≡ true → more ≢ 1 → left < 258 → left ≡ 1 + section_rest id second + more → Continues left id second
 continues left id second more is none few long =
     let behind = fitting more (omega (arith, long, few)) none in
-    let zeros : List ℕ = replicate (rest_of id second) 0 in
-    let many : length zeros ≡ rest_of id second = length-replicate {A = ℕ} (rest_of id second) 0 in
+    let zeros : List ℕ = replicate (section_rest id second) 0 in
+    let many : length zeros ≡ section_rest id second = length-replicate {A = ℕ} (section_rest id second) 0 in
     record {
       rest = zeros ++ concat behind.cut;
-      bytes_are = All-append IsByte zeros (concat behind.cut) (zeros_are (rest_of id second)) behind.bytes_are;
+      bytes_are = All-append IsByte zeros (concat behind.cut) (zeros_are (section_rest id second)) behind.bytes_are;
       are = record { cut = (id ∷ second ∷ zeros) ∷ behind.cut; are = ((is, many), behind.are); joined = refl };
       long = omega (arith, long, many, behind.long, length-append zeros (concat behind.cut));
     }
@@ -181,7 +181,7 @@ record Begins (id second : ℕ) (rest : List ℕ) : Type 0 where
   pub is : is_id id ≡ true
   pub more : ℕ
   pub none : more ≢ 1
-  pub long : length rest ≡ rest_of id second + more
+  pub long : length rest ≡ section_rest id second + more
 
 begins_by : (id second : ℕ) (rest : List ℕ) (cut : List (List ℕ)) → AreSections cut → concat cut ≡ id ∷ second ∷ rest → Begins id second rest
 begins_by id second rest [] are joined = absurd cc
@@ -191,7 +191,7 @@ begins_by id second rest ((i ∷ s ∷ body) ∷ cut) are joined =
     let first : i ≡ id = cc in
     let next : s ≡ second = cc in
     let behind : body ++ concat cut ≡ rest = cc in
-    let many : length body ≡ rest_of id second = are.0.1 ∙ ap (λ n. rest_of n s) first ∙ ap (λ n. rest_of id n) next in
+    let many : length body ≡ section_rest id second = are.0.1 ∙ ap (λ n. section_rest n s) first ∙ ap (λ n. section_rest id n) next in
     record {
       is = subst (λ n. is_id n ≡ true) first are.0.0;
       more = length (concat cut);
@@ -225,8 +225,8 @@ id_fits-is left id few = (
 pub count_fits-is : (left id count : ℕ) → left < 256 → is_id id ≡ true → (count_fits left id count ≡ true) ↔ CanBegin (left + 1) (id ∷ count ∷ [])
 count_fits-is left id count few is = (
   λ fits.
-      let (room, none) = count_tells left (rest_of id count) fits in
-      let goes = continues left id count (left - rest_of id count - 1) is (λ e. none (omega (arith, room, e))) (omega arith) (omega (arith, room)) in
+      let (room, none) = count_tells left (section_rest id count) fits in
+      let goes = continues left id count (left - section_rest id count - 1) is (λ e. none (omega (arith, room, e))) (omega arith) (omega (arith, room)) in
       record { rest = goes.rest; bytes_are = goes.bytes_are; are = goes.are; long = omega (arith, goes.long) },
   λ can.
       let begins = begins_by id count can.rest can.are.cut can.are.are can.are.joined in

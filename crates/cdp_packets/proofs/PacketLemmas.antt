@@ -6,7 +6,7 @@ use Rattle.cc_base.specs.declared.rate.Rate.{Rate}
 use Rattle.cc_base.specs.declared.rate.Rate.TheVariants as rate
 use Rattle.cc_base.specs.Rate.{rate_code, rate_of}
 use Rattle.cdp_packets.specs.Sections.{AreSections}
-use Rattle.cdp_packets.specs.Packets.{Packet, IsCdp}
+use Rattle.cdp_packets.specs.Packets.{Frame, IsCdp}
 use Rattle.cdp_packets.specs.Written.{checksum_of, unsummed_packet, written_packet}
 use Rattle.cdp_packets.proofs.SectionLemmas.{split_same, sections_cut_once}
 
@@ -55,10 +55,10 @@ same_rate : (r s : Rate) → rate_code r ≡ rate_code s → r ≡ s
 same_rate r s same = cc (rate_of-code r, rate_of-code s, ap rate_of same)
 
 -- a packet by its parts
-abbrev packet_by : Rate → ℕ → ℕ → List (List ℕ) → Packet
+abbrev packet_by : Rate → ℕ → ℕ → List (List ℕ) → Frame
 packet_by rate flags counter sections = record { rate = rate; flags = flags; counter = counter; sections = sections }
 
-same_packet : (p q : Packet) → p.rate ≡ q.rate → p.flags ≡ q.flags → p.counter ≡ q.counter → p.sections ≡ q.sections → p ≡ q
+same_packet : (p q : Frame) → p.rate ≡ q.rate → p.flags ≡ q.flags → p.counter ≡ q.counter → p.sections ≡ q.sections → p ≡ q
 same_packet p q rates flags counters sections =
     ap (λ r. packet_by r p.flags p.counter p.sections) rates
     ∙ ap (λ f. packet_by q.rate f p.counter p.sections) flags
@@ -71,13 +71,13 @@ third_same bs cs x y r s a b n m e f same =
     ap (λ l. get_or l 2 0) (sym (ap (λ l. l ++ x) e) ∙ same ∙ ap (λ l. l ++ y) f)
 
 -- two packets at the head of one list
-pub record Same (p q : Packet) (bs cs x y : List ℕ) : Type 0 where
+pub record Same (p q : Frame) (bs cs x y : List ℕ) : Type 0 where
   pub packet : p ≡ q
   pub bytes : bs ≡ cs
   pub rest : x ≡ y
 
 -- the parts of two packets of the same bytes
-parts_same : (p q : Packet) (bs cs : List ℕ) → bs ≡ cs → IsCdp p bs → IsCdp q cs → p ≡ q
+parts_same : (p q : Frame) (bs cs : List ℕ) → bs ≡ cs → IsCdp p bs → IsCdp q cs → p ≡ q
 parts_same p q bs cs same is are =
     let whole = sym is.spelled ∙ same ∙ are.spelled in
     let high : is.high ≡ are.high = cc in
@@ -93,7 +93,7 @@ parts_same p q bs cs same is are =
     (omega (arith, high, low, is.counter, are.counter))
     (sections_cut_once p.sections q.sections is.sections are.sections split.heads)
 
-pub packet_once : (p q : Packet) (bs cs x y : List ℕ) → IsCdp p bs → IsCdp q cs → bs ++ x ≡ cs ++ y → Same p q bs cs x y
+pub packet_once : (p q : Frame) (bs cs x y : List ℕ) → IsCdp p bs → IsCdp q cs → bs ++ x ≡ cs ++ y → Same p q bs cs x y
 packet_once p q bs cs x y is are same =
     let long = third_same bs cs x y _ _ _ _ _ _ is.spelled are.spelled same in
     let split = split_same bs cs x y long same in

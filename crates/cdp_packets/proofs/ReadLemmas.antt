@@ -13,10 +13,10 @@ use Rattle.cc_base.specs.Syntax.{Reads, read_under}
 use Rattle.cc_base.proofs.SyntaxLemmas.{Reads-append, Reads-is, Reads-nothing, Reads-one, read_under-reads}
 use Rattle.cdp_packets.specs.declared.parts.CdpPart.{CdpPart}
 use Rattle.cdp_packets.specs.declared.parts.CdpPart.TheVariants as part
-use Rattle.cdp_packets.specs.Packets.{Packet, IsCdp}
+use Rattle.cdp_packets.specs.Packets.{Frame, IsCdp}
 use Rattle.cdp_packets.specs.PacketParts.{packet_parts, section_parts, triplet_parts}
 use Rattle.cdp_packets.specs.Reading.{IsPacketLength, Open, bytes_behind, cdp_syntax, count_fits, is_in_sections, judge_behind, judge_cdp, judge_footer, judge_rate, judge_section, judge_triplet, nothing_open, open_after, section_behind, triplet_behind}
-use Rattle.cdp_packets.specs.Sections.{AreSections, is_id, rest_of}
+use Rattle.cdp_packets.specs.Sections.{AreSections, is_id, section_rest}
 use Rattle.cdp_packets.proofs.BegunLemmas.{test-same}
 use Rattle.cdp_packets.proofs.FitLemmas.{count_fits-section, id_fits-section, no_single_byte, or-second}
 use Rattle.cdp_packets.proofs.PacketLemmas.{rate_of-code}
@@ -144,11 +144,11 @@ body_parts-triplets count (first ∷ second ∷ third ∷ rest) long =
     ap (λ ps. step_parts (judge_triplet [] first) ++ (step_parts (judge_triplet (first ∷ []) second) ++ (step_parts (judge_triplet (first ∷ second ∷ []) third) ++ ps)))
     (body_parts-triplets (count - 1) rest (omega arith))
 
-section_body_parts : (id second : ℕ) (rest : List ℕ) → length rest ≡ rest_of id second
+section_body_parts : (id second : ℕ) (rest : List ℕ) → length rest ≡ section_rest id second
     → body_parts (id == 0x72) [] rest ≡ (if id == 0x72 then triplet_parts rest else map part.SectionByte rest)
 section_body_parts id second rest long =
     let cases : (t : Bool) → (id == 0x72) ≡ t → body_parts t [] rest ≡ (if t then triplet_parts rest else map part.SectionByte rest) = elim [
-      | true ↦ λ is. body_parts-triplets (second % 32) rest (long ∙ ap (λ i. rest_of i second) (test-same id 0x72 is))
+      | true ↦ λ is. body_parts-triplets (second % 32) rest (long ∙ ap (λ i. section_rest i second) (test-same id 0x72 is))
       | false ↦ λ other. body_parts-plain rest
     ] in cases _ refl
 
@@ -161,19 +161,19 @@ body_taken true (first ∷ second ∷ more) byte = tt
 
 -- the bytes behind a section's first two, to its end
 body_read : (size : ℕ) (head : Seven) (done : List ℕ) (id second : ℕ) (before triplet rest : List ℕ) (more : ℕ)
-    → length before + length rest ≡ rest_of id second → 0 < length rest → length done + 11 + (length rest + more) ≡ size
+    → length before + length rest ≡ section_rest id second → 0 < length rest → length done + 11 + (length rest + more) ≡ size
     → Reads (cdp_syntax size) (front_of (seven head done) (id ∷ second ∷ before) triplet) rest (body_parts (id == 0x72) triplet rest) (front_of (seven head (done ++ rest)) [] (triplet_from (id == 0x72) triplet rest))
 body_read size head done id second before triplet [] more whole some long = absurd (omega arith)
 body_read size head done id second before triplet (byte ∷ []) more whole some long =
     let step : Step CdpPart = if id == 0x72 then judge_triplet triplet byte else One (part.SectionByte byte) in
-    let ends : nat_le (rest_of id second) (length before + 1) ≡ true = grind (arith, nat_tests) in
+    let ends : nat_le (section_rest id second) (length before + 1) ≡ true = grind (arith, nat_tests) in
     let one = section_byte size head done (id ∷ second ∷ before) triplet (1 + more) byte step (omega arith) (omega arith) refl (body_taken (id == 0x72) triplet byte) in
     Reads-is (cdp_syntax size) _ _ _ _ _ _ (sym (append-nil (step_parts step)))
     (ap (λ (t : Bool). front_of (seven head (done ++ byte ∷ [])) (if t then [] else id ∷ second ∷ (before ++ byte ∷ [])) (triplet_from (id == 0x72) triplet (byte ∷ []))) ends) one
 body_read size head done id second before triplet (byte ∷ next ∷ rest) more whole some long =
     let step : Step CdpPart = if id == 0x72 then judge_triplet triplet byte else One (part.SectionByte byte) in
     let after : List ℕ = if id == 0x72 then bytes_behind triplet byte else [] in
-    let lasts : nat_le (rest_of id second) (length before + 1) ≡ false = grind (arith, nat_tests) in
+    let lasts : nat_le (section_rest id second) (length before + 1) ≡ false = grind (arith, nat_tests) in
     let one = section_byte size head done (id ∷ second ∷ before) triplet (length (byte ∷ next ∷ rest) + more) byte step (omega arith) (omega arith) refl (body_taken (id == 0x72) triplet byte) in
     let first = Reads-is (cdp_syntax size) _ _ _ (step_parts step) _ (front_of (seven head (done ++ byte ∷ [])) (id ∷ second ∷ (before ++ byte ∷ [])) after) refl
     (ap (λ (t : Bool). front_of (seven head (done ++ byte ∷ [])) (if t then [] else id ∷ second ∷ (before ++ byte ∷ [])) after) lasts) one in
@@ -185,14 +185,14 @@ body_read size head done id second before triplet (byte ∷ next ∷ rest) more 
 
 -- a section's first two bytes
 section_begins : (size : ℕ) (head : Seven) (done triplet : List ℕ) (id second more : ℕ) → is_id id ≡ true
-    → length done + 11 + (2 + rest_of id second + more) ≡ size → more ≢ 1
+    → length done + 11 + (2 + section_rest id second + more) ≡ size → more ≢ 1
     → Reads (cdp_syntax size) (front_of (seven head done) [] triplet) (id ∷ second ∷ []) (part.SectionByte id ∷ part.SectionByte second ∷ []) (front_of (seven head (done ++ id ∷ second ∷ [])) (section_behind (id ∷ []) second) [])
 section_begins size head done triplet id second more is long none =
-    let left = 2 + rest_of id second + more in
+    let left = 2 + section_rest id second + more in
     let fits = id_fits-section left id second more is refl none in
     let one = section_byte size head done [] triplet left id (One (part.SectionByte id)) long (omega arith)
     (ap (λ (t : Bool). let s : Step CdpPart = if t then One (part.SectionByte id) else Refuse why.Section in s) fits) tt in
-    let below = 1 + rest_of id second + more in
+    let below = 1 + section_rest id second + more in
     let counts = or-second (id == 0x71) (count_fits below id second) (count_fits-section below id second more refl none) in
     let two = section_byte size head (done ++ id ∷ []) (id ∷ []) [] below second (One (part.SectionByte second))
     (omega (arith, length-append done (id ∷ []))) (omega arith)
@@ -202,16 +202,16 @@ section_begins size head done triplet id second more is long none =
     (Reads-append (cdp_syntax size) _ _ _ _ _ _ _ one two)
 
 -- a section
-section_read : (size : ℕ) (head : Seven) (done triplet : List ℕ) (id second : ℕ) (rest : List ℕ) (more : ℕ) → is_id id ≡ true → length rest ≡ rest_of id second
+section_read : (size : ℕ) (head : Seven) (done triplet : List ℕ) (id second : ℕ) (rest : List ℕ) (more : ℕ) → is_id id ≡ true → length rest ≡ section_rest id second
     → length done + 11 + (2 + length rest + more) ≡ size → more ≢ 1
     → Reads (cdp_syntax size) (front_of (seven head done) [] triplet) (id ∷ second ∷ rest) (section_parts (id ∷ second ∷ rest)) (front_of (seven head (done ++ id ∷ second ∷ rest)) [] (triplet_from (id == 0x72) [] rest))
 section_read size head done triplet id second [] more is whole long none =
-    let ends : (rest_of id second == 0) ≡ true = grind (arith, nat_tests) in
+    let ends : (section_rest id second == 0) ≡ true = grind (arith, nat_tests) in
     let begins = section_begins size head done triplet id second more is (omega (arith, whole, long)) none in
     Reads-is (cdp_syntax size) _ _ _ _ _ _ (ap (λ ps. part.SectionByte id ∷ part.SectionByte second ∷ ps) (section_body_parts id second [] whole))
     (ap (λ (t : Bool). front_of (seven head (done ++ id ∷ second ∷ [])) (if t then [] else id ∷ second ∷ []) []) ends) begins
 section_read size head done triplet id second (byte ∷ rest) more is whole long none =
-    let lasts : (rest_of id second == 0) ≡ false = grind (arith, nat_tests) in
+    let lasts : (section_rest id second == 0) ≡ false = grind (arith, nat_tests) in
     let begins = section_begins size head done triplet id second more is (omega (arith, whole, long)) none in
     let first = Reads-is (cdp_syntax size) _ _ _ (part.SectionByte id ∷ part.SectionByte second ∷ []) _ (front_of (seven head (done ++ id ∷ second ∷ [])) (id ∷ second ∷ []) []) refl
     (ap (λ (t : Bool). front_of (seven head (done ++ id ∷ second ∷ [])) (if t then [] else id ∷ second ∷ []) []) lasts) begins in
@@ -293,14 +293,14 @@ head_read size rate flags high low code long is =
     (Reads-append (cdp_syntax size) _ _ _ _ _ _ _ fourth (Reads-append (cdp_syntax size) _ _ _ _ _ _ _ fifth (Reads-append (cdp_syntax size) _ _ _ _ _ _ _ sixth seventh)))))
 
 -- a packet has a length that packets can have
-pub packet_length : (packet : Packet) (bytes : List ℕ) → IsCdp packet bytes → IsPacketLength (length bytes)
+pub packet_length : (packet : Frame) (bytes : List ℕ) → IsCdp packet bytes → IsPacketLength (length bytes)
 packet_length packet bytes is =
     let whole = ap length is.spelled in
     let sizes = length-append (concat packet.sections) (0x74 ∷ is.high ∷ is.low ∷ is.last ∷ []) in
     (omega (arith, whole, sizes), λ e. no_single_byte packet.sections is.sections (omega (arith, whole, sizes, e)))
 
 -- a packet is read to its end, with its parts
-pub packet_read : (packet : Packet) (bytes : List ℕ) → IsCdp packet bytes → Reads (cdp_syntax (length bytes)) nothing_open bytes (packet_parts packet) (front_of bytes [] [])
+pub packet_read : (packet : Frame) (bytes : List ℕ) → IsCdp packet bytes → Reads (cdp_syntax (length bytes)) nothing_open bytes (packet_parts packet) (front_of bytes [] [])
 packet_read packet bytes is =
     let size = length bytes in
     let rate = 16 * rate_code packet.rate + is.marker in
@@ -321,7 +321,7 @@ packet_read packet bytes is =
     refl all)
 
 -- and under a layer that takes its parts
-pub packet_handed : (verdict : Verdict CdpPart) (packet : Packet) (bytes : List ℕ) → IsCdp packet bytes → AreAccepted verdict [] (packet_parts packet)
+pub packet_handed : (verdict : Verdict CdpPart) (packet : Frame) (bytes : List ℕ) → IsCdp packet bytes → AreAccepted verdict [] (packet_parts packet)
     → read_under (cdp_syntax (length bytes)) 1 verdict bytes ≡ record { parts = packet_parts packet; refusal = None }
 packet_handed verdict packet bytes is accepted =
     read_under-reads (cdp_syntax (length bytes)) 1 verdict bytes (packet_parts packet) (front_of bytes [] []) (packet_read packet bytes is) accepted

@@ -5,7 +5,7 @@ use Rattle.std.specs.List.{concat}
 use Rattle.cc_data.specs.declared.triplet.Triplet.{Triplet}
 use Rattle.cc_data.specs.Triplets.{all_written}
 use Rattle.cc_data.proofs.TripletLemmas.{all_written-are, triplets_of-triplets, length-all_written}
-use Rattle.cdp_packets.specs.Sections.{rest_of, IsSection, AreSections, IsSectionList}
+use Rattle.cdp_packets.specs.Sections.{section_rest, IsSection, AreSections, IsSectionList}
 use Rattle.cdp_packets.specs.PacketTriplets.{section_triplets}
 use Rattle.cdp_packets.specs.Written.{cc_data_section}
 
@@ -23,13 +23,13 @@ split_same (x ∷ xs) (y ∷ ys) front rest long same =
     record { heads = cc; tails = h.tails }
 
 -- a section is as long as its first two bytes say
-pub length-section : (bytes section rest : List ℕ) → IsSection section → bytes ≡ section ++ rest → 2 + rest_of (get_or bytes 0 0) (get_or bytes 1 0) ≡ length section
+pub length-section : (bytes section rest : List ℕ) → IsSection section → bytes ≡ section ++ rest → 2 + section_rest (get_or bytes 0 0) (get_or bytes 1 0) ≡ length section
 length-section bytes [] rest is same = absurd is
 length-section bytes (_ ∷ []) rest is same = absurd is
 length-section bytes (id ∷ second ∷ more) rest is same =
     let first = ap (λ bs. get_or bs 0 0) same in
     let next = ap (λ bs. get_or bs 1 0) same in
-    let long : length more ≡ rest_of (get_or bytes 0 0) (get_or bytes 1 0) = cc (first, next, is.1) in
+    let long : length more ≡ section_rest (get_or bytes 0 0) (get_or bytes 1 0) = cc (first, next, is.1) in
     omega (arith, long)
 
 -- the first section of a list of sections, and the others
@@ -65,7 +65,7 @@ pub record IsFirstLength (bytes : List ℕ) (long : ℕ) : Type 0 where
   pub section : IsSection (take long bytes)
   pub rest : IsSectionList (drop long bytes)
 
-pub first_length : (bytes : List ℕ) (long : ℕ) → IsSectionList bytes → 0 < length bytes → long ≡ 2 + rest_of (get_or bytes 0 0) (get_or bytes 1 0) → IsFirstLength bytes long
+pub first_length : (bytes : List ℕ) (long : ℕ) → IsSectionList bytes → 0 < length bytes → long ≡ 2 + section_rest (get_or bytes 0 0) (get_or bytes 1 0) → IsFirstLength bytes long
 first_length bytes long list some same =
     let first = first_section bytes list some in
     let enough : long ≡ length first.section = same ∙ length-section bytes first.section first.rest first.is first.spelled in

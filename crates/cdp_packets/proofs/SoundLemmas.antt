@@ -10,7 +10,7 @@ use Rattle.cc_base.specs.Rate.{rate_code, rate_of}
 use Rattle.cc_base.specs.Steps.{IsTaken, front_from}
 use Rattle.cc_base.specs.Syntax.{AllRead, AllTaken, open_behind}
 use Rattle.cdp_packets.specs.declared.parts.CdpPart.TheVariants as part
-use Rattle.cdp_packets.specs.Packets.{Packet, IsCdp}
+use Rattle.cdp_packets.specs.Packets.{Frame, IsCdp}
 use Rattle.cdp_packets.specs.Reading.{cdp_syntax, IsPacketLength, Open, is_in_sections, judge_behind, judge_cdp, judge_footer, judge_section, nothing_open, open_after, section_behind, triplet_behind}
 use Rattle.cdp_packets.specs.Sections.{AreSections}
 use Rattle.cdp_packets.proofs.BegunLemmas.{IsBegun, IsFoot, IsHead, grows, taken-if, test-same}
@@ -151,7 +151,7 @@ is_packet size mark second long rate flags high low cut last head are whole zero
 packet_by_foot : (size : ℕ) (mark second long rate flags high low : ℕ) (cut : List (List ℕ)) (foot body : List ℕ) → IsHead size mark second long rate → AreSections cut
     → body ≡ concat cut ++ foot → IsFoot high low foot → length foot ≡ 4 → length (concat cut) + 11 ≡ size
     → sum (mark ∷ second ∷ long ∷ rate ∷ flags ∷ high ∷ low ∷ body) % 256 ≡ 0
-    → (packet : Packet) × IsCdp packet (mark ∷ second ∷ long ∷ rate ∷ flags ∷ high ∷ low ∷ body)
+    → (packet : Frame) × IsCdp packet (mark ∷ second ∷ long ∷ rate ∷ flags ∷ high ∷ low ∷ body)
 packet_by_foot size mark second long rate flags high low cut [] body head are spelled begun four whole zero = absurd begun
 packet_by_foot size mark second long rate flags high low cut (_ ∷ []) body head are spelled begun four whole zero = absurd (omega arith)
 packet_by_foot size mark second long rate flags high low cut (_ ∷ _ ∷ []) body head are spelled begun four whole zero = absurd (omega arith)
@@ -160,13 +160,13 @@ packet_by_foot size mark second long rate flags high low cut (id ∷ one ∷ two
     let foot_is : id ∷ one ∷ two ∷ last ∷ [] ≡ 0x74 ∷ high ∷ low ∷ last ∷ [] = cc in
     let is : body ≡ concat cut ++ 0x74 ∷ high ∷ low ∷ last ∷ [] = spelled ∙ ap (λ foot. concat cut ++ foot) foot_is in
     let here = subst (λ bs. sum (mark ∷ second ∷ long ∷ rate ∷ flags ∷ high ∷ low ∷ bs) % 256 ≡ 0) is zero in
-    subst (λ bs. (packet : Packet) × IsCdp packet (mark ∷ second ∷ long ∷ rate ∷ flags ∷ high ∷ low ∷ bs)) (sym is)
+    subst (λ bs. (packet : Frame) × IsCdp packet (mark ∷ second ∷ long ∷ rate ∷ flags ∷ high ∷ low ∷ bs)) (sym is)
     (record { rate = head.code; flags = flags; counter = 256 * high + low; sections = cut }, is_packet size mark second long rate flags high low cut last head are whole here)
 packet_by_foot size mark second long rate flags high low cut (_ ∷ _ ∷ _ ∷ _ ∷ _ ∷ more) body head are spelled begun four whole zero = absurd begun
 
 -- bytes that begin a packet of their length, and whose sum is 0, are one
 whole_packet : (size : ℕ) (bytes section : List ℕ) → IsPacketLength size → IsBegun size bytes section → length bytes ≡ size → sum bytes % 256 ≡ 0
-    → (packet : Packet) × IsCdp packet bytes
+    → (packet : Frame) × IsCdp packet bytes
 whole_packet size [] section can begun all zero = absurd (omega (arith, can.0))
 whole_packet size (_ ∷ []) section can begun all zero = absurd (omega (arith, can.0))
 whole_packet size (_ ∷ _ ∷ []) section can begun all zero = absurd (omega (arith, can.0))
@@ -185,7 +185,7 @@ whole_packet size (mark ∷ second ∷ long ∷ rate ∷ flags ∷ high ∷ low 
 pub read_open : (size : ℕ) (bytes : List ℕ) → IsPacketLength size → AllRead (cdp_syntax size) bytes → IsOpen size (open_behind (cdp_syntax size) bytes)
 read_open size bytes can taken = all_open size bytes nothing_open can (nothing_open-is size can) taken
 
-pub sound : (size : ℕ) (bytes : List ℕ) → IsPacketLength size → length bytes ≡ size → AllRead (cdp_syntax size) bytes → (packet : Packet) × IsCdp packet bytes
+pub sound : (size : ℕ) (bytes : List ℕ) → IsPacketLength size → length bytes ≡ size → AllRead (cdp_syntax size) bytes → (packet : Frame) × IsCdp packet bytes
 sound size bytes can all taken =
     let behind = open_behind (cdp_syntax size) bytes in
     let is = read_open size bytes can taken in

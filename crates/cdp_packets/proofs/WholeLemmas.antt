@@ -5,7 +5,7 @@ use Rattle.std.proofs.Math.Seq.{take-append_seam}
 use Rattle.std.specs.List.{concat}
 use Rattle.cc_base.specs.declared.rate.Rate.{Rate}
 use Rattle.cc_base.specs.Rate.{rate_code, rate_of}
-use Rattle.cdp_packets.specs.Packets.{Packet, IsCdp}
+use Rattle.cdp_packets.specs.Packets.{Frame, IsCdp}
 use Rattle.cdp_packets.specs.Sections.{IsSection, IsSectionList}
 use Rattle.cdp_packets.proofs.BegunLemmas.{IsHead, test-same}
 use Rattle.cdp_packets.proofs.SoundLemmas.{is_packet}
@@ -65,7 +65,7 @@ pub record IsFramed (bytes : List ℕ) : Type 0 where
   pub total : sum bytes % 256 ≡ 0
 
 -- it is so of a packet
-pub packet_framed : (packet : Packet) (bytes : List ℕ) → IsCdp packet bytes → IsFramed bytes
+pub packet_framed : (packet : Frame) (bytes : List ℕ) → IsCdp packet bytes → IsFramed bytes
 packet_framed packet bytes is =
     let sections = concat packet.sections in
     let foot = 0x74 ∷ is.high ∷ is.low ∷ is.last ∷ [] in
@@ -104,7 +104,7 @@ last_four (_ ∷ _ ∷ _ ∷ []) zero long = absurd (omega arith)
 last_four (_ ∷ _ ∷ _ ∷ _ ∷ _ ∷ _) zero long = absurd (omega arith)
 
 -- the packet that such bytes are, where the fourth has a rate's code
-abbrev pub packet_of : (bytes : List ℕ) → Rate → IsFramed bytes → Packet
+abbrev pub packet_of : (bytes : List ℕ) → Rate → IsFramed bytes → Frame
 packet_of bytes rate framed = record {
   rate = rate;
   flags = get_or bytes 4 0;

@@ -1,3 +1,4 @@
+-- Between crates: the program's answer stands on none of these definitions.
 -- The parts of a caption distribution packet, in order (SMPTE ST 334-2): its rate, its flags, its counter, each byte of its
 -- sections, among them the triplets of cc_data (CTA-708-E), and its end.
 use Rattle.std.specs.Prelude.{ℕ, ◌==◌, if◌then◌else◌, List, [], ◌∷◌, ◌++◌, map}
@@ -5,7 +6,7 @@ use Rattle.std.specs.List.{flat_map}
 use Rattle.cc_data.specs.Triplets.{triplet_of}
 use Rattle.cdp_packets.specs.declared.parts.CdpPart.{CdpPart}
 use Rattle.cdp_packets.specs.declared.parts.CdpPart.TheVariants as part
-use Rattle.cdp_packets.specs.Packets.{Packet}
+use Rattle.cdp_packets.specs.Packets.{Frame}
 
 -- the parts of triplets, three bytes each: behind the second byte stands the triplet with a third byte 0, and behind the third
 -- byte the triplet
@@ -22,7 +23,7 @@ section_parts (id ∷ second ∷ rest) =
 section_parts _ = []
 
 -- the parts of a packet
-abbrev pub packet_parts : Packet → List CdpPart
+abbrev pub packet_parts : Frame → List CdpPart
 packet_parts packet =
     part.Rate packet.rate ∷ part.Flags packet.flags ∷ part.Counter packet.counter
     ∷ (flat_map section_parts packet.sections ++ part.End ∷ [])

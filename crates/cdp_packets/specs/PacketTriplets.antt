@@ -1,9 +1,10 @@
+-- Believed in part: the program's answer stands on some of these definitions.
 -- The triplets that a caption distribution packet carries (SMPTE ST 334-2; CTA-708-E, cc_data()).
 use Rattle.std.specs.Prelude.{ℕ, ◌==◌, if◌then◌else◌, List, [], ◌∷◌}
 use Rattle.std.specs.List.{flat_map}
 use Rattle.cc_data.specs.declared.triplet.Triplet.{Triplet}
 use Rattle.cc_data.specs.Triplets.{triplets_of}
-use Rattle.cdp_packets.specs.Packets.{Packet}
+use Rattle.cdp_packets.specs.Packets.{Frame}
 
 -- the triplets of a section: those behind the count of a cc_data section, and none of another section
 abbrev pub section_triplets : List ℕ → List Triplet
@@ -16,5 +17,5 @@ section_triplet_bytes (id ∷ second ∷ rest) = if id == 0x72 then rest else []
 section_triplet_bytes _ = []
 
 -- the triplets of a packet are those of its cc_data sections, in order
-abbrev pub packet_triplets : Packet → List Triplet
+abbrev pub packet_triplets : Frame → List Triplet
 packet_triplets packet = flat_map section_triplets packet.sections

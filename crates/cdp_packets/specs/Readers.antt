@@ -1,3 +1,4 @@
+-- Between crates: the program's answer stands on none of these definitions.
 -- What a reader of caption distribution packets keeps of the open packet: which byte comes next, how many are left, the
 -- counter and the sum.
 use Rattle.std.specs.Prelude.{◌≡◌, ℕ, ◌+◌, ◌-◌, ◌%◌, ◌==◌, nat_lt, if◌then◌else◌, List, [], ◌∷◌, length, Option}
@@ -14,7 +15,7 @@ use Rattle.cdp_packets.specs.declared.within.Within.{Within}
 use Rattle.cdp_packets.specs.declared.within.Within.TheVariants as within
 use Rattle.cdp_packets.specs.declared.reader.CdpReader.{CdpReader}
 use Rattle.cdp_packets.specs.Reading.{IsPacketLength, Open, cdp_syntax}
-use Rattle.cdp_packets.specs.Sections.{rest_of}
+use Rattle.cdp_packets.specs.Sections.{section_rest}
 
 -- the bytes of the open triplet
 abbrev pub kept_of_triplet : List ℕ → OpenTriplet
@@ -27,7 +28,7 @@ abbrev pub next_of_section : List ℕ → List ℕ → Within
 next_of_section [] triplet = within.Id
 next_of_section (id ∷ []) triplet = within.Count id
 next_of_section (id ∷ second ∷ rest) triplet =
-    if id == 0x72 then within.Triplet (rest_of id second - length rest) (kept_of_triplet triplet) else within.Body (rest_of id second - length rest)
+    if id == 0x72 then within.Triplet (section_rest id second - length rest) (kept_of_triplet triplet) else within.Body (section_rest id second - length rest)
 
 -- the byte of the footer that comes next, where so many are left
 abbrev pub next_of_footer : ℕ → Place

@@ -1,3 +1,4 @@
+-- Believed in part: the program's answer stands on some of these definitions.
 -- How a caption distribution packet is read (SMPTE ST 334-2), one byte after another, where its length is known from the
 -- ancillary packet that carries it: seven bytes, the sections, and four bytes of the footer. A byte is judged by the bytes
 -- before it, and one of a section by the open section and its open triplet. It is refused where no packet of the length goes
@@ -14,8 +15,8 @@ use Rattle.cc_base.specs.Syntax.{Syntax, open_behind, parts_from}
 use Rattle.cc_data.specs.Triplets.{triplet_of}
 use Rattle.cdp_packets.specs.declared.parts.CdpPart.{CdpPart}
 use Rattle.cdp_packets.specs.declared.parts.CdpPart.TheVariants as part
-use Rattle.cdp_packets.specs.Packets.{IsCdp, Packet}
-use Rattle.cdp_packets.specs.Sections.{is_id, rest_of}
+use Rattle.cdp_packets.specs.Packets.{Frame, IsCdp}
+use Rattle.cdp_packets.specs.Sections.{is_id, section_rest}
 
 -- a packet can have this length: eleven bytes stand around the sections, and a list of sections never has one byte
 abbrev pub IsPacketLength : ℕ → Type 0
@@ -30,7 +31,7 @@ id_fits left id = is_id id && nat_le 2 left
 -- some list of sections goes on with this second byte, where so many bytes are left, itself among them: the section has no
 -- more than these, and behind it stands no single byte
 abbrev pub count_fits : ℕ → ℕ → ℕ → Bool
-count_fits left id count = nat_le (rest_of id count + 1) left && not (left == rest_of id count + 2)
+count_fits left id count = nat_le (section_rest id count + 1) left && not (left == section_rest id count + 2)
 
 -- what is made of a triplet's next byte, after those before it: two bytes make a half, with a third byte 0, and three a triplet
 abbrev pub judge_triplet : List ℕ → ℕ → Step CdpPart
@@ -95,8 +96,8 @@ judge_cdp size open_packet byte =
 -- the open section behind one more byte: none, where that was its last
 abbrev pub section_behind : List ℕ → ℕ → List ℕ
 section_behind [] byte = byte ∷ []
-section_behind (id ∷ []) byte = if rest_of id byte == 0 then [] else id ∷ byte ∷ []
-section_behind (id ∷ second ∷ rest) byte = if nat_le (rest_of id second) (length rest + 1) then [] else id ∷ second ∷ (rest ++ byte ∷ [])
+section_behind (id ∷ []) byte = if section_rest id byte == 0 then [] else id ∷ byte ∷ []
+section_behind (id ∷ second ∷ rest) byte = if nat_le (section_rest id second) (length rest + 1) then [] else id ∷ second ∷ (rest ++ byte ∷ [])
 
 -- the open triplet behind one more byte
 abbrev pub bytes_behind : List ℕ → ℕ → List ℕ
@@ -140,6 +141,6 @@ pub record GoesOnWithFilling (size : ℕ) (bytes : List ℕ) : Type 0 where
   pub more : List ℕ
   pub bytes_are : All (λ byte. byte < 256) more
   pub long : length (bytes ++ more) ≡ size
-  pub packet : Packet
+  pub packet : Frame
   pub is : IsCdp packet (bytes ++ more)
   pub filling : All IsFilling (parts_from (cdp_syntax size) (open_behind (cdp_syntax size) bytes) more)

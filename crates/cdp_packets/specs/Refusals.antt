@@ -1,3 +1,4 @@
+-- Believed in part: the program's answer stands on some of these definitions.
 -- Where a byte of a caption distribution packet can be refused, and for what (SMPTE ST 334-2); and what sections can follow.
 use Rattle.std.specs.Prelude.{◌≡◌, ℕ, ◌+◌, ◌<◌, ◌≤◌, ◌++◌, ◌⊎◌, true, List, [], ◌∷◌, drop, length}
 use Rattle.std.specs.List.{All}

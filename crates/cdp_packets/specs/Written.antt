@@ -1,3 +1,4 @@
+-- Believed: the program's answer stands on these definitions.
 -- What is written of a caption distribution packet, byte for byte: marker bits are ones (SMPTE ST 334-2).
 use Rattle.std.specs.Prelude.{ℕ, ◌+◌, ◌-◌, ◌*◌, ◌/◌, ◌%◌, List, [], ◌∷◌, ◌++◌, length, sum}
 use Rattle.cc_base.specs.declared.rate.Rate.{Rate}

@@ -11,7 +11,7 @@ ghost use Rattle.cc_base.specs.Syntax.{AllRead, Reads, open_behind, parts_of, re
 ghost use Rattle.cc_data.specs.declared.triplet.Triplet.{Triplet};
 ghost use Rattle.cdp_packets.specs.declared.parts.CdpPart.{CdpPart as Part};
 ghost use Rattle.cdp_packets.specs.Sections.{IsSection, AreSections, is_id};
-ghost use Rattle.cdp_packets.specs.Packets.{Packet, IsCdp};
+ghost use Rattle.cdp_packets.specs.Packets.{Frame, IsCdp};
 ghost use Rattle.cdp_packets.specs.PacketParts.{packet_parts};
 ghost use Rattle.cdp_packets.specs.PacketTriplets.{section_triplets, packet_triplets};
 ghost use Rattle.cdp_packets.specs.Reading.{GoesOnWithFilling, IsPacketLength, cdp_syntax, count_fits, id_fits, judge_cdp, no_section_open, nothing_open};
@@ -21,11 +21,11 @@ ghost use Rattle.cdp_packets.specs.Written.{cc_data_section, written_packet};
 /// Bytes begin with one packet at most: whatever follows them, two packets at the head of one list
 /// are the same, and so is what follows.
 pub fn packets_are_told_apart()
-    ensures packet { (p q : Packet) (front begin rest more : List ℕ) → IsCdp p front → IsCdp q begin
+    ensures packet { (p q : Frame) (front begin rest more : List ℕ) → IsCdp p front → IsCdp q begin
         → front ++ rest ≡ begin ++ more → p ≡ q }
-    ensures bytes { (p q : Packet) (front begin rest more : List ℕ) → IsCdp p front → IsCdp q begin
+    ensures bytes { (p q : Frame) (front begin rest more : List ℕ) → IsCdp p front → IsCdp q begin
         → front ++ rest ≡ begin ++ more → front ≡ begin }
-    ensures rest { (p q : Packet) (front begin rest more : List ℕ) → IsCdp p front → IsCdp q begin
+    ensures rest { (p q : Frame) (front begin rest more : List ℕ) → IsCdp p front → IsCdp q begin
         → front ++ rest ≡ begin ++ more → rest ≡ more }
 {}
 
@@ -40,7 +40,7 @@ pub fn written_is_read_back()
     ensures packet { (rate : Rate) (flags counter : ℕ) (cut : List (List ℕ)) → AreSections cut
         → IsCdp (record { rate = rate; flags = flags; counter = counter; sections = cut })
         (written_packet rate flags counter (concat cut)) }
-    ensures read { (rate : Rate) (flags counter : ℕ) (cut : List (List ℕ)) (p : Packet)
+    ensures read { (rate : Rate) (flags counter : ℕ) (cut : List (List ℕ)) (p : Frame)
         (front rest more : List ℕ) → AreSections cut → IsCdp p front
         → front ++ rest ≡ written_packet rate flags counter (concat cut) ++ more
         → p ≡ record { rate = rate; flags = flags; counter = counter; sections = cut } }
@@ -56,39 +56,56 @@ pub fn written_triplets_are_read_back()
     ensures packet { (rate : Rate) (flags counter : ℕ) (triplets : List Triplet)
         → All (λ t. t.kind < 4) triplets
         → packet_triplets
-        (record { rate = rate; flags = flags; counter = counter; sections = cc_data_section triplets ∷ [] })
+        (record {
+          rate = rate;
+          flags = flags;
+          counter = counter;
+          sections = cc_data_section triplets ∷ [];
+        })
         ≡ triplets }
 {}
 
 /// A packet is read to its end: none of its bytes is refused, they make its parts, and no section is open behind them. Under a
 /// layer that takes these parts they are handed upward, and there is no refusal.
 pub fn packets_are_read()
-    ensures length { (packet : Packet) (bytes : List ℕ) → IsCdp packet bytes → IsPacketLength (length bytes) }
-    ensures read { (packet : Packet) (bytes : List ℕ) → IsCdp packet bytes
-        → Reads (cdp_syntax (length bytes)) nothing_open bytes (packet_parts packet) (no_section_open bytes) }
-    ensures handed { (verdict : Verdict Part) (packet : Packet) (bytes : List ℕ) → IsCdp packet bytes
+    ensures length { (packet : Frame) (bytes : List ℕ) → IsCdp packet bytes
+        → IsPacketLength (length bytes) }
+    ensures read { (packet : Frame) (bytes : List ℕ) → IsCdp packet bytes
+        → Reads (cdp_syntax (length bytes)) nothing_open bytes (packet_parts packet)
+        (no_section_open bytes) }
+    ensures handed { (verdict : Verdict Part) (packet : Frame) (bytes : List ℕ) → IsCdp packet bytes
         → AreAccepted verdict [] (packet_parts packet)
-        → read_under (cdp_syntax (length bytes)) 1 verdict bytes ≡ record { parts = packet_parts packet; refusal = None } }
+        → read_under (cdp_syntax (length bytes)) 1 verdict bytes
+        ≡ record { parts = packet_parts packet; refusal = None } }
 {}
 
 /// What is read is a packet: as many bytes as the packet is to have, none of which is refused, are a packet, and make its parts.
 /// Bytes behind them change nothing. Where there is no refusal, no byte was refused, and the layer above took all parts.
 pub fn what_is_read_is_a_packet()
-    ensures packet { (size : ℕ) (bytes : List ℕ) → IsPacketLength size → length bytes ≡ size → AllRead (cdp_syntax size) bytes
-        → (packet : Packet) × IsCdp packet bytes × (parts_of (cdp_syntax size) bytes ≡ packet_parts packet) }
-    ensures behind { (size : ℕ) (bytes more : List ℕ) → IsPacketLength size → length bytes ≡ size → AllRead (cdp_syntax size) bytes
-        → Reads (cdp_syntax size) (open_behind (cdp_syntax size) bytes) more [] (open_behind (cdp_syntax size) bytes) }
-    ensures unrefused { (size : ℕ) (verdict : Verdict Part) (bytes : List ℕ) → (read_under (cdp_syntax size) 1 verdict bytes).refusal ≡ None
-        → AllRead (cdp_syntax size) bytes × AreAccepted verdict [] (parts_of (cdp_syntax size) bytes) }
+    ensures packet { (size : ℕ) (bytes : List ℕ) → IsPacketLength size → length bytes ≡ size
+        → AllRead (cdp_syntax size) bytes
+        → (packet : Frame) × IsCdp packet bytes
+        × (parts_of (cdp_syntax size) bytes ≡ packet_parts packet) }
+    ensures behind { (size : ℕ) (bytes more : List ℕ) → IsPacketLength size → length bytes ≡ size
+        → AllRead (cdp_syntax size) bytes
+        → Reads (cdp_syntax size) (open_behind (cdp_syntax size) bytes) more []
+        (open_behind (cdp_syntax size) bytes) }
+    ensures unrefused { (size : ℕ) (verdict : Verdict Part) (bytes : List ℕ)
+        → (read_under (cdp_syntax size) 1 verdict bytes).refusal ≡ None
+        → AllRead (cdp_syntax size) bytes
+        × AreAccepted verdict [] (parts_of (cdp_syntax size) bytes) }
 {}
 
 /// Bytes none of which is refused begin some packet of the length, also one whose further bytes only fill it; and no packet of
 /// the length begins with bytes whose last one is refused.
 pub fn a_byte_is_refused_where_no_packet_goes_on()
-    ensures begun { (size : ℕ) (bytes : List ℕ) → IsPacketLength size → size < 256 → All (λ byte. byte < 256) bytes
+    ensures begun { (size : ℕ) (bytes : List ℕ) → IsPacketLength size → size < 256
+        → All (λ byte. byte < 256) bytes
         → length bytes ≤ size → AllRead (cdp_syntax size) bytes → GoesOnWithFilling size bytes }
-    ensures refused { (size : ℕ) (bytes : List ℕ) (byte : ℕ) (reason : Reason) (more : List ℕ) (packet : Packet)
-        → judge_cdp size (open_behind (cdp_syntax size) bytes) byte ≡ Refuse reason → IsCdp packet (bytes ++ byte ∷ more)
+    ensures refused { (size : ℕ) (bytes : List ℕ) (byte : ℕ) (reason : Reason) (more : List ℕ)
+        (packet : Frame)
+        → judge_cdp size (open_behind (cdp_syntax size) bytes) byte ≡ Refuse reason
+        → IsCdp packet (bytes ++ byte ∷ more)
         → length (bytes ++ byte ∷ more) ≡ size → ⊥ }
 {}
 
@@ -102,8 +119,11 @@ pub fn sections_fit_where_some_can_follow()
 
 /// A refusal stands at its place: each reason comes at the byte that it speaks of, and there is no other reason.
 pub fn refusals_stand_at_their_places()
-    ensures one { (size : ℕ) (bytes : List ℕ) (reason other : Reason) → IsPacketLength size → StandsAt size bytes reason
+    ensures one { (size : ℕ) (bytes : List ℕ) (reason other : Reason) → IsPacketLength size
+        → StandsAt size bytes reason
         → StandsAt size bytes other → reason ≡ other }
-    ensures stands { (size : ℕ) (bytes : List ℕ) (byte : ℕ) (reason : Reason) → IsPacketLength size → length bytes ≤ size → AllRead (cdp_syntax size) bytes
-        → judge_cdp size (open_behind (cdp_syntax size) bytes) byte ≡ Refuse reason → StandsAt size bytes reason }
+    ensures stands { (size : ℕ) (bytes : List ℕ) (byte : ℕ) (reason : Reason) → IsPacketLength size
+        → length bytes ≤ size → AllRead (cdp_syntax size) bytes
+        → judge_cdp size (open_behind (cdp_syntax size) bytes) byte ≡ Refuse reason
+        → StandsAt size bytes reason }
 {}

@@ -13,10 +13,10 @@ mod sections;
 mod whole_packet;
 mod within;
 
-pub use packets::write_cdp;
+pub use packets::{CAPTION_FLAGS, write_cdp};
 pub use parts::CdpPart;
 pub use reader::CdpReader;
-pub use sections::{cc_section, section_len};
+pub use sections::{CC_DATA, TIME_CODE, cc_section, section_len};
 pub use whole_packet::{WholePacket, read_summed_packet, split_section, triplet_bytes};
 
 #[cfg(test)]

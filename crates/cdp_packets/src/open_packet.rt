@@ -127,9 +127,11 @@ impl OpenPacket {
 
     // Judges a byte before the sections, and goes on behind it where it isn't refused.
     fn head(&mut self, head: Head, item: u8) -> Step<CdpPart>
-        ensures says { (size : ℕ) (front : Open) → Keeps size front self.old → self.old.next ≡ place.Head head
+        ensures says { (size : ℕ) (front : Open) → Keeps size front self.old
+            → self.old.next ≡ place.Head head
             → result ≡ judge_cdp size front item }
-        ensures leads { (size : ℕ) (front : Open) → Keeps size front self.old → self.old.next ≡ place.Head head → IsTaken result
+        ensures leads { (size : ℕ) (front : Open) → Keeps size front self.old
+            → self.old.next ≡ place.Head head → IsTaken result
             → Keeps size (open_after size front item) self.new }
     {
         match head {
@@ -162,9 +164,11 @@ impl OpenPacket {
 
     // Judges a byte of the sections, and goes on behind it where it isn't refused.
     fn section(&mut self, within: Within, item: u8) -> Step<CdpPart>
-        ensures says { (size : ℕ) (front : Open) → Keeps size front self.old → self.old.next ≡ place.Sections within
+        ensures says { (size : ℕ) (front : Open) → Keeps size front self.old
+            → self.old.next ≡ place.Sections within
             → result ≡ judge_cdp size front item }
-        ensures leads { (size : ℕ) (front : Open) → Keeps size front self.old → self.old.next ≡ place.Sections within → IsTaken result
+        ensures leads { (size : ℕ) (front : Open) → Keeps size front self.old
+            → self.old.next ≡ place.Sections within → IsTaken result
             → Keeps size (open_after size front item) self.new }
     {
         let (step, within) = read_section_byte(within, self.left.saturating_sub(4), item);
@@ -174,9 +178,11 @@ impl OpenPacket {
 
     // Judges a byte of the footer, and goes on behind it where it isn't refused.
     fn footer(&mut self, footer: Footer, item: u8) -> Step<CdpPart>
-        ensures says { (size : ℕ) (front : Open) → Keeps size front self.old → self.old.next ≡ place.Footer footer
+        ensures says { (size : ℕ) (front : Open) → Keeps size front self.old
+            → self.old.next ≡ place.Footer footer
             → result ≡ judge_cdp size front item }
-        ensures leads { (size : ℕ) (front : Open) → Keeps size front self.old → self.old.next ≡ place.Footer footer → IsTaken result
+        ensures leads { (size : ℕ) (front : Open) → Keeps size front self.old
+            → self.old.next ≡ place.Footer footer → IsTaken result
             → Keeps size (open_after size front item) self.new }
     {
         match footer {

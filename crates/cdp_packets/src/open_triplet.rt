@@ -19,8 +19,10 @@ pub(crate) enum OpenTriplet {
 
 /// Gives the parts that the next byte of a triplet makes, and what has come with it.
 pub(crate) fn read_triplet_byte(triplet: OpenTriplet, item: u8) -> (Step<CdpPart>, OpenTriplet)
-    ensures says { (bytes : List ℕ) → triplet ≡ kept_of_triplet bytes → result.0 ≡ judge_triplet bytes item }
-    ensures next { (bytes : List ℕ) → triplet ≡ kept_of_triplet bytes → result.1 ≡ kept_of_triplet (bytes_behind bytes item) }
+    ensures says { (bytes : List ℕ) → triplet ≡ kept_of_triplet bytes
+        → result.0 ≡ judge_triplet bytes item }
+    ensures next { (bytes : List ℕ) → triplet ≡ kept_of_triplet bytes
+        → result.1 ≡ kept_of_triplet (bytes_behind bytes item) }
 {
     let byte = CdpPart::SectionByte(item);
     match triplet {

@@ -8,6 +8,9 @@ use crate::pieces::append;
 use arrayvec::ArrayVec;
 use cc_base::Rate;
 
+/// The flags of a packet with a section of cc_data alone, of an active caption service (SMPTE ST 334-2).
+pub const CAPTION_FLAGS: u8 = 0x43;
+
 /// Writes a caption distribution packet of this rate, flags, counter and list of sections, of which there
 /// are at most 244 bytes, into an empty `out`. The flags stand as given: from the top they say that there are a
 /// time code, cc_data, service information, that this begins, is a change of, and is the whole of it, and

@@ -49,7 +49,8 @@ impl CdpReader {
             → result ≡ judge_cdp size (open_behind (cdp_syntax size) bytes) byte }
         ensures leads { (size : ℕ) (bytes : List ℕ) → HasRead size bytes self.old → IsTaken result
             → HasRead size (bytes ++ byte ∷ []) self.new }
-        ensures refused { (size : ℕ) (bytes : List ℕ) (reason : Reason) → HasRead size bytes self.old → result ≡ Refuse reason
+        ensures refused { (size : ℕ) (bytes : List ℕ) (reason : Reason)
+            → HasRead size bytes self.old → result ≡ Refuse reason
             → kept_refusal self.new ≡ Some (record { place = place_by 1 bytes; why = reason }) }
         ensures kept { (refused : Refused) → kept_refusal self.old ≡ Some refused
             → (result ≡ Refuse refused.why) × (self.new ≡ self.old) }

@@ -1,6 +1,6 @@
 ghost use Rattle.std.specs.Prelude.{◌≡◌, ℕ, ◌+◌, ◌*◌, ◌<◌, ◌≤◌, ◌++◌, List, All, length, take, drop};
 ghost use Rattle.arrayvec.specs.ArrayVec.{array_vec_len};
-ghost use Rattle.cdp_packets.specs.Sections.{rest_of, IsSection, IsSectionList};
+ghost use Rattle.cdp_packets.specs.Sections.{section_rest, IsSection, IsSectionList};
 ghost use Rattle.cdp_packets.specs.Written.{cc_data_section};
 
 use crate::pieces::append;
@@ -42,7 +42,7 @@ pub fn section_len(sections: &[u8]) -> usize
 
 // The number of bytes behind the first two of a section.
 pub(crate) fn rest_len(id: u8, second: u8) -> usize
-    ensures { result ≡ rest_of id second }
+    ensures { result ≡ section_rest id second }
 {
     let second = usize::from(second);
     match id {
@@ -53,11 +53,13 @@ pub(crate) fn rest_len(id: u8, second: u8) -> usize
     }
 }
 
-// The ids of the sections that this version knows; every other section has its length in its second byte.
-pub(crate) const TIME_CODE: u8 = 0x71;
+/// The id of a time code section (SMPTE ST 334-2).
+pub const TIME_CODE: u8 = 0x71;
 
-pub(crate) const CC_DATA: u8 = 0x72;
+/// The id of a section of cc_data (SMPTE ST 334-2).
+pub const CC_DATA: u8 = 0x72;
 
+// The id of a section of service information; every section of another id has its length in its second byte.
 pub(crate) const SERVICE_INFORMATION: u8 = 0x73;
 
 // The ids that are kept for the future: the second byte of their sections says how many come behind it.

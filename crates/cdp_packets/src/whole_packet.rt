@@ -1,6 +1,6 @@
 ghost use Rattle.std.specs.Prelude.{◌≡◌, ℕ, ◌%◌, ◌≤◌, ◌++◌, List, length, sum, IfNone, IfSome, MatchBool};
 ghost use Rattle.cc_data.specs.Triplets.{triplets_of};
-ghost use Rattle.cdp_packets.specs.Packets.{Packet, IsCdp};
+ghost use Rattle.cdp_packets.specs.Packets.{Frame, IsCdp};
 ghost use Rattle.cdp_packets.specs.PacketTriplets.{section_triplet_bytes, section_triplets};
 ghost use Rattle.cdp_packets.specs.Sections.{is_id, IsSection, IsSectionList};
 ghost use Rattle.cdp_packets.specs.WholePackets.{SaysPacket};
@@ -29,9 +29,10 @@ pub struct WholePacket<'a> {
 #[inline]
 pub fn read_summed_packet(bytes: &[u8], total: u8) -> Option<WholePacket<'_>>
     requires { total ≡ sum bytes.now % 256 }
-    ensures packet { IfSome result (λ whole. (packet : Packet) × IsCdp packet bytes.now × SaysPacket whole packet) }
+    ensures packet { IfSome result
+        (λ whole. (packet : Frame) × IsCdp packet bytes.now × SaysPacket whole packet) }
     ensures few { IfSome result (λ whole. length whole.sections.now ≤ 244) }
-    ensures none { IfNone result ((packet : Packet) → IsCdp packet bytes.now → ⊥) }
+    ensures none { IfNone result ((packet : Frame) → IsCdp packet bytes.now → ⊥) }
 {
     let [
         first,
@@ -82,7 +83,8 @@ fn are_sections(bytes: &[u8]) -> bool
 pub fn split_section(bytes: &[u8]) -> Option<(&[u8], &[u8])>
     ensures section { IfSome result (λ parts. IsSection parts.0.now) }
     ensures whole { IfSome result (λ parts. bytes.now ≡ parts.0.now ++ parts.1.now) }
-    ensures none { IfNone result ((section rest : List ℕ) → IsSection section → bytes.now ≡ section ++ rest → ⊥) }
+    ensures none { IfNone result
+        ((section rest : List ℕ) → IsSection section → bytes.now ≡ section ++ rest → ⊥) }
 {
     let [id, second, ..] = bytes else {
         return None;

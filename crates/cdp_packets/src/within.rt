@@ -55,7 +55,8 @@ fn unless_ended(left: usize, next: Within) -> Within
 
 // What comes next behind the first two bytes of a section with this id.
 fn body(id: u8, left: usize) -> Within
-    ensures { result ≡ (if id == 0x72 then within.Triplet left open_triplet.Empty else within.Body left) }
+    ensures { result
+        ≡ (if id == 0x72 then within.Triplet left open_triplet.Empty else within.Body left) }
 {
     match id {
         CC_DATA => Within::Triplet {
@@ -70,8 +71,10 @@ fn body(id: u8, left: usize) -> Within
 pub(crate) fn read_section_byte(within: Within, left: u8, item: u8) -> (Step<CdpPart>, Within)
     ensures says { (section triplet : List ℕ) → within ≡ next_of_section section triplet
         → result.0 ≡ judge_section left section triplet item }
-    ensures next { (section triplet : List ℕ) → within ≡ next_of_section section triplet → IsTaken result.0
-        → result.1 ≡ next_of_section (section_behind section item) (triplet_behind section triplet item) }
+    ensures next { (section triplet : List ℕ) → within ≡ next_of_section section triplet
+        → IsTaken result.0
+        → result.1 ≡ next_of_section (section_behind section item)
+        (triplet_behind section triplet item) }
 {
     let byte = CdpPart::SectionByte(item);
     match within {

@@ -1,3 +1,4 @@
+-- Believed: the program's answer stands on these definitions.
 -- The runs of rows of cells, as whole lists: by row, then column, the longest stretches of neighbouring cells of one row that are
 -- written alike.
 use Rattle.std.specs.Prelude.{ℕ, zero, suc, Bool, false, if◌then◌else◌, List, Option, Some, None, drop, length, slice_index_or, take_while}

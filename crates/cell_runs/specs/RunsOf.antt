@@ -1,3 +1,4 @@
+-- Between crates: the program's answer stands on none of these definitions.
 -- What the runs of rows of cells are: the longest stretches of neighbouring cells of one row that are written alike, by row, then
 -- column.
 use Rattle.std.specs.Prelude.{◌≡◌, ℕ, ◌+◌, ◌<◌, ◌≤◌, ◌⊎◌, Bool, true, false, List, [], ◌∷◌, Option, Some, Contains, IsSome, length, slice_index}

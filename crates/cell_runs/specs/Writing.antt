@@ -1,3 +1,4 @@
+-- Believed: the program's answer stands on these definitions.
 -- How the cells of a screen are written: which are written alike, and the character of each.
 use Rattle.std.specs.Prelude.{ℕ, ◌==◌, ◌&&◌, Bool}
 use Rattle.std.specs.Bool.{beq}

@@ -9,5 +9,6 @@ ghost use Rattle.dtvcc_windows.specs.declared.cells.DCell.{DCell};
 /// same colours.
 pub fn cells_are_written_alike()
     ensures line21 { (a b : Cell) → (in_styles.alike a b ≡ true) ↔ (a.style ≡ b.style) }
-    ensures windows { (a b : DCell) → (in_pens.alike a b ≡ true) ↔ ((a.pen ≡ b.pen) × (a.colors ≡ b.colors)) }
+    ensures windows { (a b : DCell)
+        → (in_pens.alike a b ≡ true) ↔ ((a.pen ≡ b.pen) × (a.colors ≡ b.colors)) }
 {}

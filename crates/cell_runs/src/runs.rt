@@ -50,7 +50,9 @@ pub fn write_front<C: WrittenCell, O: Sink>(
     text: &mut Gathered,
     out: &mut O,
 )
-    ensures { Writes (page text.old (O.written out.old) (O.faults out.old)) (page text.new (O.written out.new) (O.faults out.new)) (encode_utf8_all (front_text C.writing first cells.now)) }
+    ensures { Writes (page text.old (O.written out.old) (O.faults out.old))
+        (page text.new (O.written out.new) (O.faults out.new))
+        (encode_utf8_all (front_text C.writing first cells.now)) }
 {
     for cell in cells {
         match cell {

@@ -1,3 +1,4 @@
+-- Believed in part: the program's answer stands on some of these definitions.
 -- Caption channel packets (CTA-708-E, section 5): of the triplets of cc_data in a whole file, in order, those that count and
 -- are of kind 3 or 2. One of kind 3 starts a packet, and those of kind 2 behind it go on with it. The first byte of a packet
 -- is its header; the header says how many of the bytes behind it are the packet's.

@@ -1,3 +1,4 @@
+-- Between crates: the program's answer stands on none of these definitions.
 -- The parts of channel packets, in order (CTA-708-E, section 5): the header of each packet, and its bytes.
 use Rattle.std.specs.Prelude.{ℕ, ◌-◌, List, [], ◌∷◌, ◌++◌, Option, Some}
 use Rattle.channel_packets.specs.declared.parts.PacketPart.{PacketPart}

@@ -1,3 +1,4 @@
+-- Believed in part: the program's answer stands on some of these definitions.
 -- What is written of a channel packet, triplet for triplet (CTA-708-E, section 5): an odd number of bytes stands behind the
 -- header, so an even one is completed by a byte 00.
 use Rattle.std.specs.Prelude.{ℕ, ◌+◌, ◌*◌, ◌/◌, ◌%◌, ◌==◌, if◌then◌else◌, true, List, [], ◌∷◌, ◌++◌, length}

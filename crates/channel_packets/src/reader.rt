@@ -38,9 +38,12 @@ impl PacketReader {
     /// Reads the next triplet, and gives the parts that it makes in place of handing them upward: what `feed` makes of it under
     /// a layer that takes them. After a refusal of such a layer, that is the answer, and nothing is read.
     pub fn step(&mut self, triplet: Triplet) -> Step<PacketPart>
-        ensures says { (triplets : List Three) → HasRead triplets self.old → result ≡ judge_triplet (open_behind packet_syntax triplets) triplet }
-        ensures leads { (triplets : List Three) → HasRead triplets self.old → HasRead (triplets ++ triplet ∷ []) self.new }
-        ensures kept { (refused : Refused) → kept_refusal self.old ≡ Some refused → (result ≡ Refuse refused.why) × (self.new ≡ self.old) }
+        ensures says { (triplets : List Three) → HasRead triplets self.old
+            → result ≡ judge_triplet (open_behind packet_syntax triplets) triplet }
+        ensures leads { (triplets : List Three) → HasRead triplets self.old
+            → HasRead (triplets ++ triplet ∷ []) self.new }
+        ensures kept { (refused : Refused) → kept_refusal self.old ≡ Some refused
+            → (result ≡ Refuse refused.why) × (self.new ≡ self.old) }
     {
         self.fed.step(triplet)
     }

@@ -3,7 +3,7 @@ ghost use Rattle.arrayvec.specs.ArrayVec.{array_vec_len};
 ghost use Rattle.channel_packets.specs.Written.{bytes_written, packet_written};
 
 use arrayvec::ArrayVec;
-use cc_data::Triplet;
+use cc_data::{PACKET_DATA, PACKET_START, Triplet};
 
 /// Writes the service blocks of frames as caption channel packets (CTA-708-E, section 5), and numbers these.
 #[derive(Clone, Copy, Debug)]
@@ -29,11 +29,12 @@ impl PacketWriter {
         requires some { 1 ≤ length blocks.now }
         requires few { length blocks.now ≤ 127 }
         requires empty { out.old.items ≡ [] }
-        ensures written { (count : ℕ) → HasWritten count self.old → out.new.items ≡ packet_written (count % 4) blocks.now }
+        ensures written { (count : ℕ) → HasWritten count self.old
+            → out.new.items ≡ packet_written (count % 4) blocks.now }
         ensures next { (count : ℕ) → HasWritten count self.old → HasWritten (count + 1) self.new }
     {
         let header = 64 * self.number + (blocks.len() / 2 + 1) as u8 % 64;
-        out.push(triplet(START, header, blocks[0]));
+        out.push(triplet(PACKET_START, header, blocks[0]));
         write_bytes(&blocks[1..], out);
         self.number = (self.number + 1) % 4;
     }
@@ -46,11 +47,11 @@ fn write_bytes(bytes: &[u8], out: &mut ArrayVec<Triplet, 64>)
 {
     let (pairs, last) = bytes.as_chunks::<2>();
     for [first, second] in pairs {
-        out.push(triplet(FURTHER, *first, *second));
+        out.push(triplet(PACKET_DATA, *first, *second));
     }
     match last {
         [] => {}
-        [first, ..] => out.push(triplet(FURTHER, *first, 0)),
+        [first, ..] => out.push(triplet(PACKET_DATA, *first, 0)),
     }
 }
 
@@ -66,8 +67,3 @@ fn triplet(kind: u8, a: u8, b: u8) -> Triplet
         b,
     }
 }
-
-// The kinds of triplets that start a packet and go on with it.
-const START: u8 = 3;
-
-const FURTHER: u8 = 2;

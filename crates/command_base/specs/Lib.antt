@@ -1,4 +1,5 @@
 pub mod Counts
 pub mod Ends
+pub mod MakesAnswer
 pub mod StatusCode
 pub mod WholeInput

@@ -1,3 +1,4 @@
+-- Believed in part: the program's answer stands on some of these definitions.
 -- Commands that read their input to its end and judge it before they put anything: how bytes are judged, how an input is read, and
 -- what such a command answers, each status with its cause and with what was put.
 use Rattle.std.specs.Prelude.{◌≡◌, ◌<◌, ℕ, List, [], length, IfSome, Option, Some, Result, Ok, Err, ⊤}

@@ -16,7 +16,7 @@ use Rattle.line21_codes.proofs.Tables.{all_below, at_each}
 use Rattle.std.proofs.Math.Utf8.{low_scalar}
 use Rattle.std.specs.Prelude.{find, option_map}
 use Rattle.dtvcc_codes.specs.Characters.{g2_characters}
-use Rattle.dtvcc_codes.specs.CharacterSpellings.{spelling_of as dtv_spelling_of}
+use Rattle.dtvcc_codes.specs.CharacterSpellings.{dtvcc_spelling as dtv_spelling_of}
 use Rattle.dtvcc_codes.specs.CodeTables.{ext1}
 use Rattle.record_files.proofs.Passing.{both_of, on_test}
 use Rattle.cue_form.specs.Form.{is_coded}

@@ -5,7 +5,7 @@ use Rattle.std.specs.List.{list_all}
 use Rattle.std.specs.Str.{IsAscii}
 use Rattle.line21_codes.specs.Spellings.{spelling_of}
 use Rattle.line21_codes.proofs.Tables.{all_below, at_each}
-use Rattle.dtvcc_codes.specs.CharacterSpellings.{spelling_of as dtv_spelling_of}
+use Rattle.dtvcc_codes.specs.CharacterSpellings.{dtvcc_spelling as dtv_spelling_of}
 use Rattle.record_files.proofs.Passing.{both_of}
 use Rattle.cue_form.proofs.TextFacts.{text_good}
 use Rattle.cue_form.specs.Form.{cue_columns, is_coded}

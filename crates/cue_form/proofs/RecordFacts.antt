@@ -2,7 +2,7 @@
 use Rattle.std.proofs.Common.{◌≡◌, ◌+◌, ◌-◌, ◌<◌, ◌≤◌, ◌==◌, ◌^◌, ◌&&◌, Bool, true, false, not, nat_le, List, [], ◌∷◌, drop, length, chars, ℕ, zero, suc, codes, All, IsSome, Option, Some, None, Ok, refl, sym, ap, subst, ◌∙◌, arith, eqb-true, leb-true}
 use Rattle.std.specs.Prelude.{decimal, is_some, option_map, unwrap_or}
 use Rattle.line21_codes.specs.Spellings.{spelling_of}
-use Rattle.dtvcc_codes.specs.CharacterSpellings.{spelling_of as dtv_spelling_of}
+use Rattle.dtvcc_codes.specs.CharacterSpellings.{dtvcc_spelling as dtv_spelling_of}
 use Rattle.std.specs.List.{list_any}
 use Rattle.std.proofs.lemmas.Fmt.{decimal_digit}
 use Rattle.std.proofs.lemmas.List.Elements.{All-nil}

@@ -1,3 +1,4 @@
+-- Between crates: the program's answer stands on none of these definitions.
 -- How an answer agrees with what is due, where memory may run out.
 use Rattle.std.specs.Prelude.{◌≡◌, ⊤, Result, Ok, Err}
 use Rattle.cue_form.specs.Begun.{Begun}

@@ -1,3 +1,4 @@
+-- Believed in part: the program's answer stands on some of these definitions.
 -- A cue list that is begun: what its first records spell. Further runs belong to its last cue.
 use Rattle.std.specs.Prelude.{◌≡◌, ⊤, ◌<◌, ◌≤◌, ◌^◌, Bool, true, false, List, [], ◌∷◌, ◌++◌, length, All, Option, Some, None, option_to_list}
 use Rattle.cue_types.specs.Coloured.{coloured}

@@ -1,3 +1,4 @@
+-- Believed in part: the program's answer stands on some of these definitions.
 -- The first fault of records that spell no cue list. Each record is judged in the light of the list that the records
 -- before it begin.
 use Rattle.std.specs.Prelude.{◌≡◌, ⊤, ◌+◌, ◌⊎◌, true, List, ◌∷◌, ◌++◌, length, Some, None}

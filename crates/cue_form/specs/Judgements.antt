@@ -1,3 +1,4 @@
+-- Believed: the program's answer stands on these definitions.
 -- What is judged of each record, in the order in which it is judged: what may stand there, then the number of its fields,
 -- then its fields from the left. Each judgement has the offence that comes where it isn't good.
 use Rattle.std.specs.Prelude.{ℕ, ◌+◌, ◌-◌, ◌==◌, Bool, false, not, ◌&&◌, nat_lt, nat_le, if◌then◌else◌, List, [], ◌∷◌, length, chars, Option, Some, None, is_some}

@@ -1,3 +1,4 @@
+-- Believed in part: the program's answer stands on some of these definitions.
 -- Reading a cue list record by record: the list that they spell, or the first fault. A record is refused with the first of
 -- its judgements that isn't good; else its fields have these values.
 use Rattle.std.specs.Prelude.{ℕ, ◌+◌, ◌-◌, ◌==◌, false, if◌then◌else◌, List, [], ◌∷◌, ◌++◌, chars, Option, Some, None, unwrap_or, option_map, Result, Ok, Err}

@@ -1,3 +1,4 @@
+-- Believed: the program's answer stands on these definitions.
 -- The records that spell a cue list: its head, then its shares, then each cue with its attributes and its runs. A number is spelled in
 -- decimal digits, a text in UTF-8.
 use Rattle.std.specs.Prelude.{◌≡◌, ℕ, Bool, if◌then◌else◌, List, [], ◌∷◌, ◌++◌, map, flat_map, codes, decimal, encode_utf8_all, Option, Some, None}

@@ -1,3 +1,4 @@
+-- Between crates: the program's answer stands on none of these definitions.
 -- The text of a run, judged for its bytes, then for its characters, then for its length.
 use Rattle.std.specs.Prelude.{ℕ, ◌+◌, ◌&&◌, ◌==◌, not, nat_lt, nat_le, if◌then◌else◌, Bool, List, length, chars, Result, Ok, Err}
 use Rattle.std.specs.List.{list_all}

@@ -163,7 +163,8 @@ impl Draft {
 
     /// Adds the head.
     fn add_head(&mut self, row: &ByteRecord) -> Result<(), Offence>
-        ensures { GivesBegun (adds self.old RecordKind.Ccsuite (fields_of row.now)) result self.new }
+        ensures { GivesBegun (adds self.old RecordKind.Ccsuite
+            (fields_of row.now)) result self.new }
     {
         self.head = Some(read_head(row)?);
         Ok(())

@@ -1,28 +1,13 @@
 -- Lines on their way to a sink: what is put, what is held, and what is to come.
-use Rattle.std.proofs.Common.{◌≡◌, ◌∙◌, ◌++◌, ◌+◌, ap, append_assoc, append-nil, refl, subst, sym, ℕ, List, [], Option, add-one}
+use Rattle.std.proofs.Common.{◌≡◌, ◌++◌, ◌+◌, refl, ℕ, List, Option, add-one}
 use Rattle.cc_base.specs.Streams.{Puts}
 use Rattle.cc_base.specs.declared.streams.Put.{Put}
 use Rattle.cc_base.specs.declared.streams.Put.TheVariants as put
-use Rattle.cc_base.proofs.Puts.{puts_then}
 use Rattle.frame_scheduler.specs.Columns.{Columns}
 use Rattle.frame_scheduler.specs.declared.frames.FrameBytes.{FrameBytes}
-use Rattle.programmes.proofs.OnTheWay.{IsOnTheWay, piece_put, way_failed}
+use Rattle.programmes.proofs.OnTheWay.{IsOnTheWay, piece_gathered, way_ended, way_failed}
 use Rattle.text_output.specs.Gathered.{Flushes, Gathers}
 use Rattle.cue_list_commands.specs.Lines.{pair_line, pair_lines}
-
--- a piece more was gathered: a part of what was held and of the piece is put, the rest is held
-piece_gathered : (a b c : Option (List ℕ)) (before after piece rest all : List ℕ)
-    → IsOnTheWay a b (before ++ (piece ++ rest)) all → Gathers b c before after put.Done piece → IsOnTheWay a c (after ++ rest) all
-piece_gathered a b c before after piece rest all way (more, next, is) =
-    piece_put a b c more (after ++ rest) all
-    (subst (λ (l : List ℕ). IsOnTheWay a b l all) (sym (append_assoc before piece rest) ∙ ap (λ (l : List ℕ). l ++ rest) is ∙ append_assoc more after rest) way) next
-
--- what was held is put, and nothing is to come
-way_ended : (a b c : Option (List ℕ)) (r : Put) (held all : List ℕ)
-    → IsOnTheWay a b (held ++ []) all → Puts b c r held → Puts a c r all
-way_ended a b c r held all way last =
-    let whole : way.sent ++ held ≡ all = ap (λ l. way.sent ++ l) (sym (append-nil held)) ∙ way.whole in
-    rw (← whole) (puts_then a b c r way.sent held way.appended last)
 
 -- the lines of columns are on their way: those of the frames before one are put or held, and these frames, of which so many are left, give the others
 abbrev pub LinesOnTheWay : {F : Type 0} → (F → ℕ) → (Columns → ℕ → F → Type 0) → Columns → Option (List ℕ) → Option (List ℕ) → List ℕ → F → List ℕ → Type 0
@@ -45,13 +30,8 @@ pub lines_failed : {F : Type 0} (left : F → ℕ) (Gives : Columns → ℕ → 
     → LinesOnTheWay left Gives columns a b held frames all → Puts b c put.Failed held → Puts a c put.Failed all
 lines_failed left Gives columns a b c held all frames (frame, gives, way) failed = way_failed a b c held _ all way failed
 
--- a flush puts what is held
-flushed : (b c : Option (List ℕ)) (held after : List ℕ) (r : Put) → Flushes b c held after r → Puts b c r held
-flushed b c held after put.Done flushes = flushes.0
-flushed b c held after put.Failed flushes = flushes
-
 -- what is held is put, and no frame is left
 pub lines_ended : {F : Type 0} (left : F → ℕ) (Gives : Columns → ℕ → F → Type 0) (columns : Columns) (a b c : Option (List ℕ)) (r : Put) (held after all : List ℕ) (frames : F)
     → LinesOnTheWay left Gives columns a b held frames all → left frames ≡ 0 → Flushes b c held after r → Puts a c r all
 lines_ended left Gives columns a b c r held after all frames (frame, gives, way) none last =
-    way_ended a b c r held all (rw none at way) (flushed b c held after r last)
+    way_ended a b c r held after all (rw none at way) last

@@ -1,20 +1,26 @@
 -- What a command that reads a cue list answers where no count of faults rose, and where one did.
 use Rattle.std.proofs.Common.{◌≡◌, ◌⊎◌, ℕ, List}
-use Rattle.command_base.proofs.WholeInputLemmas.{answered, refused, told, unrefused}
-use Rattle.cc_base.specs.declared.streams.Put.TheVariants as put
 use Rattle.command_base.specs.Counts.{IsReadOf, TellsFaults}
 use Rattle.command_base.specs.Ends.{Ends}
 use Rattle.command_base.specs.declared.status.Status.{Status}
 use Rattle.command_base.specs.declared.status.Status.TheVariants as status
 use Rattle.cue_lists.specs.Listing.{Listing}
+use Rattle.cue_lists.specs.Printing.{in_order, list_bytes}
+use Rattle.cue_lists.specs.Records.{records_of}
+use Rattle.cue_lists.specs.Spelling.{list_records}
+use Rattle.cue_lists.specs.declared.head.Version.TheVariants as version
 use Rattle.frame_scheduler.specs.Planned.{Placement}
 use Rattle.cue_list_commands.specs.Accepted.{IsAccepted, IsGoodList, IsRefused, IsRefusedList}
-use Rattle.cue_list_commands.specs.ListAnswer.{BuildAnswer, CuesAnswer, PairsAnswer, PutsList}
+use Rattle.cue_list_commands.specs.ListAnswer.{BuildAnswer, CuesAnswer, PairsAnswer}
 use Rattle.cue_list_commands.specs.Output.{IsPlacedAs, IsSoundPairs, IsSoundWords, framing_of, lines_of}
 use Rattle.programmes.specs.Framing.{words_of}
-use Rattle.programme_runs.proofs.AnswerLemmas.{made_accepted, made_refused, made_told}
+use Rattle.command_base.proofs.MakesLemmas.{made_accepted, made_refused, made_told}
 use Rattle.cue_list_commands.proofs.ListVerdictLemmas.{accepted_not_refused, good_not_refused, refused_once}
 use Rattle.cue_list_commands.proofs.Refusals.{refused_list}
+
+-- what `cues` puts of a list is read as that list again
+abbrev IsReadAgain : Listing → Type 0
+IsReadAgain list = records_of (list_bytes list) ≡ list_records version.Two (in_order list)
 
 -- an accepted list
 pub accepted_pairs : (bytes : List ℕ) (list : Listing) (placed : Placement) (old new : Ends) (answer : Status) → IsAccepted bytes list placed → IsReadOf bytes old new
@@ -31,8 +37,7 @@ accepted_build bytes list placed old new answer accepted read is =
 pub good_cues : (bytes : List ℕ) (list : Listing) (old new : Ends) (answer : Status) → IsGoodList bytes list → IsReadOf bytes old new
     → CuesAnswer old new answer → (answer ≡ status.Ok) ⊎ (answer ≡ status.Memory)
 good_cues bytes list old new answer good read is =
-    unrefused (PutsList put.Done) IsRefusedList bytes old new answer (λ refusal. good_not_refused bytes list refusal good)
-    (answered (PutsList put.Done) (PutsList put.Failed) IsRefusedList bytes old new answer read is)
+    made_accepted IsGoodList list_bytes IsReadAgain IsRefusedList bytes old new answer (λ refusal. good_not_refused bytes list refusal good) read is
 
 pub accepted_cues : (bytes : List ℕ) (list : Listing) (placed : Placement) (old new : Ends) (answer : Status) → IsAccepted bytes list placed → IsReadOf bytes old new
     → CuesAnswer old new answer → (answer ≡ status.Ok) ⊎ (answer ≡ status.Memory)
@@ -57,10 +62,9 @@ refused_build bytes refusal old new answer is_refused read is =
 pub refused_cues : (bytes : List ℕ) (refusal : Status) (old new : Ends) (answer : Status) → IsRefusedList bytes refusal → IsReadOf bytes old new
     → CuesAnswer old new answer → (answer ≡ refusal) ⊎ (answer ≡ status.Memory)
 refused_cues bytes refusal old new answer is_refused read is =
-    refused (PutsList put.Done) IsRefusedList bytes refusal old new answer
-    (λ puts. good_not_refused bytes puts.list refusal puts.good is_refused)
-    (λ other again. refused_once bytes other refusal (refused_list bytes other again) (refused_list bytes refusal is_refused))
-    (answered (PutsList put.Done) (PutsList put.Failed) IsRefusedList bytes old new answer read is)
+    made_refused IsGoodList list_bytes IsReadAgain IsRefusedList bytes refusal old new answer
+    (λ made good. good_not_refused bytes made refusal good is_refused)
+    (λ other again. refused_once bytes other refusal (refused_list bytes other again) (refused_list bytes refusal is_refused)) read is
 
 -- a count of faults that is greater than before
 pub told_pairs : (old new : Ends) (answer : Status) → PairsAnswer old new answer → TellsFaults old new answer
@@ -70,4 +74,4 @@ pub told_build : (old new : Ends) (answer : Status) → BuildAnswer old new answ
 told_build old new answer is = made_told IsPlacedAs (λ made. words_of (framing_of made)) IsSoundWords IsRefused old new answer is
 
 pub told_cues : (old new : Ends) (answer : Status) → CuesAnswer old new answer → TellsFaults old new answer
-told_cues old new answer is = told (PutsList put.Done) (PutsList put.Failed) IsRefusedList old new answer is
+told_cues old new answer is = made_told IsGoodList list_bytes IsReadAgain IsRefusedList old new answer is

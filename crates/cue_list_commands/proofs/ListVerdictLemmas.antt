@@ -19,7 +19,7 @@ use Rattle.frame_scheduler.specs.Planned.{IsFirstWithoutRoom, IsListPlaced, Plac
 use Rattle.frame_scheduler.proofs.LanesLemmas.{first_without_room, one_placement, placed_has_room}
 use Rattle.frame_scheduler.proofs.RoomDecided.{list_decided}
 use Rattle.cc_base.specs.Streams.{whole_limit}
-use Rattle.cue_list_commands.specs.Accepted.{BreaksRule, IsAccepted, IsFaulty, IsGoodList, IsRefused, IsRefusedList, LacksRoom}
+use Rattle.cue_list_commands.specs.Accepted.{BreaksRule, IsAccepted, IsFaulty, IsGoodList, IsRefused, IsRefusedList, SpellGoodList}
 use Rattle.cue_list_commands.specs.Reads.{form_status}
 use Rattle.cue_list_commands.specs.ListVerdict.{AcceptanceIsOne, AcceptedIsNotRefused, EveryListIsJudged, RefusalIsOne}
 use Rattle.command_base.specs.declared.status.Place.TheVariants.{Field}
@@ -70,7 +70,7 @@ good_not_refused bytes list _ good refused = refused
 pub accepted_not_refused : AcceptedIsNotRefused
 accepted_not_refused bytes list placed (status.NoRoom cue) accepted lacks =
     let same = good_once bytes lacks.list list lacks.good accepted.good in
-    placed_has_room list placed cue accepted.placement (subst (λ l. IsFirstWithoutRoom l cue) same lacks.first)
+    placed_has_room list placed cue accepted.placement (subst (λ l. IsFirstWithoutRoom l cue) same lacks.holds)
 accepted_not_refused bytes list placed answer accepted refused =
     good_not_refused bytes list answer accepted.good refused
 
@@ -85,7 +85,7 @@ abbrev Cause : List ℕ → Status → Type 0
 Cause bytes answer = ((whole_limit < length bytes) × (answer ≡ status.Limit limit.Bytes))
     ⊎ ((f : CueFault) × IsFaulty bytes f × (answer ≡ form_status f))
     ⊎ ((fault : RuleFault) × BreaksRule bytes fault × (answer ≡ status.Rule fault))
-    ⊎ ((cue : ℕ) × LacksRoom bytes cue × (answer ≡ status.NoRoom cue))
+    ⊎ ((cue : ℕ) × SpellGoodList bytes (λ list. IsFirstWithoutRoom list cue) × (answer ≡ status.NoRoom cue))
 
 cause_of : (bytes : List ℕ) (answer : Status) → IsRefused bytes answer → Cause bytes answer
 cause_of bytes (status.Limit limit.Bytes) long = inl (long, refl)
@@ -108,10 +108,10 @@ one_rule_fault bytes a b first second =
     let same = spelled_one bytes second.list first.list second.spelled first.spelled in
     one_fault first.list a b first.broken (subst (λ l. HasFault l b) same second.broken)
 
-one_cue : (bytes : List ℕ) (a b : ℕ) → LacksRoom bytes a → LacksRoom bytes b → a ≡ b
+one_cue : (bytes : List ℕ) (a b : ℕ) → SpellGoodList bytes (λ list. IsFirstWithoutRoom list a) → SpellGoodList bytes (λ list. IsFirstWithoutRoom list b) → a ≡ b
 one_cue bytes a b first second =
     let same = good_once bytes second.list first.list second.good first.good in
-    first_without_room first.list a b first.first (subst (λ l. IsFirstWithoutRoom l b) same second.first)
+    first_without_room first.list a b first.holds (subst (λ l. IsFirstWithoutRoom l b) same second.holds)
 
 -- two causes are one
 same_status : (bytes : List ℕ) (one other : Status) → Cause bytes one → Cause bytes other → one ≡ other
@@ -169,7 +169,7 @@ list_judged bytes list within spelled =
           let good : IsGoodList bytes list = record { within = within; spelled = spelled; ruled = ruled } in
           elim (list_decided list spelled.formed ruled) [
             | inl there ↦ inl (list, there.0, record { good = good; placement = there.1 })
-            | inr without ↦ inr (status.NoRoom without.0, record { list = list; good = good; first = without.1 })
+            | inr without ↦ inr (status.NoRoom without.0, record { list = list; good = good; holds = without.1 })
           ]
       | inr broken ↦ inr (status.Rule broken.0, record { list = list; within = within; spelled = spelled; broken = broken.1 })
     ]

@@ -19,14 +19,11 @@ use Rattle.frame_carrier.specs.Carried.{AreBytePairs, IsBytePair}
 use Rattle.services_carried.specs.PlacedServices.{AreServicesPlaced}
 use Rattle.services_shown.proofs.DelayLemmas.{delays_sent}
 use Rattle.services_shown.proofs.SeenLemmas.{authored_windows_seen}
-use Rattle.line21_shown.specs.Shown.{ShowsList}
 use Rattle.line21_shown.proofs.CaptionedLemmas.{AreBytes, frame_bytes}
 use Rattle.line21_shown.proofs.SequenceLemmas.{authored_seen}
+use Rattle.command_base.specs.MakesAnswer.{PutsMade}
 use Rattle.cue_list_commands.specs.Accepted.{IsGoodList}
-use Rattle.cue_list_commands.specs.ListAnswer.{PutsList}
-use Rattle.cue_list_commands.specs.Output.{IsPlacedAs, IsSoundPairs, IsSoundWords, PlacedList, framing_of, list_grids, list_told}
-use Rattle.programmes.specs.Framing.{packets_of}
-use Rattle.words_files.specs.Received.{received_at}
+use Rattle.cue_list_commands.specs.Output.{IsPlacedAs, IsSoundPairs, IsSoundWords, PlacedList, list_grids, list_told}
 use Rattle.sound_frames.specs.Showing.{ColumnsShow}
 use Rattle.sound_frames.specs.Sound.{IsSoundFrames}
 use Rattle.sound_frames.proofs.PlacedBlocksLemmas.{fit_blocks, shares_kept}
@@ -80,20 +77,14 @@ sound_words bytes made accepted =
       delayed = delays_sent made.list made.placed formed accepted.good.ruled;
     }
 
--- what is received of the fields of sound words at a frame
-pub fields_shown : (made : PlacedList) → IsSoundWords made → (frame : ℕ) → frame < made.list.frames
-    → ShowsList made.list (λ in_field. received_at in_field (packets_of (framing_of made)) frame) frame
-fields_shown made sound frame below One = record { first = sound.shows.has_grids frame below Cc1; second = sound.shows.has_grids frame below Cc2 tt }
-fields_shown made sound frame below Two = record { first = sound.shows.has_grids frame below Cc3; second = sound.shows.has_grids frame below Cc4 tt }
-
 -- a list was put as it is written, or a front of that
 pub list_put : (answer : Put) (left old new : Option (List ℕ)) (list : Listing) (text piece : List ℕ) → IfSome left (λ bytes. IsGoodList bytes list)
     → text ≡ list_bytes list → records_of text ≡ list_records version.Two (in_order list) → piece ≡ text → Puts old new answer piece
-    → IfSome left (λ bytes. PutsList answer bytes old new)
+    → IfSome left (λ bytes. PutsMade IsGoodList list_bytes (λ made. records_of (list_bytes made) ≡ list_records version.Two (in_order made)) answer bytes old new)
 list_put answer None old new list text piece good is again same puts = tt
 list_put answer (Some bytes) old new list text piece good is again same puts = record {
-  list = list;
-  good = good;
+  made = list;
+  accepted = good;
   output_is = subst (Puts old new answer) (same ∙ is) puts;
-  again = subst (λ (t : List ℕ). records_of t ≡ list_records version.Two (in_order list)) is again;
+  sound = subst (λ (t : List ℕ). records_of t ≡ list_records version.Two (in_order list)) is again;
 }

@@ -1,3 +1,4 @@
+-- Believed: the program's answer stands on these definitions.
 -- Which cue lists are accepted, and why another one is refused.
 use Rattle.std.specs.Prelude.{◌<◌, ◌≤◌, ℕ, List, length}
 use Rattle.cc_base.specs.Streams.{whole_limit}
@@ -26,11 +27,11 @@ pub record IsAccepted (bytes : List ℕ) (list : Listing) (placed : Placement) :
   pub good : IsGoodList bytes list
   pub placement : IsListPlaced list placed
 
--- they spell such a list, and this cue is its first without a placement
-pub record LacksRoom (bytes : List ℕ) (cue : ℕ) : Type 0 where
+-- they spell such a list, of which this holds
+pub record SpellGoodList (bytes : List ℕ) (Holds : Listing → Type 0) : Type 0 where
   pub list : Listing
   pub good : IsGoodList bytes list
-  pub first : IsFirstWithoutRoom list cue
+  pub holds : Holds list
 
 -- the records of the bytes spell no list, and this is their first fault
 pub record IsFaulty (bytes : List ℕ) (fault : CueFault) : Type 0 where
@@ -53,7 +54,7 @@ IsRefusedList bytes (status.Malformed (Field rec field) why) = IsFaulty bytes (f
 IsRefusedList bytes (status.Rule fault) = BreaksRule bytes fault
 IsRefusedList bytes _ = ⊥
 
--- the same where it is asked: a list that keeps the rules is refused for want of room
+-- the same where it is asked: a list that keeps the rules is refused for want of room, with its first cue that has no placement
 abbrev pub IsRefused : List ℕ → Status → Type 0
-IsRefused bytes (status.NoRoom cue) = LacksRoom bytes cue
+IsRefused bytes (status.NoRoom cue) = SpellGoodList bytes (λ list. IsFirstWithoutRoom list cue)
 IsRefused bytes answer = IsRefusedList bytes answer

@@ -1,11 +1,9 @@
+-- Believed: the program's answer stands on these definitions.
 -- The lines of `pairs`: one a frame, with the pairs of field 1 and of field 2.
-use Rattle.std.specs.Prelude.{ℕ, zero, suc, ◌/◌, ◌%◌, Option, Some, None, List, [], ◌∷◌, ◌++◌, codes, slice_index}
+use Rattle.std.specs.Prelude.{ℕ, zero, suc, ◌/◌, ◌%◌, Option, Some, None, List, [], ◌∷◌, ◌++◌, codes}
 use Rattle.line21_codes.specs.declared.pairs.Pair.{Pair}
 use Rattle.frame_scheduler.specs.Columns.{Columns}
-
--- the upper-case hex digit of a number below 16
-abbrev pub upper_hex_digit : ℕ → ℕ
-upper_hex_digit n = slice_index (codes "0123456789ABCDEF") n
+use Rattle.hex_digits.specs.HexDigits.{upper_hex_digit}
 
 -- a pair as four upper-case hex digits, or `----` where the frame has no slot of the field
 abbrev pub pair_text : Option Pair → List ℕ

@@ -1,3 +1,4 @@
+-- Between crates: the program's answer stands on none of these definitions.
 -- The verdict on a cue list: it is accepted, or it is refused with one status, and never both.
 use Rattle.std.specs.Prelude.{◌≡◌, ◌⊎◌, ℕ, List}
 use Rattle.cue_lists.specs.Listing.{Listing}

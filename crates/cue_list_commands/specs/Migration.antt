@@ -1,3 +1,4 @@
+-- Between crates: the program's answer stands on none of these definitions.
 -- What `cues` writes of a list, in place of the list: a list of version 1 that is brought to version 2 means what it meant.
 use Rattle.std.specs.Prelude.{◌≡◌, ◌≤◌, ℕ, List, length}
 use Rattle.cue_lists.specs.Listing.{Listing}

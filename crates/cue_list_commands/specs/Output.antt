@@ -1,15 +1,16 @@
+-- Believed in part: the program's answer stands on some of these definitions.
 -- What the commands that read a cue list put of an accepted one, and what holds of it.
 use Rattle.std.specs.Prelude.{⊤, ℕ, List}
 use Rattle.authored_grids.specs.AuthoredServiceGrid.{authored_windows}
 use Rattle.line21_codes.specs.declared.channels.Chan.TheVariants.{Cc1, Cc2, Cc3, Cc4}
-use Rattle.cdp_packets.specs.Packets.{Packet as Frame}
+use Rattle.cdp_packets.specs.Packets.{Frame}
 use Rattle.cue_lists.specs.AuthoredGrid.{IsSettled, authored_grid, blank}
 use Rattle.cue_lists.specs.Listing.{Listing}
 use Rattle.frame_scheduler.specs.Planned.{Placement, columns_of, share_in}
 use Rattle.programmes.specs.Framing.{Framing, packets_of, words_of}
 use Rattle.services_shown.specs.Delays.{AreDelaysSent}
 use Rattle.sound_frames.specs.Shares.{AreSharesKept}
-use Rattle.sound_frames.specs.Showing.{ColumnsShow, Grids, ShowsFrames, Telling, Windows}
+use Rattle.sound_frames.specs.Showing.{ColumnsShow, Grids, ShowsFrames, Telling, WindowsShown}
 use Rattle.sound_frames.specs.Sound.{AreDoubledIn, IsSoundFrames}
 use Rattle.cue_list_commands.specs.Accepted.{IsAccepted}
 use Rattle.cue_list_commands.specs.Lines.{pair_lines}
@@ -58,7 +59,7 @@ list_grids list Cc2 frame = blank
 list_grids list Cc3 frame = authored_grid Cc3 list.cues frame
 list_grids list Cc4 frame = blank
 
-abbrev pub list_windows : Listing → Windows
+abbrev pub list_windows : Listing → WindowsShown
 list_windows list service frame id = authored_windows service list.cues frame id
 
 -- what holds of the pairs that `pairs` puts: control pairs are doubled, and a receiver that was reset before the first one shows the list

@@ -1,3 +1,4 @@
+-- Between crates: the program's answer stands on none of these definitions.
 -- Steps on the way from an input to a programme: its bytes are judged as a list.
 use Rattle.std.specs.Prelude.{ℕ, List, Option, Result}
 use Rattle.cue_lists.specs.Listing.{Listing}

@@ -1,3 +1,4 @@
+-- Believed in part: the program's answer stands on some of these definitions.
 -- What clauses see of a side file at a moment.
 use Rattle.std.specs.Prelude.{ℕ, List, Option}
 

@@ -1,3 +1,4 @@
+-- Believed in part: the program's answer stands on some of these definitions.
 -- What a command says of the cue list of its side file where it is refused, and of the side file's faults.
 use Rattle.std.specs.Prelude.{◌≡◌, ◌<◌, ◌⊎◌, List, ℕ, IfSome, Some}
 use Rattle.cc_base.specs.Streams.{Rose}

@@ -14,7 +14,8 @@ use std::alloc::Global;
 
 /// Reads a cue list to its end and judges it: its bytes' number, its form and limits, its rules, its room. Gives its programme, or the status with which it is refused.
 pub fn read_programme<M: Source>(alloc: Global, input: &mut M) -> Result<Programme<Plan>, Status>
-    ensures { ReadsProgramme (M.left input.old) (M.left input.new) (M.faults input.old) (M.faults input.new) result }
+    ensures { ReadsProgramme (M.left input.old) (M.left input.new) (M.faults input.old)
+        (M.faults input.new) result }
 {
     let bytes = read_input(alloc, input)?;
     judge(alloc, &bytes)
@@ -22,7 +23,8 @@ pub fn read_programme<M: Source>(alloc: Global, input: &mut M) -> Result<Program
 
 /// Reads a cue list to its end and judges all but its placement. Gives the list, or the status with which it is refused.
 pub fn read_list<M: Source>(alloc: Global, input: &mut M) -> Result<CueList, Status>
-    ensures reads { ReadsList (M.left input.old) (M.left input.new) (M.faults input.old) (M.faults input.new) result }
+    ensures reads { ReadsList (M.left input.old) (M.left input.new) (M.faults input.old)
+        (M.faults input.new) result }
     ensures ruled { IfOk result (λ list. IsRuled list) }
 {
     let bytes = read_input(alloc, input)?;

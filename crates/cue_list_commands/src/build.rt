@@ -40,7 +40,8 @@ impl Makes for Build {
 pub fn run_build<M: Source, O: Sink>(alloc: Global, input: &mut M, out: &mut O) -> Status
     ensures { BuildAnswer
         (ends (M.left input.old) (M.faults input.old) (O.written out.old) (O.faults out.old))
-        (ends (M.left input.new) (M.faults input.new) (O.written out.new) (O.faults out.new)) result }
+        (ends (M.left input.new) (M.faults input.new) (O.written out.new)
+        (O.faults out.new)) result }
 {
     run_made(Build, alloc, input, out)
 }

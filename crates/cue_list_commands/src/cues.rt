@@ -11,7 +11,8 @@ use std::alloc::Global;
 pub fn run_cues<M: Source, O: Sink>(alloc: Global, input: &mut M, out: &mut O) -> Status
     ensures { CuesAnswer
         (ends (M.left input.old) (M.faults input.old) (O.written out.old) (O.faults out.old))
-        (ends (M.left input.new) (M.faults input.new) (O.written out.new) (O.faults out.new)) result }
+        (ends (M.left input.new) (M.faults input.new) (O.written out.new)
+        (O.faults out.new)) result }
 {
     let list = match read_list(alloc, input) {
         Ok(list) => list,

@@ -1,15 +1,8 @@
-ghost use Rattle.std.specs.Prelude.{◌≡◌, ◌<◌};
-ghost use Rattle.cue_list_commands.specs.Lines.{pair_line, pair_text, upper_hex_digit};
+ghost use Rattle.std.specs.Prelude.{◌≡◌};
+ghost use Rattle.cue_list_commands.specs.Lines.{pair_line, pair_text};
 
+use hex_digits::upper_hex_digit;
 use line21_codes::Pair;
-
-/// The upper-case hex digit of a number below 16.
-fn hex_digit_at(n: u8) -> u8
-    requires { n < 16 }
-    ensures { result ≡ upper_hex_digit n }
-{
-    b"0123456789ABCDEF"[usize::from(n)]
-}
 
 /// A pair as four upper-case hex digits, or `----` where the frame has no slot of the field.
 fn digits_of(pair: Option<Pair>) -> [u8; 4]
@@ -17,10 +10,10 @@ fn digits_of(pair: Option<Pair>) -> [u8; 4]
 {
     match pair {
         Some(pair) => [
-            hex_digit_at(pair.a / 16),
-            hex_digit_at(pair.a % 16),
-            hex_digit_at(pair.b / 16),
-            hex_digit_at(pair.b % 16),
+            upper_hex_digit(pair.a / 16),
+            upper_hex_digit(pair.a % 16),
+            upper_hex_digit(pair.b / 16),
+            upper_hex_digit(pair.b % 16),
         ],
         None => *b"----",
     }

@@ -45,7 +45,8 @@ impl Makes for Pairs {
 pub fn run_pairs<M: Source, O: Sink>(alloc: Global, input: &mut M, out: &mut O) -> Status
     ensures { PairsAnswer
         (ends (M.left input.old) (M.faults input.old) (O.written out.old) (O.faults out.old))
-        (ends (M.left input.new) (M.faults input.new) (O.written out.new) (O.faults out.new)) result }
+        (ends (M.left input.new) (M.faults input.new) (O.written out.new)
+        (O.faults out.new)) result }
 {
     run_made(Pairs, alloc, input, out)
 }

@@ -8,7 +8,8 @@ ghost use Rattle.cue_types.specs.Listing.{IsFormed, Listing};
 /// In a list that keeps the rules, the cues of a window are shown one at a time, as each is loaded when the one before is hidden
 /// (rule WindowBusy). So a service shows the window of each cue from its SHOW up to its HIDE, and no other.
 pub fn a_window_shows_one_cue_at_a_time()
-    ensures one { (list : Listing) → IsFormed list → IsRuled list → (service id frame : ℕ) → AreOneAtATime service id frame list.cues }
+    ensures one { (list : Listing) → IsFormed list → IsRuled list → (service id frame : ℕ)
+        → AreOneAtATime service id frame list.cues }
     ensures shown { (list : Listing) → IsFormed list → IsRuled list → (service id frame : ℕ)
         → IsWindowAt service id frame list.cues (authored_windows service list.cues frame id) }
 {}

@@ -1,3 +1,4 @@
+-- Believed in part: the program's answer stands on some of these definitions.
 -- How a cue list is written: its records as CSV (RFC 4180, as the crate csv writes it), each with a line feed behind it, the
 -- shares in ascending order of their services.
 use Rattle.std.specs.Prelude.{◌≡◌, ℕ, true, false, List, [], ◌∷◌, ◌++◌, flat_map, option_map, option_to_list}

@@ -8,6 +8,8 @@ ghost use Rattle.cue_print.specs.Printing.{in_order, list_bytes};
 /// The bytes of a list are read as that list, its shares in ascending order of their services; each service has the share
 /// that it had. So a list of version 1 is brought to version 2.
 pub fn printed_is_read()
-    ensures list { (list : Listing) → IsFormed list → read_list (list_bytes list) ≡ Ok (in_order list) }
-    ensures shares { (list : Listing) → IsFormed list → (service : ℕ) → share_of (in_order list) service ≡ share_of list service }
+    ensures list { (list : Listing) → IsFormed list
+        → read_list (list_bytes list) ≡ Ok (in_order list) }
+    ensures shares { (list : Listing) → IsFormed list → (service : ℕ)
+        → share_of (in_order list) service ≡ share_of list service }
 {}

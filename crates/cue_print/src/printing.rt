@@ -21,7 +21,8 @@ pub fn print(alloc: Global, list: &CueList) -> Result<Vec<u8>, AllocError>
     ensures bytes { IfOk result (λ bytes. bytes.items ≡ list_bytes list.now) }
 
     // The bytes are read back as the records that spell the list.
-    ensures records { IfOk result (λ bytes. records_of bytes.items ≡ list_records Version.Two (in_order list.now)) }
+    ensures records { IfOk result
+        (λ bytes. records_of bytes.items ≡ list_records Version.Two (in_order list.now)) }
 {
     let mut writer = WriterBuilder::new()
         .flexible(true)
@@ -58,7 +59,8 @@ fn write_shares(
     list: &CueList,
 ) -> Result<(), AllocError>
     requires { IsBetweenRecords writer.old }
-    ensures { OnOk result (Wrote vec_items writer.old writer.new (map share_record (in_order list.now).shares)) }
+    ensures { OnOk result (Wrote vec_items writer.old writer.new
+        (map share_record (in_order list.now).shares)) }
 {
     for service in [1, 2, 3, 4, 5, 6].as_slice() {
         if let Some(bytes) = list.share(*service) {

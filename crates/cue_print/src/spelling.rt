@@ -123,7 +123,8 @@ fn push_rgb(alloc: Global, row: &mut StringRecord, rgb: Rgb) -> Result<(), Alloc
 
 /// Adds the digits of red, green and blue.
 fn push_digits(alloc: Global, word: &mut String, r: u8, g: u8, b: u8) -> Result<(), AllocError>
-    ensures { OnOk result (string_bytes word.new ≡ string_bytes word.old ++ (decimal r ++ decimal g ++ decimal b)) }
+    ensures { OnOk result (string_bytes word.new
+        ≡ string_bytes word.old ++ (decimal r ++ decimal g ++ decimal b)) }
 {
     push_decimal(alloc, word, r)?;
     push_decimal(alloc, word, g)?;
@@ -145,7 +146,9 @@ fn shown_record(
     channel: Chan,
     cue: &Cue,
 ) -> Result<StringRecord, AllocError>
-    ensures { IfOk result (λ row. fields_of row ≡ word.now ∷ channel_word channel ∷ decimal cue.now.load ∷ decimal cue.now.show ∷ hide_word cue.now.hide ∷ []) }
+    ensures { IfOk result (λ row. fields_of row
+        ≡ word.now ∷ channel_word channel ∷ decimal cue.now.load ∷ decimal cue.now.show
+        ∷ hide_word cue.now.hide ∷ []) }
 {
     let mut row = StringRecord::new(alloc);
     row.push_field(word)?;
@@ -194,7 +197,9 @@ fn window_record(alloc: Global, window: WinCue, cue: &Cue) -> Result<StringRecor
 
 /// Adds the fields LOAD, SHOW and HIDE, which is empty where the cue has none.
 fn push_frames(alloc: Global, row: &mut StringRecord, cue: &Cue) -> Result<(), AllocError>
-    ensures { OnOk result (fields_of row.new ≡ fields_of row.old ++ (decimal cue.now.load ∷ decimal cue.now.show ∷ hide_word cue.now.hide ∷ [])) }
+    ensures { OnOk result (fields_of row.new
+        ≡ fields_of row.old ++ (decimal cue.now.load ∷ decimal cue.now.show ∷ hide_word cue.now.hide
+        ∷ [])) }
 {
     push_number(alloc, row, cue.load)?;
     push_number(alloc, row, cue.show)?;
@@ -229,7 +234,8 @@ fn pen_word(alloc: Global, pen: Pen) -> Result<String, AllocError>
 
 /// A pen's word with its marks.
 fn marked(alloc: Global, plain: &str, italic: bool, underline: bool) -> Result<String, AllocError>
-    ensures { IfOk result (λ word. string_bytes word ≡ plain.now ++ italic_mark italic ++ underline_mark underline) }
+    ensures { IfOk result (λ word. string_bytes word
+        ≡ plain.now ++ italic_mark italic ++ underline_mark underline) }
 {
     let mut word = String::new(alloc);
     word.push_str(plain)?;

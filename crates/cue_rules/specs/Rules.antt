@@ -1,3 +1,4 @@
+-- Believed in part: the program's answer stands on some of these definitions.
 -- The rules of a cue list: what it is to keep them, the rule that a cue breaks against the cues before it, and the first
 -- fault of a list.
 use Rattle.std.specs.Prelude.{◌≡◌, ℕ, ◌+◌, List, [], ◌∷◌, ◌++◌, length, reverse, All, Option, Some, None, Result, Ok, Err}

@@ -7,5 +7,6 @@ ghost use Rattle.cue_rules.specs.Rules.{AreFaultless, IsRuled};
 /// A list keeps the rules exactly where no cue of it has a fault.
 pub fn faultless_is_ruled()
     ensures ruled { (list : Listing) → AreFaultless list (reverse list.cues) → IsRuled list }
-    ensures faultless { (list : Listing) → IsFormed list → IsRuled list → AreFaultless list (reverse list.cues) }
+    ensures faultless { (list : Listing) → IsFormed list → IsRuled list
+        → AreFaultless list (reverse list.cues) }
 {}

@@ -1,3 +1,4 @@
+-- Believed in part: the program's answer stands on some of these definitions.
 -- The cells that a run writes. A line 21 run in a colour other than white, or in italics, begins with a mid-row code,
 -- which takes the cell left of the run: its lead cell (CTA-608-E, mid-row codes).
 use Rattle.std.specs.Prelude.{ℕ, ◌+◌, ◌-◌, ◌==◌, ◌&&◌, ◌||◌, not, ◌<◌, nat_lt, nat_le, min, max, Bool, true, false, if◌then◌else◌, List, [], ◌∷◌, length}

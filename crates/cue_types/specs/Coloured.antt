@@ -1,3 +1,4 @@
+-- Between crates: the program's answer stands on none of these definitions.
 -- Colours of a run's own, which are said behind it.
 use Rattle.std.specs.Prelude.{List, [], ◌∷◌, Some}
 use Rattle.dtvcc_codes.specs.declared.pens.PenColors.{PenColors}

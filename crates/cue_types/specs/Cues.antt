@@ -1,3 +1,4 @@
+-- Believed: the program's answer stands on these definitions.
 -- Cues: what holds of each cue of a list, by its kind.
 use Rattle.std.specs.Prelude.{ℕ, ◌<◌, ◌≤◌, ◌^◌, List, length, All, Option, Some, None, IsSome}
 use Rattle.cue_types.specs.Line21Cues.{IsAuthoredChannel, IsLine21Run, IsRolled}

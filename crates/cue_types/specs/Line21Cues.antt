@@ -1,3 +1,4 @@
+-- Believed: the program's answer stands on these definitions.
 -- Line 21 cues: their channels, their pens and their runs on 15 rows of 32 columns (CTA-608-E; 47 CFR 79.101).
 use Rattle.std.specs.Prelude.{◌≡◌, ℕ, ◌+◌, ◌≤◌, ◌==◌, ◌&&◌, Bool, true, false, is_none, None, List, [], ◌∷◌, length, All, IsSome}
 use Rattle.line21_codes.specs.declared.channels.Chan.{Chan}

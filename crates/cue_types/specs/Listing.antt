@@ -1,3 +1,4 @@
+-- Believed: the program's answer stands on these definitions.
 -- A cue list as clauses see it: its rate, its frames, its shares and its cues, and what holds of every one.
 use Rattle.std.specs.Prelude.{ℕ, ◌≤◌, ◌==◌, List, length, find, All, Option, option_map}
 use Rattle.cc_base.specs.declared.rate.Rate.{Rate}

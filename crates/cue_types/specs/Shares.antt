@@ -1,3 +1,4 @@
+-- Believed: the program's answer stands on these definitions.
 -- The shares of a cue list: which bytes of each frame's service blocks a DTVCC service may use (CTA-708-E, 4.4, 6.2).
 use Rattle.std.specs.Prelude.{ℕ, ◌≢◌, ◌+◌, ◌≤◌, List, sum_by, All, AllPairs}
 use Rattle.cc_base.specs.declared.rate.Rate.{Rate}

@@ -1,6 +1,7 @@
+-- Believed: the program's answer stands on these definitions.
 -- Cues in windows of a DTVCC service: the ranges of the window and of its runs (CTA-708-E, 8.4).
 use Rattle.std.specs.Prelude.{◌+◌, ◌<◌, ◌≤◌, length, All, IfSome, IsSome}
-use Rattle.dtvcc_codes.specs.CharacterSpellings.{spelling_of}
+use Rattle.dtvcc_codes.specs.CharacterSpellings.{dtvcc_spelling}
 use Rattle.dtvcc_codes.specs.Spellable.{IsPenColors, IsWinAttr}
 use Rattle.dtvcc_codes.specs.declared.windows.WinAttr.{WinAttr}
 use Rattle.cue_types.specs.declared.cue.Pen.{Pen}
@@ -41,5 +42,5 @@ pub record IsWindowRun (w : WinCue) (run : Run) : Type 0 where
   pub pen : IsWindowPen run.pen
   pub some : 1 ≤ length run.text
   pub fits : run.col + length run.text ≤ w.cols
-  pub coded : All (λ ch. IsSome (spelling_of ch)) run.text
+  pub coded : All (λ ch. IsSome (dtvcc_spelling ch)) run.text
   pub colors : IfSome run.colors IsPenColors

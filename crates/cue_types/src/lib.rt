@@ -3,7 +3,7 @@
 
 pub use crate::cue::{Cue, Kind, Pen, Run, WinCue};
 pub use crate::head::{Head, Version};
-pub use crate::list::{CueList, MOST_CUES, MOST_FRAMES, Share};
+pub use crate::list::{CueList, LAST_SERVICE, MOST_CUES, MOST_FRAMES, Share};
 pub use crate::runs::Runs;
 pub use crate::text::Text;
 

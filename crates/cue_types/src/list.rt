@@ -12,6 +12,9 @@ pub const MOST_FRAMES: u32 = 1_000_000;
 /// The most cues of a cue list.
 pub const MOST_CUES: usize = 20_000;
 
+/// The last service that a cue list authors; the first is 1.
+pub const LAST_SERVICE: u8 = 6;
+
 /// The part of each frame's packet that a DTVCC service may use.
 #[derive(Clone, Copy, Debug, PartialEq, Eq)]
 pub struct Share {
@@ -55,8 +58,10 @@ impl CueList {
 
     /// The list of these parts, which are in their ranges. It keeps no version, and takes no memory.
     pub fn new(head: Head, shares: Vec<Share>, cues: Vec<Cue>) -> CueList
-        requires { IsFormed (record { rate = head.rate; frames = head.frames; shares = shares.items; cues = cues.items }) }
-        ensures { result ≡ record { rate = head.rate; frames = head.frames; shares = shares.items; cues = cues.items } }
+        requires { IsFormed
+            (record { rate = head.rate; frames = head.frames; shares = shares.items; cues = cues.items }) }
+        ensures { result
+            ≡ record { rate = head.rate; frames = head.frames; shares = shares.items; cues = cues.items } }
     {
         CueList {
             rate: head.rate,

@@ -1,8 +1,8 @@
 -- A character of ASCII is its own byte.
 use Rattle.std.proofs.Common.{◌≡◌, ℕ, ◌<◌, ◌≤◌, ◌==◌, false, ◌∷◌, [], refl, arith, inl, inr, eqb-true, lt-ltb, le-leb}
 use Rattle.std.proofs.lemmas.Bool.{cases_Bool}
-use Rattle.dtvcc_codes.specs.CharacterSpellings.{spelling_of}
-use Rattle.dtvcc_codes.specs.Writing.{written}
+use Rattle.dtvcc_codes.specs.CharacterSpellings.{dtvcc_spelling}
+use Rattle.dtvcc_codes.specs.Writing.{bytes_of_command}
 use Rattle.dtvcc_codes.specs.declared.commands.Command.TheVariants.{Put}
 use Rattle.std.specs.Prelude.{Some}
 
@@ -13,6 +13,6 @@ not_note ch below =
       | inr other ↦ other
     ]
 
-pub ascii_written : (ch : ℕ) → 0x20 ≤ ch → ch < 0x7F → written (Put (Some ch)) ≡ ch ∷ []
-unfolding written spelling_of
+pub ascii_written : (ch : ℕ) → 0x20 ≤ ch → ch < 0x7F → bytes_of_command (Put (Some ch)) ≡ ch ∷ []
+unfolding bytes_of_command dtvcc_spelling
 ascii_written ch from below = rw (not_note ch below, le-leb 0x20 ch from, lt-ltb ch 0x7F below) refl

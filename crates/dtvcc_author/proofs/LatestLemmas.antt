@@ -12,7 +12,7 @@ use Rattle.cc_base.specs.declared.rate.Rate.{Rate}
 use Rattle.cc_base.specs.Options.{passes}
 use Rattle.dtvcc_codes.specs.declared.commands.Command.{Command}
 use Rattle.dtvcc_codes.specs.declared.commands.Command.TheVariants.{Dlw, Dsw}
-use Rattle.dtvcc_codes.specs.Writing.{written}
+use Rattle.dtvcc_codes.specs.Writing.{bytes_of_command}
 use Rattle.dtvcc_author.specs.EventBytes.{command_bytes, delay_bytes, events_bytes}
 use Rattle.dtvcc_author.specs.FrameEvents.{delay_commands, delayed_at, event_bytes, has_event_at, is_delayed_at, is_hidden_at, is_shown_at, names, windows_byte, windows_command}
 use Rattle.dtvcc_author.specs.Kept.{AreKept, Follows, IsSoundCaption}
@@ -256,12 +256,12 @@ byte_same a b same =
 
 -- the bytes of a command for windows
 command_is : (rate : Rate) (frames : ℕ) (test : Caption → Bool) (cs : List Caption) → AreKept rate frames cs → (command : ℕ → Command) (code : ℕ)
-    → ((windows : ℕ) → written (command windows) ≡ code ∷ windows ∷ [])
-    → flat_map written (windows_command command test cs) ≡ command_bytes code (windows_byte (names test cs))
+    → ((windows : ℕ) → bytes_of_command (command windows) ≡ code ∷ windows ∷ [])
+    → flat_map bytes_of_command (windows_command command test cs) ≡ command_bytes code (windows_byte (names test cs))
 command_is rate frames test cs kept command code spells = at (list_any test cs) refl
   where
     at : (b : Bool) → list_any test cs ≡ b
-        → flat_map written (if b then command (windows_byte (names test cs)) ∷ [] else [])
+        → flat_map bytes_of_command (if b then command (windows_byte (names test cs)) ∷ [] else [])
         ≡ command_bytes code (windows_byte (names test cs))
     at true some =
         let found = some_named rate frames test cs kept some in
@@ -272,17 +272,17 @@ command_is rate frames test cs kept command code spells = at (list_any test cs) 
         rw zeros refl
 
 -- the bytes of a delay
-pub delays_written : (found : Option Caption) → flat_map written (delay_commands found) ≡ delay_bytes (option_map caption_delay found)
-unfolding written
+pub delays_written : (found : Option Caption) → flat_map bytes_of_command (delay_commands found) ≡ delay_bytes (option_map caption_delay found)
+unfolding bytes_of_command
 delays_written None = refl
 delays_written (Some c) = refl
 
-dlw_written : (windows : ℕ) → written (Dlw windows) ≡ 0x8C ∷ windows ∷ []
-unfolding written
+dlw_written : (windows : ℕ) → bytes_of_command (Dlw windows) ≡ 0x8C ∷ windows ∷ []
+unfolding bytes_of_command
 dlw_written windows = refl
 
-dsw_written : (windows : ℕ) → written (Dsw windows) ≡ 0x89 ∷ windows ∷ []
-unfolding written
+dsw_written : (windows : ℕ) → bytes_of_command (Dsw windows) ≡ 0x89 ∷ windows ∷ []
+unfolding bytes_of_command
 dsw_written windows = refl
 
 -- the bytes of the events of a frame
@@ -294,8 +294,8 @@ events_exact rate frames frame cs events kept are =
     let delays = delays_written (delayed_at frame cs) in
     let hide_commands = windows_command Dlw (is_hidden_at frame) cs in
     let show_commands = windows_command Dsw (is_shown_at frame) cs in
-    let all = flat_map-append written (hide_commands ++ show_commands) (delay_commands (delayed_at frame cs)) in
-    let front = flat_map-append written hide_commands show_commands in
+    let all = flat_map-append bytes_of_command (hide_commands ++ show_commands) (delay_commands (delayed_at frame cs)) in
+    let front = flat_map-append bytes_of_command hide_commands show_commands in
     rw (are.hidden, are.shown, are.delay) (sym (all ∙ joined front hides shows delays))
   where
     joined : {a b c d e f g : List ℕ} → g ≡ a ++ c → a ≡ b → c ≡ d → e ≡ f → g ++ e ≡ (b ++ d) ++ f

@@ -8,7 +8,7 @@ use Rattle.dtvcc_codes.specs.declared.commands.Command.TheVariants.{Df, Put, Spa
 use Rattle.dtvcc_codes.specs.declared.pens.PenAttr.{PenAttr}
 use Rattle.dtvcc_codes.specs.declared.pens.PenColors.{PenColors}
 use Rattle.dtvcc_codes.specs.declared.windows.WinAttr.{WinAttr}
-use Rattle.dtvcc_codes.specs.CharacterSpellings.{spelling_of}
+use Rattle.dtvcc_codes.specs.CharacterSpellings.{dtvcc_spelling}
 use Rattle.dtvcc_codes.specs.Spellable.{IsDefinition, IsPenAttr, IsPenColors}
 use Rattle.dtvcc_windows.specs.Styles.{pen_style, pen_styles, upright_pen, white_on_black}
 use Rattle.cue_types.specs.declared.cue.Cue.{Cue}
@@ -112,10 +112,10 @@ colors_writable false style own is formed = tt
 colors_writable true style own is formed = (record { spellable = colors_are style own is formed; unskipped = refl }, tt)
 
 -- the characters of a text
-characters_writable : (text : List ℕ) → All (λ ch. IsSome (spelling_of ch)) text → AreWritable (character_commands text)
+characters_writable : (text : List ℕ) → All (λ ch. IsSome (dtvcc_spelling ch)) text → AreWritable (character_commands text)
 characters_writable [] coded = tt
 characters_writable (ch ∷ text) coded =
-    (record { spellable = All-head (λ ch. IsSome (spelling_of ch)) ch text coded; unskipped = refl }, characters_writable text (All-tail (λ ch. IsSome (spelling_of ch)) ch text coded))
+    (record { spellable = All-head (λ ch. IsSome (dtvcc_spelling ch)) ch text coded; unskipped = refl }, characters_writable text (All-tail (λ ch. IsSome (dtvcc_spelling ch)) ch text coded))
 
 -- a run
 run_writable : (coloured : Bool) (pen : PenAttr) (colors : PenColors) (w : WinCue) (run : Run) → IsPenAttr pen → IsPenColors colors

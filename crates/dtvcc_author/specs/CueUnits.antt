@@ -1,9 +1,10 @@
+-- Believed in part: the program's answer stands on some of these definitions.
 -- The units of a window cue: what is written of each of its commands (CTA-708-E, 7.1).
 use Rattle.std.specs.Prelude.{◌≡◌, ℕ, false, List, [], ◌∷◌, ⊤, map}
 use Rattle.dtvcc_codes.specs.declared.commands.Command.{Command}
 use Rattle.dtvcc_codes.specs.Spellable.{IsSpellable, is_skipped}
 use Rattle.dtvcc_codes.specs.Spelling.{Spells}
-use Rattle.dtvcc_codes.specs.Writing.{written}
+use Rattle.dtvcc_codes.specs.Writing.{bytes_of_command}
 use Rattle.cue_types.specs.declared.cue.Cue.{Cue}
 use Rattle.dtvcc_author.specs.WindowCommands.{commands_of}
 
@@ -21,4 +22,4 @@ AreSpelled (command ∷ commands) (unit ∷ units) = Spells command unit × AreS
 
 -- the units of a cue
 abbrev pub window_cue_units : Cue → List (List ℕ)
-window_cue_units cue = map written (commands_of cue)
+window_cue_units cue = map bytes_of_command (commands_of cue)

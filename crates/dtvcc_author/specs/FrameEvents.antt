@@ -1,10 +1,11 @@
+-- Believed in part: the program's answer stands on some of these definitions.
 -- The events of a service: what it is sent in a frame to hide and to show its captions (CTA-708-E, DeleteWindows,
 -- DisplayWindows, Delay).
 use Rattle.std.specs.Prelude.{ℕ, ◌+◌, ◌==◌, ◌&&◌, ◌||◌, not, Bool, if◌then◌else◌, List, [], ◌∷◌, ◌++◌, Option, Some, None, find, option_map}
 use Rattle.std.specs.List.{flat_map, list_any}
 use Rattle.dtvcc_codes.specs.declared.commands.Command.{Command}
 use Rattle.dtvcc_codes.specs.declared.commands.Command.TheVariants.{Dlw, Dly, Dsw}
-use Rattle.dtvcc_codes.specs.Writing.{bit, written}
+use Rattle.dtvcc_codes.specs.Writing.{bit, bytes_of_command}
 use Rattle.dtvcc_author.specs.declared.caption.Caption.{Caption}
 
 -- the caption is hidden in the frame
@@ -54,7 +55,7 @@ event_commands frame cs =
 
 -- their bytes
 abbrev pub event_bytes : ℕ → List Caption → List ℕ
-event_bytes frame cs = flat_map written (event_commands frame cs)
+event_bytes frame cs = flat_map bytes_of_command (event_commands frame cs)
 
 -- the frame in which the delay ends that starts in the frame, if one starts there
 abbrev pub delay_end : List Caption → ℕ → Option ℕ

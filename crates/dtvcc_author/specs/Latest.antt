@@ -1,3 +1,4 @@
+-- Between crates: the program's answer stands on none of these definitions.
 -- In each window of a service the caption that was loaded last before a frame, and the events of the frame by that.
 use Rattle.std.specs.Prelude.{◌≡◌, ℕ, ◌<◌, ◌≤◌, ◌==◌, false, if◌then◌else◌, List, [], ◌∷◌, Option, Some, None, length, option_map, take, drop, slice_index_or}
 use Rattle.std.specs.List.{AllByRecursion, list_any}

@@ -1,3 +1,4 @@
+-- Between crates: the program's answer stands on none of these definitions.
 -- Units that are kept as the bytes of all, one unit behind the other, and the length of each.
 use Rattle.std.specs.Prelude.{◌≡◌, ℕ, ◌≤◌, All, List, [], ◌∷◌, drop, length, map, take}
 use Rattle.std.specs.List.{concat}

@@ -1,7 +1,7 @@
 ghost use Rattle.std.specs.Prelude.{◌≡◌, ◌++◌, [], ◌∷◌, All, OnOk, map, Some};
 ghost use Rattle.std.specs.List.{flat_map};
 ghost use Rattle.dtvcc_codes.specs.declared.commands.Command.TheVariants as command;
-ghost use Rattle.dtvcc_codes.specs.Writing.{written};
+ghost use Rattle.dtvcc_codes.specs.Writing.{bytes_of_command};
 ghost use Rattle.cue_types.specs.Windows.{IsWindow, IsWindowRun};
 ghost use Rattle.dtvcc_author.specs.CueUnits.{IsWritable};
 ghost use Rattle.dtvcc_author.specs.WindowCommands.{are_coloured, attribute_commands, character_commands, color_commands, definition_of, run_commands, run_pen, window_commands};
@@ -20,7 +20,8 @@ pub(crate) fn push_window(
 ) -> Result<(), AllocError>
     requires window { IsWindow window }
     requires runs { All (IsWindowRun window) runs.now }
-    ensures { OnOk result (units.new ≡ units.old ++ map written (window_commands window runs.now)) }
+    ensures { OnOk result (units.new
+        ≡ units.old ++ map bytes_of_command (window_commands window runs.now)) }
 {
     push_command(units, Command::Df(definition_of(window)))?;
     push_attributes(units, window.attr)?;
@@ -33,7 +34,7 @@ pub(crate) fn push_window(
 #[inline(always)]
 fn push_command(units: &mut PackedUnits, command: Command) -> Result<(), AllocError>
     requires { IsWritable command }
-    ensures { OnOk result (units.new ≡ units.old ++ written command ∷ []) }
+    ensures { OnOk result (units.new ≡ units.old ++ bytes_of_command command ∷ []) }
 {
     units.push(write_command(&command))
 }
@@ -62,7 +63,8 @@ fn definition_of(window: WinCue) -> Definition
 // Appends the unit that sets a window's own attributes, if it has its own.
 fn push_attributes(units: &mut PackedUnits, attributes: Option<WinAttr>) -> Result<(), AllocError>
     requires { All IsWritable (attribute_commands attributes) }
-    ensures { OnOk result (units.new ≡ units.old ++ map written (attribute_commands attributes)) }
+    ensures { OnOk result (units.new
+        ≡ units.old ++ map bytes_of_command (attribute_commands attributes)) }
 {
     if let Some(attributes) = attributes {
         push_command(units, Command::Swa(attributes))?;
@@ -87,7 +89,8 @@ fn push_runs(
 ) -> Result<(), AllocError>
     requires { All (λ run. All IsWritable (run_commands coloured pen colors run)) runs.now }
     ensures { OnOk result (units.new
-        ≡ units.old ++ map written (flat_map (run_commands coloured pen colors) runs.now)) }
+        ≡ units.old ++ map bytes_of_command
+        (flat_map (run_commands coloured pen colors) runs.now)) }
 {
     for run in runs {
         push_run(units, coloured, pen, colors, run)?;
@@ -104,7 +107,8 @@ fn push_run(
     run: &Run,
 ) -> Result<(), AllocError>
     requires { All IsWritable (run_commands coloured pen colors run.now) }
-    ensures { OnOk result (units.new ≡ units.old ++ map written (run_commands coloured pen colors run.now)) }
+    ensures { OnOk result (units.new
+        ≡ units.old ++ map bytes_of_command (run_commands coloured pen colors run.now)) }
 {
     let place = Command::Spl {
         row: run.row,
@@ -138,7 +142,8 @@ fn push_colors(
     own: Option<PenColors>,
 ) -> Result<(), AllocError>
     requires { All IsWritable (color_commands coloured style own) }
-    ensures { OnOk result (units.new ≡ units.old ++ map written (color_commands coloured style own)) }
+    ensures { OnOk result (units.new
+        ≡ units.old ++ map bytes_of_command (color_commands coloured style own)) }
 {
     if coloured {
         push_command(units, Command::Spc(own.unwrap_or(style)))?;
@@ -149,7 +154,8 @@ fn push_colors(
 // Appends the units of characters.
 fn push_characters(units: &mut PackedUnits, text: &[char]) -> Result<(), AllocError>
     requires { All (λ ch. IsWritable (command.Put (Some ch))) text.now }
-    ensures { OnOk result (units.new ≡ units.old ++ map written (character_commands text.now)) }
+    ensures { OnOk result (units.new
+        ≡ units.old ++ map bytes_of_command (character_commands text.now)) }
 {
     for ch in text {
         push_character(units, *ch)?;
@@ -161,7 +167,7 @@ fn push_characters(units: &mut PackedUnits, text: &[char]) -> Result<(), AllocEr
 #[inline(always)]
 fn push_character(units: &mut PackedUnits, ch: char) -> Result<(), AllocError>
     requires { IsWritable (command.Put (Some ch)) }
-    ensures { OnOk result (units.new ≡ units.old ++ written (command.Put (Some ch)) ∷ []) }
+    ensures { OnOk result (units.new ≡ units.old ++ bytes_of_command (command.Put (Some ch)) ∷ []) }
 {
     match ch {
         ' '..='~' => units.push_byte(ch as u8),

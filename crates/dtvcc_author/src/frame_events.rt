@@ -44,7 +44,8 @@ impl FrameEvents {
     /// each where there is something for it to say.
     pub fn bytes(&self) -> ArrayVec<u8, 8>
         ensures bytes { result.items ≡ events_bytes self.now }
-        ensures exact { (rate : Rate) (frames frame : ℕ) (captions : List Caption) → AreKept rate frames captions
+        ensures exact { (rate : Rate) (frames frame : ℕ) (captions : List Caption)
+            → AreKept rate frames captions
             → AreEventsOf frame captions self.now → result.items ≡ event_bytes frame captions }
     {
         let mut bytes = ArrayVec::new();

@@ -39,7 +39,8 @@ impl Latest {
     /// Passes on to a later frame, with the captions of the service.
     pub fn pass_to(&mut self, captions: &[Caption], frame: u32)
         requires { (rate : Rate) × ((frames : ℕ) × AreKept rate frames captions.now) }
-        ensures { (from : ℕ) → from ≤ frame → IsLatestAt captions.now from self.old → IsLatestAt captions.now frame self.new }
+        ensures { (from : ℕ) → from ≤ frame → IsLatestAt captions.now from self.old
+            → IsLatestAt captions.now frame self.new }
     {
         self.load(captions, frame);
         if self.quiet < frame {
@@ -50,7 +51,8 @@ impl Latest {
     // Loads the captions whose LOAD is before the frame.
     fn load(&mut self, captions: &[Caption], frame: u32)
         requires { (rate : Rate) × ((frames : ℕ) × AreKept rate frames captions.now) }
-        ensures { (from : ℕ) → from ≤ frame → IsLatestAt captions.now from self.old → IsLatestAt captions.now frame self.new }
+        ensures { (from : ℕ) → from ≤ frame → IsLatestAt captions.now from self.old
+            → IsLatestAt captions.now frame self.new }
     {
         while let Some(caption) = captions.get(self.next)
             && caption.load < frame
@@ -74,7 +76,8 @@ impl Latest {
 
     /// The events of the frame that this is at.
     pub fn events(&self, frame: u32) -> FrameEvents
-        ensures { (rate : Rate) (frames : ℕ) (captions : List Caption) → AreKept rate frames captions → IsLatestAt captions frame self.now
+        ensures { (rate : Rate) (frames : ℕ) (captions : List Caption)
+            → AreKept rate frames captions → IsLatestAt captions frame self.now
             → AreEventsOf frame captions result }
     {
         if frame < self.quiet {
@@ -107,9 +110,11 @@ impl Latest {
 
     // The delay that starts in the frame.
     fn delay(&self, frame: u32) -> Option<Delay>
-        ensures some { IfSome result (λ delay. (id : ℕ) × ((c : Caption) × (caption_in self.now id ≡ Some c)
+        ensures some { IfSome result
+            (λ delay. (id : ℕ) × ((c : Caption) × (caption_in self.now id ≡ Some c)
             × (is_delayed_at frame c ≡ true) × (id < 8) × (c.id ≡ id → delay ≡ caption_delay c))) }
-        ensures none { IfNone result ((id : ℕ) → id < 8 → passes (is_delayed_at frame) (caption_in self.now id) ≡ false) }
+        ensures none { IfNone result
+            ((id : ℕ) → id < 8 → passes (is_delayed_at frame) (caption_in self.now id) ≡ false) }
     {
         for (window, caption) in self.windows.iter().enumerate() {
             if let Some(caption) = caption
@@ -128,7 +133,8 @@ impl Latest {
 
 // A frame, from this one on, before which a caption has no event.
 fn next_event(caption: &Option<Caption>, frame: u32) -> u32
-    ensures { (other : ℕ) → frame ≤ other → other < result → passes (has_event_at other) caption.now ≡ false }
+    ensures { (other : ℕ) → frame ≤ other → other < result
+        → passes (has_event_at other) caption.now ≡ false }
 {
     match caption {
         Some(caption) => frame_from(caption.starts, frame).min(frame_from(caption.hide, frame)),

@@ -1,5 +1,5 @@
 ghost use Rattle.std.specs.Prelude.{IsTrue, All, IfSome, IsSome};
-ghost use Rattle.dtvcc_codes.specs.CharacterSpellings.{spelling_of};
+ghost use Rattle.dtvcc_codes.specs.CharacterSpellings.{dtvcc_spelling};
 ghost use Rattle.dtvcc_codes.specs.Spellable.{IsFill, IsPenColors, IsRgb};
 ghost use Rattle.cue_types.specs.Cues.{IsCueFormed, IsOfKind};
 ghost use Rattle.cue_types.specs.Windows.{AreWindowAttributes, IsWindow, IsWindowRun};
@@ -106,7 +106,7 @@ fn is_window(w: WinCue) -> bool
 
 // Whether the character has a code.
 fn is_coded(ch: char) -> bool
-    ensures { IsTrue result → IsSome (spelling_of ch) }
+    ensures { IsTrue result → IsSome (dtvcc_spelling ch) }
 {
     spell_dtv(ch).is_some()
 }

@@ -4,7 +4,7 @@ use Rattle.std.proofs.lemmas.Bool.{and_parts, cases_lt}
 use Rattle.std.proofs.lemmas.Bool.Decides.{nat_tests}
 use Rattle.dtvcc_codes.specs.declared.commands.Command.TheVariants.{Put}
 use Rattle.dtvcc_codes.specs.Characters.{g0_of, g2_of}
-use Rattle.dtvcc_codes.specs.CharacterSpellings.{spelling_of}
+use Rattle.dtvcc_codes.specs.CharacterSpellings.{dtvcc_spelling}
 use Rattle.dtvcc_codes.specs.Spellable.{IsSpellable}
 
 -- the test passes at each number below the bound
@@ -28,28 +28,28 @@ at_each p (suc n) passes k below =
     ]
 
 -- the low line is spelled
-pub low_line_spelled : IsSome (spelling_of 0x5F)
-unfolding spelling_of
+pub low_line_spelled : IsSome (dtvcc_spelling 0x5F)
+unfolding dtvcc_spelling
 low_line_spelled = refl
 
 -- a character of G0 is spelled
-pub g0_spelled : (code : ℕ) → 0x20 ≤ code → code ≤ 0x7F → IsSome (spelling_of (g0_of code))
-unfolding spelling_of
+pub g0_spelled : (code : ℕ) → 0x20 ≤ code → code ≤ 0x7F → IsSome (dtvcc_spelling (g0_of code))
+unfolding dtvcc_spelling
 g0_spelled code from to = grind (arith, nat_tests)
 
 -- a character of G1 is spelled
-pub g1_spelled : (code : ℕ) → 0xA0 ≤ code → code ≤ 0xFF → IsSome (spelling_of code)
-unfolding spelling_of
+pub g1_spelled : (code : ℕ) → 0xA0 ≤ code → code ≤ 0xFF → IsSome (dtvcc_spelling code)
+unfolding dtvcc_spelling
 g1_spelled code from to = grind (arith, nat_tests)
 
 -- what a code puts is the transparent space or is spelled
 is_put_spelled : Option ℕ → Bool
 is_put_spelled None = true
-is_put_spelled (Some ch) = is_some (spelling_of ch)
+is_put_spelled (Some ch) = is_some (dtvcc_spelling ch)
 
 -- what a code of G2 puts, is so
 all_g2_spelled : all_below (λ code. is_put_spelled (g2_of code)) 0x80 ≡ true
-unfolding all_below is_put_spelled spelling_of g2_of
+unfolding all_below is_put_spelled dtvcc_spelling g2_of
 all_g2_spelled = refl
 
 put_spelled : (put : Option ℕ) → is_put_spelled put ≡ true → IsSpellable (Put put)

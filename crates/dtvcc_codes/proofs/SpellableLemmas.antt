@@ -8,7 +8,7 @@ use Rattle.std.proofs.lemmas.List.Elements.{All-get_or, All-tail}
 use Rattle.dtvcc_codes.specs.declared.commands.Command.{Command}
 use Rattle.dtvcc_codes.specs.declared.commands.Command.TheVariants.{Put, Dlc, Rst, Skipped}
 use Rattle.dtvcc_codes.specs.CodeTables.{Row, base_codes, extended_codes, holds_code, row_at}
-use Rattle.dtvcc_codes.specs.CharacterSpellings.{spelling_of}
+use Rattle.dtvcc_codes.specs.CharacterSpellings.{dtvcc_spelling}
 use Rattle.dtvcc_codes.specs.Parameters.{definition, fill_of, pen_attributes, pen_colors, rgb_of, window_attributes}
 use Rattle.dtvcc_codes.specs.Spellable.{IsDefinition, IsFill, IsPenAttr, IsPenColors, IsRgb, IsSpellable, IsWinAttr}
 use Rattle.dtvcc_codes.specs.Spelling.{Spells}
@@ -244,9 +244,9 @@ spelled_is_spellable command bytes are (extended code parameters row is at count
 spelled_is_spellable command bytes are (counted code count skipped is test many says) = subst (λ c. IsSpellable c) (sym says) tt
 
 -- a character without a spelling is put by no bytes
-pub unspelled_is_not_put : (ch : ℕ) (bytes : List ℕ) → spelling_of ch ≡ None → All IsByte bytes → Spells (Put (Some ch)) bytes → ⊥
+pub unspelled_is_not_put : (ch : ℕ) (bytes : List ℕ) → dtvcc_spelling ch ≡ None → All IsByte bytes → Spells (Put (Some ch)) bytes → ⊥
 unspelled_is_not_put ch bytes none are spells =
-    let some : IsSome (spelling_of ch) = spelled_is_spellable (Put (Some ch)) bytes are spells in
+    let some : IsSome (dtvcc_spelling ch) = spelled_is_spellable (Put (Some ch)) bytes are spells in
     let nothing : IsSome {T = List ℕ} None = subst (λ (o : Option (List ℕ)). IsSome o) none some in
     cc
 

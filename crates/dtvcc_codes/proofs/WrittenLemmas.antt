@@ -15,13 +15,13 @@ use Rattle.dtvcc_codes.specs.declared.pens.Rgb.{Rgb}
 use Rattle.dtvcc_codes.specs.declared.windows.Definition.{Definition}
 use Rattle.dtvcc_codes.specs.declared.windows.WinAttr.{WinAttr}
 use Rattle.dtvcc_codes.specs.Characters.{g0_of, g2_characters, g2_of}
-use Rattle.dtvcc_codes.specs.CharacterSpellings.{g1_spelling, g2_spelling, spelling_of}
+use Rattle.dtvcc_codes.specs.CharacterSpellings.{dtvcc_spelling, g1_spelling, g2_spelling}
 use Rattle.dtvcc_codes.specs.CodeTables.{Row, base_codes, extended_codes, holds_code, row_at}
 use Rattle.dtvcc_codes.specs.Parameters.{definition, fill_of, is_set, pen_attributes, pen_colors, rgb_of, window_attributes}
 use Rattle.dtvcc_codes.specs.Spellable.{IsDefinition, IsFill, IsPenAttr, IsPenColors, IsRgb, IsSpellable, IsWinAttr, is_skipped}
 use Rattle.dtvcc_codes.specs.Spelling.{IsSpelled, Spells}
 use Rattle.dtvcc_codes.specs.Spelling.Spells.{base, extended}
-use Rattle.dtvcc_codes.specs.Writing.{bit, attribute_bytes, color_bytes, definition_bytes, fill_byte, pen_bytes, rgb_byte, written}
+use Rattle.dtvcc_codes.specs.Writing.{bit, attribute_bytes, color_bytes, definition_bytes, fill_byte, pen_bytes, rgb_byte, bytes_of_command}
 use Rattle.dtvcc_codes.proofs.CharacterLemmas.{all_below, at_each}
 use Rattle.dtvcc_codes.proofs.SizeLemmas.{or_other}
 use Rattle.dtvcc_codes.proofs.SpellingLemmas.{IsByte}
@@ -170,8 +170,8 @@ written_g2 ch entry found =
     }
 
 -- a character's spelling
-pub spelling_is_written : (ch : ℕ) (bytes : List ℕ) → spelling_of ch ≡ Some bytes → IsWritten (Put (Some ch)) bytes
-unfolding spelling_of
+pub spelling_is_written : (ch : ℕ) (bytes : List ℕ) → dtvcc_spelling ch ≡ Some bytes → IsWritten (Put (Some ch)) bytes
+unfolding dtvcc_spelling
 spelling_is_written ch bytes is = by_note (ch == 0x266A) refl is where
   -- by G2
   by_entry : (found : Option (ℕ × ℕ)) → find (λ e. e.1 == ch) g2_characters ≡ found → option_map (λ e. 16 ∷ e.0 ∷ []) found ≡ Some bytes → IsWritten (Put (Some ch)) bytes
@@ -414,14 +414,14 @@ unfolding g2_of
 put_nothing = refl
 
 -- every command that can be spelled and isn't skipped
-pub written_is : (command : Command) → IsSpellable command → is_skipped command ≡ false → IsWritten command (written command)
-unfolding written row_numbered
+pub written_is : (command : Command) → IsSpellable command → is_skipped command ≡ false → IsWritten command (bytes_of_command command)
+unfolding bytes_of_command row_numbered
 written_is (Put None) fits skipped = record {
   are = byte_list 0x10 (0x20 ∷ []) (omega arith) (byte_list 0x20 [] (omega arith) no_bytes);
   spells = extended 0x20 [] _ refl refl refl put_nothing;
 }
-written_is (Put (Some ch)) fits skipped = by_spelling (spelling_of ch) refl fits where
-  by_spelling : (found : Option (List ℕ)) → spelling_of ch ≡ found → IsSome found → IsWritten (Put (Some ch)) (unwrap_or found [])
+written_is (Put (Some ch)) fits skipped = by_spelling (dtvcc_spelling ch) refl fits where
+  by_spelling : (found : Option (List ℕ)) → dtvcc_spelling ch ≡ found → IsSome found → IsWritten (Put (Some ch)) (unwrap_or found [])
   by_spelling None is some = absurd cc
   by_spelling (Some bytes) is some = spelling_is_written ch bytes is
 written_is Etx fits skipped = one_code Etx 0x03 _ refl (omega arith) refl refl
@@ -484,9 +484,9 @@ the_skipped (Spl row col) is = absurd cc
 the_skipped (Swa attributes) is = absurd cc
 the_skipped (Df d) is = absurd cc
 
-nothing_written : (command : Command) → is_skipped command ≡ true → All IsByte (written command)
-unfolding written
-nothing_written command is = subst (λ c. All IsByte (written c)) (sym (the_skipped command is)) no_bytes
+nothing_written : (command : Command) → is_skipped command ≡ true → All IsByte (bytes_of_command command)
+unfolding bytes_of_command
+nothing_written command is = subst (λ c. All IsByte (bytes_of_command c)) (sym (the_skipped command is)) no_bytes
 
 skipped_is_spelled : (command : Command) → is_skipped command ≡ true → IsSpelled command
 skipped_is_spelled command is = subst (λ c. IsSpelled c) (sym (the_skipped command is)) (record {
@@ -495,10 +495,10 @@ skipped_is_spelled command is = subst (λ c. IsSpelled c) (sym (the_skipped comm
   spells = base 0 [] _ refl refl refl refl;
 })
 
-pub written_are_bytes : (command : Command) → IsSpellable command → All IsByte (written command)
-unfolding written
+pub written_are_bytes : (command : Command) → IsSpellable command → All IsByte (bytes_of_command command)
+unfolding bytes_of_command
 written_are_bytes command fits = by_test (is_skipped command) refl where
-  by_test : (t : Bool) → is_skipped command ≡ t → All IsByte (written command)
+  by_test : (t : Bool) → is_skipped command ≡ t → All IsByte (bytes_of_command command)
   by_test true is = nothing_written command is
   by_test false is = (written_is command fits is).are
 
@@ -507,7 +507,7 @@ spellable_is_spelled command fits = by_test (is_skipped command) refl where
   by_test : (t : Bool) → is_skipped command ≡ t → IsSpelled command
   by_test true is = skipped_is_spelled command is
   by_test false is = let is_written = written_is command fits is in
-      record { bytes = written command; are_bytes = is_written.are; spells = is_written.spells }
+      record { bytes = bytes_of_command command; are_bytes = is_written.are; spells = is_written.spells }
 
-pub written_spells : (command : Command) (bytes : List ℕ) → IsSpellable command → is_skipped command ≡ false → bytes ≡ written command → Spells command bytes
+pub written_spells : (command : Command) (bytes : List ℕ) → IsSpellable command → is_skipped command ≡ false → bytes ≡ bytes_of_command command → Spells command bytes
 written_spells command bytes fits skipped is = subst (λ bs. Spells command bs) (sym is) (written_is command fits skipped).spells

@@ -1,3 +1,4 @@
+-- Believed: the program's answer stands on these definitions.
 -- The spelling of a character: by G0 where that has it, else by G1, else by G2 behind EXT1 (CTA-708-E, 7.1).
 use Rattle.std.specs.Prelude.{ℕ, ◌==◌, ◌&&◌, nat_lt, nat_le, if◌then◌else◌, List, [], ◌∷◌, Option, Some, None, find}
 use Rattle.std.specs.Option.{option_map, option_or}
@@ -20,5 +21,5 @@ abbrev pub g2_spelling : ℕ → Option (List ℕ)
 g2_spelling ch = option_map (λ entry. ext1 ∷ entry.0 ∷ []) (find (λ entry. entry.1 == ch) g2_characters)
 
 -- the spelling of a character, if a table has it
-unfoldable pub spelling_of : ℕ → Option (List ℕ)
-spelling_of ch = option_or (g0_spelling ch) (option_or (g1_spelling ch) (g2_spelling ch))
+unfoldable pub dtvcc_spelling : ℕ → Option (List ℕ)
+dtvcc_spelling ch = option_or (g0_spelling ch) (option_or (g1_spelling ch) (g2_spelling ch))

@@ -1,3 +1,4 @@
+-- Believed: the program's answer stands on these definitions.
 -- The characters of DTVCC: the code sets G0, G1, G2 and G3 (CTA-708-E, 7.1).
 use Rattle.std.specs.Prelude.{ℕ, ◌==◌, nat_lt, if◌then◌else◌, List, [], ◌∷◌, Option, Some, None, find, unwrap_or}
 use Rattle.std.specs.Option.{option_map}

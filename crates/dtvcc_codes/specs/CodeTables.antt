@@ -1,3 +1,4 @@
+-- Believed: the program's answer stands on these definitions.
 -- The code sets of DTVCC (CTA-708-E, 7.1), as tables: the codes, how many parameter bytes follow each, and what the code says
 -- with them. C0, G0, C1 and G1 are the sets of a single byte. The byte 10, EXT1, leads to the extended sets: the byte behind it
 -- is a code of C2, G2, C3 or G3.

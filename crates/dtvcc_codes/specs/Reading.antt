@@ -1,3 +1,4 @@
+-- Believed in part: the program's answer stands on some of these definitions.
 -- How commands are read, one byte after another: the bytes of the unfinished command are open, and a byte that makes them whole
 -- completes the command. What this comes to is the cut of the bytes into commands.
 use Rattle.std.specs.Prelude.{ℕ, ◌+◌, ◌%◌, ◌==◌, nat_le, Bool, if◌then◌else◌, List, [], ◌∷◌, ◌++◌, length, Option, Some, None}

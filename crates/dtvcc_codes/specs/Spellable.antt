@@ -1,3 +1,4 @@
+-- Believed in part: the program's answer stands on some of these definitions.
 -- The commands that bytes can spell, by the range of each of their fields (CTA-708-E, 7.1, and the command descriptions).
 use Rattle.std.specs.Prelude.{◌<◌, ◌≤◌, Bool, true, false, ⊤, Some, None, IsSome}
 use Rattle.dtvcc_codes.specs.declared.commands.Command.{Command}
@@ -8,7 +9,7 @@ use Rattle.dtvcc_codes.specs.declared.pens.PenColors.{PenColors}
 use Rattle.dtvcc_codes.specs.declared.pens.Rgb.{Rgb}
 use Rattle.dtvcc_codes.specs.declared.windows.Definition.{Definition}
 use Rattle.dtvcc_codes.specs.declared.windows.WinAttr.{WinAttr}
-use Rattle.dtvcc_codes.specs.CharacterSpellings.{spelling_of}
+use Rattle.dtvcc_codes.specs.CharacterSpellings.{dtvcc_spelling}
 
 -- a colour of two bits for each part
 pub record IsRgb (rgb : Rgb) : Type 0 where
@@ -66,7 +67,7 @@ pub record IsDefinition (definition : Definition) : Type 0 where
 -- a command that bytes can spell
 abbrev pub IsSpellable : Command → Type 0
 IsSpellable (Put None) = ⊤
-IsSpellable (Put (Some ch)) = IsSome (spelling_of ch)
+IsSpellable (Put (Some ch)) = IsSome (dtvcc_spelling ch)
 IsSpellable (Cw id) = id < 8
 IsSpellable (Clw windows) = windows < 256
 IsSpellable (Dsw windows) = windows < 256

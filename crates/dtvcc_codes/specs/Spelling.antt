@@ -1,3 +1,4 @@
+-- Believed in part: the program's answer stands on some of these definitions.
 -- The spelling of each command: its code with the code's parameters (CTA-708-E, 7.1).
 use Rattle.std.specs.Prelude.{◌≡◌, ℕ, ◌%◌, ◌<◌, true, List, ◌∷◌, All, Some, length}
 use Rattle.dtvcc_codes.specs.declared.commands.Command.{Command}

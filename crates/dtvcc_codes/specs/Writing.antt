@@ -1,3 +1,4 @@
+-- Believed: the program's answer stands on these definitions.
 -- How a command is written (CTA-708-E, 7.1, and the command descriptions). Bits without a meaning are 0.
 use Rattle.std.specs.Prelude.{ℕ, ◌+◌, ◌-◌, ◌*◌, ◌/◌, ◌%◌, Bool, if◌then◌else◌, List, [], ◌∷◌, Some, None, unwrap_or}
 use Rattle.dtvcc_codes.specs.declared.commands.Command.{Command}
@@ -8,7 +9,7 @@ use Rattle.dtvcc_codes.specs.declared.pens.PenColors.{PenColors}
 use Rattle.dtvcc_codes.specs.declared.pens.Rgb.{Rgb}
 use Rattle.dtvcc_codes.specs.declared.windows.Definition.{Definition}
 use Rattle.dtvcc_codes.specs.declared.windows.WinAttr.{WinAttr}
-use Rattle.dtvcc_codes.specs.CharacterSpellings.{spelling_of}
+use Rattle.dtvcc_codes.specs.CharacterSpellings.{dtvcc_spelling}
 
 -- a bit of this value
 abbrev pub bit : Bool → ℕ → ℕ
@@ -51,26 +52,26 @@ definition_bytes definition =
     ∷ (definition.ws * 8 + definition.ps) ∷ []
 
 -- the bytes of a command; a skipped one is not written
-unfoldable pub written : Command → List ℕ
-written (Put None) = 0x10 ∷ 0x20 ∷ []
-written (Put (Some ch)) = unwrap_or (spelling_of ch) []
-written Etx = 0x03 ∷ []
-written Bs = 0x08 ∷ []
-written Ff = 0x0C ∷ []
-written Cr = 0x0D ∷ []
-written Hcr = 0x0E ∷ []
-written (Cw id) = (0x80 + id) ∷ []
-written (Clw windows) = 0x88 ∷ windows ∷ []
-written (Dsw windows) = 0x89 ∷ windows ∷ []
-written (Hdw windows) = 0x8A ∷ windows ∷ []
-written (Tgw windows) = 0x8B ∷ windows ∷ []
-written (Dlw windows) = 0x8C ∷ windows ∷ []
-written (Dly tenths) = 0x8D ∷ tenths ∷ []
-written Dlc = 0x8E ∷ []
-written Rst = 0x8F ∷ []
-written (Spa pen) = 0x90 ∷ pen_bytes pen
-written (Spc colors) = 0x91 ∷ color_bytes colors
-written (Spl row col) = 0x92 ∷ row ∷ col ∷ []
-written (Swa attributes) = 0x97 ∷ attribute_bytes attributes
-written (Df definition) = (0x98 + definition.id) ∷ definition_bytes definition
-written Skipped = []
+unfoldable pub bytes_of_command : Command → List ℕ
+bytes_of_command (Put None) = 0x10 ∷ 0x20 ∷ []
+bytes_of_command (Put (Some ch)) = unwrap_or (dtvcc_spelling ch) []
+bytes_of_command Etx = 0x03 ∷ []
+bytes_of_command Bs = 0x08 ∷ []
+bytes_of_command Ff = 0x0C ∷ []
+bytes_of_command Cr = 0x0D ∷ []
+bytes_of_command Hcr = 0x0E ∷ []
+bytes_of_command (Cw id) = (0x80 + id) ∷ []
+bytes_of_command (Clw windows) = 0x88 ∷ windows ∷ []
+bytes_of_command (Dsw windows) = 0x89 ∷ windows ∷ []
+bytes_of_command (Hdw windows) = 0x8A ∷ windows ∷ []
+bytes_of_command (Tgw windows) = 0x8B ∷ windows ∷ []
+bytes_of_command (Dlw windows) = 0x8C ∷ windows ∷ []
+bytes_of_command (Dly tenths) = 0x8D ∷ tenths ∷ []
+bytes_of_command Dlc = 0x8E ∷ []
+bytes_of_command Rst = 0x8F ∷ []
+bytes_of_command (Spa pen) = 0x90 ∷ pen_bytes pen
+bytes_of_command (Spc colors) = 0x91 ∷ color_bytes colors
+bytes_of_command (Spl row col) = 0x92 ∷ row ∷ col ∷ []
+bytes_of_command (Swa attributes) = 0x97 ∷ attribute_bytes attributes
+bytes_of_command (Df definition) = (0x98 + definition.id) ∷ definition_bytes definition
+bytes_of_command Skipped = []

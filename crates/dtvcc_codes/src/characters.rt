@@ -1,7 +1,7 @@
 ghost use Rattle.std.specs.Prelude.{◌≡◌, ◌==◌, ◌<◌, ◌≤◌, [], ◌∷◌, find};
 ghost use Rattle.std.specs.Option.{option_map, option_or};
 ghost use Rattle.dtvcc_codes.specs.Characters.{g0_of, g2_of};
-ghost use Rattle.dtvcc_codes.specs.CharacterSpellings.{g0_spelling, g1_spelling, g2_spelling, spelling_of};
+ghost use Rattle.dtvcc_codes.specs.CharacterSpellings.{dtvcc_spelling, g0_spelling, g1_spelling, g2_spelling};
 
 use crate::reading::EXT1;
 use arrayvec::ArrayVec;
@@ -74,9 +74,9 @@ fn entry_of_char(table: &[(u8, char)], ch: char) -> Option<(u8, char)>
 /// is of G2. `None` exactly where no table has the character. The transparent codes of G2 spell no character
 /// (CTA-708-E, 7.1).
 #[inline(always)]
-#[tactic(auto, unfolding(crate::specs::CharacterSpellings::spelling_of))]
+#[tactic(auto, unfolding(crate::specs::CharacterSpellings::dtvcc_spelling))]
 pub fn spell_dtv(ch: char) -> Option<ArrayVec<u8, 2>>
-    ensures spelling { option_map (λ bytes. bytes.items) result ≡ spelling_of ch }
+    ensures spelling { option_map (λ bytes. bytes.items) result ≡ dtvcc_spelling ch }
 {
     match ch {
         '♪' => Some(one(0x7F)),

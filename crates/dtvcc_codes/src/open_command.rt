@@ -41,7 +41,8 @@ impl OpenCommand {
     #[inline(always)]
     pub fn take(&mut self, byte: u8) -> Option<Command>
         ensures says { (front : List ℕ) → Keeps front self.old → result ≡ completed front byte }
-        ensures leads { (front : List ℕ) → Keeps front self.old → Keeps (open_after front byte) self.new }
+        ensures leads { (front : List ℕ) → Keeps front self.old
+            → Keeps (open_after front byte) self.new }
         ensures fits { IfSome result IsSpellable }
     {
         if self.to_skip > 0 {

@@ -385,7 +385,7 @@ fn characters_are_spelled_by_the_first_code_set_that_has_them(rt: HostRuntime) {
 }
 
 #[test]
-#[tactic(auto, unfolding(crate::specs::CharacterSpellings::spelling_of))]
+#[tactic(auto, unfolding(crate::specs::CharacterSpellings::dtvcc_spelling))]
 fn commands_are_written_without_bits_that_have_no_meaning(rt: HostRuntime) {
     assert_eq!(rt; write_command(&Put(None)).as_slice(), &[0x10, 0x20][..]);
     assert_eq!(rt; write_command(&Put(Some('_'))).as_slice(), &[0x5F][..]);

@@ -1,10 +1,10 @@
 ghost use Rattle.std.specs.Prelude.{◌≡◌, ◌-◌, ◌<◌, ◌≤◌, ◌++◌, [], ◌∷◌, Some, None, IsSome, false, length, replicate, unwrap_or};
 ghost use Rattle.cc_base.specs.Syntax.{open_behind};
-ghost use Rattle.dtvcc_codes.specs.CharacterSpellings.{spelling_of};
+ghost use Rattle.dtvcc_codes.specs.CharacterSpellings.{dtvcc_spelling};
 ghost use Rattle.dtvcc_codes.specs.Reading.{command_syntax, completions};
 ghost use Rattle.dtvcc_codes.specs.Spellable.{IsDefinition, IsFill, IsPenAttr, IsPenColors, IsRgb, IsSpellable, IsWinAttr, is_skipped};
 ghost use Rattle.dtvcc_codes.specs.Spelling.{Spells};
-ghost use Rattle.dtvcc_codes.specs.Writing.{attribute_bytes, bit, color_bytes, definition_bytes, fill_byte, pen_bytes, rgb_byte, written};
+ghost use Rattle.dtvcc_codes.specs.Writing.{attribute_bytes, bit, bytes_of_command, color_bytes, definition_bytes, fill_byte, pen_bytes, rgb_byte};
 
 use crate::characters::spell_dtv;
 use crate::commands::Command;
@@ -23,20 +23,21 @@ use arrayvec::ArrayVec;
 pub fn write_command(command: &Command) -> ArrayVec<u8, 7>
     requires spellable { IsSpellable command.now }
     requires unskipped { is_skipped command.now ≡ false }
-    ensures bytes { result.items ≡ written command.now }
+    ensures bytes { result.items ≡ bytes_of_command command.now }
     ensures spells { Spells command.now result.items }
-    ensures completes { completions [] result.items ≡ replicate (length result.items - 1) None ++ Some command.now ∷ [] }
+    ensures completes { completions [] result.items
+        ≡ replicate (length result.items - 1) None ++ Some command.now ∷ [] }
     ensures closed { open_behind command_syntax result.items ≡ [] }
 {
     bytes_of(*command)
 }
 
 #[inline(always)]
-#[tactic(auto, unfolding(crate::specs::Writing::written))]
+#[tactic(auto, unfolding(crate::specs::Writing::bytes_of_command))]
 fn bytes_of(command: Command) -> ArrayVec<u8, 7>
     requires spellable { IsSpellable command }
     requires unskipped { is_skipped command ≡ false }
-    ensures { result.items ≡ written command }
+    ensures { result.items ≡ bytes_of_command command }
 {
     match command {
         Command::Put(None) => coded(EXT1, &[0x20]),
@@ -76,8 +77,8 @@ fn coded(code: u8, parameters: &[u8]) -> ArrayVec<u8, 7>
 }
 
 fn character_bytes(ch: char) -> ArrayVec<u8, 7>
-    requires { IsSome (spelling_of ch) }
-    ensures { result.items ≡ unwrap_or (spelling_of ch) [] }
+    requires { IsSome (dtvcc_spelling ch) }
+    ensures { result.items ≡ unwrap_or (dtvcc_spelling ch) [] }
 {
     match spell_dtv(ch) {
         Some(spelling) => match spelling.as_slice() {

@@ -5,7 +5,7 @@ use Rattle.dtvcc_codes.specs.declared.commands.Command.{Command}
 use Rattle.dtvcc_codes.specs.Reading.{completed, completions, is_whole, open_after, spelled_command}
 use Rattle.dtvcc_screen.specs.declared.clock.Clock.{Clock}
 use Rattle.dtvcc_screen.specs.Commands.{on_screen}
-use Rattle.dtvcc_screen.specs.Cores.{CoreState, acted, acted_if, after_byte, all_acted, arrived, arrived_in, clean, fill_in, go_on, held_more, is_cancel, is_reset, released, tenths_of, until_of}
+use Rattle.dtvcc_screen.specs.Cores.{CoreState, acted_if, after_byte, all_acted, arrived, arrived_in, clean, core_acted, fill_in, go_on, held_more, is_cancel, is_reset, released, tenths_of, until_of}
 use Rattle.dtvcc_screen.specs.Objects.{acting_on}
 use Rattle.dtvcc_screen.specs.Screens.{ScreenState}
 
@@ -151,7 +151,7 @@ all_acted-open [] clock core = refl
 all_acted-open (None ∷ rest) clock core =
     go_on-open core.until rest core (all_acted rest clock core) core.open_bytes refl (all_acted-open rest clock core)
 all_acted-open (Some command ∷ rest) clock core =
-    let next : CoreState = acted command clock core in
+    let next : CoreState = core_acted command clock core in
     go_on-open next.until rest next (all_acted rest clock next) core.open_bytes refl (all_acted-open rest clock next)
 
 -- a byte by what it completes

@@ -7,7 +7,7 @@ use Rattle.dtvcc_screen.specs.declared.clock.Clock.{Clock}
 use Rattle.dtvcc_screen.specs.Commands.{on_screen}
 use Rattle.dtvcc_screen.specs.Cores.{CoreState, acted_if, after_byte, after_tick, all_acted, arrived_in, clean, fill, fill_in, go_on, held_more, is_cancel, is_due, is_reset, released, tenths_of, until_of}
 use Rattle.dtvcc_screen.specs.Laws.{HasNoReset, bytes_among, on_screen_all, on_screen_if}
-use Rattle.dtvcc_screen.specs.Meaning.{Event, Tick, Byte, Reset, Served, after, on_event, start, ticked}
+use Rattle.dtvcc_screen.specs.Meaning.{Event, Tick, Byte, Reset, Served, served_after, on_event, start, ticked}
 use Rattle.dtvcc_screen.specs.Objects.{acting_on}
 use Rattle.dtvcc_screen.specs.Screens.{ScreenState, empty_screen}
 use Rattle.dtvcc_screen.proofs.CoreLemmas.{all_acted-open, arrived_reset, by_byte, moved}
@@ -146,7 +146,7 @@ byte_steps byte clock core no_reset few =
 
 -- any events without a reset
 led_after : (events : List Event) (s : Served) (open_bytes : List ℕ) → s.core.open_bytes ≡ open_bytes → IsFew s.core → HasNoReset open_bytes events
-    → led (after s events).core ≡ on_screen_all (completions open_bytes (bytes_among events)) (led s.core)
+    → led (served_after s events).core ≡ on_screen_all (completions open_bytes (bytes_among events)) (led s.core)
 led_after [] s open_bytes is few none = refl
 led_after (Tick rate ∷ events) s open_bytes is few none =
     let steps = tick_steps (ticked rate s.clock) s.core few in
@@ -164,7 +164,7 @@ clean_few : IsFew clean
 clean_few = record { calm = λ none. refl; few = omega arith }
 
 pub put_off : (events : List Event) → HasNoReset [] events
-    → on_screen_all (after start events).core.held (after start events).core.screen ≡ on_screen_all (completions [] (bytes_among events)) empty_screen
+    → on_screen_all (served_after start events).core.held (served_after start events).core.screen ≡ on_screen_all (completions [] (bytes_among events)) empty_screen
 put_off events none = led_after events start [] refl clean_few none
 
 -- few are held, whatever comes
@@ -175,13 +175,13 @@ byte_few byte clock core few = at (is_reset (completed core.open_bytes byte)) re
       subst IsFew (sym (by_byte core byte clock (completed core.open_bytes byte) refl ∙ arrived_reset (completed core.open_bytes byte) clock (opened byte core) is)) clean_few
   at false is = (byte_steps byte clock core is few).few
 
-few_after : (events : List Event) (s : Served) → IsFew s.core → IsFew (after s events).core
+few_after : (events : List Event) (s : Served) → IsFew s.core → IsFew (served_after s events).core
 few_after [] s few = few
 few_after (Tick rate ∷ events) s few = few_after events (on_event (Tick rate) s) (tick_steps (ticked rate s.clock) s.core few).few
 few_after (Byte byte ∷ events) s few = few_after events (on_event (Byte byte) s) (byte_few byte s.clock s.core few)
 few_after (Reset ∷ events) s few = few_after events (on_event Reset s) clean_few
 
-pub held_few : (events : List Event) → length (after start events).core.held ≤ 127
+pub held_few : (events : List Event) → length (served_after start events).core.held ≤ 127
 held_few events = let few = (few_after events start clean_few).few in omega arith
 
 fill_at_most : (until : Option ℕ) (said : Option Command) (held : List (Option Command)) → length held ≤ 127 → fill_in until said held ≤ 128
@@ -192,9 +192,9 @@ fill_at_most (Some end) said held few = at (is_reset said) (is_cancel said) wher
   at false true = omega arith
   at false false = omega arith
 
-pub fill_few : (events : List Event) (byte : ℕ) → fill byte (after start events).core ≤ 128
+pub fill_few : (events : List Event) (byte : ℕ) → fill byte (served_after start events).core ≤ 128
 fill_few events byte =
-    let core : CoreState = (after start events).core in
+    let core : CoreState = (served_after start events).core in
     fill_at_most core.until (completed core.open_bytes byte) core.held (held_few events)
 
 pub reset_leaves : (byte : ℕ) (clock : Clock) (core : CoreState) → is_reset (completed core.open_bytes byte) ≡ true → after_byte byte clock core ≡ clean

@@ -10,7 +10,7 @@ use Rattle.dtvcc_codes.specs.declared.commands.Command.{Command}
 use Rattle.dtvcc_codes.specs.Reading.{completed, open_after}
 use Rattle.dtvcc_screen.specs.Commands.{on_screen}
 use Rattle.dtvcc_screen.specs.Cores.{CoreState, acted_if, after_byte, after_tick, all_acted, arrived_in, clean, go_on, held_more, is_cancel, is_due, is_reset, released, tenths_of, until_of}
-use Rattle.dtvcc_screen.specs.Meaning.{Byte, Event, Reset, Served, Tick, after, cleaned, on_event, ticked}
+use Rattle.dtvcc_screen.specs.Meaning.{Byte, Event, Reset, Served, Tick, cleaned, on_event, served_after, ticked}
 use Rattle.dtvcc_screen.specs.declared.clock.Clock.{Clock}
 
 -- so many frames later
@@ -109,21 +109,21 @@ event_shift d (Tick rate) s =
 event_shift d (Byte byte) s = ap (λ (core : CoreState). record { clock = later_clock d s.clock; core = core }) (byte_shift d byte s.clock s.core)
 event_shift d Reset s = refl
 
-pub after_shift : (d : ℕ) (es : List Event) (s : Served) → after (shift d s) es ≡ shift d (after s es)
+pub after_shift : (d : ℕ) (es : List Event) (s : Served) → served_after (shift d s) es ≡ shift d (served_after s es)
 after_shift d [] s = refl
-after_shift d (e ∷ es) s = ap (λ (t : Served). after t es) (event_shift d e s) ∙ after_shift d es (on_event e s)
+after_shift d (e ∷ es) s = ap (λ (t : Served). served_after t es) (event_shift d e s) ∙ after_shift d es (on_event e s)
 
 -- from a tick on its screen doesn't know the clock
 same_ticked : (a b : Clock) (rate : Rate) (es : List Event) → a.ticks ≤ b.ticks
-    → (after (cleaned b) (Tick rate ∷ es)).core.screen ≡ (after (cleaned a) (Tick rate ∷ es)).core.screen
+    → (served_after (cleaned b) (Tick rate ∷ es)).core.screen ≡ (served_after (cleaned a) (Tick rate ∷ es)).core.screen
 same_ticked a b rate es low =
     let d : ℕ = b.ticks - a.ticks in
     let same : b.ticks + 1 ≡ a.ticks + 1 + d = omega arith in
-    ap (λ (n : ℕ). (after (cleaned (record { ticks = n; rate = rate })) es).core.screen) same
+    ap (λ (n : ℕ). (served_after (cleaned (record { ticks = n; rate = rate })) es).core.screen) same
     ∙ ap (λ (s : Served). s.core.screen) (after_shift d es (cleaned (ticked rate a)))
 
 pub same_clock : (a b : Clock) (rate : Rate) (es : List Event)
-    → (after (cleaned b) (Tick rate ∷ es)).core.screen ≡ (after (cleaned a) (Tick rate ∷ es)).core.screen
+    → (served_after (cleaned b) (Tick rate ∷ es)).core.screen ≡ (served_after (cleaned a) (Tick rate ∷ es)).core.screen
 same_clock a b rate es = elim (cases_lt a.ticks b.ticks) [
   | inl less ↦ same_ticked a b rate es (omega arith)
   | inr high ↦ sym (same_ticked b a rate es high)

@@ -13,7 +13,7 @@ use Rattle.dtvcc_codes.proofs.SpellableLemmas.{delay_cancel_is}
 use Rattle.dtvcc_screen.specs.declared.clock.Clock.{Clock}
 use Rattle.dtvcc_screen.specs.declared.cores.Core.{Core}
 use Rattle.dtvcc_screen.specs.Commands.{on_screen}
-use Rattle.dtvcc_screen.specs.Cores.{CoreState, acted, acted_if, after_byte, all_acted, fill, fill_in, held_more, is_cancel, is_reset, released, tenths_of, until_of}
+use Rattle.dtvcc_screen.specs.Cores.{CoreState, acted_if, after_byte, all_acted, core_acted, fill, fill_in, held_more, is_cancel, is_reset, released, tenths_of, until_of}
 use Rattle.dtvcc_screen.specs.Objects.{Carries, Stands, acting_on, screen_of}
 use Rattle.dtvcc_screen.specs.Screens.{ScreenState}
 use Rattle.dtvcc_screen.proofs.CoreLemmas.{all_acted-open, arrived_cancel, arrived_held, arrived_now, by_byte, closed, completions_length, completions_more, fill_held, front, front_more, front_rest, next_delayed, rest_acted}
@@ -58,7 +58,7 @@ pub acts_stands : (state : CoreState) (byte : ℕ) (clock : Clock) (said : Optio
     → Stands (after_byte byte clock state) now
 acts_stands state byte clock said command was now stands fits none says is no_reset keeps screen until held =
     let empty : now.held.items ≡ [] = held ∙ stands.carries.calm none in
-    let next : CoreState = acted command clock (opened byte state) in
+    let next : CoreState = core_acted command clock (opened byte state) in
     let to_next : after_byte byte clock state ≡ next =
     by_byte state byte clock said says ∙ arrived_now said clock (opened byte state) no_reset none
     ∙ ap (λ (o : Option Command). acted_if o clock (opened byte state)) is in

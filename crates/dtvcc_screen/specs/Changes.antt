@@ -1,3 +1,4 @@
+-- Between crates: the program's answer stands on none of these definitions.
 -- What a byte of windows asks of each window that it names.
 use Rattle.std.specs.Prelude.{true, false, Option, option_map}
 use Rattle.dtvcc_windows.specs.Text.{cleared}

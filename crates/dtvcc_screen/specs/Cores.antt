@@ -1,3 +1,4 @@
+-- Believed: the program's answer stands on these definitions.
 -- A service that delays what it is sent (CTA-708-E, Delay, DelayCancel and Reset; what counts as held, and the cut of the
 -- bytes into commands all the while, are this project's own choice).
 use Rattle.std.specs.Prelude.{ℕ, ◌+◌, ◌==◌, Bool, true, false, if◌then◌else◌, List, [], ◌∷◌, ◌++◌, length, Option, Some, None}
@@ -43,13 +44,13 @@ abbrev pub until_of : ℕ → Clock → Option ℕ → Option ℕ
 until_of tenths clock until = if tenths == 0 then until else Some (clock.ticks + delay_frames_of clock.rate tenths)
 
 -- a command acts
-abbrev pub acted : Command → Clock → CoreState → CoreState
-acted command clock core =
+abbrev pub core_acted : Command → Clock → CoreState → CoreState
+core_acted command clock core =
     record core { screen = on_screen command core.screen; until = until_of (tenths_of command) clock core.until }
 
 abbrev pub acted_if : Option Command → Clock → CoreState → CoreState
 acted_if None clock core = core
-acted_if (Some command) clock core = acted command clock core
+acted_if (Some command) clock core = core_acted command clock core
 
 -- the rest acts too; but in a delay it is held
 abbrev pub go_on : Option ℕ → List (Option Command) → CoreState → CoreState → CoreState

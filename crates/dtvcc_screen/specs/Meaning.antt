@@ -1,3 +1,4 @@
+-- Believed in part: the program's answer stands on some of these definitions.
 -- What a service makes of its bytes, of the frames in which they come, and of resets from outside.
 use Rattle.std.specs.Prelude.{ℕ, ◌+◌, List, [], ◌∷◌}
 use Rattle.cc_base.specs.declared.rate.Rate.{Rate}
@@ -35,6 +36,6 @@ on_event (Byte byte) s = record s { core = after_byte byte s.clock s.core }
 on_event Reset s = record s { core = clean }
 
 -- events in order
-abbrev pub after : Served → List Event → Served
-after s [] = s
-after s (event ∷ events) = after (on_event event s) events
+abbrev pub served_after : Served → List Event → Served
+served_after s [] = s
+served_after s (event ∷ events) = served_after (on_event event s) events

@@ -1,3 +1,4 @@
+-- Between crates: the program's answer stands on none of these definitions.
 -- What the objects of the program stand for.
 use Rattle.std.specs.Prelude.{◌≡◌, ℕ, ◌<◌, Bool, false, List, [], All, Option, Some, None, slice_get}
 use Rattle.cc_base.specs.Steps.{front_from}
@@ -10,7 +11,7 @@ use Rattle.dtvcc_screen.specs.declared.cores.Core.{Core}
 use Rattle.dtvcc_screen.specs.declared.screen.Screen.{Screen}
 use Rattle.dtvcc_screen.specs.declared.service.Service.{Service}
 use Rattle.dtvcc_screen.specs.Cores.{CoreState}
-use Rattle.dtvcc_screen.specs.Meaning.{Event, after, start}
+use Rattle.dtvcc_screen.specs.Meaning.{Event, served_after, start}
 use Rattle.dtvcc_screen.specs.Screens.{ScreenState, Windows}
 use Rattle.dtvcc_screen.specs.Shown.{LooksSame}
 
@@ -67,8 +68,8 @@ acting_on open_bytes screen = record { screen = screen; open_bytes = open_bytes;
 
 -- these events led to where a service is
 pub record Leads (events : List Event) (service : Service) : Type 0 where
-  pub clock : service.clock ≡ (after start events).clock
-  pub core : Stands (after start events).core service.core
+  pub clock : service.clock ≡ (served_after start events).clock
+  pub core : Stands (served_after start events).core service.core
 
 -- the frames that a service was told of
 abbrev pub service_ticks : Service → ℕ

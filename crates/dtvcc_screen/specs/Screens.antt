@@ -1,3 +1,4 @@
+-- Believed: the program's answer stands on these definitions.
 -- The screen of a service: its windows 0 to 7, and the current one, to which text and pen commands go
 -- (CTA-708-E, caption windows and SetCurrentWindow).
 use Rattle.std.specs.Prelude.{ℕ, ◌==◌, Bool, if◌then◌else◌, Option, Some, None, option_map}

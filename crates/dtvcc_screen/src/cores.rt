@@ -51,7 +51,8 @@ impl Core {
     /// A frame begins, which the clock counts already: a delay that ends in it ends (CTA-708-E, Delay).
     pub fn tick(&mut self, clock: Clock)
         requires { clock.ticks < 2 ^ 32 }
-        ensures stands { (state : CoreState) → Stands state self.old → Stands (after_tick clock state) self.new }
+        ensures stands { (state : CoreState) → Stands state self.old
+            → Stands (after_tick clock state) self.new }
         ensures noted { Notes self.old self.new }
     {
         if is_due(self.until, clock.ticks) {
@@ -62,8 +63,10 @@ impl Core {
     /// Takes the next byte, and says whether it brought the held bytes to 128, which ends the delay.
     pub fn byte(&mut self, clock: Clock, byte: u8) -> bool
         requires { clock.ticks < 2 ^ 32 }
-        ensures stands { (state : CoreState) → Stands state self.old → Stands (after_byte byte clock state) self.new }
-        ensures full { (state : CoreState) → Stands state self.old → result ≡ (fill byte state == 128) }
+        ensures stands { (state : CoreState) → Stands state self.old
+            → Stands (after_byte byte clock state) self.new }
+        ensures full { (state : CoreState) → Stands state self.old
+            → result ≡ (fill byte state == 128) }
         ensures noted { Notes self.old self.new }
     {
         let completed = self.reader.take(byte);
@@ -120,7 +123,8 @@ impl Core {
 
     /// The window of an id, where there is one.
     pub fn window(&self, id: u8) -> Option<&Window>
-        ensures window { (state : CoreState) → Stands state self.now → MatchOption result (state.screen.windows id ≡ None)
+        ensures window { (state : CoreState) → Stands state self.now
+            → MatchOption result (state.screen.windows id ≡ None)
             (λ window. window_of window.now ≡ state.screen.windows id) }
         ensures live { IfSome result (λ window. IsTrue (is_live window.now)) }
     {
@@ -144,7 +148,8 @@ impl Core {
     fn end_delay(&mut self, clock: Clock)
         requires { clock.ticks < 2 ^ 32 }
         ensures noted { has_changed self.new ≡ true }
-        ensures stands { (state : CoreState) (end : ℕ) → Stands state self.old → state.until ≡ Some end
+        ensures stands { (state : CoreState) (end : ℕ) → Stands state self.old
+            → state.until ≡ Some end
             → Stands (released clock state) self.new }
     {
         let held = self.held.take();
@@ -158,7 +163,8 @@ impl Core {
         requires ticks { clock.ticks < 2 ^ 32 }
         requires full { length self.old.held.items + 1 ≡ 128 }
         ensures acted { Carries (all_acted (completions [] (self.old.held.items ++ byte ∷ [])) clock
-            (acting_on (front_from open_after [] (self.old.held.items ++ byte ∷ [])) (screen_of self.old.screen))) self.new.held.items self.new }
+            (acting_on (front_from open_after [] (self.old.held.items ++ byte ∷ []))
+            (screen_of self.old.screen))) self.new.held.items self.new }
         ensures reader { self.new.reader ≡ self.old.reader }
         ensures noted { has_changed self.new ≡ true }
     {
@@ -174,7 +180,8 @@ impl Core {
         requires empty { self.old.held.items ≡ [] }
         requires room { length bytes.now ≤ 128 }
         ensures acted { Carries (all_acted (completions [] bytes.now) clock
-            (acting_on (front_from open_after [] bytes.now) (screen_of self.old.screen))) self.new.held.items self.new }
+            (acting_on (front_from open_after [] bytes.now)
+            (screen_of self.old.screen))) self.new.held.items self.new }
         ensures reader { self.new.reader ≡ self.old.reader }
     {
         let mut reader = OpenCommand::new();
@@ -194,7 +201,8 @@ impl Core {
     fn act(&mut self, clock: Clock, command: &Command)
         requires ticks { clock.ticks < 2 ^ 32 }
         requires fits { IsSpellable command.now }
-        ensures screen { screen_of self.new.screen ≡ on_screen command.now (screen_of self.old.screen) }
+        ensures screen { screen_of self.new.screen
+            ≡ on_screen command.now (screen_of self.old.screen) }
         ensures until { self.new.until ≡ until_of (tenths_of command.now) clock self.old.until }
         ensures noted { Notes self.old self.new }
         ensures held { self.new.held.items ≡ self.old.held.items }

@@ -122,7 +122,8 @@ impl Screen {
     // Changes the windows that a byte names.
     #[inline(never)]
     fn change(&mut self, bits: u8, change: Change)
-        ensures windows { windows_of self.new.windows.items ≡ on_windows (is_named bits) (changed_by change) (windows_of self.old.windows.items) }
+        ensures windows { windows_of self.new.windows.items
+            ≡ on_windows (is_named bits) (changed_by change) (windows_of self.old.windows.items) }
         ensures current { self.new.current ≡ self.old.current }
     {
         for id in 0..WINDOWS {
@@ -134,7 +135,9 @@ impl Screen {
 
     // DeleteWindows.
     fn delete(&mut self, bits: u8)
-        ensures { screen_of self.new ≡ record (on_named bits deleted (screen_of self.old)) { current = current_without bits self.old.current } }
+        ensures { screen_of self.new
+            ≡ record (on_named bits deleted
+            (screen_of self.old)) { current = current_without bits self.old.current } }
     {
         self.change(bits, Change::Delete);
         if let Some(id) = self.current
@@ -146,7 +149,8 @@ impl Screen {
 
     // Does what a command of text says to the current window, and says whether this is shown.
     fn edit(&mut self, command: &Command) -> bool
-        ensures screen { screen_of self.new ≡ on_current (edited_by command.now) (screen_of self.old) }
+        ensures screen { screen_of self.new
+            ≡ on_current (edited_by command.now) (screen_of self.old) }
         ensures seen { result ≡ false → LooksSame (screen_of self.old) (screen_of self.new) }
     {
         let Some(id) = self.current else {

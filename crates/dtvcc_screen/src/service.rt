@@ -15,7 +15,7 @@ impl Service {
     ghost use Rattle.std.specs.Prelude.{◌≡◌, ◌==◌, ◌+◌, ◌-◌, ◌<◌, ◌≤◌, ◌^◌, ℕ, List, [], ◌∷◌, ◌++◌, length, None, IfOk, IfSome, IsTrue, MatchOption};
     ghost use Rattle.dtvcc_windows.specs.Objects.{is_live, window_of};
     ghost use Rattle.dtvcc_screen.specs.Cores.{fill};
-    ghost use Rattle.dtvcc_screen.specs.Meaning.{Event, Byte, Reset, Tick, after, start};
+    ghost use Rattle.dtvcc_screen.specs.Meaning.{Event, Byte, Reset, Tick, served_after, start};
     ghost use Rattle.dtvcc_screen.specs.Objects.{Leads, service_ticks};
 
     /// A service before its first frame. All memory that it ever takes is taken here.
@@ -35,7 +35,8 @@ impl Service {
     /// The next frame begins, of a rate: a delay that ends in it ends (CTA-708-E, Delay).
     pub fn tick(&mut self, rate: Rate)
         requires { service_ticks self.old < 2 ^ 32 - 1 }
-        ensures leads { (events : List Event) → Leads events self.old → Leads (events ++ Tick rate ∷ []) self.new }
+        ensures leads { (events : List Event) → Leads events self.old
+            → Leads (events ++ Tick rate ∷ []) self.new }
         ensures frames { service_ticks self.new ≡ service_ticks self.old + 1 }
     {
         self.clock = Clock {
@@ -49,8 +50,10 @@ impl Service {
     pub fn byte(&mut self, byte: u8) -> bool
         requires some_frame { 1 ≤ service_ticks self.old }
         requires frames { service_ticks self.old < 2 ^ 32 }
-        ensures leads { (events : List Event) → Leads events self.old → Leads (events ++ Byte byte ∷ []) self.new }
-        ensures full { (events : List Event) → Leads events self.old → result ≡ (fill byte (after start events).core == 128) }
+        ensures leads { (events : List Event) → Leads events self.old
+            → Leads (events ++ Byte byte ∷ []) self.new }
+        ensures full { (events : List Event) → Leads events self.old
+            → result ≡ (fill byte (served_after start events).core == 128) }
         ensures frames { service_ticks self.new ≡ service_ticks self.old }
     {
         self.core.byte(self.clock, byte)
@@ -58,7 +61,8 @@ impl Service {
 
     /// Resets the service (CTA-708-E, Reset); the frames and the rate stay.
     pub fn reset(&mut self)
-        ensures leads { (events : List Event) → Leads events self.old → Leads (events ++ Reset ∷ []) self.new }
+        ensures leads { (events : List Event) → Leads events self.old
+            → Leads (events ++ Reset ∷ []) self.new }
         ensures frames { service_ticks self.new ≡ service_ticks self.old }
     {
         self.core.reset();
@@ -66,7 +70,8 @@ impl Service {
 
     /// The number of held bytes, at most 127.
     pub fn held(&self) -> u8
-        ensures held { (events : List Event) → Leads events self.now → result ≡ length (after start events).core.held }
+        ensures held { (events : List Event) → Leads events self.now
+            → result ≡ length (served_after start events).core.held }
         ensures most { result ≤ 127 }
     {
         self.core.held()
@@ -74,7 +79,8 @@ impl Service {
 
     /// The window of an id below 8, where there is one.
     pub fn window(&self, id: u8) -> Option<&Window>
-        ensures window { (events : List Event) → Leads events self.now → let windows = (after start events).core.screen.windows in
+        ensures window { (events : List Event) → Leads events self.now
+            → let windows = (served_after start events).core.screen.windows in
             MatchOption result (windows id ≡ None) (λ window. window_of window.now ≡ windows id) }
         ensures live { IfSome result (λ window. IsTrue (is_live window.now)) }
     {

@@ -9,7 +9,7 @@ use Rattle.cc_base.specs.declared.rate.Rate.{Rate}
 use Rattle.dtvcc_screen.specs.declared.clock.Clock.{Clock}
 use Rattle.dtvcc_screen.specs.declared.cores.Core.{Core}
 use Rattle.dtvcc_screen.specs.Cores.{CoreState, after_byte, after_tick, clean, fill}
-use Rattle.dtvcc_screen.specs.Meaning.{Event, Tick, Byte, Reset, Served, after, on_event, start, ticked}
+use Rattle.dtvcc_screen.specs.Meaning.{Event, Tick, Byte, Reset, Served, served_after, on_event, start, ticked}
 use Rattle.dtvcc_screen.specs.Objects.{Stands, core_delay_end, screen_in}
 use Rattle.dtvcc_screen.specs.Screens.{ScreenState}
 use Rattle.dtvcc_screen.specs.Shown.{LooksSame, grids}
@@ -33,11 +33,11 @@ or_assoc true b c = refl
 or_assoc false b c = refl
 
 filled_more : (s : Served) (events : List Event) (event : Event)
-    → is_filled s (events ++ event ∷ []) ≡ (is_filled s events || is_filled_by (after s events) event)
+    → is_filled s (events ++ event ∷ []) ≡ (is_filled s events || is_filled_by (served_after s events) event)
 filled_more s [] event = or_false (is_filled_by s event)
 filled_more s (first ∷ events) event =
     ap (λ (b : Bool). is_filled_by s first || b) (filled_more (on_event first s) events event)
-    ∙ or_assoc (is_filled_by s first) (is_filled (on_event first s) events) (is_filled_by (after (on_event first s) events) event)
+    ∙ or_assoc (is_filled_by s first) (is_filled (on_event first s) events) (is_filled_by (served_after (on_event first s) events) event)
 
 -- the lowest service of which a test holds
 lowest_same : (test other : ℕ → Bool) (found : Option ℕ) → ((service : ℕ) → other service ≡ test service) → IsLowest test found → IsLowest other found
@@ -83,8 +83,8 @@ lowest_more test other (Some found) service is apart holds lowest = at (nat_lt f
       subst (λ (n : ℕ). IsLowestService other n) least (upper most)
 
 -- one event more leads on
-serves_more : (events : List Event) (event : Event) (now : Clock) (core : Core) → now ≡ (on_event event (after start events)).clock
-    → Stands (on_event event (after start events)).core core → Serves (events ++ event ∷ []) now core
+serves_more : (events : List Event) (event : Event) (now : Clock) (core : Core) → now ≡ (on_event event (served_after start events)).clock
+    → Stands (on_event event (served_after start events)).core core → Serves (events ++ event ∷ []) now core
 serves_more events event now core clock stands = record {
   told = clock ∙ sym (ap (λ (s : Served). s.clock) (after_more start events event));
   stands = subst (λ (s : Served). Stands s.core core) (sym (after_more start events event)) stands;
@@ -118,7 +118,7 @@ tick_leads before frame was now clock next_clock rate next later touched seen fi
   serves = λ place member here. let one = was_at was now place member stepped.count here in serves_at place one.0 member one.1 here;
   waits = λ place member here.
       let one = was_at was now place member stepped.count here in let step = stepped.each place one.0 member one.1 here in step.ends;
-  same = λ none. by_place (λ service. LooksSame (screen_at (after start (events service))) (screen_at (after start (events service ++ Tick rate ∷ []))))
+  same = λ none. by_place (λ service. LooksSame (screen_at (served_after start (events service))) (screen_at (served_after start (events service ++ Tick rate ∷ []))))
       (looks_at none);
   lowest = λ service is_service. refl;
 } where
@@ -130,13 +130,13 @@ tick_leads before frame was now clock next_clock rate next later touched seen fi
   serves_at place one other from to =
       let serves = leads.serves place one from in
       let step = stepped.each place one other from to in
-      let clock_is : next_clock ≡ ticked rate (after start (events (place + 1))).clock = is ∙ ap (ticked rate) serves.told in
+      let clock_is : next_clock ≡ ticked rate (served_after start (events (place + 1))).clock = is ∙ ap (ticked rate) serves.told in
       serves_more (events (place + 1)) (Tick rate) next_clock other.core clock_is
-      (subst (λ (c : Clock). Stands (after_tick c (after start (events (place + 1))).core) other.core) clock_is
-      (step.stands (after start (events (place + 1))).core serves.stands))
+      (subst (λ (c : Clock). Stands (after_tick c (served_after start (events (place + 1))).core) other.core) clock_is
+      (step.stands (served_after start (events (place + 1))).core serves.stands))
 
   looks_at : seen ≡ false → (place : ℕ) → place < 63
-      → LooksSame (screen_at (after start (events (place + 1)))) (screen_at (after start (events (place + 1) ++ Tick rate ∷ [])))
+      → LooksSame (screen_at (served_after start (events (place + 1)))) (screen_at (served_after start (events (place + 1) ++ Tick rate ∷ [])))
   looks_at none place within =
       let one = some_at was place (omega (arith, within, count)) in
       let counts = stepped.count in
@@ -144,7 +144,7 @@ tick_leads before frame was now clock next_clock rate next later touched seen fi
       let serves = leads.serves place one.0 one.1 in
       let next_serves = serves_at place one.0 other.0 one.1 other.1 in
       let step = stepped.each place one.0 other.0 one.1 other.1 in
-      looks (after start (events (place + 1))).core (after start (events (place + 1) ++ Tick rate ∷ [])).core (one.0).core (other.0).core
+      looks (served_after start (events (place + 1))).core (served_after start (events (place + 1) ++ Tick rate ∷ [])).core (one.0).core (other.0).core
       serves.stands next_serves.stands (step.same none)
 
 -- all are reset
@@ -172,7 +172,7 @@ reset_leads before frame was now clock next later touched seen more filled leads
       let step = stepped.each place one other from to in
       subst (λ (events : List Event). Serves events clock other.core) (append_assoc (before (place + 1)) (frame (place + 1)) (Reset ∷ []))
       (serves_more (before (place + 1) ++ frame (place + 1)) Reset clock other.core serves.told
-      (step.stands (after start (before (place + 1) ++ frame (place + 1))).core serves.stands))
+      (step.stands (served_after start (before (place + 1) ++ frame (place + 1))).core serves.stands))
 
   looks_at : seen ≡ false → (place : ℕ) → place < 63
       → LooksSame (screen_at (served_now before frame (place + 1))) (screen_at (served_now before next_frame (place + 1)))
@@ -235,7 +235,7 @@ byte_leads before frame was clock next later end touched more full seen filled f
       is_one = slice_get_read was (length was) place one refl within read
 
       state : Served
-      state = after start (before service ++ frame service)
+      state = served_after start (before service ++ frame service)
 
       served_one : Serves (before service ++ frame service) clock one.core
       served_one = subst (λ (n : ℕ). Serves (before n ++ frame n) clock one.core) at_place (leads.serves place one is_one)
@@ -247,8 +247,8 @@ byte_leads before frame was clock next later end touched more full seen filled f
       served_other : Serves (before service ++ next_frame service) clock other.core
       served_other = subst (λ (events : List Event). Serves events clock other.core) events_here
           (serves_more (before service ++ frame service) (Byte byte) clock other.core served_one.told
-          (subst (λ (c : Clock). Stands (after_byte byte c (after start (before service ++ frame service)).core) other.core) served_one.told
-          (taken.stands (after start (before service ++ frame service)).core served_one.stands)))
+          (subst (λ (c : Clock). Stands (after_byte byte c (served_after start (before service ++ frame service)).core) other.core) served_one.told
+          (taken.stands (served_after start (before service ++ frame service)).core served_one.stands)))
 
       is_other : (i : ℕ) (member : Member) → i ≡ place → slice_get (set was place other) i ≡ Some member → other ≡ member
       is_other i member same here = same_Some other member (sym (set_same was place other within) ∙ ap (slice_get (set was place other)) (sym same) ∙ here)
@@ -288,7 +288,7 @@ byte_leads before frame was clock next later end touched more full seen filled f
           ∙ leads.same (old_none none) service is_service id)
       same_if false none s is is_s id =
           let apart : (service ≡ s → ⊥) = λ same. grind (arith, nat_tests) in
-          subst (λ (events : List Event). grids (screen_at (after start (before s ++ events))) id ≡ grids (screen_at (service_behind before s)) id)
+          subst (λ (events : List Event). grids (screen_at (served_after start (before s ++ events))) id ≡ grids (screen_at (service_behind before s)) id)
           (sym (byte_other service byte frame s apart)) (leads.same (old_none none) s is_s id)
 
       test : ℕ → Bool
@@ -304,7 +304,7 @@ byte_leads before frame was clock next later end touched more full seen filled f
       test_here = ap (is_filled (service_behind before service)) (byte_here service byte frame)
           ∙ filled_more (service_behind before service) (frame service) (Byte byte)
           ∙ ap (λ (t : Served). test service || (fill byte t.core == 128)) (sym (after_append start (before service) (frame service)))
-          ∙ ap (λ (b : Bool). test service || b) (sym (taken.full_is (after start (before service ++ frame service)).core served_one.stands))
+          ∙ ap (λ (b : Bool). test service || b) (sym (taken.full_is (served_after start (before service ++ frame service)).core served_one.stands))
 
       test_same : full ≡ false → (s : ℕ) (same : Bool) → (service == s) ≡ same → next_test s ≡ test s
       test_same not_full s true is =
@@ -389,12 +389,12 @@ leads_same before frame before_too frame_too members now next touched filled cou
       subst (λ (events : List Event). Serves events now member.core) (sym (both (place + 1) (is_place place member here))) (leads.serves place member here);
   waits = leads.waits;
   same = λ none service is id.
-      ap (λ (events : List Event). grids (screen_at (after start events)) id) (both service is)
+      ap (λ (events : List Event). grids (screen_at (served_after start events)) id) (both service is)
       ∙ leads.same none service is id
-      ∙ sym (ap (λ (events : List Event). grids (screen_at (after start events)) id) (before_is service is));
+      ∙ sym (ap (λ (events : List Event). grids (screen_at (served_after start events)) id) (before_is service is));
   lowest = lowest_alike (λ service. is_filled (service_behind before service) (frame service))
       (λ service. is_filled (service_behind before_too service) (frame_too service)) filled
-      (λ service is. ap (λ (events : List Event). is_filled (after start events) (frame_too service)) (before_is service is)
+      (λ service is. ap (λ (events : List Event). is_filled (served_after start events) (frame_too service)) (before_is service is)
       ∙ ap (is_filled (service_behind before service)) (frame_is service is)) leads.lowest;
 } where
   both : (service : ℕ) → IsService service → before_too service ++ frame_too service ≡ before service ++ frame service

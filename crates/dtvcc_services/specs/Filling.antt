@@ -1,3 +1,4 @@
+-- Believed: the program's answer stands on these definitions.
 -- Whether the input buffer of a service is filled in a frame (CTA-708-E, the service input buffer).
 use Rattle.std.specs.Prelude.{◌==◌, ◌||◌, Bool, false, List, [], ◌∷◌}
 use Rattle.dtvcc_screen.specs.Cores.{fill}

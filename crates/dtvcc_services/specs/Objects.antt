@@ -1,8 +1,9 @@
+-- Between crates: the program's answer stands on none of these definitions.
 -- What the objects of the program stand for.
 use Rattle.std.specs.Prelude.{◌≡◌, ℕ, ◌+◌, Bool, false, List, ◌++◌, Option, Some, slice_get}
 use Rattle.dtvcc_screen.specs.declared.clock.Clock.{Clock}
 use Rattle.dtvcc_screen.specs.declared.cores.Core.{Core}
-use Rattle.dtvcc_screen.specs.Meaning.{Event, Served, after, start}
+use Rattle.dtvcc_screen.specs.Meaning.{Event, Served, served_after, start}
 use Rattle.dtvcc_screen.specs.Objects.{Stands}
 use Rattle.dtvcc_screen.specs.Screens.{ScreenState}
 use Rattle.dtvcc_screen.specs.Shown.{LooksSame}
@@ -18,11 +19,11 @@ Events = ℕ → List Event
 
 -- a service behind its events
 abbrev pub service_behind : Events → ℕ → Served
-service_behind events service = after start (events service)
+service_behind events service = served_after start (events service)
 
 -- behind its events of the frames before, and those of the present frame
 abbrev pub served_now : Events → Events → ℕ → Served
-served_now before frame service = after start (before service ++ frame service)
+served_now before frame service = served_after start (before service ++ frame service)
 
 -- its screen
 abbrev pub screen_at : Served → ScreenState
@@ -30,8 +31,8 @@ screen_at s = s.core.screen
 
 -- events led to where a service is, and its clock
 pub record Serves (events : List Event) (now : Clock) (core : Core) : Type 0 where
-  pub told : now ≡ (after start events).clock
-  pub stands : Stands (after start events).core core
+  pub told : now ≡ (served_after start events).clock
+  pub stands : Stands (served_after start events).core core
 
 -- these events of the frames before, and these of the present frame, led each service to where it is
 pub record LeadTo (before frame : Events) (members : List Member) (now : Clock) (next : ℕ) (touched : Bool) (filled : Option ℕ) : Type 0 where

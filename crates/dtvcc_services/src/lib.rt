@@ -6,7 +6,7 @@ mod members;
 mod passing;
 mod services;
 
-pub use services::Services;
+pub use services::{SERVICES, Services};
 
 #[cfg(test)]
 mod tests;

@@ -47,8 +47,10 @@ impl Member {
     /// A frame begins, which the clock counts already. Says whether something that is shown may have changed.
     pub(crate) fn tick(&mut self, clock: Clock) -> bool
         requires { clock.ticks < 2 ^ 32 }
-        ensures stands { (state : CoreState) → Stands state self.old.core → Stands (after_tick clock state) self.new.core }
-        ensures same { result ≡ false → LooksSame (screen_in self.old.core) (screen_in self.new.core) }
+        ensures stands { (state : CoreState) → Stands state self.old.core
+            → Stands (after_tick clock state) self.new.core }
+        ensures same { result ≡ false
+            → LooksSame (screen_in self.old.core) (screen_in self.new.core) }
     {
         if !self.used {
             return false;
@@ -60,9 +62,12 @@ impl Member {
     /// Takes the next byte.
     pub(crate) fn byte(&mut self, clock: Clock, byte: u8) -> Taken
         requires { clock.ticks < 2 ^ 32 }
-        ensures stands { (state : CoreState) → Stands state self.old.core → Stands (after_byte byte clock state) self.new.core }
-        ensures full { (state : CoreState) → Stands state self.old.core → result.full ≡ (fill byte state == 128) }
-        ensures same { result.seen ≡ false → LooksSame (screen_in self.old.core) (screen_in self.new.core) }
+        ensures stands { (state : CoreState) → Stands state self.old.core
+            → Stands (after_byte byte clock state) self.new.core }
+        ensures full { (state : CoreState) → Stands state self.old.core
+            → result.full ≡ (fill byte state == 128) }
+        ensures same { result.seen ≡ false
+            → LooksSame (screen_in self.old.core) (screen_in self.new.core) }
     {
         self.used = true;
         let full = self.core.byte(clock, byte);
@@ -73,7 +78,8 @@ impl Member {
     /// Resets the service. Says whether something that is shown may have changed.
     pub(crate) fn reset(&mut self) -> bool
         ensures clean { Stands clean self.new.core }
-        ensures same { result ≡ false → LooksSame (screen_in self.old.core) (screen_in self.new.core) }
+        ensures same { result ≡ false
+            → LooksSame (screen_in self.old.core) (screen_in self.new.core) }
     {
         if !self.used {
             return false;

@@ -65,7 +65,8 @@ pub(crate) fn lowest(filled: Option<u8>, service: u8, full: bool) -> Option<u8>
 /// A frame begins, which the clock counts already: lets all services know, if a delay may end in it.
 pub(crate) fn pass(members: &mut [Member], next: u64, clock: Clock) -> Passed
     requires { clock.ticks < 2 ^ 32 }
-    ensures { NoneEndsBefore next members.old → HaveStepped (after_tick clock) result.next result.seen members.old members.new }
+    ensures { NoneEndsBefore next members.old
+        → HaveStepped (after_tick clock) result.next result.seen members.old members.new }
 {
     if clock.ticks < next {
         return Passed { next, seen: false };

@@ -7,8 +7,8 @@ use dtvcc_screen::Clock;
 use dtvcc_windows::Window;
 use std::alloc::{AllocError, Global};
 
-// The services 1 to 63 (CTA-708-E, caption channel services).
-const SERVICES: usize = 63;
+/// How many services a caption channel has; they are 1 to 63 (CTA-708-E, caption channel services).
+pub const SERVICES: usize = 63;
 
 /// The receivers of all services of a caption channel, 1 to 63 (CTA-708-E), told of the frames by one clock.
 #[derive(Drop)]
@@ -59,7 +59,8 @@ impl Services {
     pub fn tick(&mut self, rate: Rate)
         requires { all_ticks self.old < 2 ^ 32 - 1 }
         ensures leads { (before frame : Events) → Leads before frame self.old
-            → Leads (λ service. before service ++ frame service) (λ service. Tick rate ∷ []) self.new }
+            → Leads (λ service. before service ++ frame service)
+            (λ service. Tick rate ∷ []) self.new }
         ensures frames { all_ticks self.new ≡ all_ticks self.old + 1 }
     {
         self.clock = Clock {
@@ -76,7 +77,8 @@ impl Services {
     pub fn byte(&mut self, service: u8, byte: u8)
         requires { all_ticks self.old < 2 ^ 32 }
         ensures leads { (before frame : Events) → Leads before frame self.old
-            → Leads before (λ other. frame other ++ (if service == other then Byte byte ∷ [] else [])) self.new }
+            → Leads before (λ other. frame other
+            ++ (if service == other then Byte byte ∷ [] else [])) self.new }
         ensures frames { all_ticks self.new ≡ all_ticks self.old }
     {
         if is_service(service) {
@@ -89,7 +91,8 @@ impl Services {
         requires service { IsService service }
         requires frames { all_ticks self.old < 2 ^ 32 }
         ensures leads { (before frame : Events) → Leads before frame self.old
-            → Leads before (λ other. frame other ++ (if service == other then Byte byte ∷ [] else [])) self.new }
+            → Leads before (λ other. frame other
+            ++ (if service == other then Byte byte ∷ [] else [])) self.new }
         ensures frames { all_ticks self.new ≡ all_ticks self.old }
     {
         let clock = self.clock;
@@ -122,7 +125,8 @@ impl Services {
     /// The window of an id below 8 of a service, where there is one.
     pub fn window(&self, service: u8, id: u8) -> Option<&Window>
         requires { IsService service }
-        ensures window { (before frame : Events) → Leads before frame self.now → let windows = (screen_at (served_now before frame service)).windows in
+        ensures window { (before frame : Events) → Leads before frame self.now
+            → let windows = (screen_at (served_now before frame service)).windows in
             MatchOption result (windows id ≡ None) (λ window. window_of window.now ≡ windows id) }
         ensures live { IfSome result (λ window. IsTrue (is_live window.now)) }
     {
@@ -133,7 +137,8 @@ impl Services {
     /// The number of bytes that a service holds, at most 127.
     pub fn held(&self, service: u8) -> u8
         requires { IsService service }
-        ensures held { (before frame : Events) → Leads before frame self.now → result ≡ length (served_now before frame service).core.held }
+        ensures held { (before frame : Events) → Leads before frame self.now
+            → result ≡ length (served_now before frame service).core.held }
         ensures most { result ≤ 127 }
     {
         let member = &self.members[place(service)];
@@ -143,7 +148,8 @@ impl Services {
     /// Whether a service may have a window: where it says no, no byte came to it since it was new or reset, and it has none.
     pub fn is_used(&self, service: u8) -> bool
         requires { IsService service }
-        ensures { (before frame : Events) → Leads before frame self.now → result ≡ false → screen_at (served_now before frame service) ≡ empty_screen }
+        ensures { (before frame : Events) → Leads before frame self.now → result ≡ false
+            → screen_at (served_now before frame service) ≡ empty_screen }
     {
         let member = &self.members[place(service)];
         member.is_used()
@@ -152,8 +158,10 @@ impl Services {
     /// Whether something that is shown may have changed in the present frame: where it says no, all windows of all services are
     /// shown as they were before it.
     pub fn is_touched(&self) -> bool
-        ensures { (before frame : Events) → Leads before frame self.now → result ≡ false → (service : ℕ) → IsService service
-            → LooksSame (screen_at (service_behind before service)) (screen_at (served_now before frame service)) }
+        ensures { (before frame : Events) → Leads before frame self.now → result ≡ false
+            → (service : ℕ) → IsService service
+            → LooksSame (screen_at (service_behind before service))
+            (screen_at (served_now before frame service)) }
     {
         self.touched
     }
@@ -161,7 +169,8 @@ impl Services {
     /// The lowest service of which a byte of the present frame brought the held bytes to 128, which ended its delay.
     pub fn filled(&self) -> Option<u8>
         ensures { (before frame : Events) → Leads before frame self.now
-            → IsLowest (λ service. is_filled (service_behind before service) (frame service)) result }
+            → IsLowest (λ service. is_filled (service_behind before service)
+            (frame service)) result }
     {
         self.filled
     }

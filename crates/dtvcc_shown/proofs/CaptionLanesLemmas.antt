@@ -11,7 +11,7 @@ use Rattle.cue_types.specs.declared.cue.Cue.{Cue}
 use Rattle.cue_types.specs.Cues.{IsCueFormed}
 use Rattle.dtvcc_codes.specs.declared.commands.Command.{Command}
 use Rattle.dtvcc_codes.specs.declared.commands.Command.TheVariants.{Dlw, Dsw}
-use Rattle.dtvcc_codes.specs.Writing.{written}
+use Rattle.dtvcc_codes.specs.Writing.{bytes_of_command}
 use Rattle.dtvcc_author.specs.declared.caption.Caption.{Caption}
 use Rattle.dtvcc_author.specs.declared.frame_events.Delay.{Delay}
 use Rattle.dtvcc_author.specs.Captions.{service_captions}
@@ -45,23 +45,23 @@ lane_bytes_are rate cs placed frame =
     let windows : List Command = windows_command Dlw (is_hidden_at frame) cs ++ windows_command Dsw (is_shown_at frame) cs in
     sym (append_assoc plain delays (loads_at placed frame))
     ∙ ap (λ (bytes : List ℕ). (plain ++ bytes) ++ loads_at placed frame) (sym (delays_written (delayed_at frame cs)))
-    ∙ ap (λ (bytes : List ℕ). bytes ++ loads_at placed frame) (sym (flat_map-append written windows (delay_commands (delayed_at frame cs))))
+    ∙ ap (λ (bytes : List ℕ). bytes ++ loads_at placed frame) (sym (flat_map-append bytes_of_command windows (delay_commands (delayed_at frame cs))))
 
 -- its events are plain
-windows_plain : (command : ℕ → Command) (test : Caption → Bool) (cs : List Caption) → ((windows : ℕ) → ArePlain (written (command windows)))
-    → ArePlain (flat_map written (windows_command command test cs))
+windows_plain : (command : ℕ → Command) (test : Caption → Bool) (cs : List Caption) → ((windows : ℕ) → ArePlain (bytes_of_command (command windows)))
+    → ArePlain (flat_map bytes_of_command (windows_command command test cs))
 windows_plain command test cs plain = at (list_any test cs)
   where
-    at : (b : Bool) → ArePlain (flat_map written (cond b (command (windows_byte (names test cs)) ∷ []) []))
-    at true = plain_both (written (command (windows_byte (names test cs)))) [] (plain (windows_byte (names test cs))) nothing_plain
+    at : (b : Bool) → ArePlain (flat_map bytes_of_command (cond b (command (windows_byte (names test cs)) ∷ []) []))
+    at true = plain_both (bytes_of_command (command (windows_byte (names test cs)))) [] (plain (windows_byte (names test cs))) nothing_plain
     at false = nothing_plain
 
 pub events_plain : (frame : ℕ) (cs : List Caption) → ArePlain (plain_events frame cs)
 events_plain frame cs =
     let hides : List Command = windows_command Dlw (is_hidden_at frame) cs in
     let shows : List Command = windows_command Dsw (is_shown_at frame) cs in
-    subst ArePlain (sym (flat_map-append written hides shows))
-    (plain_both (flat_map written hides) (flat_map written shows) (windows_plain Dlw (is_hidden_at frame) cs dlw_plain) (windows_plain Dsw (is_shown_at frame) cs dsw_plain))
+    subst ArePlain (sym (flat_map-append bytes_of_command hides shows))
+    (plain_both (flat_map bytes_of_command hides) (flat_map bytes_of_command shows) (windows_plain Dlw (is_hidden_at frame) cs dlw_plain) (windows_plain Dsw (is_shown_at frame) cs dsw_plain))
 
 -- the caption whose delay starts in a frame
 pub record Starting (cs : List Caption) (start : ℕ) (delay : Delay) : Type 0 where
@@ -143,9 +143,9 @@ module _ (rate : Rate) (frames : ℕ) (cs : List Caption) (kept : AreKept rate f
 
   delay_quiet : (placed : List (Chunk × ℕ)) → HasOnlyLoads (unloaded (lane_of rate cs placed)) frame
   delay_quiet placed = record {
-    events = ap (λ (b : Bool). flat_map written (cond b (Dlw (windows_byte (names (is_hidden_at frame) cs)) ∷ []) [] ++ windows_command Dsw (is_shown_at frame) cs))
+    events = ap (λ (b : Bool). flat_map bytes_of_command (cond b (Dlw (windows_byte (names (is_hidden_at frame) cs)) ∷ []) [] ++ windows_command Dsw (is_shown_at frame) cs))
         (none_passes (is_hidden_at frame) cs not_hidden)
-        ∙ ap (λ (b : Bool). flat_map written (cond b (Dsw (windows_byte (names (is_shown_at frame) cs)) ∷ []) []))
+        ∙ ap (λ (b : Bool). flat_map bytes_of_command (cond b (Dsw (windows_byte (names (is_shown_at frame) cs)) ∷ []) []))
         (none_passes (is_shown_at frame) cs (λ other. not_started (other.tenths == 0) other));
     delay = ap (option_map caption_delay) (none_found (is_delayed_at frame) cs (λ other. not_started (not (other.tenths == 0)) other));
   }

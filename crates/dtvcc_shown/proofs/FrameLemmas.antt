@@ -15,7 +15,7 @@ use Rattle.dtvcc_codes.specs.Reading.{completed, completions, open_after, spelle
 use Rattle.dtvcc_screen.specs.declared.clock.Clock.{Clock}
 use Rattle.dtvcc_screen.specs.Cores.{CoreState, arrived, fill, released}
 use Rattle.dtvcc_screen.specs.Laws.{on_screen_all, on_screen_if}
-use Rattle.dtvcc_screen.specs.Meaning.{Event, Tick, Byte, Reset, Served, after, on_event, ticked}
+use Rattle.dtvcc_screen.specs.Meaning.{Event, Tick, Byte, Reset, Served, served_after, on_event, ticked}
 use Rattle.dtvcc_screen.specs.Objects.{acting_on}
 use Rattle.dtvcc_screen.specs.Screens.{ScreenState, empty_screen}
 use Rattle.dtvcc_screen.proofs.CoreLemmas.{by_byte, completions_length}
@@ -29,16 +29,16 @@ use Rattle.dtvcc_shown.specs.Undelayed.{acted_on, opened, shows_bytes, undelayed
 use Rattle.dtvcc_shown.proofs.PlainLemmas.{AllPlain, later, later_fill, now, now_fill, releases, served_at}
 
 -- bytes one behind another
-after_both : (s : Served) (bytes more : List ℕ) → after s (map Byte (bytes ++ more)) ≡ after (after s (map Byte bytes)) (map Byte more)
-after_both s bytes more = ap (after s) (map-append Byte bytes more) ∙ after_append s (map Byte bytes) (map Byte more)
+after_both : (s : Served) (bytes more : List ℕ) → served_after s (map Byte (bytes ++ more)) ≡ served_after (served_after s (map Byte bytes)) (map Byte more)
+after_both s bytes more = ap (served_after s) (map-append Byte bytes more) ∙ after_append s (map Byte bytes) (map Byte more)
 
-pub fill_append : (s : Served) (events more : List Event) → AllFill 127 s events → AllFill 127 (after s events) more → AllFill 127 s (events ++ more)
+pub fill_append : (s : Served) (events more : List Event) → AllFill 127 s events → AllFill 127 (served_after s events) more → AllFill 127 s (events ++ more)
 fill_append s [] more all too = too
 fill_append s (Tick rate ∷ events) more all too = fill_append (on_event (Tick rate) s) events more all too
 fill_append s (Byte byte ∷ events) more all too = (all.0, fill_append (on_event (Byte byte) s) events more all.1 too)
 fill_append s (Reset ∷ events) more all too = fill_append (on_event Reset s) events more all too
 
-fill_both : (s : Served) (bytes more : List ℕ) → AllFill 127 s (map Byte bytes) → AllFill 127 (after s (map Byte bytes)) (map Byte more)
+fill_both : (s : Served) (bytes more : List ℕ) → AllFill 127 s (map Byte bytes) → AllFill 127 (served_after s (map Byte bytes)) (map Byte more)
     → AllFill 127 s (map Byte (bytes ++ more))
 fill_both s bytes more all too =
     subst (λ (events : List Event). AllFill 127 s events) (sym (map-append Byte bytes more)) (fill_append s (map Byte bytes) (map Byte more) all too)
@@ -72,7 +72,7 @@ spent_less lane from few many below =
 
 -- plain bytes outside of a delay, from nothing open to nothing open
 plain_now : (bytes : List ℕ) (clock : Clock) (screen : ScreenState) → ArePlain bytes
-    → after (served_at clock screen [] None []) (map Byte bytes) ≡ served_at clock (on_screen_all (completions [] bytes) screen) [] None []
+    → served_after (served_at clock screen [] None []) (map Byte bytes) ≡ served_at clock (on_screen_all (completions [] bytes) screen) [] None []
 plain_now bytes clock screen are =
     now bytes clock screen [] are.plain
     ∙ ap (λ (open_bytes : List ℕ). served_at clock (on_screen_all (completions [] bytes) screen) open_bytes None []) are.whole
@@ -102,7 +102,7 @@ begun_one clock screen =
     ∙ ap (λ (open_bytes : List ℕ). acting_on open_bytes screen) delay_open)
 
 delay_begins : (tenths : ℕ) (clock : Clock) (screen : ScreenState) → 0 < tenths
-    → after (served_at clock screen [] None []) (map Byte (0x8D ∷ tenths ∷ []))
+    → served_after (served_at clock screen [] None []) (map Byte (0x8D ∷ tenths ∷ []))
     ≡ served_at clock screen [] (Some (clock.ticks + delay_frames_of clock.rate tenths)) []
 delay_begins tenths clock screen some =
     let until : ℕ = clock.ticks + delay_frames_of clock.rate tenths in
@@ -185,7 +185,7 @@ module _ (lane : Lane) (sound : IsSoundLane lane) where
     on : IsInDelay lane start delay frame
     count : length held ≡ 2 + spent lane start (frame - start)
     plain : AllPlain held
-    screen_is : screen ≡ (after (served lane start) (opening_events lane start)).core.screen
+    screen_is : screen ≡ (served_after (served lane start) (opening_events lane start)).core.screen
     shows : screen ≡ opened lane start
     leads : on_screen_all held screen ≡ undelayed lane frame
 
@@ -274,8 +274,8 @@ module _ (lane : Lane) (sound : IsSoundLane lane) where
       let room : length within.held + length (lane.loads frame) ≤ 127 = omega arith in
       let said : List (Option Command) = completions [] (lane.loads frame) in
       let came : served lane (suc frame) ≡ served_at clock within.screen [] (Some within.until) (within.held ++ said) =
-      ap (λ (b : List ℕ). after begun_at (map Byte b)) bytes
-      ∙ ap (λ (s : Served). after s (map Byte (lane.loads frame))) begun
+      ap (λ (b : List ℕ). served_after begun_at (map Byte b)) bytes
+      ∙ ap (λ (s : Served). served_after s (map Byte (lane.loads frame))) begun
       ∙ later (lane.loads frame) clock within.screen [] within.until within.held room loads.plain
       ∙ ap (λ (open_bytes : List ℕ). served_at clock within.screen open_bytes (Some within.until) (within.held ++ said)) loads.whole in
       let all = length-append within.held said in
@@ -314,14 +314,14 @@ module _ (lane : Lane) (sound : IsSoundLane lane) where
       let events = sound.events frame in
       let loads = sound.loads frame in
       let first : ScreenState = on_screen_all (completions [] (lane.events frame)) ready.screen in
-      let behind : after begun_at (map Byte (lane.events frame)) ≡ served_at ready.clock first [] None [] =
-      ap (λ (s : Served). after s (map Byte (lane.events frame))) ready.is ∙ plain_now (lane.events frame) ready.clock ready.screen events in
+      let behind : served_after begun_at (map Byte (lane.events frame)) ≡ served_at ready.clock first [] None [] =
+      ap (λ (s : Served). served_after s (map Byte (lane.events frame))) ready.is ∙ plain_now (lane.events frame) ready.clock ready.screen events in
       let bytes : lane_frame_bytes lane frame ≡ lane.events frame ++ lane.loads frame =
       ap (λ (o : Option Delay). lane.events frame ++ (delay_bytes o ++ lane.loads frame)) is in
       let came : served lane (suc frame) ≡ served_at ready.clock (on_screen_all (completions [] (lane.loads frame)) first) [] None [] =
-      ap (λ (b : List ℕ). after begun_at (map Byte b)) bytes
+      ap (λ (b : List ℕ). served_after begun_at (map Byte b)) bytes
       ∙ after_both begun_at (lane.events frame) (lane.loads frame)
-      ∙ ap (λ (s : Served). after s (map Byte (lane.loads frame))) behind
+      ∙ ap (λ (s : Served). served_after s (map Byte (lane.loads frame))) behind
       ∙ plain_now (lane.loads frame) ready.clock first loads in
       record {
         stands = inl (record {
@@ -353,8 +353,8 @@ module _ (lane : Lane) (sound : IsSoundLane lane) where
       let rest : List ℕ = 0x89 ∷ delay.windows ∷ lane.loads frame in
       let first : ScreenState = on_screen_all (completions [] (lane.events frame)) ready.screen in
       let until : ℕ = ready.clock.ticks + delay_frames_of ready.clock.rate delay.tenths in
-      let behind : after begun_at (map Byte (lane.events frame)) ≡ served_at ready.clock first [] None [] =
-      ap (λ (s : Served). after s (map Byte (lane.events frame))) ready.is ∙ plain_now (lane.events frame) ready.clock ready.screen events in
+      let behind : served_after begun_at (map Byte (lane.events frame)) ≡ served_at ready.clock first [] None [] =
+      ap (λ (s : Served). served_after s (map Byte (lane.events frame))) ready.is ∙ plain_now (lane.events frame) ready.clock ready.screen events in
       let shown : first ≡ opened lane frame = ap (acted_on (lane.events frame)) ready.shows in
       let begun = delay_begins delay.tenths ready.clock first lasting.some in
       let bytes : lane_frame_bytes lane frame ≡ lane.events frame ++ (begins ++ rest) =
@@ -366,11 +366,11 @@ module _ (lane : Lane) (sound : IsSoundLane lane) where
       let room : 0 + length (0x89 ∷ delay.windows ∷ lane.loads frame) ≤ 127 = omega arith in
       let plain = shows_plain delay.windows (lane.loads frame) loads in
       let came : served lane (suc frame) ≡ served_at ready.clock first [] (Some until) (completions [] rest) =
-      ap (λ (b : List ℕ). after begun_at (map Byte b)) bytes
+      ap (λ (b : List ℕ). served_after begun_at (map Byte b)) bytes
       ∙ after_both begun_at (lane.events frame) (begins ++ rest)
-      ∙ ap (λ (s : Served). after s (map Byte (begins ++ rest))) behind
+      ∙ ap (λ (s : Served). served_after s (map Byte (begins ++ rest))) behind
       ∙ after_both (served_at ready.clock first [] None []) begins rest
-      ∙ ap (λ (s : Served). after s (map Byte rest)) begun
+      ∙ ap (λ (s : Served). served_after s (map Byte rest)) begun
       ∙ later rest ready.clock first [] until [] room plain
       ∙ ap (λ (open_bytes : List ℕ). served_at ready.clock first open_bytes (Some until) (completions [] rest)) (shows_whole delay.windows (lane.loads frame) loads) in
       let cut = completions_length [] rest in
@@ -432,15 +432,15 @@ module _ (lane : Lane) (sound : IsSoundLane lane) where
 
   -- within a delay the screen stays
   pub screen_stays : (start frame : ℕ) (delay : Delay) → IsInDelay lane start delay frame
-      → (served lane frame).core.screen ≡ (after (served lane start) (opening_events lane start)).core.screen
+      → (served lane frame).core.screen ≡ (served_after (served lane start) (opening_events lane start)).core.screen
   screen_stays start frame delay on = at (stands_at frame)
     where
-      at : Stands frame → (served lane frame).core.screen ≡ (after (served lane start) (opening_events lane start)).core.screen
+      at : Stands frame → (served lane frame).core.screen ≡ (served_after (served lane start) (opening_events lane start)).core.screen
       at (inl calm) = absurd (calm.free start delay on)
       at (inr (other, more, within)) =
           let same = one_delay other start frame more delay within.on on in
           ap (λ (s : Served). s.core.screen) within.is ∙ within.screen_is
-          ∙ ap (λ (from : ℕ). (after (served lane from) (opening_events lane from)).core.screen) same.0
+          ∙ ap (λ (from : ℕ). (served_after (served lane from) (opening_events lane from)).core.screen) same.0
 
   -- outside of delays nothing is held
   pub nothing_held : (frame : ℕ) → IsOutside lane frame → (served lane frame).core.held ≡ []

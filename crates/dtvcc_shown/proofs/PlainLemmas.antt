@@ -11,7 +11,7 @@ use Rattle.dtvcc_screen.specs.declared.clock.Clock.{Clock}
 use Rattle.dtvcc_screen.specs.Commands.{on_screen}
 use Rattle.dtvcc_screen.specs.Cores.{CoreState, acted_if, all_acted, fill_in, go_on, held_more, is_cancel, is_reset, released, tenths_of, until_of}
 use Rattle.dtvcc_screen.specs.Laws.{on_screen_all, on_screen_if}
-use Rattle.dtvcc_screen.specs.Meaning.{Byte, Served, after, on_event}
+use Rattle.dtvcc_screen.specs.Meaning.{Byte, Served, on_event, served_after}
 use Rattle.dtvcc_screen.specs.Objects.{acting_on}
 use Rattle.dtvcc_screen.specs.Screens.{ScreenState}
 use Rattle.dtvcc_screen.proofs.CoreLemmas.{arrived_held, arrived_now, by_byte, fill_held}
@@ -91,11 +91,11 @@ now_one byte clock screen open_bytes plain =
 
 -- all bytes, outside of a delay
 pub now : (bytes : List ℕ) (clock : Clock) (screen : ScreenState) (open_bytes : List ℕ) → AllPlain (completions open_bytes bytes)
-    → after (served_at clock screen open_bytes None []) (map Byte bytes)
+    → served_after (served_at clock screen open_bytes None []) (map Byte bytes)
     ≡ served_at clock (on_screen_all (completions open_bytes bytes) screen) (front_from open_after open_bytes bytes) None []
 now [] clock screen open_bytes plain = refl
 now (byte ∷ bytes) clock screen open_bytes plain =
-    ap (λ (s : Served). after s (map Byte bytes)) (now_one byte clock screen open_bytes plain.0)
+    ap (λ (s : Served). served_after s (map Byte bytes)) (now_one byte clock screen open_bytes plain.0)
     ∙ now bytes clock (on_screen_if (completed open_bytes byte) screen) (open_after open_bytes byte) plain.1
 
 -- they fill nothing
@@ -135,14 +135,14 @@ later_one byte clock screen open_bytes end held few plain =
 -- all bytes, in a delay that has room for them
 pub later : (bytes : List ℕ) (clock : Clock) (screen : ScreenState) (open_bytes : List ℕ) (end : ℕ) (held : List (Option Command))
     → length held + length bytes ≤ 127 → AllPlain (completions open_bytes bytes)
-    → after (served_at clock screen open_bytes (Some end) held) (map Byte bytes)
+    → served_after (served_at clock screen open_bytes (Some end) held) (map Byte bytes)
     ≡ served_at clock screen (front_from open_after open_bytes bytes) (Some end) (held ++ completions open_bytes bytes)
 later [] clock screen open_bytes end held room plain =
     ap (λ (all : List (Option Command)). served_at clock screen open_bytes (Some end) all) (sym (append-nil held))
 later (byte ∷ bytes) clock screen open_bytes end held room plain =
     let said : Option Command = completed open_bytes byte in
     let count = length-append held (said ∷ []) in
-    ap (λ (s : Served). after s (map Byte bytes)) (later_one byte clock screen open_bytes end held (omega arith) plain.0)
+    ap (λ (s : Served). served_after s (map Byte bytes)) (later_one byte clock screen open_bytes end held (omega arith) plain.0)
     ∙ later bytes clock screen (open_after open_bytes byte) end (held ++ said ∷ []) (omega arith) plain.1
     ∙ ap (λ (all : List (Option Command)). served_at clock screen (front_from open_after (open_after open_bytes byte) bytes) (Some end) all)
     (append_assoc held (said ∷ []) (completions (open_after open_bytes byte) bytes))

@@ -15,7 +15,7 @@ use Rattle.dtvcc_codes.specs.declared.commands.Command.TheVariants.{Put, Spa, Sp
 use Rattle.dtvcc_codes.specs.declared.pens.PenAttr.{PenAttr}
 use Rattle.dtvcc_codes.specs.declared.pens.PenColors.{PenColors}
 use Rattle.dtvcc_codes.specs.declared.windows.WinAttr.{WinAttr}
-use Rattle.dtvcc_codes.specs.Writing.{written}
+use Rattle.dtvcc_codes.specs.Writing.{bytes_of_command}
 use Rattle.dtvcc_windows.specs.Styles.{pen_style}
 use Rattle.dtvcc_author.specs.declared.caption.Caption.{Caption}
 use Rattle.dtvcc_author.specs.Captions.{caption_of}
@@ -87,15 +87,15 @@ cue_loading : (cue : Cue) → AreLoading (commands_of cue)
 cue_loading cue = kind_loading cue.kind cue.runs
 
 -- what holds of all that is written of such commands holds of the units of formed cues
-module _ (P : List ℕ → Type 0) (holds : (command : Command) → IsWritable command → is_loading command ≡ true → P (written command)) where
+module _ (P : List ℕ → Type 0) (holds : (command : Command) → IsWritable command → is_loading command ≡ true → P (bytes_of_command command)) where
   abbrev IsUnit : Chunk → Type 0
   IsUnit chunk = P chunk.unit
 
   own_hold : (number : ℕ) (c : Caption) (commands : List Command) → All IsWritable commands → AreLoading commands
-      → All IsUnit (map (chunk_of number c) (map written commands))
+      → All IsUnit (map (chunk_of number c) (map bytes_of_command commands))
   own_hold number c [] writable loading = All-nil IsUnit
   own_hold number c (command ∷ commands) writable loading =
-      All-cons IsUnit (chunk_of number c (written command)) (map (chunk_of number c) (map written commands))
+      All-cons IsUnit (chunk_of number c (bytes_of_command command)) (map (chunk_of number c) (map bytes_of_command commands))
       (holds command (All-head IsWritable command commands writable) loading.0)
       (own_hold number c commands (All-tail IsWritable command commands writable) loading.1)
 

@@ -6,7 +6,7 @@ use Rattle.dtvcc_codes.specs.declared.commands.Command.{Command}
 use Rattle.dtvcc_codes.specs.declared.commands.Command.TheVariants.{Dlw, Dsw}
 use Rattle.dtvcc_codes.specs.Reading.{completed, completions, open_after, spelled_command, told_size}
 use Rattle.dtvcc_codes.specs.Spelling.{Spells}
-use Rattle.dtvcc_codes.specs.Writing.{written}
+use Rattle.dtvcc_codes.specs.Writing.{bytes_of_command}
 use Rattle.dtvcc_codes.proofs.CutLemmas.{spelling_completes}
 use Rattle.dtvcc_codes.proofs.WrittenLemmas.{written_spells}
 use Rattle.dtvcc_author.specs.CueUnits.{IsWritable}
@@ -26,21 +26,21 @@ alone_plain : (n : ℕ) (command : Command) → is_plain command ≡ true → Al
 alone_plain zero command plain = (plain, tt)
 alone_plain (suc n) command plain = (tt, alone_plain n command plain)
 
-pub spelled_by : (command : Command) → IsWritable command → Spells command (written command)
-spelled_by command is = written_spells command (written command) is.spellable is.unskipped refl
+pub spelled_by : (command : Command) → IsWritable command → Spells command (bytes_of_command command)
+spelled_by command is = written_spells command (bytes_of_command command) is.spellable is.unskipped refl
 
 -- they act as the command
-pub written_acts : (command : Command) (s : ScreenState) → IsWritable command → acted_on (written command) s ≡ on_screen command s
+pub written_acts : (command : Command) (s : ScreenState) → IsWritable command → acted_on (bytes_of_command command) s ≡ on_screen command s
 written_acts command s is =
-    ap (λ (said : List (Option Command)). on_screen_all said s) (spelling_completes command (written command) (spelled_by command is)).completions_are
-    ∙ alone_acts (length (written command) - 1) command s
+    ap (λ (said : List (Option Command)). on_screen_all said s) (spelling_completes command (bytes_of_command command) (spelled_by command is)).completions_are
+    ∙ alone_acts (length (bytes_of_command command) - 1) command s
 
 -- they are plain where the command is
-pub written_plain : (command : Command) → IsWritable command → is_plain command ≡ true → ArePlain (written command)
+pub written_plain : (command : Command) → IsWritable command → is_plain command ≡ true → ArePlain (bytes_of_command command)
 written_plain command is plain =
-    let completes = spelling_completes command (written command) (spelled_by command is) in
+    let completes = spelling_completes command (bytes_of_command command) (spelled_by command is) in
     record {
-      plain = subst AllPlain (sym completes.completions_are) (alone_plain (length (written command) - 1) command plain);
+      plain = subst AllPlain (sym completes.completions_are) (alone_plain (length (bytes_of_command command) - 1) command plain);
       whole = completes.ends;
     }
 
@@ -55,18 +55,18 @@ pub acted_append : (bytes more : List ℕ) (s : ScreenState) → ArePlain bytes 
 acted_append bytes more s are = acts_behind [] bytes more s are.whole
 
 -- the commands for windows, whatever windows they name
-pub dlw_acts : (windows : ℕ) (s : ScreenState) → acted_on (written (Dlw windows)) s ≡ on_screen (Dlw windows) s
-unfolding written told_size spelled_command
+pub dlw_acts : (windows : ℕ) (s : ScreenState) → acted_on (bytes_of_command (Dlw windows)) s ≡ on_screen (Dlw windows) s
+unfolding bytes_of_command told_size spelled_command
 dlw_acts windows s = refl
 
-pub dsw_acts : (windows : ℕ) (s : ScreenState) → acted_on (written (Dsw windows)) s ≡ on_screen (Dsw windows) s
-unfolding written told_size spelled_command
+pub dsw_acts : (windows : ℕ) (s : ScreenState) → acted_on (bytes_of_command (Dsw windows)) s ≡ on_screen (Dsw windows) s
+unfolding bytes_of_command told_size spelled_command
 dsw_acts windows s = refl
 
-pub dlw_plain : (windows : ℕ) → ArePlain (written (Dlw windows))
-unfolding written told_size spelled_command
+pub dlw_plain : (windows : ℕ) → ArePlain (bytes_of_command (Dlw windows))
+unfolding bytes_of_command told_size spelled_command
 dlw_plain windows = record { plain = (tt, (refl, tt)); whole = refl }
 
-pub dsw_plain : (windows : ℕ) → ArePlain (written (Dsw windows))
-unfolding written told_size spelled_command
+pub dsw_plain : (windows : ℕ) → ArePlain (bytes_of_command (Dsw windows))
+unfolding bytes_of_command told_size spelled_command
 dsw_plain windows = record { plain = (tt, (refl, tt)); whole = refl }

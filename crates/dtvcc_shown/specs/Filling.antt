@@ -1,3 +1,4 @@
+-- Believed: the program's answer stands on these definitions.
 -- How far the buffer of a service is filled by each byte of its events.
 use Rattle.std.specs.Prelude.{ℕ, ◌≤◌, List, [], ◌∷◌, ⊤}
 use Rattle.dtvcc_screen.specs.Cores.{fill}

@@ -1,3 +1,4 @@
+-- Between crates: the program's answer stands on none of these definitions.
 -- The lane of a service whose units are placed: each frame is loaded with the units that stand in it.
 use Rattle.std.specs.Prelude.{ℕ, List, [], All, Option, option_map}
 use Rattle.service_lanes.specs.Chunks.{Chunk}

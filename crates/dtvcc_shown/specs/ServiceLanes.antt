@@ -1,10 +1,11 @@
+-- Between crates: the program's answer stands on none of these definitions.
 -- What a service of DTVCC is sent frame by frame: in each frame first what hides and shows windows, then perhaps a delay with
 -- what it puts off, then what loads windows (CTA-708-E, DeleteWindows, DisplayWindows and Delay).
 use Rattle.std.specs.Prelude.{◌≡◌, ℕ, zero, suc, ◌+◌, ◌<◌, ◌≤◌, List, ◌∷◌, ◌++◌, Option, Some, length, map}
 use Rattle.cc_base.specs.declared.rate.Rate.{Rate}
 use Rattle.dtvcc_author.specs.EventBytes.{delay_bytes}
 use Rattle.dtvcc_author.specs.declared.frame_events.Delay.{Delay}
-use Rattle.dtvcc_screen.specs.Meaning.{Event, Tick, Byte, Served, after, start}
+use Rattle.dtvcc_screen.specs.Meaning.{Event, Tick, Byte, Served, served_after, start}
 
 -- the rate of the frames, and for each frame the bytes of its events, the delay that starts there, and the bytes of its loads
 pub record Lane : Type 0 where
@@ -27,7 +28,7 @@ opening_events lane frame = Tick lane.rate ∷ map Byte (lane.events frame)
 -- the service before a frame, when all frames before it have come
 abbrev pub served : Lane → ℕ → Served
 served lane zero = start
-served lane (suc frame) = after (served lane frame) (lane_frame_events lane frame)
+served lane (suc frame) = served_after (served lane frame) (lane_frame_events lane frame)
 
 -- the bytes of the loads of so many frames from one on
 abbrev pub spent : Lane → ℕ → ℕ → ℕ

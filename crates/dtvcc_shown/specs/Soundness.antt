@@ -1,3 +1,4 @@
+-- Between crates: the program's answer stands on none of these definitions.
 -- What makes a service's lane sound: its events and loads are whole commands of which none delays or resets, its delays lie
 -- apart from its other events, and no more is loaded in a delay than a receiver holds (CTA-708-E, Delay).
 use Rattle.std.specs.Prelude.{◌≡◌, ℕ, ◌+◌, ◌-◌, ◌<◌, ◌≤◌, Bool, true, false, List, [], Option, Some, None}

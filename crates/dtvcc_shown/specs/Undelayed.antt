@@ -1,3 +1,4 @@
+-- Between crates: the program's answer stands on none of these definitions.
 -- The screen of a service as if nothing were ever put off: each command acts when it comes, and what a delay puts off acts in
 -- the frame in which the delay starts.
 use Rattle.std.specs.Prelude.{ℕ, zero, suc, List, [], ◌∷◌, Option, Some, None}

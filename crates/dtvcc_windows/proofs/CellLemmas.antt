@@ -7,7 +7,7 @@ use Rattle.std.proofs.lemmas.Bool.Decides.{nat_tests}
 use Rattle.std.proofs.lemmas.List.{get_or_default}
 use Rattle.std.specs.List.{AllWithin, SameBelow, SameFrom}
 use Rattle.dtvcc_windows.specs.declared.cells.DCell.{DCell}
-use Rattle.dtvcc_windows.specs.Places.{Cells, no_cells, raised, with_cell, without_cells}
+use Rattle.dtvcc_windows.specs.Places.{Cells, no_cells, raised, with_window_cell, without_cells}
 use Rattle.dtvcc_windows.specs.Raising.{HasRaised}
 use Rattle.dtvcc_windows.specs.Sizes.{in_size}
 use Rattle.dtvcc_windows.specs.Lists.{place, listed_cells}
@@ -75,10 +75,10 @@ unwritten places row col cell r c at outside true same =
 unwritten places row col cell r c at outside false other = cells_outside places r c outside
 
 -- a written list has that cell
-pub put_cells : (places : List (Option DCell)) (row col : ℕ) (cell : Option DCell) → length places ≡ 1024 → row < 16 → col < 64 → listed_cells (set places (row * 64 + col) cell) ≡ with_cell (listed_cells places) row col cell
+pub put_cells : (places : List (Option DCell)) (row col : ℕ) (cell : Option DCell) → length places ≡ 1024 → row < 16 → col < 64 → listed_cells (set places (row * 64 + col) cell) ≡ with_window_cell (listed_cells places) row col cell
 put_cells places row col cell long row_in col_in =
     let at : in_size 16 64 row col ≡ true = is_inside row col row_in col_in in
-    cells_are (set places (place row col) cell) (with_cell (listed_cells places) row col cell)
+    cells_are (set places (place row col) cell) (with_window_cell (listed_cells places) row col cell)
     (λ r c inside. set_at places row col cell r c long at inside (r == row && c == col) refl)
     (λ r c outside. unwritten places row col cell r c at outside (r == row && c == col) refl)
 

@@ -7,7 +7,7 @@ use Rattle.std.specs.Bool.{Decides}
 use Rattle.std.specs.List.{AllWithin, CopiedTo, SameBelow, SameFrom}
 use Rattle.dtvcc_windows.specs.declared.cells.DCell.{DCell}
 use Rattle.dtvcc_windows.specs.Lists.{listed_cells, place}
-use Rattle.dtvcc_windows.specs.Places.{row_cells}
+use Rattle.dtvcc_windows.specs.Places.{window_row}
 use Rattle.dtvcc_windows.specs.Sizes.{in_size}
 use Rattle.dtvcc_windows.proofs.CellLemmas.{cell_at, chosen, col_to, row_to}
 
@@ -35,8 +35,8 @@ none_at_all places first behind r c none_above none_below empty =
     ])
 
 -- the part of the list at a row is what stands in its first columns
-pub row_is : (places : List (Option DCell)) (r cols from to : ℕ) → length places ≡ 1024 → r < 16 → cols ≤ 64 → from ≡ r * 64 → to ≡ from + cols → take (to - from) (drop from places) ≡ row_cells (listed_cells places) cols r
-unfolding row_cells
+pub row_is : (places : List (Option DCell)) (r cols from to : ℕ) → length places ≡ 1024 → r < 16 → cols ≤ 64 → from ≡ r * 64 → to ≡ from + cols → take (to - from) (drop from places) ≡ window_row (listed_cells places) cols r
+unfolding window_row
 row_is places r cols from to long row_to cols_to is_from is_to =
     fill_by_all (λ col. listed_cells places r col) (take (to - from) (drop from places)) cols None
     (simp (length-take, length-drop) (omega arith))

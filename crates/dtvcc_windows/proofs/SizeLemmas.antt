@@ -3,7 +3,7 @@ use Rattle.std.proofs.Common.{◌≡◌, ℕ, ◌+◌, ◌<◌, ◌≤◌, ◌==
 use Rattle.std.proofs.Math.Path.{fun_ext}
 use Rattle.std.proofs.lemmas.Bool.Decides.{nat_tests}
 use Rattle.dtvcc_windows.specs.declared.cells.DCell.{DCell}
-use Rattle.dtvcc_windows.specs.Places.{Cells, no_cells, raised, rolled, with_cell, without_cells, without_row}
+use Rattle.dtvcc_windows.specs.Places.{Cells, no_cells, raised, window_rolled, with_window_cell, without_cells, without_row}
 use Rattle.dtvcc_windows.specs.Sizes.{IsWithin, cells_in, in_size}
 use Rattle.dtvcc_windows.specs.Lists.{listed_cells}
 use Rattle.dtvcc_windows.proofs.CellLemmas.{cells_outside}
@@ -13,7 +13,7 @@ chosen_not : (b : Bool) (x y : Option DCell) → b ≡ false → (if b then x el
 chosen_not b x y fails = rw fails refl
 
 -- a written cell of the size keeps cells within it
-pub with_cell-within : (rows cols row col : ℕ) (cell : Option DCell) (g : Cells) → IsWithin rows cols g → row < rows → col < cols → IsWithin rows cols (with_cell g row col cell)
+pub with_cell-within : (rows cols row col : ℕ) (cell : Option DCell) (g : Cells) → IsWithin rows cols g → row < rows → col < cols → IsWithin rows cols (with_window_cell g row col cell)
 with_cell-within rows cols row col cell g within row_in col_in r c outside =
     chosen_not (r == row && c == col) cell (g r c) (grind (arith, nat_tests)) ∙ within r c outside
 
@@ -59,7 +59,7 @@ kept-larger rows cols new_rows new_cols g row_le col_le within =
     rw (cells_in-all rows cols g within) (sym (cells_in-all new_rows new_cols g (within-larger rows cols new_rows new_cols g row_le col_le within)))
 
 -- rows that move up by one in a size leave its last row empty
-pub raised-rolled : (rows cols : ℕ) (g : Cells) → IsWithin rows cols g → raised g ≡ rolled rows g
+pub raised-rolled : (rows cols : ℕ) (g : Cells) → IsWithin rows cols g → raised g ≡ window_rolled rows g
 raised-rolled rows cols g within = fun_ext (λ r. fun_ext (λ c. sym (at_size (nat_lt (r + 1) rows) (g (r + 1) c) (λ below. within (r + 1) c (grind (arith, nat_tests))))))
 
 -- a row without its cells from column 0 on is a row without cells

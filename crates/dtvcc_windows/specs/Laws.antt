@@ -1,3 +1,4 @@
+-- Between crates: the program's answer stands on none of these definitions.
 -- What the laws say of an edit of a window.
 use Rattle.std.specs.Prelude.{◌≡◌, ◌<◌, ◌≤◌, false, Some, None}
 use Rattle.dtvcc_windows.specs.Showing.{shown}

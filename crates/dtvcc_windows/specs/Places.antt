@@ -1,3 +1,4 @@
+-- Believed in part: the program's answer stands on some of these definitions.
 -- The cells of a caption window as a map: what stands at each row and column, both counted from 0
 -- (CTA-708-E, caption windows).
 use Rattle.std.specs.Prelude.{ℕ, ◌+◌, ◌==◌, ◌&&◌, nat_lt, nat_le, if◌then◌else◌, List, Option, None, map}
@@ -13,8 +14,8 @@ abbrev pub no_cells : Cells
 no_cells row col = None
 
 -- one cell is written, or removed
-abbrev pub with_cell : Cells → ℕ → ℕ → Option DCell → Cells
-with_cell cells row col cell r c = if r == row && c == col then cell else cells r c
+abbrev pub with_window_cell : Cells → ℕ → ℕ → Option DCell → Cells
+with_window_cell cells row col cell r c = if r == row && c == col then cell else cells r c
 
 -- the cells of a row from a column on are removed
 abbrev pub without_cells : Cells → ℕ → ℕ → Cells
@@ -29,9 +30,9 @@ abbrev pub raised : Cells → Cells
 raised cells r c = cells (r + 1) c
 
 -- the same in a window of so many rows, of which the last is then empty
-abbrev pub rolled : ℕ → Cells → Cells
-rolled rows cells r c = if nat_lt (r + 1) rows then cells (r + 1) c else None
+abbrev pub window_rolled : ℕ → Cells → Cells
+window_rolled rows cells r c = if nat_lt (r + 1) rows then cells (r + 1) c else None
 
 -- what stands in the first columns of a row, column by column
-unfoldable pub row_cells : Cells → ℕ → ℕ → List (Option DCell)
-row_cells cells cols row = map (cells row) (range_with_len 0 cols)
+unfoldable pub window_row : Cells → ℕ → ℕ → List (Option DCell)
+window_row cells cols row = map (cells row) (range_with_len 0 cols)

@@ -1,3 +1,4 @@
+-- Believed in part: the program's answer stands on some of these definitions.
 -- What a viewer sees of a window: all of it but its id, its styles' numbers and its pen, and nothing of a
 -- window that is hidden (CTA-708-E, caption windows).
 use Rattle.std.specs.Prelude.{◌≡◌, ℕ, ◌<◌, ◌≤◌, Bool, if◌then◌else◌, Option, Some, None}

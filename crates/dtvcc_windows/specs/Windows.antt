@@ -1,3 +1,4 @@
+-- Believed: the program's answer stands on these definitions.
 -- The state of a caption window (CTA-708-E, caption windows and pens).
 use Rattle.std.specs.Prelude.{ℕ, Bool}
 use Rattle.dtvcc_codes.specs.declared.pens.PenAttr.{PenAttr}
@@ -22,8 +23,8 @@ pub record WindowState : Type 0 where
 abbrev pub with_attributes : WinAttr → WindowState → WindowState
 with_attributes attributes w = record w { attributes = attributes }
 
-abbrev pub with_pen : PenAttr → WindowState → WindowState
-with_pen pen w = record w { pen = pen }
+abbrev pub with_window_pen : PenAttr → WindowState → WindowState
+with_window_pen pen w = record w { pen = pen }
 
 abbrev pub with_colors : PenColors → WindowState → WindowState
 with_colors colors w = record w { colors = colors }

@@ -44,7 +44,7 @@ pub(crate) struct Cells {
 
 impl Cells {
     ghost use Rattle.std.specs.Prelude.{◌≢◌, ℕ, true, false, IfOk};
-    ghost use Rattle.dtvcc_windows.specs.Places.{no_cells, raised, row_cells, with_cell, without_cells};
+    ghost use Rattle.dtvcc_windows.specs.Places.{no_cells, raised, window_row, with_window_cell, without_cells};
     ghost use Rattle.dtvcc_windows.specs.Sizes.{IsWithin, cells_in};
     ghost use Rattle.dtvcc_windows.specs.Lists.{listed_cells};
 
@@ -73,8 +73,10 @@ impl Cells {
     pub(crate) fn rows(&self) -> Range<u8>
         requires { vec_len self.now.places ≡ 1024 }
         ensures order { result.start ≤ result.end }
-        ensures above { (row col : ℕ) → row < result.start → listed_cells self.now.places.items row col ≡ None }
-        ensures below { (row col : ℕ) → result.end ≤ row → listed_cells self.now.places.items row col ≡ None }
+        ensures above { (row col : ℕ) → row < result.start
+            → listed_cells self.now.places.items row col ≡ None }
+        ensures below { (row col : ℕ) → result.end ≤ row
+            → listed_cells self.now.places.items row col ≡ None }
     {
         if self.first >= self.behind {
             return 0..0;
@@ -89,7 +91,7 @@ impl Cells {
         requires filled { vec_len self.now.places ≡ 1024 }
         requires row { row < 16 }
         requires cols { cols ≤ 64 }
-        ensures { result.now ≡ row_cells (listed_cells self.now.places.items) cols row }
+        ensures { result.now ≡ window_row (listed_cells self.now.places.items) cols row }
     {
         let from = usize::from(row) * COLUMNS;
         &self.places[from..from + usize::from(cols)]
@@ -99,8 +101,10 @@ impl Cells {
     pub(crate) fn differs(&self, other: &Cells) -> bool
         requires filled { vec_len self.now.places ≡ 1024 }
         requires other_filled { vec_len other.now.places ≡ 1024 }
-        ensures same { result ≡ false → listed_cells self.now.places.items ≡ listed_cells other.now.places.items }
-        ensures other { result ≡ true → listed_cells self.now.places.items ≢ listed_cells other.now.places.items }
+        ensures same { result ≡ false
+            → listed_cells self.now.places.items ≡ listed_cells other.now.places.items }
+        ensures other { result ≡ true
+            → listed_cells self.now.places.items ≢ listed_cells other.now.places.items }
     {
         let from = self.first.min(other.first);
         let to = self.behind.max(other.behind);
@@ -135,7 +139,8 @@ impl Cells {
         requires filled { vec_len self.old.places ≡ 1024 }
         requires row { row < 16 }
         requires col { col < 64 }
-        ensures cells { listed_cells self.new.places.items ≡ with_cell (listed_cells self.old.places.items) row col cell }
+        ensures cells { listed_cells self.new.places.items
+            ≡ with_window_cell (listed_cells self.old.places.items) row col cell }
         ensures filled { vec_len self.new.places ≡ 1024 }
     {
         let at = place(row, col);
@@ -159,7 +164,8 @@ impl Cells {
         requires filled { vec_len self.old.places ≡ 1024 }
         requires row { row < 16 }
         requires col { col ≤ 64 }
-        ensures cells { listed_cells self.new.places.items ≡ without_cells (listed_cells self.old.places.items) row col }
+        ensures cells { listed_cells self.new.places.items
+            ≡ without_cells (listed_cells self.old.places.items) row col }
         ensures filled { vec_len self.new.places ≡ 1024 }
     {
         let from = usize::from(row) * COLUMNS;
@@ -171,7 +177,8 @@ impl Cells {
         requires filled { vec_len self.old.places ≡ 1024 }
         requires rows { rows ≤ 16 }
         requires cols { cols ≤ 64 }
-        ensures cells { listed_cells self.new.places.items ≡ cells_in rows cols (listed_cells self.old.places.items) }
+        ensures cells { listed_cells self.new.places.items
+            ≡ cells_in rows cols (listed_cells self.old.places.items) }
         ensures filled { vec_len self.new.places ≡ 1024 }
     {
         for row in 0..ROWS {
@@ -185,7 +192,9 @@ impl Cells {
         requires rows { new.now.rows ≤ 16 }
         requires cols { new.now.cols ≤ 64 }
         requires within { IsWithin old.now.rows old.now.cols (listed_cells self.old.places.items) }
-        ensures cells { listed_cells self.new.places.items ≡ cells_in new.now.rows new.now.cols (cells_in old.now.rows old.now.cols (listed_cells self.old.places.items)) }
+        ensures cells { listed_cells self.new.places.items
+            ≡ cells_in new.now.rows new.now.cols
+            (cells_in old.now.rows old.now.cols (listed_cells self.old.places.items)) }
         ensures filled { vec_len self.new.places ≡ 1024 }
     {
         if new.rows < old.rows || new.cols < old.cols {
@@ -196,7 +205,8 @@ impl Cells {
     // All rows move up by one; the top one is lost.
     pub(crate) fn raise(&mut self)
         requires filled { vec_len self.old.places ≡ 1024 }
-        ensures cells { listed_cells self.new.places.items ≡ raised (listed_cells self.old.places.items) }
+        ensures cells { listed_cells self.new.places.items
+            ≡ raised (listed_cells self.old.places.items) }
         ensures filled { vec_len self.new.places ≡ 1024 }
     {
         raise_places(&mut self.places, self.first, self.behind);

@@ -39,10 +39,10 @@ impl Window {
     ghost use Rattle.std.specs.Prelude.{◌≢◌, false, IfOk, IfSome, IsTrue, Some, None, is_some, option_map};
     ghost use Rattle.dtvcc_codes.specs.Spellable.{IsDefinition};
     ghost use Rattle.dtvcc_windows.specs.Defining.{defined, made, redefined};
-    ghost use Rattle.dtvcc_windows.specs.Places.{row_cells};
+    ghost use Rattle.dtvcc_windows.specs.Places.{window_row};
     ghost use Rattle.dtvcc_windows.specs.Showing.{StandsIn, as_shown, shown};
-    ghost use Rattle.dtvcc_windows.specs.Text.{backspaced, carriage_returned, cleared, form_fed, located, row_returned, with_character};
-    ghost use Rattle.dtvcc_windows.specs.Windows.{with_attributes, with_colors, with_pen, with_visibility};
+    ghost use Rattle.dtvcc_windows.specs.Text.{carriage_returned, cleared, form_fed, located, row_returned, window_backspaced, with_character};
+    ghost use Rattle.dtvcc_windows.specs.Windows.{with_attributes, with_colors, with_visibility, with_window_pen};
     ghost use Rattle.dtvcc_windows.specs.Objects.{is_live, state_of, window_of};
 
     /// A window that isn't there yet.
@@ -133,7 +133,7 @@ impl Window {
     /// Moves the pen left by one column and removes the cell there; at column 0 nothing happens (CTA-708-E, BS).
     pub fn back(&mut self)
         requires { IsTrue (is_live self.old) }
-        ensures window { window_of self.new ≡ option_map backspaced (window_of self.old) }
+        ensures window { window_of self.new ≡ option_map window_backspaced (window_of self.old) }
     {
         if self.col != 0 {
             self.cells.put(self.row, self.col - 1, None);
@@ -203,7 +203,8 @@ impl Window {
     /// Gives the window other attributes (CTA-708-E, SetWindowAttributes).
     pub fn set_attributes(&mut self, attributes: WinAttr)
         requires { IsTrue (is_live self.old) }
-        ensures window { window_of self.new ≡ option_map (with_attributes attributes) (window_of self.old) }
+        ensures window { window_of self.new
+            ≡ option_map (with_attributes attributes) (window_of self.old) }
     {
         self.attributes = attributes;
     }
@@ -211,7 +212,8 @@ impl Window {
     /// Gives the pen other attributes, for the characters that follow (CTA-708-E, SetPenAttributes).
     pub fn set_pen(&mut self, pen: PenAttr)
         requires { IsTrue (is_live self.old) }
-        ensures window { window_of self.new ≡ option_map (with_pen pen) (window_of self.old) }
+        ensures window { window_of self.new
+            ≡ option_map (with_window_pen pen) (window_of self.old) }
     {
         self.pen = pen;
     }
@@ -258,7 +260,8 @@ impl Window {
     pub fn row(&self, row: u8) -> &[Option<DCell>]
         requires live { IsTrue (is_live self.now) }
         requires row { IfSome (window_of self.now) (λ window. row < window.definition.rows) }
-        ensures { IfSome (window_of self.now) (λ window. result.now ≡ row_cells window.cells window.definition.cols row) }
+        ensures { IfSome (window_of self.now)
+            (λ window. result.now ≡ window_row window.cells window.definition.cols row) }
     {
         self.cells.row(row, self.definition.cols)
     }
@@ -310,8 +313,10 @@ impl Window {
     fn looks_other(&self, other: &Window) -> bool
         requires live { IsTrue (is_live self.now) }
         requires other_live { IsTrue (is_live other.now) }
-        ensures same { result ≡ false → as_shown (state_of self.now) ≡ as_shown (state_of other.now) }
-        ensures other { result ≡ true → as_shown (state_of self.now) ≢ as_shown (state_of other.now) }
+        ensures same { result ≡ false
+            → as_shown (state_of self.now) ≡ as_shown (state_of other.now) }
+        ensures other { result ≡ true
+            → as_shown (state_of self.now) ≢ as_shown (state_of other.now) }
     {
         let other_definition = seen(self.definition) != seen(other.definition);
         let other_attributes = self.attributes != other.attributes;

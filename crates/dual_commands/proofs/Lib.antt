@@ -1,6 +1,5 @@
 pub mod SoundLemmas
 pub mod MadeLemmas
-pub mod RoomLemmas
 pub mod PairLemmas
-pub mod BesideLemmas
 pub mod VerdictLemmas
+pub mod JudgedLemmas

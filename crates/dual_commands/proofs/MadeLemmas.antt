@@ -1,5 +1,5 @@
 -- What is made of a first list beside a second one.
-use Rattle.std.proofs.Common.{◌≡◌, ℕ, List, Option, Some, None, Result, Ok, Err, inl, inr, refl}
+use Rattle.std.proofs.Common.{◌≡◌, ℕ, List, Option, Some, None, Ok, Err, inl, inr, refl}
 use Rattle.std.specs.Prelude.{IfSome}
 use Rattle.command_base.specs.WholeInput.{ReadsInput}
 use Rattle.command_base.specs.declared.status.Status.{Status}
@@ -72,7 +72,7 @@ module _ (one two : Listing) (old new : Option (List ℕ)) (before now : ℕ) (r
   refused_so answer refused = (
     read.0,
     if_left (λ bytes. IsGoodList bytes one) (λ bytes. IsRefusedBeside two bytes answer) old
-        (λ bytes good. inr (record { one = one; good = good; refused = refused })) read.2,
+        (λ bytes good. inr (record { list = one; good = good; holds = refused })) read.2,
   )
 
   -- one without a plan

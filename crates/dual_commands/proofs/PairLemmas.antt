@@ -1,5 +1,5 @@
 -- Two lists that keep the rules are refused with one status, and with none where they are placed together.
-use Rattle.std.proofs.Common.{◌≡◌, ◌≢◌, ◌≤◌, ℕ, Option, Some, None, ap, sym, subst, refl, ◌∙◌, ◌⊎◌, inl, inr, arith}
+use Rattle.std.proofs.Common.{◌≡◌, ℕ, Some, None, ap, sym, subst, refl, ◌∙◌, ◌⊎◌, inl, inr, arith}
 use Rattle.cc_base.specs.declared.why.Why.TheVariants as why
 use Rattle.command_base.specs.declared.status.Place.TheVariants.{Field}
 use Rattle.command_base.specs.declared.status.Status.{Status}
@@ -7,13 +7,14 @@ use Rattle.command_base.specs.declared.status.Status.TheVariants as status
 use Rattle.cue_lists.specs.Listing.{Listing}
 use Rattle.cue_lists.specs.declared.rules.RuleFault.{RuleFault}
 use Rattle.dual_commands.specs.DualLists.{Clashes, IsRefusedPair}
-use Rattle.dual_commands.proofs.RoomLemmas.{beside_first, beside_once, placed_beside, placed_first, without_once}
 use Rattle.dual_plans.specs.DualAnswer.{IsFirstWithout, IsFirstWithoutBeside}
 use Rattle.dual_plans.specs.DualPlacement.{DualPlacement, IsDualPlaced}
 use Rattle.dual_plans.specs.FieldPlaces.{GoTogether}
-use Rattle.dual_plans.specs.OtherList.{AreAlike, HasOtherFrames, HasOtherRate, HasShareAt, IsJudged}
+use Rattle.dual_plans.specs.Verdict.{Lacking, LackingBeside, Placed}
+use Rattle.dual_plans.proofs.PairDecided.{judged_once}
+use Rattle.dual_plans.specs.OtherList.{AreAlike, IsJudged}
 use Rattle.dual_plans.specs.declared.other_list.OtherField.{OtherField}
-use Rattle.field_clashes.specs.Clashes.{IsFieldClash, IsLeastClash}
+use Rattle.field_clashes.specs.Clashes.{IsFieldClash}
 
 -- the place of a field of the second list
 same_place : (a b : OtherField) → a.rec ≡ b.rec → a.field ≡ b.field → a ≡ b
@@ -71,8 +72,8 @@ module _ (one two : Listing) where
   causeless : (placed : DualPlacement) (answer : Status) → GoTogether one two → IsDualPlaced one two placed → Cause answer → ⊥
   causeless placed answer together is (inl judged) = alike_unjudged judged.0 together.alike judged.1
   causeless placed answer together is (inr (inl clash)) = together.apart clash.0.cue clash.1.first clash.1.least.clashes
-  causeless placed answer together is (inr (inr (inl lacks))) = placed_first one two together placed lacks.0 is lacks.2
-  causeless placed answer together is (inr (inr (inr lacks))) = placed_beside one two together placed lacks.0 is lacks.2
+  causeless placed answer together is (inr (inr (inl lacks))) = judged_once one two together (Placed placed) (Lacking lacks.0) is lacks.2
+  causeless placed answer together is (inr (inr (inr lacks))) = judged_once one two together (Placed placed) (LackingBeside lacks.0) is lacks.2
 
   pub placed_unrefused : (placed : DualPlacement) (answer : Status) → GoTogether one two → IsDualPlaced one two placed → IsRefusedPair one two answer → ⊥
   placed_unrefused placed answer together is refused = causeless placed answer together is (cause_of answer refused)
@@ -90,12 +91,12 @@ module _ (one two : Listing) where
   same_cause a b (inr (inl p)) (inr (inr (inr q))) = absurd (q.1.apart p.0.cue p.1.first p.1.least.clashes)
   same_cause a b (inr (inr (inl p))) (inl q) = absurd (alike_unjudged q.0 p.1.alike q.1)
   same_cause a b (inr (inr (inl p))) (inr (inl q)) = absurd (p.1.apart q.0.cue q.1.first q.1.least.clashes)
-  same_cause a b (inr (inr (inl p))) (inr (inr (inl q))) = p.3 ∙ ap status.NoRoom (without_once one two p.1 p.0 q.0 p.2 q.2) ∙ sym q.3
-  same_cause a b (inr (inr (inl p))) (inr (inr (inr q))) = absurd (beside_first one two p.1 q.0 p.0 q.2 p.2)
+  same_cause a b (inr (inr (inl p))) (inr (inr (inl q))) = p.3 ∙ ap status.NoRoom (judged_once one two p.1 (Lacking p.0) (Lacking q.0) p.2 q.2) ∙ sym q.3
+  same_cause a b (inr (inr (inl p))) (inr (inr (inr q))) = absurd (judged_once one two p.1 (Lacking p.0) (LackingBeside q.0) p.2 q.2)
   same_cause a b (inr (inr (inr p))) (inl q) = absurd (alike_unjudged q.0 p.1.alike q.1)
   same_cause a b (inr (inr (inr p))) (inr (inl q)) = absurd (p.1.apart q.0.cue q.1.first q.1.least.clashes)
-  same_cause a b (inr (inr (inr p))) (inr (inr (inl q))) = absurd (beside_first one two p.1 p.0 q.0 p.2 q.2)
-  same_cause a b (inr (inr (inr p))) (inr (inr (inr q))) = p.3 ∙ ap status.NoRoomBeside (beside_once one two p.1 p.0 q.0 p.2 q.2) ∙ sym q.3
+  same_cause a b (inr (inr (inr p))) (inr (inr (inl q))) = absurd (judged_once one two p.1 (LackingBeside p.0) (Lacking q.0) p.2 q.2)
+  same_cause a b (inr (inr (inr p))) (inr (inr (inr q))) = p.3 ∙ ap status.NoRoomBeside (judged_once one two p.1 (LackingBeside p.0) (LackingBeside q.0) p.2 q.2) ∙ sym q.3
 
   pub pair_refused_once : (a b : Status) → IsRefusedPair one two a → IsRefusedPair one two b → a ≡ b
   pair_refused_once a b first second = same_cause a b (cause_of a first) (cause_of b second)

@@ -1,5 +1,5 @@
 -- The words of two lists that are accepted together.
-use Rattle.std.proofs.Common.{◌≡◌, ◌∙◌, ◌<◌, ℕ, suc, List, arith}
+use Rattle.std.proofs.Common.{◌∙◌, ℕ, suc, List, arith}
 use Rattle.cue_lists.specs.Listing.{Listing}
 use Rattle.dual_commands.specs.DualLists.{IsPlacedBeside, PlacedLists}
 use Rattle.dual_commands.specs.DualWords.{IsSoundDual}

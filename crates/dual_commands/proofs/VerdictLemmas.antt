@@ -1,6 +1,5 @@
 -- The verdict on two lists, and what `dual` answers by it.
-use Rattle.std.proofs.Common.{◌≡◌, ◌⊎◌, ℕ, List, Ok, Err, inl, inr, refl, sym, subst, ◌∙◌}
-use Rattle.command_base.specs.Counts.{IsReadOf}
+use Rattle.std.proofs.Common.{◌≡◌, ◌⊎◌, ℕ, List, Ok, Err, inl, inr, sym, subst}
 use Rattle.command_base.specs.Ends.{Ends}
 use Rattle.command_base.specs.WholeInput.{ReadsInput}
 use Rattle.command_base.specs.declared.status.Status.{Status}
@@ -10,35 +9,42 @@ use Rattle.cue_list_commands.specs.Accepted.{IsGoodList, IsRefusedList}
 use Rattle.cue_list_commands.specs.SideEnds.{SideEnds}
 use Rattle.cue_list_commands.specs.SideLists.{IsSideOf, RefusedSideIsAnswered, TellsAllFaults}
 use Rattle.cue_list_commands.proofs.ListVerdictLemmas.{good_not_refused, good_once, list_refused_once}
-use Rattle.cue_list_commands.proofs.SideLemmas.{side_kept}
+use Rattle.cue_list_commands.proofs.SideLemmas.{of_side, side_kept, side_refused, side_told}
 use Rattle.cue_lists.specs.Listing.{Listing}
-use Rattle.dual_commands.specs.DualAnswer.{AnswersBeside, DualAnswer, IsOfSecond}
-use Rattle.dual_commands.specs.DualLists.{IsPlacedBeside, IsRefusedBeside, IsRefusedPair, PlacedLists}
+use Rattle.dual_commands.specs.DualAnswer.{DualAnswer}
+use Rattle.command_base.specs.MakesAnswer.{MakesAnswer}
+use Rattle.dual_commands.specs.DualLists.{IsPlacedBeside, IsRefusedBeside, IsRefusedPair}
 use Rattle.dual_commands.specs.DualVerdict.{AcceptedIsNotRefused, PlacedIsAnswered, RefusalIsOne, RefusedIsAnswered}
 use Rattle.dual_commands.specs.DualWords.{IsSoundDual, dual_framing}
 use Rattle.dual_commands.specs.declared.dual_of.DualOf.{DualOf}
-use Rattle.dual_commands.proofs.BesideLemmas.{of_side, side_refused, side_told}
 use Rattle.dual_commands.proofs.PairLemmas.{pair_refused_once, placed_unrefused}
-use Rattle.programme_runs.proofs.AnswerLemmas.{made_accepted, made_refused, made_told}
+use Rattle.command_base.proofs.MakesLemmas.{made_accepted, made_refused, made_told}
 use Rattle.programmes.specs.Framing.{words_of}
 
 pub accepted_not_refused : AcceptedIsNotRefused
 accepted_not_refused second bytes lists answer accepted (inl refused) = good_not_refused bytes lists.one answer accepted.good refused
 accepted_not_refused second bytes lists answer accepted (inr refuses) =
-    let same = good_once bytes refuses.one lists.one refuses.good accepted.good in
-    let refused : IsRefusedPair lists.one second answer = subst (λ (l : Listing). IsRefusedPair l second answer) same refuses.refused in
+    let same = good_once bytes refuses.list lists.one refuses.good accepted.good in
+    let refused : IsRefusedPair lists.one second answer = subst (λ (l : Listing). IsRefusedPair l second answer) same refuses.holds in
     placed_unrefused lists.one lists.two lists.placed answer accepted.together accepted.placement
     (subst (λ (l : Listing). IsRefusedPair lists.one l answer) (sym accepted.second_is) refused)
 
 pub refused_once : RefusalIsOne
 refused_once second bytes one other (inl first) (inl again) = list_refused_once bytes one other first again
-refused_once second bytes one other (inl first) (inr pair) = absurd (good_not_refused bytes pair.one one pair.good first)
-refused_once second bytes one other (inr pair) (inl again) = absurd (good_not_refused bytes pair.one other pair.good again)
+refused_once second bytes one other (inl first) (inr pair) = absurd (good_not_refused bytes pair.list one pair.good first)
+refused_once second bytes one other (inr pair) (inl again) = absurd (good_not_refused bytes pair.list other pair.good again)
 refused_once second bytes one other (inr first) (inr again) =
-    let same = good_once bytes again.one first.one again.good first.good in
-    pair_refused_once first.one second one other first.refused (subst (λ (l : Listing). IsRefusedPair l second other) same again.refused)
+    let same = good_once bytes again.list first.list again.good first.good in
+    pair_refused_once first.list second one other first.holds (subst (λ (l : Listing). IsRefusedPair l second other) same again.holds)
 
--- the command answers of its second list
+-- the command has the list of these bytes as its second, and answers beside it as of the first
+abbrev IsOfSecond : List ℕ → DualOf → Type 0
+IsOfSecond bytes command = IsGoodList bytes command.second
+
+abbrev AnswersBeside : Listing → Ends → Ends → Status → Type 0
+AnswersBeside second = MakesAnswer (IsPlacedBeside second) (λ lists. words_of (dual_framing lists)) IsSoundDual (IsRefusedBeside second)
+
+-- so it does of any other that the bytes spell
 answers_of : (text : List ℕ) (second : Listing) (command : DualOf) (side later : SideEnds) (old new : Ends) (answer : Status) → IsGoodList text second
     → IsSideOf text side later → ReadsInput IsOfSecond IsRefusedList side.left later.left side.faults later.faults (Ok command)
     → AnswersBeside command.second old new answer → AnswersBeside second old new answer

@@ -1,10 +1,11 @@
+-- Believed: the program's answer stands on these definitions.
 -- Which cue lists are accepted together, and why a first list is refused beside a second one.
 use Rattle.std.specs.Prelude.{◌≡◌, ◌⊎◌, ℕ, List, Some}
 use Rattle.cc_base.specs.declared.why.Why.TheVariants as why
 use Rattle.command_base.specs.declared.status.Place.TheVariants.{Field}
 use Rattle.command_base.specs.declared.status.Status.{Status}
 use Rattle.command_base.specs.declared.status.Status.TheVariants as status
-use Rattle.cue_list_commands.specs.Accepted.{IsGoodList, IsRefusedList}
+use Rattle.cue_list_commands.specs.Accepted.{IsGoodList, IsRefusedList, SpellGoodList}
 use Rattle.cue_lists.specs.Listing.{Listing}
 use Rattle.cue_lists.specs.declared.rules.RuleFault.{RuleFault}
 use Rattle.dual_plans.specs.DualAnswer.{IsFirstWithout, IsFirstWithoutBeside}
@@ -43,12 +44,6 @@ IsRefusedPair one two (status.NoRoom cue) = GoTogether one two × IsFirstWithout
 IsRefusedPair one two (status.NoRoomBeside cue) = GoTogether one two × IsFirstWithoutBeside one two cue
 IsRefusedPair one two _ = ⊥
 
--- the bytes spell a list that keeps the rules and is refused beside the second one so
-pub record RefusesPair (second : Listing) (bytes : List ℕ) (answer : Status) : Type 0 where
-  pub one : Listing
-  pub good : IsGoodList bytes one
-  pub refused : IsRefusedPair one second answer
-
--- the bytes are refused: as a list, or beside the second one
+-- the bytes are refused: as a list, or as one that keeps the rules beside the second one
 abbrev pub IsRefusedBeside : Listing → List ℕ → Status → Type 0
-IsRefusedBeside second bytes answer = IsRefusedList bytes answer ⊎ RefusesPair second bytes answer
+IsRefusedBeside second bytes answer = IsRefusedList bytes answer ⊎ SpellGoodList bytes (λ one. IsRefusedPair one second answer)

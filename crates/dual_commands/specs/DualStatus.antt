@@ -1,3 +1,4 @@
+-- Between crates: the program's answer stands on none of these definitions.
 -- The status of two lists that have no plan together.
 use Rattle.std.specs.Prelude.{Some}
 use Rattle.cc_base.specs.declared.why.Why.TheVariants as why

@@ -1,3 +1,4 @@
+-- Believed: the program's answer stands on these definitions.
 -- What is put of two lists, and what holds of it.
 use Rattle.cue_list_commands.specs.Output.{list_windows}
 use Rattle.dual_commands.specs.DualLists.{PlacedLists}

@@ -11,7 +11,7 @@ use cue_list_commands::read_list;
 use cue_lists::RuleFault;
 use dual_plans::{DualFault, plan_dual};
 use programme_runs::{Makes, ReadsSide, run_beside};
-use programmes::{Programme, Words};
+use programmes::{GatheredWords, Programme};
 use shared_field::Dual;
 use std::alloc::Global;
 
@@ -21,7 +21,7 @@ impl Makes for DualOf {
 
     type Made = Dual;
 
-    type Puts = Words;
+    type Puts = GatheredWords;
 
     ghost Accepted = { PlacedLists };
 
@@ -53,12 +53,11 @@ impl Makes for DualOf {
 struct Unread;
 
 impl ReadsSide for Unread {
-    ghost use Rattle.cue_list_commands.specs.Accepted.{IsRefusedList};
-    ghost use Rattle.dual_commands.specs.DualAnswer.{IsOfSecond};
+    ghost use Rattle.cue_list_commands.specs.Accepted.{IsGoodList, IsRefusedList};
 
     type Command = DualOf;
 
-    ghost IsRead = { IsOfSecond };
+    ghost IsRead = { λ bytes command. IsGoodList bytes command.second };
 
     ghost Refuses = { IsRefusedList };
 
@@ -70,8 +69,8 @@ impl ReadsSide for Unread {
     }
 }
 
-/// Reads a second cue list from a side file and judges it, then a first one from the input, and puts the ancillary packet of each
-/// frame of both, one put a frame: the first list on CC1, CC3 and its services, the second on CC2 and CC4.
+/// Reads a second cue list from a side file and judges it, then a first one from the input, and puts the ancillary packets of the
+/// frames of both, gathered so that a put has many: the first list on CC1, CC3 and its services, the second on CC2 and CC4.
 ///
 /// Where both keep the rules, the lists are refused, in this order: Malformed (OtherList) where the second has another rate, another
 /// number of frames or a share; Rule (FieldClash) where events of both hold one slot of a field; NoRoom where a cue of the first has
@@ -82,9 +81,11 @@ pub fn run_dual<M: Source, S: Source, O: Sink>(
     side: &mut S,
     out: &mut O,
 ) -> Status
-    ensures { DualAnswer (side_ends (S.left side.old) (S.faults side.old)) (side_ends (S.left side.new) (S.faults side.new))
+    ensures { DualAnswer (side_ends (S.left side.old) (S.faults side.old))
+        (side_ends (S.left side.new) (S.faults side.new))
         (ends (M.left input.old) (M.faults input.old) (O.written out.old) (O.faults out.old))
-        (ends (M.left input.new) (M.faults input.new) (O.written out.new) (O.faults out.new)) result }
+        (ends (M.left input.new) (M.faults input.new) (O.written out.new)
+        (O.faults out.new)) result }
 {
     run_beside(Unread, alloc, side, input, out)
 }

@@ -2,7 +2,7 @@
 ghost use Rattle.cue_list_commands.specs.Accepted.{IsRefusedList};
 ghost use Rattle.cue_list_commands.specs.SideLists.{RefusedSideIsAnswered};
 ghost use Rattle.dual_commands.specs.DualAnswer.{DualAnswer};
-ghost use Rattle.dual_commands.specs.DualVerdict.{AcceptedIsNotRefused, PlacedIsAnswered, RefusalIsOne, RefusedIsAnswered};
+ghost use Rattle.dual_commands.specs.DualVerdict.{AcceptedIsNotRefused, EveryFirstListIsJudged, PlacedIsAnswered, RefusalIsOne, RefusedIsAnswered};
 
 /// The law that lists which are accepted together are refused with no status.
 pub fn accepted_is_not_refused()
@@ -12,6 +12,11 @@ pub fn accepted_is_not_refused()
 /// The law that a first list which is refused beside a second one is refused with one status alone.
 pub fn refusal_is_one()
     ensures { RefusalIsOne }
+{}
+
+/// The law that beside a second list which keeps the rules every input is accepted or refused, whatever its bytes.
+pub fn every_first_list_is_judged()
+    ensures { EveryFirstListIsJudged }
 {}
 
 /// The law that `dual` answers lists which are accepted together with Ok, or Memory, where no count of faults rose.

@@ -8,11 +8,11 @@ use Rattle.line21_author.specs.declared.unit.Unit.{Unit}
 use Rattle.frame_carrier.specs.Carried.{IsBytePair}
 use Rattle.frame_scheduler.specs.LaneTimeline.{stands}
 use Rattle.frame_scheduler.specs.Timeline.{Timeline, first_of, repeat_at, repeat_of, slot}
-use Rattle.resumed_lanes.specs.Parts.{size_of}
+use Rattle.resumed_lanes.specs.Parts.{part_slots}
 use Rattle.resumed_lanes.specs.ResumedLane.{Stand}
 use Rattle.resumed_lanes.specs.Slots.{Slots}
 use Rattle.resumed_lanes.specs.declared.part.Part.{Part}
-use Rattle.shared_field_shown.specs.Lanes.{again, pieces_of, plain, whole}
+use Rattle.shared_field_shown.specs.Lanes.{again, pieces_of, plain_timeline, whole}
 use Rattle.shared_field_shown.proofs.LaneLemmas.{again_at, some_size, stands_at, two_size}
 
 -- a unit that begins in a slot is of bytes, and sent within so many slots
@@ -38,7 +38,7 @@ module _ (slots : Slots) (count : ℕ) where
   stands_sent end (part ∷ parts) [] rs stand are n unit is = cc
   stands_sent end (part ∷ parts) (f ∷ fs) [] stand are n unit is = absurd stand
   stands_sent end (part ∷ parts) (f ∷ fs) (r ∷ rs) stand are n unit is =
-      by_slot (n == f) refl (λ rest. stands_sent (f + size_of part) parts fs rs stand.2 (All-tail (IsSendable count) part parts are) n unit rest)
+      by_slot (n == f) refl (λ rest. stands_sent (f + part_slots part) parts fs rs stand.2 (All-tail (IsSendable count) part parts are) n unit rest)
     where
       own : IsSendable count part
       own = All-head (IsSendable count) part parts are
@@ -51,7 +51,7 @@ module _ (slots : Slots) (count : ℕ) where
           record {
             bytes = subst (λ (u : Unit). IsBytePair u.pair) same own.unit;
             ended = λ doubled.
-                let two : size_of part ≡ 2 = two_size part (ap (λ (u : Unit). u.doubled) same ∙ doubled) in
+                let two : part_slots part ≡ 2 = two_size part (ap (λ (u : Unit). u.doubled) same ∙ doubled) in
                 omega (arith, stand.0.ended, own.until);
           }
       by_slot false test rest = rest (sym (stands_at part parts f fs n false test) ∙ is)
@@ -62,9 +62,9 @@ module _ (slots : Slots) (count : ℕ) where
   again_sent end (part ∷ parts) fs [] stand are n unit is = cc
   again_sent end (part ∷ parts) [] (r ∷ rs) stand are n unit is = absurd stand
   again_sent end (part ∷ parts) (f ∷ fs) (None ∷ rs) stand are n unit is =
-      again_sent (f + size_of part) parts fs rs stand.2 (All-tail (IsSendable count) part parts are) n unit is
+      again_sent (f + part_slots part) parts fs rs stand.2 (All-tail (IsSendable count) part parts are) n unit is
   again_sent end (part ∷ parts) (f ∷ fs) (Some at ∷ rs) stand are n unit is =
-      by_slot (n == at) refl (λ rest. again_sent (f + size_of part) parts fs rs stand.2 (All-tail (IsSendable count) part parts are) n unit rest)
+      by_slot (n == at) refl (λ rest. again_sent (f + part_slots part) parts fs rs stand.2 (All-tail (IsSendable count) part parts are) n unit rest)
     where
       own : IsSendable count part
       own = All-head (IsSendable count) part parts are
@@ -85,13 +85,13 @@ module _ (slots : Slots) (count : ℕ) where
       → ((n : ℕ) (unit : Unit) → events n ≡ Some unit → IsSent count n unit) → (n : ℕ) (unit : Unit) → whole events parts fs rs n ≡ Some unit → IsSent count n unit
   lane_sent events parts fs rs stand are sent n unit is =
       ⊎_elim
-      (λ (at : plain events parts fs n ≡ Some unit).
+      (λ (at : plain_timeline events parts fs n ≡ Some unit).
       ⊎_elim
       (λ (event : events n ≡ Some unit). sent n unit event)
       (λ (at_unit : stands (pieces_of parts) fs n ≡ Some unit). stands_sent 0 parts fs rs stand are n unit at_unit)
       (either_is (events n) (stands (pieces_of parts) fs n) unit at))
       (λ (at : again parts rs n ≡ Some unit). again_sent 0 parts fs rs stand are n unit at)
-      (either_is (plain events parts fs n) (again parts rs n) unit is)
+      (either_is (plain_timeline events parts fs n) (again parts rs n) unit is)
 
 null_bytes : IsBytePair null_pair
 null_bytes = record { a = omega arith; b = omega arith }

@@ -1,3 +1,4 @@
+-- Between crates: the program's answer stands on none of these definitions.
 -- The pairs of the frames of two lists: their control pairs are doubled, and they are bytes.
 use Rattle.cue_lists.specs.Listing.{Listing}
 use Rattle.dual_plans.specs.DualPlacement.{DualPlacement, IsDualPlaced, dual_columns}

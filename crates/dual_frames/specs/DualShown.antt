@@ -1,3 +1,4 @@
+-- Believed in part: the program's answer stands on some of these definitions.
 -- What the frames of two lists show: the first list on CC1 and CC3, the second on CC2 and CC4.
 use Rattle.std.specs.Prelude.{ℕ}
 use Rattle.line21_codes.specs.declared.channels.Chan.TheVariants.{Cc1, Cc2, Cc3, Cc4}

@@ -17,7 +17,7 @@ use Rattle.frame_scheduler.specs.declared.lane.piece.Piece.{Piece}
 use Rattle.frame_scheduler.proofs.FieldLaneLemmas.{end_push as end_push_alone}
 use Rattle.resumed_lanes.specs.FieldSlots.{holds}
 use Rattle.resumed_lanes.specs.Parts.{part_cue}
-use Rattle.resumed_lanes.specs.ResumedLane.{end_of, lane}
+use Rattle.resumed_lanes.specs.ResumedLane.{end_of_parts, resumed_lane}
 use Rattle.resumed_lanes.specs.Slots.{Slots}
 use Rattle.resumed_lanes.specs.declared.part.Part.{Part}
 use Rattle.resumed_lanes.proofs.ResumedLemmas.{end_push}
@@ -41,7 +41,7 @@ pieces_up_to cue (part ∷ parts) = by_test (nat_le part.piece.cue cue) (pieces_
 
 -- units that are placed beside another lane are placed without it
 placed_without : (events : List Event) (slots : Slots) → ((n : ℕ) → slots.free n ≡ true → IsFree events n) → (before : List (Part × ℕ)) (others : List (Piece × ℕ))
-    → end_of before ≡ alone.end_of others → (parts : List Part) (fs : List ℕ) → IsPlaced (lane slots) before parts fs
+    → end_of_parts before ≡ alone.end_of others → (parts : List Part) (fs : List ℕ) → IsPlaced (resumed_lane slots) before parts fs
     → IsPlaced (alone.lane events) others (pieces_of parts) fs
 placed_without events slots free before others at [] [] placed = tt
 placed_without events slots free before others at [] (f ∷ fs) placed = absurd placed
@@ -58,7 +58,7 @@ placed_without events slots free before others at (part ∷ parts) (f ∷ fs) pl
 )
 
 -- so where a cue of the first list has room in a field beside the second, it has room alone
-pub room_alone : (one two : Listing) (channel : Chan) (cue : ℕ) → HasRoom (lane (slots_for_first one two channel)) part_cue (first_units one channel) cue
+pub room_alone : (one two : Listing) (channel : Chan) (cue : ℕ) → HasRoom (resumed_lane (slots_for_first one two channel)) part_cue (first_units one channel) cue
     → LaneHasRoom one (Channel channel) cue
 room_alone one two channel cue room =
     let units : pieces_of (up_to part_cue cue (first_units one channel)) ≡ up_to piece_cue cue (pieces_of (first_units one channel)) =

@@ -25,7 +25,7 @@ use Rattle.frame_scheduler.proofs.PlanLemmas.{far_roomy}
 use Rattle.frame_scheduler.proofs.ServicesLemmas.{below_roomy}
 use Rattle.resumed_lanes.specs.Filled.{IsFault, IsFilled, slots_at}
 use Rattle.resumed_lanes.specs.Parts.{part_cue}
-use Rattle.resumed_lanes.specs.ResumedLane.{lane}
+use Rattle.resumed_lanes.specs.ResumedLane.{resumed_lane}
 use Rattle.resumed_lanes.specs.Slots.{Slots}
 use Rattle.resumed_lanes.specs.declared.part.Part.{Part}
 use Rattle.resumed_lanes.specs.declared.place.Place.{Place}
@@ -40,18 +40,18 @@ use Rattle.dual_plans.proofs.RoomLemmas.{IsFirstOfField, fault_both, fault_one, 
 
 -- the fault of a lane is that of its field
 pub lane_fault : (slots : Slots) (parts : List Part) (fault : PlanFault) → IsFault slots parts fault
-    → IsFaultOf (IsFirstOfField (λ cue. HasNoRoom (lane slots) part_cue parts cue) (λ cue. HasRoom (lane slots) part_cue parts cue)) fault
+    → IsFaultOf (IsFirstOfField (λ cue. HasNoRoom (resumed_lane slots) part_cue parts cue) (λ cue. HasRoom (resumed_lane slots) part_cue parts cue)) fault
 lane_fault slots parts (Memory error) is = tt
 lane_fault slots parts (NoRoom cue) is = record { none = is.none; first = is.first }
 
 -- where the units of a lane stand, each cue has room
 pub filled_room : (slots : Slots) (parts : List Part) (places : List Place) → AreInCueOrder part_cue parts → IsFilled slots parts places
-    → (cue : ℕ) → HasRoom (lane slots) part_cue parts cue
-filled_room slots parts places order filled cue = room_all part_cue (lane slots) parts order (slots_at places) filled.earliest.placed cue
+    → (cue : ℕ) → HasRoom (resumed_lane slots) part_cue parts cue
+filled_room slots parts places order filled cue = room_all part_cue (resumed_lane slots) parts order (slots_at places) filled.earliest.placed cue
 
 module _ (one two : Listing) where
   pub started_room : (channel : Chan) (field : StartedField) → IsStarted one two channel field
-      → (cue : ℕ) → HasRoom (lane (slots_for_first one two channel)) part_cue (first_units one channel) cue
+      → (cue : ℕ) → HasRoom (resumed_lane (slots_for_first one two channel)) part_cue (first_units one channel) cue
   started_room channel field is cue =
       filled_room (slots_for_first one two channel) (first_units one channel) field.places.items
       (subst (AreInCueOrder part_cue) is.one_is.parts is.one_within.placeable.order)

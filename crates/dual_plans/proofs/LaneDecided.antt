@@ -6,8 +6,8 @@ use Rattle.std.proofs.lemmas.Bool.{cases_eq, cases_lt}
 use Rattle.placements.specs.FirstFit.{IsFirst}
 use Rattle.placements.specs.LaneRoom.{AreInCueOrder, IsFirstCrowded}
 use Rattle.resumed_lanes.specs.Filled.{IsFilled}
-use Rattle.resumed_lanes.specs.Parts.{IsBegun, part_cue, size_of}
-use Rattle.resumed_lanes.specs.ResumedLane.{IsAllowed, IsFirstTwo, IsLastForeign, ResumesAt, Stand, lane}
+use Rattle.resumed_lanes.specs.Parts.{IsBegun, part_cue, part_slots}
+use Rattle.resumed_lanes.specs.ResumedLane.{IsAllowedBeside, IsFirstTwo, IsLastForeign, ResumesAt, Stand, resumed_lane}
 use Rattle.resumed_lanes.specs.Slots.{AreSound, Slots}
 use Rattle.resumed_lanes.specs.Waiting.{Describes, may_begin, next_resume, resume_at}
 use Rattle.resumed_lanes.specs.declared.part.Part.{Part}
@@ -20,16 +20,16 @@ use Rattle.resumed_lanes.proofs.WaitingLemmas.{begins_allowed, described_first, 
 -- the first slot in which a unit may begin behind others, and where its cue's first unit comes again
 record FirstPlace (slots : Slots) (end : ℕ) (part : Part) : Type 0 where
   place : Place
-  first : IsFirst (IsAllowed slots end part) place.slot
+  first : IsFirst (IsAllowedBeside slots end part) place.slot
   resumes : ResumesAt slots end part place.slot place.resume
 
 -- it has one, or may begin nowhere
 abbrev HasPlace : Slots → ℕ → Part → Type 0
-HasPlace slots end part = FirstPlace slots end part ⊎ ((slot : ℕ) → IsAllowed slots end part slot → ⊥)
+HasPlace slots end part = FirstPlace slots end part ⊎ ((slot : ℕ) → IsAllowedBeside slots end part slot → ⊥)
 
 -- the slots from one on are tried, where it may begin in none before it
 place_from : (slots : Slots) (end : ℕ) (part : Part) (tries slot : ℕ) (resume : Resume) → end ≤ slot → Describes slots end slot resume
-    → ((other : ℕ) → IsAllowed slots end part other → slot ≤ other) → ((other : ℕ) → IsAllowed slots end part other → other < slot + tries) → HasPlace slots end part
+    → ((other : ℕ) → IsAllowedBeside slots end part other → slot ≤ other) → ((other : ℕ) → IsAllowedBeside slots end part other → other < slot + tries) → HasPlace slots end part
 place_from slots end part zero slot resume from describes none late = inr (λ other a. let low = none other a in let high = late other a in omega arith)
 place_from slots end part (suc tries) slot resume from describes none late =
     by_test (may_begin slots resume slot part) refl
@@ -38,7 +38,7 @@ place_from slots end part (suc tries) slot resume from describes none late =
     (λ other a.
     let low = none other a in
     elim (cases_eq slot other) [
-      | inl same ↦ absurd (refused slots end slot from resume part describes is (subst (IsAllowed slots end part) (sym same) a))
+      | inl same ↦ absurd (refused slots end slot from resume part describes is (subst (IsAllowedBeside slots end part) (sym same) a))
       | inr apart ↦ omega arith
     ])
     (λ other a. let high = late other a in omega arith))
@@ -60,7 +60,7 @@ place_decided slots end part =
 -- the units are placed, or a cue is the first without room
 module _ (slots : Slots) (sound : AreSound slots) (us : List Part) (begun : All IsBegun us) (order : AreInCueOrder part_cue us) where
   abbrev Judged : ℕ → Type 0
-  Judged k = ((places : List Place) × (end : ℕ) × Reaches slots (take k us) places end) ⊎ ((cue : ℕ) × IsFirstCrowded (lane slots) part_cue us cue)
+  Judged k = ((places : List Place) × (end : ℕ) × Reaches slots (take k us) places end) ⊎ ((cue : ℕ) × IsFirstCrowded (resumed_lane slots) part_cue us cue)
 
   parts_decided : (d : Part) (k : ℕ) → k ≤ length us → Judged k
   parts_decided d zero within = inl ([], 0, reaches_first slots)
@@ -75,16 +75,16 @@ module _ (slots : Slots) (sound : AreSound slots) (us : List Part) (begun : All 
           let e : k + 1 ≡ suc k = omega arith in
           inl (
             places ++ found.place ∷ [],
-            found.place.slot + size_of (get_or us k d),
-            subst (λ n. Reaches slots (take n us) (places ++ found.place ∷ []) (found.place.slot + size_of (get_or us k d))) e
-                (reaches_next slots sound us k d places end (found.place.slot + size_of (get_or us k d)) found.place begun (omega arith) reaches found.first found.resumes refl),
+            found.place.slot + part_slots (get_or us k d),
+            subst (λ n. Reaches slots (take n us) (places ++ found.place ∷ []) (found.place.slot + part_slots (get_or us k d))) e
+                (reaches_next slots sound us k d places end (found.place.slot + part_slots (get_or us k d)) found.place begun (omega arith) reaches found.first found.resumes refl),
           )
       next places end reaches (inr nowhere) =
           inr ((get_or us k d).piece.cue, reaches_none slots sound us k d places end begun order (omega arith) reaches nowhere)
 
   -- what is placed is filled
   abbrev pub IsDecided : Type 0
-  IsDecided = ((places : List Place) × IsFilled slots us places) ⊎ ((cue : ℕ) × IsFirstCrowded (lane slots) part_cue us cue)
+  IsDecided = ((places : List Place) × IsFilled slots us places) ⊎ ((cue : ℕ) × IsFirstCrowded (resumed_lane slots) part_cue us cue)
 
 pub lane_decided : (slots : Slots) (sound : AreSound slots) (us : List Part) (begun : All IsBegun us) (order : AreInCueOrder part_cue us)
     → IsDecided slots sound us begun order
@@ -139,5 +139,5 @@ resumes_same slots end (u ∷ us) (f ∷ fs) [] qs one other = absurd one
 resumes_same slots end (u ∷ us) (f ∷ fs) (r ∷ rs) [] one other = absurd other
 resumes_same slots end (u ∷ us) (f ∷ fs) (r ∷ rs) (q ∷ qs) one other =
     let first = resume_same slots end u f r q one.1 other.1 in
-    let rest = resumes_same slots (f + size_of u) us fs rs qs one.2 other.2 in
+    let rest = resumes_same slots (f + part_slots u) us fs rs qs one.2 other.2 in
     cc

@@ -23,7 +23,7 @@ use Rattle.frame_scheduler.proofs.RoomDecided.{list_decided}
 use Rattle.resumed_lanes.specs.FieldSlots.{holds}
 use Rattle.resumed_lanes.specs.Filled.{IsFilled, resumes_at, slots_at}
 use Rattle.resumed_lanes.specs.Parts.{IsBegun, part_cue}
-use Rattle.resumed_lanes.specs.ResumedLane.{Stand, lane}
+use Rattle.resumed_lanes.specs.ResumedLane.{Stand, resumed_lane}
 use Rattle.resumed_lanes.specs.Slots.{AreSound, Slots}
 use Rattle.resumed_lanes.specs.Spans.{in_spans}
 use Rattle.resumed_lanes.specs.declared.part.Part.{Part}
@@ -46,19 +46,19 @@ use Rattle.dual_plans.proofs.RoomLemmas.{fault_both, fault_one, fault_two}
 -- a lane of each field
 module _ (slots : FieldNumber → Slots) (units : FieldNumber → List Part) (order : (in_field : FieldNumber) → AreInCueOrder part_cue (units in_field)) where
   abbrev Lacks : FieldNumber → ℕ → Type 0
-  Lacks in_field cue = HasNoRoom (lane (slots in_field)) part_cue (units in_field) cue
+  Lacks in_field cue = HasNoRoom (resumed_lane (slots in_field)) part_cue (units in_field) cue
 
   abbrev Has : FieldNumber → ℕ → Type 0
-  Has in_field cue = HasRoom (lane (slots in_field)) part_cue (units in_field) cue
+  Has in_field cue = HasRoom (resumed_lane (slots in_field)) part_cue (units in_field) cue
 
   abbrev Filled : FieldNumber → Type 0
   Filled in_field = (places : List Place) × IsFilled (slots in_field) (units in_field) places
 
   abbrev Crowded : FieldNumber → Type 0
-  Crowded in_field = (cue : ℕ) × IsFirstCrowded (lane (slots in_field)) part_cue (units in_field) cue
+  Crowded in_field = (cue : ℕ) × IsFirstCrowded (resumed_lane (slots in_field)) part_cue (units in_field) cue
 
   roomy : (in_field : FieldNumber) → Filled in_field → (cue : ℕ) → Has in_field cue
-  roomy in_field filled cue = room_all part_cue (lane (slots in_field)) (units in_field) (order in_field) (slots_at filled.0) filled.1.earliest.placed cue
+  roomy in_field filled cue = room_all part_cue (resumed_lane (slots in_field)) (units in_field) (order in_field) (slots_at filled.0) filled.1.earliest.placed cue
 
   -- both are filled, or a cue is the first without room in one of them
   lanes_decided : AreSound (slots One) → AreSound (slots Two) → All IsBegun (units One) → All IsBegun (units Two)
@@ -272,25 +272,25 @@ same_places a b firsts again seconds again_beside =
 -- what holds of two verdicts on one pair
 module _ (one two : Listing) (go : GoTogether one two) where
   abbrev Earliest : FieldNumber → List ℕ → Type 0
-  Earliest in_field fs = IsEarliest (lane (slots_for_first one two (authored_channel in_field))) (first_units one (authored_channel in_field)) fs
+  Earliest in_field fs = IsEarliest (resumed_lane (slots_for_first one two (authored_channel in_field))) (first_units one (authored_channel in_field)) fs
 
   abbrev EarliestBeside : FieldNumber → List ℕ → List ℕ → Type 0
   EarliestBeside in_field fs gs =
-      IsEarliest (lane (slots_for_second one two (authored_channel in_field) fs)) (second_units two (authored_channel in_field)) gs
+      IsEarliest (resumed_lane (slots_for_second one two (authored_channel in_field) fs)) (second_units two (authored_channel in_field)) gs
 
   first_same : (in_field : FieldNumber) (fs gs : List ℕ) → Earliest in_field fs → Earliest in_field gs → fs ≡ gs
   first_same in_field fs gs a b =
-      earliest_same (lane (slots_for_first one two (authored_channel in_field))) (first_units one (authored_channel in_field)) fs gs a b
+      earliest_same (resumed_lane (slots_for_first one two (authored_channel in_field))) (first_units one (authored_channel in_field)) fs gs a b
 
   -- a field that is placed has room
   room_first : (in_field : FieldNumber) (fs : List ℕ) → Earliest in_field fs → (cue : ℕ) → FieldHasRoom one two in_field cue
   room_first in_field fs is cue =
-      room_all part_cue (lane (slots_for_first one two (authored_channel in_field))) (first_units one (authored_channel in_field))
+      room_all part_cue (resumed_lane (slots_for_first one two (authored_channel in_field))) (first_units one (authored_channel in_field))
       (first_placeable one two go (authored_channel in_field)).order fs is.placed cue
 
   room_second : (in_field : FieldNumber) (fs gs : List ℕ) → EarliestBeside in_field fs gs → (cue : ℕ) → HasRoomBeside one two in_field fs cue
   room_second in_field fs gs is cue =
-      room_all part_cue (lane (slots_for_second one two (authored_channel in_field) fs)) (second_units two (authored_channel in_field))
+      room_all part_cue (resumed_lane (slots_for_second one two (authored_channel in_field) fs)) (second_units two (authored_channel in_field))
       (second_placeable one two go (authored_channel in_field)).order gs is.placed cue
 
   -- a cue has room, or lacks it
@@ -363,7 +363,7 @@ module _ (one two : Listing) (go : GoTogether one two) where
       let channel = authored_channel in_field in
       let firsts : a.first ≡ b.first = first_same in_field a.first b.first are.first others.first in
       let seconds : a.second ≡ b.second =
-      earliest_same (lane (slots_for_second one two channel b.first)) (second_units two channel) a.second b.second
+      earliest_same (resumed_lane (slots_for_second one two channel b.first)) (second_units two channel) a.second b.second
       (subst (λ fs. EarliestBeside in_field fs a.second) firsts are.second) others.second in
       let again : a.first_again ≡ b.first_again =
       resumes_same (slots_for_first one two channel) 0 (first_units one channel) b.first a.first_again b.first_again

@@ -6,7 +6,7 @@ use Rattle.placements.specs.declared.planning.PlanFault.{PlanFault}
 use Rattle.placements.specs.declared.planning.PlanFault.TheVariants.{Memory, NoRoom}
 use Rattle.resumed_lanes.specs.Agreeing.{Agree, EndsBy}
 use Rattle.resumed_lanes.specs.Filled.{IsFault, IsFilled, resumes_at, slots_at}
-use Rattle.resumed_lanes.specs.Parts.{size_of}
+use Rattle.resumed_lanes.specs.Parts.{part_slots}
 use Rattle.resumed_lanes.specs.ResumedLane.{Stand}
 use Rattle.resumed_lanes.specs.Slots.{Slots, slots_in}
 use Rattle.resumed_lanes.specs.Spans.{GoOn}
@@ -44,4 +44,4 @@ pub go_on : (slots : Slots) (end : ℕ) (parts : List Part) (fs : List ℕ) (rs 
 go_on slots end [] fs rs stand = tt
 go_on slots end (part ∷ parts) [] rs stand = tt
 go_on slots end (part ∷ parts) (f ∷ fs) [] stand = absurd stand
-go_on slots end (part ∷ parts) (f ∷ fs) (r ∷ rs) stand = (stand.0.behind, go_on slots (f + size_of part) parts fs rs stand.2)
+go_on slots end (part ∷ parts) (f ∷ fs) (r ∷ rs) stand = (stand.0.behind, go_on slots (f + part_slots part) parts fs rs stand.2)

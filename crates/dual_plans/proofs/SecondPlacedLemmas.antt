@@ -16,7 +16,7 @@ use Rattle.frame_scheduler.proofs.PlanLemmas.{frames_of}
 use Rattle.placements.specs.Placing.{IsEarliest}
 use Rattle.resumed_lanes.specs.Filled.{IsFault, IsFilled, slots_at}
 use Rattle.resumed_lanes.specs.Parts.{part_cue}
-use Rattle.resumed_lanes.specs.ResumedLane.{lane}
+use Rattle.resumed_lanes.specs.ResumedLane.{resumed_lane}
 use Rattle.resumed_lanes.specs.declared.place.Place.{Place}
 use Rattle.frame_scheduler.specs.Planned.{authored_channel}
 use Rattle.dual_plans.specs.DualAnswer.{HasRoomBeside, IsDualFault, LacksRoomBeside}
@@ -33,7 +33,7 @@ use Rattle.dual_plans.proofs.RoomLemmas.{fault_both, fault_one, fault_two}
 module _ (one two : Listing) where
   second_room : (channel : Chan) (field : StartedField) → IsStarted one two channel field → (places : Vec Place Global)
       → IsFilled (slots_for_second one two channel (slots_at field.places.items)) (second_units two channel) places.items
-      → (cue : ℕ) → HasRoom (lane (slots_for_second one two channel (slots_at field.places.items))) part_cue (second_units two channel) cue
+      → (cue : ℕ) → HasRoom (resumed_lane (slots_for_second one two channel (slots_at field.places.items))) part_cue (second_units two channel) cue
   second_room channel field is places filled cue =
       filled_room (slots_for_second one two channel (slots_at field.places.items)) (second_units two channel) places.items
       (subst (AreInCueOrder part_cue) is.two_is.parts is.two_within.placeable.order) filled cue
@@ -70,7 +70,7 @@ module _ (one two : Listing) where
 
     -- the units of the first list stand in their earliest placements
     pub first_earliest : (in_field : FieldNumber)
-        → IsEarliest (lane (slots_for_first one two (authored_channel in_field))) (first_units one (authored_channel in_field)) (slots_placed placed in_field)
+        → IsEarliest (resumed_lane (slots_for_first one two (authored_channel in_field))) (first_units one (authored_channel in_field)) (slots_placed placed in_field)
     first_earliest One =
         (first_filled one two Cc1 placed.one.one placed.one.two are.fields.one_is.one_is are.fields.one_is.two_is placed.one.places.items
         are.fields.one_is.filled).earliest

@@ -1,3 +1,4 @@
+-- Believed in part: the program's answer stands on some of these definitions.
 -- What planning two lists together answers.
 use Rattle.std.specs.Prelude.{◌≡◌, ⊤, ◌⊎◌, ℕ, ◌<◌, List, Some}
 use Rattle.line21_codes.specs.declared.channels.FieldNumber.{FieldNumber}
@@ -11,7 +12,7 @@ use Rattle.placements.specs.LaneRoom.{HasNoRoom, HasRoom}
 use Rattle.placements.specs.Placing.{IsEarliest}
 use Rattle.programmes.specs.Overlays.{GivesOverlaid}
 use Rattle.resumed_lanes.specs.Parts.{part_cue}
-use Rattle.resumed_lanes.specs.ResumedLane.{lane}
+use Rattle.resumed_lanes.specs.ResumedLane.{resumed_lane}
 use Rattle.shared_field.specs.SecondLanes.{LaysBoth}
 use Rattle.shared_field.specs.declared.second_lanes.SecondLanes.{SecondLanes}
 use Rattle.dual_plans.specs.DualPlacement.{DualPlacement, IsDualPlaced, dual_columns}
@@ -23,11 +24,11 @@ use Rattle.dual_plans.specs.declared.fault.DualFault.TheVariants.{Memory, OtherL
 -- the units of the first list in a field up to the cue of this number have no placement, or have one
 abbrev pub FieldLacksRoom : Listing → Listing → FieldNumber → ℕ → Type 0
 FieldLacksRoom one two in_field cue =
-    HasNoRoom (lane (slots_for_first one two (authored_channel in_field))) part_cue (first_units one (authored_channel in_field)) cue
+    HasNoRoom (resumed_lane (slots_for_first one two (authored_channel in_field))) part_cue (first_units one (authored_channel in_field)) cue
 
 abbrev pub FieldHasRoom : Listing → Listing → FieldNumber → ℕ → Type 0
 FieldHasRoom one two in_field cue =
-    HasRoom (lane (slots_for_first one two (authored_channel in_field))) part_cue (first_units one (authored_channel in_field)) cue
+    HasRoom (resumed_lane (slots_for_first one two (authored_channel in_field))) part_cue (first_units one (authored_channel in_field)) cue
 
 -- the cue is the first of the first list without a placement, in a field or of a service
 pub record IsFirstWithout (one two : Listing) (cue : ℕ) : Type 0 where
@@ -38,16 +39,16 @@ pub record IsFirstWithout (one two : Listing) (cue : ℕ) : Type 0 where
 -- the units of the second list in a field up to a cue have no placement beside those of the first in these slots, or have one
 abbrev pub LacksRoomBeside : Listing → Listing → FieldNumber → List ℕ → ℕ → Type 0
 LacksRoomBeside one two in_field fs cue =
-    HasNoRoom (lane (slots_for_second one two (authored_channel in_field) fs)) part_cue (second_units two (authored_channel in_field)) cue
+    HasNoRoom (resumed_lane (slots_for_second one two (authored_channel in_field) fs)) part_cue (second_units two (authored_channel in_field)) cue
 
 abbrev pub HasRoomBeside : Listing → Listing → FieldNumber → List ℕ → ℕ → Type 0
 HasRoomBeside one two in_field fs cue =
-    HasRoom (lane (slots_for_second one two (authored_channel in_field) fs)) part_cue (second_units two (authored_channel in_field)) cue
+    HasRoom (resumed_lane (slots_for_second one two (authored_channel in_field) fs)) part_cue (second_units two (authored_channel in_field)) cue
 
 -- the first list has its placements, and the cue is the first of the second without one
 pub record IsFirstWithoutBeside (one two : Listing) (cue : ℕ) : Type 0 where
   pub placed : FieldNumber → List ℕ
-  pub fields : (in_field : FieldNumber) → IsEarliest (lane (slots_for_first one two (authored_channel in_field))) (first_units one (authored_channel in_field)) (placed in_field)
+  pub fields : (in_field : FieldNumber) → IsEarliest (resumed_lane (slots_for_first one two (authored_channel in_field))) (first_units one (authored_channel in_field)) (placed in_field)
   pub services : (service : ℕ) → (frames : List ℕ) × IsLanePlaced one (Service service) frames
   pub none : (in_field : FieldNumber) × LacksRoomBeside one two in_field (placed in_field) cue
   pub first : (earlier : ℕ) → earlier < cue → (in_field : FieldNumber) → HasRoomBeside one two in_field (placed in_field) earlier

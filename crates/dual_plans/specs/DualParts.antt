@@ -1,3 +1,4 @@
+-- Between crates: the program's answer stands on none of these definitions.
 -- The parts of a plan of two lists: both fields with the units of the first list, its services, and where the units of the second
 -- stand beside them.
 use Rattle.std.specs.Prelude.{ℕ, List}

@@ -1,3 +1,4 @@
+-- Between crates: the program's answer stands on none of these definitions.
 -- The first cue without room in one of both fields, and why lanes aren't planned.
 use Rattle.std.specs.Prelude.{⊤, ℕ, ◌<◌}
 use Rattle.line21_codes.specs.declared.channels.FieldNumber.{FieldNumber}

@@ -1,3 +1,4 @@
+-- Believed in part: the program's answer stands on some of these definitions.
 -- Two lists that go together, and where their units stand in the field of a channel.
 use Rattle.std.specs.Prelude.{ℕ, List}
 use Rattle.line21_codes.specs.declared.channels.Chan.{Chan}
@@ -10,7 +11,7 @@ use Rattle.frame_scheduler.specs.Planned.{authored_channel}
 use Rattle.frame_scheduler.specs.SlotLists.{slot_cues}
 use Rattle.placements.specs.Placing.{IsEarliest}
 use Rattle.resumed_lanes.specs.FieldSlots.{first_slots, second_slots}
-use Rattle.resumed_lanes.specs.ResumedLane.{Stand, lane}
+use Rattle.resumed_lanes.specs.ResumedLane.{Stand, resumed_lane}
 use Rattle.resumed_lanes.specs.Slots.{Slots}
 use Rattle.resumed_lanes.specs.Spans.{in_spans}
 use Rattle.resumed_lanes.specs.declared.part.Part.{Part}
@@ -36,9 +37,9 @@ slots_for_second one two channel fs =
 
 -- the units of both lists stand in their earliest placements, the first list's before the second's
 pub record AreFieldsPlaces (one two : Listing) (channel : Chan) (places : Places) : Type 0 where
-  pub first : IsEarliest (lane (slots_for_first one two channel)) (first_units one channel) places.first
+  pub first : IsEarliest (resumed_lane (slots_for_first one two channel)) (first_units one channel) places.first
   pub first_stand : Stand (slots_for_first one two channel) 0 (first_units one channel) places.first places.first_again
-  pub second : IsEarliest (lane (slots_for_second one two channel places.first)) (second_units two channel) places.second
+  pub second : IsEarliest (resumed_lane (slots_for_second one two channel places.first)) (second_units two channel) places.second
   pub second_stand : Stand (slots_for_second one two channel places.first) 0 (second_units two channel) places.second places.second_again
 
 -- both lists keep the rules, the second is as the first asks, and no cues clash

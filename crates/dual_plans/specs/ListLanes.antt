@@ -1,3 +1,4 @@
+-- Between crates: the program's answer stands on none of these definitions.
 -- What two lists send in the field of a channel: the first on the field's data channel 1, the second on data channel 2.
 use Rattle.std.specs.Prelude.{◌≡◌, ℕ, All}
 use Rattle.line21_codes.specs.declared.channels.Chan.{Chan}

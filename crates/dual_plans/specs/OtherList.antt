@@ -1,3 +1,4 @@
+-- Believed: the program's answer stands on these definitions.
 -- A second list beside a first one: it has the first one's rate and number of frames, and no share.
 use Rattle.std.specs.Prelude.{◌≡◌, ◌≢◌, ◌⊎◌, ℕ, Option, Some, None}
 use Rattle.cue_lists.specs.Listing.{Listing, share_of}
@@ -14,17 +15,11 @@ pub record AreAlike (one two : Listing) : Type 0 where
   pub frames : two.frames ≡ one.frames
   pub unshared : (service : ℕ) → share_of two service ≡ None
 
--- field 3 of record 1 is the rate, field 4 the number of frames; record 2 is the first share
-abbrev pub HasOtherRate : Listing → Listing → OtherField → Type 0
-HasOtherRate one two at = (at.rec ≡ 1) × (at.field ≡ 3) × (two.rate ≢ one.rate)
-
-abbrev pub HasOtherFrames : Listing → Listing → OtherField → Type 0
-HasOtherFrames one two at = (at.rec ≡ 1) × (at.field ≡ 4) × (two.rate ≡ one.rate) × (two.frames ≢ one.frames)
-
-abbrev pub HasShareAt : Listing → Listing → OtherField → Type 0
-HasShareAt one two at = (at.rec ≡ 2) × (at.field ≡ 1) × (two.rate ≡ one.rate) × (two.frames ≡ one.frames) × HasShare two
-
--- the first field of the second list that isn't as the first list asks, if there is one
+-- the first field of the second list that isn't as the first list asks, if there is one: field 3 of record 1 is the rate, field 4 the number
+-- of frames, and record 2 is the first share
 abbrev pub IsJudged : Listing → Listing → Option OtherField → Type 0
-IsJudged one two (Some at) = HasOtherRate one two at ⊎ (HasOtherFrames one two at ⊎ HasShareAt one two at)
+IsJudged one two (Some at) =
+    ((at.rec ≡ 1) × (at.field ≡ 3) × (two.rate ≢ one.rate))
+    ⊎ (((at.rec ≡ 1) × (at.field ≡ 4) × (two.rate ≡ one.rate) × (two.frames ≢ one.frames))
+    ⊎ ((at.rec ≡ 2) × (at.field ≡ 1) × (two.rate ≡ one.rate) × (two.frames ≡ one.frames) × HasShare two))
 IsJudged one two None = AreAlike one two

@@ -1,3 +1,4 @@
+-- Between crates: the program's answer stands on none of these definitions.
 -- A field in which the units of the first of two lists stand.
 use Rattle.line21_codes.specs.declared.channels.Chan.{Chan}
 use Rattle.cue_lists.specs.Listing.{Listing}

@@ -1,3 +1,4 @@
+-- Between crates: the program's answer stands on none of these definitions.
 -- Each pair of lists that go together is judged once: the units of both have their placements, or a cue of the first list has none, or
 -- one of the second has none beside the first's.
 use Rattle.std.specs.Prelude.{◌≡◌, ℕ}

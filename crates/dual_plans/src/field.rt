@@ -34,7 +34,8 @@ pub fn first_field(
     requires first { IsRuled first.now }
     requires second { IsRuled second.now }
     ensures started { IfOk result (IsStarted first.now second.now channel) }
-    ensures fault { IfErr result (IsFault (slots_for_first first.now second.now channel) (first_units first.now channel)) }
+    ensures fault { IfErr result
+        (IsFault (slots_for_first first.now second.now channel) (first_units first.now channel)) }
 {
     let one = match first_lane(alloc, first, channel) {
         Ok(lane) => lane,
@@ -60,9 +61,13 @@ pub fn second_field(
 ) -> Result<Vec<Place>, PlanFault>
     requires alike { AreAlike first.now second.now }
     requires started { IsStarted first.now second.now channel field.now }
-    ensures filled { IfOk result (λ places. IsFilled (slots_for_second first.now second.now channel (slots_at field.now.places.items))
+    ensures filled { IfOk result
+        (λ places. IsFilled (slots_for_second first.now second.now channel
+        (slots_at field.now.places.items))
         (second_units second.now channel) places.items) }
-    ensures fault { IfErr result (IsFault (slots_for_second first.now second.now channel (slots_at field.now.places.items)) (second_units second.now channel)) }
+    ensures fault { IfErr result
+        (IsFault (slots_for_second first.now second.now channel (slots_at field.now.places.items))
+        (second_units second.now channel)) }
 {
     second_places(
         alloc,

@@ -18,3 +18,5 @@ mod other_list;
 mod placed;
 mod places;
 mod plan;
+#[cfg(test)]
+mod tests;

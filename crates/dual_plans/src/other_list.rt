@@ -3,10 +3,7 @@ ghost use Rattle.cue_lists.specs.Listing.{share_of};
 ghost use Rattle.cue_lists.specs.Rules.{IsRuled};
 ghost use Rattle.dual_plans.specs.OtherList.{HasShare, IsJudged};
 
-use cue_lists::CueList;
-
-/// The last service that a list may have a share of.
-const LAST_SERVICE: u8 = 6;
+use cue_lists::{CueList, LAST_SERVICE};
 
 /// A field of a second list that isn't as the first list asks, by the numbers of its record and of the field in that, from 1.
 #[derive(Clone, Copy, Debug, PartialEq, Eq)]

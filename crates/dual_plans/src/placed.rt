@@ -19,7 +19,9 @@ pub fn placed_lane(
 ) -> Result<PlacedLane, AllocError>
     requires apart { AreApart lane.events.items }
     requires stand { CanStand lane places.now }
-    ensures lane { IfOk result (IsLaneOf lane.events.items lane.parts.items (slots_at places.now) (resumes_at places.now)) }
+    ensures lane { IfOk result
+        (IsLaneOf lane.events.items lane.parts.items (slots_at places.now)
+        (resumes_at places.now)) }
     ensures start { IfOk result (λ planned. planned.slot ≡ 0) }
 {
     let units = units_in(alloc, &lane.parts, places)?;

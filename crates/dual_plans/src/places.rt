@@ -19,9 +19,14 @@ pub fn first_places(
     two: &ListLane,
 ) -> Result<Vec<Place>, PlanFault>
     requires { HasUnitsWithin count one.now }
-    ensures filled { IfOk result (λ places. IsFilled (first_slots (event_at one.now.events.items) (event_at two.now.events.items)) one.now.parts.items places.items) }
-    ensures fault { IfErr result (IsFault (first_slots (event_at one.now.events.items) (event_at two.now.events.items)) one.now.parts.items) }
+    ensures filled { IfOk result
+        (λ places. IsFilled (first_slots (event_at one.now.events.items)
+        (event_at two.now.events.items)) one.now.parts.items places.items) }
+    ensures fault { IfErr result
+        (IsFault (first_slots (event_at one.now.events.items)
+        (event_at two.now.events.items)) one.now.parts.items) }
 {
+    let count = slots_needed(count, one);
     match table(alloc, count, &one.events, &two.events) {
         Ok(uses) => place_all(alloc, &uses, &one.parts),
         Err(error) => Err(PlanFault::Memory(error)),
@@ -38,15 +43,29 @@ pub fn second_places(
     two: &ListLane,
 ) -> Result<Vec<Place>, PlanFault>
     requires first { HasUnitsWithin count one.now }
-    requires placed { IsFilled (first_slots (event_at one.now.events.items) (event_at two.now.events.items)) one.now.parts.items places.now }
+    requires placed { IsFilled
+        (first_slots (event_at one.now.events.items)
+        (event_at two.now.events.items)) one.now.parts.items places.now }
     requires second { HasUnitsWithin count two.now }
-    ensures filled { IfOk result (λ others. IsFilled (second_slots (event_at one.now.events.items) (event_at two.now.events.items)
+    ensures filled { IfOk result
+        (λ others. IsFilled (second_slots (event_at one.now.events.items)
+        (event_at two.now.events.items)
         (in_spans one.now.parts.items (slots_at places.now))) two.now.parts.items others.items) }
-    ensures fault { IfErr result (IsFault (second_slots (event_at one.now.events.items) (event_at two.now.events.items)
+    ensures fault { IfErr result
+        (IsFault (second_slots (event_at one.now.events.items) (event_at two.now.events.items)
         (in_spans one.now.parts.items (slots_at places.now))) two.now.parts.items) }
 {
+    let count = slots_needed(count, two);
     match table_beside(alloc, count, &one.events, &two.events, &one.parts, places) {
         Ok(uses) => place_all(alloc, &uses, &two.parts),
         Err(error) => Err(PlanFault::Memory(error)),
     }
+}
+
+// How many slots a table has to list for a lane: none where it has no units.
+fn slots_needed(count: usize, lane: &ListLane) -> usize
+    requires { HasUnitsWithin count lane.now }
+    ensures { HasUnitsWithin result lane.now }
+{
+    if lane.parts.is_empty() { 0 } else { count }
 }

@@ -42,7 +42,9 @@ pub struct SecondPlaced {
 pub fn plan_dual(alloc: Global, first: &CueList, second: &CueList) -> Result<Dual, DualFault>
     requires first { IsRuled first.now }
     requires second { IsRuled second.now }
-    ensures { MatchResult result (λ dual. IsPlanned first.now second.now (frames_under dual) (overlay_of dual)) (IsDualFault first.now second.now) }
+    ensures { MatchResult result
+        (λ dual. IsPlanned first.now second.now (frames_under dual) (overlay_of dual))
+        (IsDualFault first.now second.now) }
 {
     match other_field(first, second) {
         Some(OtherField { rec, field }) => Err(DualFault::OtherList { rec, field }),
@@ -55,10 +57,10 @@ fn plan_alike(alloc: Global, first: &CueList, second: &CueList) -> Result<Dual, 
     requires first { IsRuled first.now }
     requires second { IsRuled second.now }
     requires alike { AreAlike first.now second.now }
-    ensures { MatchResult result (λ dual. IsPlanned first.now second.now (frames_under dual) (overlay_of dual)) (IsDualFault first.now second.now) }
+    ensures { MatchResult result
+        (λ dual. IsPlanned first.now second.now (frames_under dual) (overlay_of dual))
+        (IsDualFault first.now second.now) }
 {
-    let _cues = first.cues();
-    let _others = second.cues();
     match field_clash(alloc, first, second) {
         Ok(None) => plan_both(alloc, first, second),
         Ok(Some(Clash { second, first })) => Err(DualFault::FieldClash { second, first }),
@@ -69,7 +71,9 @@ fn plan_alike(alloc: Global, first: &CueList, second: &CueList) -> Result<Dual, 
 // Plans two lists that go together.
 fn plan_both(alloc: Global, first: &CueList, second: &CueList) -> Result<Dual, DualFault>
     requires { GoTogether first.now second.now }
-    ensures { MatchResult result (λ dual. IsPlanned first.now second.now (frames_under dual) (overlay_of dual)) (IsDualFault first.now second.now) }
+    ensures { MatchResult result
+        (λ dual. IsPlanned first.now second.now (frames_under dual) (overlay_of dual))
+        (IsDualFault first.now second.now) }
 {
     let placed = match place_first(alloc, first, second) {
         Ok(placed) => placed,
@@ -153,7 +157,8 @@ fn joined(
     requires together { GoTogether first.now second.now }
     requires placed { IsFirstPlaced first.now second.now placed }
     requires seconds { IsSecondPlaced first.now second.now placed seconds.now }
-    ensures { IfOk result (λ dual. IsPlanned first.now second.now (frames_under dual) (overlay_of dual)) }
+    ensures { IfOk result (λ dual. IsPlanned first.now second.now (frames_under dual)
+        (overlay_of dual)) }
 {
     let FirstPlaced { one, two, services } = placed;
     let first_one = placed_lane(alloc, one.one, &one.places)?;

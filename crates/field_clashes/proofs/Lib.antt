@@ -1,2 +1,3 @@
 pub mod CueEventLemmas
 pub mod ClashLemmas
+pub mod MeetingLemmas

@@ -1,3 +1,4 @@
+-- Believed in part: the program's answer stands on some of these definitions.
 -- Clashes of two cue lists: events of both hold one slot of a field, each the one in which it begins and the next one (CTA-608-E,
 -- control codes are sent twice).
 use Rattle.std.specs.Prelude.{◌≡◌, ◌⊎◌, ℕ, ◌+◌, ◌≤◌, ◌==◌, ◌&&◌, ◌||◌, nat_le, nat_lt, Bool, true, false, if◌then◌else◌, List, [], ◌∷◌, Option, Some, None}
@@ -9,7 +10,7 @@ use Rattle.frame_scheduler.specs.LaneEvents.{event_at}
 use Rattle.frame_scheduler.specs.Planned.{authored_channel}
 use Rattle.frame_scheduler.specs.SlotLists.{slot_cues}
 use Rattle.resumed_lanes.specs.FieldSlots.{holds}
-use Rattle.field_clashes.specs.CueEvents.{cue_events}
+use Rattle.field_clashes.specs.CueEvents.{numbered_events}
 use Rattle.field_clashes.specs.declared.clash.Clash.{Clash}
 use Rattle.field_clashes.specs.declared.cue_event.CueEvent.{CueEvent}
 
@@ -26,7 +27,7 @@ pub record IsClash (firsts seconds : List CueEvent) (second first : ℕ) : Type 
 
 -- the events of a list on a channel
 abbrev pub list_events : Listing → Chan → List CueEvent
-list_events list channel = cue_events channel (slot_cues list channel)
+list_events list channel = numbered_events channel (slot_cues list channel)
 
 -- so it is in either field
 abbrev pub IsFieldClash : Listing → Listing → ℕ → ℕ → Type 0
@@ -43,6 +44,10 @@ pub record IsLeastClash (Clashes : ℕ → ℕ → Type 0) (clash : Clash) : Typ
 abbrev pub IsLeast : (ℕ → ℕ → Type 0) → Option Clash → Type 0
 IsLeast Clashes (Some clash) = IsLeastClash Clashes clash
 IsLeast Clashes None = (second first : ℕ) → Clashes second first → ⊥
+
+-- of any two lists there is a least one, or none
+abbrev pub ALeastClashIsThereOrNone : Type 0
+ALeastClashIsThereOrNone = (one two : Listing) → (clash : Option Clash) × IsLeast (IsFieldClash one two) clash
 
 -- the order of clashes
 abbrev pub is_no_later : Clash → Clash → Bool

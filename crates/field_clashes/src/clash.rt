@@ -1,4 +1,5 @@
-ghost use Rattle.std.specs.Prelude.{◌≡◌, IfOk};
+ghost use Rattle.std.specs.Prelude.{◌≡◌, IfOk, OnOk};
+ghost use Rattle.cue_lists.specs.Listing.{IsFormed};
 ghost use Rattle.cue_lists.specs.Rules.{IsRuled};
 ghost use Rattle.field_clashes.specs.Clashes.{IsClash, IsFieldClash, IsLeast, earlier, is_no_later, list_events};
 ghost use Rattle.field_clashes.specs.CueEvents.{AreOrdered};
@@ -28,7 +29,8 @@ pub fn field_clash(
 ) -> Result<Option<Clash>, AllocError>
     requires first { IsRuled first.now }
     requires second { IsRuled second.now }
-    ensures { IfOk result (IsLeast (IsFieldClash first.now second.now)) }
+    ensures least { IfOk result (IsLeast (IsFieldClash first.now second.now)) }
+    ensures formed { OnOk result (IsFormed first.now × IsFormed second.now) }
 {
     let one = channel_clash(alloc, first, second, Chan::Cc1)?;
     let two = channel_clash(alloc, first, second, Chan::Cc3)?;
@@ -44,7 +46,9 @@ fn channel_clash(
 ) -> Result<Option<Clash>, AllocError>
     requires first { IsRuled first.now }
     requires second { IsRuled second.now }
-    ensures { IfOk result (IsLeast (IsClash (list_events first.now channel) (list_events second.now channel))) }
+    ensures least { IfOk result
+        (IsLeast (IsClash (list_events first.now channel) (list_events second.now channel))) }
+    ensures formed { OnOk result (IsFormed first.now × IsFormed second.now) }
 {
     let firsts = list_events(alloc, first, channel)?;
     let seconds = list_events(alloc, second, channel)?;
@@ -56,6 +60,7 @@ fn list_events(alloc: Global, list: &CueList, channel: Chan) -> Result<Vec<CueEv
     requires { IsRuled list.now }
     ensures events { IfOk result (λ events. events.items ≡ list_events list.now channel) }
     ensures order { IfOk result (λ events. AreOrdered events.items) }
+    ensures formed { IsFormed list.now }
 {
     cue_events(
         alloc,

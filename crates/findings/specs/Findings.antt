@@ -1,3 +1,4 @@
+-- Between crates: the program's answer stands on none of these definitions.
 -- The reason of what was found at a frame.
 use Rattle.cc_base.specs.declared.why.Why.{Why}
 use Rattle.cc_base.specs.declared.why.Why.TheVariants as why
@@ -12,3 +13,4 @@ finding_why (kind.WrongRate expected seen) = why.WrongRate
 finding_why (kind.BufferFull service) = why.BufferFull
 finding_why (kind.GridDiffers which) = why.GridDiffers
 finding_why (kind.TwoPairs seen) = why.TwoPairs
+finding_why kind.EightBits = why.EightBits

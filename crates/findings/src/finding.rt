@@ -13,7 +13,7 @@ pub enum Which {
     Service(u8),
 }
 
-/// What was found at a frame: reasons 40 to 45.
+/// What was found at a frame: reasons 40 to 46.
 #[derive(Clone, Copy, Debug, PartialEq, Eq)]
 pub enum Kind45 {
     /// The packet's counter isn't the one before plus 1 modulo 65,536 (SMPTE ST 334-2, cdp_header).
@@ -43,6 +43,9 @@ pub enum Kind45 {
     GridDiffers(Which),
     /// The frame has more than one valid field 1 triplet: so many, at least 2, where 1 is wanted (CTA-708-E, cc_data()).
     TwoPairs(u16),
+    /// Behind so many frames an ancillary packet that isn't of captions has a user word that isn't an 8-bit word with its parity bits
+    /// (SMPTE ST 291-1), so an MCC file can't carry it.
+    EightBits,
 }
 
 /// What was found at which frame.
@@ -66,6 +69,7 @@ impl Kind45 {
             Kind45::BufferFull(_) => Why::BufferFull,
             Kind45::GridDiffers(_) => Why::GridDiffers,
             Kind45::TwoPairs(_) => Why::TwoPairs,
+            Kind45::EightBits => Why::EightBits,
         }
     }
 }

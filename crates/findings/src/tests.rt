@@ -4,7 +4,7 @@ use cc_base::Rate;
 use line21_codes::Chan;
 
 #[test]
-fn findings_have_the_reasons_40_to_45(rt: HostRuntime) {
+fn findings_have_the_reasons_40_to_46(rt: HostRuntime) {
     for (kind, number, name) in [
         (
             Kind45::CounterJump {
@@ -38,6 +38,7 @@ fn findings_have_the_reasons_40_to_45(rt: HostRuntime) {
             "WrongRate",
         ),
         (Kind45::TwoPairs(2), 45, "TwoPairs"),
+        (Kind45::EightBits, 46, "EightBits"),
     ] {
         assert_eq!(rt; kind.why().number(), number);
         assert_eq!(rt; kind.why().name(), name);

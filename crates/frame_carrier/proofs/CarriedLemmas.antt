@@ -12,7 +12,7 @@ use Rattle.line21_codes.specs.declared.channels.FieldNumber.{FieldNumber}
 use Rattle.line21_codes.specs.declared.channels.FieldNumber.TheVariants.{One, Two}
 use Rattle.line21_codes.specs.declared.pairs.Pair.{Pair}
 use Rattle.cc_data.specs.declared.triplet.Triplet.{Triplet}
-use Rattle.cc_data.specs.Triplets.{all_written, filler, written}
+use Rattle.cc_data.specs.Triplets.{all_written, bytes_of_triplet, filler}
 use Rattle.cc_data.proofs.TripletLemmas.{length-all_written}
 use Rattle.cdp_packets.specs.Packets.{IsCdp}
 use Rattle.cdp_packets.specs.PacketTriplets.{packet_triplets}
@@ -61,7 +61,7 @@ marked : (valid : Bool) → (if valid then 0xFC else 0xF8) ≤ 0xFC
 marked true = omega arith
 marked false = omega arith
 
-written_bytes : (t : Triplet) → IsByteTriplet t → All IsByte (written t)
+written_bytes : (t : Triplet) → IsByteTriplet t → All IsByte (bytes_of_triplet t)
 written_bytes t is =
     All-cons IsByte ((if t.valid then 0xFC else 0xF8) + t.kind) (t.a ∷ t.b ∷ []) (omega (arith, marked t.valid, is.kind))
     (All-cons IsByte t.a (t.b ∷ []) is.a (All-cons IsByte t.b [] is.b (All-nil IsByte)))
@@ -69,7 +69,7 @@ written_bytes t is =
 all_written_bytes : (ts : List Triplet) → All IsByteTriplet ts → All IsByte (all_written ts)
 all_written_bytes [] all = All-nil IsByte
 all_written_bytes (t ∷ ts) all =
-    All-append IsByte (written t) (all_written ts) (written_bytes t (All-head IsByteTriplet t ts all)) (all_written_bytes ts (All-tail IsByteTriplet t ts all))
+    All-append IsByte (bytes_of_triplet t) (all_written ts) (written_bytes t (All-head IsByteTriplet t ts all)) (all_written_bytes ts (All-tail IsByteTriplet t ts all))
 
 -- the triplets of a frame are of bytes
 fillers_bytes : (n : ℕ) → All IsByteTriplet (replicate n filler)

@@ -1,3 +1,4 @@
+-- Believed: the program's answer stands on these definitions.
 -- The bytes of a frame's ancillary packet (SMPTE ST 334-1 and ST 334-2), by its triplets.
 use Rattle.std.specs.Prelude.{ℕ, List}
 use Rattle.cc_base.specs.declared.rate.Rate.{Rate}

@@ -1,10 +1,11 @@
+-- Believed in part: the program's answer stands on some of these definitions.
 -- How the frames of a programme are carried: the triplets of a frame in one cc_data section of a caption distribution packet
 -- (SMPTE ST 334-2) that says that captions are carried and active, with the frame's number as its counter; and that in an
 -- ancillary packet of captions (SMPTE ST 334-1).
 use Rattle.std.specs.Prelude.{◌≡◌, ℕ, zero, suc, ◌+◌, ◌%◌, List, [], ◌∷◌, ◌++◌}
 use Rattle.cc_base.specs.declared.rate.Rate.{Rate}
 use Rattle.cc_data.specs.declared.triplet.Triplet.{Triplet}
-use Rattle.cdp_packets.specs.Packets.{Packet as Frame}
+use Rattle.cdp_packets.specs.Packets.{Frame}
 use Rattle.cdp_packets.specs.Written.{cc_data_section}
 use Rattle.channel_packets.specs.Writers.{HasWritten}
 use Rattle.channel_packets.specs.Written.{packet_written}

@@ -3,22 +3,14 @@ ghost use Rattle.channel_packets.specs.Writers.{HasWritten};
 ghost use Rattle.frame_carrier.specs.CarriedBytes.{carried_bytes};
 ghost use Rattle.frame_carrier.specs.FrameTriplets.{frame_triplets};
 
-use crate::triplets::{FIELD_1, FIELD_2, frame_triplets, ten_triplets, twenty_triplets};
-use anc_words::write_packet;
+use crate::triplets::{frame_triplets, ten_triplets, twenty_triplets};
+use anc_words::{CAPTION_DID, CAPTION_SDID, write_packet};
 use arrayvec::ArrayVec;
 use cc_base::Rate;
-use cc_data::Triplet;
-use cdp_packets::{cc_section, write_cdp};
+use cc_data::{FIELD_1, FIELD_2, Triplet};
+use cdp_packets::{CAPTION_FLAGS, cc_section, write_cdp};
 use channel_packets::PacketWriter;
 use frame_scheduler::FrameBytes;
-
-/// The identifiers of ancillary packets of captions (SMPTE ST 334-1).
-const CAPTION_DID: u8 = 0x61;
-
-const CAPTION_SDID: u8 = 0x01;
-
-/// The flags of a distribution packet with cc_data alone, of an active caption service (SMPTE ST 334-2).
-const CAPTION_FLAGS: u8 = 0x43;
 
 /// Carries the frames of a programme, one call a frame, in order from frame 0 on.
 #[derive(Clone, Copy, Debug)]
@@ -48,7 +40,8 @@ impl Carrier {
     /// has service blocks, and triplets that don't count up to the rate's number (CTA-708-E).
     pub fn triplets(&mut self, frame: &FrameBytes) -> ArrayVec<Triplet, 31>
         ensures triplets { (rate : Rate) (number count : ℕ) → IsAt rate number count self.old
-            → result.items ≡ frame_triplets rate frame.now (channel_packet count frame.now.blocks.items) }
+            → result.items ≡ frame_triplets rate frame.now
+            (channel_packet count frame.now.blocks.items) }
         ensures kinds { All (λ t. t.kind < 4) result.items }
         ensures next { (rate : Rate) (number count : ℕ) → IsAt rate number count self.old
             → IsAt rate (number + 1) (count + packet_count frame.now.blocks.items) self.new }
@@ -62,7 +55,8 @@ impl Carrier {
     /// frame's number modulo 65,536 (SMPTE ST 334-1 and ST 334-2).
     pub fn words(&mut self, frame: &FrameBytes) -> ArrayVec<u8, 524>
         ensures bytes { (rate : Rate) (number count : ℕ) → IsAt rate number count self.old
-            → result.items ≡ frame_bytes rate number frame.now (channel_packet count frame.now.blocks.items) }
+            → result.items ≡ frame_bytes rate number frame.now
+            (channel_packet count frame.now.blocks.items) }
         ensures next { (rate : Rate) (number count : ℕ) → IsAt rate number count self.old
             → IsAt rate (number + 1) (count + packet_count frame.now.blocks.items) self.new }
     {
@@ -76,7 +70,8 @@ impl Carrier {
     pub fn put_words(&mut self, frame: &FrameBytes, out: &mut ArrayVec<u8, 524>)
         requires { out.old.items ≡ [] }
         ensures bytes { (rate : Rate) (number count : ℕ) → IsAt rate number count self.old
-            → out.new.items ≡ frame_bytes rate number frame.now (channel_packet count frame.now.blocks.items) }
+            → out.new.items ≡ frame_bytes rate number frame.now
+            (channel_packet count frame.now.blocks.items) }
         ensures next { (rate : Rate) (number count : ℕ) → IsAt rate number count self.old
             → IsAt rate (number + 1) (count + packet_count frame.now.blocks.items) self.new }
     {
@@ -94,7 +89,8 @@ impl Carrier {
     /// The triplets of the next channel packet, which carries these service blocks; none where there are none.
     fn channel_packet(&mut self, blocks: &[u8]) -> ArrayVec<Triplet, 64>
         requires { length blocks.now ≤ 35 }
-        ensures packet { (rate : Rate) (number count : ℕ) → IsAt rate number count self.old → result.items ≡ channel_packet count blocks.now }
+        ensures packet { (rate : Rate) (number count : ℕ) → IsAt rate number count self.old
+            → result.items ≡ channel_packet count blocks.now }
         ensures next { (rate : Rate) (number count : ℕ) → IsAt rate number count self.old
             → IsAt rate number (count + packet_count blocks.now) self.new }
         ensures few { length result.items ≤ 18 }
@@ -110,7 +106,8 @@ impl Carrier {
 
     /// Passes to the next frame.
     fn pass(&mut self)
-        ensures next { (rate : Rate) (number count : ℕ) → IsAt rate number count self.old → IsAt rate (number + 1) count self.new }
+        ensures next { (rate : Rate) (number count : ℕ) → IsAt rate number count self.old
+            → IsAt rate (number + 1) count self.new }
         ensures rate { self.new.rate ≡ self.old.rate }
     {
         self.counter = self.counter.wrapping_add(1);

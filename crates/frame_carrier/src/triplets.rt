@@ -5,16 +5,9 @@ ghost use Rattle.frame_carrier.specs.FrameTriplets.{field_triplets, frame_triple
 
 use arrayvec::ArrayVec;
 use cc_base::Rate;
-use cc_data::Triplet;
+use cc_data::{FIELD_1, FIELD_2, FILLER, Triplet};
 use frame_scheduler::FrameBytes;
 use line21_codes::Pair;
-
-/// The kinds of triplets (CTA-708-E, cc_type): the pairs of both fields, and bytes of a caption channel packet.
-pub(crate) const FIELD_1: u8 = 0;
-
-pub(crate) const FIELD_2: u8 = 1;
-
-const PACKET_DATA: u8 = 2;
 
 /// The triplets of a frame: those of the fields in which it has a pair, those of its channel packet, and triplets that don't
 /// count up to the rate's number.
@@ -51,10 +44,11 @@ fn push_pair(kind: u8, pair: Option<Pair>, triplets: &mut ArrayVec<Triplet, 31>)
 /// Appends triplets that don't count up to a number.
 fn fill(number: u8, triplets: &mut ArrayVec<Triplet, 31>)
     requires { number ≤ 31 }
-    ensures { triplets.new.items ≡ triplets.old.items ++ replicate (number - length triplets.old.items) filler }
+    ensures { triplets.new.items
+        ≡ triplets.old.items ++ replicate (number - length triplets.old.items) filler }
 {
     while triplets.len() < usize::from(number) {
-        triplets.push(filler());
+        triplets.push(FILLER);
     }
 }
 
@@ -62,7 +56,7 @@ fn fill(number: u8, triplets: &mut ArrayVec<Triplet, 31>)
 pub(crate) fn twenty_triplets(one: Pair, two: Pair) -> [Triplet; 20]
     ensures { result ≡ pair_triplet 0 one ∷ pair_triplet 1 two ∷ replicate 18 filler }
 {
-    let mut triplets = [filler(); 20];
+    let mut triplets = [FILLER; 20];
     triplets[0] = pair_triplet(FIELD_1, one);
     triplets[1] = pair_triplet(FIELD_2, two);
     triplets
@@ -72,7 +66,7 @@ pub(crate) fn twenty_triplets(one: Pair, two: Pair) -> [Triplet; 20]
 pub(crate) fn ten_triplets(kind: u8, pair: Pair) -> [Triplet; 10]
     ensures { result ≡ pair_triplet kind pair ∷ replicate 9 filler }
 {
-    let mut triplets = [filler(); 10];
+    let mut triplets = [FILLER; 10];
     triplets[0] = pair_triplet(kind, pair);
     triplets
 }
@@ -86,17 +80,5 @@ fn pair_triplet(kind: u8, pair: Pair) -> Triplet
         kind,
         a: pair.a,
         b: pair.b,
-    }
-}
-
-/// A triplet that doesn't count.
-fn filler() -> Triplet
-    ensures { result ≡ filler }
-{
-    Triplet {
-        valid: false,
-        kind: PACKET_DATA,
-        a: 0,
-        b: 0,
     }
 }

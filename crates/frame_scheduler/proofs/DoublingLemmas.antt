@@ -12,7 +12,7 @@ use Rattle.frame_scheduler.specs.declared.lane.piece.Piece.{Piece}
 use Rattle.frame_scheduler.specs.Timeline.{IsSpaced, first_of, repeat_of, repeat_at, column}
 use Rattle.frame_scheduler.specs.LaneEvents.{IsFree, AreOver, event_at}
 use Rattle.line21_author.specs.EventOrder.{AreFrom, AreApart}
-use Rattle.frame_scheduler.specs.FieldLane.{slots_of, end_of, IsAllowed, lane}
+use Rattle.frame_scheduler.specs.FieldLane.{slots_of, end_of, IsAllowedInField, lane}
 use Rattle.frame_scheduler.specs.LaneTimeline.{stands, lane_timeline}
 use Rattle.frame_scheduler.specs.LaneDoubling.{AreDoubledControls, AreEnded}
 use Rattle.frame_scheduler.specs.DoubledPairs.{IsDoubled}
@@ -106,7 +106,7 @@ two_slots p u is doubled = ap (λ (v : Unit). cond v.doubled 2 1) is ∙ ap (λ 
 pub record Begins (events : List Event) (ps : List Piece) (n : ℕ) (u : Unit) : Type 0 where
   pub piece : Piece
   pub unit_is : piece.unit ≡ u
-  pub allowed : IsAllowed events 0 piece n
+  pub allowed : IsAllowedInField events 0 piece n
   pub among : Contains ps piece
 
 -- each unit of a placement is allowed where it begins, and none begins in its slots
@@ -122,9 +122,9 @@ unit_begins events before (p ∷ ps) (f ∷ fs) n u placed is = go (unit_begins 
         let here : f ≡ n = grind (arith, nat_tests) in
         let same : Some p.unit ≡ Some u = sym (at_unit p ps f fs n true b) ∙ is in
         let it : p.unit ≡ u = cc in
-        let a : IsAllowed events 0 p f = record { behind = omega arith; loaded = placed.0.loaded; ended = placed.0.ended; free = placed.0.free } in
+        let a : IsAllowedInField events 0 p f = record { behind = omega arith; loaded = placed.0.loaded; ended = placed.0.ended; free = placed.0.free } in
         let next : eqb (n + 1) f ≡ false = grind (arith, nat_tests) in (
-          record { piece = p; unit_is = it; allowed = subst (λ m. IsAllowed events 0 p m) here a; among = (0, omega arith, refl) },
+          record { piece = p; unit_is = it; allowed = subst (λ m. IsAllowedInField events 0 p m) here a; among = (0, omega arith, refl) },
           λ doubled.
               let two : slots_of p ≡ 2 = two_slots p u it doubled in
               at_unit p ps f fs (n + 1) false next ∙

@@ -6,7 +6,7 @@ use Rattle.line21_author.specs.declared.event.Event.{Event}
 use Rattle.frame_scheduler.specs.declared.lane.piece.Piece.{Piece}
 use Rattle.placements.specs.Placing.{IsEarliest, NoLater}
 use Rattle.placements.specs.OneMore.{FitsEarlier, OneMore}
-use Rattle.frame_scheduler.specs.FieldLane.{slots_of, end_of, IsAllowed, lane}
+use Rattle.frame_scheduler.specs.FieldLane.{slots_of, end_of, IsAllowedInField, lane}
 use Rattle.placements.specs.FirstFit.{EarliestIsFirstFit}
 use Rattle.placements.proofs.FirstFitLemmas.{earliest_is_first_fit}
 use Rattle.placements.proofs.PlacingLemmas.{one_more}
@@ -16,7 +16,7 @@ pub end_push : (before : List (Piece × ℕ)) (u : Piece) (f : ℕ) → end_of (
 end_push before u f = fold-append _ _ before ((u, f) ∷ [])
 
 -- what is allowed behind an end is allowed behind an earlier one
-pub allowed_earlier : (events : List Event) (d e : ℕ) (u : Piece) (f : ℕ) → d ≤ e → IsAllowed events e u f → IsAllowed events d u f
+pub allowed_earlier : (events : List Event) (d e : ℕ) (u : Piece) (f : ℕ) → d ≤ e → IsAllowedInField events e u f → IsAllowedInField events d u f
 allowed_earlier events d e u f h a =
     record { behind = omega (arith, a.behind, h); loaded = a.loaded; ended = a.ended; free = a.free }
 

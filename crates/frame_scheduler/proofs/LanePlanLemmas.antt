@@ -6,7 +6,7 @@ use Rattle.std.specs.List.{zip}
 use Rattle.line21_codes.specs.declared.pairs.Pair.{Pair}
 use Rattle.line21_author.specs.EventOrder.{AreFrom, AreApart}
 use Rattle.line21_author.specs.declared.event.Event.{Event}
-use Rattle.frame_scheduler.specs.FieldLane.{IsAllowed, end_of, lane, slots_of}
+use Rattle.frame_scheduler.specs.FieldLane.{IsAllowedInField, end_of, lane, slots_of}
 use Rattle.placements.specs.FirstFit.{IsFirst}
 use Rattle.frame_scheduler.specs.LaneCursor.{AreUnitsFrom, AreUnitsRising, GivesSlot, IsReady}
 use Rattle.frame_scheduler.specs.LaneEvents.{event_at}
@@ -43,9 +43,9 @@ pub record Reaches (events : List Event) (us : List Piece) (units : List PlacedU
 
 -- one more unit in the first slot that is allowed for it
 reaches_push : (events : List Event) (us : List Piece) (units : List PlacedUnit) (end : ℕ) (u : Piece) (f : ℕ) → Reaches events us units end
-    → IsFirst (IsAllowed events end u) f → Reaches events (us ++ u ∷ []) (units ++ record { unit = u.unit; slot = f } ∷ []) (f + slots_of u)
+    → IsFirst (IsAllowedInField events end u) f → Reaches events (us ++ u ∷ []) (units ++ record { unit = u.unit; slot = f } ∷ []) (f + slots_of u)
 reaches_push events us units end u f r first =
-    let here : IsFirst (IsAllowed events (end_of (zip us r.slots)) u) f = subst (λ e. IsFirst (IsAllowed events e u) f) r.end_is first in
+    let here : IsFirst (IsAllowedInField events (end_of (zip us r.slots)) u) f = subst (λ e. IsFirst (IsAllowedInField events e u) f) r.end_is first in
     record {
       slots = r.slots ++ f ∷ [];
       earliest = (lane_one_more events us r.slots u r.earliest).first f here.holds here.first;
@@ -55,7 +55,7 @@ reaches_push events us units end u f r first =
 
 -- one more of the lane's units is placed
 pub reaches_next : (events : List Event) (us : List Piece) (k : ℕ) (d : Piece) (units : List PlacedUnit) (end new f : ℕ) → k < length us
-    → Reaches events (take k us) units end → IsFirst (IsAllowed events end (get_or us k d)) f → new ≡ f + slots_of (get_or us k d)
+    → Reaches events (take k us) units end → IsFirst (IsAllowedInField events end (get_or us k d)) f → new ≡ f + slots_of (get_or us k d)
     → Reaches events (take (k + 1) us) (units ++ record { unit = (get_or us k d).unit; slot = f } ∷ []) new
 reaches_next events us k d units end new f h r first after =
     subst (λ n. Reaches events (take (k + 1) us) (units ++ record { unit = (get_or us k d).unit; slot = f } ∷ []) n) (sym after)
@@ -64,11 +64,11 @@ reaches_next events us k d units end new f h r first after =
 
 -- where no slot is allowed for the next unit, its cue is the first without room
 pub reaches_none : (events : List Event) (us : List Piece) (k : ℕ) (d : Piece) (units : List PlacedUnit) (end : ℕ) → AreInCueOrder piece_cue us → k < length us
-    → Reaches events (take k us) units end → ((f : ℕ) → IsAllowed events end (get_or us k d) f → ⊥)
+    → Reaches events (take k us) units end → ((f : ℕ) → IsAllowedInField events end (get_or us k d) f → ⊥)
     → IsFirstCrowded (lane events) piece_cue us (get_or us k d).cue
 reaches_none events us k d units end order h r nowhere =
     no_room_at piece_cue (lane events) (fits_earlier events) us k d r.slots order h r.earliest (take_more us k d h)
-    (subst (λ e. (f : ℕ) → IsAllowed events e (get_or us k d) f → ⊥) r.end_is nowhere)
+    (subst (λ e. (f : ℕ) → IsAllowedInField events e (get_or us k d) f → ⊥) r.end_is nowhere)
 
 -- all of the lane's units are placed
 pub reaches_all : (events : List Event) (us : List Piece) (k : ℕ) (units : List PlacedUnit) (end : ℕ) → length us ≤ k → Reaches events (take k us) units end

@@ -12,7 +12,7 @@ use Rattle.line21_author.specs.CueEvents.{channel_events}
 use Rattle.line21_author.specs.declared.event.Event.{Event}
 use Rattle.frame_scheduler.specs.declared.lane.piece.Piece.{Piece}
 use Rattle.frame_scheduler.specs.ChannelLane.{channel_pieces}
-use Rattle.frame_scheduler.specs.FieldLane.{IsAllowed, end_of, lane, slots_of}
+use Rattle.frame_scheduler.specs.FieldLane.{IsAllowedInField, end_of, lane, slots_of}
 use Rattle.placements.specs.FirstFit.{IsFirst}
 use Rattle.frame_scheduler.specs.LaneEvents.{IsFree}
 use Rattle.frame_scheduler.specs.LaneFront.{AreFree}
@@ -83,7 +83,7 @@ all_free_decided events (suc slots) slot =
     ]
 
 -- whether the unit may begin at the slot
-allowed_decided : (events : List Event) (end : ℕ) (piece : Piece) (slot : ℕ) → Decided (IsAllowed events end piece slot)
+allowed_decided : (events : List Event) (end : ℕ) (piece : Piece) (slot : ℕ) → Decided (IsAllowedInField events end piece slot)
 allowed_decided events end piece slot =
     elim (cases_lt slot end) [
       | inl before ↦ inr (λ allowed. let behind = allowed.behind in omega arith)

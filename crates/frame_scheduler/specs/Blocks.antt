@@ -1,3 +1,4 @@
+-- Believed in part: the program's answer stands on some of these definitions.
 -- The service blocks of a frame (CTA-708-E, section 6.2), in ascending order of service.
 use Rattle.std.specs.Prelude.{ℕ, ◌+◌, List, [], ◌∷◌, sum_by}
 use Rattle.std.specs.List.{flat_map}

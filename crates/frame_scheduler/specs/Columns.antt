@@ -1,3 +1,4 @@
+-- Believed: the program's answer stands on these definitions.
 -- The columns of a plan: what each frame carries, and the pairs of a field, frame by frame.
 use Rattle.std.specs.Prelude.{ℕ, zero, suc, List, [], ◌++◌, Option, option_to_list}
 use Rattle.line21_codes.specs.declared.channels.FieldNumber.{FieldNumber}

@@ -1,3 +1,4 @@
+-- Believed: the program's answer stands on these definitions.
 -- Doubled control pairs: in a field every longest stretch of equal control pairs in neighbouring slots has an
 -- even number of pairs (CTA-608-E, 47 CFR 79.101).
 use Rattle.std.specs.Prelude.{◌≡◌, ℕ, ◌%◌, List, [], ◌∷◌, ◌++◌, IsTrue, replicate}

@@ -1,3 +1,4 @@
+-- Believed in part: the program's answer stands on some of these definitions.
 -- What the frames of a placed list carry from its end on: nothing.
 use Rattle.std.specs.Prelude.{◌≡◌, ℕ, ◌≤◌, if◌then◌else◌, Option, Some, None, []}
 use Rattle.cc_base.specs.declared.rate.Rate.{Rate}

@@ -1,3 +1,4 @@
+-- Between crates: the program's answer stands on none of these definitions.
 -- The events of a channel of a cue list that keeps the rules lie apart: each is sent in two slots, and
 -- no two need one slot (CTA-608-E, control codes are sent twice).
 use Rattle.line21_codes.specs.declared.channels.Chan.{Chan}

@@ -1,3 +1,4 @@
+-- Between crates: the program's answer stands on none of these definitions.
 -- The cursor of a field's lane: what it knows at its slot of the units and events that are to come.
 use Rattle.std.specs.Prelude.{◌≡◌, ℕ, ◌+◌, ◌<◌, ◌≤◌, List, [], ◌∷◌, Option, Some, None, length, drop, ⊤}
 use Rattle.line21_codes.specs.declared.pairs.Pair.{Pair}

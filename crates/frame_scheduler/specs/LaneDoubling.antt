@@ -1,3 +1,4 @@
+-- Between crates: the program's answer stands on none of these definitions.
 -- What makes the control pairs of a field's lane doubled (CTA-608-E, 47 CFR 79.101).
 use Rattle.std.specs.Prelude.{◌≡◌, ℕ, ◌≤◌, List, IsTrue, All}
 use Rattle.line21_codes.specs.ControlPairs.{is_control}

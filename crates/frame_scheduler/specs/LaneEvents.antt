@@ -1,3 +1,4 @@
+-- Believed in part: the program's answer stands on some of these definitions.
 -- Events of a field's lane: control pairs at slots of their own, each in that slot and in the next.
 use Rattle.std.specs.Prelude.{◌≢◌, ℕ, ◌+◌, ◌≤◌, ◌==◌, true, List, [], ◌∷◌, Some, None, if◌then◌else◌, ⊤}
 use Rattle.line21_author.specs.declared.event.Event.{Event}

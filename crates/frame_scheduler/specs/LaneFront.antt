@@ -1,3 +1,4 @@
+-- Between crates: the program's answer stands on none of these definitions.
 -- The front of the units placed so far in a field's lane.
 use Rattle.std.specs.Prelude.{ℕ, ◌+◌, ◌<◌, ◌≤◌, List, take, length}
 use Rattle.line21_author.specs.declared.event.Event.{Event}

@@ -1,3 +1,4 @@
+-- Between crates: the program's answer stands on none of these definitions.
 -- Some of the lanes of a list: the first cue without room among them.
 use Rattle.std.specs.Prelude.{ℕ, ◌<◌, ⊤}
 use Rattle.cue_lists.specs.Listing.{Listing}

@@ -1,3 +1,4 @@
+-- Between crates: the program's answer stands on none of these definitions.
 -- One cue alone in a field's lane.
 use Rattle.std.specs.Prelude.{◌≡◌, ℕ, ◌<◌, List, length, All, sum_by}
 use Rattle.line21_author.specs.EventOrder.{AreFrom}

@@ -1,3 +1,4 @@
+-- Between crates: the program's answer stands on none of these definitions.
 -- The lanes of services that are placed.
 use Rattle.std.specs.Prelude.{◌≡◌, ℕ, zero, suc, is_some, if◌then◌else◌, List, [], ◌∷◌, ◌++◌, ⊤, Result, Ok, Err, Vec}
 use Rattle.std.specs.Global.{Global}

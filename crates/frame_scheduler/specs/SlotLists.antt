@@ -1,3 +1,4 @@
+-- Believed: the program's answer stands on these definitions.
 -- A cue list in slots: on each channel, the cues with their times in slots of the channel's field.
 use Rattle.std.specs.Prelude.{ℕ, List}
 use Rattle.line21_codes.specs.declared.channels.Chan.{Chan}

@@ -1,3 +1,4 @@
+-- Between crates: the program's answer stands on none of these definitions.
 -- Placements in slots and in frames. Each slot of a field lies in a frame, a later one in a later frame: the earliest placement
 -- in slots is the earliest in the frames of these slots.
 use Rattle.std.specs.Prelude.{◌≡◌, ℕ, ◌<◌, List, map}

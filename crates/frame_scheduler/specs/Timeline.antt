@@ -1,3 +1,4 @@
+-- Believed in part: the program's answer stands on some of these definitions.
 -- Timelines: what begins at each slot of a field, and the pair that the slot has by that (CTA-608-E, 47 CFR 79.101).
 use Rattle.std.specs.Prelude.{◌≡◌, ℕ, List, [], ◌∷◌, ◌++◌, Option, Some, None, if◌then◌else◌, unwrap_or, suc, zero}
 use Rattle.std.specs.Option.{option_map}

@@ -26,7 +26,8 @@ fn push_block(service: &mut PlacedService, blocks: &mut ArrayVec<u8, 35>)
     requires small { service.old.frame + 1 < 2 ^ 32 }
     requires numbered { IsNumbered service.old }
     requires room { length blocks.old.items + service.old.share + 1 ≤ 35 }
-    ensures block { blocks.new.items ≡ blocks.old.items ++ lane_block service.old.frame service.old }
+    ensures block { blocks.new.items
+        ≡ blocks.old.items ++ lane_block service.old.frame service.old }
     ensures room { length blocks.new.items ≤ length blocks.old.items + service.old.share + 1 }
     ensures moved { service.new ≡ moved_on service.old }
 {

@@ -21,7 +21,8 @@ pub(crate) fn pieces(
 ) -> Result<Vec<Piece>, AllocError>
     requires formed { All IsCueFormed cues.now }
     requires few { length cues.now ≤ most_cues }
-    ensures { IfOk result (λ pieces. pieces.items ≡ channel_pieces channel (cues_in_slots cadence cues.now)) }
+    ensures { IfOk result (λ pieces. pieces.items
+        ≡ channel_pieces channel (cues_in_slots cadence cues.now)) }
 {
     let mut pieces = Vec::new(alloc);
     for (index, cue) in cues.iter().enumerate() {
@@ -41,7 +42,8 @@ fn push_cue(
     cadence: Cadence,
 ) -> Result<(), AllocError>
     requires { IsCueFormed cue.now }
-    ensures { OnOk result (pieces.new.items ≡ pieces.old.items ++ cue_pieces number (timed_in_slots cadence cue.now)) }
+    ensures { OnOk result (pieces.new.items
+        ≡ pieces.old.items ++ cue_pieces number (timed_in_slots cadence cue.now)) }
 {
     let load = cadence.slot_from(cue.load);
     let until = cadence.slot_from(cue.show);

@@ -36,10 +36,12 @@ pub trait Frames {
 
     /// What the next frame carries; None exactly after the last one.
     fn next(&mut self) -> Option<FrameBytes>
-        ensures left { MatchOption result (left self.old ≡ 0) (λ _. left self.new + 1 ≡ left self.old) }
+        ensures left { MatchOption result (left self.old ≡ 0)
+            (λ _. left self.new + 1 ≡ left self.old) }
         ensures ends { IfNone result (left self.new ≡ 0) }
         ensures gives { (columns : Columns) (frame : ℕ) → Gives columns frame self.old
-            → IfSome result (λ bytes. (bytes ≡ columns frame) × Gives columns (frame + 1) self.new) };
+            → IfSome result (λ bytes. (bytes ≡ columns frame)
+            × Gives columns (frame + 1) self.new) };
 }
 
 /// The frames of a cue list in order, in which every unit stands in its earliest placement. No frame is stored.
@@ -119,9 +121,11 @@ fn next_pair(
     frame: u32,
 ) -> Option<Pair>
     requires index { index < 2 }
-    requires within { (lane : Planned) → slice_get lanes.old index ≡ Some lane → lane.slot + 1 < 2 ^ 32 }
+    requires within { (lane : Planned) → slice_get lanes.old index ≡ Some lane
+        → lane.slot + 1 < 2 ^ 32 }
     ensures { (lane : Planned) → slice_get lanes.old index ≡ Some lane
-        → (result ≡ given_in cadence frame lane) × (lanes.new ≡ slice_set lanes.old index (behind_frame cadence frame lane)) }
+        → (result ≡ given_in cadence frame lane)
+        × (lanes.new ≡ slice_set lanes.old index (behind_frame cadence frame lane)) }
 {
     if cadence.has_slot_in(frame) {
         Some(lanes[index].next())

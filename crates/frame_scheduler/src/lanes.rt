@@ -20,7 +20,7 @@ use crate::channel::pieces;
 use crate::frames::Plan;
 use crate::lane::placed::{FieldLane, PlacedLane};
 use cc_base::Rate;
-use cue_lists::{Cue, CueList};
+use cue_lists::{Cue, CueList, LAST_SERVICE};
 use dtvcc_author::captions;
 use line21_author::events;
 use line21_codes::Chan;
@@ -28,9 +28,6 @@ use line21_slots::Cadence;
 use placements::PlanFault;
 use service_lanes::{PlacedService, ServiceLane, chunks};
 use std::alloc::Global;
-
-/// The last service that a list may have a share of.
-const LAST_SERVICE: u8 = 6;
 
 /// Places the units of a cue list that keeps the rules: each in the first slot or frame that its cue, the units before it in its
 /// lane and the lane's events allow. NoRoom has the first cue whose units, with those of its lane before it, have no
@@ -90,8 +87,12 @@ fn placed_service(
     requires kept { (frames : ℕ) × AreKept rate frames (service_captions rate service cues.now) }
     requires least { 8 ≤ share }
     requires most { share ≤ 31 }
-    ensures placed { IfOk result (IsServicePlan service share (service_captions rate service cues.now) (service_chunks rate service cues.now)) }
-    ensures fault { IfErr result (IsLaneFault share (service_captions rate service cues.now) (service_chunks rate service cues.now)) }
+    ensures placed { IfOk result
+        (IsServicePlan service share (service_captions rate service cues.now)
+        (service_chunks rate service cues.now)) }
+    ensures fault { IfErr result
+        (IsLaneFault share (service_captions rate service cues.now)
+        (service_chunks rate service cues.now)) }
 {
     let captions = match captions(alloc, rate, cues, service) {
         Ok(captions) => captions,
@@ -158,10 +159,13 @@ fn placed_channel(
 ) -> Result<PlacedLane, PlanFault>
     requires formed { All IsCueFormed cues.now }
     requires few { length cues.now ≤ most_cues }
-    requires apart { AreApart (channel_events channel (cues_in_slots (cadence_of rate channel) cues.now)) }
-    ensures placed { IfOk result (IsPlanOf (channel_events channel (cues_in_slots (cadence_of rate channel) cues.now))
+    requires apart { AreApart
+        (channel_events channel (cues_in_slots (cadence_of rate channel) cues.now)) }
+    ensures placed { IfOk result
+        (IsPlanOf (channel_events channel (cues_in_slots (cadence_of rate channel) cues.now))
         (channel_pieces channel (cues_in_slots (cadence_of rate channel) cues.now))) }
-    ensures fault { IfErr result (LaneFault (channel_events channel (cues_in_slots (cadence_of rate channel) cues.now))
+    ensures fault { IfErr result
+        (LaneFault (channel_events channel (cues_in_slots (cadence_of rate channel) cues.now))
         (channel_pieces channel (cues_in_slots (cadence_of rate channel) cues.now))) }
 {
     let cadence = Cadence::of(rate, channel);

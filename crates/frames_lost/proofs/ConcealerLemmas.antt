@@ -2,7 +2,7 @@
 use Rattle.std.proofs.Common.{◌∙◌, ℕ, List, ap}
 use Rattle.line21_codes.specs.declared.channels.FieldNumber.{FieldNumber}
 use Rattle.line21_codes.specs.declared.channels.FieldNumber.TheVariants.{One, Two}
-use Rattle.cdp_packets.specs.Packets.{Packet as Frame}
+use Rattle.cdp_packets.specs.Packets.{Frame}
 use Rattle.line21_screen.specs.Grid.{Grid}
 use Rattle.cue_lists.specs.Listing.{Listing}
 use Rattle.frame_scheduler.specs.Planned.{authored_channel}

@@ -5,7 +5,7 @@ use Rattle.std.specs.List.{AllByRecursion, range_with_len}
 use Rattle.std.proofs.lemmas.Bool.Decides.{nat_tests}
 use Rattle.std.proofs.lemmas.List.{map-append, reverse-append, reverse-reverse}
 use Rattle.cc_base.specs.declared.rate.Rate.{Rate}
-use Rattle.cdp_packets.specs.Packets.{Packet as Frame}
+use Rattle.cdp_packets.specs.Packets.{Frame}
 use Rattle.frame_scheduler.specs.Columns.{Columns}
 use Rattle.frame_carrier.specs.Carrying.{column_packets}
 use Rattle.services_carried.proofs.ToldLemmas.{packets_more}

@@ -9,9 +9,9 @@ use Rattle.cue_lists.specs.Listing.{IsFormed, Listing}
 use Rattle.cue_lists.specs.Rules.{IsRuled}
 use Rattle.cue_lists.specs.declared.lane.Lane.TheVariants.{Service}
 use Rattle.line21_screen.specs.Meaning.{after}
-use Rattle.cdp_packets.specs.Packets.{Packet as Frame}
+use Rattle.cdp_packets.specs.Packets.{Frame}
 use Rattle.words_files.specs.Received.{received_pairs}
-use Rattle.dtvcc_screen.specs.Meaning.{Byte, Event, Served, Tick, after as after_events, start}
+use Rattle.dtvcc_screen.specs.Meaning.{Byte, Event, Served, Tick, served_after as after_events, start}
 use Rattle.dtvcc_screen.specs.Shown.{grids}
 use Rattle.services_files.specs.Events.{service_events}
 use Rattle.authored_grids.specs.AuthoredServiceGrid.{authored_windows}

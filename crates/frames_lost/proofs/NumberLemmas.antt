@@ -1,10 +1,10 @@
 -- Counters tell how far a frame that came is behind the one before it, as fewer than 65,536 are missing between them.
 use Rattle.std.proofs.Common.{◌≡◌, ◌∙◌, ℕ, suc, ◌+◌, ◌-◌, ◌%◌, ◌<◌, ◌≤◌, ◌==◌, if◌then◌else◌, Bool, true, false, List, [], ◌∷◌, ◌++◌, map, refl, ap, arith}
 use Rattle.std.proofs.lemmas.Bool.Decides.{nat_tests}
-use Rattle.cdp_packets.specs.Packets.{Packet as Frame}
+use Rattle.cdp_packets.specs.Packets.{Frame}
 use Rattle.cue_lists.specs.Listing.{Listing}
 use Rattle.frame_scheduler.specs.Planned.{Placement, columns_of}
-use Rattle.cc_conceal.specs.Concealed.{distance, missing_before, number_behind}
+use Rattle.cc_conceal.specs.Concealed.{distance, frame_number_behind, missing_before}
 use Rattle.frames_lost.specs.Delivered.{AreDelivered, packet_of}
 use Rattle.frames_lost.specs.Numbers.{FramesAreNumbered, MissingAreCounted, last_of}
 
@@ -32,13 +32,13 @@ module _ (list : Listing) (placed : Placement) where
   abbrev packet : ℕ → Frame
   packet = packet_of list.rate (columns_of list placed)
 
-  numbers : (k : ℕ) (ks : List ℕ) → AreDelivered (k ∷ ks) → number_behind k (packet k) (map packet ks) ≡ last_of k ks
+  numbers : (k : ℕ) (ks : List ℕ) → AreDelivered (k ∷ ks) → frame_number_behind k (packet k) (map packet ks) ≡ last_of k ks
   numbers k [] delivered = refl
   numbers k (l ∷ ks) delivered =
       let low : k < l = delivered.0 in
       let next : k + distance (k % 65536) (l % 65536) ≡ l =
       ap (λ (d : ℕ). k + d) (distance_is k l low delivered.1) ∙ omega arith in
-      ap (λ (n : ℕ). number_behind n (packet l) (map packet ks)) next ∙ numbers l ks delivered.2
+      ap (λ (n : ℕ). frame_number_behind n (packet l) (map packet ks)) next ∙ numbers l ks delivered.2
 
   missing : (earlier : List ℕ) (former frame : ℕ) → AreDelivered (earlier ++ former ∷ frame ∷ [])
       → suc former + missing_before (map packet (earlier ++ former ∷ frame ∷ [])) ≡ frame
@@ -52,7 +52,7 @@ module _ (list : Listing) (placed : Placement) where
 pub frames_numbered : FramesAreNumbered
 frames_numbered list placed first others delivered low =
     let own : first % 65536 ≡ first = grind (arith, nat_tests) in
-    ap (λ (n : ℕ). number_behind n (packet_of list.rate (columns_of list placed) first) (map (packet_of list.rate (columns_of list placed)) others)) own
+    ap (λ (n : ℕ). frame_number_behind n (packet_of list.rate (columns_of list placed) first) (map (packet_of list.rate (columns_of list placed)) others)) own
     ∙ numbers list placed first others delivered
 
 pub missing_counted : MissingAreCounted

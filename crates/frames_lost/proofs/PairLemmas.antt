@@ -16,12 +16,12 @@ use Rattle.line21_codes.specs.declared.pairs.Pair.{Pair}
 use Rattle.line21_codes.specs.NullPairs.{null_pair}
 use Rattle.line21_codes.specs.Parity.{is_odd}
 use Rattle.line21_codes.specs.Writable.{IsWritable}
-use Rattle.line21_codes.specs.Writing.{written}
+use Rattle.line21_codes.specs.Writing.{pair_of_code}
 use Rattle.line21_codes.proofs.CodeLemmas.{written-odd}
 use Rattle.cue_lists.specs.Listing.{IsFormed, Listing}
 use Rattle.cue_lists.specs.declared.lane.Lane.TheVariants.{Channel}
 use Rattle.line21_slots.specs.Cadences.{cadence_of, slot_in}
-use Rattle.cdp_packets.specs.Packets.{Packet as Frame}
+use Rattle.cdp_packets.specs.Packets.{Frame}
 use Rattle.cdp_packets.specs.PacketTriplets.{packet_triplets}
 use Rattle.words_files.specs.Received.{field_pairs, received_pairs}
 use Rattle.frame_scheduler.specs.ChannelLane.{channel_slot}
@@ -54,9 +54,9 @@ pairs_since rate columns n carried in_field since (suc count) =
 abbrev IsPlain : Pair → Type 0
 IsPlain pair = concealed pair ≡ pair
 
-written_plain : (in_field : FieldNumber) (code : Code) → IsWritable code → IsForFirst code → IsPlain (written in_field code)
+written_plain : (in_field : FieldNumber) (code : Code) → IsWritable code → IsForFirst code → IsPlain (pair_of_code in_field code)
 written_plain in_field code writable first =
-    let odd = and_parts (is_odd (written in_field code).a) (is_odd (written in_field code).b) (written-odd in_field code writable) in
+    let odd = and_parts (is_odd (pair_of_code in_field code).a) (is_odd (pair_of_code in_field code).b) (written-odd in_field code writable) in
     let a = odd.0 in
     let b = odd.1 in
     rw (a, b) refl

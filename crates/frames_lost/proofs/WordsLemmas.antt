@@ -6,7 +6,7 @@ use Rattle.std.specs.Prelude.{◌||◌, IfSome, Option}
 use Rattle.std.specs.List.{flat_map}
 use Rattle.cc_base.specs.declared.rate.Rate.{Rate}
 use Rattle.cc_data.specs.declared.triplet.Triplet.{Triplet}
-use Rattle.cdp_packets.specs.Packets.{Packet as Frame}
+use Rattle.cdp_packets.specs.Packets.{Frame}
 use Rattle.cdp_packets.specs.PacketTriplets.{packet_triplets}
 use Rattle.channel_packets.specs.ChannelPackets.{ChannelPacket, channel_triplets, continues_packet, starts}
 use Rattle.channel_packets.proofs.LawLemmas.{packets-same}

@@ -1,3 +1,4 @@
+-- Between crates: the program's answer stands on none of these definitions.
 -- What a concealing receiver shows of a placed list of which frames are lost: it is reset behind each loss, and what is authored is seen
 -- again on each channel and in each service, from the SHOW of a cue on that resynchronises it (CTA-608-E; 47 CFR 79.101; CTA-708-E,
 -- caption windows; SMPTE ST 334-2).
@@ -7,7 +8,7 @@ use Rattle.line21_codes.specs.declared.channels.Chan.TheVariants.{Cc2, Cc4}
 use Rattle.line21_codes.specs.declared.channels.FieldNumber.{FieldNumber}
 use Rattle.line21_codes.specs.declared.channels.FieldNumber.TheVariants.{One, Two}
 use Rattle.line21_codes.specs.declared.styles.Cell.{Cell}
-use Rattle.cdp_packets.specs.Packets.{Packet as Frame}
+use Rattle.cdp_packets.specs.Packets.{Frame}
 use Rattle.words_files.specs.Offences.{IsFileUnder}
 use Rattle.services_files.specs.CaptionChannel.{caption_channel}
 use Rattle.dtvcc_windows.specs.Showing.{ShownWindow}

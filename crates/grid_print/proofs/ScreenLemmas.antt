@@ -10,7 +10,7 @@ use Rattle.cc_receiver.specs.ReceiverGrids.{ShowsWindows, TurnedWindows}
 use Rattle.cc_receiver.specs.Receivers.{displayed_grid}
 use Rattle.cc_receiver.specs.declared.receiver.Receiver.{Receiver}
 use Rattle.cc_receiver.proofs.ReceivedLemmas.{shown_received}
-use Rattle.cdp_packets.specs.Packets.{Packet as Frame}
+use Rattle.cdp_packets.specs.Packets.{Frame}
 use Rattle.dtvcc_windows.specs.Showing.{ShownWindow}
 use Rattle.line21_codes.specs.declared.channels.Chan.{Chan}
 use Rattle.line21_codes.specs.declared.channels.Chan.TheVariants.{Cc1, Cc2, Cc3, Cc4}

@@ -1,3 +1,4 @@
+-- Believed: the program's answer stands on these definitions.
 -- The texts of the grids of CC1 to CC4, and of the windows of services.
 use Rattle.std.specs.Prelude.{ℕ, ◌==◌, ◌++◌, ◌||◌, Bool, Option, if◌then◌else◌, List, [], ◌∷◌, codes, decimal, encode_utf8_all, length}
 use Rattle.std.specs.List.{flat_map, list_any, range_with_len}

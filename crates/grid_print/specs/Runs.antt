@@ -1,3 +1,4 @@
+-- Believed in part: the program's answer stands on some of these definitions.
 -- The runs of a grid: by row, then column, the longest stretches of neighbouring cells of one row with one style.
 use Rattle.std.specs.Prelude.{ℕ, List}
 use Rattle.cell_runs.specs.Runs.{Run, row_runs, rows_runs}

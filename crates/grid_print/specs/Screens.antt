@@ -1,6 +1,7 @@
+-- Believed in part: the program's answer stands on some of these definitions.
 -- What a viewer sees behind frames: the grid of each channel of line 21, and the windows of each service of DTVCC (CTA-608-E; CTA-708-E).
 use Rattle.std.specs.Prelude.{◌≡◌, ◌<◌, ℕ, List, Option}
-use Rattle.cdp_packets.specs.Packets.{Packet as Frame}
+use Rattle.cdp_packets.specs.Packets.{Frame}
 use Rattle.cc_receiver.specs.ReceivedServices.{received_windows}
 use Rattle.cc_receiver.specs.Receivers.{HasReceived}
 use Rattle.cc_receiver.specs.declared.receiver.Receiver.{Receiver}

@@ -1,3 +1,4 @@
+-- Between crates: the program's answer stands on none of these definitions.
 -- What was shown last.
 use Rattle.std.specs.Prelude.{◌-◌}
 use Rattle.line21_codes.specs.declared.channels.Chan.{Chan}

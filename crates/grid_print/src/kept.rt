@@ -52,7 +52,8 @@ impl Kept {
     /// Keeps what is seen of a service, and says whether that differs from what was kept.
     pub(crate) fn keep<G: Grids>(&mut self, r: &G, service: u8) -> bool
         requires { IsService service }
-        ensures kept { (seen : ℕ → ℕ → Option ShownWindow) → G.shows r.now seen → HasKept (seen service) self.old self.new }
+        ensures kept { (seen : ℕ → ℕ → Option ShownWindow) → G.shows r.now seen
+            → HasKept (seen service) self.old self.new }
         ensures told { result ≡ self.new.changed }
     {
         if !self.used && !r.is_used(service) {
@@ -71,7 +72,8 @@ fn keep_windows<G: Grids>(windows: &mut [Window], r: &G, service: u8) -> bool
     requires service { IsService service }
     requires eight { length windows.old ≡ 8 }
     ensures { (seen : ℕ → ℕ → Option ShownWindow) → G.shows r.now seen
-        → KeepsWindows (seen service) 8 (windows_seen windows.old) (windows_seen windows.new) result }
+        → KeepsWindows (seen service) 8 (windows_seen windows.old)
+        (windows_seen windows.new) result }
 {
     let mut changed = false;
     for id in 0..windows.len() {
@@ -84,8 +86,10 @@ fn keep_windows<G: Grids>(windows: &mut [Window], r: &G, service: u8) -> bool
 // Keeps what is seen of the window of an id, and says whether that differs from what was kept.
 fn keep_window<G: Grids>(kept: &mut Window, r: &G, service: u8, id: u8) -> bool
     requires { IsService service }
-    ensures told { (seen : ℕ → ℕ → Option ShownWindow) → G.shows r.now seen → result ≡ differs (shown (window_of kept.old)) (seen service id) }
-    ensures kept { (seen : ℕ → ℕ → Option ShownWindow) → G.shows r.now seen → shown (window_of kept.new) ≡ seen service id }
+    ensures told { (seen : ℕ → ℕ → Option ShownWindow) → G.shows r.now seen
+        → result ≡ differs (shown (window_of kept.old)) (seen service id) }
+    ensures kept { (seen : ℕ → ℕ → Option ShownWindow) → G.shows r.now seen
+        → shown (window_of kept.new) ≡ seen service id }
 {
     match seen(r, service, id) {
         None => hide(kept),

@@ -14,5 +14,6 @@ pub fn runs_are_the_longest_stretches()
 
 /// A grid has no run just where no place of it has a cell.
 pub fn grids_without_a_run_are_empty()
-    ensures { (grid : Grid) → (length (runs grid) ≡ 0) ↔ ((row col : ℕ) → in_grid row col ≡ true → grid row col ≡ None) }
+    ensures { (grid : Grid) → (length (runs grid) ≡ 0)
+        ↔ ((row col : ℕ) → in_grid row col ≡ true → grid row col ≡ None) }
 {}

@@ -11,7 +11,7 @@ mod service;
 mod shown;
 mod text;
 
-pub use print::put_all;
+pub use print::{put_all, put_all_of};
 pub use shown::Shown;
 
 #[cfg(test)]

@@ -10,13 +10,12 @@ ghost use Rattle.grid_print.specs.GridTexts.{shown_service, shown_services};
 
 use cc_base::Sink;
 use cc_receiver::Grids;
+use dtvcc_services::SERVICES;
 use dtvcc_windows::Window;
 use text_output::Gathered;
 use window_texts::write_window;
 
-/// The services 1 to 63, and the windows 0 to 7 of each (CTA-708-E).
-pub(crate) const SERVICES: usize = 63;
-
+/// The windows 0 to 7 of a service (CTA-708-E).
 pub(crate) const WINDOWS: u8 = 8;
 
 /// The service at a place among all.
@@ -32,8 +31,10 @@ pub(crate) fn service_at(place: usize) -> u8
 pub(crate) fn seen<G: Grids>(r: &G, service: u8, id: u8) -> Option<&Window>
     requires { IsService service }
     ensures seen { (seen : ℕ → ℕ → Option ShownWindow) → G.shows r.now seen
-        → MatchOption result (seen service id ≡ None) (λ window. seen service id ≡ shown (window_of window.now)) }
-    ensures shown { IfSome result (λ window. shown (window_of window.now) ≡ Some (as_shown (state_of window.now))) }
+        → MatchOption result (seen service id ≡ None)
+        (λ window. seen service id ≡ shown (window_of window.now)) }
+    ensures shown { IfSome result
+        (λ window. shown (window_of window.now) ≡ Some (as_shown (state_of window.now))) }
     ensures live { IfSome result (λ window. IsTrue (is_live window.now)) }
 {
     match r.window(service, id) {
@@ -51,7 +52,8 @@ pub(crate) fn seen<G: Grids>(r: &G, service: u8, id: u8) -> Option<&Window>
 // Whether the window of an id of a service is shown.
 fn is_seen<G: Grids>(r: &G, service: u8, id: u8) -> bool
     requires { IsService service }
-    ensures { (seen : ℕ → ℕ → Option ShownWindow) → G.shows r.now seen → result ≡ is_some (seen service id) }
+    ensures { (seen : ℕ → ℕ → Option ShownWindow) → G.shows r.now seen
+        → result ≡ is_some (seen service id) }
 {
     match r.window(service, id) {
         Some(window) => window.is_shown(),
@@ -62,7 +64,8 @@ fn is_seen<G: Grids>(r: &G, service: u8, id: u8) -> bool
 // The number of windows of a service that are shown.
 fn seen_count<G: Grids>(r: &G, service: u8) -> u32
     requires { IsService service }
-    ensures { (seen : ℕ → ℕ → Option ShownWindow) → G.shows r.now seen → result ≡ length (shown_ids (seen service)) }
+    ensures { (seen : ℕ → ℕ → Option ShownWindow) → G.shows r.now seen
+        → result ≡ length (shown_ids (seen service)) }
 {
     let mut count = 0;
     for id in 0..WINDOWS {
@@ -76,9 +79,12 @@ fn seen_count<G: Grids>(r: &G, service: u8) -> u32
 /// Writes the text of a service: its name, the number of its windows that are shown, and their texts by id.
 pub(crate) fn write_service<G: Grids, O: Sink>(r: &G, service: u8, text: &mut Gathered, out: &mut O)
     requires { IsService service }
-    ensures some { WritesSome (page text.old (O.written out.old) (O.faults out.old)) (page text.new (O.written out.new) (O.faults out.new)) }
+    ensures some { WritesSome (page text.old (O.written out.old) (O.faults out.old))
+        (page text.new (O.written out.new) (O.faults out.new)) }
     ensures text { (seen : ℕ → ℕ → Option ShownWindow) → G.shows r.now seen
-        → Writes (page text.old (O.written out.old) (O.faults out.old)) (page text.new (O.written out.new) (O.faults out.new)) (service_text service (seen service)) }
+        → Writes (page text.old (O.written out.old) (O.faults out.old))
+        (page text.new (O.written out.new) (O.faults out.new))
+        (service_text service (seen service)) }
 {
     text.write(b"S", out);
     text.write_number(u32::from(service), out);
@@ -91,9 +97,12 @@ pub(crate) fn write_service<G: Grids, O: Sink>(r: &G, service: u8, text: &mut Ga
 // Writes the texts of a service's windows that are shown.
 fn write_windows<G: Grids, O: Sink>(r: &G, service: u8, text: &mut Gathered, out: &mut O)
     requires { IsService service }
-    ensures some { WritesSome (page text.old (O.written out.old) (O.faults out.old)) (page text.new (O.written out.new) (O.faults out.new)) }
+    ensures some { WritesSome (page text.old (O.written out.old) (O.faults out.old))
+        (page text.new (O.written out.new) (O.faults out.new)) }
     ensures text { (seen : ℕ → ℕ → Option ShownWindow) → G.shows r.now seen
-        → Writes (page text.old (O.written out.old) (O.faults out.old)) (page text.new (O.written out.new) (O.faults out.new)) (flat_map (λ one. window_text one.0 one.1) (shown_ids (seen service))) }
+        → Writes (page text.old (O.written out.old) (O.faults out.old))
+        (page text.new (O.written out.new) (O.faults out.new))
+        (flat_map (λ one. window_text one.0 one.1) (shown_ids (seen service))) }
 {
     for id in 0..WINDOWS {
         if let Some(window) = seen(r, service, id) {
@@ -105,9 +114,11 @@ fn write_windows<G: Grids, O: Sink>(r: &G, service: u8, text: &mut Gathered, out
 // Writes the text of a service, if a window of it is shown.
 fn write_if_shown<G: Grids, O: Sink>(r: &G, service: u8, text: &mut Gathered, out: &mut O)
     requires { IsService service }
-    ensures some { WritesSome (page text.old (O.written out.old) (O.faults out.old)) (page text.new (O.written out.new) (O.faults out.new)) }
+    ensures some { WritesSome (page text.old (O.written out.old) (O.faults out.old))
+        (page text.new (O.written out.new) (O.faults out.new)) }
     ensures text { (seen : ℕ → ℕ → Option ShownWindow) → G.shows r.now seen
-        → Writes (page text.old (O.written out.old) (O.faults out.old)) (page text.new (O.written out.new) (O.faults out.new)) (shown_service seen service) }
+        → Writes (page text.old (O.written out.old) (O.faults out.old))
+        (page text.new (O.written out.new) (O.faults out.new)) (shown_service seen service) }
 {
     if seen_count(r, service) != 0 {
         write_service(r, service, text, out);
@@ -116,9 +127,11 @@ fn write_if_shown<G: Grids, O: Sink>(r: &G, service: u8, text: &mut Gathered, ou
 
 /// Writes the text of each service of which a window is shown.
 pub(crate) fn write_shown_services<G: Grids, O: Sink>(r: &G, text: &mut Gathered, out: &mut O)
-    ensures some { WritesSome (page text.old (O.written out.old) (O.faults out.old)) (page text.new (O.written out.new) (O.faults out.new)) }
+    ensures some { WritesSome (page text.old (O.written out.old) (O.faults out.old))
+        (page text.new (O.written out.new) (O.faults out.new)) }
     ensures text { (seen : ℕ → ℕ → Option ShownWindow) → G.shows r.now seen
-        → Writes (page text.old (O.written out.old) (O.faults out.old)) (page text.new (O.written out.new) (O.faults out.new)) (shown_services seen) }
+        → Writes (page text.old (O.written out.old) (O.faults out.old))
+        (page text.new (O.written out.new) (O.faults out.new)) (shown_services seen) }
 {
     for place in 0..SERVICES {
         write_if_shown(r, service_at(place), text, out);

@@ -1,7 +1,7 @@
 ghost use Rattle.std.specs.Prelude.{◌≡◌, ℕ, List, Option, if◌then◌else◌, [], ◌∷◌, None, false, IfOk, vec_len, length};
 ghost use Rattle.std.specs.List.{flat_map};
 ghost use Rattle.dtvcc_windows.specs.Showing.{ShownWindow};
-ghost use Rattle.cdp_packets.specs.Packets.{Packet as Frame};
+ghost use Rattle.cdp_packets.specs.Packets.{Frame};
 ghost use Rattle.cc_receiver.specs.ReceivedServices.{received_windows};
 ghost use Rattle.cc_receiver.specs.Receivers.{frame_count};
 ghost use Rattle.line21_screen.specs.Differences.{grid_differs};
@@ -13,10 +13,11 @@ ghost use Rattle.dtvcc_services.specs.Numbers.{IsService};
 ghost use Rattle.grid_print.specs.Kept.{KeepsServices, changed_places, seen_at};
 
 use crate::kept::Kept;
-use crate::service::{SERVICES, service_at, write_service};
+use crate::service::{service_at, write_service};
 use crate::text::{write_frame, write_grid};
 use cc_base::{Put, Sink};
 use cc_receiver::{Grids, Receiver, Touched};
+use dtvcc_services::SERVICES;
 use line21_codes::Chan;
 use line21_screen::Memory;
 use std::alloc::{AllocError, Global};
@@ -47,7 +48,8 @@ impl Shown {
     /// Nothing was shown: all grids are empty, and no window is shown. The error comes where memory for them isn't found.
     pub fn new(alloc: Global) -> Result<Shown, AllocError>
         ensures grids { IfOk result (λ made. (last_shown made).grids ≡ (λ chan. empty_grid)) }
-        ensures windows { IfOk result (λ made. (service id : ℕ) → (last_shown made).windows service id ≡ None) }
+        ensures windows { IfOk result
+            (λ made. (service id : ℕ) → (last_shown made).windows service id ≡ None) }
     {
         Ok(Shown {
             cc1: Memory::new(alloc)?,
@@ -69,11 +71,16 @@ impl Shown {
         out: &mut O,
     )
         requires { G.has_frame r.now }
-        ensures some { WritesSome (page text.old (O.written out.old) (O.faults out.old)) (page text.new (O.written out.new) (O.faults out.new)) }
-        ensures text { (was seen : ℕ → ℕ → Option ShownWindow) → G.turned r.now was seen → G.shows r.now seen
+        ensures some { WritesSome (page text.old (O.written out.old) (O.faults out.old))
+            (page text.new (O.written out.new) (O.faults out.new)) }
+        ensures text { (was seen : ℕ → ℕ → Option ShownWindow) → G.turned r.now was seen
+            → G.shows r.now seen
             → HaveSameWindows (last_shown self.old).windows was
-            → Writes (page text.old (O.written out.old) (O.faults out.old)) (page text.new (O.written out.new) (O.faults out.new)) (changes_text frame (last_shown self.old) (screens_of (G.grids r.now) seen)) }
-        ensures now { (was seen : ℕ → ℕ → Option ShownWindow) → G.turned r.now was seen → G.shows r.now seen
+            → Writes (page text.old (O.written out.old) (O.faults out.old))
+            (page text.new (O.written out.new) (O.faults out.new))
+            (changes_text frame (last_shown self.old) (screens_of (G.grids r.now) seen)) }
+        ensures now { (was seen : ℕ → ℕ → Option ShownWindow) → G.turned r.now was seen
+            → G.shows r.now seen
             → HaveSameWindows (last_shown self.old).windows was
             → LookAlike (last_shown self.new) (screens_of (G.grids r.now) seen) }
     {
@@ -90,10 +97,13 @@ impl Shown {
         text: &mut Gathered,
         out: &mut O,
     )
-        ensures some { WritesSome (page text.old (O.written out.old) (O.faults out.old)) (page text.new (O.written out.new) (O.faults out.new)) }
+        ensures some { WritesSome (page text.old (O.written out.old) (O.faults out.old))
+            (page text.new (O.written out.new) (O.faults out.new)) }
         ensures text { (seen : ℕ → ℕ → Option ShownWindow) → G.shows r.now seen
             → (touched ≡ false → HaveSameWindows (last_shown self.old).windows seen)
-            → Writes (page text.old (O.written out.old) (O.faults out.old)) (page text.new (O.written out.new) (O.faults out.new)) (changes_text frame (last_shown self.old) (screens_of (G.grids r.now) seen)) }
+            → Writes (page text.old (O.written out.old) (O.faults out.old))
+            (page text.new (O.written out.new) (O.faults out.new))
+            (changes_text frame (last_shown self.old) (screens_of (G.grids r.now) seen)) }
         ensures now { (seen : ℕ → ℕ → Option ShownWindow) → G.shows r.now seen
             → (touched ≡ false → HaveSameWindows (last_shown self.old).windows seen)
             → LookAlike (last_shown self.new) (screens_of (G.grids r.now) seen) }
@@ -109,8 +119,10 @@ impl Shown {
     /// Whether the screens of a frame, of whatever shows them, differ from those that were shown last, so that there is something to
     /// write. They are then the ones that were shown last.
     pub fn pass_of<G: Grids>(&mut self, r: &G) -> bool
-        ensures told { (seen : ℕ → ℕ → Option ShownWindow) → G.shows r.now seen → result ≡ screens_differ (last_shown self.old) (screens_of (G.grids r.now) seen) }
-        ensures now { (seen : ℕ → ℕ → Option ShownWindow) → G.shows r.now seen → LookAlike (last_shown self.new) (screens_of (G.grids r.now) seen) }
+        ensures told { (seen : ℕ → ℕ → Option ShownWindow) → G.shows r.now seen
+            → result ≡ screens_differ (last_shown self.old) (screens_of (G.grids r.now) seen) }
+        ensures now { (seen : ℕ → ℕ → Option ShownWindow) → G.shows r.now seen
+            → LookAlike (last_shown self.new) (screens_of (G.grids r.now) seen) }
     {
         let channels = self.channels_differ(r);
         let services = self.keep_services(r, true);
@@ -139,8 +151,10 @@ impl Shown {
         ensures now { (seen : ℕ → ℕ → Option ShownWindow) → G.shows r.now seen
             → (touched ≡ false → HaveSameWindows (last_shown self.old).windows seen)
             → HaveSameWindows (last_shown self.new).windows seen }
-        ensures each { (seen : ℕ → ℕ → Option ShownWindow) → G.shows r.now seen → result ≡ true → (place : ℕ) → place < 63
-            → changed_at self.new.services.items place ≡ service_differs (seen_at self.old.services.items place) (seen (place + 1)) }
+        ensures each { (seen : ℕ → ℕ → Option ShownWindow) → G.shows r.now seen → result ≡ true
+            → (place : ℕ) → place < 63
+            → changed_at self.new.services.items place
+            ≡ service_differs (seen_at self.old.services.items place) (seen (place + 1)) }
         ensures grids { last_grid self.new ≡ last_grid self.old }
     {
         touched && keep_services(&mut self.services, r)
@@ -156,10 +170,13 @@ impl Shown {
         text: &mut Gathered,
         out: &mut O,
     )
-        ensures some { WritesSome (page text.old (O.written out.old) (O.faults out.old)) (page text.new (O.written out.new) (O.faults out.new)) }
+        ensures some { WritesSome (page text.old (O.written out.old) (O.faults out.old))
+            (page text.new (O.written out.new) (O.faults out.new)) }
         ensures text { (seen : ℕ → ℕ → Option ShownWindow) → G.shows r.now seen
-            → Writes (page text.old (O.written out.old) (O.faults out.old)) (page text.new (O.written out.new) (O.faults out.new))
-            (frame_line frame ++ flat_map (changed_channel (last_grid self.old) (G.grids r.now)) channels
+            → Writes (page text.old (O.written out.old) (O.faults out.old))
+            (page text.new (O.written out.new) (O.faults out.new))
+            (frame_line frame ++ flat_map
+            (changed_channel (last_grid self.old) (G.grids r.now)) channels
             ++ (if services then changed_places self.old.services.items seen else [])) }
         ensures now { last_grid self.new ≡ G.grids r.now }
         ensures services { self.new.services ≡ self.old.services }
@@ -185,7 +202,9 @@ impl Shown {
 
     // Writes the grid of each channel whose grid differs from the one that was shown last, and keeps it.
     fn write_channels<G: Grids, O: Sink>(&mut self, r: &G, text: &mut Gathered, out: &mut O)
-        ensures text { Writes (page text.old (O.written out.old) (O.faults out.old)) (page text.new (O.written out.new) (O.faults out.new)) (flat_map (changed_channel (last_grid self.old) (G.grids r.now)) channels) }
+        ensures text { Writes (page text.old (O.written out.old) (O.faults out.old))
+            (page text.new (O.written out.new) (O.faults out.new))
+            (flat_map (changed_channel (last_grid self.old) (G.grids r.now)) channels) }
         ensures now { last_grid self.new ≡ G.grids r.now }
         ensures services { self.new.services ≡ self.old.services }
     {
@@ -200,9 +219,11 @@ impl Shown {
     /// count of faults rose, and then a front of the text was put.
     pub fn put_changes_of<G: Grids, O: Sink>(&mut self, r: &G, frame: u64, out: &mut O) -> Put
         ensures bytes { (seen : ℕ → ℕ → Option ShownWindow) → G.shows r.now seen
-            → Puts (O.written out.old) (O.written out.new) result (changes_text frame (last_shown self.old) (screens_of (G.grids r.now) seen)) }
+            → Puts (O.written out.old) (O.written out.new) result
+            (changes_text frame (last_shown self.old) (screens_of (G.grids r.now) seen)) }
         ensures cause { PutCause (O.faults out.old) (O.faults out.new) result }
-        ensures now { (seen : ℕ → ℕ → Option ShownWindow) → G.shows r.now seen → LookAlike (last_shown self.new) (screens_of (G.grids r.now) seen) }
+        ensures now { (seen : ℕ → ℕ → Option ShownWindow) → G.shows r.now seen
+            → LookAlike (last_shown self.new) (screens_of (G.grids r.now) seen) }
     {
         let mut text = Gathered::new();
         text.begin();
@@ -215,9 +236,11 @@ impl Shown {
     /// rose, and then a front of the text was put.
     pub fn put_changes<O: Sink>(&mut self, r: &Receiver, frame: u32, out: &mut O) -> Put
         ensures bytes { (frames : List Frame) → IsBehind frames r.now
-            → Puts (O.written out.old) (O.written out.new) result (changes_text frame (last_shown self.old) (received_screens frames)) }
+            → Puts (O.written out.old) (O.written out.new) result
+            (changes_text frame (last_shown self.old) (received_screens frames)) }
         ensures cause { PutCause (O.faults out.old) (O.faults out.new) result }
-        ensures now { (frames : List Frame) → IsBehind frames r.now → LookAlike (last_shown self.new) (received_screens frames) }
+        ensures now { (frames : List Frame) → IsBehind frames r.now
+            → LookAlike (last_shown self.new) (received_screens frames) }
     {
         self.put_changes_of(r, u64::from(frame), out)
     }
@@ -233,10 +256,13 @@ impl Shown {
         out: &mut O,
     )
         requires { 0 < frame_count r.now }
-        ensures some { WritesSome (page text.old (O.written out.old) (O.faults out.old)) (page text.new (O.written out.new) (O.faults out.new)) }
+        ensures some { WritesSome (page text.old (O.written out.old) (O.faults out.old))
+            (page text.new (O.written out.new) (O.faults out.new)) }
         ensures text { (earlier : List Frame) (last : Frame) → IsBehind (earlier ++ last ∷ []) r.now
             → HaveSameWindows (last_shown self.old).windows (received_windows earlier)
-            → Writes (page text.old (O.written out.old) (O.faults out.old)) (page text.new (O.written out.new) (O.faults out.new)) (changes_text frame (last_shown self.old) (received_screens (earlier ++ last ∷ []))) }
+            → Writes (page text.old (O.written out.old) (O.faults out.old))
+            (page text.new (O.written out.new) (O.faults out.new))
+            (changes_text frame (last_shown self.old) (received_screens (earlier ++ last ∷ []))) }
         ensures now { (earlier : List Frame) (last : Frame) → IsBehind (earlier ++ last ∷ []) r.now
             → HaveSameWindows (last_shown self.old).windows (received_windows earlier)
             → LookAlike (last_shown self.new) (received_screens (earlier ++ last ∷ [])) }
@@ -247,8 +273,10 @@ impl Shown {
     /// Whether the screens of a receiver differ from those that were shown last, so that there is something to write. They are then
     /// the ones that were shown last.
     pub fn pass(&mut self, r: &Receiver) -> bool
-        ensures told { (frames : List Frame) → IsBehind frames r.now → result ≡ screens_differ (last_shown self.old) (received_screens frames) }
-        ensures now { (frames : List Frame) → IsBehind frames r.now → LookAlike (last_shown self.new) (received_screens frames) }
+        ensures told { (frames : List Frame) → IsBehind frames r.now
+            → result ≡ screens_differ (last_shown self.old) (received_screens frames) }
+        ensures now { (frames : List Frame) → IsBehind frames r.now
+            → LookAlike (last_shown self.new) (received_screens frames) }
     {
         self.pass_of(r)
     }
@@ -256,7 +284,8 @@ impl Shown {
 
 // Of each service no window is shown.
 fn no_services(alloc: Global) -> Result<Vec<Kept>, AllocError>
-    ensures { IfOk result (λ services. (vec_len services ≡ 63) × ((place id : ℕ) → seen_at services.items place id ≡ None)) }
+    ensures { IfOk result (λ services. (vec_len services ≡ 63)
+        × ((place id : ℕ) → seen_at services.items place id ≡ None)) }
 {
     let mut services = Vec::new(alloc);
     for _place in 0..SERVICES {
@@ -273,8 +302,10 @@ fn write_channel<G: Grids, O: Sink>(
     text: &mut Gathered,
     out: &mut O,
 )
-    ensures text { Writes (page text.old (O.written out.old) (O.faults out.old)) (page text.new (O.written out.new) (O.faults out.new))
-        (if grid_differs (grid_in kept.old) (G.grids r.now chan) then grid_text chan (G.grids r.now chan) else []) }
+    ensures text { Writes (page text.old (O.written out.old) (O.faults out.old))
+        (page text.new (O.written out.new) (O.faults out.new))
+        (if grid_differs (grid_in kept.old) (G.grids r.now chan) then grid_text chan
+        (G.grids r.now chan) else []) }
     ensures kept { grid_in kept.new ≡ G.grids r.now chan }
 {
     let now = r.displayed(chan);
@@ -287,7 +318,8 @@ fn write_channel<G: Grids, O: Sink>(
 // Keeps what is seen of all services, and says whether that of one differs from what was kept.
 fn keep_services<G: Grids>(services: &mut [Kept], r: &G) -> bool
     requires { length services.old ≡ 63 }
-    ensures { (seen : ℕ → ℕ → Option ShownWindow) → G.shows r.now seen → KeepsServices seen 63 services.old services.new result }
+    ensures { (seen : ℕ → ℕ → Option ShownWindow) → G.shows r.now seen
+        → KeepsServices seen 63 services.old services.new result }
 {
     let mut changed = false;
     for place in 0..services.len() {
@@ -300,9 +332,11 @@ fn keep_services<G: Grids>(services: &mut [Kept], r: &G) -> bool
 // Writes the text of each service whose windows changed when they were kept last.
 fn write_changed<G: Grids, O: Sink>(services: &[Kept], r: &G, text: &mut Gathered, out: &mut O)
     requires { length services.now ≡ 63 }
-    ensures some { WritesSome (page text.old (O.written out.old) (O.faults out.old)) (page text.new (O.written out.new) (O.faults out.new)) }
+    ensures some { WritesSome (page text.old (O.written out.old) (O.faults out.old))
+        (page text.new (O.written out.new) (O.faults out.new)) }
     ensures text { (seen : ℕ → ℕ → Option ShownWindow) → G.shows r.now seen
-        → Writes (page text.old (O.written out.old) (O.faults out.old)) (page text.new (O.written out.new) (O.faults out.new))
+        → Writes (page text.old (O.written out.old) (O.faults out.old))
+        (page text.new (O.written out.new) (O.faults out.new))
         (changed_places services.now seen) }
 {
     for place in 0..services.len() {
@@ -319,9 +353,12 @@ fn write_if_changed<G: Grids, O: Sink>(
     out: &mut O,
 )
     requires { IsService service }
-    ensures some { WritesSome (page text.old (O.written out.old) (O.faults out.old)) (page text.new (O.written out.new) (O.faults out.new)) }
+    ensures some { WritesSome (page text.old (O.written out.old) (O.faults out.old))
+        (page text.new (O.written out.new) (O.faults out.new)) }
     ensures text { (seen : ℕ → ℕ → Option ShownWindow) → G.shows r.now seen
-        → Writes (page text.old (O.written out.old) (O.faults out.old)) (page text.new (O.written out.new) (O.faults out.new)) (if kept.now.changed then service_text service (seen service) else []) }
+        → Writes (page text.old (O.written out.old) (O.faults out.old))
+        (page text.new (O.written out.new) (O.faults out.new))
+        (if kept.now.changed then service_text service (seen service) else []) }
 {
     if kept.has_changed() {
         write_service(r, service, text, out);

@@ -18,7 +18,8 @@ use text_output::Gathered;
 
 /// Writes the line of a frame.
 pub(crate) fn write_frame<O: Sink>(frame: u64, text: &mut Gathered, out: &mut O)
-    ensures { Writes (page text.old (O.written out.old) (O.faults out.old)) (page text.new (O.written out.new) (O.faults out.new)) (frame_line frame) }
+    ensures { Writes (page text.old (O.written out.old) (O.faults out.old))
+        (page text.new (O.written out.new) (O.faults out.new)) (frame_line frame) }
 {
     text.write(b"frame ", out);
     text.write_long(frame, out);
@@ -32,8 +33,10 @@ pub(crate) fn write_grid_unless_empty<O: Sink>(
     text: &mut Gathered,
     out: &mut O,
 )
-    ensures { Writes (page text.old (O.written out.old) (O.faults out.old)) (page text.new (O.written out.new) (O.faults out.new))
-        (if length (runs (grid_in memory.now)) == 0 then [] else grid_text chan (grid_in memory.now)) }
+    ensures { Writes (page text.old (O.written out.old) (O.faults out.old))
+        (page text.new (O.written out.new) (O.faults out.new))
+        (if length (runs (grid_in memory.now)) == 0 then [] else grid_text chan
+        (grid_in memory.now)) }
 {
     if run_count(memory) != 0 {
         write_grid(chan, memory, text, out);
@@ -42,7 +45,9 @@ pub(crate) fn write_grid_unless_empty<O: Sink>(
 
 /// Writes the text of a channel's grid.
 pub(crate) fn write_grid<O: Sink>(chan: Chan, memory: &Memory, text: &mut Gathered, out: &mut O)
-    ensures { Writes (page text.old (O.written out.old) (O.faults out.old)) (page text.new (O.written out.new) (O.faults out.new)) (grid_text chan (grid_in memory.now)) }
+    ensures { Writes (page text.old (O.written out.old) (O.faults out.old))
+        (page text.new (O.written out.new) (O.faults out.new))
+        (grid_text chan (grid_in memory.now)) }
 {
     text.write_all(
         &[
@@ -62,7 +67,9 @@ pub(crate) fn write_grid<O: Sink>(chan: Chan, memory: &Memory, text: &mut Gather
 // Writes the lines of a row's runs.
 fn write_row<O: Sink>(row: u8, cells: &[Option<Cell>], text: &mut Gathered, out: &mut O)
     requires { length cells.now ≤ 32 }
-    ensures { Writes (page text.old (O.written out.old) (O.faults out.old)) (page text.new (O.written out.new) (O.faults out.new)) (flat_map run_line (row_runs in_styles row cells.now)) }
+    ensures { Writes (page text.old (O.written out.old) (O.faults out.old))
+        (page text.new (O.written out.new) (O.faults out.new))
+        (flat_map run_line (row_runs in_styles row cells.now)) }
 {
     let mut left = None;
     for (col, cell) in cells.iter().enumerate() {
@@ -82,7 +89,8 @@ fn write_run<O: Sink>(
     text: &mut Gathered,
     out: &mut O,
 )
-    ensures { Writes (page text.old (O.written out.old) (O.faults out.old)) (page text.new (O.written out.new) (O.faults out.new))
+    ensures { Writes (page text.old (O.written out.old) (O.faults out.old))
+        (page text.new (O.written out.new) (O.faults out.new))
         (run_line (record { row = row; col = col; first = first; text = front_text in_styles first cells.now })) }
 {
     text.write_all(

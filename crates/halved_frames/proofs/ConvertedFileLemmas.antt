@@ -9,11 +9,11 @@ use Rattle.anc_words.proofs.PacketLemmas.{packet_bytes-is, user_bytes-packet_of}
 use Rattle.anc_words.proofs.WordsFileLemmas.{IsWordsFile-nil, IsWordsFile-one}
 use Rattle.cc_base.specs.Rate.{rate_code}
 use Rattle.cc_base.specs.declared.rate.Rate.TheVariants.{F5994}
-use Rattle.cc_data.specs.Triplets.{all_written, filler, triplet_of, triplets_of, written}
+use Rattle.cc_data.specs.Triplets.{all_written, bytes_of_triplet, filler, triplet_of, triplets_of}
 use Rattle.cc_data.specs.declared.triplet.Triplet.{Triplet}
 use Rattle.cc_data.proofs.TripletLemmas.{length-all_written}
 use Rattle.cdp_packets.specs.PacketTriplets.{packet_triplets, section_triplets}
-use Rattle.cdp_packets.specs.Packets.{IsCdp, Packet as Frame}
+use Rattle.cdp_packets.specs.Packets.{Frame, IsCdp}
 use Rattle.cdp_packets.specs.Written.{cc_data_section, checksum_of, unsummed_packet, written_packet}
 use Rattle.cdp_packets.proofs.PacketLemmas.{written-is_packet}
 use Rattle.cdp_packets.proofs.SectionLemmas.{cc_data_section-is}
@@ -23,7 +23,7 @@ use Rattle.words_files.specs.Frames.{CarryFrames, IsFileOf}
 use Rattle.words_files.specs.Frames.CarryFrames.{none, caption, foreign}
 use Rattle.words_files.proofs.FrameLemmas.{joined}
 use Rattle.words_files.proofs.WordLemmas.{All-split}
-use Rattle.halved_frames.specs.Conversion.{IsConvertible, conversion, conversion_bytes_from, conversion_from, converted_bytes, first_half, first_of, half_bytes, half_flags, half_packet, second_half, second_of}
+use Rattle.halved_frames.specs.Conversion.{IsConvertible, conversion, conversion_bytes_from, conversion_from, converted_bytes, first_half, first_half_of, half_bytes, half_flags, half_packet, second_half, second_half_of}
 use Rattle.halved_frames.specs.ConvertedFrames.{ConvertedAreFile}
 use Rattle.halved_frames.specs.HalvedFrames.{AllHalves}
 use Rattle.halved_frames.proofs.ConvertedLemmas.{converted_halves, first_half_all, first_ten, second_half_all, second_ten}
@@ -42,14 +42,14 @@ marked : (valid : Bool) → (if valid then 0xFC else 0xF8) ≤ 0xFC
 marked true = omega arith
 marked false = omega arith
 
-written_bytes : (t : Triplet) → IsByteTriplet t → All IsByte (written t)
+written_bytes : (t : Triplet) → IsByteTriplet t → All IsByte (bytes_of_triplet t)
 written_bytes t is =
-    All-from_recursion IsByte (written t) (omega (arith, marked t.valid, is.kind), (is.a, (is.b, tt)))
+    All-from_recursion IsByte (bytes_of_triplet t) (omega (arith, marked t.valid, is.kind), (is.a, (is.b, tt)))
 
 all_written_bytes : (ts : List Triplet) → All IsByteTriplet ts → All IsByte (all_written ts)
 all_written_bytes [] all = All-nil IsByte
 all_written_bytes (t ∷ ts) all =
-    All-append IsByte (written t) (all_written ts) (written_bytes t (All-head IsByteTriplet t ts all)) (all_written_bytes ts (All-tail IsByteTriplet t ts all))
+    All-append IsByte (bytes_of_triplet t) (all_written ts) (written_bytes t (All-head IsByteTriplet t ts all)) (all_written_bytes ts (All-tail IsByteTriplet t ts all))
 
 -- the triplets of sections of bytes
 read_bytes : (bytes : List ℕ) → All IsByte bytes → All IsByteTriplet (triplets_of bytes)
@@ -167,9 +167,9 @@ filler_bytes = record { kind = omega arith; a = omega arith; b = omega arith }
 
 -- of both halves of a frame
 both_file : (number : ℕ) (frame : Frame) → IsConvertible frame → IsOfBytes frame
-    → IsFileOf (first_of number frame ∷ second_of number frame ∷ []) (converted_bytes number frame)
+    → IsFileOf (first_half_of number frame ∷ second_half_of number frame ∷ []) (converted_bytes number frame)
 both_file number frame is are =
-    joined (first_of number frame ∷ []) (second_of number frame ∷ []) (half_bytes (2 * number) (first_half (packet_triplets frame)))
+    joined (first_half_of number frame ∷ []) (second_half_of number frame ∷ []) (half_bytes (2 * number) (first_half (packet_triplets frame)))
     (half_bytes (2 * number + 1) (second_half (packet_triplets frame)))
     (half_file (2 * number) (first_half (packet_triplets frame)) (first_ten (packet_triplets frame)) (first_half_all IsByteTriplet filler_bytes (packet_triplets frame) are))
     (half_file (2 * number + 1) (second_half (packet_triplets frame)) (second_ten (packet_triplets frame) is.most)
@@ -180,7 +180,7 @@ conversion_file : (number : ℕ) (frames : List Frame) → All IsConvertible fra
     → IsFileOf (conversion_from number frames) (conversion_bytes_from number frames)
 conversion_file number [] all are = record { packets = []; file = IsWordsFile-nil; carried = none }
 conversion_file number (frame ∷ frames) all are =
-    joined (first_of number frame ∷ second_of number frame ∷ []) (conversion_from (suc number) frames) (converted_bytes number frame) (conversion_bytes_from (suc number) frames)
+    joined (first_half_of number frame ∷ second_half_of number frame ∷ []) (conversion_from (suc number) frames) (converted_bytes number frame) (conversion_bytes_from (suc number) frames)
     (both_file number frame (All-head IsConvertible frame frames all) (All-head IsOfBytes frame frames are))
     (conversion_file (suc number) frames (All-tail IsConvertible frame frames all) (All-tail IsOfBytes frame frames are))
 

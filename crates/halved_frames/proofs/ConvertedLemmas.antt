@@ -7,12 +7,12 @@ use Rattle.std.proofs.lemmas.List.Elements.{All-append, All-cons, All-drop, All-
 use Rattle.cc_data.specs.Triplets.{filler, triplet_of, triplets_of}
 use Rattle.cc_data.specs.declared.triplet.Triplet.{Triplet}
 use Rattle.cdp_packets.specs.PacketTriplets.{packet_triplets, section_triplets}
-use Rattle.cdp_packets.specs.Packets.{Packet as Frame}
+use Rattle.cdp_packets.specs.Packets.{Frame}
 use Rattle.cdp_packets.proofs.SectionLemmas.{cc_data_section-triplets}
 use Rattle.channel_packets.specs.ChannelPackets.{channel_triplets, continues_packet, starts}
 use Rattle.line21_codes.specs.declared.channels.FieldNumber.TheVariants.{One, Two}
 use Rattle.words_files.specs.Received.{field_pairs}
-use Rattle.halved_frames.specs.Conversion.{IsConvertible, conversion_from, first_half, first_of, first_or_filler, half_packet, is_of, of_field, second_half, second_of, ten_triplets}
+use Rattle.halved_frames.specs.Conversion.{IsConvertible, conversion_from, first_half, first_half_of, first_or_filler, half_packet, is_of, of_field, second_half, second_half_of, ten_triplets}
 use Rattle.halved_frames.specs.ConvertedFrames.{ConvertedAreHalves, HalvesHaveTen}
 use Rattle.halved_frames.specs.HalvedFrames.{AllHalves, AreHalves}
 use Rattle.halved_frames.proofs.CutLemmas.{triplets_cut}
@@ -67,11 +67,11 @@ second_half_all P fill ts all =
 half_triplets : (number : ℕ) (ts : List Triplet) → All IsKind ts → packet_triplets (half_packet number ts) ≡ ts
 half_triplets number ts kinds = append-nil _ ∙ cc_data_section-triplets ts kinds
 
-pub first_triplets : (number : ℕ) (frame : Frame) → packet_triplets (first_of number frame) ≡ first_half (packet_triplets frame)
+pub first_triplets : (number : ℕ) (frame : Frame) → packet_triplets (first_half_of number frame) ≡ first_half (packet_triplets frame)
 first_triplets number frame =
     half_triplets (2 * number) (first_half (packet_triplets frame)) (first_half_all IsKind (omega arith) (packet_triplets frame) (sections_kinds frame.sections))
 
-pub second_triplets : (number : ℕ) (frame : Frame) → packet_triplets (second_of number frame) ≡ second_half (packet_triplets frame)
+pub second_triplets : (number : ℕ) (frame : Frame) → packet_triplets (second_half_of number frame) ≡ second_half (packet_triplets frame)
 second_triplets number frame =
     half_triplets (2 * number + 1) (second_half (packet_triplets frame)) (second_half_all IsKind (omega arith) (packet_triplets frame) (sections_kinds frame.sections))
 
@@ -98,7 +98,7 @@ halves_ten number frame is = record {
 }
 
 -- the halves of one frame, and of all
-are_halves : (number : ℕ) (frame : Frame) → IsConvertible frame → AreHalves frame (first_of number frame) (second_of number frame)
+are_halves : (number : ℕ) (frame : Frame) → IsConvertible frame → AreHalves frame (first_half_of number frame) (second_half_of number frame)
 are_halves number frame is =
     let cut = triplets_cut (packet_triplets frame) in
     let first = first_triplets number frame in
@@ -109,10 +109,10 @@ are_halves number frame is =
       rate_two = refl;
       service = cut.channel
           ∙ ap (λ (ts : List Triplet). channel_triplets ts ++ channel_triplets (second_half (packet_triplets frame))) (sym first)
-          ∙ ap (λ (ts : List Triplet). channel_triplets (packet_triplets (first_of number frame)) ++ channel_triplets ts) (sym second);
+          ∙ ap (λ (ts : List Triplet). channel_triplets (packet_triplets (first_half_of number frame)) ++ channel_triplets ts) (sym second);
       pairs = λ f. cut.pairs f (is.few f)
           ∙ ap (λ (ts : List Triplet). field_pairs f ts ++ field_pairs f (second_half (packet_triplets frame))) (sym first)
-          ∙ ap (λ (ts : List Triplet). field_pairs f (packet_triplets (first_of number frame)) ++ field_pairs f ts) (sym second);
+          ∙ ap (λ (ts : List Triplet). field_pairs f (packet_triplets (first_half_of number frame)) ++ field_pairs f ts) (sym second);
     }
 
 pub halves_from : (number : ℕ) (frames : List Frame) → All IsConvertible frames → AllHalves frames (conversion_from number frames)

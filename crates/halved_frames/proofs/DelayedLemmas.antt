@@ -4,10 +4,10 @@ use Rattle.std.specs.Prelude.{⊤}
 use Rattle.std.proofs.lemmas.List.{map-append}
 use Rattle.cc_base.specs.declared.rate.Rate.TheVariants.{F2997, F5994}
 use Rattle.cc_data.specs.declared.triplet.Triplet.{Triplet}
-use Rattle.cdp_packets.specs.Packets.{Packet as Frame}
+use Rattle.cdp_packets.specs.Packets.{Frame}
 use Rattle.cdp_packets.specs.PacketTriplets.{packet_triplets}
 use Rattle.dtvcc_codes.specs.Reading.{open_after}
-use Rattle.dtvcc_screen.specs.Meaning.{Byte, Event, Reset, Tick, after, start}
+use Rattle.dtvcc_screen.specs.Meaning.{Byte, Event, Reset, Tick, served_after, start}
 use Rattle.dtvcc_screen.specs.Shown.{grids}
 use Rattle.services_files.specs.Events.{service_events}
 use Rattle.services_files.specs.Said.{said_behind}
@@ -94,8 +94,8 @@ delayed_same frames others all service id stream good =
     let are = are_halved [] (told_halves service [] others) (all_untimed service [] frames others all) (subst (IsGoodStream []) wholes stream) in
     let slow_are : service_events service frames ≡ slow (halved (told_halves service [] others)) = wholes ∙ are.wholes in
     let fast_are : service_events service others ≡ fast (halved (told_halves service [] others)) = told.halves service ∙ are.halves in
-    let same : (after start (service_events service others)).core.screen ≡ (after start (service_events service frames)).core.screen =
-    ap (λ (es : List Event). (after start es).core.screen) fast_are
+    let same : (served_after start (service_events service others)).core.screen ≡ (served_after start (service_events service frames)).core.screen =
+    ap (λ (es : List Event). (served_after start es).core.screen) fast_are
     ∙ halves_alike (halved (told_halves service [] others)) (subst (AreGood start) slow_are good)
-    ∙ sym (ap (λ (es : List Event). (after start es).core.screen) slow_are) in
+    ∙ sym (ap (λ (es : List Event). (served_after start es).core.screen) slow_are) in
     ap (λ screen. grids screen id) same

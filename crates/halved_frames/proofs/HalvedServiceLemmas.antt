@@ -10,7 +10,7 @@ use Rattle.dtvcc_codes.specs.Reading.{completed, open_after}
 use Rattle.dtvcc_screen.specs.declared.clock.Clock.{Clock}
 use Rattle.dtvcc_screen.specs.Commands.{on_screen}
 use Rattle.dtvcc_screen.specs.Cores.{CoreState, acted_if, after_byte, after_tick, all_acted, arrived, arrived_in, fill, fill_in, go_on, held_more, is_due, released, tenths_of, until_of}
-use Rattle.dtvcc_screen.specs.Meaning.{Byte, Event, Served, Tick, after, on_event, start}
+use Rattle.dtvcc_screen.specs.Meaning.{Byte, Event, Served, Tick, on_event, served_after, start}
 use Rattle.dtvcc_screen.specs.Screens.{ScreenState}
 use Rattle.halved_frames.specs.HalvedServices.{AreGood, Halved, HalvesShowAlike, HasDoubled, IsGood, fast, slow}
 
@@ -449,11 +449,11 @@ first_half m n c d a b next clocks at alike = by_until a.until b.until refl refl
         (cases_lt n e)
 
 -- events
-after_append : (s : Served) (es fs : List Event) → after s (es ++ fs) ≡ after (after s es) fs
+after_append : (s : Served) (es fs : List Event) → served_after s (es ++ fs) ≡ served_after (served_after s es) fs
 after_append s [] fs = refl
 after_append s (e ∷ es) fs = after_append (on_event e s) es fs
 
-after_bytes : (clock : Clock) (core : CoreState) (bytes : List ℕ) → after (record { clock = clock; core = core }) (map Byte bytes) ≡ record { clock = clock; core = all_bytes clock core bytes }
+after_bytes : (clock : Clock) (core : CoreState) (bytes : List ℕ) → served_after (record { clock = clock; core = core }) (map Byte bytes) ≡ record { clock = clock; core = all_bytes clock core bytes }
 after_bytes clock core [] = refl
 after_bytes clock core (byte ∷ bytes) = after_bytes clock (after_byte byte clock core) bytes
 
@@ -501,18 +501,18 @@ fast_behind t frame = record {
   core = all_bytes (second_clock t) (after_tick (second_clock t) (half_behind t frame)) frame.two;
 }
 
-slow_step : (s : Served) (frame : Halved) (rest : List Event) → after s (Tick F2997 ∷ map Byte (frame.one ++ frame.two) ++ rest) ≡ after (slow_behind s frame) rest
+slow_step : (s : Served) (frame : Halved) (rest : List Event) → served_after s (Tick F2997 ∷ map Byte (frame.one ++ frame.two) ++ rest) ≡ served_after (slow_behind s frame) rest
 slow_step s frame rest =
     after_append (record { clock = slow_clock s; core = after_tick (slow_clock s) s.core }) (map Byte (frame.one ++ frame.two)) rest
-    ∙ ap (λ (x : Served). after x rest) (after_bytes (slow_clock s) (after_tick (slow_clock s) s.core) (frame.one ++ frame.two))
+    ∙ ap (λ (x : Served). served_after x rest) (after_bytes (slow_clock s) (after_tick (slow_clock s) s.core) (frame.one ++ frame.two))
 
 fast_step : (t : Served) (frame : Halved) (rest : List Event)
-    → after t (Tick F5994 ∷ map Byte frame.one ++ (Tick F5994 ∷ map Byte frame.two ++ rest)) ≡ after (fast_behind t frame) rest
+    → served_after t (Tick F5994 ∷ map Byte frame.one ++ (Tick F5994 ∷ map Byte frame.two ++ rest)) ≡ served_after (fast_behind t frame) rest
 fast_step t frame rest =
     after_append (record { clock = first_clock t; core = after_tick (first_clock t) t.core }) (map Byte frame.one) (Tick F5994 ∷ map Byte frame.two ++ rest)
-    ∙ ap (λ (x : Served). after x (Tick F5994 ∷ map Byte frame.two ++ rest)) (after_bytes (first_clock t) (after_tick (first_clock t) t.core) frame.one)
+    ∙ ap (λ (x : Served). served_after x (Tick F5994 ∷ map Byte frame.two ++ rest)) (after_bytes (first_clock t) (after_tick (first_clock t) t.core) frame.one)
     ∙ after_append (record { clock = second_clock t; core = after_tick (second_clock t) (half_behind t frame) }) (map Byte frame.two) rest
-    ∙ ap (λ (x : Served). after x rest) (after_bytes (second_clock t) (after_tick (second_clock t) (half_behind t frame)) frame.two)
+    ∙ ap (λ (x : Served). served_after x rest) (after_bytes (second_clock t) (after_tick (second_clock t) (half_behind t frame)) frame.two)
 
 -- behind a frame both are alike
 module _ (n : ℕ) (s t : Served) (frame : Halved) (at : s.clock.ticks ≡ n) (too : t.clock.ticks ≡ 2 * n) (alike : AreAlike n s.core t.core)
@@ -545,7 +545,7 @@ module _ (n : ℕ) (s t : Served) (frame : Halved) (at : s.clock.ticks ≡ n) (t
 
 -- frames, one after another
 frames_alike : (n : ℕ) (s t : Served) (frames : List Halved) → s.clock.ticks ≡ n → t.clock.ticks ≡ 2 * n → AreAlike n s.core t.core → AreGood s (slow frames)
-    → (after t (fast frames)).core.screen ≡ (after s (slow frames)).core.screen
+    → (served_after t (fast frames)).core.screen ≡ (served_after s (slow frames)).core.screen
 frames_alike n s t [] at too alike good = alike.screen
 frames_alike n s t (frame ∷ frames) at too alike good =
     let goods = good_bytes (slow_clock s) (after_tick (slow_clock s) s.core) (frame.one ++ frame.two) (slow frames) good in

@@ -3,10 +3,10 @@ use Rattle.std.proofs.Common.{◌≡◌, ℕ, ◌==◌, Bool, true, false, List,
 use Rattle.std.specs.Prelude.{if◌then◌else◌, reverse}
 use Rattle.cc_base.specs.declared.rate.Rate.TheVariants.{F2997, F5994}
 use Rattle.cc_data.specs.declared.triplet.Triplet.{Triplet}
-use Rattle.cdp_packets.specs.Packets.{Packet as Frame}
+use Rattle.cdp_packets.specs.Packets.{Frame}
 use Rattle.cdp_packets.specs.PacketTriplets.{packet_triplets}
 use Rattle.dtvcc_screen.specs.Cores.{CoreState}
-use Rattle.dtvcc_screen.specs.Meaning.{Byte, Event, Reset, Tick, after, start}
+use Rattle.dtvcc_screen.specs.Meaning.{Byte, Event, Reset, Tick, served_after, start}
 use Rattle.dtvcc_screen.specs.Shown.{grids}
 use Rattle.line21_codes.specs.declared.pairs.Pair.{Pair}
 use Rattle.line21_codes.specs.Channels.{data_channel_of, field_of_channel}
@@ -76,9 +76,9 @@ show_the_same frames others all =
       windows = λ service id undelayed.
           let wholes = told.wholes service ∙ wholes_parted (told_halves service [] others) in
           let halves = told.halves service ∙ halves_parted (told_halves service [] others) in
-          let same : (after start (service_events service others)).core ≡ (after start (service_events service frames)).core =
-          ap (λ (es : List Event). (after start es).core) halves
+          let same : (served_after start (service_events service others)).core ≡ (served_after start (service_events service frames)).core =
+          ap (λ (es : List Event). (served_after start es).core) halves
           ∙ halves_one F2997 F5994 (parted (told_halves service [] others)) (are_parts service [] frames others all) (subst (AreUndelayed start) wholes undelayed)
-          ∙ sym (ap (λ (es : List Event). (after start es).core) wholes) in
+          ∙ sym (ap (λ (es : List Event). (served_after start es).core) wholes) in
           ap (λ (core : CoreState). grids core.screen id) same;
     }

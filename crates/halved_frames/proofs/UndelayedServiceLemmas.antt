@@ -7,7 +7,7 @@ use Rattle.dtvcc_codes.specs.Reading.{completed, open_after}
 use Rattle.dtvcc_screen.specs.declared.clock.Clock.{Clock}
 use Rattle.dtvcc_screen.specs.Commands.{on_screen}
 use Rattle.dtvcc_screen.specs.Cores.{CoreState, acted_if, after_byte, arrived, arrived_in, clean, is_reset, tenths_of, until_of}
-use Rattle.dtvcc_screen.specs.Meaning.{Byte, Event, Reset, Served, Tick, after, on_event, start}
+use Rattle.dtvcc_screen.specs.Meaning.{Byte, Event, Reset, Served, Tick, on_event, served_after, start}
 use Rattle.halved_frames.specs.UndelayedServices.{AreParts, AreUndelayed, AreUntimed, HalvesAreOne, Parted, half_frames, tenths_in, whole_frames}
 
 -- two services with one core, outside of a delay
@@ -54,7 +54,7 @@ byte_one byte s t one none =
 
 -- events among which no frame begins
 events_one : (s t : Served) (events rest : List Event) → AreUntimed events → AreOne s t → AreUndelayed s (events ++ rest)
-    → AreOne (after s events) (after t events) × AreUndelayed (after s events) rest
+    → AreOne (served_after s events) (served_after t events) × AreUndelayed (served_after s events) rest
 events_one s t [] rest untimed one undelayed = (one, undelayed)
 events_one s t (Tick rate ∷ events) rest untimed one undelayed = absurd untimed
 events_one s t (Byte byte ∷ events) rest untimed one undelayed =
@@ -62,7 +62,7 @@ events_one s t (Byte byte ∷ events) rest untimed one undelayed =
 events_one s t (Reset ∷ events) rest untimed one undelayed =
     events_one (on_event Reset s) (on_event Reset t) events rest untimed (record { core = refl; plain = refl }) undelayed
 
-after_append : (s : Served) (es fs : List Event) → after s (es ++ fs) ≡ after (after s es) fs
+after_append : (s : Served) (es fs : List Event) → served_after s (es ++ fs) ≡ served_after (served_after s es) fs
 after_append s [] fs = refl
 after_append s (e ∷ es) fs = after_append (on_event e s) es fs
 
@@ -85,22 +85,22 @@ parts_apart s (Byte byte ∷ one) two rest undelayed = (undelayed.0, parts_apart
 parts_apart s (Reset ∷ one) two rest undelayed = parts_apart (on_event Reset s) one two rest undelayed
 
 frames_one : (slow fast : Rate) (s t : Served) (frames : List Parted) → AreParts frames → AreOne s t → AreUndelayed s (whole_frames slow frames)
-    → (after t (half_frames fast frames)).core ≡ (after s (whole_frames slow frames)).core
+    → (served_after t (half_frames fast frames)).core ≡ (served_after s (whole_frames slow frames)).core
 frames_one slow fast s t [] parts one undelayed = one.core
 frames_one slow fast s t (frame ∷ frames) parts one undelayed =
     let begun = tick_second fast (on_event (Tick slow) s) t (tick_first slow s t one) in
     let first = events_one (on_event (Tick slow) s) (on_event (Tick fast) t) frame.one (frame.two ++ whole_frames slow frames) parts.0 begun
     (parts_apart (on_event (Tick slow) s) frame.one frame.two (whole_frames slow frames) undelayed) in
-    let half = tick_second fast (after (on_event (Tick slow) s) frame.one) (after (on_event (Tick fast) t) frame.one) first.0 in
-    let second = events_one (after (on_event (Tick slow) s) frame.one) (on_event (Tick fast) (after (on_event (Tick fast) t) frame.one)) frame.two (whole_frames slow frames) parts.1 half first.1 in
+    let half = tick_second fast (served_after (on_event (Tick slow) s) frame.one) (served_after (on_event (Tick fast) t) frame.one) first.0 in
+    let second = events_one (served_after (on_event (Tick slow) s) frame.one) (on_event (Tick fast) (served_after (on_event (Tick fast) t) frame.one)) frame.two (whole_frames slow frames) parts.1 half first.1 in
     ap (λ (x : Served). x.core)
     (after_append (on_event (Tick fast) t) frame.one (Tick fast ∷ frame.two ++ half_frames fast frames)
-    ∙ after_append (on_event (Tick fast) (after (on_event (Tick fast) t) frame.one)) frame.two (half_frames fast frames))
-    ∙ frames_one slow fast (after (after (on_event (Tick slow) s) frame.one) frame.two)
-    (after (on_event (Tick fast) (after (on_event (Tick fast) t) frame.one)) frame.two) frames parts.2 second.0 second.1
+    ∙ after_append (on_event (Tick fast) (served_after (on_event (Tick fast) t) frame.one)) frame.two (half_frames fast frames))
+    ∙ frames_one slow fast (served_after (served_after (on_event (Tick slow) s) frame.one) frame.two)
+    (served_after (on_event (Tick fast) (served_after (on_event (Tick fast) t) frame.one)) frame.two) frames parts.2 second.0 second.1
     ∙ sym (ap (λ (x : Served). x.core)
     (after_append (on_event (Tick slow) s) (frame.one ++ frame.two) (whole_frames slow frames)
-    ∙ ap (λ (x : Served). after x (whole_frames slow frames)) (after_append (on_event (Tick slow) s) frame.one frame.two)))
+    ∙ ap (λ (x : Served). served_after x (whole_frames slow frames)) (after_append (on_event (Tick slow) s) frame.one frame.two)))
 
 pub halves_one : HalvesAreOne
 halves_one slow fast frames parts undelayed = frames_one slow fast start start frames parts (record { core = refl; plain = refl }) undelayed

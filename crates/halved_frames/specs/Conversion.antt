@@ -1,3 +1,4 @@
+-- Believed in part: the program's answer stands on some of these definitions.
 -- What frames at 29.97 frames a second become at 59.94 (SMPTE ST 334-2; CTA-708-E, cc_data()): each becomes two, its halves, which carry
 -- what it carried. Other sections than cc_data, and other ancillary packets than those of captions, are left out.
 use Rattle.std.specs.Prelude.{◌≡◌, ℕ, suc, ◌+◌, ◌-◌, ◌*◌, ◌%◌, ◌≤◌, ◌==◌, ◌&&◌, Bool, List, [], ◌∷◌, ◌++◌, drop, filter, length, replicate, take}
@@ -6,7 +7,7 @@ use Rattle.cc_base.specs.declared.rate.Rate.TheVariants.{F2997, F5994}
 use Rattle.cc_data.specs.Triplets.{filler}
 use Rattle.cc_data.specs.declared.triplet.Triplet.{Triplet}
 use Rattle.cdp_packets.specs.PacketTriplets.{packet_triplets}
-use Rattle.cdp_packets.specs.Packets.{Packet as Frame}
+use Rattle.cdp_packets.specs.Packets.{Frame}
 use Rattle.cdp_packets.specs.Written.{cc_data_section, written_packet}
 use Rattle.channel_packets.specs.ChannelPackets.{channel_triplets}
 use Rattle.line21_codes.specs.declared.channels.FieldNumber.{FieldNumber}
@@ -59,16 +60,16 @@ half_packet number triplets = record {
 }
 
 -- the halves of the frame of a number
-abbrev pub first_of : ℕ → Frame → Frame
-first_of number frame = half_packet (2 * number) (first_half (packet_triplets frame))
+abbrev pub first_half_of : ℕ → Frame → Frame
+first_half_of number frame = half_packet (2 * number) (first_half (packet_triplets frame))
 
-abbrev pub second_of : ℕ → Frame → Frame
-second_of number frame = half_packet (2 * number + 1) (second_half (packet_triplets frame))
+abbrev pub second_half_of : ℕ → Frame → Frame
+second_half_of number frame = half_packet (2 * number + 1) (second_half (packet_triplets frame))
 
 -- those of frames, of which the first has this number
 abbrev pub conversion_from : ℕ → List Frame → List Frame
 conversion_from number [] = []
-conversion_from number (frame ∷ frames) = first_of number frame ∷ second_of number frame ∷ conversion_from (suc number) frames
+conversion_from number (frame ∷ frames) = first_half_of number frame ∷ second_half_of number frame ∷ conversion_from (suc number) frames
 
 -- and of the frames of a file
 abbrev pub conversion : List Frame → List Frame

@@ -1,3 +1,4 @@
+-- Between crates: the program's answer stands on none of these definitions.
 -- Bytes and ticks of which each byte completes something good, whatever the service makes of them.
 use Rattle.std.specs.Prelude.{⊤, ℕ, List, [], ◌∷◌}
 use Rattle.dtvcc_codes.specs.Reading.{completed, open_after}

@@ -1,7 +1,8 @@
+-- Between crates: the program's answer stands on none of these definitions.
 -- What a receiver shows behind frames that are cut in halves: what it shows behind the whole frames.
 use Rattle.std.specs.Prelude.{◌≡◌, ℕ, List, []}
 use Rattle.cc_receiver.specs.ReceivedServices.{received_windows}
-use Rattle.cdp_packets.specs.Packets.{Packet as Frame}
+use Rattle.cdp_packets.specs.Packets.{Frame}
 use Rattle.dtvcc_screen.specs.Meaning.{start}
 use Rattle.line21_codes.specs.declared.channels.Chan.{Chan}
 use Rattle.services_files.specs.Events.{service_events}

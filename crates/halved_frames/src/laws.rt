@@ -22,7 +22,8 @@ pub fn law_of_undelayed_services()
 
 /// A delay of at most 166 tenths of a second lasts twice as many frames at twice the rate.
 pub fn delays_are_twice()
-    ensures { (tenths : ℕ) → tenths ≤ 166 → delay_frames_of F5994 tenths ≡ 2 * delay_frames_of F2997 tenths }
+    ensures { (tenths : ℕ) → tenths ≤ 166
+        → delay_frames_of F5994 tenths ≡ 2 * delay_frames_of F2997 tenths }
 {}
 
 /// Frames that are cut in halves tell each service the same in halves, and each field has the same pairs.

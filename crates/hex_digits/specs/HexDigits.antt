@@ -1,3 +1,4 @@
+-- Believed: the program's answer stands on these definitions.
 -- Hex digits: the value of one of either case, and the one that is written of a value.
 use Rattle.std.specs.Prelude.{ℕ, ◌+◌, ◌-◌, ◌&&◌, if◌then◌else◌, nat_le, nat_lt, Option, Some, None}
 

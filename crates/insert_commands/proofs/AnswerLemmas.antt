@@ -11,7 +11,7 @@ use Rattle.cue_list_commands.specs.Reads.{IsProgrammeOf, ReadsProgramme}
 use Rattle.cue_list_commands.specs.SideEnds.{side_ends}
 use Rattle.frame_scheduler.specs.declared.frames.Plan.{Plan}
 use Rattle.programmes.specs.declared.programme.Programme.{Programme}
-use Rattle.insert_commands.specs.InsertAnswer.{HaltsInserting, InsertAnswer, InsertsWhole, IsShort, OfAcceptedList, SaysInserted, StopsInserting}
+use Rattle.insert_commands.specs.InsertAnswer.{HaltsInserting, InsertAnswer, InsertsWhole, OfAcceptedList, SaysInserted, StopsInserting}
 use Rattle.insert_commands.specs.InsertSteps.{HasJudged, halt_status}
 use Rattle.insert_commands.specs.declared.inserting.Halt.{Halt}
 use Rattle.insert_commands.specs.declared.inserting.Halt.TheVariants as halt
@@ -25,7 +25,7 @@ use Rattle.frame_scheduler.specs.Frames.{GivesFrom, frames_left}
 use Rattle.services_files.specs.CaptionChannel.{caption_channel}
 use Rattle.words_files.specs.Offences.{IsFileUnder}
 use Rattle.words_reading.proofs.KnownLemmas.{file_of}
-use Rattle.words_reading.specs.Causes.{Cause, IsWholeFile, IsWholeInput}
+use Rattle.words_reading.specs.Causes.{Cause, IsShort, IsWholeFile, IsWholeInput}
 use Rattle.words_reading.specs.Reading.{CountsBy, Stops, StopsEarly}
 use Rattle.words_reading.specs.Statuses.{stop_status}
 use Rattle.words_reading.specs.declared.judge.Stop.{Stop}
@@ -169,9 +169,9 @@ pub short_answer : (left later : Option (List ℕ)) (before now : ℕ) (programm
 short_answer left later before now programme inserting old new count reads counts words short = (
   reads.0,
   record { reads = counts.0; writes = counts.1 },
-  of_captions left before programme SaysInserted (λ list. IsShort list count old.left) put.Done old new reads.2
+  of_captions left before programme SaysInserted (λ list. IsShort list.count count old.left) put.Done old new reads.2
       (λ list has.
       let ended = words list has in
       let is = short list ended.1.judged ended.1.text ended.1.says in
-      ended_so list inserting (IsShort list count old.left) old new ended (λ whole file. (whole, (ended.1.says.says.frames, file, is.0, is.1)))),
+      ended_so list inserting (IsShort list.count count old.left) old new ended (λ whole file. (whole, (ended.1.says.says.frames, file, is.0, is.1)))),
 )

@@ -7,7 +7,7 @@ use Rattle.cc_base.specs.declared.limit_of.LimitOf.TheVariants as limit
 use Rattle.cc_base.specs.declared.refusal.Refusal.{Refusal}
 use Rattle.cc_base.specs.declared.streams.Put.TheVariants as put
 use Rattle.cc_data.specs.declared.triplet.Triplet.{Triplet}
-use Rattle.cdp_packets.specs.Packets.{Packet as Frame}
+use Rattle.cdp_packets.specs.Packets.{Frame}
 use Rattle.command_base.specs.Counts.{IsReadOf}
 use Rattle.command_base.specs.Ends.{Ends}
 use Rattle.command_base.specs.declared.status.Place.TheVariants.{Byte}
@@ -30,13 +30,13 @@ use Rattle.words_reading.proofs.FrontLemmas.{TwoFronts, before_it, behind_it, sa
 use Rattle.words_reading.proofs.KnownLemmas.{known_frames, known_judged, known_no_file, long_front, long_offends, long_passes, malformed_no_file, never_whole, one_malformed, refused_behind, within_passes}
 use Rattle.words_reading.proofs.KnownLemmas.{refused_so as words_refused}
 use Rattle.words_reading.specs.Answers.{IsPastLimit}
-use Rattle.words_reading.specs.Causes.{IsAnyhow, IsRefusedWith, PassesLimit, words_limit}
+use Rattle.words_reading.specs.Causes.{IsAnyhow, IsRefusedWith, IsShort, PassesLimit, words_limit}
 use Rattle.words_reading.specs.Reading.{Stops}
 use Rattle.words_files.proofs.FramesOfLemmas.{file_frames, frames_grow}
 use Rattle.words_files.specs.FramesOf.{AreFramesOf}
 use Rattle.words_files.specs.Offences.{IsFileUnder, IsMalformed}
 use Rattle.services_files.specs.CaptionChannel.{caption_channel}
-use Rattle.insert_commands.specs.InsertAnswer.{HaltsInserting, InsertAnswer, InsertsWhole, IsHalt, IsShort, OfAcceptedList, SaysInserted}
+use Rattle.insert_commands.specs.InsertAnswer.{HaltsInserting, InsertAnswer, InsertsWhole, IsHalt, OfAcceptedList, SaysInserted}
 use Rattle.insert_commands.specs.InsertSteps.{halt_status}
 use Rattle.insert_commands.specs.InsertVerdict.{CanCarry, CanTake, HaltIsAnswered, InsertedIsAnswered, LongIsAnswered, MalformedIsAnswered, ShortIsAnswered}
 use Rattle.insert_commands.specs.declared.inserting.Halt.{Halt}
@@ -67,7 +67,7 @@ AnswersWords list placed old new (status.Malformed (Byte place) why) =
     Stops (SaysInserted (list_framing list placed)) (IsRefusedWith (record { place = place; why = why }) old.left) put.Done old new
 AnswersWords list placed old new (status.Differs finding) = Stops (HaltsInserting (list_framing list placed) (halt.Found finding)) IsAnyhow put.Done old new
 AnswersWords list placed old new (status.Short count) =
-    Stops (SaysInserted (list_framing list placed)) (IsShort (list_framing list placed) count old.left) put.Done old new
+    Stops (SaysInserted (list_framing list placed)) (IsShort (list_framing list placed).count count old.left) put.Done old new
 AnswersWords list placed old new _ = ⊥
 
 words_answered : (text bytes : List ℕ) (list : Listing) (placed : Placement) (side later : SideEnds) (old new : Ends) (answer : Status) → IsAccepted text list placed

@@ -1,9 +1,4 @@
-pub mod RoomLemmas
-pub mod EndLemmas
 pub mod StepLemmas
-pub mod FeedLemmas
-pub mod SizeLemmas
-pub mod RefusedLemmas
 pub mod AnswerLemmas
 pub mod ExactLemmas
 pub mod VerdictLemmas

@@ -1,6 +1,6 @@
 -- Words in which captions are inserted are judged packet by packet.
-use Rattle.std.proofs.Common.{◌≡◌, ℕ, ◌%◌, ◌<◌, ◌≤◌, inl, All, List, [], ◌∷◌, ◌++◌, length, take, drop, Option, Ok, Err, refl, ap, sym, subst, ◌∙◌, append_assoc, append-nil, length-append, arith}
-use Rattle.std.proofs.lemmas.List.{length-map, take-append-drop}
+use Rattle.std.proofs.Common.{◌≡◌, ℕ, ◌%◌, ◌<◌, inl, All, List, [], ◌∷◌, ◌++◌, length, take, drop, Option, Ok, Err, refl, ap, sym, subst, ◌∙◌, append_assoc, append-nil, length-append, arith}
+use Rattle.std.proofs.lemmas.List.{length-map}
 use Rattle.std.proofs.lemmas.List.Elements.{All-append, All-cons, All-nil}
 use Rattle.std.specs.List.{concat}
 use Rattle.cc_base.specs.Rate.{rate_code, rate_of}
@@ -9,15 +9,13 @@ use Rattle.cc_base.specs.declared.rate.Rate.{Rate}
 use Rattle.cc_base.specs.declared.refusal.Refusal.{Refusal}
 use Rattle.cc_base.specs.declared.streams.Put.TheVariants as put
 use Rattle.anc_words.specs.Packets.{user_bytes}
-use Rattle.cc_receiver.specs.Receivers.{HasReceived, frame_count}
-use Rattle.cc_receiver.specs.declared.receiver.Ended.{Ended}
+use Rattle.cc_receiver.specs.Receivers.{frame_count}
 use Rattle.cc_receiver.specs.declared.receiver.Ended.TheVariants as ended
 use Rattle.cc_receiver.specs.declared.receiver.Fed.{Fed}
-use Rattle.cc_receiver.specs.declared.receiver.Receiver.{Receiver}
 use Rattle.cc_receiver.proofs.TakenLemmas.{frames_count}
-use Rattle.cdp_packets.specs.Packets.{Packet as Frame}
+use Rattle.cdp_packets.specs.Packets.{Frame}
 use Rattle.cdp_packets.proofs.PacketLemmas.{rate_of-code}
-use Rattle.words_files.specs.Offences.{FirstOffendingWord, IsFileUnder, IsUnoffending}
+use Rattle.words_files.specs.Offences.{FirstOffendingWord, IsUnoffending}
 use Rattle.services_files.specs.CaptionChannel.{caption_channel}
 use Rattle.words_files.proofs.FramesOfLemmas.{file_frames}
 use Rattle.text_output.proofs.PageLemmas.{gathered_more}
@@ -26,8 +24,6 @@ use Rattle.words_reading.proofs.WayLemmas.{way_unwritten}
 use Rattle.words_reading.specs.Causes.{words_limit}
 use Rattle.words_reading.specs.Judging.{HasGathered, HasStopped, IsReady}
 use Rattle.words_reading.specs.declared.judge.Stop.TheVariants as stop
-use Rattle.insert_commands.proofs.EndLemmas.{not_longer}
-use Rattle.insert_commands.proofs.RefusedLemmas.{frames_up_to}
 use Rattle.insert_commands.specs.InsertAnswer.{HaltsInserting, SaysInserted}
 use Rattle.insert_commands.specs.InsertSteps.{HasJudged, HasLastFrame, HasReadWords, Replaces}
 use Rattle.inserted_words.specs.InsertedFile.{AreInserted, BringsFrame}
@@ -36,54 +32,20 @@ use Rattle.inserted_words.specs.Soundness.{HaveRate}
 use Rattle.programmes.specs.Framing.{Framing}
 use Rattle.inserted_words.specs.Captions.{captions_of}
 use Rattle.insert_commands.specs.ListCaptions.{GivesCaptions}
-use Rattle.insert_commands.specs.OpenPackets.{EndsCaption, EndsForeign, HasRead, IsEndedAs, MayFollow, NoPacketEnds, ReadsFront, RefusesWord, open_bytes}
+use Rattle.packet_reading.proofs.EndLemmas.{not_longer}
+use Rattle.packet_reading.proofs.RefusedLemmas.{frames_up_to}
+use Rattle.packet_reading.proofs.WayLemmas.{ends_caption, ends_foreign, read_caption, read_foreign, read_still, spelled_rest}
+use Rattle.packet_reading.proofs.WayLemmas.{may_follow as packets_follow}
+use Rattle.packet_reading.specs.OpenPackets.{EndsCaption, HasRead, MayFollow, ReadsFront, RefusesWord, open_bytes}
 use Rattle.frame_scheduler.specs.declared.frames.Plan.{Plan}
 use Rattle.insert_commands.specs.declared.captions.Captions.{Captions}
 use Rattle.insert_commands.specs.declared.inserting.Halt.{Halt}
 use Rattle.insert_commands.specs.declared.inserting.Inserting.{Inserting}
-use Rattle.insert_commands.specs.declared.packets.Packets.{Packets}
+use Rattle.packet_reading.specs.declared.packets.Packets.{Packets}
 
 -- a rate is told by its code
 pub same_rate : (r s : Rate) → rate_code r ≡ rate_code s → r ≡ s
 same_rate r s same = cc (rate_of-code r, rate_of-code s, ap rate_of same)
-
--- nothing is open behind a packet
-nothing_ends : (file kept : List ℕ) → kept ≡ [] → NoPacketEnds file kept
-nothing_ends file kept none others n some few is = absurd (omega (arith, some, few, ap length none))
-
-pub begun : (frames : List Frame) (file bytes : List ℕ) (receiver : Receiver) (new : Packets) → HasReceived (file ++ bytes) receiver
-    → frame_count receiver ≤ length (file ++ bytes) → IsUnoffending caption_channel (file ++ bytes) → IsFileUnder caption_channel frames (file ++ bytes)
-    → new.receiver ≡ receiver → open_bytes new ≡ [] → HasRead frames (file ++ bytes) new
-begun frames file bytes receiver new received few unoffending under same none =
-    let all : (file ++ bytes) ++ open_bytes new ≡ file ++ bytes = ap (λ b. (file ++ bytes) ++ b) none ∙ append-nil (file ++ bytes) in
-    record {
-      received = subst (λ r. HasReceived ((file ++ bytes) ++ open_bytes new) r) (sym same) (subst (λ b. HasReceived b receiver) (sym all) received);
-      few = subst (λ r. frame_count r ≤ length ((file ++ bytes) ++ open_bytes new)) (sym same) (subst (λ b. frame_count receiver ≤ length b) (sym all) few);
-      unoffending = subst (IsUnoffending caption_channel) (sym all) unoffending;
-      under = under;
-      none = nothing_ends (file ++ bytes) (open_bytes new) none;
-    }
-
--- the bytes judged, and a front of those behind them
-parted : (before file kept front new : List ℕ) → before ≡ file ++ kept → new ≡ kept ++ front → before ++ front ≡ file ++ new
-parted before file kept front new is more =
-    ap (λ b. b ++ front) is ∙ append_assoc file kept front ∙ ap (λ b. file ++ b) (sym more)
-
-rest_parted : (before bytes : List ℕ) (used : ℕ) → before ++ bytes ≡ (before ++ take used bytes) ++ drop used bytes
-rest_parted before bytes used =
-    ap (λ l. before ++ l) (sym (take-append-drop used bytes)) ∙ sym (append_assoc before (take used bytes) (drop used bytes))
-
--- how a packet ended
-pub ends_foreign : (answer : Ended) (frames : List Frame) (file : List ℕ) (mid : Packets) → answer ≡ ended.Foreign → IsEndedAs answer frames file mid
-    → EndsForeign frames file (open_bytes mid) mid
-ends_foreign answer frames file mid is ends = subst (λ e. IsEndedAs e frames file mid) is ends
-
-pub ends_caption : (answer : Ended) (frames : List Frame) (file : List ℕ) (mid : Packets) → answer ≡ ended.Caption → IsEndedAs answer frames file mid
-    → EndsCaption frames file (open_bytes mid) mid
-ends_caption answer frames file mid is ends = subst (λ e. IsEndedAs e frames file mid) is ends
-
-pub ends_no : (answer : Ended) (frames : List Frame) (file : List ℕ) (mid : Packets) → answer ≡ ended.No → IsEndedAs answer frames file mid → HasRead frames file mid
-ends_no answer frames file mid is ends = subst (λ e. IsEndedAs e frames file mid) is ends
 
 -- what is judged of a file, and of the bytes of the packet that is open behind it
 pub judged_so : (list : Framing) (frames : List Frame) (file text bytes : List ℕ) (inserting : Inserting) → bytes ≡ file ++ open_bytes inserting.packets
@@ -123,53 +85,7 @@ has_read list bytes text inserting had =
 
 -- what may follow
 pub may_follow : (inserting : Inserting) (more : ℕ) → IsReady HasReadWords inserting more → MayFollow words_limit inserting.packets more
-may_follow inserting more ready =
-    let within = ready.within in
-    let long = ap length ready.read.spelled in
-    record { frames = ready.read.frames; file = ready.read.file; read = ready.read.read; within = omega (arith, within, long) }
-
--- bytes are read behind others
-module _ (before bytes : List ℕ) (old : Inserting) (had : HasReadWords before old) (mid : Packets) (fed : Fed)
-    (read : ReadsFront had.frames had.file bytes old.packets mid fed) where
-  abbrev whole : List ℕ
-  whole = had.file ++ open_bytes mid
-
-  pub spelled_whole : before ++ take fed.used bytes ≡ had.file ++ open_bytes mid
-  spelled_whole = parted before had.file (open_bytes old.packets) (take fed.used bytes) (open_bytes mid) had.spelled read.kept
-
-  pub spelled_rest : before ++ bytes ≡ (had.file ++ open_bytes mid) ++ drop fed.used bytes
-  spelled_rest = rest_parted before bytes fed.used ∙ ap (λ b. b ++ drop fed.used bytes) spelled_whole
-
-  pub spelled_past : (new : Packets) → open_bytes new ≡ [] → before ++ take fed.used bytes ≡ whole ++ open_bytes new
-  spelled_past new none = spelled_whole ∙ sym (ap (λ b. whole ++ b) none ∙ append-nil whole)
-
-  -- no packet ended
-  abbrev pub read_still : (captions : Captions Plan) → fed.ended ≡ ended.No → HasReadWords (before ++ take fed.used bytes) (record { packets = mid; captions = captions })
-  read_still captions still =
-      record { frames = had.frames; file = had.file; spelled = spelled_whole; read = ends_no fed.ended had.frames had.file mid still read.ends }
-
-  -- or one ended
-  abbrev pub read_foreign : (new : Packets) (captions : Captions Plan) → fed.ended ≡ ended.Foreign → new.receiver ≡ mid.receiver → open_bytes new ≡ []
-      → HasReadWords (before ++ take fed.used bytes) (record { packets = new; captions = captions })
-  read_foreign new captions is_foreign receiver none =
-      let is = ends_foreign fed.ended had.frames had.file mid is_foreign read.ends in
-      record {
-        frames = had.frames;
-        file = whole;
-        spelled = spelled_past new none;
-        read = begun had.frames had.file (open_bytes mid) mid.receiver new is.received is.few is.unoffending is.under receiver none;
-      }
-
-  abbrev pub read_caption : (new : Packets) (captions : Captions Plan) → fed.ended ≡ ended.Caption → new.receiver ≡ mid.receiver → open_bytes new ≡ []
-      → HasReadWords (before ++ take fed.used bytes) (record { packets = new; captions = captions })
-  read_caption new captions is_caption receiver none =
-      let is = ends_caption fed.ended had.frames had.file mid is_caption read.ends in
-      record {
-        frames = had.frames ++ is.frame ∷ [];
-        file = whole;
-        spelled = spelled_past new none;
-        read = begun (had.frames ++ is.frame ∷ []) had.file (open_bytes mid) mid.receiver new is.received is.few is.unoffending is.under receiver none;
-      }
+may_follow inserting more ready = packets_follow inserting.packets ready.before more ready.read ready.within
 
 module _ (list : Framing) (start now : Option (List ℕ)) (held before bytes : List ℕ) (old : Inserting)
     (had : HasGathered (HasJudged list) start now held before old) where
@@ -228,7 +144,7 @@ module _ (list : Framing) (start now : Option (List ℕ)) (held before bytes : L
     pub judged_still : fed.ended ≡ ended.No
         → HasGathered (HasJudged list) start now held (before ++ take fed.used bytes) (record { packets = mid; captions = old.captions })
     judged_still still =
-        let new = read_still before bytes old was mid fed read old.captions still in
+        let new = read_still before bytes old.packets was mid fed read still in
         record {
           text = had.text;
           judged = judged_so list frames file had.text _ (record { packets = mid; captions = old.captions }) new.spelled new.read had.judged.gives
@@ -242,7 +158,7 @@ module _ (list : Framing) (start now : Option (List ℕ)) (held before bytes : L
         → HasGathered (HasJudged list) start then after (before ++ take fed.used bytes) (record { packets = new; captions = old.captions })
     judged_foreign new then after is_foreign gathers receiver none =
         let is = ends_foreign fed.ended frames file mid is_foreign read.ends in
-        let next = read_foreign before bytes old was mid fed read new old.captions is_foreign receiver none in
+        let next = read_foreign before bytes old.packets was mid fed read new is_foreign receiver none in
         record {
           text = had.text ++ open_bytes mid;
           judged = judged_so list frames (file ++ open_bytes mid) (had.text ++ open_bytes mid) _ (record { packets = new; captions = old.captions }) next.spelled next.read
@@ -264,7 +180,7 @@ module _ (list : Framing) (start now : Option (List ℕ)) (held before bytes : L
         → HasGathered (HasJudged list) start then after (before ++ take fed.used bytes) (record { packets = new; captions = captions })
     judged_caption new captions words then after is_caption (rate, gives, (new_frame, inserted, fits, words_are)) gathers receiver none =
         let is = last_of is_caption in
-        let next = read_caption before bytes old was mid fed read new captions is_caption receiver none in
+        let next = read_caption before bytes old.packets was mid fed read new is_caption receiver none in
         let brings : BringsFrame is.frame (open_bytes mid) = record { packet = is.packet; is = is.is; is_caption = is.is_caption; carries = is.carries } in
         record {
           text = had.text ++ words;
@@ -287,7 +203,7 @@ module _ (list : Framing) (start now : Option (List ℕ)) (held before bytes : L
           judged = file ++ open_bytes mid;
           unjudged = drop fed.used bytes;
           text = had.text;
-          spelled = spelled_rest before bytes old was mid fed read;
+          spelled = spelled_rest before bytes old.packets was mid fed read;
           cause = record {
             frames = frames;
             last = is.frame;

@@ -1,3 +1,4 @@
+-- Believed: the program's answer stands on these definitions.
 -- What `insert` answers: each status has its cause, and what was put, in one place. The side file's cue list is read to its end and
 -- judged first, and so is its room; then the bytes of a words file are judged in order, up to the limit, and what stands for each
 -- packet is put before more are taken.
@@ -7,7 +8,7 @@ use Rattle.cc_base.specs.Streams.{Rose, TakesWithin, whole_limit}
 use Rattle.cc_base.specs.declared.limit_of.LimitOf.TheVariants as limit
 use Rattle.cc_base.specs.declared.streams.Put.{Put}
 use Rattle.cc_base.specs.declared.streams.Put.TheVariants as put
-use Rattle.cdp_packets.specs.Packets.{Packet as Frame}
+use Rattle.cdp_packets.specs.Packets.{Frame}
 use Rattle.command_base.specs.Ends.{Ends, IsSteady}
 use Rattle.command_base.specs.WholeInput.{IsReadToEnd}
 use Rattle.command_base.specs.declared.status.Place.TheVariants.{Byte}
@@ -17,7 +18,6 @@ use Rattle.cue_list_commands.specs.Accepted.{IsAccepted, IsRefused}
 use Rattle.cue_list_commands.specs.SideEnds.{SideEnds}
 use Rattle.cue_list_commands.specs.SideLists.{RefusesSide}
 use Rattle.cue_lists.specs.Listing.{Listing}
-use Rattle.findings.specs.declared.finding.Finding.{Finding}
 use Rattle.findings.specs.declared.finding.Kind45.TheVariants as kind
 use Rattle.frame_scheduler.specs.Planned.{Placement}
 use Rattle.packet_inserter.specs.Insertion.{IsInserted, packet_length}
@@ -29,7 +29,7 @@ use Rattle.cue_list_commands.specs.Output.{list_framing}
 use Rattle.programmes.specs.Framing.{Framing}
 use Rattle.inserted_words.specs.Captions.{captions_of}
 use Rattle.inserted_words.specs.Soundness.{HaveRate, IsSoundInsertion}
-use Rattle.words_reading.specs.Causes.{Cause, HasNoOffence, IsAnyhow, IsRefusedWith, IsWholeInput, PassesLimit}
+use Rattle.words_reading.specs.Causes.{Cause, HasEnough, HasNoOffence, IsAnyhow, IsRefusedWith, IsShort, PassesLimit}
 use Rattle.words_reading.specs.Judging.{SaysFront}
 use Rattle.words_reading.specs.Reading.{Stops}
 use Rattle.insert_commands.specs.declared.inserting.Halt.{Halt}
@@ -43,20 +43,13 @@ pub record SaysInserted (list : Framing) (bytes text : List ℕ) : Type 0 where
   pub inserted : AreInserted (captions_of list) frames frames_are.file text
   pub rates : HaveRate list.rate frames
 
--- behind these frames comes one with another rate than the list
-abbrev pub HasOtherRate : Framing → Finding → List Frame → Frame → Type 0
-HasOtherRate list finding frames last =
-    (last.rate ≢ list.rate) × (finding ≡ record { frame = length frames; kind = kind.WrongRate list.rate last.rate })
-
--- one with the list's rate, whose packet would have more than 255 bytes with the list's captions
-abbrev pub ExceedsPacketLength : Framing → List Frame → Frame → Type 0
-ExceedsPacketLength list frames last =
-    (last.rate ≡ list.rate) × ((new : Frame) × IsInserted (captions_of list (length frames)) last new × (255 < packet_length new))
-
--- why an insertion stops at a frame, of those before it
+-- why an insertion stops at a frame that comes behind others: it has another rate than the list; or it has the list's, and its packet would
+-- have more than 255 bytes with the list's captions
 abbrev pub IsHalt : Framing → Halt → List Frame → Frame → Type 0
-IsHalt list (halt.Found finding) frames last = HasOtherRate list finding frames last
-IsHalt list halt.Packet frames last = ExceedsPacketLength list frames last
+IsHalt list (halt.Found finding) frames last =
+    (last.rate ≢ list.rate) × (finding ≡ record { frame = length frames; kind = kind.WrongRate list.rate last.rate })
+IsHalt list halt.Packet frames last =
+    (last.rate ≡ list.rate) × ((new : Frame) × IsInserted (captions_of list (length frames)) last new × (255 < packet_length new))
 
 -- the bytes are a words file that ends with the packet of a frame at which an insertion stops so, and this text stands for the file before it
 pub record HaltsInserting (list : Framing) (why : Halt) (bytes text : List ℕ) : Type 0 where
@@ -71,20 +64,9 @@ pub record HaltsInserting (list : Framing) (why : Halt) (bytes text : List ℕ) 
   pub rates : HaveRate list.rate frames
   pub is : IsHalt list why frames last
 
--- the whole input is a words file with as many frames as the list has, at least
-abbrev pub HasEnough : Framing → Option (List ℕ) → Cause
-HasEnough list left judged unjudged =
-    IsWholeInput left judged unjudged × ((frames : List Frame) × IsFileUnder caption_channel frames judged × (list.count ≤ length frames))
-
--- the whole input is a words file of so many frames, fewer than the list has
-abbrev pub IsShort : Framing → ℕ → Option (List ℕ) → Cause
-IsShort list count left judged unjudged =
-    IsWholeInput left judged unjudged
-    × ((frames : List Frame) × IsFileUnder caption_channel frames judged × (count ≡ length frames) × (length frames < list.count))
-
 -- the whole input was put with the captions of a list, and what was put is sound: a words file that shows what the list authors
 pub record InsertsWhole (list : Listing) (placed : Placement) (old new : Ends) : Type 0 where
-  pub stops : Stops (SaysInserted (list_framing list placed)) (HasEnough (list_framing list placed) old.left) put.Done old new
+  pub stops : Stops (SaysInserted (list_framing list placed)) (HasEnough (list_framing list placed).count old.left) put.Done old new
   pub sound : IsSoundInsertion list placed stops.says.frames stops.text
 
 -- the side file is an accepted cue list, of which in its placement this holds
@@ -97,8 +79,8 @@ StopsInserting Says Why answer side old new =
     OfAcceptedList side (λ list placed. Stops (Says (list_framing list placed)) (Why (list_framing list placed)) answer old new)
 
 -- no count of faults rose, and the words stopped the run for this cause
-abbrev pub JudgesWords : (Framing → List ℕ → List ℕ → Type 0) → (Framing → Cause) → SideEnds → SideEnds → Ends → Ends → Type 0
-JudgesWords Says Why side later old new = (later.faults ≡ side.faults) × IsSteady old new × StopsInserting Says Why put.Done side old new
+abbrev pub InsertIsStopped : (Framing → List ℕ → List ℕ → Type 0) → (Framing → Cause) → SideEnds → SideEnds → Ends → Ends → Type 0
+InsertIsStopped Says Why side later old new = (later.faults ≡ side.faults) × IsSteady old new × StopsInserting Says Why put.Done side old new
 
 -- what `insert` answers
 abbrev pub InsertAnswer : SideEnds → SideEnds → Ends → Ends → Status → Type 0
@@ -115,11 +97,11 @@ InsertAnswer side later old new status.WriteFault =
     × StopsInserting (λ list. SaysFront (SaysInserted list) (HaltsInserting list)) (λ list. IsAnyhow) put.Failed side old new
 InsertAnswer side later old new status.Memory = (later.faults ≡ side.faults) × (new ≡ old)
 InsertAnswer side later old new (status.Limit limit.Bytes) =
-    RefusesSide IsRefused side later old new (status.Limit limit.Bytes) ⊎ JudgesWords SaysInserted (λ list. PassesLimit) side later old new
-InsertAnswer side later old new (status.Limit limit.Packet) = JudgesWords (λ list. HaltsInserting list halt.Packet) (λ list. IsAnyhow) side later old new
+    RefusesSide IsRefused side later old new (status.Limit limit.Bytes) ⊎ InsertIsStopped SaysInserted (λ list. PassesLimit) side later old new
+InsertAnswer side later old new (status.Limit limit.Packet) = InsertIsStopped (λ list. HaltsInserting list halt.Packet) (λ list. IsAnyhow) side later old new
 InsertAnswer side later old new (status.Malformed (Byte place) why) =
-    JudgesWords SaysInserted (λ list. IsRefusedWith (record { place = place; why = why }) old.left) side later old new
+    InsertIsStopped SaysInserted (λ list. IsRefusedWith (record { place = place; why = why }) old.left) side later old new
 InsertAnswer side later old new (status.Differs finding) =
-    JudgesWords (λ list. HaltsInserting list (halt.Found finding)) (λ list. IsAnyhow) side later old new
-InsertAnswer side later old new (status.Short count) = JudgesWords SaysInserted (λ list. IsShort list count old.left) side later old new
+    InsertIsStopped (λ list. HaltsInserting list (halt.Found finding)) (λ list. IsAnyhow) side later old new
+InsertAnswer side later old new (status.Short count) = InsertIsStopped SaysInserted (λ list. IsShort list.count count old.left) side later old new
 InsertAnswer side later old new answer = RefusesSide IsRefused side later old new answer

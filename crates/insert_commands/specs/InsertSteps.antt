@@ -1,9 +1,10 @@
+-- Between crates: the program's answer stands on none of these definitions.
 -- Steps on the way through words in which captions are inserted.
 use Rattle.std.specs.Prelude.{◌≡◌, ◌<◌, ◌≤◌, ◌+◌, ℕ, List, [], ◌∷◌, ◌++◌, length, Result, Ok, Err}
 use Rattle.cc_base.specs.declared.limit_of.LimitOf.TheVariants as limit
 use Rattle.cc_receiver.specs.Receivers.{HasReceived, frame_count}
 use Rattle.cc_receiver.specs.declared.receiver.Receiver.{Receiver}
-use Rattle.cdp_packets.specs.Packets.{Packet as Frame}
+use Rattle.cdp_packets.specs.Packets.{Frame}
 use Rattle.cdp_packets.specs.Sections.{AreSections}
 use Rattle.std.specs.List.{concat}
 use Rattle.command_base.specs.declared.status.Status.{Status}
@@ -17,7 +18,7 @@ use Rattle.programmes.specs.Framing.{Framing}
 use Rattle.inserted_words.specs.Captions.{captions_of}
 use Rattle.insert_commands.specs.InsertAnswer.{IsHalt, SaysInserted}
 use Rattle.insert_commands.specs.ListCaptions.{GivesCaptions}
-use Rattle.insert_commands.specs.OpenPackets.{HasRead, open_bytes}
+use Rattle.packet_reading.specs.OpenPackets.{HasRead, HasReadPackets, open_bytes}
 use Rattle.frame_scheduler.specs.declared.frames.Plan.{Plan}
 use Rattle.insert_commands.specs.declared.captions.Captions.{Captions}
 use Rattle.insert_commands.specs.declared.inserting.Halt.{Halt}
@@ -47,12 +48,9 @@ abbrev pub halt_status : Halt → Status
 halt_status (halt.Found finding) = status.Differs finding
 halt_status halt.Packet = status.Limit limit.Packet
 
--- these bytes were read: a file, and the bytes of the packet that is open behind it
-pub record HasReadWords (bytes : List ℕ) (inserting : Inserting) : Type 0 where
-  pub frames : List Frame
-  pub file : List ℕ
-  pub spelled : bytes ≡ file ++ open_bytes inserting.packets
-  pub read : HasRead frames file inserting.packets
+-- these bytes were read
+abbrev pub HasReadWords : List ℕ → Inserting → Type 0
+HasReadWords bytes inserting = HasReadPackets bytes inserting.packets
 
 -- these bytes were judged, none of whose words offends, and this text stands for their file; the captions of the next frame are next
 pub record HasJudged (list : Framing) (bytes text : List ℕ) (inserting : Inserting) : Type 0 where

@@ -1,9 +1,10 @@
+-- Between crates: the program's answer stands on none of these definitions.
 -- The verdict of an insertion where no count of faults rose: words that can take the captions of an accepted list are answered Ok, malformed
 -- ones with their one refusal, those with too few frames with their number, and those with a frame at which an insertion stops with the reason;
 -- or with want of memory.
 use Rattle.std.specs.Prelude.{◌≡◌, ◌<◌, ◌≤◌, ◌⊎◌, ℕ, List, [], ◌∷◌, ◌++◌, length, take}
 use Rattle.cc_base.specs.declared.refusal.Refusal.{Refusal}
-use Rattle.cdp_packets.specs.Packets.{Packet as Frame}
+use Rattle.cdp_packets.specs.Packets.{Frame}
 use Rattle.command_base.specs.Counts.{IsReadOf}
 use Rattle.command_base.specs.Ends.{Ends}
 use Rattle.command_base.specs.declared.status.Place.TheVariants.{Byte}

@@ -2,4 +2,3 @@ pub mod InsertAnswer
 pub mod InsertSteps
 pub mod InsertVerdict
 pub mod ListCaptions
-pub mod OpenPackets

@@ -1,3 +1,4 @@
+-- Between crates: the program's answer stands on none of these definitions.
 -- The captions of a programme on their way: what its frames have given, and what the carrier has carried.
 use Rattle.std.specs.Prelude.{◌≡◌, ℕ, ◌+◌, ◌<◌, ◌≤◌, MatchOption, Option}
 use Rattle.frame_carrier.specs.Carrying.{IsAt, packets_before}

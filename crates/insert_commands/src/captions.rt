@@ -9,12 +9,9 @@ use cc_base::Rate;
 use cc_data::Triplet;
 use frame_carrier::Carrier;
 use frame_scheduler::{FrameBytes, Frames};
-use line21_codes::{Chan, Pair};
+use line21_codes::{Chan, NULL_PAIR, Pair};
 use line21_slots::Cadence;
 use programmes::Programme;
-
-/// The pair that sends nothing.
-const NULL: Pair = Pair { a: 0x80, b: 0x80 };
 
 /// The captions of a programme, frame by frame.
 #[derive(Drop)]
@@ -30,7 +27,8 @@ pub struct Captions<F> {
 impl<F: Frames + Drop> Captions<F> {
     /// The captions of a programme, from frame 0 on.
     pub(crate) fn new(programme: Programme<F>) -> Captions<F>
-        ensures { (list : Framing) → HasFraming F.left F.Gives list programme → GivesFramed F.left F.Gives list 0 result }
+        ensures { (list : Framing) → HasFraming F.left F.Gives list programme
+            → GivesFramed F.left F.Gives list 0 result }
     {
         let Programme { rate, mut frames } = programme;
         Captions {
@@ -43,7 +41,8 @@ impl<F: Frames + Drop> Captions<F> {
 
     /// The frame rate of the programme.
     pub(crate) fn rate(&self) -> Rate
-        ensures { (list : Framing) (frame : ℕ) → GivesFramed F.left F.Gives list frame self.now → result ≡ list.rate }
+        ensures { (list : Framing) (frame : ℕ) → GivesFramed F.left F.Gives list frame self.now
+            → result ≡ list.rate }
     {
         self.rate
     }
@@ -51,7 +50,8 @@ impl<F: Frames + Drop> Captions<F> {
     /// The triplets of the next frame, which has this number.
     pub(crate) fn next(&mut self, frame: u32) -> ArrayVec<Triplet, 31>
         ensures gives { (list : Framing) → GivesFramed F.left F.Gives list frame self.old
-            → (result.items ≡ captions_of list frame) × GivesFramed F.left F.Gives list (frame + 1) self.new }
+            → (result.items ≡ captions_of list frame)
+            × GivesFramed F.left F.Gives list (frame + 1) self.new }
         ensures kinds { All (λ t. t.kind < 4) result.items }
         ensures few { length result.items ≤ 31 }
     {
@@ -98,7 +98,7 @@ fn silent_pair(rate: Rate, channel: Chan, frame: u32) -> Option<Pair>
     ensures { result ≡ silent_pair rate channel frame }
 {
     if Cadence::of(rate, channel).has_slot_in(frame) {
-        Some(NULL)
+        Some(NULL_PAIR)
     } else {
         None
     }

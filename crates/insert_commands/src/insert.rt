@@ -21,9 +21,11 @@ pub fn run_insert<M: Source, S: Source, O: Sink>(
     side: &mut S,
     out: &mut O,
 ) -> Status
-    ensures { InsertAnswer (side_ends (S.left side.old) (S.faults side.old)) (side_ends (S.left side.new) (S.faults side.new))
+    ensures { InsertAnswer (side_ends (S.left side.old) (S.faults side.old))
+        (side_ends (S.left side.new) (S.faults side.new))
         (ends (M.left input.old) (M.faults input.old) (O.written out.old) (O.faults out.old))
-        (ends (M.left input.new) (M.faults input.new) (O.written out.new) (O.faults out.new)) result }
+        (ends (M.left input.new) (M.faults input.new) (O.written out.new)
+        (O.faults out.new)) result }
 {
     let programme = match read_programme(alloc, side) {
         Ok(programme) => programme,

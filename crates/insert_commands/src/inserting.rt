@@ -1,6 +1,6 @@
 ghost use Rattle.std.specs.Prelude.{◌≡◌, ◌<◌, ◌≤◌, ◌++◌, ◌∷◌, [], ℕ, List, IfOk, MatchBool, length};
 ghost use Rattle.cc_receiver.specs.Receivers.{HasReceived};
-ghost use Rattle.cdp_packets.specs.Packets.{Packet as Frame};
+ghost use Rattle.cdp_packets.specs.Packets.{Frame};
 ghost use Rattle.cdp_packets.specs.Sections.{AreSections};
 ghost use Rattle.words_files.specs.FramesOf.{AreFramesOf};
 ghost use Rattle.services_files.specs.CaptionChannel.{caption_channel};
@@ -11,8 +11,7 @@ ghost use Rattle.insert_commands.specs.InsertSteps.{HasJudged, HasLastFrame, Has
 ghost use Rattle.insert_commands.specs.ListCaptions.{GivesCaptions};
 
 use crate::captions::Captions;
-use crate::packets::Packets;
-use anc_words::write_packet;
+use anc_words::{CAPTION_DID, CAPTION_SDID, write_packet};
 use arrayvec::ArrayVec;
 use cc_base::{LimitOf, Put, Refusal, Sink};
 use cc_receiver::{Ended, Receiver};
@@ -21,15 +20,11 @@ use command_base::Status;
 use findings::{Finding, Kind45};
 use frame_scheduler::Plan;
 use packet_inserter::insert;
+use packet_reading::Packets;
 use programmes::Programme;
 use std::alloc::{AllocError, Global};
 use text_output::Gathered;
 use words_reading::{Judge, Reason, Stop};
-
-/// The identifiers of ancillary packets of captions (SMPTE ST 334-1).
-const CAPTION_DID: u8 = 0x61;
-
-const CAPTION_SDID: u8 = 0x01;
 
 /// Why an insertion stops at a frame.
 #[derive(Clone, Copy, Debug, PartialEq, Eq)]
@@ -63,7 +58,8 @@ impl Inserting {
     /// An insertion of a programme's captions that judged nothing.
     pub(crate) fn new(alloc: Global, programme: Programme<Plan>) -> Result<Inserting, AllocError>
         ensures read { IfOk result (λ inserting. HasReadWords [] inserting) }
-        ensures judged { (list : Framing) → HasFraming frames_left GivesFrom list programme → IfOk result (λ inserting. HasJudged list [] [] inserting) }
+        ensures judged { (list : Framing) → HasFraming frames_left GivesFrom list programme
+            → IfOk result (λ inserting. HasJudged list [] [] inserting) }
     {
         Ok(Inserting {
             packets: Packets::new(alloc)?,
@@ -73,14 +69,17 @@ impl Inserting {
 
     /// Whether the programme has no frame from the next one on.
     pub(crate) fn is_over(&self) -> bool
-        ensures { (list : Framing) (bytes text : List ℕ) (had : HasJudged list bytes text self.now) → MatchBool result (list.count ≤ length had.says.frames) (length had.says.frames < list.count) }
+        ensures { (list : Framing) (bytes text : List ℕ) (had : HasJudged list bytes text self.now)
+            → MatchBool result (list.count ≤ length had.says.frames)
+            (length had.says.frames < list.count) }
     {
         self.captions.is_over()
     }
 
     /// The number of frames that ended.
     pub(crate) fn frames(&self) -> u32
-        ensures { (list : Framing) (bytes text : List ℕ) (had : HasJudged list bytes text self.now) → result ≡ length had.says.frames }
+        ensures { (list : Framing) (bytes text : List ℕ) (had : HasJudged list bytes text self.now)
+            → result ≡ length had.says.frames }
     {
         self.packets.frames()
     }
@@ -157,9 +156,12 @@ fn replace(
 ) -> Result<(), Halt>
     requires frame { HasLastFrame receiver.now }
     requires empty { words.old.items ≡ [] }
-    ensures { (list : Framing) (bytes : List ℕ) (earlier : List Frame) (last : Frame) → HasReceived bytes receiver.now
-        → AreFramesOf caption_channel (earlier ++ last ∷ []) bytes → AreSections last.sections → frame ≡ length earlier
-        → GivesCaptions list (length earlier) captions.old → Replaces list earlier last captions.new words.new.items result }
+    ensures { (list : Framing) (bytes : List ℕ) (earlier : List Frame) (last : Frame)
+        → HasReceived bytes receiver.now
+        → AreFramesOf caption_channel (earlier ++ last ∷ []) bytes → AreSections last.sections
+        → frame ≡ length earlier
+        → GivesCaptions list (length earlier) captions.old
+        → Replaces list earlier last captions.new words.new.items result }
 {
     let (expected, seen) = (captions.rate(), receiver.rate());
     if seen.code() != expected.code() {

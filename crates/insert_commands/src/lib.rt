@@ -7,4 +7,3 @@ mod captions;
 mod insert;
 mod inserting;
 pub mod laws;
-mod packets;

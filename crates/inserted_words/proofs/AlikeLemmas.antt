@@ -5,7 +5,7 @@ use Rattle.std.proofs.lemmas.List.{map-append}
 use Rattle.std.proofs.lemmas.List.Elements.{All-cons, All-head, All-nil, All-tail}
 use Rattle.anc_words.specs.Packets.{AncillaryPacket, user_bytes}
 use Rattle.cc_data.specs.declared.triplet.Triplet.{Triplet}
-use Rattle.cdp_packets.specs.Packets.{Packet as Frame}
+use Rattle.cdp_packets.specs.Packets.{Frame}
 use Rattle.cdp_packets.specs.PacketTriplets.{packet_triplets}
 use Rattle.cdp_packets.specs.Written.{cc_data_section}
 use Rattle.cdp_packets.proofs.SectionLemmas.{cc_data_section-triplets}
@@ -14,7 +14,7 @@ use Rattle.frame_carrier.specs.Carrying.{channel_packet_of, column_packets, fram
 use Rattle.frame_carrier.proofs.CarryingLemmas.{frame_kinds, frame_number, packet_kinds, triplets_many}
 use Rattle.packet_inserter.specs.Insertion.{IsInserted}
 use Rattle.packet_inserter.proofs.OneWayLemmas.{inserted-triplets}
-use Rattle.services_carried.specs.Told.{AreAlike}
+use Rattle.services_carried.specs.Told.{CarryTheSame}
 use Rattle.words_files.specs.Frames.{CarryFrames}
 use Rattle.words_files.specs.Frames.CarryFrames.{none, caption, foreign}
 use Rattle.programmes.specs.Framing.{Framing}
@@ -95,7 +95,7 @@ by_last f xs ys all others x y all_is others_is front last =
 
 -- frames with the captions of a programme say what its own frames say
 captions_alike : (captions : ℕ → List Triplet) (frames news : List Frame) → HaveCaptions captions frames news → (list : Framing)
-    → captions ≡ captions_of list → HaveRate list.rate frames → AreAlike news (column_packets list.rate (padded list) 0 (length frames))
+    → captions ≡ captions_of list → HaveRate list.rate frames → CarryTheSame news (column_packets list.rate (padded list) 0 (length frames))
 captions_alike _ _ _ (no_frame _) list own rates = record { rates = refl; triplets = refl }
 captions_alike _ _ _ (one_more captions frames news all all_news old new before inserted all_is news_is) list own rates =
     let of_all = subst (HaveRate list.rate) all_is rates in
@@ -116,5 +116,5 @@ captions_alike _ _ _ (one_more captions frames news all all_news old new before 
     }
 
 pub say_alike : (list : Framing) (frames news : List Frame) → HaveCaptions (captions_of list) frames news → HaveRate list.rate frames
-    → AreAlike news (column_packets list.rate (padded list) 0 (length frames))
+    → CarryTheSame news (column_packets list.rate (padded list) 0 (length frames))
 say_alike list frames news have rates = captions_alike (captions_of list) frames news have list refl rates

@@ -10,7 +10,7 @@ use Rattle.anc_words.proofs.PacketLemmas.{packet_bytes-is, user_bytes-packet_of}
 use Rattle.anc_words.proofs.WordsFileLemmas.{IsWordsFile-nil, IsWordsFile-one}
 use Rattle.cc_base.specs.Rate.{rate_code}
 use Rattle.cc_data.specs.declared.triplet.Triplet.{Triplet}
-use Rattle.cdp_packets.specs.Packets.{IsCdp, Packet as Frame}
+use Rattle.cdp_packets.specs.Packets.{Frame, IsCdp}
 use Rattle.cdp_packets.specs.Sections.{AreSections}
 use Rattle.cdp_packets.specs.Written.{cc_data_section, checksum_of, unsummed_packet, written_packet}
 use Rattle.cdp_packets.proofs.PacketLemmas.{written-is_packet}

@@ -102,3 +102,13 @@ module _ (list : Framing) (has : (frame : ℕ) → HasBlocks list.columns frame)
 
   pub padded_blocks : (frame : ℕ) → HasBlocks (padded list) frame
   padded_blocks frame = blocks_by frame (nat_lt frame list.count) refl
+
+  -- from the programme's end on nothing is sent
+  blocks_silent : (frame : ℕ) (b : Bool) (is : nat_lt frame list.count ≡ b) → list.count ≤ frame → (blocks_by frame b is).sent ≡ []
+  unfolding blocks_by
+  blocks_silent frame true is past = absurd (let below : frame < list.count = grind (arith, nat_tests) in omega (arith, past, below))
+  blocks_silent frame false is past = refl
+
+  pub padded_silent : (frame : ℕ) → list.count ≤ frame → (padded_blocks frame).sent ≡ []
+  unfolding padded_blocks
+  padded_silent frame past = blocks_silent frame (nat_lt frame list.count) refl past

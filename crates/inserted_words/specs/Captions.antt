@@ -1,3 +1,4 @@
+-- Believed: the program's answer stands on these definitions.
 -- The captions of a programme, frame by frame: those that it carries, and from its end on those of a frame without captions.
 use Rattle.std.specs.Prelude.{ℕ, nat_lt, if◌then◌else◌, List}
 use Rattle.cc_data.specs.declared.triplet.Triplet.{Triplet}

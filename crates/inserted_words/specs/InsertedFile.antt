@@ -1,3 +1,4 @@
+-- Believed: the program's answer stands on these definitions.
 -- A words file with new captions (SMPTE ST 291-1, ST 334-1 and ST 334-2): packets that aren't of captions stay byte for byte and in
 -- place, and each other one carries its distribution packet with the triplets of its frame in place of its own.
 use Rattle.std.specs.Prelude.{◌≡◌, ◌≤◌, ℕ, List, [], ◌∷◌, ◌++◌, length}
@@ -6,7 +7,7 @@ use Rattle.anc_words.specs.Packets.{AncillaryPacket, IsCaption, user_bytes}
 use Rattle.anc_words.specs.WordsFiles.{IsPacketBytes}
 use Rattle.anc_words.specs.Writing.{packet_bytes}
 use Rattle.cc_data.specs.declared.triplet.Triplet.{Triplet}
-use Rattle.cdp_packets.specs.Packets.{IsCdp, Packet as Frame}
+use Rattle.cdp_packets.specs.Packets.{Frame, IsCdp}
 use Rattle.cdp_packets.specs.Written.{written_packet}
 use Rattle.packet_inserter.specs.Insertion.{IsInserted, packet_length}
 

@@ -1,3 +1,4 @@
+-- Believed: the program's answer stands on these definitions.
 -- The caption channels of line 21 and their cues (CTA-608-E; 47 CFR 79.101).
 use Rattle.line21_codes.specs.declared.channels.FieldNumber.{FieldNumber}
 use Rattle.line21_codes.specs.declared.channels.FieldNumber.TheVariants.{One}

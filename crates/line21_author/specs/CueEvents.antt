@@ -1,3 +1,4 @@
+-- Believed: the program's answer stands on these definitions.
 -- The events of a channel: the end-of-caption code that shows a pop-on cue, and the erasure of the
 -- displayed memory that hides a cue (CTA-608-E; 47 CFR 79.101). The times of the cues are in slots of the channel's field.
 use Rattle.std.specs.Prelude.{ℕ, ◌==◌, ◌&&◌, Bool, false, if◌then◌else◌, Option, Some, None, List, [], ◌∷◌, ◌++◌}
@@ -5,7 +6,7 @@ use Rattle.line21_codes.specs.declared.channels.Chan.{Chan}
 use Rattle.line21_codes.specs.declared.channels.FieldNumber.{FieldNumber}
 use Rattle.line21_codes.specs.declared.codes.Control.{Control}
 use Rattle.line21_codes.specs.declared.codes.Control.TheVariants.{Eoc, Edm}
-use Rattle.line21_codes.specs.Writing.{written}
+use Rattle.line21_codes.specs.Writing.{pair_of_code}
 use Rattle.cue_lists.specs.declared.cue.Cue.{Cue}
 use Rattle.cue_lists.specs.Rules.Lane.{is_pop}
 use Rattle.line21_author.specs.declared.event.Event.{Event}
@@ -15,7 +16,7 @@ use Rattle.line21_author.specs.FirstChannel.{first_channel}
 
 -- a control code at a slot, in a field
 abbrev pub control_event : FieldNumber → ℕ → Control → Event
-control_event in_field slot control = record { slot = slot; pair = written in_field (first_channel control) }
+control_event in_field slot control = record { slot = slot; pair = pair_of_code in_field (first_channel control) }
 
 -- a pop-on cue is shown at its SHOW; other cues are written onto the screen
 abbrev pub show_events : FieldNumber → Cue → List Event

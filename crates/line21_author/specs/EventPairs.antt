@@ -1,3 +1,4 @@
+-- Between crates: the program's answer stands on none of these definitions.
 -- The pairs of events: control pairs with odd parity (CTA-608-E; 47 CFR 79.101).
 use Rattle.std.specs.Prelude.{◌≡◌, true}
 use Rattle.line21_codes.specs.ControlPairs.{is_control}

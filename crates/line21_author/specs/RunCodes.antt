@@ -1,3 +1,4 @@
+-- Believed: the program's answer stands on these definitions.
 -- The codes of a run: the pen is brought to its place and style, and its text follows
 -- (preambles, tab offsets and mid-row codes: CTA-608-E; 47 CFR 79.101).
 use Rattle.std.specs.Prelude.{ℕ, ◌-◌, ◌%◌, ◌==◌, ◌&&◌, not, Bool, false, if◌then◌else◌, Option, Some, None, List, [], ◌∷◌, ◌++◌}

@@ -1,3 +1,4 @@
+-- Between crates: the program's answer stands on none of these definitions.
 -- The pairs of units: both bytes have odd parity, and exactly a control pair is sent twice
 -- (CTA-608-E; 47 CFR 79.101).
 use Rattle.std.specs.Prelude.{◌≡◌, true}

@@ -1,6 +1,6 @@
 ghost use Rattle.std.specs.Prelude.{◌≡◌};
 ghost use Rattle.line21_codes.specs.Writable.{IsWritable};
-ghost use Rattle.line21_codes.specs.Writing.{written};
+ghost use Rattle.line21_codes.specs.Writing.{pair_of_code};
 ghost use Rattle.line21_author.specs.FirstChannel.{first_channel};
 ghost use Rattle.line21_author.specs.Channels.{field_of_kind};
 
@@ -30,7 +30,7 @@ pub(crate) fn field_of_kind(kind: Kind) -> FieldNumber
 /// The pair with which a field writes a code.
 pub(crate) fn write_in(in_field: FieldNumber, code: Code) -> Pair
     requires { IsWritable code }
-    ensures { result ≡ written in_field code }
+    ensures { result ≡ pair_of_code in_field code }
 {
     match in_field {
         FieldNumber::One => write_code(code, false),

@@ -46,9 +46,11 @@ pub fn events(
     channel: Chan,
     cadence: Cadence,
 ) -> Result<Vec<Event>, AllocError>
-    ensures events { IfOk result (λ events. events.items ≡ channel_events channel (cues_in_slots cadence cues.now)) }
+    ensures events { IfOk result
+        (λ events. events.items ≡ channel_events channel (cues_in_slots cadence cues.now)) }
     ensures control { IfOk result (λ events. All IsControlEvent events.items) }
-    ensures apart { IfOk result (λ events. (frames : ℕ) → AreInSequence (step_of cadence) frames (cues_on channel cues.now)
+    ensures apart { IfOk result
+        (λ events. (frames : ℕ) → AreInSequence (step_of cadence) frames (cues_on channel cues.now)
         → All (IsOnSlots cadence) (cues_on channel cues.now) → AreApart events.items) }
 {
     let in_field = channel.field();
@@ -83,7 +85,8 @@ fn push_change(
     cadence: Cadence,
 ) -> Result<(), AllocError>
     ensures { OnOk result (events.new.items ≡ events.old.items
-        ++ (hide_events in_field hide (timed_in_slots cadence next.now ∷ []) ++ show_events in_field (timed_in_slots cadence next.now))) }
+        ++ (hide_events in_field hide (timed_in_slots cadence next.now ∷ [])
+        ++ show_events in_field (timed_in_slots cadence next.now))) }
 {
     let pop_on = is_pop(next.kind);
     let show = cadence.slot_from(next.show);

@@ -28,7 +28,8 @@ fn push_spelling(
     spelling: Spelling,
 ) -> Result<Option<u8>, AllocError>
     ensures { IfOk result (λ after. (rest : List Spelling)
-        → codes.new.items ++ packed after rest ≡ codes.old.items ++ packed waiting (spelling ∷ rest)) }
+        → codes.new.items ++ packed after rest
+        ≡ codes.old.items ++ packed waiting (spelling ∷ rest)) }
 {
     match (spelling, waiting) {
         (Spelling::Basic(byte), None) => Ok(Some(byte)),

@@ -15,7 +15,7 @@ use Rattle.line21_codes.specs.Parity.{with_parity, low_bits, has_odd_parity}
 use Rattle.line21_codes.specs.ControlPairs.{are_control, is_control, control_at}
 use Rattle.line21_codes.specs.Reading.{code_at, code_of}
 use Rattle.line21_codes.specs.SkippedPairs.{is_listed}
-use Rattle.line21_codes.specs.Writing.{control_bytes, code_bytes, written}
+use Rattle.line21_codes.specs.Writing.{control_bytes, code_bytes, pair_of_code}
 use Rattle.line21_codes.specs.Writable.{IsWritable, IsText, is_skipped, IsReadable, is_doubled}
 use Rattle.line21_codes.proofs.Tables.{all_below, at_each, implies, implies-true}
 use Rattle.line21_codes.proofs.ParityLemmas.{with_parity-odd, with_parity-bits, with_parity-byte}
@@ -154,27 +154,27 @@ code_of_parity first second below second_below =
     rw (with_parity-odd first below, with_parity-odd second second_below, with_parity-bits first below, with_parity-bits second second_below) refl
 
 -- what is written is read back
-pub written-code_of : (f : FieldNumber) (code : Code) → IsWritable code → code_of (written f code) ≡ code
-unfolding written
+pub written-code_of : (f : FieldNumber) (code : Code) → IsWritable code → code_of (pair_of_code f code) ≡ code
+unfolding pair_of_code
 written-code_of f code h =
     let back = reads_back_at f code h in
     code_of_parity (code_bytes f code).0 (code_bytes f code).1 back.first back.second ∙ back.is
 
 -- what is written has odd parity
-pub written-odd : (f : FieldNumber) (code : Code) → IsWritable code → has_odd_parity (written f code) ≡ true
-unfolding written
+pub written-odd : (f : FieldNumber) (code : Code) → IsWritable code → has_odd_parity (pair_of_code f code) ≡ true
+unfolding pair_of_code
 written-odd f code h =
     let back = reads_back_at f code h in
     rw (with_parity-odd (code_bytes f code).0 back.first, with_parity-odd (code_bytes f code).1 back.second) refl
 
 -- the first byte is a byte
-pub written-a : (f : FieldNumber) (code : Code) → IsWritable code → (written f code).a < 256
-unfolding written
+pub written-a : (f : FieldNumber) (code : Code) → IsWritable code → (pair_of_code f code).a < 256
+unfolding pair_of_code
 written-a f code h = with_parity-byte (code_bytes f code).0 (reads_back_at f code h).first
 
 -- the second byte is a byte
-pub written-b : (f : FieldNumber) (code : Code) → IsWritable code → (written f code).b < 256
-unfolding written
+pub written-b : (f : FieldNumber) (code : Code) → IsWritable code → (pair_of_code f code).b < 256
+unfolding pair_of_code
 written-b f code h = with_parity-byte (code_bytes f code).1 (reads_back_at f code h).second
 
 -- a control pair is one whose code is sent twice
@@ -195,8 +195,8 @@ unfolding is_control code_of
 is_control-code_of pair = doubled_if (has_odd_parity pair) (low_bits pair.a) (low_bits pair.b) (omega arith) (omega arith)
 
 -- a control pair is written exactly for the codes that are sent twice
-pub is_control-written : (f : FieldNumber) (code : Code) → IsWritable code → is_control (written f code) ≡ is_doubled code
-is_control-written f code h = is_control-code_of (written f code) ∙ ap is_doubled (written-code_of f code h)
+pub is_control-written : (f : FieldNumber) (code : Code) → IsWritable code → is_control (pair_of_code f code) ≡ is_doubled code
+is_control-written f code h = is_control-code_of (pair_of_code f code) ∙ ap is_doubled (written-code_of f code h)
 
 -- what is read and not skipped can be written
 covered_at : (first second : ℕ) → first < 128 → second < 128 → is_skipped (code_at first second) ≡ false → IsWritable (code_at first second)
@@ -224,12 +224,12 @@ IsWritable-kept _ h = refl
 -- the codes that can be written are those that can be read and are not skipped
 pub writable_iff_readable : (code : Code) → IsWritable code ↔ (IsReadable code × (is_skipped code ≡ false))
 writable_iff_readable code = (
-  λ h. ((written One code, written-a One code h, written-b One code h, written-odd One code h, written-code_of One code h), IsWritable-kept code h),
+  λ h. ((pair_of_code One code, written-a One code h, written-b One code h, written-odd One code h, written-code_of One code h), IsWritable-kept code h),
   λ (h : IsReadable code × (is_skipped code ≡ false)). let is : code_of h.0.0 ≡ code = h.0.4 in subst IsWritable is (writable_from_read h.0.0 (subst (λ c. is_skipped c ≡ false) (sym is) h.1)),
 )
 
 -- the same of any pair that is the written one
-pub written_is_read : (f : FieldNumber) (code : Code) (pair : Pair) → pair ≡ written f code → IsWritable code → code_of pair ≡ code
+pub written_is_read : (f : FieldNumber) (code : Code) (pair : Pair) → pair ≡ pair_of_code f code → IsWritable code → code_of pair ≡ code
 written_is_read f code pair is h = ap code_of is ∙ written-code_of f code h
 
 -- the skipped bytes are those of the list

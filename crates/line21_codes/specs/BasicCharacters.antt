@@ -1,3 +1,4 @@
+-- Believed: the program's answer stands on these definitions.
 -- The basic characters: the bytes 20 to 7F of a text pair
 -- (CTA-608-E and 47 CFR 79.101, standard characters).
 use Rattle.std.specs.Prelude.{ℕ, ◌-◌, nat_le, if◌then◌else◌, List, [], ◌∷◌, Option, None, slice_get}

@@ -1,3 +1,4 @@
+-- Believed in part: the program's answer stands on some of these definitions.
 -- The caption channels of line 21: CC1 and CC2 are data channels 1 and 2 of field 1, CC3 and CC4 those of field 2 (CTA-608-E;
 -- 47 CFR 79.101).
 use Rattle.std.specs.Prelude.{Bool, true, false}

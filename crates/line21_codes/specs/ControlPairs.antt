@@ -1,3 +1,4 @@
+-- Believed: the program's answer stands on these definitions.
 -- Control pairs: a first byte 10 to 1F and a second byte 20 to 7F
 -- (CTA-608-E and 47 CFR 79.101, control codes).
 use Rattle.std.specs.Prelude.{ℕ, ◌==◌, ◌&&◌, ◌||◌, nat_lt, nat_le, Bool, if◌then◌else◌}

@@ -1,3 +1,4 @@
+-- Believed: the program's answer stands on these definitions.
 -- The extended characters: first bytes 12 and 13, second bytes 20 to 3F
 -- (CTA-608-E, extended character sets).
 use Rattle.std.specs.Prelude.{ℕ, ◌-◌, ◌==◌, nat_le, if◌then◌else◌, List, [], ◌∷◌, Option, None, slice_get}

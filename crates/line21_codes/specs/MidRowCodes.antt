@@ -1,3 +1,4 @@
+-- Believed: the program's answer stands on these definitions.
 -- The mid-row codes: first byte 11, second bytes 20 to 2F
 -- (CTA-608-E and 47 CFR 79.101, mid-row codes).
 use Rattle.std.specs.Prelude.{ℕ, ◌-◌, ◌/◌, ◌%◌, ◌==◌, List, [], ◌∷◌, Option, Some, None, slice_index_or}

@@ -1,3 +1,4 @@
+-- Believed: the program's answer stands on these definitions.
 -- Null pairs of line 21, which a field carries where it has nothing to say (CTA-608-E).
 use Rattle.std.specs.Prelude.{◌==◌, ◌&&◌, Bool}
 use Rattle.line21_codes.specs.declared.pairs.Pair.{Pair}

@@ -1,3 +1,4 @@
+-- Believed: the program's answer stands on these definitions.
 -- The parity of line 21 bytes: the eighth bit makes the number of ones odd
 -- (CTA-608-E and 47 CFR 79.101).
 use Rattle.std.specs.Prelude.{ℕ, ◌+◌, ◌%◌, ◌==◌, ◌&&◌, Bool, if◌then◌else◌, count_ones}

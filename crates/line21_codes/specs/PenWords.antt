@@ -1,3 +1,4 @@
+-- Believed: the program's answer stands on these definitions.
 -- The words of line 21 pens, in cue lists and in the texts of screens: a colour, and behind it -i for italics and -u for underlining.
 use Rattle.std.specs.Prelude.{ℕ, Bool, if◌then◌else◌, List, [], codes}
 use Rattle.line21_codes.specs.declared.styles.Colour.{Colour}

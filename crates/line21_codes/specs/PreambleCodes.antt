@@ -1,3 +1,4 @@
+-- Believed: the program's answer stands on these definitions.
 -- The preamble address codes (CTA-608-E and 47 CFR 79.101, preamble address codes).
 use Rattle.std.specs.Prelude.{ℕ, ◌-◌, ◌/◌, ◌%◌, ◌==◌, nat_lt, Bool, true, false, if◌then◌else◌, List, [], ◌∷◌, slice_index_or}
 use Rattle.line21_codes.specs.declared.codes.Control.{Control}

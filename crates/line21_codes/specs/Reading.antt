@@ -1,3 +1,4 @@
+-- Believed: the program's answer stands on these definitions.
 -- What a pair stands for: the classes of pairs (CTA-608-E and 47 CFR 79.101).
 use Rattle.std.specs.Prelude.{ℕ, ◌-◌, ◌==◌, ◌&&◌, nat_lt, nat_le, true, false, if◌then◌else◌}
 use Rattle.line21_codes.specs.declared.codes.Code.{Code}

@@ -1,3 +1,4 @@
+-- Believed in part: the program's answer stands on some of these definitions.
 -- Repeats of control pairs: a control pair is sent twice, and a receiver acts on it once
 -- (CTA-608-E and 47 CFR 79.101). In each longest stretch of equal control pairs, counted from 0,
 -- the pairs with odd numbers are repeats. The pairs before stand newest first.

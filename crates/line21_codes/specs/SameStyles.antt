@@ -1,3 +1,4 @@
+-- Believed: the program's answer stands on these definitions.
 -- Tests of whether two colours, and two styles, are one (CTA-608-E, mid-row codes and preamble address codes).
 use Rattle.std.specs.Prelude.{◌&&◌, Bool, true, false}
 use Rattle.std.specs.Bool.{beq}

@@ -1,3 +1,4 @@
+-- Between crates: the program's answer stands on none of these definitions.
 -- The control pairs that a receiver of captions passes over (CTA-608-E and 47 CFR 79.101).
 use Rattle.std.specs.Prelude.{ℕ, ◌-◌, ◌==◌, ◌&&◌, nat_lt, nat_le, Bool, if◌then◌else◌, List, [], ◌∷◌}
 use Rattle.std.specs.List.{list_any}

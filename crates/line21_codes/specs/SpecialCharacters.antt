@@ -1,3 +1,4 @@
+-- Believed: the program's answer stands on these definitions.
 -- The special characters: first byte 11, second bytes 30 to 3F
 -- (CTA-608-E and 47 CFR 79.101, special characters).
 use Rattle.std.specs.Prelude.{ℕ, ◌-◌, ◌==◌, nat_le, Bool, false, if◌then◌else◌, List, [], ◌∷◌, Option, Some, None, slice_index_or}

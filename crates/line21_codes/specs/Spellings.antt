@@ -1,3 +1,4 @@
+-- Believed in part: the program's answer stands on some of these definitions.
 -- The spelling of a character: basic before special before extended (CTA-608-E, 47 CFR 79.101).
 use Rattle.std.specs.Prelude.{◌≡◌, ◌≢◌, ℕ, ◌+◌, ◌<◌, ◌≤◌, ◌==◌, Option, Some, slice_index_or}
 use Rattle.std.specs.List.{position}

@@ -1,3 +1,4 @@
+-- Believed: the program's answer stands on these definitions.
 -- The tab offsets: first byte 17 (CTA-608-E and 47 CFR 79.101, tab offsets).
 use Rattle.std.specs.Prelude.{ℕ, ◌-◌, List, [], ◌∷◌, slice_index_or}
 use Rattle.line21_codes.specs.declared.codes.Control.{Control}

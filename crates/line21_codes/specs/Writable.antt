@@ -1,3 +1,4 @@
+-- Believed in part: the program's answer stands on some of these definitions.
 -- The codes that can be written, by what each says; and the codes that are sent twice.
 use Rattle.std.specs.Prelude.{◌≡◌, ◌⊎◌, ℕ, ◌%◌, ◌<◌, ◌≤◌, Bool, true, false, ⊤}
 use Rattle.line21_codes.specs.declared.codes.Code.{Code}

@@ -1,3 +1,4 @@
+-- Believed: the program's answer stands on these definitions.
 -- How a code is written as a pair: the tables from a code to its bytes
 -- (CTA-608-E and 47 CFR 79.101).
 use Rattle.std.specs.Prelude.{ℕ, ◌+◌, ◌-◌, ◌/◌, Bool, true, false, if◌then◌else◌, List, [], ◌∷◌, Some, None, Option, slice_index_or}
@@ -94,7 +95,7 @@ code_bytes in_field (Control second control) =
     (if second then bytes.0 + 8 else bytes.0, bytes.1)
 
 -- the pair with which a field writes a code
-unfoldable pub written : FieldNumber → Code → Pair
-written in_field code =
+unfoldable pub pair_of_code : FieldNumber → Code → Pair
+pair_of_code in_field code =
     let bytes = code_bytes in_field code in
     record { a = with_parity bytes.0; b = with_parity bytes.1 }

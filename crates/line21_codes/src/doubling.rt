@@ -36,8 +36,10 @@ impl Doubler {
     /// their bytes are, parity bits included, and a pair with bad parity is no control pair
     /// (CTA-608-E, 47 CFR 79.101).
     pub fn step(&mut self, pair: Pair) -> bool
-        ensures ignored { (before : List Pair) → Waits before self.old → result ≡ is_ignored before pair }
-        ensures waits { (before : List Pair) → Waits before self.old → Waits (pair ∷ before) self.new }
+        ensures ignored { (before : List Pair) → Waits before self.old
+            → result ≡ is_ignored before pair }
+        ensures waits { (before : List Pair) → Waits before self.old
+            → Waits (pair ∷ before) self.new }
     {
         let ignored = self.is_waiting(pair);
         let is_first = pair.is_control() & !ignored;

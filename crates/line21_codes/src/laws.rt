@@ -8,7 +8,7 @@ ghost use Rattle.line21_codes.specs.declared.characters.Spelling.{Spelling};
 ghost use Rattle.line21_codes.specs.Parity.{has_odd_parity, low_bits};
 ghost use Rattle.line21_codes.specs.ControlPairs.{is_control};
 ghost use Rattle.line21_codes.specs.Reading.{code_of};
-ghost use Rattle.line21_codes.specs.Writing.{written};
+ghost use Rattle.line21_codes.specs.Writing.{pair_of_code};
 ghost use Rattle.line21_codes.specs.Writable.{IsWritable, IsReadable, is_skipped, is_doubled};
 ghost use Rattle.line21_codes.specs.SkippedPairs.{is_listed};
 ghost use Rattle.line21_codes.specs.Repeats.{is_ignored, Blocks};
@@ -17,16 +17,17 @@ ghost use Rattle.line21_codes.specs.Spellings.{spelling_of, Shows, HasNoCode};
 /// What is written is read back, in either field, and has odd parity.
 pub fn written_is_read()
     ensures code { (in_field : FieldNumber) (code : Code) → IsWritable code
-        → code_of (written in_field code) ≡ code }
+        → code_of (pair_of_code in_field code) ≡ code }
     ensures parity { (in_field : FieldNumber) (code : Code) → IsWritable code
-        → has_odd_parity (written in_field code) ≡ true }
+        → has_odd_parity (pair_of_code in_field code) ≡ true }
 {}
 
 /// What is read and not skipped can be written, in either field, as a pair that is read alike.
 pub fn read_is_written()
-    ensures writable { (pair : Pair) → is_skipped (code_of pair) ≡ false → IsWritable (code_of pair) }
+    ensures writable { (pair : Pair) → is_skipped (code_of pair) ≡ false
+        → IsWritable (code_of pair) }
     ensures code { (in_field : FieldNumber) (pair : Pair) → is_skipped (code_of pair) ≡ false
-        → code_of (written in_field (code_of pair)) ≡ code_of pair }
+        → code_of (pair_of_code in_field (code_of pair)) ≡ code_of pair }
 {}
 
 /// The codes that can be written are exactly those that some two bytes are read as and that are not
@@ -46,7 +47,7 @@ pub fn skipped_pairs_are_listed()
 pub fn control_pairs_are_doubled()
     ensures read { (pair : Pair) → is_control pair ≡ is_doubled (code_of pair) }
     ensures written { (in_field : FieldNumber) (code : Code) → IsWritable code
-        → is_control (written in_field code) ≡ is_doubled code }
+        → is_control (pair_of_code in_field code) ≡ is_doubled code }
 {}
 
 /// A spelled character is shown again by its table, and one without a spelling stands in none.

@@ -17,7 +17,7 @@ pub use channels::{Chan, DataChannel, FieldNumber};
 pub use characters::{Spelling, basic_char, extended_char, special_char, spell};
 pub use codes::{Code, Control};
 pub use doubling::Doubler;
-pub use pairs::{BadParity, Pair, parity};
+pub use pairs::{BadParity, NULL_PAIR, Pair, parity};
 pub use reading::read_pair;
 pub use styles::{Cell, Colour, Style};
 pub use writing::write_code;

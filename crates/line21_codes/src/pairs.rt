@@ -10,8 +10,20 @@ pub struct Pair {
     pub b: u8,
 }
 
+/// The null pair: two bytes 00 with odd parity, which a field carries where nothing else is to be sent (CTA-608-E).
+pub const NULL_PAIR: Pair = Pair { a: 0x80, b: 0x80 };
+
 impl Pair {
     ghost use Rattle.line21_codes.specs.ControlPairs.{is_control};
+    ghost use Rattle.line21_codes.specs.NullPairs.{is_null};
+
+    /// Whether it is the null pair (CTA-608-E).
+    #[inline]
+    pub fn is_null(self) -> bool
+        ensures { result ≡ is_null self }
+    {
+        self.a == NULL_PAIR.a && self.b == NULL_PAIR.b
+    }
 
     /// Whether the pair is a control pair: both bytes have odd parity, and without it the first is
     /// 0x10 to 0x1F and the second 0x20 to 0x7F (CTA-608-E, 47 CFR 79.101).

@@ -3,7 +3,7 @@ ghost use Rattle.line21_codes.specs.Channels.{numbered_field};
 ghost use Rattle.line21_codes.specs.MiscellaneousCodes.{miscellaneous_first};
 ghost use Rattle.line21_codes.specs.Reading.{code_of};
 ghost use Rattle.line21_codes.specs.Writable.{IsWritable, IsWritableControl, IsPreamble};
-ghost use Rattle.line21_codes.specs.Writing.{underline_bit, colour_bits, mid_row_bits, indent_bits, preamble_bits, row_bytes_at, preamble_bytes, control_bytes, code_bytes, written};
+ghost use Rattle.line21_codes.specs.Writing.{underline_bit, colour_bits, mid_row_bits, indent_bits, preamble_bits, row_bytes_at, preamble_bytes, control_bytes, code_bytes, pair_of_code};
 
 use crate::channels::FieldNumber;
 use crate::codes::{Code, Control};
@@ -13,10 +13,10 @@ use crate::styles::{Colour, Style};
 /// The pair with which a field writes a code: miscellaneous codes have first byte 0x14 (0x1C in data
 /// channel 2) in field 1 and 0x15 (0x1D) in field 2, and white without italics is written with an
 /// indent, also at column 0. `read_pair` gives the code back (CTA-608-E, 47 CFR 79.101).
-#[tactic(auto, unfolding(crate::specs::Writing::written))]
+#[tactic(auto, unfolding(crate::specs::Writing::pair_of_code))]
 pub fn write_code(code: Code, second_field: bool) -> Pair
     requires { IsWritable code }
-    ensures pair { result ≡ written (numbered_field second_field) code }
+    ensures pair { result ≡ pair_of_code (numbered_field second_field) code }
     ensures code { code_of result ≡ code }
 {
     let (first, second) = bytes_of(code, FieldNumber::from_second(second_field));

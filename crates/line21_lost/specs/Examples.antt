@@ -1,3 +1,4 @@
+-- Between crates: the program's answer stands on none of these definitions.
 -- Worked examples: captions of CC1 of which one frame is lost, and the screens that stand behind the loss, each written out by hand from the
 -- tables of line 21 (CTA-608-E; 47 CFR 79.101).
 use Rattle.std.specs.Prelude.{◌≡◌, ℕ, ◌+◌, List, [], ◌∷◌, ◌++◌, Option, None, Some, drop, reverse, take}

@@ -1,3 +1,4 @@
+-- Between crates: the program's answer stands on none of these definitions.
 -- Line 21 where frames are missing: what a receiver shows that is reset right behind them, and which cues bring a channel back
 -- (CTA-608-E; 47 CFR 79.101; that a receiver is reset there is this project's own choice).
 use Rattle.std.specs.Prelude.{◌≡◌, ℕ, zero, suc, ◌+◌, ◌<◌, ◌≤◌, false, List, [], ◌∷◌, ◌++◌, reverse, option_to_list}

@@ -1,3 +1,4 @@
+-- Between crates: the program's answer stands on none of these definitions.
 -- The codes that a pair can say, by their numbers (CTA-608-E and 47 CFR 79.101).
 use Rattle.std.specs.Prelude.{⊤}
 use Rattle.line21_codes.specs.declared.codes.Code.{Code}

@@ -1,3 +1,4 @@
+-- Believed in part: the program's answer stands on some of these definitions.
 -- What each control code does to its data channel (CTA-608-E and 47 CFR 79.101, control codes).
 use Rattle.std.specs.Prelude.{ℕ, ◌||◌, ◌≤◌, max, Bool, true, false, if◌then◌else◌, ⊤}
 use Rattle.line21_codes.specs.declared.codes.Control.{Control}

@@ -1,3 +1,4 @@
+-- Believed: the program's answer stands on these definitions.
 -- Whether two grids differ: some place has another cell.
 use Rattle.std.specs.Prelude.{◌≡◌, ◌≢◌, ℕ, ◌==◌, ◌&&◌, not, Bool, true, false, Option, Some, None}
 use Rattle.std.specs.List.{list_any}

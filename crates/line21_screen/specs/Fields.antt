@@ -1,3 +1,4 @@
+-- Believed: the program's answer stands on these definitions.
 -- The state of a field of line 21, with its two data channels, and what each code does to it
 -- (CTA-608-E and 47 CFR 79.101; extended data services stand in field 2).
 use Rattle.std.specs.Prelude.{ℕ, nat_lt, Bool, false, if◌then◌else◌, Option, Some, None}

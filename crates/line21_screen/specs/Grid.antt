@@ -1,3 +1,4 @@
+-- Believed: the program's answer stands on these definitions.
 -- The grid of a caption memory: what stands at each row, 1 to 15, and column, 0 to 31
 -- (CTA-608-E and 47 CFR 79.101, caption area).
 use Rattle.std.specs.Prelude.{ℕ, ◌==◌, ◌&&◌, nat_le, nat_lt, Bool, if◌then◌else◌, List, Option, None, map}

@@ -1,3 +1,4 @@
+-- Believed: the program's answer stands on these definitions.
 -- What a list of pairs means: the state that it leaves in a field that was new
 -- (CTA-608-E and 47 CFR 79.101). The pairs stand newest first.
 use Rattle.std.specs.Prelude.{if◌then◌else◌, List, [], ◌∷◌}

@@ -1,3 +1,4 @@
+-- Believed: the program's answer stands on these definitions.
 -- The pen: where the next character goes, and how it is shown (CTA-608-E and 47 CFR 79.101,
 -- cursor). Behind the last column it stands at column 32; that place is this project's own choice.
 use Rattle.std.specs.Prelude.{ℕ, ◌+◌, ◌==◌, min, Bool, true, false, if◌then◌else◌, Option, Some, None}

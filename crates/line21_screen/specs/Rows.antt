@@ -1,3 +1,4 @@
+-- Between crates: the program's answer stands on none of these definitions.
 -- The numbers of rows that roll-up captions may have: 2, 3 or 4 (CTA-608-E, roll-up captions).
 use Rattle.std.specs.Prelude.{◌&&◌, nat_le, Bool, true}
 use Rattle.line21_screen.specs.declared.modes.Mode.{Mode}

@@ -183,7 +183,8 @@ impl Channel {
         requires row_from { 1 ≤ row }
         requires row_to { row ≤ 15 }
         requires col { col < 32 }
-        ensures { channel_of self.new ≡ edited (λ g. with_cell g row col cell) (channel_of self.old) }
+        ensures { channel_of self.new
+            ≡ edited (λ g. with_cell g row col cell) (channel_of self.old) }
     {
         match self.mode {
             Mode::Off => {}
@@ -255,7 +256,8 @@ impl Channel {
 
     // Sets the pen's style, and prints a space in it.
     fn mid_row(&mut self, colour: Option<Colour>, underline: bool)
-        ensures { channel_of self.new ≡ acted (Control.MidRow colour underline) (channel_of self.old) }
+        ensures { channel_of self.new
+            ≡ acted (Control.MidRow colour underline) (channel_of self.old) }
     {
         self.pen = self
             .pen
@@ -278,7 +280,8 @@ impl Channel {
         requires row_from { 1 ≤ row }
         requires row_to { row ≤ 15 }
         requires col { col ≤ 28 }
-        ensures { channel_of self.new ≡ addressed self.old.mode row col style (channel_of self.old) }
+        ensures { channel_of self.new
+            ≡ addressed self.old.mode row col style (channel_of self.old) }
     {
         let mut row = row;
         if let Mode::RollUp(rows) = self.mode {

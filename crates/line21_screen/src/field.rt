@@ -6,11 +6,8 @@ ghost use Rattle.line21_screen.specs.Fields.{begins_xds};
 use crate::channel::Channel;
 use crate::memory::Memory;
 use crate::modes::Mode;
-use line21_codes::{Cell, Code, DataChannel, Doubler, FieldNumber, Pair, read_pair};
+use line21_codes::{Cell, Code, DataChannel, Doubler, FieldNumber, NULL_PAIR, Pair, read_pair};
 use std::alloc::{AllocError, Global};
-
-/// Each byte of a null pair: 00 with odd parity (CTA-608-E).
-const NULL: u8 = 0x80;
 
 /// The receiver of one field of line 21: the caption memories of its two data channels.
 #[derive(Drop)]
@@ -55,7 +52,8 @@ impl Field {
 
     /// Makes it as it was before its first pair.
     pub fn reset(&mut self)
-        ensures { (in_field : FieldNumber) (before : List Pair) → Leads in_field before self.old → Leads in_field [] self.new }
+        ensures { (in_field : FieldNumber) (before : List Pair) → Leads in_field before self.old
+            → Leads in_field [] self.new }
     {
         self.first.reset();
         self.second.reset();
@@ -72,7 +70,7 @@ impl Field {
         ensures { (in_field : FieldNumber) (before : List Pair) → Leads in_field before self.old
             → Leads in_field (pair ∷ before) self.new }
     {
-        if pair.a == NULL && pair.b == NULL {
+        if pair.is_null() {
             self.pass_null();
             return;
         }
@@ -86,7 +84,7 @@ impl Field {
         ensures { (in_field : FieldNumber) (before : List Pair) → Leads in_field before self.old
             → Leads in_field (null_pair ∷ before) self.new }
     {
-        let _ignored = self.doubler.step(Pair { a: NULL, b: NULL });
+        let _ignored = self.doubler.step(NULL_PAIR);
     }
 
     /// The displayed cell of data channel 1 or 2 at a row, 1 to 15, and a column, 0 to 31.
@@ -94,9 +92,12 @@ impl Field {
         requires row_from { 1 ≤ row }
         requires row_to { row ≤ 15 }
         requires col { col < 32 }
-        ensures shown { result ≡ (channel (numbered_channel second_channel) (field_of self.now)).displayed row col }
-        ensures after { (in_field : FieldNumber) (before : List Pair) → Leads in_field before self.now
-            → result ≡ (channel (numbered_channel second_channel) (after in_field before)).displayed row col }
+        ensures shown { result ≡ (channel (numbered_channel second_channel)
+            (field_of self.now)).displayed row col }
+        ensures after { (in_field : FieldNumber) (before : List Pair)
+            → Leads in_field before self.now
+            → result ≡ (channel (numbered_channel second_channel)
+            (after in_field before)).displayed row col }
     {
         let channel = self.channel(DataChannel::from_second(second_channel));
         channel.displayed.cell(row, col)
@@ -155,7 +156,8 @@ impl Field {
 
     // The two bytes of a text pair.
     fn text(&mut self, first: u8, second: u8)
-        ensures state { field_of self.new ≡ on_channel self.old.selected (after_text first second) (field_of self.old) }
+        ensures state { field_of self.new
+            ≡ on_channel self.old.selected (after_text first second) (field_of self.old) }
         ensures of_field { self.new.in_field ≡ self.old.in_field }
         ensures repeats { self.new.doubler ≡ self.old.doubler }
     {

@@ -36,11 +36,13 @@ pub fn null_pairs_change_nothing()
 pub fn two_flips_bring_memories_back()
     ensures displayed { (in_field : FieldNumber) (second : Bool) (before : List Pair) (eoc : Pair)
         → code_of eoc ≡ Code.Control second Control.Eoc → is_ignored before eoc ≡ false
-        → (channel (numbered_channel second) (after in_field (eoc ∷ eoc ∷ eoc ∷ eoc ∷ before))).displayed
+        → (channel (numbered_channel second)
+        (after in_field (eoc ∷ eoc ∷ eoc ∷ eoc ∷ before))).displayed
         ≡ (channel (numbered_channel second) (after in_field before)).displayed }
     ensures hidden { (in_field : FieldNumber) (second : Bool) (before : List Pair) (eoc : Pair)
         → code_of eoc ≡ Code.Control second Control.Eoc → is_ignored before eoc ≡ false
-        → (channel (numbered_channel second) (after in_field (eoc ∷ eoc ∷ eoc ∷ eoc ∷ before))).hidden
+        → (channel (numbered_channel second)
+        (after in_field (eoc ∷ eoc ∷ eoc ∷ eoc ∷ before))).hidden
         ≡ (channel (numbered_channel second) (after in_field before)).hidden }
 {}
 

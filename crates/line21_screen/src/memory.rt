@@ -115,7 +115,8 @@ impl Memory {
         requires row_from { 1 ≤ row }
         requires row_to { row ≤ 15 }
         requires col { col < 32 }
-        ensures { grid_of self.new.cells.items ≡ with_cell (grid_of self.old.cells.items) row col cell }
+        ensures { grid_of self.new.cells.items
+            ≡ with_cell (grid_of self.old.cells.items) row col cell }
     {
         let at = place(row, col);
         self.first = self.first.min(at);
@@ -137,7 +138,8 @@ impl Memory {
         requires row_from { 1 ≤ row }
         requires row_to { row ≤ 15 }
         requires col { col ≤ 32 }
-        ensures { grid_of self.new.cells.items ≡ without_cells (grid_of self.old.cells.items) row col 32 }
+        ensures { grid_of self.new.cells.items
+            ≡ without_cells (grid_of self.old.cells.items) row col 32 }
     {
         for c in col..32u8 {
             self.put(row, c, None);
@@ -183,7 +185,8 @@ fn copy_rows(cells: &mut [Option<Cell>], count: u8, old: u8, new: u8)
     requires old_to { old ≤ 15 }
     requires new { count ≤ new }
     requires new_to { new ≤ 15 }
-    ensures copied { CopiedTo cells.old cells.new ((old - count) * 32) ((new - count) * 32) (count * 32) }
+    ensures copied { CopiedTo cells.old cells.new ((old - count) * 32) ((new - count) * 32)
+        (count * 32) }
     ensures above { SameBelow cells.old cells.new ((new - count) * 32) }
     ensures below { SameFrom cells.old cells.new (new * 32) }
 {

@@ -12,7 +12,7 @@ use Rattle.line21_codes.specs.declared.codes.Control.TheVariants.{Cr, Edm, Enm, 
 use Rattle.line21_codes.specs.declared.pairs.Pair.{Pair}
 use Rattle.line21_codes.specs.Reading.{code_of}
 use Rattle.line21_codes.specs.Writable.{IsWritable, IsWritableControl}
-use Rattle.line21_codes.specs.Writing.{written}
+use Rattle.line21_codes.specs.Writing.{pair_of_code}
 use Rattle.line21_codes.proofs.CodeLemmas.{written-a, written-b, written-code_of}
 use Rattle.cue_lists.specs.Cues.{IsCueFormed}
 use Rattle.cue_lists.specs.Listing.{IsFormed, Listing}
@@ -78,7 +78,7 @@ cue_codes_first cue =
     (all_writing_first (flat_map run_codes cue.runs) (runs_writing cue.runs))
 
 -- what holds of each pair that a code of data channel 1 is written as holds of all that begins on a channel
-module _ (P : Pair → Type 0) (written_is : (in_field : FieldNumber) (code : Code) → IsWritable code → IsForFirst code → P (written in_field code)) where
+module _ (P : Pair → Type 0) (written_is : (in_field : FieldNumber) (code : Code) → IsWritable code → IsForFirst code → P (pair_of_code in_field code)) where
   abbrev OfPiece : Piece → Type 0
   OfPiece piece = P piece.unit.pair
 
@@ -201,7 +201,7 @@ abbrev pub IsFirstPair : Pair → Type 0
 IsFirstPair pair = IsForFirst (code_of pair)
 
 -- a code that is for it is written so
-pub written_first : (in_field : FieldNumber) (code : Code) → IsWritable code → IsForFirst code → IsFirstPair (written in_field code)
+pub written_first : (in_field : FieldNumber) (code : Code) → IsWritable code → IsForFirst code → IsFirstPair (pair_of_code in_field code)
 written_first in_field code writable first = subst IsForFirst (sym (written-code_of in_field code writable)) first
 
 -- the timeline of a channel of a list that keeps the rules and is placed
@@ -220,7 +220,7 @@ channel_captioned list channel placed formed ruled earliest =
 abbrev pub AreBytes : Pair → Type 0
 AreBytes pair = (pair.a < 256) × (pair.b < 256)
 
-written_bytes : (in_field : FieldNumber) (code : Code) → IsWritable code → IsForFirst code → AreBytes (written in_field code)
+written_bytes : (in_field : FieldNumber) (code : Code) → IsWritable code → IsForFirst code → AreBytes (pair_of_code in_field code)
 written_bytes in_field code writable first = (written-a in_field code writable, written-b in_field code writable)
 
 -- the pairs of a channel's slots are of bytes

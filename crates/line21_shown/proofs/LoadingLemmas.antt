@@ -6,7 +6,7 @@ use Rattle.line21_codes.specs.declared.channels.FieldNumber.{FieldNumber}
 use Rattle.line21_codes.specs.declared.codes.Code.{Code}
 use Rattle.line21_codes.specs.declared.codes.Control.TheVariants.{Edm}
 use Rattle.line21_codes.specs.Reading.{code_of}
-use Rattle.line21_codes.specs.Writing.{written}
+use Rattle.line21_codes.specs.Writing.{pair_of_code}
 use Rattle.line21_codes.proofs.CodeLemmas.{written-code_of}
 use Rattle.line21_author.specs.FirstChannel.{first_channel}
 use Rattle.line21_author.specs.declared.unit.Unit.{Unit}
@@ -42,7 +42,7 @@ StandBeside e a z (piece ∷ pieces) (f ∷ fs) = (a ≤ f) × (f < z) × (e f �
 
 -- the unit that hides what is displayed
 abbrev pub erasing : FieldNumber → Unit
-erasing in_field = record { pair = written in_field (first_channel Edm); doubled = true }
+erasing in_field = record { pair = pair_of_code in_field (first_channel Edm); doubled = true }
 
 -- the timeline that hides what is displayed at a HIDE
 abbrev pub erases : FieldNumber → Option ℕ → Timeline

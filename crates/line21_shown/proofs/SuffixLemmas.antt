@@ -6,7 +6,7 @@ use Rattle.std.proofs.lemmas.List.Elements.{All-append, All-head, All-map, All-n
 use Rattle.line21_codes.specs.declared.channels.FieldNumber.{FieldNumber}
 use Rattle.line21_codes.specs.declared.channels.Chan.{Chan}
 use Rattle.line21_codes.specs.declared.codes.Control.TheVariants.{Eoc, Edm}
-use Rattle.line21_codes.specs.Writing.{written}
+use Rattle.line21_codes.specs.Writing.{pair_of_code}
 use Rattle.cue_lists.specs.declared.cue.Cue.{Cue}
 use Rattle.cue_lists.specs.Rules.Lane.{is_pop}
 use Rattle.line21_author.specs.Channels.{cues_on, is_on}
@@ -208,7 +208,7 @@ loads_from frames b (cue ∷ (next ∷ later)) pieces sequence from are =
 
 -- the unit that shows a pop-on cue
 abbrev pub showing_unit : FieldNumber → Unit
-showing_unit in_field = record { pair = written in_field (first_channel Eoc); doubled = true }
+showing_unit in_field = record { pair = pair_of_code in_field (first_channel Eoc); doubled = true }
 
 -- what begins at a frame of an event and those behind it
 event_first : (in_field : FieldNumber) (frame : ℕ) (events : List Event) (n : ℕ) (b : Bool) → (n == frame) ≡ b

@@ -1,3 +1,4 @@
+-- Between crates: the program's answer stands on none of these definitions.
 -- What codes of data channel 1 do to its captions, one after another (CTA-608-E; 47 CFR 79.101).
 use Rattle.std.specs.Prelude.{List, [], ◌∷◌}
 use Rattle.line21_codes.specs.declared.codes.Code.{Code}

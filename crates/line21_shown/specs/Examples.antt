@@ -1,3 +1,4 @@
+-- Between crates: the program's answer stands on none of these definitions.
 -- Worked examples of what is authored and what is seen: short cue lists of CC1, the pairs that field 1 carries frame by
 -- frame, and the screens that stand, each written out by hand from the tables of line 21 (CTA-608-E; 47 CFR 79.101).
 use Rattle.std.specs.Prelude.{◌≡◌, ℕ, ◌+◌, false, List, [], ◌∷◌, ◌++◌, map, replicate, reverse, take, Option, Some, None}

@@ -1,3 +1,4 @@
+-- Between crates: the program's answer stands on none of these definitions.
 -- How a receiver reads a field whose control pairs are doubled: each unit acts once, in the frame in which it begins
 -- (CTA-608-E; 47 CFR 79.101, control codes are sent twice).
 use Rattle.std.specs.Prelude.{◌≡◌, ⊤, ℕ, zero, suc, false, List, [], ◌∷◌, Option, Some, None}

@@ -1,3 +1,4 @@
+-- Between crates: the program's answer stands on none of these definitions.
 -- The authored grid of a channel, sentence by sentence: what a cue list that is in form and keeps the rules is to show, cue
 -- by cue, wherever the cue stands in the list (CTA-608-E; 47 CFR 79.101, pop-on, paint-on and roll-up captions).
 use Rattle.std.specs.Prelude.{◌≡◌, ℕ, ◌-◌, ◌<◌, ◌≤◌, true, false, List, ◌∷◌, ◌++◌, reverse, slice_get, All, IfSome, Some, None}

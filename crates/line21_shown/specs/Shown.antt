@@ -1,3 +1,4 @@
+-- Believed in part: the program's answer stands on some of these definitions.
 -- What a viewer sees of a placed cue list: the screen that the pairs of each field leave at a frame, and that it is what
 -- was authored (CTA-608-E; 47 CFR 79.101).
 use Rattle.std.specs.Prelude.{◌≡◌, ℕ, suc, List, reverse}

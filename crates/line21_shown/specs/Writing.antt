@@ -1,3 +1,4 @@
+-- Between crates: the program's answer stands on none of these definitions.
 -- What the codes of runs write: exactly the cells of the runs, into the memory that the mode writes (CTA-608-E; 47 CFR
 -- 79.101, pop-on, paint-on and roll-up captions).
 use Rattle.std.specs.Prelude.{◌≡◌, ⊤, ℕ, ◌≤◌, false, if◌then◌else◌, List, [], ◌∷◌, All}

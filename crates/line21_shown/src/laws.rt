@@ -51,8 +51,10 @@ pub fn colours_are_seen_with_lead_cells()
 pub fn rolled_up_rows_are_seen()
     ensures sent { ArePairsSent rolling }
     ensures one { ShowsScreen rolling 7 (empty_rows 10 ++ letter_row 65 ∷ empty_rows 4) }
-    ensures two { ShowsScreen rolling 15 (empty_rows 9 ++ letter_row 65 ∷ letter_row 66 ∷ empty_rows 4) }
-    ensures three { ShowsScreen rolling 24 (empty_rows 9 ++ letter_row 66 ∷ letter_row 67 ∷ empty_rows 4) }
+    ensures two { ShowsScreen rolling 15
+        (empty_rows 9 ++ letter_row 65 ∷ letter_row 66 ∷ empty_rows 4) }
+    ensures three { ShowsScreen rolling 24
+        (empty_rows 9 ++ letter_row 66 ∷ letter_row 67 ∷ empty_rows 4) }
     ensures behind { ShowsScreen rolling 25 (empty_rows 15) }
 {}
 

@@ -1,3 +1,4 @@
+-- Believed in part: the program's answer stands on some of these definitions.
 -- Slots. A slot is one byte pair of one field. At 29.97 and 30 frames a second each frame has one slot in each field; at 59.94
 -- and 60 a frame with an even number has one in field 1 and none in field 2, and a frame with an odd number one in field 2 and
 -- none in field 1. The slots of a field are counted from 0, and a cadence says in which frames they lie.

@@ -1,5 +1,5 @@
 -- The list of a load is accepted: it is read as a programme, or memory ran out, and what came of the programme is the summary.
-use Rattle.std.proofs.Common.{◌≡◌, ◌≢◌, ◌∙◌, ℕ, ◌≤◌, List, length, Option, Some, Err, ap, refl, sym, subst, arith}
+use Rattle.std.proofs.Common.{◌≡◌, ◌≢◌, ◌∙◌, ℕ, ◌≤◌, List, [], length, Option, Some, Err, ap, refl, sym, subst, arith}
 use Rattle.command_base.specs.WholeInput.{ReadsInput}
 use Rattle.command_base.specs.declared.status.Status.{Status}
 use Rattle.command_base.specs.declared.status.Status.TheVariants as status
@@ -17,7 +17,7 @@ use Rattle.frame_scheduler.specs.Planned.{Placement, columns_of}
 use Rattle.load_lists.specs.LoadList.{load_list, most_load}
 use Rattle.load_lists.proofs.RuledLemmas.{list_ruled}
 use Rattle.load_lists.proofs.WrittenLemmas.{list_written}
-use Rattle.load_rooms.proofs.LoadRoomLemmas.{list_placed}
+use Rattle.load_lists.proofs.LoadRoomLemmas.{list_placed}
 use Rattle.load_commands.specs.LoadOutput.{IsSummaryOf, change_count}
 use Rattle.load_commands.specs.Receiving.{AreAllWhole, AreWhole, HasReceivedColumns, IsSendable}
 use Rattle.load_commands.specs.declared.reception.Reception.{Reception}
@@ -63,14 +63,10 @@ module _ (count : ℕ) (some : 1 ≤ count) (most : count ≤ most_load) where
   not_refused new (status.Differs finding) reads other = accepted_not_refused _ _ _ (status.Differs finding) list_accepted reads.1
   not_refused new (status.Short frames) reads other = accepted_not_refused _ _ _ (status.Short frames) list_accepted reads.1
 
-  -- the summary with these bytes and changes
-  abbrev summary_with : ℕ → ℕ → Summary
-  summary_with bytes changes = record { cues = count; frames = (load_list count).frames; bytes = bytes; changes = changes }
-
   -- what came of a placed list's frames
   abbrev IsDone : Listing → Placement → Reception → Type 0
   IsDone list placed reception =
-      (reception.bytes ≡ length (build_output list placed)) × (reception.changes ≡ change_count (built_packets list placed))
+      (reception.bytes ≡ length (build_output list placed)) × (reception.changes ≡ change_count [] (built_packets list placed))
 
   done : (programme : Programme Plan) (reception : Reception) (is : IsProgrammeOf (list_bytes (load_list count)) programme)
       → ((columns : Columns) → GivesFrom columns 0 programme.frames → AreAllWhole programme.rate columns (frames_left programme.frames)
@@ -95,6 +91,8 @@ module _ (count : ℕ) (some : 1 ≤ count) (most : count ≤ most_load) where
       record {
         placed = placed.0;
         placement = placed.1;
-        is = ap (λ bytes. summary_with bytes reception.changes) all.0
-            ∙ ap (λ changes. summary_with (length (build_output (load_list count) placed.0)) changes) all.1;
+        cues = refl;
+        frames = refl;
+        bytes = all.0;
+        changes = all.1;
       }

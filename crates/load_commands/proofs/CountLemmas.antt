@@ -1,12 +1,12 @@
 -- One more frame: its packet and its bytes stand behind those of the frames before, and its change is counted.
 use Rattle.std.proofs.Common.{◌≡◌, ◌∙◌, ℕ, zero, suc, ◌+◌, if◌then◌else◌, List, [], ◌∷◌, ◌++◌, ap, sym, arith, append_assoc, append-nil}
 use Rattle.cc_base.specs.declared.rate.Rate.{Rate}
-use Rattle.cdp_packets.specs.Packets.{Packet as Frame}
+use Rattle.cdp_packets.specs.Packets.{Frame}
 use Rattle.frame_carrier.specs.Carrying.{channel_packet_of, column_bytes, column_packets, frame_bytes, frame_packet}
 use Rattle.frame_scheduler.specs.Columns.{Columns}
 use Rattle.grid_print.specs.GridTexts.{screens_differ}
 use Rattle.grid_print.specs.Screens.{received_screens}
-use Rattle.load_commands.specs.LoadOutput.{change_count, change_count_behind}
+use Rattle.load_commands.specs.LoadOutput.{change_count}
 
 -- the packet of a frame
 abbrev pub packet_at : Rate → Columns → ℕ → Frame
@@ -45,7 +45,7 @@ abbrev change_of : List Frame → Frame → ℕ
 change_of before next = if screens_differ (received_screens before) (received_screens (before ++ next ∷ [])) then 1 else 0
 
 changes_from : (before frames : List Frame) (next : Frame)
-    → change_count_behind before (frames ++ next ∷ []) ≡ change_count_behind before frames + change_of (before ++ frames) next
+    → change_count before (frames ++ next ∷ []) ≡ change_count before frames + change_of (before ++ frames) next
 changes_from before [] next =
     let same : change_of before next ≡ change_of (before ++ []) next = ap (λ b. change_of b next) (sym (append-nil before)) in
     omega (arith, same)
@@ -56,6 +56,6 @@ changes_from before (frame ∷ frames) next =
     omega (arith, rest, same)
 
 pub changes_more : (frames : List Frame) (next : Frame)
-    → change_count (frames ++ next ∷ [])
-    ≡ change_count frames + (if screens_differ (received_screens frames) (received_screens (frames ++ next ∷ [])) then 1 else 0)
+    → change_count [] (frames ++ next ∷ [])
+    ≡ change_count [] frames + (if screens_differ (received_screens frames) (received_screens (frames ++ next ∷ [])) then 1 else 0)
 changes_more frames next = changes_from [] frames next

@@ -3,7 +3,7 @@ use Rattle.std.proofs.Common.{◌≡◌, ◌∙◌, ℕ, ◌+◌, ◌≤◌, Boo
 use Rattle.cc_base.specs.declared.rate.Rate.{Rate}
 use Rattle.cc_receiver.specs.Receivers.{HasReceived, frame_count}
 use Rattle.cc_receiver.specs.declared.receiver.Receiver.{Receiver}
-use Rattle.cdp_packets.specs.Packets.{Packet as Frame}
+use Rattle.cdp_packets.specs.Packets.{Frame}
 use Rattle.frame_carrier.specs.Carrying.{IsAt, channel_packet, column_bytes, column_packets, frame_bytes, packet_count, packets_before}
 use Rattle.frame_carrier.specs.declared.carrier.Carrier.{Carrier}
 use Rattle.frame_scheduler.specs.Columns.{Columns}
@@ -105,13 +105,13 @@ module _ (rate : Rate) (columns : Columns) (count : ℕ) (frame : FrameBytes) (o
   one_at_most true = omega arith
   one_at_most false = omega arith
 
-  counted_changes : changes ≡ change_count (column_packets rate columns 0 (count + 1))
+  counted_changes : changes ≡ change_count [] (column_packets rate columns 0 (count + 1))
   counted_changes =
       let before = taken.changes in
       changes_are ∙ ap (λ n. n + (if differs then 1 else 0)) before
-      ∙ ap (λ (b : Bool). change_count (column_packets rate columns 0 count) + (if b then 1 else 0)) differ_is
+      ∙ ap (λ (b : Bool). change_count [] (column_packets rate columns 0 count) + (if b then 1 else 0)) differ_is
       ∙ sym (changes_more (column_packets rate columns 0 count) (packet_at rate columns count))
-      ∙ ap change_count (sym all_packets)
+      ∙ ap (change_count []) (sym all_packets)
 
   at_next : IsAt rate (count + 1) (packets_before columns (count + 1)) carrier
   at_next =

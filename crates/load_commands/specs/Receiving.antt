@@ -1,5 +1,6 @@
+-- Between crates: the program's answer stands on none of these definitions.
 -- Steps on the way of a programme into a receiver: frame by frame, its words are carried and fed.
-use Rattle.std.specs.Prelude.{◌≡◌, ◌≤◌, ◌+◌, ◌*◌, ◌++◌, ℕ, List, None, length}
+use Rattle.std.specs.Prelude.{◌≡◌, ◌≤◌, ◌+◌, ◌*◌, ◌++◌, ℕ, List, [], None, length}
 use Rattle.cc_base.specs.declared.rate.Rate.{Rate}
 use Rattle.cc_receiver.specs.Receivers.{HasReceived, frame_count}
 use Rattle.cc_receiver.specs.declared.receiver.Receiver.{Receiver}
@@ -35,7 +36,7 @@ pub record HasReceivedColumns (rate : Rate) (columns : Columns) (count : ℕ) (r
   pub shown : LookAlike (last_shown reception.shown) (received_screens (column_packets rate columns 0 count))
   pub bytes : reception.bytes ≡ length (column_bytes rate columns 0 count)
   pub most : length (column_bytes rate columns 0 count) ≤ 524 * count
-  pub changes : reception.changes ≡ change_count (column_packets rate columns 0 count)
+  pub changes : reception.changes ≡ change_count [] (column_packets rate columns 0 count)
   pub some : reception.changes ≤ count
 
 -- a receiver was fed these bytes, and more may follow of which no word offends

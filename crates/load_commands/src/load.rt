@@ -22,7 +22,8 @@ pub fn run_load<O: Sink>(alloc: Global, count: u32, out: &mut O) -> Status
     requires some { 1 ≤ count }
     requires most { count ≤ most_load }
     ensures { (left : Option (List ℕ)) (read_faults : ℕ) → LoadAnswer count
-        (ends left read_faults (O.written out.old) (O.faults out.old)) (ends left read_faults (O.written out.new) (O.faults out.new)) result }
+        (ends left read_faults (O.written out.old) (O.faults out.old))
+        (ends left read_faults (O.written out.new) (O.faults out.new)) result }
 {
     let Ok(summary) = load(alloc, count) else {
         return Status::Memory;

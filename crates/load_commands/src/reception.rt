@@ -43,8 +43,10 @@ impl Reception {
     /// Carries the next frame, and feeds its words.
     fn take(&mut self, frame: &FrameBytes)
         requires { MayTakeFrame self.now frame.now }
-        ensures { (rate : OfRate) (columns : Columns) (count : ℕ) → HasReceivedColumns rate columns count self.old → frame.now ≡ columns count
-            → AreWhole rate columns (count + 1) → HasReceivedColumns rate columns (count + 1) self.new }
+        ensures { (rate : OfRate) (columns : Columns) (count : ℕ)
+            → HasReceivedColumns rate columns count self.old → frame.now ≡ columns count
+            → AreWhole rate columns (count + 1)
+            → HasReceivedColumns rate columns (count + 1) self.new }
     {
         let mut words = ArrayVec::new();
         self.carrier.put_words(frame, &mut words);
@@ -73,7 +75,8 @@ impl Reception {
 /// Carries all frames of a programme, and feeds their words to a receiver.
 pub(crate) fn receive(alloc: Global, programme: Programme<Plan>) -> Result<Reception, AllocError>
     requires { IsSendable programme }
-    ensures { (columns : Columns) → GivesFrom columns 0 programme.frames → AreAllWhole programme.rate columns (frames_left programme.frames)
+    ensures { (columns : Columns) → GivesFrom columns 0 programme.frames
+        → AreAllWhole programme.rate columns (frames_left programme.frames)
         → IfOk result (HasReceivedColumns programme.rate columns (frames_left programme.frames)) }
 {
     let mut reception = Reception::new(alloc, programme.rate)?;
@@ -87,7 +90,8 @@ pub(crate) fn receive(alloc: Global, programme: Programme<Plan>) -> Result<Recep
 /// Feeds words of which none offends behind those that were fed.
 fn feed_all(receiver: &mut Receiver, words: &[u8])
     requires { MayTake receiver.now words.now }
-    ensures received { (before : List ℕ) → HasReceived before receiver.old → HasReceived (before ++ words.now) receiver.new }
+    ensures received { (before : List ℕ) → HasReceived before receiver.old
+        → HasReceived (before ++ words.now) receiver.new }
     ensures counted { frame_count receiver.new ≤ frame_count receiver.old + length words.now }
 {
     let mut at = 0;

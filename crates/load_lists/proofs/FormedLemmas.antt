@@ -6,14 +6,14 @@ use Rattle.std.proofs.lemmas.List.FromFn.{length-map-range_with_len}
 use Rattle.std.proofs.lemmas.List.Kept.{AllPairs-cons}
 use Rattle.line21_codes.specs.Spellings.{spelling_of}
 use Rattle.line21_codes.specs.declared.styles.Colour.{Colour}
-use Rattle.dtvcc_codes.specs.CharacterSpellings.{spelling_of as dtv_spelling_of}
+use Rattle.dtvcc_codes.specs.CharacterSpellings.{dtvcc_spelling as dtv_spelling_of}
 use Rattle.cue_types.specs.Cues.{IsCueFormed, IsOfKind}
 use Rattle.cue_types.specs.Line21Cues.{IsLine21Run}
 use Rattle.cue_types.specs.Listing.{IsFormed}
 use Rattle.cue_types.specs.Shares.{IsShare}
 use Rattle.cue_types.specs.Windows.{IsWindow, IsWindowRun}
 use Rattle.cue_types.specs.declared.list.Share.{Share}
-use Rattle.load_lists.specs.LoadList.{letter, line21_run, load_cue, load_kind, load_list, load_run, load_text, load_window, most_load, window_run}
+use Rattle.load_lists.specs.LoadList.{letter, line21_run, load_cue, load_kind, load_list, load_run, load_text, load_window, most_load}
 use Rattle.load_lists.proofs.LetterLemmas.{letter_coded, letter_spelled}
 
 -- what holds of each letter, holds of each of a text
@@ -58,7 +58,7 @@ window_formed k = record {
   attr = tt;
 }
 
-window_run_formed : (k : ℕ) → IsWindowRun (load_window k) (window_run (load_text k))
+window_run_formed : (k : ℕ) → IsWindowRun (load_window k) (load_run k 1)
 window_run_formed k = record {
   row = omega arith;
   col = omega arith;

@@ -4,7 +4,7 @@ use Rattle.line21_codes.specs.Spellings.{spelling_of}
 use Rattle.line21_codes.specs.declared.characters.Spelling.{Spelling}
 use Rattle.line21_codes.specs.declared.characters.Spelling.TheVariants.{Basic, Special, Extended}
 use Rattle.line21_codes.proofs.Tables.{all_below, at_each}
-use Rattle.dtvcc_codes.specs.CharacterSpellings.{spelling_of as dtv_spelling_of}
+use Rattle.dtvcc_codes.specs.CharacterSpellings.{dtvcc_spelling as dtv_spelling_of}
 use Rattle.load_lists.specs.LoadList.{letter}
 
 -- a spelling by a basic character

@@ -1,3 +1,4 @@
+-- Between crates: the program's answer stands on none of these definitions.
 -- What holds of the list of every load.
 use Rattle.std.specs.Prelude.{ℕ, ◌≤◌, length}
 use Rattle.cc_base.specs.Streams.{whole_limit}
@@ -6,6 +7,7 @@ use Rattle.cue_form.specs.Spelling.{SpellsList}
 use Rattle.cue_print.specs.Printing.{list_bytes}
 use Rattle.cue_types.specs.Listing.{IsFormed, Listing}
 use Rattle.cue_rules.specs.Rules.{IsRuled}
+use Rattle.frame_scheduler.specs.Planned.{IsListPlaced, Placement}
 use Rattle.load_lists.specs.LoadList.{load_list, most_load}
 
 -- it is in its form
@@ -24,3 +26,7 @@ pub record IsListWritten (list : Listing) : Type 0 where
 -- so is what is written of the list of a load
 abbrev pub LoadsAreWritten : Type 0
 LoadsAreWritten = (count : ℕ) → 1 ≤ count → count ≤ most_load → IsListWritten (load_list count)
+
+-- it has room: the units of each lane have their earliest placement
+abbrev pub LoadsArePlaced : Type 0
+LoadsArePlaced = (count : ℕ) → 1 ≤ count → count ≤ most_load → (placed : Placement) × IsListPlaced (load_list count) placed

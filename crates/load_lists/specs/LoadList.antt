@@ -1,3 +1,4 @@
+-- Believed in part: the program's answer stands on some of these definitions.
 -- The list of a load: so many captions, in turn pop-on on CC1, in a window of service 1 behind a delay of a second, and paint-on
 -- on CC3, one every 90 frames at 29.97 frames a second.
 use Rattle.std.specs.Prelude.{ℕ, zero, suc, ◌+◌, ◌*◌, ◌%◌, false, List, [], ◌∷◌, map, Some, None}
@@ -36,10 +37,6 @@ line21_run row col colour text = record {
   colors = None;
 }
 
--- a plain run at the head of a window
-abbrev pub window_run : List ℕ → Run
-window_run text = record { row = 0; col = 0; pen = Dtv false false; text = text; colors = None }
-
 -- the window of caption k, behind a delay of a second: two rows of 32 columns, under eight numbers one after another
 abbrev pub load_window : ℕ → WinCue
 load_window k = record {
@@ -63,10 +60,10 @@ load_kind k zero = Pop Cc1
 load_kind k (suc zero) = Win (load_window k)
 load_kind k (suc (suc turn)) = Paint Cc3
 
--- and its one run
+-- and its one run, in a window a plain one at its head
 abbrev pub load_run : ℕ → ℕ → Run
 load_run k zero = line21_run 14 4 White (load_text k)
-load_run k (suc zero) = window_run (load_text k)
+load_run k (suc zero) = record { row = 0; col = 0; pen = Dtv false false; text = load_text k; colors = None }
 load_run k (suc (suc turn)) = line21_run 15 8 Yellow (load_text k)
 
 -- caption k: it is shown two seconds after its LOAD, for three

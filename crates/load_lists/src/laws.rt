@@ -1,5 +1,5 @@
 //! Laws of the lists: functions without a body, whose contract is the law.
-ghost use Rattle.load_lists.specs.LoadLaws.{LoadsAreFormed, LoadsAreRuled, LoadsAreWritten};
+ghost use Rattle.load_lists.specs.LoadLaws.{LoadsAreFormed, LoadsArePlaced, LoadsAreRuled, LoadsAreWritten};
 
 /// The law that the list of each number of captions, 1 to 10,000, is in its form.
 pub fn loads_are_formed()
@@ -14,4 +14,9 @@ pub fn loads_are_ruled()
 /// The law that what is written of it is within the limit of a list's bytes, and spells it.
 pub fn loads_are_written()
     ensures { LoadsAreWritten }
+{}
+
+/// The law that the units of the list of each number of captions, 1 to 10,000, have their earliest placement in every lane.
+pub fn loads_are_placed()
+    ensures { LoadsArePlaced }
 {}

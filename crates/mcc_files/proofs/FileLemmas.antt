@@ -1,19 +1,16 @@
 -- What is written is an MCC file.
-use Rattle.std.proofs.Common.{◌≡◌, ℕ, ◌+◌, ◌≤◌, ◌<◌, true, false, inl, inr, List, [], ◌∷◌, ◌++◌, codes, Ok, refl, ap, sym, ◌∙◌, subst, arith, append_assoc, append-nil}
-use Rattle.std.specs.List.{All}
-use Rattle.time_codes.specs.Countings.{counting_text, day_frames_in, frame_in, time_in}
-use Rattle.time_codes.specs.Texts.{IsTimeText, text_of}
+use Rattle.std.proofs.Common.{◌≡◌, ℕ, ◌<◌, inl, List, [], ◌∷◌, ◌++◌, codes, refl, ap, sym, ◌∙◌, arith, append_assoc, append-nil}
+use Rattle.time_codes.specs.Countings.{counting_text, day_frames_in}
 use Rattle.time_codes.specs.declared.counting.Counting.{Counting}
-use Rattle.mcc_files.specs.Lines.{AreLines, IsAttribute, IsForm, IsLine, IsName, IsPacketLine, IsRate, IsReadPast, Line, Version, attribute, first_text, nothing, one, packet, rate, rate_name, two}
-use Rattle.mcc_files.specs.MccFiles.{IsMccFile, Placed, Say, SayCounted, SayPackets}
-use Rattle.mcc_files.specs.Writing.{AreWritable, AreWrittenLines, IsWrittenFile, IsWrittenLine, attributes_text, head_text, time_text, written_version}
-use Rattle.mcc_payloads.specs.Payloads.{IsPayload, Payload, payload_bytes}
+use Rattle.mcc_files.specs.Lines.{AreMccLines, IsAttribute, IsMccLine, IsPacketLine, IsRate, IsReadPast, Line, Version, attribute, format_text, nothing, one, packet, rate, rate_name, two}
+use Rattle.mcc_files.specs.MccFiles.{IsMccFile, SayCounted, SayPackets, TimedPackets}
+use Rattle.mcc_files.specs.Writing.{AreWritable, AreWrittenLines, IsWrittenFile, time_text, written_attributes, written_head, written_version}
+use Rattle.mcc_payloads.specs.Payloads.{IsPayload, Payload}
 use Rattle.mcc_payloads.proofs.WrittenLemmas.{written_is_payload}
-use Rattle.scc_files.specs.Lines.{AreBlanks, AreSpaces, IsLineEnd}
 use Rattle.mcc_files.proofs.TimeLemmas.{colon_time, frame_again, two_digits}
 
 -- what the lines of packets say, and the empty one behind them
-pub packet_lines : Counting → Placed → List Line
+pub packet_lines : Counting → TimedPackets → List Line
 packet_lines count [] = nothing ∷ []
 packet_lines count (placed ∷ more) = packet (colon_time count placed.0) placed.1 ∷ packet_lines count more
 
@@ -38,8 +35,8 @@ line_is version count frame payload text below is = record {
 }
 
 -- the lines of packets, behind a line end
-pub lines_are : (version : Version) (count : Counting) (last : ℕ) (placed : Placed) (bytes : List ℕ) → AreWritable count last placed → AreWrittenLines count placed bytes
-    → AreLines version (packet_lines count placed) (10 ∷ bytes)
+pub lines_are : (version : Version) (count : Counting) (last : ℕ) (placed : TimedPackets) (bytes : List ℕ) → AreWritable count last placed → AreWrittenLines count placed bytes
+    → AreMccLines version (packet_lines count placed) (10 ∷ bytes)
 unfolding packet_lines
 lines_are version count last [] bytes fit are =
     (10 ∷ [], [], [], inl refl, inl tt, refl, ap (λ b. 10 ∷ b) are)
@@ -61,13 +58,13 @@ lines_are version count last (placed ∷ more) bytes (above, below, small, fit) 
     )
 
 -- what they say
-pub lines_say : (count : Counting) (last : ℕ) (placed : Placed) → AreWritable count last placed → SayPackets count last (packet_lines count placed) placed
+pub lines_say : (count : Counting) (last : ℕ) (placed : TimedPackets) → AreWritable count last placed → SayPackets count last (packet_lines count placed) placed
 unfolding packet_lines
 lines_say count last [] fit = refl
 lines_say count last (placed ∷ more) (above, below, small, fit) =
     (placed.0, more, frame_again count placed.0 below, above, lines_say count placed.0 more fit, refl)
 
-pub counted_say : (count : Counting) (placed : Placed) → AreWritable count 0 placed → SayCounted count (packet_lines count placed) placed
+pub counted_say : (count : Counting) (placed : TimedPackets) → AreWritable count 0 placed → SayCounted count (packet_lines count placed) placed
 unfolding packet_lines
 counted_say count [] fit = refl
 counted_say count (placed ∷ more) (above, below, small, fit) =
@@ -122,12 +119,12 @@ pub counted : (count : Counting) → IsRate count (rate_name ++ (61 ∷ counting
 counted count = record { spaces = []; are_spaces = tt; spelled = ap (λ t. rate_name ++ (61 ∷ t)) (sym (append-nil (counting_text count))) }
 
 -- a line of its own, behind LF
-pub line_more : (version : Version) (line : Line) (lines : List Line) (spelled rest : List ℕ) → IsLine version line spelled → AreLines version lines rest
-    → AreLines version (line ∷ lines) (10 ∷ (spelled ++ rest))
+pub line_more : (version : Version) (line : Line) (lines : List Line) (spelled rest : List ℕ) → IsMccLine version line spelled → AreMccLines version lines rest
+    → AreMccLines version (line ∷ lines) (10 ∷ (spelled ++ rest))
 line_more version line lines spelled rest is are = (10 ∷ [], spelled, rest, inl refl, is, are, refl)
 
 -- the lines of a file
-abbrev pub file_lines : Counting → Placed → List Line
+abbrev pub file_lines : Counting → TimedPackets → List Line
 file_lines count placed =
     nothing ∷ attribute ∷ attribute ∷ attribute ∷ attribute ∷ rate count ∷ nothing ∷ packet_lines count placed
 
@@ -139,8 +136,8 @@ lines_text count rest =
     10 ∷ 10 ∷ (codes "UUID=00000000-0000-0000-0000-000000000000" ++ (10 ∷ (codes "Creation Program=ccsuite" ++ (10 ∷ (codes "Creation Date=Thursday, January 1, 1970"
     ++ (10 ∷ (codes "Creation Time=00:00:00" ++ rate_line count rest)))))))
 
-pub head_lines : (version : Version) (count : Counting) (placed : Placed) (rest : List ℕ) → AreLines version (packet_lines count placed) (10 ∷ rest)
-    → AreLines version (file_lines count placed) (lines_text count rest)
+pub head_lines : (version : Version) (count : Counting) (placed : TimedPackets) (rest : List ℕ) → AreMccLines version (packet_lines count placed) (10 ∷ rest)
+    → AreMccLines version (file_lines count placed) (lines_text count rest)
 head_lines version count placed rest are =
     let seven = line_more version nothing (packet_lines count placed) [] (10 ∷ rest) (inl tt) are in
     let six = line_more version (rate count) (nothing ∷ packet_lines count placed) (rate_name ++ (61 ∷ counting_text count)) (10 ∷ 10 ∷ rest) (counted count) seven in
@@ -156,15 +153,15 @@ head_lines version count placed rest are =
     ++ (10 ∷ (codes "Creation Time=00:00:00" ++ rate_line count rest)))))))) (inl tt) two_on
 
 -- the head, and what follows it
-pub head_splits : (count : Counting) (rest : List ℕ) → head_text count ++ rest ≡ first_text (written_version count) ++ lines_text count rest
+pub head_splits : (count : Counting) (rest : List ℕ) → written_head count ++ rest ≡ format_text (written_version count) ++ lines_text count rest
 head_splits count rest =
-    let first = first_text (written_version count) in
+    let first = format_text (written_version count) in
     let text = counting_text count in
-    append_assoc (first ++ attributes_text ++ codes "Time Code Rate=" ++ text) (codes "\n\n") rest
-    ∙ (append_assoc (first ++ attributes_text ++ codes "Time Code Rate=") text (10 ∷ 10 ∷ rest)
-    ∙ (append_assoc (first ++ attributes_text) (codes "Time Code Rate=") (text ++ (10 ∷ 10 ∷ rest)) ∙ append_assoc first attributes_text (codes "Time Code Rate=" ++ (text ++ (10 ∷ 10 ∷ rest)))))
+    append_assoc (first ++ written_attributes ++ codes "Time Code Rate=" ++ text) (codes "\n\n") rest
+    ∙ (append_assoc (first ++ written_attributes ++ codes "Time Code Rate=") text (10 ∷ 10 ∷ rest)
+    ∙ (append_assoc (first ++ written_attributes) (codes "Time Code Rate=") (text ++ (10 ∷ 10 ∷ rest)) ∙ append_assoc first written_attributes (codes "Time Code Rate=" ++ (text ++ (10 ∷ 10 ∷ rest)))))
 
-pub written_is_file : (count : Counting) (placed : Placed) (bytes : List ℕ) → AreWritable count 0 placed → IsWrittenFile count placed bytes → IsMccFile placed bytes
+pub written_is_file : (count : Counting) (placed : TimedPackets) (bytes : List ℕ) → AreWritable count 0 placed → IsWrittenFile count placed bytes → IsMccFile placed bytes
 written_is_file count placed bytes fit written =
     let version = written_version count in
     record {

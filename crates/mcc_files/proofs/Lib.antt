@@ -1,2 +1,14 @@
 pub mod TimeLemmas
 pub mod FileLemmas
+pub mod RunLemmas
+pub mod ToldLemmas
+pub mod Origins
+pub mod FrontLemmas
+pub mod OriginLemmas
+pub mod LineReads
+pub mod PacketReads
+pub mod FileReads
+pub mod Unoffending
+pub mod UnitReads
+pub mod Refused
+pub mod ReaderLemmas

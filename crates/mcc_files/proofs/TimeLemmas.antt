@@ -1,5 +1,5 @@
 -- The time codes that are written.
-use Rattle.std.proofs.Common.{◌≡◌, ℕ, ◌+◌, ◌*◌, ◌/◌, ◌%◌, ◌≤◌, ◌<◌, Bool, true, false, Ok, refl, arith, rules, List, length}
+use Rattle.std.proofs.Common.{◌≡◌, ℕ, ◌/◌, ◌%◌, ◌≤◌, ◌<◌, false, Ok, arith, rules, length}
 use Rattle.std.proofs.lemmas.Grind.{common_steps}
 use Rattle.time_codes.specs.Countings.{counting_text, day_frames_in, frame_in, frames_a_second, place_in, time_in}
 use Rattle.time_codes.specs.Texts.{HasTwoDigits}

@@ -1,3 +1,4 @@
+-- Believed: the program's answer stands on these definitions.
 -- The lines of MCC files, by cases on what a line says, and which bytes are an MCC file in form: its first line, and then lines that are
 -- blank, comments, attributes, the time code rate among them, or packets. Every line but the first stands behind the line end of the line
 -- before it, so the last line's end is one more blank line.
@@ -16,9 +17,9 @@ pub data Version : Type 0 where
   two : Version
 
 -- the text of the first line
-abbrev pub first_text : Version → List ℕ
-first_text one = codes "File Format=MacCaption_MCC V1.0"
-first_text two = codes "File Format=MacCaption_MCC V2.0"
+abbrev pub format_text : Version → List ℕ
+format_text one = codes "File Format=MacCaption_MCC V1.0"
+format_text two = codes "File Format=MacCaption_MCC V2.0"
 
 -- what a line says
 pub data Line : Type 0 where
@@ -102,23 +103,23 @@ pub record IsPacketLine (version : Version) (time : TimeCode) (payload : Payload
   pub spelled : bytes ≡ text ++ (past ++ (9 ∷ (payload_text ++ spaces)))
 
 -- a line: blank or a comment, an attribute, the time code rate, or a packet
-abbrev pub IsLine : Version → Line → List ℕ → Type 0
-IsLine version nothing bytes = AreBlanks bytes ⊎ IsComment bytes
-IsLine version attribute bytes = IsAttribute bytes
-IsLine version (rate count) bytes = IsRate count bytes
-IsLine version (packet time payload) bytes = IsPacketLine version time payload bytes
+abbrev pub IsMccLine : Version → Line → List ℕ → Type 0
+IsMccLine version nothing bytes = AreBlanks bytes ⊎ IsComment bytes
+IsMccLine version attribute bytes = IsAttribute bytes
+IsMccLine version (rate count) bytes = IsRate count bytes
+IsMccLine version (packet time payload) bytes = IsPacketLine version time payload bytes
 
 -- lines, each behind a line end
-abbrev pub AreLines : Version → List Line → List ℕ → Type 0
-AreLines version [] bytes = bytes ≡ []
-AreLines version (line ∷ lines) bytes =
-    (end : List ℕ) × (spelled : List ℕ) × (rest : List ℕ) × IsLineEnd end × IsLine version line spelled × AreLines version lines rest
+abbrev pub AreMccLines : Version → List Line → List ℕ → Type 0
+AreMccLines version [] bytes = bytes ≡ []
+AreMccLines version (line ∷ lines) bytes =
+    (end : List ℕ) × (spelled : List ℕ) × (rest : List ℕ) × IsLineEnd end × IsMccLine version line spelled × AreMccLines version lines rest
     × (bytes ≡ end ++ (spelled ++ rest))
 
 -- an MCC file in form: the first line's text and perhaps spaces, and then these lines
-pub record IsForm (version : Version) (lines : List Line) (bytes : List ℕ) : Type 0 where
+pub record IsMccForm (version : Version) (lines : List Line) (bytes : List ℕ) : Type 0 where
   pub spaces : List ℕ
   pub rest : List ℕ
   pub are_spaces : AreSpaces spaces
-  pub are_lines : AreLines version lines rest
-  pub spelled : bytes ≡ first_text version ++ (spaces ++ rest)
+  pub are_lines : AreMccLines version lines rest
+  pub spelled : bytes ≡ format_text version ++ (spaces ++ rest)

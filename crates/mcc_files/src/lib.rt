@@ -1,10 +1,16 @@
 //! MCC files, by which captioning houses exchange whole ancillary packets: which bytes are an MCC file of which packets at which frames,
-//! and how packets are written.
+//! where other bytes first offend, and how packets are written.
 #![tactic(auto)]
 
+pub use crate::reader::MccReader;
 pub use crate::writer::{HEAD, LINE, head, packet_line};
 
 pub mod laws;
+mod phase;
+mod reader;
+#[cfg(test)]
+mod reader_tests;
+pub mod reading;
 #[cfg(test)]
 mod tests;
 mod writer;

@@ -1,7 +1,7 @@
 ghost use Rattle.std.specs.Prelude.{◌≡◌, ◌≤◌, ◌<◌, ◌+◌, ◌++◌, [], length};
 ghost use Rattle.time_codes.specs.Countings.{day_frames_in};
-ghost use Rattle.mcc_files.specs.Lines.{first_text};
-ghost use Rattle.mcc_files.specs.Writing.{IsWrittenLine, head_text, written_version};
+ghost use Rattle.mcc_files.specs.Lines.{format_text};
+ghost use Rattle.mcc_files.specs.Writing.{IsWrittenLine, written_head, written_version};
 
 use arrayvec::ArrayVec;
 use mcc_payloads::write_payload;
@@ -19,7 +19,7 @@ const ATTRIBUTES: &[u8; 132] =
 
 /// The text of the first line: of version 2 at 60 frames a second with drop frame, else of version 1.
 fn first_line(count: Counting) -> &'static [u8; 31]
-    ensures { result.now ≡ first_text (written_version count) }
+    ensures { result.now ≡ format_text (written_version count) }
 {
     match count {
         Counting::F60Drop => b"File Format=MacCaption_MCC V2.0",
@@ -31,7 +31,7 @@ fn first_line(count: Counting) -> &'static [u8; 31]
 /// time code rate, and an empty line.
 pub fn head(count: Counting, out: &mut ArrayVec<u8, HEAD>)
     requires { out.old.items ≡ [] }
-    ensures { out.new.items ≡ head_text count }
+    ensures { out.new.items ≡ written_head count }
 {
     add(first_line(count), out);
     add(ATTRIBUTES, out);
@@ -53,7 +53,8 @@ pub fn packet_line(
     requires day { frame < day_frames_in count }
     requires few { length user.now ≤ 255 }
     requires empty { out.old.items ≡ [] }
-    ensures { IsWrittenLine count frame (record { did = did; sdid = sdid; user = user.now }) out.new.items }
+    ensures { IsWrittenLine count frame
+        (record { did = did; sdid = sdid; user = user.now }) out.new.items }
 {
     let mut time = time_in(count, frame);
     time.drop_frame = false;

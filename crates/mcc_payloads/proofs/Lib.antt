@@ -11,3 +11,4 @@ pub mod FirstLemmas
 pub mod WordLemmas
 pub mod SumLemmas
 pub mod OneLemmas
+pub mod FittingLemmas

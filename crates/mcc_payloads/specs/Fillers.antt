@@ -1,3 +1,4 @@
+-- Between crates: the program's answer stands on none of these definitions.
 -- How many triplets that don't count stand at the front of bytes.
 use Rattle.std.specs.Prelude.{◌≡◌, ℕ, ◌≤◌, List, ◌∷◌, ◌++◌}
 use Rattle.mcc_payloads.specs.Letters.{fillers}

@@ -1,3 +1,4 @@
+-- Believed: the program's answer stands on these definitions.
 -- The items of payloads: two hex digits for a byte, or a letter for several.
 use Rattle.std.specs.Prelude.{◌≡◌, ℕ, ◌+◌, ◌*◌, ◌⊎◌, List, [], ◌∷◌, ◌++◌, Some}
 use Rattle.hex_digits.specs.HexDigits.{hex_value}

@@ -1,3 +1,4 @@
+-- Believed: the program's answer stands on these definitions.
 -- The letters of MCC files, each of which stands for bytes that are frequent in ancillary packets of captions: triplets that don't
 -- count, null pairs of both fields, the identifier of a distribution packet, DID and SDID of captions, and zeros.
 use Rattle.std.specs.Prelude.{ℕ, zero, suc, ◌-◌, ◌==◌, ◌&&◌, if◌then◌else◌, nat_le, List, [], ◌∷◌, Option, Some, None}

@@ -1,3 +1,4 @@
+-- Believed in part: the program's answer stands on some of these definitions.
 -- Where text first offends that is no payload. An item is judged when it is whole: it offends where some payload begins with the items
 -- before it, and none with these and the item. A byte with which no item begins or goes on offends itself; so does one behind a whole
 -- payload, unless it is a letter, which is an item. Nothing offends in whole items with which some payload begins, nor in a first digit

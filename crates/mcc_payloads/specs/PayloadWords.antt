@@ -1,3 +1,4 @@
+-- Believed: the program's answer stands on these definitions.
 -- The ancillary words of a payload's packet, as bytes (SMPTE ST 291-1): the flag, DID, SDID, count and user bytes as 8-bit words, and the
 -- checksum word.
 use Rattle.std.specs.Prelude.{ℕ, List}

@@ -1,3 +1,4 @@
+-- Believed in part: the program's answer stands on some of these definitions.
 -- Which text is the payload of which ancillary packet (SMPTE ST 291-1): items that stand for DID, SDID, a count, as many user bytes, and
 -- the low eight bits of the checksum word.
 use Rattle.std.specs.Prelude.{◌≡◌, ℕ, ◌%◌, List, [], ◌∷◌, ◌++◌, length}

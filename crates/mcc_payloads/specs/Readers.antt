@@ -1,3 +1,4 @@
+-- Between crates: the program's answer stands on none of these definitions.
 -- What a reader of payloads makes of a byte of the text.
 use Rattle.std.specs.Prelude.{◌≡◌, ℕ, true, List, None, Result, Ok, Err}
 use Rattle.cc_base.specs.declared.why.Why.{Why}

@@ -1,3 +1,4 @@
+-- Between crates: the program's answer stands on none of these definitions.
 -- Payloads read byte by byte: the bytes for which their items stand, or the first offence.
 use Rattle.std.specs.Prelude.{ℕ, ◌+◌, ◌-◌, ◌*◌, ◌%◌, ◌==◌, ◌||◌, not, Bool, true, false, if◌then◌else◌, nat_lt, List, [], ◌∷◌, ◌++◌, length, Option, Some, None, Result, Ok, Err}
 use Rattle.std.specs.List.{sum}
@@ -69,6 +70,34 @@ stepped judging (Some high) bytes byte = second_digit judging bytes high (hex_va
 -- a byte of the text more: behind a whole packet none goes on
 abbrev pub step : Bool → Open → ℕ → Result Open Offence
 step judging front byte = if is_whole front.bytes then no_item else stepped judging front.digit front.bytes byte
+
+-- the bytes of the item that ends with a byte, if one does: a letter's, or that of two digits
+abbrev pub brought_by : Option ℕ → Option (List ℕ) → Option ℕ → List ℕ
+brought_by None (Some bytes) digit = bytes
+brought_by None None digit = []
+brought_by (Some high) letter (Some low) = (16 * high + low) ∷ []
+brought_by (Some high) letter None = []
+
+abbrev pub brought : Open → ℕ → List ℕ
+brought front byte = brought_by front.digit (letter_bytes byte) (hex_value byte)
+
+-- the first of the bytes of an item behind these, down to one that offends
+abbrev pub fits_on : Option Why → ℕ → List ℕ → List ℕ
+fits_on None byte rest = byte ∷ rest
+fits_on (Some reason) byte rest = []
+
+abbrev pub fitting : List ℕ → List ℕ → List ℕ
+fitting before [] = []
+fitting before (byte ∷ bytes) = fits_on (why_of_byte true before byte) byte (fitting (before ++ byte ∷ []) bytes)
+
+-- of the item that ends with a byte
+abbrev pub item_bytes : Open → ℕ → List ℕ
+item_bytes front byte = fitting front.bytes (brought front byte)
+
+-- how many bytes before its last one it begins
+abbrev pub item_back : Option ℕ → ℕ
+item_back None = 0
+item_back (Some high) = 1
 
 -- the text may end here
 abbrev pub may_end : Open → Bool

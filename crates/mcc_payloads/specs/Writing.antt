@@ -1,3 +1,4 @@
+-- Believed: the program's answer stands on these definitions.
 -- How the bytes of a packet are written as a payload: at each byte the letter with the most bytes that fits, else two upper-case hex
 -- digits. U is never written, since readers of the format differ on it.
 use Rattle.std.specs.Prelude.{◌≡◌, ℕ, ◌/◌, ◌%◌, ◌≤◌, ◌==◌, if◌then◌else◌, List, [], ◌∷◌, ◌++◌, length, Option, Some, None}

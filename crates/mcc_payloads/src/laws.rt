@@ -15,24 +15,31 @@ ghost use Rattle.mcc_payloads.specs.Writing.{IsWritten};
 
 /// A text is read as bytes exactly where it is a payload with these bytes.
 pub fn payloads_are_read()
-    ensures read { (payload : Payload) (text : List ℕ) → IsPayload payload text → read_payload text ≡ Ok (payload_bytes payload) }
+    ensures read { (payload : Payload) (text : List ℕ) → IsPayload payload text
+        → read_payload text ≡ Ok (payload_bytes payload) }
     ensures payloads { (text bytes : List ℕ) → read_payload text ≡ Ok bytes
         → (payload : Payload) × IsPayload payload text × (bytes ≡ payload_bytes payload) }
 {}
 
 /// A text that isn't read as bytes is no payload, and its first offence is the one with which it is refused.
 pub fn other_texts_offend()
-    ensures offence { (text : List ℕ) (refusal : Refused) → read_payload text ≡ Err refusal → IsFirstOffence text refusal }
-    ensures refused { (text : List ℕ) (refusal : Refused) → IsFirstOffence text refusal → read_payload text ≡ Err refusal }
-    ensures none { (text : List ℕ) (refusal : Refused) (payload : Payload) → IsFirstOffence text refusal → IsPayload payload text → ⊥ }
-    ensures one { (text : List ℕ) (one other : Refused) → IsFirstOffence text one → IsFirstOffence text other → one ≡ other }
+    ensures offence { (text : List ℕ) (refusal : Refused) → read_payload text ≡ Err refusal
+        → IsFirstOffence text refusal }
+    ensures refused { (text : List ℕ) (refusal : Refused) → IsFirstOffence text refusal
+        → read_payload text ≡ Err refusal }
+    ensures none { (text : List ℕ) (refusal : Refused) (payload : Payload)
+        → IsFirstOffence text refusal → IsPayload payload text → ⊥ }
+    ensures one { (text : List ℕ) (one other : Refused) → IsFirstOffence text one
+        → IsFirstOffence text other → one ≡ other }
 {}
 
 /// What is written of a payload's bytes is the payload, and so it is read.
 pub fn written_payloads_are_payloads()
-    ensures payload { (payload : Payload) (text : List ℕ) → All (λ byte. byte < 256) (payload_bytes payload)
+    ensures payload { (payload : Payload) (text : List ℕ)
+        → All (λ byte. byte < 256) (payload_bytes payload)
         → IsWritten (payload_bytes payload) text → IsPayload payload text }
-    ensures read { (payload : Payload) (text : List ℕ) → All (λ byte. byte < 256) (payload_bytes payload)
+    ensures read { (payload : Payload) (text : List ℕ)
+        → All (λ byte. byte < 256) (payload_bytes payload)
         → IsWritten (payload_bytes payload) text → read_payload text ≡ Ok (payload_bytes payload) }
 {}
 
@@ -40,6 +47,8 @@ pub fn written_payloads_are_payloads()
 pub fn payloads_are_packets()
     ensures packet { (payload : Payload) → All (λ byte. byte < 256) (payload_bytes payload)
         → IsPacketBytes (packet_of payload.did payload.sdid payload.user) (payload_words payload) }
-    ensures payload { (packet : AncillaryPacket) (bytes : List ℕ) → All (λ word. IsEightBit (word % 256) word) packet.user → IsPacketBytes packet bytes
-        → All (λ byte. byte < 256) (payload_bytes (payload_of packet)) × (bytes ≡ payload_words (payload_of packet)) }
+    ensures payload { (packet : AncillaryPacket) (bytes : List ℕ)
+        → All (λ word. IsEightBit (word % 256) word) packet.user → IsPacketBytes packet bytes
+        → All (λ byte. byte < 256) (payload_bytes (payload_of packet))
+        × (bytes ≡ payload_words (payload_of packet)) }
 {}

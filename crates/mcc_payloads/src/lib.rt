@@ -3,7 +3,7 @@
 #![tactic(auto)]
 
 pub use crate::letters::letter_bytes;
-pub use crate::reader::{Offence, PayloadReader};
+pub use crate::reader::{Item, Offence, PayloadReader};
 pub use crate::writer::write_payload;
 
 pub mod laws;

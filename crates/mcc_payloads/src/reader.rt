@@ -44,7 +44,8 @@ impl Counted {
 
     /// Takes a byte more, unless it offends.
     fn take(&mut self, byte: u8) -> Result<(), Why>
-        ensures takes { (bytes : List ℕ) → AreCounted bytes self.old → TakesByte bytes byte self.old self.new result }
+        ensures takes { (bytes : List ℕ) → AreCounted bytes self.old
+            → TakesByte bytes byte self.old self.new result }
         ensures short { IfOk result (λ _. self.new.len ≤ 259) }
     {
         if self.len >= 3 {
@@ -65,6 +66,15 @@ impl Counted {
     }
 }
 
+/// An item of a payload, as its last byte ends it.
+#[derive(Debug, Drop)]
+pub struct Item {
+    /// The bytes for which it stands, down to the first one with which no payload goes on.
+    pub bytes: ArrayVec<u8, 27>,
+    /// How many bytes before its last one it begins: 1 where it has two digits, else 0.
+    pub back: u8,
+}
+
 /// A reader of a payload's text, byte by byte.
 #[derive(Debug, Drop)]
 pub struct PayloadReader {
@@ -81,7 +91,7 @@ pub struct PayloadReader {
 impl PayloadReader {
     ghost use Rattle.hex_digits.specs.HexDigits.{hex_value};
     ghost use Rattle.mcc_payloads.specs.Letters.{letter_bytes};
-    ghost use Rattle.mcc_payloads.specs.Reading.{item_begins, may_end, nothing_open, second_digit, step};
+    ghost use Rattle.mcc_payloads.specs.Reading.{fitting, item_back, item_begins, item_bytes, may_end, nothing_open, second_digit, step};
     ghost use Rattle.mcc_payloads.specs.Readers.{StepsTo, TakesItem, open_of};
 
     /// A reader of no bytes.
@@ -113,6 +123,48 @@ impl PayloadReader {
         self.bytes.as_slice()
     }
 
+    // The first of the bytes of an item, down to one that offends.
+    fn fitting(&self, brought: &[u8]) -> ArrayVec<u8, 27>
+        requires { length brought.now ≤ 27 }
+        ensures bytes { result.items ≡ fitting (open_of self.now).bytes brought.now }
+        ensures room { length (open_of self.now).bytes + length result.items ≤ 259 }
+    {
+        let mut counted = self.counted;
+        let mut fit = ArrayVec::new();
+        for byte in brought {
+            match counted.take(*byte) {
+                Ok(()) => fit.push(*byte),
+                Err(_) => return fit,
+            }
+        }
+        fit
+    }
+
+    /// The item that ends with a byte, if one does, and how many of its bytes a payload goes on with; else no bytes.
+    pub fn item(&self, byte: u8) -> Item
+        ensures bytes { result.bytes.items ≡ item_bytes (open_of self.now) byte }
+        ensures back { result.back ≡ item_back (open_of self.now).digit }
+        ensures room { 0 < length result.bytes.items
+            → length (open_of self.now).bytes + length result.bytes.items ≤ 259 }
+    {
+        match self.digit {
+            Some(high) => {
+                let bytes = match hex_value(byte) {
+                    Some(low) => self.fitting(&[16 * high + low]),
+                    None => ArrayVec::new(),
+                };
+                Item { bytes, back: 1 }
+            }
+            None => {
+                let bytes = match letter_bytes(byte) {
+                    Some(brought) => self.fitting(brought),
+                    None => ArrayVec::new(),
+                };
+                Item { bytes, back: 0 }
+            }
+        }
+    }
+
     // Takes the bytes of an item, unless one of them offends.
     fn take_item(&mut self, brought: &[u8]) -> Result<(), Why>
         ensures { TakesItem self.old brought.now self.new result }
@@ -135,7 +187,8 @@ impl PayloadReader {
     // Takes the second digit of an item whose first one has this value.
     fn second_digit(&mut self, high: u8, byte: u8) -> Result<(), Offence>
         requires { high < 16 }
-        ensures { StepsTo (second_digit true (open_of self.old).bytes high (hex_value byte)) self.old self.new result }
+        ensures { StepsTo (second_digit true (open_of self.old).bytes high
+            (hex_value byte)) self.old self.new result }
     {
         let Some(low) = hex_value(byte) else {
             return Err(NO_ITEM);
@@ -149,7 +202,8 @@ impl PayloadReader {
     // Takes the first byte of an item: a letter, or a first digit.
     fn first_of_item(&mut self, byte: u8) -> Result<(), Offence>
         requires { self.old.digit ≡ None }
-        ensures { StepsTo (item_begins true (open_of self.old).bytes (letter_bytes byte) (hex_value byte)) self.old self.new result }
+        ensures { StepsTo (item_begins true (open_of self.old).bytes (letter_bytes byte)
+            (hex_value byte)) self.old self.new result }
     {
         if let Some(bytes) = letter_bytes(byte) {
             return match self.take_item(bytes) {

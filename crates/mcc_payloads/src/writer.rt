@@ -22,7 +22,8 @@ fn fillers_ahead(bytes: &[u8]) -> u8
 
 /// The letter with the most bytes that `bytes` begin with, and how many these are; None where there is none.
 fn letter_ahead(bytes: &[u8]) -> Option<(u8, usize)>
-    ensures best { MatchOption result (FitsNone bytes.now) (λ found. FitsBest bytes.now found.0 (take found.1 bytes.now) (drop found.1 bytes.now)) }
+    ensures best { MatchOption result (FitsNone bytes.now)
+        (λ found. FitsBest bytes.now found.0 (take found.1 bytes.now) (drop found.1 bytes.now)) }
     ensures some { IfSome result (λ found. 0 < found.1) }
     ensures within { IfSome result (λ found. found.1 ≤ length bytes.now) }
 {
@@ -82,7 +83,8 @@ fn checksum_byte(did: u8, sdid: u8, user: &[u8]) -> u8
 pub fn write_payload(did: u8, sdid: u8, user: &[u8], out: &mut ArrayVec<u8, 518>)
     requires few { length user.now ≤ 255 }
     requires empty { out.old.items ≡ [] }
-    ensures { IsWritten (payload_bytes (record { did = did; sdid = sdid; user = user.now })) out.new.items }
+    ensures { IsWritten (payload_bytes
+        (record { did = did; sdid = sdid; user = user.now })) out.new.items }
 {
     let mut bytes: ArrayVec<u8, 259> = ArrayVec::new();
     add(&[did, sdid, user.len() as u8], &mut bytes);

@@ -6,7 +6,7 @@ use Rattle.std.proofs.lemmas.List.Folds.{concat-append}
 use Rattle.std.specs.List.{concat}
 use Rattle.cc_data.specs.declared.triplet.Triplet.{Triplet}
 use Rattle.cc_data.proofs.TripletLemmas.{length-all_written}
-use Rattle.cdp_packets.specs.Packets.{Packet}
+use Rattle.cdp_packets.specs.Packets.{Frame}
 use Rattle.cdp_packets.specs.Sections.{AreSections, IsSection}
 use Rattle.cdp_packets.specs.Written.{cc_data_section}
 use Rattle.packet_inserter.specs.Insertion.{IsInserted, IsPlace, is_kept, is_time_code_section, packet_length}
@@ -60,8 +60,8 @@ put_among-are [] behind section is are = (is, are)
 put_among-are (first ∷ before) behind section is are = (are.0, put_among-are before behind section is are.1)
 
 -- the packet that is made of what is kept, in front of and behind a place
-pub record IsMade (triplets : List Triplet) (old : Packet) (kept : List ℕ) (place : ℕ) : Type 0 where
-  pub new : Packet
+pub record IsMade (triplets : List Triplet) (old : Frame) (kept : List ℕ) (place : ℕ) : Type 0 where
+  pub new : Frame
   pub inserted : IsInserted triplets old new
   pub are : AreSections new.sections
   pub rate : new.rate ≡ old.rate
@@ -74,7 +74,7 @@ pub record IsMade (triplets : List Triplet) (old : Packet) (kept : List ℕ) (pl
 pub length-new : (triplets : List Triplet) → length (cc_data_section triplets) ≡ 2 + 3 * length triplets
 length-new triplets = omega (arith, length-all_written triplets)
 
-pub made : (triplets : List Triplet) (old : Packet) (before : List (List ℕ)) (kept : List ℕ) (place : ℕ)
+pub made : (triplets : List Triplet) (old : Frame) (before : List (List ℕ)) (kept : List ℕ) (place : ℕ)
     → IsSection (cc_data_section triplets) → AreSections old.sections → IsPlace old.sections before → place ≡ length (concat before)
     → kept ≡ concat (filter is_kept old.sections) → IsMade triplets old kept place
 made triplets old before kept place section are is_place long kept_is =

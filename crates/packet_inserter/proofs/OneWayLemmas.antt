@@ -4,7 +4,7 @@ use Rattle.std.proofs.lemmas.List.Elements.{All-head, All-tail, filter_passes}
 use Rattle.std.specs.List.{flat_map}
 use Rattle.cc_base.specs.declared.rate.Rate.{Rate}
 use Rattle.cc_data.specs.declared.triplet.Triplet.{Triplet}
-use Rattle.cdp_packets.specs.Packets.{Packet}
+use Rattle.cdp_packets.specs.Packets.{Frame}
 use Rattle.cdp_packets.specs.PacketTriplets.{packet_triplets, section_triplets}
 use Rattle.cdp_packets.specs.Written.{cc_data_section}
 use Rattle.cdp_packets.proofs.SectionLemmas.{cc_data_section-triplets}
@@ -71,10 +71,10 @@ put_once section old new other this that =
     this.new_is ∙ ap (λ b. b ++ section ∷ this.behind) place ∙ ap (λ b. that.before ++ section ∷ b) behind ∙ sym that.new_is
 
 -- a packet by its parts
-abbrev packet_by : Rate → ℕ → ℕ → List (List ℕ) → Packet
+abbrev packet_by : Rate → ℕ → ℕ → List (List ℕ) → Frame
 packet_by rate flags counter sections = record { rate = rate; flags = flags; counter = counter; sections = sections }
 
-pub inserted_once : (triplets : List Triplet) (old new other : Packet) → IsInserted triplets old new → IsInserted triplets old other → new ≡ other
+pub inserted_once : (triplets : List Triplet) (old new other : Frame) → IsInserted triplets old new → IsInserted triplets old other → new ≡ other
 inserted_once triplets old new other this that =
     ap (λ r. packet_by r new.flags new.counter new.sections) (this.rate ∙ sym that.rate)
     ∙ ap (λ f. packet_by other.rate f new.counter new.sections) (this.flags ∙ sym that.flags)
@@ -105,7 +105,7 @@ put-triplets (first ∷ before) behind section all =
     ap (λ s. s ++ flat_map section_triplets (before ++ section ∷ behind)) (kept-triplets first (All-head (λ s. is_kept s ≡ true) first (before ++ behind) all))
     ∙ put-triplets before behind section (All-tail (λ s. is_kept s ≡ true) first (before ++ behind) all)
 
-pub inserted-triplets : (triplets : List Triplet) (old new : Packet) → All (λ t. t.kind < 4) triplets → IsInserted triplets old new
+pub inserted-triplets : (triplets : List Triplet) (old new : Frame) → All (λ t. t.kind < 4) triplets → IsInserted triplets old new
     → packet_triplets new ≡ triplets
 inserted-triplets triplets old new kinds this =
     ap (flat_map section_triplets) this.sections.new_is

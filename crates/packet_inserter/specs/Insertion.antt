@@ -1,10 +1,11 @@
+-- Believed: the program's answer stands on these definitions.
 -- A caption distribution packet in which the captions are replaced (SMPTE ST 334-2): its cc_data sections go, and one with the
 -- new triplets stands in the place of the first of them, or, where there was none, before the first section that isn't a time
 -- code, or else at the end. The packet says that it carries cc_data, of an active caption service; all else stays.
 use Rattle.std.specs.Prelude.{◌≡◌, ℕ, ◌+◌, ◌==◌, ◌⊎◌, not, bit_or, Bool, true, false, List, [], ◌∷◌, ◌++◌, length, filter}
 use Rattle.std.specs.List.{All, concat}
 use Rattle.cc_data.specs.declared.triplet.Triplet.{Triplet}
-use Rattle.cdp_packets.specs.Packets.{Packet}
+use Rattle.cdp_packets.specs.Packets.{Frame}
 use Rattle.cdp_packets.specs.Written.{cc_data_section}
 
 -- a section is one of cc_data, by its id
@@ -57,12 +58,12 @@ pub record IsPutAmong (section : List ℕ) (old new : List (List ℕ)) : Type 0 
 
 -- the triplets are those of the new packet, which is the old one in all else: flag bits 6 and 1, cc_data and active captions,
 -- are set, and the others stay
-pub record IsInserted (triplets : List Triplet) (old new : Packet) : Type 0 where
+pub record IsInserted (triplets : List Triplet) (old new : Frame) : Type 0 where
   pub rate : new.rate ≡ old.rate
   pub flags : new.flags ≡ bit_or old.flags 0x42
   pub counter : new.counter ≡ old.counter
   pub sections : IsPutAmong (cc_data_section triplets) old.sections new.sections
 
 -- the number of a packet's bytes: its sections, seven before them and four behind them
-abbrev pub packet_length : Packet → ℕ
+abbrev pub packet_length : Frame → ℕ
 packet_length packet = length (concat packet.sections) + 11

@@ -1,3 +1,4 @@
+-- Between crates: the program's answer stands on none of these definitions.
 -- How far the sections of a packet were walked.
 use Rattle.std.specs.Prelude.{◌≡◌, ℕ, ◌++◌, ◌∷◌, [], ◌⊎◌, List, length, true, false}
 use Rattle.std.specs.List.{All, concat}

@@ -1,7 +1,7 @@
 ghost use Rattle.std.specs.Prelude.{◌≡◌, ◌≤◌, ◌<◌, List, [], length, IfErr, IfOk, OnErr};
 ghost use Rattle.std.specs.List.{All, concat};
 ghost use Rattle.cc_base.specs.declared.limit_of.LimitOf.TheVariants as limit;
-ghost use Rattle.cdp_packets.specs.Packets.{Packet};
+ghost use Rattle.cdp_packets.specs.Packets.{Frame};
 ghost use Rattle.cdp_packets.specs.Sections.{AreSections, IsSectionList};
 ghost use Rattle.cdp_packets.specs.WholePackets.{SaysPacket};
 ghost use Rattle.cdp_packets.specs.Written.{written_packet};
@@ -35,11 +35,13 @@ pub fn insert(
     requires list { IsSectionList packet.now.sections.now }
     requires short { length packet.now.sections.now ≤ 244 }
     requires empty { out.old.items ≡ [] }
-    ensures inserted { (old : Packet) → SaysPacket packet.now old → AreSections old.sections
-        → IfOk result (λ done. (new : Packet) × IsInserted triplets.now old new × AreSections new.sections × (packet_length new ≤ 255)
+    ensures inserted { (old : Frame) → SaysPacket packet.now old → AreSections old.sections
+        → IfOk result (λ done. (new : Frame) × IsInserted triplets.now old new
+        × AreSections new.sections × (packet_length new ≤ 255)
         × (out.new.items ≡ written_packet new.rate new.flags new.counter (concat new.sections))) }
-    ensures limit { (old : Packet) → SaysPacket packet.now old → AreSections old.sections
-        → IfErr result (λ passed. (passed ≡ limit.Packet) × ((new : Packet) × IsInserted triplets.now old new × (255 < packet_length new))) }
+    ensures limit { (old : Frame) → SaysPacket packet.now old → AreSections old.sections
+        → IfErr result (λ passed. (passed ≡ limit.Packet)
+        × ((new : Frame) × IsInserted triplets.now old new × (255 < packet_length new))) }
     ensures unchanged { OnErr result (out.new.items ≡ []) }
 {
     let kept = kept_sections(packet.sections);

@@ -5,12 +5,7 @@ ghost use Rattle.packet_inserter.specs.Insertion.{IsPlace, StandBeforeCaptions, 
 ghost use Rattle.packet_inserter.specs.Walks.{StandsBehindTimeCodes};
 
 use arrayvec::ArrayVec;
-use cdp_packets::split_section;
-
-/// The ids of sections that decide on the place (SMPTE ST 334-2).
-const TIME_CODE: u8 = 0x71;
-
-const CC_DATA: u8 = 0x72;
+use cdp_packets::{CC_DATA, TIME_CODE, split_section};
 
 /// Whether a section is one of cc_data.
 fn is_captions(section: &[u8]) -> bool
@@ -46,7 +41,8 @@ pub(crate) fn kept_sections(sections: &[u8]) -> ArrayVec<u8, 244>
 /// The number of bytes before the first section of cc_data, if there is one.
 fn captions_place(sections: &[u8]) -> Option<usize>
     ensures some { (cut : List (List ℕ)) → AreSections cut → concat cut ≡ sections.now
-        → IfSome result (λ place. (before : List (List ℕ)) × StandBeforeCaptions cut before × (place ≡ length (concat before))) }
+        → IfSome result (λ place. (before : List (List ℕ)) × StandBeforeCaptions cut before
+        × (place ≡ length (concat before))) }
     ensures none { (cut : List (List ℕ)) → AreSections cut → concat cut ≡ sections.now
         → IfNone result (All (λ section. is_kept section ≡ true) cut) }
 {
@@ -64,7 +60,8 @@ fn captions_place(sections: &[u8]) -> Option<usize>
 
 /// The number of bytes of the time codes with which the sections begin.
 fn time_codes_len(sections: &[u8]) -> usize
-    ensures { (cut : List (List ℕ)) → AreSections cut → concat cut ≡ sections.now → StandsBehindTimeCodes cut result }
+    ensures { (cut : List (List ℕ)) → AreSections cut → concat cut ≡ sections.now
+        → StandsBehindTimeCodes cut result }
 {
     let mut place = 0;
     let mut rest = sections;

@@ -1,3 +1,4 @@
+-- Between crates: the program's answer stands on none of these definitions.
 -- First fit: each unit in turn in the first slot that the lane allows behind the units before it.
 use Rattle.std.specs.Prelude.{ℕ, ◌≤◌, ◌↔◌, List, [], ◌∷◌, ◌++◌, ⊤}
 use Rattle.placements.specs.Placing.{IsEarliest}

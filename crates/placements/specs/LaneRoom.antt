@@ -1,3 +1,4 @@
+-- Believed in part: the program's answer stands on some of these definitions.
 -- Room in a lane: whether the units of its cues have a placement.
 use Rattle.std.specs.Prelude.{ℕ, ◌<◌, ◌≤◌, List, [], ◌∷◌, nat_le, ⊤}
 use Rattle.std.specs.List.{filter}

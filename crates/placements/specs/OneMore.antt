@@ -1,3 +1,4 @@
+-- Between crates: the program's answer stands on none of these definitions.
 -- The law of one more unit: where the units of a list have an earliest placement, the list with one more unit has
 -- a placement exactly where some frame is allowed for that unit behind this earliest placement; the earliest one
 -- then puts the unit in the first such frame, and leaves the others where they are.

@@ -1,3 +1,4 @@
+-- Believed in part: the program's answer stands on some of these definitions.
 -- Placements: a frame for each unit of a list, each unit where the lane allows it behind the units before it;
 -- and the earliest placement, in which no unit stands later than in any other.
 use Rattle.std.specs.Prelude.{ℕ, ◌≤◌, List, [], ◌∷◌, ◌++◌, ⊤}

@@ -10,7 +10,7 @@ use Rattle.frame_scheduler.specs.Columns.{Columns}
 use Rattle.programmes.specs.Framing.{Framing, HasFraming}
 use Rattle.programmes.specs.declared.programme.Programme.{Programme}
 use Rattle.programme_runs.specs.Made.{IsMadeOf, IsProgrammeOf}
-use Rattle.programme_runs.specs.MakesAnswer.{PutsMade}
+use Rattle.command_base.specs.MakesAnswer.{PutsMade}
 
 -- what was put of a programme's frames, or a front of it, is what was made of the accepted bytes
 pub made_put : {A F : Type 0} (IsAccepted : List ℕ → A → Type 0) (framing_of : A → Framing) (output : Framing → List ℕ) (IsSound : A → Type 0) (left : F → ℕ) (Gives : Columns → ℕ → F → Type 0)

@@ -1,3 +1,4 @@
+-- Between crates: the program's answer stands on none of these definitions.
 -- The programme that is made of accepted bytes.
 use Rattle.std.specs.Prelude.{ℕ, List}
 use Rattle.frame_scheduler.specs.Columns.{Columns}

@@ -2,7 +2,7 @@ ghost use Rattle.std.specs.Prelude.{ℕ, List};
 ghost use Rattle.command_base.specs.Ends.{ends};
 ghost use Rattle.command_base.specs.WholeInput.{ReadsInput};
 ghost use Rattle.command_base.specs.declared.status.Status.{Status as OfStatus};
-ghost use Rattle.programme_runs.specs.MakesAnswer.{BesideAnswer, MakesAnswer};
+ghost use Rattle.command_base.specs.MakesAnswer.{BesideAnswer, MakesAnswer};
 
 use crate::run::{Makes, run_made};
 use cc_base::{Sink, Source};
@@ -21,7 +21,8 @@ pub trait ReadsSide {
     /// Reads a side file to its end and judges it. Gives the command, or the status with which the file is refused, or that it can't
     /// be read.
     fn read_side<S: Source>(self, alloc: Global, side: &mut S) -> Result<Self::Command, Status>
-        ensures { ReadsInput IsRead Refuses (S.left side.old) (S.left side.new) (S.faults side.old) (S.faults side.new) result };
+        ensures { ReadsInput IsRead Refuses (S.left side.old) (S.left side.new) (S.faults side.old)
+            (S.faults side.new) result };
 }
 
 /// Reads a side file to its end, then an input, and puts the frames that are made of both. A side file that is refused, or can't be
@@ -34,11 +35,13 @@ pub fn run_beside<B: ReadsSide, S: Source, M: Source, O: Sink>(
     out: &mut O,
 ) -> Status
     ensures { BesideAnswer B.IsRead B.Refuses
-        (λ command. MakesAnswer (B.Command.IsAccepted command) (λ made. B.Command.Puts.bytes_of (B.Command.framing_of made))
+        (λ command. MakesAnswer (B.Command.IsAccepted command)
+        (λ made. B.Command.Puts.bytes_of (B.Command.framing_of made))
         B.Command.IsSound (B.Command.Refused command))
         (S.left side.old) (S.left side.new) (S.faults side.old) (S.faults side.new)
         (ends (M.left input.old) (M.faults input.old) (O.written out.old) (O.faults out.old))
-        (ends (M.left input.new) (M.faults input.new) (O.written out.new) (O.faults out.new)) result }
+        (ends (M.left input.new) (M.faults input.new) (O.written out.new)
+        (O.faults out.new)) result }
 {
     match command.read_side(alloc, side) {
         Ok(command) => run_made(command, alloc, input, out),

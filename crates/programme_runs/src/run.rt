@@ -4,7 +4,7 @@ ghost use Rattle.command_base.specs.WholeInput.{ReadsInput};
 ghost use Rattle.command_base.specs.declared.status.Status.{Status as OfStatus};
 ghost use Rattle.programmes.specs.Framing.{Framing};
 ghost use Rattle.programme_runs.specs.Made.{IsMadeOf};
-ghost use Rattle.programme_runs.specs.MakesAnswer.{MakesAnswer};
+ghost use Rattle.command_base.specs.MakesAnswer.{MakesAnswer};
 
 use cc_base::{Put, Sink, Source};
 use command_base::Status;
@@ -32,8 +32,10 @@ pub trait Makes {
     /// Reads an input to its end and judges it. Gives the programme, or the status with which the input is refused, or that it can't
     /// be read.
     fn read<M: Source>(self, alloc: Global, input: &mut M) -> Result<Programme<Self::Made>, Status>
-        ensures { ReadsInput (IsMadeOf (IsAccepted self) framing_of IsSound Self.Made.left Self.Made.Gives) (Refused self)
-            (M.left input.old) (M.left input.new) (M.faults input.old) (M.faults input.new) result };
+        ensures { ReadsInput (IsMadeOf
+            (IsAccepted self) framing_of IsSound Self.Made.left Self.Made.Gives) (Refused self)
+            (M.left input.old) (M.left input.new) (M.faults input.old)
+            (M.faults input.new) result };
 }
 
 /// Reads an input to its end, and puts the frames that are made of it; nothing where it is refused.
@@ -43,9 +45,11 @@ pub fn run_made<C: Makes, M: Source, O: Sink>(
     input: &mut M,
     out: &mut O,
 ) -> Status
-    ensures { MakesAnswer (C.IsAccepted command) (λ made. C.Puts.bytes_of (C.framing_of made)) C.IsSound (C.Refused command)
+    ensures { MakesAnswer (C.IsAccepted command)
+        (λ made. C.Puts.bytes_of (C.framing_of made)) C.IsSound (C.Refused command)
         (ends (M.left input.old) (M.faults input.old) (O.written out.old) (O.faults out.old))
-        (ends (M.left input.new) (M.faults input.new) (O.written out.new) (O.faults out.new)) result }
+        (ends (M.left input.new) (M.faults input.new) (O.written out.new)
+        (O.faults out.new)) result }
 {
     match command.read(alloc, input) {
         Ok(programme) => match C::Puts::put(programme, out) {

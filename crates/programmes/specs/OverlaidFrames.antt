@@ -1,3 +1,4 @@
+-- Between crates: the program's answer stands on none of these definitions.
 -- What frames with pairs laid over them are made of.
 use Rattle.frame_scheduler.specs.declared.frames.Frames.{Ghosts as OfFrames}
 use Rattle.programmes.specs.declared.overlay.Overlay.{Ghosts as OfOverlay}

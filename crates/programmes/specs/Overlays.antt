@@ -1,3 +1,4 @@
+-- Between crates: the program's answer stands on none of these definitions.
 -- Frames with pairs that are laid over them.
 use Rattle.std.specs.Prelude.{ℕ}
 use Rattle.frame_scheduler.specs.Columns.{Columns}

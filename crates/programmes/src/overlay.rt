@@ -16,7 +16,8 @@ pub trait Overlay {
     fn lay(&mut self, bytes: FrameBytes) -> FrameBytes
         requires { 1 ≤ lasts self.old }
         ensures lasts { lasts self.old ≤ lasts self.new + 1 }
-        ensures makes { (firsts columns : Columns) (frame : ℕ) → Lays firsts columns frame self.old → bytes ≡ firsts frame
+        ensures makes { (firsts columns : Columns) (frame : ℕ) → Lays firsts columns frame self.old
+            → bytes ≡ firsts frame
             → (result ≡ columns frame) × Lays firsts columns (frame + 1) self.new };
 }
 

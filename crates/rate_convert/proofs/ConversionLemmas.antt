@@ -1,22 +1,22 @@
 -- What one frame more becomes stands behind what the frames before it become.
 use Rattle.std.proofs.Common.{◌≡◌, ℕ, zero, suc, ◌+◌, ◌*◌, List, [], ◌∷◌, ◌++◌, append-nil, append_assoc, length, take, refl, sym, ap, ◌∙◌, arith}
-use Rattle.cdp_packets.specs.Packets.{Packet as Frame}
-use Rattle.halved_frames.specs.Conversion.{conversion, conversion_bytes, conversion_bytes_from, conversion_from, converted_bytes, first_of, second_of}
+use Rattle.cdp_packets.specs.Packets.{Frame}
+use Rattle.halved_frames.specs.Conversion.{conversion, conversion_bytes, conversion_bytes_from, conversion_from, converted_bytes, first_half_of, second_half_of}
 
 more_from : (number : ℕ) (frames : List Frame) (last : Frame)
-    → conversion_from number (frames ++ last ∷ []) ≡ (conversion_from number frames ++ first_of (number + length frames) last ∷ []) ++ second_of (number + length frames) last ∷ []
+    → conversion_from number (frames ++ last ∷ []) ≡ (conversion_from number frames ++ first_half_of (number + length frames) last ∷ []) ++ second_half_of (number + length frames) last ∷ []
 more_from number [] last =
-    let e : number ≡ number + 0 = omega arith in ap (λ n. first_of n last ∷ second_of n last ∷ []) e
+    let e : number ≡ number + 0 = omega arith in ap (λ n. first_half_of n last ∷ second_half_of n last ∷ []) e
 more_from number (frame ∷ frames) last =
     let e : suc number + length frames ≡ number + suc (length frames) = omega arith in
-    ap (λ (l : List Frame). first_of number frame ∷ second_of number frame ∷ l) (more_from (suc number) frames last)
-    ∙ ap (λ n. first_of number frame ∷ second_of number frame ∷ ((conversion_from (suc number) frames ++ first_of n last ∷ []) ++ second_of n last ∷ [])) e
+    ap (λ (l : List Frame). first_half_of number frame ∷ second_half_of number frame ∷ l) (more_from (suc number) frames last)
+    ∙ ap (λ n. first_half_of number frame ∷ second_half_of number frame ∷ ((conversion_from (suc number) frames ++ first_half_of n last ∷ []) ++ second_half_of n last ∷ [])) e
 
 pub conversion_more : (frames : List Frame) (last : Frame)
-    → conversion (frames ++ last ∷ []) ≡ (conversion frames ++ first_of (length frames) last ∷ []) ++ second_of (length frames) last ∷ []
+    → conversion (frames ++ last ∷ []) ≡ (conversion frames ++ first_half_of (length frames) last ∷ []) ++ second_half_of (length frames) last ∷ []
 conversion_more frames last =
     let e : 0 + length frames ≡ length frames = omega arith in
-    more_from 0 frames last ∙ ap (λ n. (conversion frames ++ first_of n last ∷ []) ++ second_of n last ∷ []) e
+    more_from 0 frames last ∙ ap (λ n. (conversion frames ++ first_half_of n last ∷ []) ++ second_half_of n last ∷ []) e
 
 bytes_from : (number : ℕ) (frames : List Frame) (last : Frame)
     → conversion_bytes_from number (frames ++ last ∷ []) ≡ conversion_bytes_from number frames ++ converted_bytes (number + length frames) last
@@ -41,7 +41,7 @@ take_from number (suc k) zero frames is = absurd (omega arith)
 take_from number (suc k) (suc zero) frames is = absurd (omega arith)
 take_from number (suc k) (suc (suc j)) [] is = refl
 take_from number (suc k) (suc (suc j)) (frame ∷ frames) is =
-    ap (λ (l : List Frame). first_of number frame ∷ second_of number frame ∷ l) (take_from (suc number) k j frames (omega arith))
+    ap (λ (l : List Frame). first_half_of number frame ∷ second_half_of number frame ∷ l) (take_from (suc number) k j frames (omega arith))
 
 pub take_conversion : (k : ℕ) (frames : List Frame) → take (2 * k) (conversion frames) ≡ conversion (take k frames)
 take_conversion k frames = take_from 0 k (2 * k) frames refl

@@ -1,7 +1,9 @@
 -- What a converter is behind bytes that bring no frame, or one more.
-use Rattle.std.proofs.Common.{◌≡◌, ℕ, ◌+◌, Option, None, Some, List, [], ◌∷◌, ◌++◌, refl, subst, sym, length, length-append, arith}
-use Rattle.std.specs.Prelude.{MatchOption}
-use Rattle.cdp_packets.specs.Packets.{Packet as Frame}
+use Rattle.std.proofs.Common.{◌≡◌, ℕ, ◌+◌, Option, None, Some, Err, Ok, take, List, [], ◌∷◌, ◌++◌, refl, subst, sym, length, length-append, arith}
+use Rattle.std.specs.Prelude.{MatchOption, Result}
+use Rattle.cc_base.specs.declared.refusal.Refusal.{Refusal}
+use Rattle.cc_receiver.specs.declared.receiver.Fed.{Fed}
+use Rattle.cdp_packets.specs.Packets.{Frame}
 use Rattle.findings.specs.declared.misfit.Misfit.{Misfit}
 use Rattle.services_files.specs.CaptionChannel.{caption_channel}
 use Rattle.words_files.specs.FramesOf.{AreFramesOf}
@@ -10,7 +12,7 @@ use Rattle.cc_receiver.specs.Receivers.{HasReceived, frame_count}
 use Rattle.cc_receiver.specs.declared.receiver.Receiver.{Receiver}
 use Rattle.cc_receiver.proofs.FedFrames.{frames_still}
 use Rattle.cc_receiver.proofs.TakenLemmas.{frames_count}
-use Rattle.rate_convert.specs.Converters.{HasConverted, StandsBehind}
+use Rattle.rate_convert.specs.Converters.{ConvertsOn, HasConverted, StandsBehind}
 use Rattle.rate_convert.specs.Halvers.{HasHalved, TookBy, misfit_of}
 use Rattle.rate_convert.specs.Misfits.{AreFit, HasMisfit}
 use Rattle.rate_convert.specs.declared.converter.Converter.{Converter}
@@ -57,3 +59,9 @@ last_number bytes earlier last input frame had are number =
     let count = frames_count (earlier ++ last ∷ []) bytes input had are in
     let long = length-append earlier (last ∷ []) in
     omega (arith, number, count, long)
+
+-- whatever a call answers, some bytes lead to it
+pub still_converted : (before bytes : List ℕ) (new : Converter) (result : Result Fed Refusal) → ConvertsOn before bytes new result
+    → (after : List ℕ) × HasConverted after new
+still_converted before bytes new (Ok fed) on = (before ++ take fed.used bytes, on)
+still_converted before bytes new (Err refusal) on = (before ++ bytes, on)

@@ -2,7 +2,7 @@
 use Rattle.std.proofs.Common.{◌≡◌, ℕ, zero, suc, ◌+◌, ◌<◌, List, [], ◌∷◌, ◌++◌, All, append-nil, append_assoc, length, take, refl, sym, ◌∙◌, subst, arith}
 use Rattle.std.proofs.lemmas.List.Elements.{All-cons, All-nil}
 use Rattle.cc_receiver.specs.ReceivedServices.{received_windows}
-use Rattle.cdp_packets.specs.Packets.{Packet as Frame}
+use Rattle.cdp_packets.specs.Packets.{Frame}
 use Rattle.findings.specs.declared.misfit.MisfitKind.TheVariants as misfit
 use Rattle.findings.specs.declared.finding.Which.{Which}
 use Rattle.findings.specs.declared.finding.Which.TheVariants as which
@@ -12,7 +12,8 @@ use Rattle.halved_frames.proofs.KeptLemmas.{show_the_same}
 use Rattle.line21_codes.specs.declared.channels.Chan.{Chan}
 use Rattle.line21_codes.specs.declared.channels.FieldNumber.TheVariants.{One, Two}
 use Rattle.words_files.specs.Received.{received_grids}
-use Rattle.rate_convert.specs.Grids.{HasGrid, IsChanged, IsFirstChanged, IsFirstService, KeepsGrids, grid_place}
+use Rattle.rate_convert.specs.Differing.{IsFirstService}
+use Rattle.rate_convert.specs.Grids.{HasGrid, IsChanged, IsFirstChanged, KeepsGrids, grid_place}
 use Rattle.rate_convert.specs.Laws.{FitHasNone}
 use Rattle.rate_convert.specs.Misfits.{AreFitBehind, IsFit}
 

@@ -4,11 +4,11 @@ use Rattle.std.proofs.lemmas.List.Elements.{All-append, All-cons, All-nil}
 use Rattle.cc_receiver.specs.ReceivedServices.{received_windows}
 use Rattle.cc_data.specs.declared.triplet.Triplet.{Triplet}
 use Rattle.cdp_packets.specs.PacketTriplets.{packet_triplets}
-use Rattle.cdp_packets.specs.Packets.{Packet as Frame}
+use Rattle.cdp_packets.specs.Packets.{Frame}
 use Rattle.dtvcc_services.specs.Objects.{all_ticks}
 use Rattle.findings.specs.declared.finding.Which.TheVariants as which
 use Rattle.findings.specs.declared.misfit.MisfitKind.TheVariants as misfit
-use Rattle.halved_frames.specs.Conversion.{IsConvertible, conversion, converted_bytes, first_half, first_of, half_bytes, second_half, second_of}
+use Rattle.halved_frames.specs.Conversion.{IsConvertible, conversion, converted_bytes, first_half, first_half_of, half_bytes, second_half, second_half_of}
 use Rattle.halved_frames.proofs.ConvertedFileLemmas.{carried_alike}
 use Rattle.halved_frames.proofs.ConvertedLemmas.{converted_halves, first_triplets, second_triplets}
 use Rattle.service_blocks.specs.Channels.{IsHeard}
@@ -16,7 +16,8 @@ use Rattle.service_blocks.proofs.ChannelLemmas.{channel_heard}
 use Rattle.services_files.specs.CaptionChannel.{caption_channel}
 use Rattle.services_files.specs.CarriedChannel.{CarryChannel, file_triplets}
 use Rattle.words_files.specs.FramesOf.{AreFramesOf}
-use Rattle.rate_convert.specs.Grids.{IsFirstDiffering, IsFirstService, KeepsGrids}
+use Rattle.rate_convert.specs.Differing.{IsFirstDiffering, IsFirstService}
+use Rattle.rate_convert.specs.Grids.{KeepsGrids}
 use Rattle.rate_convert.specs.Halvers.{HasHalved}
 use Rattle.rate_convert.specs.Misfits.{AreFit, IsMisfit}
 use Rattle.rate_convert.specs.ServedFrames.{AreNext, AreServed}
@@ -43,7 +44,7 @@ output_heard bytes earlier last are all =
 pub halves_next : (bytes : List ℕ) (earlier : List Frame) (last : Frame) (halver : Halver) (first second : List Triplet)
     → AreFramesOf caption_channel (earlier ++ last ∷ []) bytes → HasHalved earlier halver → IsConvertible last → length (earlier ++ last ∷ []) ≤ 2147483647
     → first ≡ first_half (packet_triplets last) → second ≡ second_half (packet_triplets last)
-    → AreNext (conversion earlier) halver.served first second (first_of (length earlier) last) (second_of (length earlier) last)
+    → AreNext (conversion earlier) halver.served first second (first_half_of (length earlier) last) (second_half_of (length earlier) last)
 halves_next bytes earlier last halver first second are had is few first_is second_is =
     let all = all_convertible earlier last had.fit is in
     let long = length-append earlier (last ∷ []) in
@@ -70,7 +71,7 @@ last_keeps earlier last fit is none = record {
 pub took_frame : (earlier : List Frame) (last : Frame) (old new : Halver) (first second : List Triplet) → HasHalved earlier old → IsConvertible last
     → first ≡ first_half (packet_triplets last) → second ≡ second_half (packet_triplets last)
     → new.words.items ≡ half_bytes (2 * length earlier) first ++ half_bytes (2 * length earlier + 1) second
-    → AreServed ((conversion earlier ++ first_of (length earlier) last ∷ []) ++ second_of (length earlier) last ∷ []) new.served
+    → AreServed ((conversion earlier ++ first_half_of (length earlier) last ∷ []) ++ second_half_of (length earlier) last ∷ []) new.served
     → all_ticks new.served.services ≡ all_ticks old.served.services + 2
     → IsFirstDiffering (received_windows (earlier ++ last ∷ [])) (received_windows (conversion (earlier ++ last ∷ []))) None
     → HasHalved (earlier ++ last ∷ []) (record new { misfit = None })

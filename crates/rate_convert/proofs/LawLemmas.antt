@@ -2,7 +2,7 @@
 use Rattle.std.proofs.Common.{◌≡◌, ℕ, suc, ◌+◌, ◌*◌, List, [], ◌∷◌, ◌++◌, All, append-nil, append_assoc, take, sym, ap, ◌∙◌, subst, arith}
 use Rattle.std.proofs.lemmas.List.Elements.{All-append, All-head, All-nil, All-tail, All-cons}
 use Rattle.cc_receiver.specs.ReceivedServices.{received_windows}
-use Rattle.cdp_packets.specs.Packets.{Packet as Frame}
+use Rattle.cdp_packets.specs.Packets.{Frame}
 use Rattle.dtvcc_screen.specs.Meaning.{Byte, Event, Reset, Served, Tick, on_event, start}
 use Rattle.dtvcc_services.specs.Numbers.{IsService}
 use Rattle.halved_frames.specs.Conversion.{IsConvertible, conversion}

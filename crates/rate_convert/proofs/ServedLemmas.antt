@@ -8,8 +8,8 @@ use Rattle.cc_receiver.specs.ReceivedServices.{received_service, received_window
 use Rattle.cc_receiver.specs.Serving.{HasServed, followed_by, given_by}
 use Rattle.cc_receiver.specs.declared.services.Served.{Served as ServedOf}
 use Rattle.cdp_packets.specs.PacketTriplets.{packet_triplets}
-use Rattle.cdp_packets.specs.Packets.{Packet as Frame}
-use Rattle.dtvcc_screen.specs.Meaning.{Event, Tick, after, start}
+use Rattle.cdp_packets.specs.Packets.{Frame}
+use Rattle.dtvcc_screen.specs.Meaning.{Event, Tick, served_after, start}
 use Rattle.dtvcc_screen.specs.Screens.{ScreenState}
 use Rattle.dtvcc_screen.specs.Shown.{LooksSame, grids}
 use Rattle.dtvcc_services.specs.Numbers.{IsService}
@@ -77,11 +77,11 @@ first_heard frames served first second one two next =
 -- what is seen of a service
 pub screen_is : (frames : List Frame) (earlier last : Events) (service : ℕ) → earlier service ++ last service ≡ service_events service frames
     → screen_at (served_now earlier last service) ≡ (received_service frames service).screen
-screen_is frames earlier last service leads = ap (λ (es : List Event). (after start es).core.screen) leads
+screen_is frames earlier last service leads = ap (λ (es : List Event). (served_after start es).core.screen) leads
 
 pub seen_before : (frames : List Frame) (earlier : Events) (service : ℕ) → earlier service ≡ service_events service frames
     → screen_at (service_behind earlier service) ≡ (received_service frames service).screen
-seen_before frames earlier service is = ap (λ (es : List Event). (after start es).core.screen) is
+seen_before frames earlier service is = ap (λ (es : List Event). (served_after start es).core.screen) is
 
 -- where nothing was touched in the last frame, all is seen as before it
 pub untouched : (frames : List Frame) (frame : Frame) (served : ServedOf) (was : AreServed (frames ++ frame ∷ []) served)

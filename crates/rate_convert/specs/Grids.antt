@@ -1,9 +1,9 @@
+-- Believed: the program's answer stands on these definitions.
 -- What is seen of frames and of what they become at 59.94: the grids of line 21 and the windows of the services (CTA-608-E; CTA-708-E).
-use Rattle.std.specs.Prelude.{◌≡◌, ◌≢◌, ℕ, ◌+◌, ◌<◌, ◌≤◌, List, Option, Some, None}
+use Rattle.std.specs.Prelude.{◌≡◌, ◌≢◌, ℕ, ◌+◌, ◌<◌, List}
 use Rattle.cc_receiver.specs.ReceivedServices.{received_windows}
-use Rattle.cdp_packets.specs.Packets.{Packet as Frame}
+use Rattle.cdp_packets.specs.Packets.{Frame}
 use Rattle.dtvcc_services.specs.Numbers.{IsService}
-use Rattle.dtvcc_windows.specs.Showing.{ShownWindow}
 use Rattle.findings.specs.declared.finding.Which.{Which}
 use Rattle.findings.specs.declared.finding.Which.TheVariants as which
 use Rattle.halved_frames.specs.Conversion.{conversion}
@@ -11,36 +11,15 @@ use Rattle.line21_codes.specs.declared.channels.Chan.{Chan}
 use Rattle.line21_codes.specs.declared.channels.Chan.TheVariants.{Cc1, Cc2, Cc3, Cc4}
 use Rattle.words_files.specs.Received.{received_grids}
 
--- the windows of services, by the service and the window's id
-abbrev pub Windows : Type 0
-Windows = ℕ → ℕ → Option ShownWindow
-
--- the same is seen of the eight windows of a service, or not of one of them
-abbrev pub LookAlike : Windows → Windows → ℕ → Type 0
-LookAlike windows others service = (id : ℕ) → id < 8 → others service id ≡ windows service id
-
-abbrev pub Differ : Windows → Windows → ℕ → Type 0
-Differ windows others service = (id : ℕ) × (id < 8) × (others service id ≢ windows service id)
-
--- the first service that differs, if one does
-pub record IsFirstService (windows others : Windows) (service : ℕ) : Type 0 where
-  pub numbered : IsService service
-  pub differs : Differ windows others service
-  pub before : (other : ℕ) → 1 ≤ other → other < service → LookAlike windows others other
-
-abbrev pub IsFirstDiffering : Windows → Windows → Option ℕ → Type 0
-IsFirstDiffering windows others None = (service : ℕ) → IsService service → LookAlike windows others service
-IsFirstDiffering windows others (Some service) = IsFirstService windows others service
-
 -- what the frames become shows the same behind the last of them: each channel and each service
 pub record KeepsGrids (frames : List Frame) : Type 0 where
   pub channels : (chan : Chan) → received_grids (conversion frames) chan ≡ received_grids frames chan
-  pub services : (service : ℕ) → IsService service → LookAlike (received_windows frames) (received_windows (conversion frames)) service
+  pub services : (service : ℕ) → IsService service → (id : ℕ) → id < 8 → received_windows (conversion frames) service id ≡ received_windows frames service id
 
 -- the channel or service shows something else
 abbrev pub IsChanged : List Frame → Which → Type 0
 IsChanged frames (which.Chan chan) = received_grids (conversion frames) chan ≢ received_grids frames chan
-IsChanged frames (which.Service service) = Differ (received_windows frames) (received_windows (conversion frames)) service
+IsChanged frames (which.Service service) = (id : ℕ) × (id < 8) × (received_windows (conversion frames) service id ≢ received_windows frames service id)
 
 -- the order of CC1 to CC4 and S1 to S63
 abbrev pub grid_place : Which → ℕ

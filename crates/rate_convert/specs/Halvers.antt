@@ -1,6 +1,7 @@
+-- Between crates: the program's answer stands on none of these definitions.
 -- What a halver is behind the frames that it took.
 use Rattle.std.specs.Prelude.{◌≡◌, ◌*◌, List, [], ◌∷◌, ◌++◌, length, Option, Some, None}
-use Rattle.cdp_packets.specs.Packets.{Packet as Frame}
+use Rattle.cdp_packets.specs.Packets.{Frame}
 use Rattle.dtvcc_services.specs.Objects.{all_ticks}
 use Rattle.findings.specs.declared.misfit.Misfit.{Misfit}
 use Rattle.halved_frames.specs.Conversion.{conversion, converted_bytes}

@@ -1,7 +1,8 @@
+-- Between crates: the program's answer stands on none of these definitions.
 -- What the laws say of frames that are converted.
 use Rattle.std.specs.Prelude.{◌≡◌, ℕ, suc, ◌+◌, ◌*◌, ◌<◌, List, take, length}
 use Rattle.cc_receiver.specs.ReceivedServices.{received_windows}
-use Rattle.cdp_packets.specs.Packets.{Packet as Frame}
+use Rattle.cdp_packets.specs.Packets.{Frame}
 use Rattle.dtvcc_screen.specs.Meaning.{start}
 use Rattle.dtvcc_services.specs.Numbers.{IsService}
 use Rattle.findings.specs.declared.misfit.Misfit.{Misfit}

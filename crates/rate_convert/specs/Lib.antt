@@ -1,3 +1,4 @@
+pub mod Differing
 pub mod Grids
 pub mod Misfits
 pub mod ServedFrames

@@ -1,9 +1,10 @@
+-- Believed in part: the program's answer stands on some of these definitions.
 -- Why a frame can't be converted (SMPTE ST 334-2, cdp_header; CTA-708-E, cc_data()).
 use Rattle.std.specs.Prelude.{◌≡◌, ◌≢◌, ⊤, ℕ, ◌<◌, List, [], ◌∷◌, ◌++◌, length}
 use Rattle.cc_base.specs.Rate.{rate_code}
 use Rattle.cc_base.specs.declared.rate.Rate.TheVariants.{F2997}
 use Rattle.cdp_packets.specs.PacketTriplets.{packet_triplets}
-use Rattle.cdp_packets.specs.Packets.{Packet as Frame}
+use Rattle.cdp_packets.specs.Packets.{Frame}
 use Rattle.channel_packets.specs.ChannelPackets.{channel_triplets}
 use Rattle.findings.specs.declared.misfit.Misfit.{Misfit}
 use Rattle.findings.specs.declared.misfit.MisfitKind.{MisfitKind}

@@ -1,3 +1,4 @@
+-- Between crates: the program's answer stands on none of these definitions.
 -- Services that took frames, one behind another (CTA-708-E, sections 5 to 8).
 use Rattle.std.specs.Prelude.{◌≡◌, ℕ, ◌+◌, ◌<◌, List, [], ◌∷◌, ◌++◌}
 use Rattle.cc_base.specs.declared.rate.Rate.TheVariants.{F5994}
@@ -5,7 +6,7 @@ use Rattle.cc_data.specs.declared.triplet.Triplet.{Triplet}
 use Rattle.cc_receiver.specs.Serving.{HasServed}
 use Rattle.cc_receiver.specs.declared.services.Served.{Served}
 use Rattle.cdp_packets.specs.PacketTriplets.{packet_triplets}
-use Rattle.cdp_packets.specs.Packets.{Packet as Frame}
+use Rattle.cdp_packets.specs.Packets.{Frame}
 use Rattle.dtvcc_services.specs.Objects.{Events, all_ticks}
 use Rattle.service_blocks.specs.Channels.{IsHeard}
 use Rattle.services_files.specs.CarriedChannel.{file_triplets}

@@ -1,9 +1,10 @@
+-- Between crates: the program's answer stands on none of these definitions.
 -- The triplets of a frame, sorted: those of each field, and those of channel packets (CTA-708-E, cc_data()).
 use Rattle.std.specs.Prelude.{◌≡◌, List, length}
 use Rattle.cc_base.specs.declared.rate.Rate.TheVariants.{F2997}
 use Rattle.cc_data.specs.declared.triplet.Triplet.{Triplet}
 use Rattle.cdp_packets.specs.PacketTriplets.{packet_triplets}
-use Rattle.cdp_packets.specs.Packets.{Packet as Frame}
+use Rattle.cdp_packets.specs.Packets.{Frame}
 use Rattle.channel_packets.specs.ChannelPackets.{channel_triplets}
 use Rattle.halved_frames.specs.Conversion.{IsConvertible, of_field}
 use Rattle.line21_codes.specs.declared.channels.FieldNumber.TheVariants.{One, Two}

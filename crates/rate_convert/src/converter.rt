@@ -3,7 +3,7 @@ ghost use Rattle.std.specs.Result.{result_err};
 ghost use Rattle.cc_receiver.specs.Feeds.{Feeds};
 ghost use Rattle.cc_receiver.specs.Receivers.{receiver_refusal};
 ghost use Rattle.cc_receiver.specs.declared.receiver.Ended.TheVariants as ended;
-ghost use Rattle.cdp_packets.specs.Packets.{Packet as Frame};
+ghost use Rattle.cdp_packets.specs.Packets.{Frame};
 ghost use Rattle.halved_frames.specs.Conversion.{converted_bytes};
 ghost use Rattle.services_files.specs.CaptionChannel.{caption_channel};
 ghost use Rattle.words_files.specs.FramesOf.{AreFramesOf};
@@ -49,8 +49,10 @@ impl Converter {
         requires few { converted_frames self.now < 2147483647 }
         requires none { converter_misfit self.now ≡ None }
         requires on { (before : List ℕ) × HasConverted before self.old }
-        ensures converts { (before : List ℕ) → HasConverted before self.old → ConvertsOn before bytes.now self.new result }
-        ensures feeds { (before : List ℕ) → HasConverted before self.old → Feeds before bytes.now (input_of self.old) (input_of self.new) result }
+        ensures converts { (before : List ℕ) → HasConverted before self.old
+            → ConvertsOn before bytes.now self.new result }
+        ensures feeds { (before : List ℕ) → HasConverted before self.old
+            → Feeds before bytes.now (input_of self.old) (input_of self.new) result }
         ensures within { IfOk result (λ fed. fed.used ≤ length bytes.now) }
         ensures all { IfOk result (λ fed. fed.ended ≡ ended.No → fed.used ≡ length bytes.now) }
         ensures some { IfOk result (λ fed. fed.ended ≢ ended.No → 0 < fed.used) }
@@ -71,9 +73,11 @@ impl Converter {
     pub fn finish(&self) -> Result<(), Refusal>
         ensures whole { (bytes : List ℕ) → HasConverted bytes self.now → IsOk result
             → (frames : List Frame) × IsFileUnder caption_channel frames bytes }
-        ensures file { (bytes : List ℕ) (frames : List Frame) → HasConverted bytes self.now → IsFileUnder caption_channel frames bytes
+        ensures file { (bytes : List ℕ) (frames : List Frame) → HasConverted bytes self.now
+            → IsFileUnder caption_channel frames bytes
             → IsOk result }
-        ensures malformed { (bytes : List ℕ) → HasConverted bytes self.now → IfErr result (λ refused. IsMalformed caption_channel bytes refused) }
+        ensures malformed { (bytes : List ℕ) → HasConverted bytes self.now
+            → IfErr result (λ refused. IsMalformed caption_channel bytes refused) }
     {
         self.input.finish()
     }
@@ -81,7 +85,8 @@ impl Converter {
     /// The number of whole frames.
     pub fn frames(&self) -> u32
         ensures count { result ≡ converted_frames self.now }
-        ensures frames { (bytes : List ℕ) (frames : List Frame) → HasConverted bytes self.now → AreFramesOf caption_channel frames bytes
+        ensures frames { (bytes : List ℕ) (frames : List Frame) → HasConverted bytes self.now
+            → AreFramesOf caption_channel frames bytes
             → result ≡ length frames }
     {
         self.input.frames()
@@ -90,7 +95,8 @@ impl Converter {
     /// The misfit of the last whole frame, if there is one and it has one.
     pub fn misfit(&self) -> Option<Misfit>
         ensures told { result ≡ converter_misfit self.now }
-        ensures exact { (bytes : List ℕ) (frames : List Frame) → HasConverted bytes self.now → AreFramesOf caption_channel frames bytes
+        ensures exact { (bytes : List ℕ) (frames : List Frame) → HasConverted bytes self.now
+            → AreFramesOf caption_channel frames bytes
             → MatchOption result (AreFit frames) (HasMisfit frames) }
     {
         self.halver.misfit()
@@ -101,8 +107,10 @@ impl Converter {
     pub fn words(&self) -> ArrayVec<u8, 200>
         requires some { 0 < converted_frames self.now }
         requires none { converter_misfit self.now ≡ None }
-        ensures { (bytes : List ℕ) (earlier : List Frame) (last : Frame) → HasConverted bytes self.now
-            → AreFramesOf caption_channel (earlier ++ last ∷ []) bytes → result.items ≡ converted_bytes (length earlier) last }
+        ensures { (bytes : List ℕ) (earlier : List Frame) (last : Frame)
+            → HasConverted bytes self.now
+            → AreFramesOf caption_channel (earlier ++ last ∷ []) bytes
+            → result.items ≡ converted_bytes (length earlier) last }
     {
         self.halver.words()
     }

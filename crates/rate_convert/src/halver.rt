@@ -1,7 +1,7 @@
 ghost use Rattle.std.specs.Prelude.{◌≡◌, ◌<◌, ◌≤◌, ◌+◌, ◌++◌, ◌∷◌, [], ℕ, List, None, IfOk, MatchResult, length};
 ghost use Rattle.cc_base.specs.declared.rate.Rate.TheVariants as rate;
 ghost use Rattle.cc_receiver.specs.Receivers.{HasReceived, frame_count};
-ghost use Rattle.cdp_packets.specs.Packets.{Packet as Frame};
+ghost use Rattle.cdp_packets.specs.Packets.{Frame};
 ghost use Rattle.halved_frames.specs.Conversion.{converted_bytes};
 ghost use Rattle.rate_convert.specs.Misfits.{IsMisfit};
 ghost use Rattle.rate_convert.specs.SortedTriplets.{IsSorted, IsSortedFrame};
@@ -47,7 +47,8 @@ impl Halver {
     pub fn frame(&mut self, input: &Receiver)
         requires some { 0 < frame_count input.now }
         requires few { frame_count input.now ≤ 2147483647 }
-        ensures { (bytes : List ℕ) (earlier : List Frame) (last : Frame) → HasReceived bytes input.now → AreFramesOf caption_channel (earlier ++ last ∷ []) bytes
+        ensures { (bytes : List ℕ) (earlier : List Frame) (last : Frame)
+            → HasReceived bytes input.now → AreFramesOf caption_channel (earlier ++ last ∷ []) bytes
             → HasHalved earlier self.old → Took earlier last self.new }
     {
         let frame = input.frames() - 1;
@@ -62,8 +63,11 @@ impl Halver {
         requires some { 0 < frame_count input.now }
         requires few { frame_count input.now ≤ 2147483647 }
         requires number { frame + 1 ≡ frame_count input.now }
-        ensures { (bytes : List ℕ) (earlier : List Frame) (last : Frame) → HasReceived bytes input.now → AreFramesOf caption_channel (earlier ++ last ∷ []) bytes
-            → HasHalved earlier self.old → MatchResult result (λ done. HasHalved (earlier ++ last ∷ []) (record self.new { misfit = None })) (IsMisfit earlier last) }
+        ensures { (bytes : List ℕ) (earlier : List Frame) (last : Frame)
+            → HasReceived bytes input.now → AreFramesOf caption_channel (earlier ++ last ∷ []) bytes
+            → HasHalved earlier self.old
+            → MatchResult result (λ done. HasHalved (earlier ++ last ∷ [])
+            (record self.new { misfit = None })) (IsMisfit earlier last) }
     {
         let sorted = sort_frame(input)?;
         let halves = Halves::of(&sorted);
@@ -84,7 +88,8 @@ impl Halver {
 
     /// The bytes of the two ancillary packets that the frame became that it took last, which has no misfit (SMPTE ST 334-1).
     pub fn words(&self) -> ArrayVec<u8, 200>
-        ensures { (earlier : List Frame) (last : Frame) → HasHalved (earlier ++ last ∷ []) self.now → result.items ≡ converted_bytes (length earlier) last }
+        ensures { (earlier : List Frame) (last : Frame) → HasHalved (earlier ++ last ∷ []) self.now
+            → result.items ≡ converted_bytes (length earlier) last }
     {
         let mut words = ArrayVec::new();
         if words.try_extend_from_slice(&self.words).is_err() {
@@ -97,8 +102,10 @@ impl Halver {
 // The triplets of the last frame of a receiver, sorted; or why the frame can't be converted.
 fn sort_frame(input: &Receiver) -> Result<Sorted, MisfitKind>
     requires { 0 < frame_count input.now }
-    ensures sorted { (bytes : List ℕ) (earlier : List Frame) (last : Frame) → HasReceived bytes input.now
-        → AreFramesOf caption_channel (earlier ++ last ∷ []) bytes → MatchResult result (IsSortedFrame last) (IsMisfit earlier last) }
+    ensures sorted { (bytes : List ℕ) (earlier : List Frame) (last : Frame)
+        → HasReceived bytes input.now
+        → AreFramesOf caption_channel (earlier ++ last ∷ []) bytes
+        → MatchResult result (IsSortedFrame last) (IsMisfit earlier last) }
     ensures are { IfOk result IsSorted }
     ensures few { IfOk result (λ sorted. length sorted.channel.items ≤ 18) }
 {
@@ -111,7 +118,8 @@ fn sort_frame(input: &Receiver) -> Result<Sorted, MisfitKind>
 // The same, where the frame is at 29.97.
 fn sort_triplets(input: &Receiver) -> Result<Sorted, MisfitKind>
     requires { 0 < frame_count input.now }
-    ensures sorted { (bytes : List ℕ) (earlier : List Frame) (last : Frame) → HasReceived bytes input.now
+    ensures sorted { (bytes : List ℕ) (earlier : List Frame) (last : Frame)
+        → HasReceived bytes input.now
         → AreFramesOf caption_channel (earlier ++ last ∷ []) bytes → last.rate ≡ rate.F2997
         → MatchResult result (IsSortedFrame last) (IsMisfit earlier last) }
     ensures are { IfOk result IsSorted }

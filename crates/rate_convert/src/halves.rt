@@ -2,7 +2,7 @@ ghost use Rattle.std.specs.Prelude.{◌≡◌, ◌≤◌, ◌<◌, ◌+◌, ◌*
 ghost use Rattle.arrayvec.specs.ArrayVec.{array_vec_len};
 ghost use Rattle.cc_data.specs.declared.triplet.Triplet.{Triplet as TripletOf};
 ghost use Rattle.cc_receiver.specs.ReceivedServices.{received_windows};
-ghost use Rattle.cdp_packets.specs.Packets.{Packet as Frame};
+ghost use Rattle.cdp_packets.specs.Packets.{Frame};
 ghost use Rattle.dtvcc_services.specs.Numbers.{IsService};
 ghost use Rattle.dtvcc_services.specs.Objects.{all_ticks};
 ghost use Rattle.halved_frames.specs.Conversion.{first_half, first_or_filler, half_bytes, second_half, ten_triplets, written_half};
@@ -10,28 +10,12 @@ ghost use Rattle.rate_convert.specs.ServedFrames.{AreNext, AreServed};
 ghost use Rattle.rate_convert.specs.SortedTriplets.{AreSorted, IsSorted};
 
 use crate::sorted::Sorted;
-use anc_words::write_packet;
+use anc_words::{CAPTION_DID, CAPTION_SDID, write_packet};
 use arrayvec::ArrayVec;
 use cc_base::Rate;
-use cc_data::Triplet;
+use cc_data::{FILLER, Triplet};
 use cc_receiver::Served;
-use cdp_packets::{cc_section, write_cdp};
-
-/// The identifiers of ancillary packets of captions (SMPTE ST 334-1).
-const CAPTION_DID: u8 = 0x61;
-
-const CAPTION_SDID: u8 = 0x01;
-
-/// The flags of a distribution packet with cc_data alone, of an active caption service (SMPTE ST 334-2).
-const CAPTION_FLAGS: u8 = 0x43;
-
-/// A triplet that doesn't count, with which sections are filled up (CTA-708-E, cc_data()).
-const FILLER: Triplet = Triplet {
-    valid: false,
-    kind: 2,
-    a: 0,
-    b: 0,
-};
+use cdp_packets::{CAPTION_FLAGS, cc_section, write_cdp};
 
 /// The most triplets of channel packets of a half.
 const MOST: usize = 9;
@@ -62,7 +46,8 @@ impl Halves {
     /// one more (SMPTE ST 334-1 and ST 334-2).
     pub(crate) fn words(&self, frame: u32) -> ArrayVec<u8, 200>
         requires { All (λ t. t.kind < 4) self.now.first × All (λ t. t.kind < 4) self.now.second }
-        ensures { result.items ≡ half_bytes (2 * frame) self.now.first ++ half_bytes (2 * frame + 1) self.now.second }
+        ensures { result.items ≡ half_bytes (2 * frame) self.now.first
+            ++ half_bytes (2 * frame + 1) self.now.second }
     {
         let counter = 2 * (frame % 32_768) as u16;
         let mut words = ArrayVec::new();
@@ -73,12 +58,16 @@ impl Halves {
 
     /// Services take both, one behind the other. Says whether something that is seen of a service may have changed.
     pub(crate) fn serve(&self, served: &mut Served) -> bool
-        ensures served { (frames : List Frame) (one two : Frame) → AreNext frames served.old self.now.first self.now.second one two
+        ensures served { (frames : List Frame) (one two : Frame)
+            → AreNext frames served.old self.now.first self.now.second one two
             → AreServed ((frames ++ one ∷ []) ++ two ∷ []) served.new }
-        ensures same { (frames : List Frame) (one two : Frame) → AreNext frames served.old self.now.first self.now.second one two
+        ensures same { (frames : List Frame) (one two : Frame)
+            → AreNext frames served.old self.now.first self.now.second one two
             → result ≡ false → (service id : ℕ) → IsService service
-            → received_windows ((frames ++ one ∷ []) ++ two ∷ []) service id ≡ received_windows frames service id }
-        ensures ticks { all_ticks served.old.services + 1 < 4294967295 → all_ticks served.new.services ≡ all_ticks served.old.services + 2 }
+            → received_windows ((frames ++ one ∷ []) ++ two ∷ []) service id
+            ≡ received_windows frames service id }
+        ensures ticks { all_ticks served.old.services + 1 < 4294967295
+            → all_ticks served.new.services ≡ all_ticks served.old.services + 2 }
     {
         served.frame(Rate::F5994, &self.first);
         let first = served.is_touched();
@@ -90,7 +79,8 @@ impl Halves {
 
 // The triplets of the first half: that of field 1, and the first nine of channel packets.
 fn first_half(sorted: &Sorted) -> [Triplet; 10]
-    ensures { (triplets : List TripletOf) → AreSorted triplets sorted.now → result ≡ first_half triplets }
+    ensures { (triplets : List TripletOf) → AreSorted triplets sorted.now
+        → result ≡ first_half triplets }
 {
     let channel = sorted.channel.as_slice();
     let cut = channel.len().min(MOST);
@@ -100,7 +90,8 @@ fn first_half(sorted: &Sorted) -> [Triplet; 10]
 // The triplets of the second half: that of field 2, and the others of channel packets, of which there are eighteen at most.
 fn second_half(sorted: &Sorted) -> [Triplet; 10]
     requires { length sorted.now.channel.items ≤ 18 }
-    ensures { (triplets : List TripletOf) → AreSorted triplets sorted.now → result ≡ second_half triplets }
+    ensures { (triplets : List TripletOf) → AreSorted triplets sorted.now
+        → result ≡ second_half triplets }
 {
     let channel = sorted.channel.as_slice();
     let cut = channel.len().min(MOST);

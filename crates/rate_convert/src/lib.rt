@@ -12,3 +12,6 @@ mod sorted;
 pub use converter::Converter;
 pub use findings::{Misfit, MisfitKind, Which};
 pub use halver::Halver;
+
+#[cfg(test)]
+mod tests;

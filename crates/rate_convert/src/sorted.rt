@@ -1,23 +1,14 @@
 ghost use Rattle.std.specs.Prelude.{◌≡◌, ◌≤◌, ◌<◌, ◌++◌, ◌&&◌, ◌==◌, List, [], ◌∷◌, IfNone, IfSome, if◌then◌else◌, length};
 ghost use Rattle.cc_data.specs.declared.triplet.Triplet.{Triplet as TripletOf};
-ghost use Rattle.cdp_packets.specs.Packets.{Packet as Frame};
+ghost use Rattle.cdp_packets.specs.Packets.{Frame};
 ghost use Rattle.cdp_packets.specs.PacketTriplets.{packet_triplets};
 
 use arrayvec::ArrayVec;
-use cc_data::Triplet;
+use cc_data::{FIELD_1, FIELD_2, PACKET_DATA, PACKET_START, Triplet};
 use findings::MisfitKind;
 
 /// The number of triplets of a frame at 29.97 (CTA-708-E, cc_data()).
 pub(crate) const TWENTY: usize = 20;
-
-/// The kinds of triplets (CTA-708-E, cc_type): the pairs of both fields, and bytes of a caption channel packet.
-const FIELD_1: u8 = 0;
-
-const FIELD_2: u8 = 1;
-
-const PACKET_DATA: u8 = 2;
-
-const PACKET_START: u8 = 3;
 
 /// The most triplets of channel packets that two frames at 59.94 have room for.
 const MOST: usize = 18;
@@ -62,7 +53,8 @@ impl Sorted {
         requires ones { length self.old.ones.items < 20 }
         requires twos { length self.old.twos.items < 20 }
         requires channel { length self.old.channel.items < 20 }
-        ensures { (triplets : List TripletOf) → AreSorted triplets self.old → AreSorted (triplets ++ triplet ∷ []) self.new }
+        ensures { (triplets : List TripletOf) → AreSorted triplets self.old
+            → AreSorted (triplets ++ triplet ∷ []) self.new }
     {
         let of_channel = has_kind(triplet, PACKET_START) | has_kind(triplet, PACKET_DATA);
         keep_if(has_kind(triplet, FIELD_1), triplet, &mut self.ones);
@@ -75,7 +67,8 @@ impl Sorted {
         ensures ones { IfNone result (length self.now.ones.items ≤ 1) }
         ensures twos { IfNone result (length self.now.twos.items ≤ 1) }
         ensures channel { IfNone result (length self.now.channel.items ≤ 18) }
-        ensures some { (earlier : List Frame) (frame : Frame) → IsFull frame → AreSorted (packet_triplets frame) self.now → IfSome result (IsMisfit earlier frame) }
+        ensures some { (earlier : List Frame) (frame : Frame) → IsFull frame
+            → AreSorted (packet_triplets frame) self.now → IfSome result (IsMisfit earlier frame) }
     {
         if self.ones.len() > 1 {
             Some(MisfitKind::One(self.ones.len() as u16))

@@ -1,3 +1,4 @@
+-- Believed: the program's answer stands on these definitions.
 -- The numbers that fields have.
 use Rattle.std.specs.Prelude.{ℕ, ◌+◌, ◌-◌, ◌*◌, ◌==◌, Bool, not, ◌&&◌, ◌||◌, nat_le, if◌then◌else◌, List, [], ◌∷◌, length, slice_index, Option, Some, None, option_and_then}
 use Rattle.std.specs.List.{list_all}

@@ -1,3 +1,4 @@
+-- Believed: the program's answer stands on these definitions.
 -- The records of a file: the fields that CSV (RFC 4180, as the crate csv reads it) finds in the bytes.
 use Rattle.std.specs.Prelude.{ℕ, zero, suc, List, [], ◌∷◌}
 use Rattle.csv.specs.Reading.{records, default_config, strip_bom}

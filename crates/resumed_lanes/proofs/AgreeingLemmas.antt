@@ -5,8 +5,8 @@ use Rattle.std.proofs.lemmas.List.Elements.{All-filter, All-head, All-tail}
 use Rattle.placements.specs.LaneRoom.{IsFirstCrowded, up_to}
 use Rattle.placements.specs.Placing.{IsEarliest, IsPlaced}
 use Rattle.resumed_lanes.specs.Agreeing.{Agree, AgreeingAreOne, EndsBy}
-use Rattle.resumed_lanes.specs.Parts.{part_cue, size_of}
-use Rattle.resumed_lanes.specs.ResumedLane.{HasTwo, IsAllowed, ResumesAt, Stand, end_of, lane}
+use Rattle.resumed_lanes.specs.Parts.{part_cue, part_slots}
+use Rattle.resumed_lanes.specs.ResumedLane.{HasTwo, IsAllowedBeside, ResumesAt, Stand, end_of_parts, resumed_lane}
 use Rattle.resumed_lanes.specs.Slots.{Slots}
 use Rattle.resumed_lanes.specs.declared.part.Part.{Part}
 
@@ -23,7 +23,7 @@ module _ (count : ℕ) (slots others : Slots) (agree : Agree count slots others)
     second = agree.free (two.at + 1) (omega (arith, two.before)) ∙ two.second;
   }
 
-  allowed_too : (end : ℕ) (part : Part) (slot : ℕ) → part.piece.until ≤ count → IsAllowed slots end part slot → IsAllowed others end part slot
+  allowed_too : (end : ℕ) (part : Part) (slot : ℕ) → part.piece.until ≤ count → IsAllowedBeside slots end part slot → IsAllowedBeside others end part slot
   allowed_too end part slot ends is = record {
     behind = is.behind;
     loaded = is.loaded;
@@ -33,12 +33,12 @@ module _ (count : ℕ) (slots others : Slots) (agree : Agree count slots others)
         two_too m slot (omega (arith, is.ended)) (is.resumed later m from to (sym (agree.foreign m (omega (arith, is.ended))) ∙ foreign));
   }
 
-  placed_too : (before : List (Part × ℕ)) (us : List Part) (fs : List ℕ) → All (EndsBy count) us → IsPlaced (lane slots) before us fs → IsPlaced (lane others) before us fs
+  placed_too : (before : List (Part × ℕ)) (us : List Part) (fs : List ℕ) → All (EndsBy count) us → IsPlaced (resumed_lane slots) before us fs → IsPlaced (resumed_lane others) before us fs
   placed_too before [] [] ends is = tt
   placed_too before [] (f ∷ fs) ends is = absurd is
   placed_too before (u ∷ us) [] ends is = absurd is
   placed_too before (u ∷ us) (f ∷ fs) ends is = (
-    allowed_too (end_of before) u f (All-head (EndsBy count) u us ends) is.0,
+    allowed_too (end_of_parts before) u f (All-head (EndsBy count) u us ends) is.0,
     placed_too (before ++ (u, f) ∷ []) us fs (All-tail (EndsBy count) u us ends) is.1,
   )
 
@@ -79,25 +79,25 @@ module _ (count : ℕ) (slots others : Slots) (agree : Agree count slots others)
       let by : u.piece.until ≤ count = All-head (EndsBy count) u us ends in (
         allowed_too end u f by is.0,
         resumes_too end u f r (omega (arith, is.0.ended)) is.1,
-        stand_too (f + size_of u) us fs rs (All-tail (EndsBy count) u us ends) is.2,
+        stand_too (f + part_slots u) us fs rs (All-tail (EndsBy count) u us ends) is.2,
       )
 
 -- both ways
 module _ (count : ℕ) (slots others : Slots) (agree : Agree count slots others) (us : List Part) (ends : All (EndsBy count) us) where
-  there : (fs : List ℕ) → IsPlaced (lane slots) [] us fs → IsPlaced (lane others) [] us fs
+  there : (fs : List ℕ) → IsPlaced (resumed_lane slots) [] us fs → IsPlaced (resumed_lane others) [] us fs
   there fs is = placed_too count slots others agree [] us fs ends is
 
-  back : (fs : List ℕ) → IsPlaced (lane others) [] us fs → IsPlaced (lane slots) [] us fs
+  back : (fs : List ℕ) → IsPlaced (resumed_lane others) [] us fs → IsPlaced (resumed_lane slots) [] us fs
   back fs is = placed_too count others slots (agree_back count slots others agree) [] us fs ends is
 
-  earliest_too : (fs : List ℕ) → IsEarliest (lane slots) us fs → IsEarliest (lane others) us fs
+  earliest_too : (fs : List ℕ) → IsEarliest (resumed_lane slots) us fs → IsEarliest (resumed_lane others) us fs
   earliest_too fs is = record { placed = there fs is.placed; first = λ gs placed. is.first gs (back gs placed) }
 
   some_ends : (cue : ℕ) → All (EndsBy count) (up_to part_cue cue us)
   some_ends cue = All-filter (λ u. nat_le (part_cue u) cue) (EndsBy count) us ends
 
 crowded_too : (count : ℕ) (slots others : Slots) → Agree count slots others → (us : List Part) → All (EndsBy count) us
-    → (cue : ℕ) → IsFirstCrowded (lane slots) part_cue us cue → IsFirstCrowded (lane others) part_cue us cue
+    → (cue : ℕ) → IsFirstCrowded (resumed_lane slots) part_cue us cue → IsFirstCrowded (resumed_lane others) part_cue us cue
 crowded_too count slots others agree us ends cue is = record {
   none = λ fs placed. is.none fs (back count slots others agree (up_to part_cue cue us) (some_ends count slots others agree us ends cue) fs placed);
   first = λ earlier below.

@@ -1,5 +1,6 @@
 pub mod ResumedLemmas
 pub mod WaitingLemmas
+pub mod StartLemmas
 pub mod FillLemmas
 pub mod AgreeingLemmas
 pub mod SpansLemmas

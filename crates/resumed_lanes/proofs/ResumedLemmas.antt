@@ -11,25 +11,25 @@ use Rattle.placements.specs.Placing.{IsEarliest, IsPlaced, NoLater}
 use Rattle.placements.proofs.FirstFitLemmas.{earliest_is_first_fit}
 use Rattle.resumed_lanes.specs.Placing.{FirstFitIsEarliest, LanesAreOne}
 use Rattle.resumed_lanes.specs.Alone.{lane_alone}
-use Rattle.resumed_lanes.specs.Parts.{IsBegun, size_of}
-use Rattle.resumed_lanes.specs.ResumedLane.{HasTwo, end_of, lane}
+use Rattle.resumed_lanes.specs.Parts.{IsBegun, part_slots}
+use Rattle.resumed_lanes.specs.ResumedLane.{HasTwo, end_of_parts, resumed_lane}
 use Rattle.resumed_lanes.specs.Slots.{AreSound, Slots}
 use Rattle.resumed_lanes.specs.declared.part.Part.{Part}
 
 -- the end behind one more unit
-pub end_push : (before : List (Part × ℕ)) (u : Part) (f : ℕ) → end_of (before ++ (u, f) ∷ []) ≡ f + size_of u
+pub end_push : (before : List (Part × ℕ)) (u : Part) (f : ℕ) → end_of_parts (before ++ (u, f) ∷ []) ≡ f + part_slots u
 end_push before u f = fold-append _ _ before ((u, f) ∷ [])
 
 -- the end behind units that stand no later is no later
 ends_no_later : (us : List Part) (fs gs : List ℕ) (d e : ℕ) → d ≤ e → NoLater fs gs
-    → fold (λ (end : ℕ) (placed : Part × ℕ). placed.1 + size_of placed.0) d (zip us fs)
-    ≤ fold (λ (end : ℕ) (placed : Part × ℕ). placed.1 + size_of placed.0) e (zip us gs)
+    → fold (λ (end : ℕ) (placed : Part × ℕ). placed.1 + part_slots placed.0) d (zip us fs)
+    ≤ fold (λ (end : ℕ) (placed : Part × ℕ). placed.1 + part_slots placed.0) e (zip us gs)
 ends_no_later [] fs gs d e h n = h
 ends_no_later (u ∷ us) [] [] d e h n = h
 ends_no_later (u ∷ us) [] (g ∷ gs) d e h n = absurd n
 ends_no_later (u ∷ us) (f ∷ fs) [] d e h n = absurd n
 ends_no_later (u ∷ us) (f ∷ fs) (g ∷ gs) d e h n =
-    ends_no_later us fs gs (f + size_of u) (g + size_of u) (let l : f ≤ g = n.0 in omega arith) n.1
+    ends_no_later us fs gs (f + part_slots u) (g + part_slots u) (let l : f ≤ g = n.0 in omega arith) n.1
 
 module _ (slots : Slots) where
   -- said without the unit before, what fits behind later units fits behind earlier ones
@@ -44,7 +44,7 @@ module _ (slots : Slots) where
 
   -- any foreign slot before the end of the units placed so far has two neighbouring free ones behind it
   abbrev HaveTwo : List (Part × ℕ) → Type 0
-  HaveTwo before = (m : ℕ) → m < end_of before → slots.foreign m ≡ true → HasTwo slots m (end_of before)
+  HaveTwo before = (m : ℕ) → m < end_of_parts before → slots.foreign m ≡ true → HasTwo slots m (end_of_parts before)
 
   have_none : HaveTwo []
   have_none m below is = absurd (omega arith)
@@ -53,7 +53,7 @@ module _ (slots : Slots) where
   wider m n k two low = record { at = two.at; behind = two.behind; before = omega (arith, two.before); first = two.first; second = two.second }
 
   module _ (before : List (Part × ℕ)) (u : Part) (f : ℕ) (have : HaveTwo before) where
-    to_alone : lane slots before u f → lane_alone slots before u f
+    to_alone : resumed_lane slots before u f → lane_alone slots before u f
     to_alone a = record {
       behind = a.behind;
       loaded = a.loaded;
@@ -61,12 +61,12 @@ module _ (slots : Slots) where
       free = a.free;
       resumed = λ later m below is.
           ⊎_elim
-          (λ (low : m < end_of before). wider m (end_of before) f (have m low is) a.behind)
-          (λ (high : end_of before ≤ m). a.resumed later m high below is)
-          (cases_lt m (end_of before));
+          (λ (low : m < end_of_parts before). wider m (end_of_parts before) f (have m low is) a.behind)
+          (λ (high : end_of_parts before ≤ m). a.resumed later m high below is)
+          (cases_lt m (end_of_parts before));
     }
 
-    from_alone : lane_alone slots before u f → lane slots before u f
+    from_alone : lane_alone slots before u f → resumed_lane slots before u f
     from_alone a = record {
       behind = a.behind;
       loaded = a.loaded;
@@ -75,21 +75,21 @@ module _ (slots : Slots) where
       resumed = λ later m high below is. a.resumed later m below is;
     }
 
-    module _ (sound : AreSound slots) (begun : IsBegun u) (a : lane slots before u f) where
-      two_slots : u.piece.unit.doubled ≡ true → size_of u ≡ 2
+    module _ (sound : AreSound slots) (begun : IsBegun u) (a : resumed_lane slots before u f) where
+      two_slots : u.piece.unit.doubled ≡ true → part_slots u ≡ 2
       two_slots doubled = ap (λ b. cond b 2 1) doubled
 
-      have_up_to : (m : ℕ) → m < f + size_of u → slots.foreign m ≡ true → HasTwo slots m (f + size_of u)
+      have_up_to : (m : ℕ) → m < f + part_slots u → slots.foreign m ≡ true → HasTwo slots m (f + part_slots u)
       have_up_to m below is =
           ⊎_elim
           (λ (low : m < f). by_later low u.later refl)
           (λ (high : f ≤ m). let free : slots.free m ≡ true = a.free m high below in let none : slots.free m ≡ false = sound m is in absurd (cc))
           (cases_lt m f)
         where
-          by_later : m < f → (b : Bool) → u.later ≡ b → HasTwo slots m (f + size_of u)
-          by_later low true later = wider m f (f + size_of u) ((to_alone a).resumed later m low is) (omega arith)
+          by_later : m < f → (b : Bool) → u.later ≡ b → HasTwo slots m (f + part_slots u)
+          by_later low true later = wider m f (f + part_slots u) ((to_alone a).resumed later m low is) (omega arith)
           by_later low false first =
-              let two : size_of u ≡ 2 = two_slots (begun first) in
+              let two : part_slots u ≡ 2 = two_slots (begun first) in
               record {
                 at = f;
                 behind = low;
@@ -104,7 +104,7 @@ module _ (slots : Slots) where
 
   module _ (sound : AreSound slots) where
     placed_alone : (before : List (Part × ℕ)) (us : List Part) (fs : List ℕ) → HaveTwo before → All IsBegun us
-        → IsPlaced (lane slots) before us fs → IsPlaced (lane_alone slots) before us fs
+        → IsPlaced (resumed_lane slots) before us fs → IsPlaced (lane_alone slots) before us fs
     placed_alone before [] [] have begun placed = tt
     placed_alone before [] (f ∷ fs) have begun placed = placed
     placed_alone before (u ∷ us) [] have begun placed = placed
@@ -114,34 +114,34 @@ module _ (slots : Slots) where
     )
 
     placed_again : (before : List (Part × ℕ)) (us : List Part) (fs : List ℕ) → HaveTwo before → All IsBegun us
-        → IsPlaced (lane_alone slots) before us fs → IsPlaced (lane slots) before us fs
+        → IsPlaced (lane_alone slots) before us fs → IsPlaced (resumed_lane slots) before us fs
     placed_again before [] [] have begun placed = tt
     placed_again before [] (f ∷ fs) have begun placed = placed
     placed_again before (u ∷ us) [] have begun placed = placed
     placed_again before (u ∷ us) (f ∷ fs) have begun placed =
-        let here : lane slots before u f = from_alone before u f have placed.0 in
+        let here : resumed_lane slots before u f = from_alone before u f have placed.0 in
         (here, placed_again (before ++ (u, f) ∷ []) us fs (have_more before u f have sound (All-head IsBegun u us begun) here) (All-tail IsBegun u us begun) placed.1)
 
     same_first : (P Q : ℕ → Type 0) (n : ℕ) → ((m : ℕ) → P m → Q m) → ((m : ℕ) → Q m → P m) → IsFirst P n → IsFirst Q n
     same_first P Q n to from is = record { holds = to n is.holds; first = λ other q. is.first other (from other q) }
 
     fit_again : (before : List (Part × ℕ)) (us : List Part) (fs : List ℕ) → HaveTwo before → All IsBegun us
-        → IsFirstFit (lane_alone slots) before us fs → IsFirstFit (lane slots) before us fs
+        → IsFirstFit (lane_alone slots) before us fs → IsFirstFit (resumed_lane slots) before us fs
     fit_again before [] [] have begun fit = tt
     fit_again before [] (f ∷ fs) have begun fit = fit
     fit_again before (u ∷ us) [] have begun fit = fit
     fit_again before (u ∷ us) (f ∷ fs) have begun fit =
-        let here : IsFirst (lane slots before u) f =
-        same_first (lane_alone slots before u) (lane slots before u) f (λ m a. from_alone before u m have a) (λ m a. to_alone before u m have a) fit.0 in
+        let here : IsFirst (resumed_lane slots before u) f =
+        same_first (lane_alone slots before u) (resumed_lane slots before u) f (λ m a. from_alone before u m have a) (λ m a. to_alone before u m have a) fit.0 in
         (here, fit_again (before ++ (u, f) ∷ []) us fs (have_more before u f have sound (All-head IsBegun u us begun) here.holds) (All-tail IsBegun u us begun) fit.1)
 
     fit_alone : (before : List (Part × ℕ)) (us : List Part) (fs : List ℕ) → HaveTwo before → All IsBegun us
-        → IsFirstFit (lane slots) before us fs → IsFirstFit (lane_alone slots) before us fs
+        → IsFirstFit (resumed_lane slots) before us fs → IsFirstFit (lane_alone slots) before us fs
     fit_alone before [] [] have begun fit = tt
     fit_alone before [] (f ∷ fs) have begun fit = fit
     fit_alone before (u ∷ us) [] have begun fit = fit
     fit_alone before (u ∷ us) (f ∷ fs) have begun fit = (
-      same_first (lane slots before u) (lane_alone slots before u) f (λ m a. to_alone before u m have a) (λ m a. from_alone before u m have a) fit.0,
+      same_first (resumed_lane slots before u) (lane_alone slots before u) f (λ m a. to_alone before u m have a) (λ m a. from_alone before u m have a) fit.0,
       fit_alone (before ++ (u, f) ∷ []) us fs (have_more before u f have sound (All-head IsBegun u us begun) fit.0.holds) (All-tail IsBegun u us begun) fit.1,
     )
 
@@ -151,14 +151,14 @@ lanes_one slots sound us begun fs =
     (placed_alone slots sound [] us fs (have_none slots) begun, placed_again slots sound [] us fs (have_none slots) begun)
 
 pub earliest_alone : (slots : Slots) → AreSound slots → (us : List Part) → All IsBegun us → (fs : List ℕ)
-    → IsEarliest (lane slots) us fs → IsEarliest (lane_alone slots) us fs
+    → IsEarliest (resumed_lane slots) us fs → IsEarliest (lane_alone slots) us fs
 earliest_alone slots sound us begun fs is = record {
   placed = (lanes_one slots sound us begun fs).0 is.placed;
   first = λ gs placed. is.first gs ((lanes_one slots sound us begun gs).1 placed);
 }
 
 pub earliest_again : (slots : Slots) → AreSound slots → (us : List Part) → All IsBegun us → (fs : List ℕ)
-    → IsEarliest (lane_alone slots) us fs → IsEarliest (lane slots) us fs
+    → IsEarliest (lane_alone slots) us fs → IsEarliest (resumed_lane slots) us fs
 earliest_again slots sound us begun fs is = record {
   placed = (lanes_one slots sound us begun fs).1 is.placed;
   first = λ gs placed. is.first gs ((lanes_one slots sound us begun gs).0 placed);
@@ -174,6 +174,6 @@ first_fit_earliest slots sound us begun fs = (
 )
 
 -- what is allowed without a word of the unit before is allowed
-pub from_lane_alone : (slots : Slots) (before : List (Part × ℕ)) (u : Part) (f : ℕ) → lane_alone slots before u f → lane slots before u f
+pub from_lane_alone : (slots : Slots) (before : List (Part × ℕ)) (u : Part) (f : ℕ) → lane_alone slots before u f → resumed_lane slots before u f
 from_lane_alone slots before u f a =
     record { behind = a.behind; loaded = a.loaded; ended = a.ended; free = a.free; resumed = λ later m high low is. a.resumed later m low is }

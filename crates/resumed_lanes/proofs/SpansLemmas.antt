@@ -2,7 +2,7 @@
 use Rattle.std.proofs.Common.{◌≡◌, ℕ, ◌+◌, ◌≤◌, ◌||◌, ◌&&◌, nat_le, nat_lt, Bool, true, false, List, [], ◌∷◌, refl, sym, ap, ◌∙◌, arith}
 use Rattle.std.specs.Prelude.{if◌then◌else◌, not}
 use Rattle.std.proofs.lemmas.Bool.Decides.{nat_tests}
-use Rattle.resumed_lanes.specs.Parts.{BeginWithFirst, size_of}
+use Rattle.resumed_lanes.specs.Parts.{BeginWithFirst, part_slots}
 use Rattle.resumed_lanes.specs.Spans.{GoOn, SpansAreCovered, covers, in_spans, span_end}
 use Rattle.resumed_lanes.specs.declared.part.Part.{Part}
 
@@ -42,20 +42,20 @@ walk : (start end : ℕ) (parts : List Part) (fs : List ℕ) (n : ℕ) → start
 walk start end [] fs n from on = none_more (within start end n)
 walk start end (part ∷ parts) [] n from on = none_more (within start end n)
 walk start end (part ∷ parts) (f ∷ fs) n from on =
-    by_later part.later (λ first below. walk first (f + size_of part) parts fs n below on.1)
+    by_later part.later (λ first below. walk first (f + part_slots part) parts fs n below on.1)
   where
     by_later : (b : Bool)
-        → ((first : ℕ) → first ≤ f + size_of part → (covers (f + size_of part) parts fs n || within first (f + size_of part) n)
-        ≡ (within first (span_end (f + size_of part) parts fs) n || in_spans parts fs n))
-        → ((within (if b then end else f) (f + size_of part) n || covers (f + size_of part) parts fs n) || within start end n)
-        ≡ (within start (if b then span_end (f + size_of part) parts fs else end) n
-        || ((not b && within f (span_end (f + size_of part) parts fs) n) || in_spans parts fs n))
+        → ((first : ℕ) → first ≤ f + part_slots part → (covers (f + part_slots part) parts fs n || within first (f + part_slots part) n)
+        ≡ (within first (span_end (f + part_slots part) parts fs) n || in_spans parts fs n))
+        → ((within (if b then end else f) (f + part_slots part) n || covers (f + part_slots part) parts fs n) || within start end n)
+        ≡ (within start (if b then span_end (f + part_slots part) parts fs else end) n
+        || ((not b && within f (span_end (f + part_slots part) parts fs) n) || in_spans parts fs n))
     by_later true again =
-        turned (within end (f + size_of part) n) (covers (f + size_of part) parts fs n) (within start end n)
-        ∙ ap (λ b. covers (f + size_of part) parts fs n || b) (joined start end (f + size_of part) n from (omega (arith, on.0)))
+        turned (within end (f + part_slots part) n) (covers (f + part_slots part) parts fs n) (within start end n)
+        ∙ ap (λ b. covers (f + part_slots part) parts fs n || b) (joined start end (f + part_slots part) n from (omega (arith, on.0)))
         ∙ again start (omega (arith, on.0, from))
     by_later false again =
-        parted (within f (f + size_of part) n) (covers (f + size_of part) parts fs n) (within start end n)
+        parted (within f (f + part_slots part) n) (covers (f + part_slots part) parts fs n) (within start end n)
         ∙ ap (λ b. within start end n || b) (again f (omega arith))
 
 nowhere : (n : ℕ) → within 0 0 n ≡ false

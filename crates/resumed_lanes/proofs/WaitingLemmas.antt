@@ -3,8 +3,8 @@ use Rattle.std.proofs.Common.{◌≡◌, ℕ, ◌+◌, ◌<◌, ◌≤◌, Bool,
 use Rattle.std.specs.Prelude.{if◌then◌else◌}
 use Rattle.std.proofs.lemmas.Bool.{cases_lt}
 use Rattle.std.proofs.lemmas.Bool.Decides.{nat_tests}
-use Rattle.resumed_lanes.specs.Parts.{size_of}
-use Rattle.resumed_lanes.specs.ResumedLane.{HasTwo, IsAllowed, IsLastForeign, ResumesAt}
+use Rattle.resumed_lanes.specs.Parts.{part_slots}
+use Rattle.resumed_lanes.specs.ResumedLane.{HasTwo, IsAllowedBeside, IsLastForeign, ResumesAt}
 use Rattle.resumed_lanes.specs.Slots.{Slots}
 use Rattle.resumed_lanes.specs.Waiting.{Describes, NoForeign, begun, is_ready, may_begin, next_resume, resume_at}
 use Rattle.resumed_lanes.specs.declared.place.Resume.{Resume}
@@ -221,26 +221,26 @@ le_is : (a b : ℕ) → a ≤ b → nat_le a b ≡ true
 le_is a b low = grind (arith, nat_tests)
 
 module _ (slots : Slots) (end slot : ℕ) (from : end ≤ slot) (resume : Resume) (part : Part) (describes : Describes slots end slot resume) where
-  pub begins_allowed : may_begin slots resume slot part ≡ true → IsAllowed slots end part slot
+  pub begins_allowed : may_begin slots resume slot part ≡ true → IsAllowedBeside slots end part slot
   begins_allowed is =
       let one = and_parts (nat_le part.piece.load slot) _ is in
-      let two = and_parts (nat_le (slot + size_of part) part.piece.until) _ one.1 in
-      let three = and_parts (slots.free slot && (size_of part == 1 || slots.free (slot + 1))) _ two.1 in
+      let two = and_parts (nat_le (slot + part_slots part) part.piece.until) _ one.1 in
+      let three = and_parts (slots.free slot && (part_slots part == 1 || slots.free (slot + 1))) _ two.1 in
       record {
         behind = from;
         loaded = is_le part.piece.load slot one.0;
-        ended = is_le (slot + size_of part) part.piece.until two.0;
+        ended = is_le (slot + part_slots part) part.piece.until two.0;
         free = size_free slots slot part.piece.unit.doubled three.0;
         resumed = λ later. ready_two slots end slot from resume describes (or_later part.later (is_ready resume slot) three.1 later);
       }
 
-  pub allowed_begins : IsAllowed slots end part slot → may_begin slots resume slot part ≡ true
+  pub allowed_begins : IsAllowedBeside slots end part slot → may_begin slots resume slot part ≡ true
   allowed_begins a =
-      rw (le_is part.piece.load slot a.loaded, le_is (slot + size_of part) part.piece.until a.ended, free_size slots slot part.piece.unit.doubled a.free)
+      rw (le_is part.piece.load slot a.loaded, le_is (slot + part_slots part) part.piece.until a.ended, free_size slots slot part.piece.unit.doubled a.free)
       (later_or part.later (is_ready resume slot) (λ later. two_ready slots end slot from resume describes (a.resumed later)))
 
   -- where it doesn't, the unit isn't allowed at the slot
-  pub refused : may_begin slots resume slot part ≡ false → IsAllowed slots end part slot → ⊥
+  pub refused : may_begin slots resume slot part ≡ false → IsAllowedBeside slots end part slot → ⊥
   refused is a = let yes' : may_begin slots resume slot part ≡ true = allowed_begins a in absurd (cc)
 
   pub placed_resumes : may_begin slots resume slot part ≡ true → ResumesAt slots end part slot (if part.later then resume_at resume else None)
@@ -249,7 +249,7 @@ module _ (slots : Slots) (end slot : ℕ) (from : end ≤ slot) (resume : Resume
       (λ later. two_ready slots end slot from resume describes ((begins_allowed is).resumed later))
 
 -- a unit takes a slot
-pub some_slot : (part : Part) → 1 ≤ size_of part
+pub some_slot : (part : Part) → 1 ≤ part_slots part
 some_slot part = by_doubled part.piece.unit.doubled
   where
     by_doubled : (b : Bool) → 1 ≤ (if b then 2 else 1)

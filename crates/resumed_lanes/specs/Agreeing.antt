@@ -1,9 +1,10 @@
+-- Between crates: the program's answer stands on none of these definitions.
 -- Slots that agree up to a number: for units that must end there they are one.
 use Rattle.std.specs.Prelude.{◌≡◌, ◌↔◌, ℕ, ◌<◌, ◌≤◌, List, Option, All}
 use Rattle.placements.specs.LaneRoom.{IsFirstCrowded}
 use Rattle.placements.specs.Placing.{IsEarliest}
 use Rattle.resumed_lanes.specs.Parts.{part_cue}
-use Rattle.resumed_lanes.specs.ResumedLane.{Stand, lane}
+use Rattle.resumed_lanes.specs.ResumedLane.{Stand, resumed_lane}
 use Rattle.resumed_lanes.specs.Slots.{Slots}
 use Rattle.resumed_lanes.specs.declared.part.Part.{Part}
 
@@ -18,9 +19,9 @@ EndsBy count part = part.piece.until ≤ count
 
 -- these units have the same earliest placement, come again in the same slots, and have the same first cue without room
 pub record AreAsOne (slots others : Slots) (us : List Part) : Type 0 where
-  pub earliest : (fs : List ℕ) → IsEarliest (lane slots) us fs ↔ IsEarliest (lane others) us fs
+  pub earliest : (fs : List ℕ) → IsEarliest (resumed_lane slots) us fs ↔ IsEarliest (resumed_lane others) us fs
   pub stand : (end : ℕ) (fs : List ℕ) (rs : List (Option ℕ)) → Stand slots end us fs rs ↔ Stand others end us fs rs
-  pub crowded : (cue : ℕ) → IsFirstCrowded (lane slots) part_cue us cue ↔ IsFirstCrowded (lane others) part_cue us cue
+  pub crowded : (cue : ℕ) → IsFirstCrowded (resumed_lane slots) part_cue us cue ↔ IsFirstCrowded (resumed_lane others) part_cue us cue
 
 abbrev pub AgreeingAreOne : Type 0
 AgreeingAreOne = (count : ℕ) (slots others : Slots) → Agree count slots others → (us : List Part) → All (EndsBy count) us → AreAsOne slots others us

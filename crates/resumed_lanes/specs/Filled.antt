@@ -1,3 +1,4 @@
+-- Between crates: the program's answer stands on none of these definitions.
 -- A lane that is filled: its units in their earliest placement, with the first units of cues that come again.
 use Rattle.std.specs.Prelude.{⊤, ℕ, List, Option, map}
 use Rattle.placements.specs.LaneRoom.{IsFirstCrowded}
@@ -5,7 +6,7 @@ use Rattle.placements.specs.Placing.{IsEarliest}
 use Rattle.placements.specs.declared.planning.PlanFault.{PlanFault}
 use Rattle.placements.specs.declared.planning.PlanFault.TheVariants.{Memory, NoRoom}
 use Rattle.resumed_lanes.specs.Parts.{part_cue}
-use Rattle.resumed_lanes.specs.ResumedLane.{Stand, lane}
+use Rattle.resumed_lanes.specs.ResumedLane.{Stand, resumed_lane}
 use Rattle.resumed_lanes.specs.Slots.{Slots}
 use Rattle.resumed_lanes.specs.declared.part.Part.{Part}
 use Rattle.resumed_lanes.specs.declared.place.Place.{Place}
@@ -19,10 +20,10 @@ abbrev pub resumes_at : List Place → List (Option ℕ)
 resumes_at places = map (λ place. place.resume) places
 
 pub record IsFilled (slots : Slots) (parts : List Part) (places : List Place) : Type 0 where
-  pub earliest : IsEarliest (lane slots) parts (slots_at places)
+  pub earliest : IsEarliest (resumed_lane slots) parts (slots_at places)
   pub stand : Stand slots 0 parts (slots_at places) (resumes_at places)
 
 -- why a lane isn't filled: memory ran out, or this is the first cue without room
 abbrev pub IsFault : Slots → List Part → PlanFault → Type 0
 IsFault slots parts (Memory error) = ⊤
-IsFault slots parts (NoRoom cue) = IsFirstCrowded (lane slots) part_cue parts cue
+IsFault slots parts (NoRoom cue) = IsFirstCrowded (resumed_lane slots) part_cue parts cue

@@ -1,11 +1,12 @@
+-- Believed in part: the program's answer stands on some of these definitions.
 -- The units of cues, each with the first unit of its cue.
 use Rattle.std.specs.Prelude.{◌≡◌, ⊤, ℕ, true, false, List, [], ◌∷◌}
 use Rattle.frame_scheduler.specs.FieldLane.{slots_of}
 use Rattle.resumed_lanes.specs.declared.part.Part.{Part}
 
 -- the slots of the unit
-abbrev pub size_of : Part → ℕ
-size_of part = slots_of part.piece
+abbrev pub part_slots : Part → ℕ
+part_slots part = slots_of part.piece
 
 -- the number of its cue
 abbrev pub part_cue : Part → ℕ

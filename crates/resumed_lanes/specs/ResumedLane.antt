@@ -1,13 +1,14 @@
+-- Believed: the program's answer stands on these definitions.
 -- A lane beside another one of its field: where its units may stand, and where a cue's first unit comes again, so that what follows
 -- reaches its own channel (a pair of text goes to the channel of the last control code: CTA-608-E; 47 CFR 79.101).
 use Rattle.std.specs.Prelude.{◌≡◌, ⊤, ℕ, ◌+◌, ◌<◌, ◌≤◌, true, false, List, [], ◌∷◌, Option, Some, None, fold}
-use Rattle.resumed_lanes.specs.Parts.{size_of}
+use Rattle.resumed_lanes.specs.Parts.{part_slots}
 use Rattle.resumed_lanes.specs.Slots.{Slots}
 use Rattle.resumed_lanes.specs.declared.part.Part.{Part}
 
 -- the first slot behind the units placed so far
-abbrev pub end_of : List (Part × ℕ) → ℕ
-end_of before = fold (λ (end : ℕ) (placed : Part × ℕ). placed.1 + size_of placed.0) 0 before
+abbrev pub end_of_parts : List (Part × ℕ) → ℕ
+end_of_parts before = fold (λ (end : ℕ) (placed : Part × ℕ). placed.1 + part_slots placed.0) 0 before
 
 -- two neighbouring free slots behind slot m and before slot n
 pub record HasTwo (slots : Slots) (m n : ℕ) : Type 0 where
@@ -19,16 +20,16 @@ pub record HasTwo (slots : Slots) (m n : ℕ) : Type 0 where
 
 -- the unit may begin at the slot, where `end` is the first slot behind the units before it: where a foreign slot lies between it and
 -- the unit of its cue before it, so do two neighbouring free ones, behind each such slot
-pub record IsAllowed (slots : Slots) (end : ℕ) (part : Part) (slot : ℕ) : Type 0 where
+pub record IsAllowedBeside (slots : Slots) (end : ℕ) (part : Part) (slot : ℕ) : Type 0 where
   pub behind : end ≤ slot
   pub loaded : part.piece.load ≤ slot
-  pub ended : slot + size_of part ≤ part.piece.until
-  pub free : (n : ℕ) → slot ≤ n → n < slot + size_of part → slots.free n ≡ true
+  pub ended : slot + part_slots part ≤ part.piece.until
+  pub free : (n : ℕ) → slot ≤ n → n < slot + part_slots part → slots.free n ≡ true
   pub resumed : part.later ≡ true → (m : ℕ) → end ≤ m → m < slot → slots.foreign m ≡ true → HasTwo slots m slot
 
 -- what the lane allows, for the placements of its units
-abbrev pub lane : Slots → List (Part × ℕ) → Part → ℕ → Type 0
-lane slots before part slot = IsAllowed slots (end_of before) part slot
+abbrev pub resumed_lane : Slots → List (Part × ℕ) → Part → ℕ → Type 0
+resumed_lane slots before part slot = IsAllowedBeside slots (end_of_parts before) part slot
 
 -- the last foreign slot from `end` on and before a slot
 pub record IsLastForeign (slots : Slots) (end slot last : ℕ) : Type 0 where
@@ -61,5 +62,5 @@ ResumesAt slots end part slot None = part.later ≡ true → (m : ℕ) → end �
 abbrev pub Stand : Slots → ℕ → List Part → List ℕ → List (Option ℕ) → Type 0
 Stand slots end [] [] [] = ⊤
 Stand slots end (part ∷ parts) (f ∷ fs) (r ∷ rs) =
-    IsAllowed slots end part f × ResumesAt slots end part f r × Stand slots (f + size_of part) parts fs rs
+    IsAllowedBeside slots end part f × ResumesAt slots end part f r × Stand slots (f + part_slots part) parts fs rs
 Stand slots end _ _ _ = ⊥

@@ -1,3 +1,4 @@
+-- Believed in part: the program's answer stands on some of these definitions.
 -- What the slots of a field are for a lane: free ones, in which its units may stand, and foreign ones, which belong to the other lane.
 use Rattle.std.specs.Prelude.{◌≡◌, ℕ, Bool, true, false, List, Option, Some, None, slice_get}
 use Rattle.resumed_lanes.specs.declared.slot_use.SlotUse.{SlotUse}

@@ -1,3 +1,4 @@
+-- Between crates: the program's answer stands on none of these definitions.
 -- A table of the slots of a field: the events of both lists hold theirs, each two from where it begins.
 use Rattle.std.specs.Prelude.{◌≡◌, ℕ, ◌<◌, Bool, if◌then◌else◌, List, Option, Some, length, slice_get}
 use Rattle.line21_author.specs.declared.event.Event.{Event}

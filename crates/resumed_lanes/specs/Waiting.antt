@@ -1,11 +1,16 @@
+-- Between crates: the program's answer stands on none of these definitions.
 -- What a cursor knows behind a slot of whether a cue's first unit has to come again.
 use Rattle.std.specs.Prelude.{◌≡◌, ℕ, ◌+◌, ◌<◌, ◌≤◌, Bool, true, false, nat_le, nat_lt, not, ◌==◌, ◌||◌, ◌&&◌, if◌then◌else◌, Option, Some, None}
-use Rattle.resumed_lanes.specs.Parts.{size_of}
+use Rattle.resumed_lanes.specs.Parts.{part_slots}
 use Rattle.resumed_lanes.specs.ResumedLane.{IsLastForeign}
 use Rattle.resumed_lanes.specs.Slots.{Slots}
 use Rattle.resumed_lanes.specs.declared.part.Part.{Part}
 use Rattle.resumed_lanes.specs.declared.place.Resume.{Resume}
 use Rattle.resumed_lanes.specs.declared.place.Resume.TheVariants.{NotNeeded, Needed, At}
+
+-- from which slot on a unit is looked for: what lies before its LOAD says nothing of a cue's first unit
+abbrev pub start_of : ℕ → Part → ℕ
+start_of end part = if part.later || nat_le part.piece.load end then end else part.piece.load
 
 abbrev pub is_ready : Resume → ℕ → Bool
 is_ready NotNeeded slot = true
@@ -25,8 +30,8 @@ are_free slots slot size = slots.free slot && (size == 1 || slots.free (slot + 1
 
 abbrev pub may_begin : Slots → Resume → ℕ → Part → Bool
 may_begin slots resume slot part =
-    nat_le part.piece.load slot && (nat_le (slot + size_of part) part.piece.until
-    && (are_free slots slot (size_of part) && (not part.later || is_ready resume slot)))
+    nat_le part.piece.load slot && (nat_le (slot + part_slots part) part.piece.until
+    && (are_free slots slot (part_slots part) && (not part.later || is_ready resume slot)))
 
 -- where two free slots begin at a slot, and the first unit has to come again
 abbrev pub begun : Resume → ℕ → Bool → Resume

@@ -1,9 +1,9 @@
 ghost use Rattle.std.specs.Prelude.{◌≡◌, ◌&&◌, ◌||◌, ◌==◌, slice_get, ℕ, ◌+◌, ◌^◌, ◌<◌, IfSome, IfNone};
 ghost use Rattle.placements.specs.FirstFit.{IsFirst};
-ghost use Rattle.resumed_lanes.specs.Parts.{size_of};
-ghost use Rattle.resumed_lanes.specs.ResumedLane.{IsAllowed, ResumesAt};
+ghost use Rattle.resumed_lanes.specs.Parts.{part_slots};
+ghost use Rattle.resumed_lanes.specs.ResumedLane.{IsAllowedBeside, ResumesAt};
 ghost use Rattle.resumed_lanes.specs.Slots.{is_foreign, is_free, slots_in};
-ghost use Rattle.resumed_lanes.specs.Waiting.{is_ready, may_begin, next_resume, resume_of};
+ghost use Rattle.resumed_lanes.specs.Waiting.{is_ready, may_begin, next_resume, resume_of, start_of};
 
 use crate::part::Part;
 use crate::slot_use::SlotUse;
@@ -29,10 +29,37 @@ pub enum Resume {
 /// The first slot from `end` on in which a unit may begin, and where its cue's first unit comes again before it. `None` where
 /// there is no such slot. Slots behind the table count as not free.
 pub fn first_place(uses: &[SlotUse], end: u32, part: Part) -> Option<Place>
-    ensures first { IfSome result (λ place. IsFirst (IsAllowed (slots_in uses.now) end part) place.slot) }
-    ensures resumes { IfSome result (λ place. ResumesAt (slots_in uses.now) end part place.slot place.resume) }
-    ensures fits { IfSome result (λ place. place.slot + size_of part < 2 ^ 32) }
-    ensures none { IfNone result ((slot : ℕ) → IsAllowed (slots_in uses.now) end part slot → ⊥) }
+    ensures first { IfSome result
+        (λ place. IsFirst (IsAllowedBeside (slots_in uses.now) end part) place.slot) }
+    ensures resumes { IfSome result
+        (λ place. ResumesAt (slots_in uses.now) end part place.slot place.resume) }
+    ensures fits { IfSome result (λ place. place.slot + part_slots part < 2 ^ 32) }
+    ensures none { IfNone result
+        ((slot : ℕ) → IsAllowedBeside (slots_in uses.now) end part slot → ⊥) }
+{
+    first_from(uses, start_of(end, part), part)
+}
+
+// From which slot on a unit is looked for: for a cue's first unit, before which none comes again, no slot before its LOAD is of interest.
+fn start_of(end: u32, part: Part) -> u32
+    ensures { result ≡ start_of end part }
+{
+    if part.later || part.piece.load <= end {
+        end
+    } else {
+        part.piece.load
+    }
+}
+
+// The first slot from `end` on in which a unit may begin, slot by slot.
+fn first_from(uses: &[SlotUse], end: u32, part: Part) -> Option<Place>
+    ensures first { IfSome result
+        (λ place. IsFirst (IsAllowedBeside (slots_in uses.now) end part) place.slot) }
+    ensures resumes { IfSome result
+        (λ place. ResumesAt (slots_in uses.now) end part place.slot place.resume) }
+    ensures fits { IfSome result (λ place. place.slot + part_slots part < 2 ^ 32) }
+    ensures none { IfNone result
+        ((slot : ℕ) → IsAllowedBeside (slots_in uses.now) end part slot → ⊥) }
 {
     let mut slot = end;
     let mut resume = Resume::NotNeeded;
@@ -82,7 +109,8 @@ fn is_foreign(uses: &[SlotUse], slot: u32) -> bool
 
 // Whether one slot, or two, are free from a slot on.
 fn are_free(uses: &[SlotUse], slot: u32, size: u32) -> bool
-    ensures { result ≡ (is_free (slice_get uses.now slot) && (size == 1 || is_free (slice_get uses.now (slot + 1)))) }
+    ensures { result ≡ (is_free (slice_get uses.now slot)
+        && (size == 1 || is_free (slice_get uses.now (slot + 1)))) }
 {
     is_free(uses, slot as usize) && (size == 1 || is_free(uses, slot as usize + 1))
 }

@@ -21,10 +21,7 @@ pub fn table(
 ) -> Result<Vec<SlotUse>, AllocError>
     ensures { IfOk result (λ uses. IsTable count own.now others.now uses.items) }
 {
-    let mut uses = Vec::new(alloc);
-    for _ in 0..count {
-        uses.push(SlotUse::Free)?;
-    }
+    let mut uses = vec![in alloc; SlotUse::Free; count]?;
     mark(&mut uses, own, SlotUse::Own);
     mark(&mut uses, others, SlotUse::Foreign);
     Ok(uses)
@@ -42,7 +39,8 @@ pub fn table_beside(
 ) -> Result<Vec<SlotUse>, AllocError>
     requires begun { BeginWithFirst parts.now }
     requires onward { GoOn 0 parts.now (slots_at places.now) }
-    ensures { IfOk result (λ uses. IsTableBeside count first.now own.now parts.now (slots_at places.now) uses.items) }
+    ensures { IfOk result (λ uses. IsTableBeside count first.now own.now parts.now
+        (slots_at places.now) uses.items) }
 {
     let mut uses = table(alloc, count, own, first)?;
     mark_spans(&mut uses, parts, places);
@@ -69,7 +67,8 @@ fn mark_spans(uses: &mut Vec<SlotUse>, parts: &[Part], places: &[Place])
 fn fill(uses: &mut Vec<SlotUse>, from: usize, to: usize)
     ensures count { length uses.new.items ≡ length uses.old.items }
     ensures uses { (n : ℕ) → n < length uses.old.items
-        → slice_get uses.new.items n ≡ use_in (nat_le from n && nat_lt n to) Foreign (slice_get uses.old.items n) }
+        → slice_get uses.new.items n
+        ≡ use_in (nat_le from n && nat_lt n to) Foreign (slice_get uses.old.items n) }
 {
     for at in from..to {
         set(uses, at, SlotUse::Foreign);

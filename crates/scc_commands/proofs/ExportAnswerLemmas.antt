@@ -15,9 +15,10 @@ use Rattle.services_files.specs.CaptionChannel.{caption_channel}
 use Rattle.time_codes.specs.declared.time_code.TimeCode.{TimeCode}
 use Rattle.words_files.proofs.FramesOfLemmas.{file_frames}
 use Rattle.words_reading.proofs.AnswersLemmas.{stop_answered_as}
+use Rattle.words_reading.proofs.EarlyLemmas.{early_answered}
 use Rattle.words_reading.proofs.FrameLemmas.{nothing_judged}
 use Rattle.words_reading.proofs.PieceLemmas.{nothing_taken}
-use Rattle.words_reading.specs.Answers.{IsOwn}
+use Rattle.words_reading.specs.Answers.{IsOwn, StopsEarlyAs}
 use Rattle.words_reading.specs.Causes.{IsWholeFile}
 use Rattle.words_reading.specs.FramesRead.{HasJudgedFrames, receiver_of}
 use Rattle.words_reading.specs.Reading.{Stops, StopsEarly as Stopped}
@@ -25,7 +26,7 @@ use Rattle.words_reading.specs.Statuses.{stop_status}
 use Rattle.words_reading.specs.declared.frames.Frames.{Frames}
 use Rattle.words_reading.specs.declared.judge.Stop.{Stop}
 use Rattle.words_reading.specs.declared.judge.Stop.TheVariants as stop
-use Rattle.scc_commands.specs.Export.{AreExported, ExportAnswer, HaltsWith, IsExportOf, StopsEarly, export_file, export_front, exported, first_standing, stand_after}
+use Rattle.scc_commands.specs.Export.{AreExported, ExportAnswer, ExportHalts, IsExportOf, export_file, export_front, exported, first_standing, stand_after}
 use Rattle.scc_commands.specs.Exporting.{StandsBehind, reason_status}
 use Rattle.scc_commands.specs.declared.exporting.ExportStop.{ExportStop}
 use Rattle.scc_commands.specs.declared.exporting.ExportStop.TheVariants as reason
@@ -64,33 +65,26 @@ head_failed time first start then reads writes still failed rose =
 
 -- a reading that stopped before the end of the file
 abbrev HasStopped : TimeCode → Ends → Ends → Stop ExportStop → Type 0
-HasStopped time old new why = Stopped (IsExportOf time export_front) (λ reason. HaltsWith time (reason_status reason)) old new why
+HasStopped time old new why = Stopped (IsExportOf time export_front) (λ reason. ExportHalts time (reason_status reason)) old new why
 
 is_own : (why : ExportStop) → IsOwn (reason_status why)
 is_own (reason.Found finding) = tt
 is_own reason.Day = tt
 
-stopped_early : (time : TimeCode) (old new : Ends) (why : Stop ExportStop) → HasStopped time old new why → StopsEarly time old new (stop_status reason_status why)
+stopped_early : (time : TimeCode) (old new : Ends) (why : Stop ExportStop) → HasStopped time old new why
+    → StopsEarlyAs (IsExportOf time export_front) (ExportHalts time) old new (stop_status reason_status why)
 stopped_early time old new why stops =
-    stop_answered_as (IsExportOf time export_front) (λ reason. HaltsWith time (reason_status reason)) (HaltsWith time) reason_status is_own (λ reason bytes text halts. halts) old new why stops
+    stop_answered_as (IsExportOf time export_front) (λ reason. ExportHalts time (reason_status reason)) (ExportHalts time) reason_status is_own (λ reason bytes text halts. halts) old new why stops
 
 -- is answered so
-answered_early : (time : TimeCode) (old new : Ends) (why : Stop ExportStop) → StopsEarly time old new (stop_status reason_status why)
-    → ExportAnswer time old new (stop_status reason_status why)
-answered_early time old new stop.ReadFault stops = stops
-answered_early time old new stop.WriteFault stops = inl stops
-answered_early time old new stop.Limit stops = stops
-answered_early time old new (stop.Refused refusal) stops = stops
-answered_early time old new (stop.Own (reason.Found finding)) stops = stops
-answered_early time old new (stop.Own reason.Day) stops = stops
-
 pub export_stopped : (time : TimeCode) (first left start now : Option (List ℕ)) (reads later writes began still : ℕ) (why : Stop ExportStop) (answer : Status) → began ≡ writes
     → HasStopped time (ends first reads start began) (ends left later now still) why → answer ≡ stop_status reason_status why
     → ExportAnswer time (ends first reads start writes) (ends left later now still) answer
 export_stopped time first left start now reads later writes began still why answer same stops is =
     subst (λ n. ExportAnswer time (ends first reads start n) (ends left later now still) answer) same
     (subst (ExportAnswer time (ends first reads start began) (ends left later now still)) (sym is)
-    (answered_early time (ends first reads start began) (ends left later now still) why
+    (early_answered (IsExportOf time export_file) (IsExportOf time export_front) (ExportHalts time) (ends first reads start began) (ends left later now still)
+    (stop_status reason_status why)
     (stopped_early time (ends first reads start began) (ends left later now still) why stops)))
 
 -- the words were read to their end

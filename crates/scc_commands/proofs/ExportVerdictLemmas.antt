@@ -2,7 +2,7 @@
 use Rattle.std.proofs.Common.{◌≡◌, ◌∙◌, ◌+◌, ◌++◌, ◌⊎◌, ap, arith, inl, inr, length, refl, subst, suc, sym, ℕ, List, [], ◌∷◌, false, true}
 use Rattle.cc_base.specs.declared.limit_of.LimitOf.TheVariants as limit
 use Rattle.cc_base.specs.declared.refusal.Refusal.{Refusal}
-use Rattle.cdp_packets.specs.Packets.{Packet as Frame}
+use Rattle.cdp_packets.specs.Packets.{Frame}
 use Rattle.command_base.specs.Counts.{IsReadOf}
 use Rattle.command_base.specs.Ends.{Ends}
 use Rattle.command_base.specs.declared.status.Place.TheVariants.{Byte}
@@ -15,19 +15,20 @@ use Rattle.time_codes.specs.declared.time_code.TimeCode.{TimeCode}
 use Rattle.words_files.proofs.FramesOfLemmas.{file_frames, frames_grow}
 use Rattle.words_files.specs.FramesOf.{AreFramesOf}
 use Rattle.services_files.specs.CaptionChannel.{caption_channel}
-use Rattle.words_reading.proofs.EarlyLemmas.{file_early, malformed_early}
-use Rattle.words_reading.proofs.KnownLemmas.{known_judged, read_unmalformed}
+use Rattle.words_reading.proofs.EarlyLemmas.{file_answers, malformed_answers, unless}
+use Rattle.words_reading.proofs.KnownLemmas.{known_judged}
 use Rattle.words_reading.specs.Answers.{StopsOwn}
-use Rattle.scc_commands.specs.Export.{AreExported, AreWithinDay, HaltsWith, HasFinding, HasNoFinding, HaveNoFinding, IsExportOf, StandsPastDay, StopsAt, at_number, export_front, exported_from, first_standing, pairs_of}
+use Rattle.scc_commands.specs.Export.{AreExported, ExportHalts, HasFinding, HasNoFinding, IsExportOf, StandsPastDay, StopsAtFrame, export_file, export_front, exported_from, first_standing, pairs_of}
+use Rattle.scc_commands.proofs.WrittenLemmas.{AreWithinDay, HaveNoFinding, at_number}
 use Rattle.scc_commands.specs.ExportVerdict.{FileIsExported, MalformedIsNotExported}
-use Rattle.scc_commands.specs.Import.{Placed}
+use Rattle.scc_commands.specs.Import.{PlacedPairs}
 
 -- within the day, in front and behind
-within_back : (time : TimeCode) (pairs more : Placed) → AreWithinDay time (pairs ++ more) → AreWithinDay time more
+within_back : (time : TimeCode) (pairs more : PlacedPairs) → AreWithinDay time (pairs ++ more) → AreWithinDay time more
 within_back time [] more within = within
 within_back time (placed ∷ pairs) more (fits, within) = within_back time pairs more within
 
-within_front : (time : TimeCode) (pairs more : Placed) → AreWithinDay time (pairs ++ more) → AreWithinDay time pairs
+within_front : (time : TimeCode) (pairs more : PlacedPairs) → AreWithinDay time (pairs ++ more) → AreWithinDay time pairs
 within_front time [] more within = tt
 within_front time (placed ∷ pairs) more (fits, within) = (fits, within_front time pairs more within)
 
@@ -66,7 +67,7 @@ day_ends time frames more last stands good =
     none : (n : ℕ) → n ≡ 0 + n
     none n = omega arith
 
-pub not_exported : (time : TimeCode) (frames more : List Frame) (last : Frame) (stop : Status) → StopsAt time (length frames) last stop
+pub not_exported : (time : TimeCode) (frames more : List Frame) (last : Frame) (stop : Status) → StopsAtFrame time (length frames) last stop
     → AreExported time ((frames ++ last ∷ []) ++ more) → ⊥
 not_exported time frames more last (status.Differs finding) stops good = not_found last finding.kind (no_finding_at frames last more good.no_finding) stops.1
 not_exported time frames more last (status.Limit limit.Day) stops good = day_ends time frames more last stops good
@@ -75,7 +76,7 @@ not_exported time frames more last _ stops good = stops
 
 -- no export of bytes whose frames are exported stops at a frame
 never_halts : (time : TimeCode) (bytes : List ℕ) (all : List Frame) (old new : Ends) (answer : Status) → AreFramesOf caption_channel all bytes → AreExported time all
-    → IsReadOf bytes old new → StopsOwn (HaltsWith time) old new answer → ⊥
+    → IsReadOf bytes old new → StopsOwn (ExportHalts time) old new answer → ⊥
 never_halts time bytes all old new answer are good read (own, steady, stops) =
     let halts = stops.says in
     let (rest, is) = known_judged old.left new.left bytes stops.judged stops.unjudged read.left stops.taken in
@@ -84,27 +85,11 @@ never_halts time bytes all old new answer are good read (own, steady, stops) =
     not_exported time halts.frames behind halts.last answer halts.is (subst (AreExported time) grown good)
 
 pub file_exported : FileIsExported
-file_exported time bytes frames old new status.Ok file good within read answered = inl refl
-file_exported time bytes frames old new status.Memory file good within read answered = inr refl
-file_exported time bytes frames old new status.WriteFault file good within read (inl answered) = absurd (read.writes answered.1)
-file_exported time bytes frames old new status.WriteFault file good within read (inr answered) = absurd (read.writes answered.1)
 file_exported time bytes frames old new answer file good within read answered =
-    absurd (never_halts time bytes frames old new answer (file_frames caption_channel frames bytes file) good read
-    (file_early (IsExportOf time export_front) (HaltsWith time) bytes frames old new answer file within read answered))
-
--- what stops early for malformed words is their refusal
-malformed_stopped : (time : TimeCode) (bytes : List ℕ) (frames : List Frame) (refusal : Refusal) (old new : Ends) (answer : Status) → AreFramesOf caption_channel frames bytes
-    → AreExported time frames → IsReadOf bytes old new → (answer ≡ status.Malformed (Byte refusal.place) refusal.why) ⊎ StopsOwn (HaltsWith time) old new answer
-    → answer ≡ status.Malformed (Byte refusal.place) refusal.why
-malformed_stopped time bytes frames refusal old new answer are good read (inl is) = is
-malformed_stopped time bytes frames refusal old new answer are good read (inr stops) = absurd (never_halts time bytes frames old new answer are good read stops)
+    unless (never_halts time bytes frames old new answer (file_frames caption_channel frames bytes file) good read)
+    (file_answers (IsExportOf time export_file) (IsExportOf time export_front) (ExportHalts time) bytes frames old new answer file within read answered)
 
 pub malformed_not_exported : MalformedIsNotExported
-malformed_not_exported time bytes frames refusal old new status.Ok are good malformed within read answered =
-    absurd (read_unmalformed _ bytes refusal _ old new malformed read answered.1)
-malformed_not_exported time bytes frames refusal old new status.Memory are good malformed within read answered = inr refl
-malformed_not_exported time bytes frames refusal old new status.WriteFault are good malformed within read (inl answered) = absurd (read.writes answered.1)
-malformed_not_exported time bytes frames refusal old new status.WriteFault are good malformed within read (inr answered) = absurd (read.writes answered.1)
 malformed_not_exported time bytes frames refusal old new answer are good malformed within read answered =
-    inl (malformed_stopped time bytes frames refusal old new answer are good read
-    (malformed_early (IsExportOf time export_front) (HaltsWith time) bytes refusal old new answer malformed within read answered))
+    unless (never_halts time bytes frames old new answer are good read)
+    (malformed_answers (IsExportOf time export_file) (IsExportOf time export_front) (ExportHalts time) bytes refusal old new answer malformed within read answered)

@@ -6,7 +6,7 @@ use Rattle.anc_words.specs.Packets.{AncillaryPacket, user_bytes}
 use Rattle.cc_data.specs.Triplets.{triplets_of}
 use Rattle.cc_data.specs.declared.triplet.Triplet.{Triplet}
 use Rattle.cdp_packets.specs.PacketTriplets.{packet_triplets, section_triplets}
-use Rattle.cdp_packets.specs.Packets.{IsCdp, Packet as Frame}
+use Rattle.cdp_packets.specs.Packets.{Frame, IsCdp}
 use Rattle.line21_codes.specs.declared.channels.FieldNumber.TheVariants.{One}
 use Rattle.line21_codes.specs.declared.pairs.Pair.{Pair}
 use Rattle.scc_files.specs.SccFiles.{IsSccFile}
@@ -16,7 +16,8 @@ use Rattle.time_codes.specs.declared.time_code.TimeCode.{TimeCode}
 use Rattle.words_files.specs.Frames.{CarryFrames, IsFileOf}
 use Rattle.words_files.specs.Received.{field_pair}
 use Rattle.scc_files.proofs.RoundTrip.{written_is_file}
-use Rattle.scc_commands.specs.Export.{AreExported, AreWithinDay, HaveNoFinding, at_number, export_file, exported, exported_from, pairs_of}
+use Rattle.scc_commands.specs.Export.{AreExported, export_file, exported, exported_from, pairs_of}
+use Rattle.scc_commands.proofs.WrittenLemmas.{AreWithinDay, HaveNoFinding, at_number}
 
 abbrev AreBytes : List ℕ → Type 0
 AreBytes = AllByRecursion (λ (byte : ℕ). byte < 256)

@@ -24,11 +24,12 @@ use Rattle.scc_files.specs.SccFiles.{AreBytes, AreRising}
 use Rattle.scc_files.specs.declared.fault.SccFault.{SccFault}
 use Rattle.scc_files.specs.declared.fault.SccFault.TheVariants as fault
 use Rattle.command_base.proofs.WholeInputLemmas.{AreRefusals}
+use Rattle.command_base.specs.MakesAnswer.{PutsMade}
 use Rattle.command_base.specs.WholeInput.{JudgesInput}
 use Rattle.command_base.specs.declared.status.Status.{Status}
 use Rattle.command_base.specs.declared.status.Status.TheVariants as status
 use Rattle.scc_commands.specs.Cursors.{Passes}
-use Rattle.scc_commands.specs.Import.{IsImport, IsRefusedImport, Placed, PutsImport, PutsImportFront, import_columns, import_words, pair_at}
+use Rattle.scc_commands.specs.Import.{IsCarriedImport, IsImport, IsRefusedImport, PlacedPairs, import_columns, import_words, pair_at}
 use Rattle.scc_commands.specs.ImportSteps.{ArePlaced, fault_status, frame_with}
 use Rattle.scc_commands.proofs.WrittenLemmas.{gathered_failed, gathered_more}
 
@@ -37,18 +38,18 @@ pub other_number : (n m : ℕ) → n ≢ m → nat_eq n m ≡ false
 other_number n m other = grind arith
 
 -- no pair stands before the first of pairs
-pub none_before : (pairs : Placed) (low frame : ℕ) → AreRising low pairs → frame < low → pair_at pairs frame ≡ null_pair
+pub none_before : (pairs : PlacedPairs) (low frame : ℕ) → AreRising low pairs → frame < low → pair_at pairs frame ≡ null_pair
 none_before [] low frame rising before = refl
 none_before (placed ∷ pairs) low frame (from, rising) before =
     rw (other_number placed.0 frame (λ same. omega arith)) (none_before pairs (placed.0 + 1) frame rising (omega arith))
 
 -- pairs that rise from a frame do from an earlier one
-from_earlier : (pairs : Placed) (low lower : ℕ) → AreRising low pairs → lower ≤ low → AreRising lower pairs
+from_earlier : (pairs : PlacedPairs) (low lower : ℕ) → AreRising low pairs → lower ≤ low → AreRising lower pairs
 from_earlier [] low lower rising earlier = tt
 from_earlier (placed ∷ pairs) low lower (from, rising) earlier = (omega arith, rising)
 
 -- the first pair stands at the frame that is passed
-pub passes_pair : (frame : ℕ) (left : Placed) (placed : ℕ × Pair) (rest : Placed) → AreRising frame left → left ≡ placed ∷ rest → placed.0 ≡ frame
+pub passes_pair : (frame : ℕ) (left : PlacedPairs) (placed : ℕ × Pair) (rest : PlacedPairs) → AreRising frame left → left ≡ placed ∷ rest → placed.0 ≡ frame
     → Passes frame left rest placed.1
 passes_pair frame left placed rest rising is at =
     let (from, more) = subst (AreRising frame) is rising in
@@ -62,12 +63,12 @@ passes_pair frame left placed rest rising is at =
     nat_eq-refl n = grind arith
 
 -- there is none
-pub passes_end : (frame : ℕ) (left : Placed) → length left ≡ 0 → Passes frame left left null_pair
+pub passes_end : (frame : ℕ) (left : PlacedPairs) → length left ≡ 0 → Passes frame left left null_pair
 passes_end frame [] none = record { pair_is = refl; rising = tt; later = λ f after. refl }
 passes_end frame (placed ∷ left) none = absurd (omega arith)
 
 -- or it doesn't, and then none does
-pub passes_none : (frame : ℕ) (left : Placed) (placed : ℕ × Pair) (rest : Placed) → AreRising frame left → left ≡ placed ∷ rest → placed.0 ≢ frame
+pub passes_none : (frame : ℕ) (left : PlacedPairs) (placed : ℕ × Pair) (rest : PlacedPairs) → AreRising frame left → left ≡ placed ∷ rest → placed.0 ≢ frame
     → Passes frame left left null_pair
 passes_none frame left placed rest rising is apart =
     let (from, more) = subst (AreRising frame) is rising in
@@ -81,12 +82,12 @@ passes_none frame left placed rest rising is apart =
     }
 
 -- the frames of pairs end behind the last one
-pub frames_behind : (pairs : Placed) (n : ℕ) (last : ℕ × Pair) → frames_to n (pairs ++ last ∷ []) ≡ last.0 + 1
+pub frames_behind : (pairs : PlacedPairs) (n : ℕ) (last : ℕ × Pair) → frames_to n (pairs ++ last ∷ []) ≡ last.0 + 1
 frames_behind [] n last = refl
 frames_behind (placed ∷ pairs) n last = frames_behind pairs (placed.0 + 1) last
 
 -- the words of pairs are on their way: those of the frames before this one were gathered
-pub record WordsOnTheWay (pairs left : Placed) (frame frames : ℕ) (carrier : Carrier) (held : List ℕ) (old new : Option (List ℕ)) : Type 0 where
+pub record WordsOnTheWay (pairs left : PlacedPairs) (frame frames : ℕ) (carrier : Carrier) (held : List ℕ) (old new : Option (List ℕ)) : Type 0 where
   pub at_frame : IsAt rate.F2997 frame 0 carrier
   pub rising : AreRising frame left
   pub same : (other : ℕ) → frame ≤ other → pair_at left other ≡ pair_at pairs other
@@ -105,7 +106,7 @@ pub quiet_next : (frame : ℕ) (bytes : FrameBytes) (pair : Pair) (moved : Carri
 quiet_next frame bytes pair moved is at = subst (λ blocks. IsAt rate.F2997 (frame + 1) (0 + packet_count blocks) moved) (ap (λ (b : FrameBytes). b.blocks.items) is) at
 
 -- the words of a frame are the first of those that are left
-first_words : (pairs left now : Placed) (frame frames : ℕ) (carrier : Carrier) (held : List ℕ) (old new : Option (List ℕ)) (pair : Pair) (bytes : FrameBytes)
+first_words : (pairs left now : PlacedPairs) (frame frames : ℕ) (carrier : Carrier) (held : List ℕ) (old new : Option (List ℕ)) (pair : Pair) (bytes : FrameBytes)
     (words : List ℕ) → WordsOnTheWay pairs left frame frames carrier held old new → Passes frame left now pair → bytes ≡ frame_with pair → frame < frames
     → words ≡ frame_bytes rate.F2997 frame bytes []
     → column_bytes rate.F2997 (import_columns pairs) frame (frames - frame)
@@ -120,7 +121,7 @@ first_words pairs left now frame frames carrier held old new pair bytes words on
     ∙ ap (λ f. words ++ column_bytes rate.F2997 (import_columns pairs) f (frames - (frame + 1))) (sym (add-one frame))
 
 -- they were gathered
-pub words_added : (pairs left now : Placed) (frame frames : ℕ) (carrier moved : Carrier) (held kept : List ℕ) (old new after : Option (List ℕ)) (pair : Pair)
+pub words_added : (pairs left now : PlacedPairs) (frame frames : ℕ) (carrier moved : Carrier) (held kept : List ℕ) (old new after : Option (List ℕ)) (pair : Pair)
     (bytes : FrameBytes) (words : List ℕ) → WordsOnTheWay pairs left frame frames carrier held old new → Passes frame left now pair
     → bytes ≡ frame_with pair → frame < frames → words ≡ frame_bytes rate.F2997 frame bytes [] → IsAt rate.F2997 (frame + 1) 0 moved
     → Gathers new after held kept put.Done words → WordsOnTheWay pairs now (frame + 1) frames moved kept old after
@@ -137,14 +138,14 @@ words_added pairs left now frame frames carrier moved held kept old new after pa
     }
 
 -- a put of those before failed
-pub words_failed : (pairs left : Placed) (frame frames : ℕ) (carrier : Carrier) (held : List ℕ) (old new after : Option (List ℕ))
+pub words_failed : (pairs left : PlacedPairs) (frame frames : ℕ) (carrier : Carrier) (held : List ℕ) (old new after : Option (List ℕ))
     → WordsOnTheWay pairs left frame frames carrier held old new → Puts new after put.Failed held → Puts old after put.Failed (import_words pairs)
 words_failed pairs left frame frames carrier held old new after on failed =
     subst (Puts old after put.Failed) on.whole
     (gathered_failed old new after held (column_bytes rate.F2997 (import_columns pairs) frame (frames - frame)) on.words on.way failed)
 
 -- all were gathered
-words_ended : (pairs left : Placed) (frame frames : ℕ) (carrier : Carrier) (held : List ℕ) (old new : Option (List ℕ))
+words_ended : (pairs left : PlacedPairs) (frame frames : ℕ) (carrier : Carrier) (held : List ℕ) (old new : Option (List ℕ))
     → WordsOnTheWay pairs left frame frames carrier held old new → frames ≤ frame → IsGathered old new held (import_words pairs)
 words_ended pairs left frame frames carrier held old new on ended =
     let none : frames - frame ≡ 0 = omega arith in
@@ -158,7 +159,7 @@ flushed : (old new after : Option (List ℕ)) (held kept all : List ℕ) (answer
 flushed old new after held kept all put.Done way (next, none) = all_put old after [] all (way_flushed old new after held all way next) refl
 flushed old new after held kept all put.Failed way failed = way_unwritten old new after held all way failed
 
-pub words_flushed : (pairs left : Placed) (frame frames : ℕ) (carrier : Carrier) (held kept : List ℕ) (old new after : Option (List ℕ)) (answer : Put)
+pub words_flushed : (pairs left : PlacedPairs) (frame frames : ℕ) (carrier : Carrier) (held kept : List ℕ) (old new after : Option (List ℕ)) (answer : Put)
     → WordsOnTheWay pairs left frame frames carrier held old new → frames ≤ frame → Flushes new after held kept answer
     → Puts old after answer (import_words pairs)
 words_flushed pairs left frame frames carrier held kept old new after answer on ended flushes =
@@ -177,19 +178,19 @@ pub fault_refused : (bytes : List ℕ) (f : SccFault) → length bytes ≤ whole
     → JudgesInput IsImport IsRefusedImport bytes (Err (fault_status f))
 fault_refused bytes (fault.Memory error) within answers = tt
 fault_refused bytes (fault.Limit limit.Bytes) within answers = absurd answers
-fault_refused bytes (fault.Limit limit.Frames) within (pairs, file, many) = record { within = within; pairs = pairs; file = file; many = many }
+fault_refused bytes (fault.Limit limit.Frames) within answers = (within, answers)
 fault_refused bytes (fault.Limit limit.Cues) within answers = absurd answers
 fault_refused bytes (fault.Limit limit.Packet) within answers = absurd answers
 fault_refused bytes (fault.Limit limit.Day) within answers = absurd answers
 fault_refused bytes (fault.Malformed refusal) within answers = (within, answers.0)
 
 -- one that is read stands at frames of the day in order
-pub placed_read : (bytes : List ℕ) (r : Result Placed Status) → JudgesInput IsImport IsRefusedImport bytes r → IfOk r ArePlaced
+pub placed_read : (bytes : List ℕ) (r : Result PlacedPairs Status) → JudgesInput IsImport IsRefusedImport bytes r → IfOk r ArePlaced
 placed_read bytes (Ok pairs) is = record { rising = file_rises pairs bytes is.file; few = is.few }
 placed_read bytes (Err s) is = tt
 
 -- all pairs of columns are bytes
-pair_bytes : (pairs : Placed) (frame : ℕ) → AreBytes pairs → IsBytePair (pair_at pairs frame)
+pair_bytes : (pairs : PlacedPairs) (frame : ℕ) → AreBytes pairs → IsBytePair (pair_at pairs frame)
 pair_bytes [] frame are = record { a = omega arith; b = omega arith }
 pair_bytes (placed ∷ pairs) frame (a, b, are) = chosen (placed.0 == frame) placed.1 (pair_at pairs frame) (record { a = a; b = b }) (pair_bytes pairs frame are)
   where
@@ -197,31 +198,25 @@ pair_bytes (placed ∷ pairs) frame (a, b, are) = chosen (placed.0 == frame) pla
     chosen true one other is isnt = is
     chosen false one other is isnt = isnt
 
-pub columns_bytes : (pairs : Placed) → AreBytes pairs → AreBytePairs (import_columns pairs)
+pub columns_bytes : (pairs : PlacedPairs) → AreBytes pairs → AreBytePairs (import_columns pairs)
 columns_bytes pairs are One frame = pair_bytes pairs frame are
 columns_bytes pairs are Two frame = record { a = omega arith; b = omega arith }
 
--- the words of a file were put
-pub import_put : (left old new : Option (List ℕ)) (pairs : Placed) → IfSome left (λ bytes. IsImport bytes pairs) → Puts old new put.Done (import_words pairs)
-    → IfSome left (λ bytes. PutsImport bytes old new)
-import_put None old new pairs is puts = tt
-import_put (Some bytes) old new pairs is puts = record {
-  pairs = pairs;
-  is = is;
+-- the words of a file were put, or a front of them
+pub import_put : (answer : Put) (left old new : Option (List ℕ)) (pairs : PlacedPairs) → IfSome left (λ bytes. IsImport bytes pairs) → Puts old new answer (import_words pairs)
+    → IfSome left (λ bytes. PutsMade IsImport import_words IsCarriedImport answer bytes old new)
+import_put answer None old new pairs is puts = tt
+import_put answer (Some bytes) old new pairs is puts = record {
+  made = pairs;
+  accepted = is;
   output_is = puts;
-  carried = frames_carried rate.F2997 (import_columns pairs) (frames_of pairs) (columns_bytes pairs (file_bytes pairs bytes is.file))
+  sound = frames_carried rate.F2997 (import_columns pairs) (frames_of pairs) (columns_bytes pairs (file_bytes pairs bytes is.file))
       (quiet_bytes (import_columns pairs) (λ frame. refl)) (quiet_roomy rate.F2997 (import_columns pairs) (λ frame. refl));
 }
 
--- or a front of them
-pub import_failed : (left old new : Option (List ℕ)) (pairs : Placed) → IfSome left (λ bytes. IsImport bytes pairs) → Puts old new put.Failed (import_words pairs)
-    → IfSome left (λ bytes. PutsImportFront bytes old new)
-import_failed None old new pairs is puts = tt
-import_failed (Some bytes) old new pairs is puts = record { pairs = pairs; is = is; front = puts }
-
-pub frames_are : (pairs rest : Placed) (last : ℕ × Pair) → pairs ≡ rest ++ last ∷ [] → last.0 + 1 ≡ frames_of pairs
+pub frames_are : (pairs rest : PlacedPairs) (last : ℕ × Pair) → pairs ≡ rest ++ last ∷ [] → last.0 + 1 ≡ frames_of pairs
 frames_are pairs rest last is = sym (ap frames_of is ∙ frames_behind rest 0 last)
 
-pub no_frames : (pairs : Placed) → length pairs ≡ 0 → 0 ≡ frames_of pairs
+pub no_frames : (pairs : PlacedPairs) → length pairs ≡ 0 → 0 ≡ frames_of pairs
 no_frames [] none = refl
 no_frames (placed ∷ pairs) none = absurd (omega arith)

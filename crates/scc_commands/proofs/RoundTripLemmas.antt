@@ -14,17 +14,18 @@ use Rattle.scc_files.specs.Writing.{Standing, head_text, piece_of, stand_behind}
 use Rattle.scc_files.specs.Written.{text_from, written_file}
 use Rattle.time_codes.specs.Frames.{frame_number}
 use Rattle.time_codes.specs.declared.time_code.TimeCode.{TimeCode}
-use Rattle.scc_commands.specs.Export.{at_number, export_file, exported_from, first_standing}
-use Rattle.scc_commands.specs.Import.{Placed, import_columns, import_packets, pair_at}
+use Rattle.scc_commands.specs.Export.{export_file, exported_from, first_standing}
+use Rattle.scc_commands.proofs.WrittenLemmas.{at_number}
+use Rattle.scc_commands.specs.Import.{PlacedPairs, import_columns, import_packets, pair_at}
 use Rattle.scc_commands.proofs.ImportLemmas.{columns_bytes, none_before, other_number}
 
 -- a pair a frame, of so many frames from one on
-abbrev filled : Placed → ℕ → ℕ → Placed
+abbrev filled : PlacedPairs → ℕ → ℕ → PlacedPairs
 filled pairs frame zero = []
 filled pairs frame (suc n) = (frame, pair_at pairs frame) ∷ filled pairs (suc frame) n
 
 -- pairs that are the same from a frame on fill frames alike
-filled_alike : (pairs others : Placed) (frame n : ℕ) → ((other : ℕ) → frame ≤ other → pair_at pairs other ≡ pair_at others other)
+filled_alike : (pairs others : PlacedPairs) (frame n : ℕ) → ((other : ℕ) → frame ≤ other → pair_at pairs other ≡ pair_at others other)
     → filled pairs frame n ≡ filled others frame n
 filled_alike pairs others frame zero alike = refl
 filled_alike pairs others frame (suc n) alike =
@@ -32,7 +33,7 @@ filled_alike pairs others frame (suc n) alike =
     ∙ ap (λ l. (frame, pair_at others frame) ∷ l) (filled_alike pairs others (suc frame) n (λ other from. alike other (omega arith)))
 
 -- frames of pairs that rise end no sooner than they begin
-ends_behind : (pairs : Placed) (low from : ℕ) → AreRising low pairs → from ≤ low → from ≤ frames_to from pairs
+ends_behind : (pairs : PlacedPairs) (low from : ℕ) → AreRising low pairs → from ≤ low → from ≤ frames_to from pairs
 ends_behind [] low from rising within = omega arith
 ends_behind (placed ∷ pairs) low from (first, rising) within =
     let more = ends_behind pairs (placed.0 + 1) (placed.0 + 1) rising (omega arith) in omega arith
@@ -41,11 +42,11 @@ same_number : (m : ℕ) → nat_eq m m ≡ true
 same_number m = grind arith
 
 -- what is to be shown of the frames behind one
-abbrev SameBehind : ℕ → ℕ → Placed → Type 0
+abbrev SameBehind : ℕ → ℕ → PlacedPairs → Type 0
 SameBehind n frame left = (w : Standing) → AreRising frame left → frames_to frame left ≡ frame + n → text_from w (filled left frame n) ≡ text_from w left
 
 -- the first pair stands at the frame
-pair_here : (n frame : ℕ) (placed : ℕ × Pair) (left : Placed) (w : Standing) → SameBehind n (suc frame) left → AreRising (placed.0 + 1) left
+pair_here : (n frame : ℕ) (placed : ℕ × Pair) (left : PlacedPairs) (w : Standing) → SameBehind n (suc frame) left → AreRising (placed.0 + 1) left
     → frames_to (placed.0 + 1) left ≡ frame + suc n → placed.0 ≡ frame
     → text_from w (filled (placed ∷ left) frame (suc n)) ≡ text_from w (placed ∷ left)
 pair_here n frame placed left w same rising count at =
@@ -60,7 +61,7 @@ pair_here n frame placed left w same rising count at =
     ∙ ap (λ f. piece_of w f placed.1 ++ text_from (stand_behind w f placed.1) left) (sym at)
 
 -- or behind it
-pair_later : (n frame : ℕ) (placed : ℕ × Pair) (left : Placed) (w : Standing) → SameBehind n (suc frame) (placed ∷ left) → frame ≤ placed.0 → AreRising (placed.0 + 1) left
+pair_later : (n frame : ℕ) (placed : ℕ × Pair) (left : PlacedPairs) (w : Standing) → SameBehind n (suc frame) (placed ∷ left) → frame ≤ placed.0 → AreRising (placed.0 + 1) left
     → frames_to (placed.0 + 1) left ≡ frame + suc n → placed.0 ≢ frame
     → text_from w (filled (placed ∷ left) frame (suc n)) ≡ text_from w (placed ∷ left)
 pair_later n frame placed left w same from rising count other =
@@ -69,14 +70,14 @@ pair_later n frame placed left w same from rising count other =
     ap (λ (p : Pair). piece_of w frame p ++ text_from (stand_behind w frame p) (filled (placed ∷ left) (suc frame) n)) this
     ∙ same w (omega arith, rising) (count ∙ omega arith)
 
-pair_by : (n frame : ℕ) (placed : ℕ × Pair) (left : Placed) (w : Standing) → SameBehind n (suc frame) left → SameBehind n (suc frame) (placed ∷ left)
+pair_by : (n frame : ℕ) (placed : ℕ × Pair) (left : PlacedPairs) (w : Standing) → SameBehind n (suc frame) left → SameBehind n (suc frame) (placed ∷ left)
     → frame ≤ placed.0 → AreRising (placed.0 + 1) left → frames_to (placed.0 + 1) left ≡ frame + suc n → (test : Bool) → nat_eq placed.0 frame ≡ test
     → text_from w (filled (placed ∷ left) frame (suc n)) ≡ text_from w (placed ∷ left)
 pair_by n frame placed left w here there from rising count true is = pair_here n frame placed left w here rising count (grind arith)
 pair_by n frame placed left w here there from rising count false is = pair_later n frame placed left w there from rising count (grind arith)
 
 -- null pairs between pairs say nothing
-same_text : (n frame : ℕ) (left : Placed) → SameBehind n frame left
+same_text : (n frame : ℕ) (left : PlacedPairs) → SameBehind n frame left
 same_text zero frame [] w rising count = refl
 same_text zero frame (placed ∷ left) w (from, rising) count =
     let more = ends_behind left (placed.0 + 1) (placed.0 + 1) rising (omega arith) in absurd (omega arith)
@@ -85,7 +86,7 @@ same_text (suc n) frame (placed ∷ left) w (from, rising) count =
     pair_by n frame placed left w (same_text n (suc frame) left) (same_text n (suc frame) (placed ∷ left)) from rising count (nat_eq placed.0 frame) refl
 
 -- the packets of an import carry a pair a frame
-packets_filled : (pairs : Placed) (frame n : ℕ) → AreBytes pairs
+packets_filled : (pairs : PlacedPairs) (frame n : ℕ) → AreBytes pairs
     → exported_from frame (column_packets rate.F2997 (import_columns pairs) frame n) ≡ filled pairs frame n
 packets_filled pairs frame zero are = refl
 packets_filled pairs frame (suc n) are =
@@ -94,7 +95,7 @@ packets_filled pairs frame (suc n) are =
     ap (λ l. at_number frame l ++ exported_from (suc frame) (column_packets rate.F2997 (import_columns pairs) (suc frame) n)) (room.pairs One)
     ∙ ap (λ l. (frame, pair_at pairs frame) ∷ l) (packets_filled pairs (suc frame) n are)
 
-pub exported_again : (time : TimeCode) (pairs : Placed) → AreRising 0 pairs → AreBytes pairs
+pub exported_again : (time : TimeCode) (pairs : PlacedPairs) → AreRising 0 pairs → AreBytes pairs
     → export_file time (import_packets pairs) ≡ written_file (frame_number time) time.drop_frame pairs
 exported_again time pairs rising are =
     ap (λ l. head_text ++ text_from (first_standing time) l) (packets_filled pairs 0 (frames_of pairs) are)

@@ -1,7 +1,6 @@
 -- What `import` and `export` answer where no count of faults rose, and where one did.
 use Rattle.std.proofs.Common.{◌≡◌, ◌⊎◌, ◌<◌, ap, arith, inl, inr, refl, subst, ℕ, List, Ok, Result}
-use Rattle.command_base.proofs.CountLemmas.{same_told, steady_told, write_told}
-use Rattle.command_base.proofs.WholeInputLemmas.{answered, refused, told, unrefused}
+use Rattle.command_base.proofs.MakesLemmas.{made_accepted, made_refused, made_told}
 use Rattle.command_base.specs.Counts.{IsReadOf, TellsFaults}
 use Rattle.command_base.specs.Ends.{Ends}
 use Rattle.command_base.specs.declared.status.Place.TheVariants.{Byte}
@@ -14,34 +13,31 @@ use Rattle.scc_files.proofs.Unique.{no_offence, offence_once}
 use Rattle.scc_files.specs.Reading.{frames_of, read_file}
 use Rattle.scc_files.specs.SccFiles.{IsSccFile}
 use Rattle.time_codes.specs.declared.time_code.TimeCode.{TimeCode}
-use Rattle.words_reading.proofs.EarlyLemmas.{early_told}
-use Rattle.scc_commands.specs.Export.{ExportAnswer, HaltsWith, IsExportOf, export_front}
-use Rattle.scc_commands.specs.Import.{ImportAnswer, IsImport, IsRefusedImport, Placed, PutsImport, PutsImportFront}
+use Rattle.words_reading.proofs.EarlyLemmas.{file_told}
+use Rattle.scc_commands.specs.Export.{ExportAnswer, ExportHalts, IsExportOf, export_file, export_front}
+use Rattle.scc_commands.specs.Import.{ImportAnswer, IsCarriedImport, IsImport, IsRefusedImport, PlacedPairs, import_words}
 
 -- a count of faults that is greater than before
 pub told_import : (old new : Ends) (answer : Status) → ImportAnswer old new answer → TellsFaults old new answer
-told_import old new answer is = told PutsImport PutsImportFront IsRefusedImport old new answer is
+told_import old new answer is = made_told IsImport import_words IsCarriedImport IsRefusedImport old new answer is
 
 pub told_export : (time : TimeCode) (old new : Ends) (answer : Status) → ExportAnswer time old new answer → TellsFaults old new answer
-told_export time old new status.Ok answered = steady_told old new status.Ok answered.0.reads answered.0.writes
-told_export time old new status.WriteFault (inl answered) = write_told old new answered.0
-told_export time old new status.WriteFault (inr answered) = write_told old new answered.0
-told_export time old new status.Memory answered = same_told old new status.Memory answered
-told_export time old new answer answered = early_told (IsExportOf time export_front) (HaltsWith time) old new answer answered
+told_export time old new answer answered =
+    file_told (IsExportOf time export_file) (IsExportOf time export_front) (ExportHalts time) old new answer answered
 
 -- the bytes of a file are one of pairs alone
-same_ok : (one other : Placed) (r : Result Placed Refusal) → r ≡ Ok one → r ≡ Ok other → one ≡ other
+same_ok : (one other : PlacedPairs) (r : Result PlacedPairs Refusal) → r ≡ Ok one → r ≡ Ok other → one ≡ other
 same_ok one other r is again = cc
 
-pairs_once : (bytes : List ℕ) (one other : Placed) → IsSccFile one bytes → IsSccFile other bytes → one ≡ other
+pairs_once : (bytes : List ℕ) (one other : PlacedPairs) → IsSccFile one bytes → IsSccFile other bytes → one ≡ other
 pairs_once bytes one other file again = same_ok one other (read_file bytes) (file_read one bytes file) (file_read other bytes again)
 
 -- a file within the limits is refused with no status
-pub import_not_refused : (bytes : List ℕ) (pairs : Placed) (refusal : Status) → IsImport bytes pairs → IsRefusedImport bytes refusal → ⊥
+pub import_not_refused : (bytes : List ℕ) (pairs : PlacedPairs) (refusal : Status) → IsImport bytes pairs → IsRefusedImport bytes refusal → ⊥
 import_not_refused bytes pairs (status.Limit limit.Bytes) is long = let within = is.within in omega arith
-import_not_refused bytes pairs (status.Limit limit.Frames) is many =
+import_not_refused bytes pairs (status.Limit limit.Frames) is (within, (other, file, many)) =
     let few = is.few in
-    let more = subst (λ p. 2592000 < frames_of p) (pairs_once bytes many.pairs pairs many.file is.file) many.many in omega arith
+    let more = subst (λ p. 2592000 < frames_of p) (pairs_once bytes other pairs file is.file) many in omega arith
 import_not_refused bytes pairs (status.Malformed (Byte place) why) is (within, offence) =
     no_offence bytes (record { place = place; why = why }) pairs offence is.file
 import_not_refused bytes pairs _ is refusal = absurd refusal
@@ -49,17 +45,17 @@ import_not_refused bytes pairs _ is refusal = absurd refusal
 -- one that is refused is refused with one status
 pub import_refused_once : (bytes : List ℕ) (one other : Status) → IsRefusedImport bytes one → IsRefusedImport bytes other → one ≡ other
 import_refused_once bytes (status.Limit limit.Bytes) (status.Limit limit.Bytes) is again = refl
-import_refused_once bytes (status.Limit limit.Bytes) (status.Limit limit.Frames) is again = let within = again.within in absurd (omega arith)
+import_refused_once bytes (status.Limit limit.Bytes) (status.Limit limit.Frames) is again = let within = again.0 in absurd (omega arith)
 import_refused_once bytes (status.Limit limit.Bytes) (status.Malformed (Byte place) why) is again = let within = again.0 in absurd (omega arith)
 import_refused_once bytes (status.Limit limit.Bytes) _ is again = absurd again
-import_refused_once bytes (status.Limit limit.Frames) (status.Limit limit.Bytes) is again = let within = is.within in absurd (omega arith)
+import_refused_once bytes (status.Limit limit.Frames) (status.Limit limit.Bytes) is again = let within = is.0 in absurd (omega arith)
 import_refused_once bytes (status.Limit limit.Frames) (status.Limit limit.Frames) is again = refl
 import_refused_once bytes (status.Limit limit.Frames) (status.Malformed (Byte place) why) is again =
-    absurd (no_offence bytes (record { place = place; why = why }) is.pairs again.1 is.file)
+    absurd (no_offence bytes (record { place = place; why = why }) is.1.0 again.1 is.1.1)
 import_refused_once bytes (status.Limit limit.Frames) _ is again = absurd again
 import_refused_once bytes (status.Malformed (Byte place) why) (status.Limit limit.Bytes) is again = let within = is.0 in absurd (omega arith)
 import_refused_once bytes (status.Malformed (Byte place) why) (status.Limit limit.Frames) is again =
-    absurd (no_offence bytes (record { place = place; why = why }) again.pairs is.1 again.file)
+    absurd (no_offence bytes (record { place = place; why = why }) again.1.0 is.1 again.1.1)
 import_refused_once bytes (status.Malformed (Byte place) why) (status.Malformed (Byte other) reason) is again =
     ap (λ (r : Refusal). status.Malformed (Byte r.place) r.why)
     (offence_once bytes (record { place = place; why = why }) (record { place = other; why = reason }) is.1 again.1)
@@ -67,16 +63,14 @@ import_refused_once bytes (status.Malformed (Byte place) why) _ is again = absur
 import_refused_once bytes _ other is again = absurd is
 
 -- a file within the limits is imported, or memory is wanted
-pub good_imported : (bytes : List ℕ) (pairs : Placed) (old new : Ends) (answer : Status) → IsImport bytes pairs → IsReadOf bytes old new
+pub good_imported : (bytes : List ℕ) (pairs : PlacedPairs) (old new : Ends) (answer : Status) → IsImport bytes pairs → IsReadOf bytes old new
     → ImportAnswer old new answer → (answer ≡ status.Ok) ⊎ (answer ≡ status.Memory)
 good_imported bytes pairs old new answer good read is =
-    unrefused PutsImport IsRefusedImport bytes old new answer (λ refusal. import_not_refused bytes pairs refusal good)
-    (answered PutsImport PutsImportFront IsRefusedImport bytes old new answer read is)
+    made_accepted IsImport import_words IsCarriedImport IsRefusedImport bytes old new answer (λ refusal. import_not_refused bytes pairs refusal good) read is
 
 -- what is refused is answered so
 pub bad_refused : (bytes : List ℕ) (refusal : Status) (old new : Ends) (answer : Status) → IsRefusedImport bytes refusal → IsReadOf bytes old new
     → ImportAnswer old new answer → (answer ≡ refusal) ⊎ (answer ≡ status.Memory)
 bad_refused bytes refusal old new answer bad read is =
-    refused PutsImport IsRefusedImport bytes refusal old new answer (λ puts. import_not_refused bytes puts.pairs refusal puts.is bad)
-    (λ other again. import_refused_once bytes other refusal again bad)
-    (answered PutsImport PutsImportFront IsRefusedImport bytes old new answer read is)
+    made_refused IsImport import_words IsCarriedImport IsRefusedImport bytes refusal old new answer (λ pairs good. import_not_refused bytes pairs refusal good bad)
+    (λ other again. import_refused_once bytes other refusal again bad) read is

@@ -3,7 +3,7 @@ use Rattle.std.proofs.Common.{◌≡◌, ◌∙◌, ◌≤◌, ◌++◌, ap, app
 use Rattle.cc_base.specs.declared.limit_of.LimitOf.TheVariants as limit
 use Rattle.cc_base.specs.declared.refusal.Refusal.{Refusal}
 use Rattle.cc_base.specs.declared.streams.Put.{Put}
-use Rattle.cdp_packets.specs.Packets.{Packet as Frame}
+use Rattle.cdp_packets.specs.Packets.{Frame}
 use Rattle.command_base.specs.Counts.{IsReadOf}
 use Rattle.command_base.specs.Ends.{Ends}
 use Rattle.command_base.specs.declared.status.Place.TheVariants.{Byte}
@@ -18,10 +18,11 @@ use Rattle.words_files.specs.FramesOf.{AreFramesOf}
 use Rattle.services_files.specs.CaptionChannel.{caption_channel}
 use Rattle.words_reading.proofs.FrontLemmas.{TwoFronts, behind_it, before_it, same, two_fronts}
 use Rattle.words_reading.proofs.KnownLemmas.{known_frames, known_judged, refused_behind, within_passes}
+use Rattle.words_reading.specs.Answers.{StopsEarlyAs}
 use Rattle.words_reading.specs.Causes.{IsRefusedWith, IsWholeFile, words_limit}
 use Rattle.words_reading.specs.Reading.{Stops}
 use Rattle.scc_commands.proofs.ExportVerdictLemmas.{not_exported, not_found}
-use Rattle.scc_commands.specs.Export.{AreExported, HasFinding, IsExportOf, StopsAt, StopsEarly, export_file, export_front}
+use Rattle.scc_commands.specs.Export.{AreExported, ExportHalts, HasFinding, IsExportOf, StopsAtFrame, export_file, export_front}
 use Rattle.scc_commands.specs.ExportVerdict.{StopIsAnswered}
 
 -- what is found at a frame is one
@@ -35,7 +36,7 @@ found_once frame (kind.TwoPairs a) _ has also = absurd also
 found_once frame _ other has also = absurd has
 
 -- so is the status with which an export stops at it
-stop_once : (time : TimeCode) (number : ℕ) (frame : Frame) (one other : Status) → StopsAt time number frame one → StopsAt time number frame other → one ≡ other
+stop_once : (time : TimeCode) (number : ℕ) (frame : Frame) (one other : Status) → StopsAtFrame time number frame one → StopsAtFrame time number frame other → one ≡ other
 stop_once time number frame (status.Differs a) (status.Differs b) has also = ap status.Differs (same_finding a b (has.0 ∙ sym also.0) (found_once frame a.kind b.kind has.1 also.1))
   where
     same_finding : (x y : Finding) → x.frame ≡ y.frame → x.kind ≡ y.kind → x ≡ y
@@ -57,7 +58,7 @@ pub record StopsIn (time : TimeCode) (bytes : List ℕ) (stop : Status) : Type 0
   pub behind : List Frame
   pub are : AreFramesOf caption_channel ((frames ++ last ∷ []) ++ behind) bytes
   pub good : AreExported time frames
-  pub stops : StopsAt time (length frames) last stop
+  pub stops : StopsAtFrame time (length frames) last stop
 
 not_all : (time : TimeCode) (bytes : List ℕ) (frames more : List Frame) (stop : Status) (has : StopsIn time bytes stop)
     → frames ≡ ((has.frames ++ has.last ∷ []) ++ has.behind) ++ more → AreExported time frames → ⊥
@@ -67,21 +68,21 @@ not_all time bytes frames more stop has is good =
 
 -- a run that stops at a frame stops at this one
 same_frame : (time : TimeCode) (bytes : List ℕ) (stop answer : Status) (has : StopsIn time bytes stop) (frames : List Frame) (last : Frame) (rest : List Frame)
-    → AreExported time frames → StopsAt time (length frames) last answer
+    → AreExported time frames → StopsAtFrame time (length frames) last answer
     → TwoFronts frames (last ∷ rest) has.frames has.last → answer ≡ stop
 same_frame time bytes stop answer has frames last rest good stops (behind_it more is) =
     absurd (not_exported time has.frames more has.last stop has.stops (subst (AreExported time) is good))
 same_frame time bytes stop answer has frames last rest good stops (same is more rest_is) =
     let frame : last ≡ has.last = cc in
     stop_once time (length has.frames) has.last answer stop
-    (subst (λ f. StopsAt time (length has.frames) f answer) frame (subst (λ fs. StopsAt time (length fs) last answer) is stops)) has.stops
+    (subst (λ f. StopsAtFrame time (length has.frames) f answer) frame (subst (λ fs. StopsAtFrame time (length fs) last answer) is stops)) has.stops
 same_frame time bytes stop answer has frames last rest good stops (before_it next more left is rest_is) =
     let frame : last ≡ next = cc in
     absurd (not_exported time frames more last answer stops
     (subst (λ f. AreExported time ((frames ++ f ∷ []) ++ more)) (sym frame) (subst (AreExported time) is has.good)))
 
 stops_same : (time : TimeCode) (bytes : List ℕ) (stop answer : Status) → StopsIn time bytes stop → (frames : List Frame) (last : Frame) (judged more : List ℕ)
-    → bytes ≡ judged ++ more → AreFramesOf caption_channel (frames ++ last ∷ []) judged → AreExported time frames → StopsAt time (length frames) last answer
+    → bytes ≡ judged ++ more → AreFramesOf caption_channel (frames ++ last ∷ []) judged → AreExported time frames → StopsAtFrame time (length frames) last answer
     → answer ≡ stop
 stops_same time bytes stop answer has frames last judged more is are good stops =
     let (behind, grown) = frames_grow caption_channel (frames ++ last ∷ []) ((has.frames ++ has.last ∷ []) ++ has.behind) judged more are
@@ -107,7 +108,7 @@ never_whole time bytes stop answer old new has read stops =
     not_all time bytes said.frames [] stop has (same ∙ sym (append-nil all)) said.fit
 
 stop_early : (time : TimeCode) (bytes : List ℕ) (stop answer : Status) (old new : Ends) → StopsIn time bytes stop → length bytes ≤ words_limit → IsReadOf bytes old new
-    → StopsEarly time old new answer → answer ≡ stop
+    → StopsEarlyAs (IsExportOf time export_front) (ExportHalts time) old new answer → answer ≡ stop
 stop_early time bytes stop status.ReadFault old new has within read stops = absurd (read.reads stops.0)
 stop_early time bytes stop status.WriteFault old new has within read stops = absurd (read.writes stops.1)
 stop_early time bytes stop (status.Limit limit.Bytes) old new has within read stops = absurd (within_passes _ bytes _ old new within read stops.1)

@@ -1,5 +1,6 @@
 -- The text of frames that are exported, frame by frame.
-use Rattle.std.proofs.Common.{◌≡◌, ◌∙◌, ◌+◌, ◌≤◌, ◌++◌, ap, append_assoc, append-nil, arith, refl, subst, suc, sym, ℕ, Bool, List, [], ◌∷◌, length, Option, Some, None, false, true}
+use Rattle.std.proofs.Common.{◌≡◌, ◌∙◌, ◌+◌, ◌≤◌, ◌++◌, ap, append_assoc, append-nil, arith, refl, subst, suc, sym, ℕ, Bool, List, [], ◌∷◌, length, map, Option, Some, None, false, true}
+use Rattle.std.specs.List.{AllByRecursion}
 use Rattle.std.specs.Prelude.{◌==◌, ◌&&◌, if◌then◌else◌, min, slice_get}
 use Rattle.std.proofs.lemmas.List.{length-append}
 use Rattle.cc_data.specs.declared.triplet.Triplet.{Triplet}
@@ -9,7 +10,7 @@ use Rattle.std.proofs.KnownBytes.{Appends-trans}
 use Rattle.cc_base.proofs.Puts.{puts_stop}
 use Rattle.cc_base.specs.Streams.{Puts}
 use Rattle.cc_base.specs.declared.streams.Put.TheVariants as put
-use Rattle.cdp_packets.specs.Packets.{Packet as Frame}
+use Rattle.cdp_packets.specs.Packets.{Frame}
 use Rattle.text_output.specs.Gathered.{Gathers, IsGathered}
 use Rattle.line21_codes.specs.declared.channels.FieldNumber.TheVariants.{One}
 use Rattle.line21_codes.specs.declared.pairs.Pair.{Pair}
@@ -20,8 +21,19 @@ use Rattle.scc_files.specs.declared.writer.SccWriter.{SccWriter}
 use Rattle.scc_files.specs.Written.{text_from}
 use Rattle.time_codes.specs.declared.time_code.TimeCode.{TimeCode}
 use Rattle.words_reading.proofs.WayLemmas.{way_unwritten}
-use Rattle.scc_commands.specs.Import.{Placed}
-use Rattle.scc_commands.specs.Export.{AreExported, AreWithinDay, HasNoFinding, HaveNoFinding, at_number, export_file, export_front, exported, exported_from, first_standing, pairs_of, pieces, stand_after}
+use Rattle.scc_commands.specs.Import.{PlacedPairs}
+use Rattle.scc_commands.specs.Export.{AreExported, HasNoFinding, export_file, export_front, exported, exported_from, first_standing, pairs_of, pieces, stand_after}
+
+-- pairs at one frame
+abbrev pub at_number : ℕ → List Pair → PlacedPairs
+at_number number pairs = map (λ pair. (number, pair)) pairs
+
+-- what holds of frames that are exported
+abbrev pub HaveNoFinding : List Frame → Type 0
+HaveNoFinding frames = AllByRecursion HasNoFinding frames
+
+abbrev pub AreWithinDay : TimeCode → PlacedPairs → Type 0
+AreWithinDay time pairs = AllByRecursion (λ (placed : ℕ × Pair). is_past_day (first_standing time) placed.0 placed.1 ≡ false) pairs
 
 -- the pairs of frames and of one more
 one_frame_more : (number : ℕ) (frames : List Frame) (last : Frame)
@@ -43,18 +55,18 @@ one_more : (frames : List Frame) (last : Frame) → exported (frames ++ last ∷
 one_more frames last = one_frame_more 0 frames last ∙ ap (λ n. exported_from 0 frames ++ at_number n (pairs_of last)) (plus_none (length frames))
 
 -- what is written of pairs and of more
-pieces_more : (pairs more : Placed) (w : Standing) → pieces w (pairs ++ more) ≡ pieces w pairs ++ pieces (stand_after w pairs) more
+pieces_more : (pairs more : PlacedPairs) (w : Standing) → pieces w (pairs ++ more) ≡ pieces w pairs ++ pieces (stand_after w pairs) more
 pieces_more [] more w = refl
 pieces_more (placed ∷ pairs) more w =
     ap (λ l. piece_of w placed.0 placed.1 ++ l) (pieces_more pairs more (stand_behind w placed.0 placed.1))
     ∙ sym (append_assoc (piece_of w placed.0 placed.1) (pieces (stand_behind w placed.0 placed.1) pairs)
     (pieces (stand_after (stand_behind w placed.0 placed.1) pairs) more))
 
-stand_more : (pairs more : Placed) (w : Standing) → stand_after w (pairs ++ more) ≡ stand_after (stand_after w pairs) more
+stand_more : (pairs more : PlacedPairs) (w : Standing) → stand_after w (pairs ++ more) ≡ stand_after (stand_after w pairs) more
 stand_more [] more w = refl
 stand_more (placed ∷ pairs) more w = stand_more pairs more (stand_behind w placed.0 placed.1)
 
-within_more : (time : TimeCode) (pairs more : Placed) → AreWithinDay time pairs → AreWithinDay time more → AreWithinDay time (pairs ++ more)
+within_more : (time : TimeCode) (pairs more : PlacedPairs) → AreWithinDay time pairs → AreWithinDay time more → AreWithinDay time (pairs ++ more)
 within_more time [] more within next = next
 within_more time (placed ∷ pairs) more (fits, within) next = (fits, within_more time pairs more within next)
 
@@ -101,7 +113,7 @@ day_behind : (w v : Standing) (frame : ℕ) (pair : Pair) (null : Bool) → is_n
 day_behind w v frame pair true is day = record { start = rw is day.start; drop_frame = rw is day.drop_frame }
 day_behind w v frame pair false is day = record { start = rw is day.start; drop_frame = rw is day.drop_frame }
 
-day_after : (pairs : Placed) (w v : Standing) → HasDay w v → HasDay (stand_after w pairs) v
+day_after : (pairs : PlacedPairs) (w v : Standing) → HasDay w v → HasDay (stand_after w pairs) v
 day_after [] w v day = day
 day_after (placed ∷ pairs) w v day =
     day_after pairs (stand_behind w placed.0 placed.1) v (day_behind w v placed.0 placed.1 (is_null placed.1) refl day)
@@ -110,7 +122,7 @@ same_past : (w v : Standing) (frame : ℕ) (pair : Pair) → HasDay w v → is_p
 same_past w v frame pair day = rw (day.start, day.drop_frame) refl
 
 -- so whether a pair stands past the day is asked of any writer of the file
-pub past_is : (time : TimeCode) (pairs : Placed) (frame : ℕ) (pair : Pair)
+pub past_is : (time : TimeCode) (pairs : PlacedPairs) (frame : ℕ) (pair : Pair)
     → is_past_day (stand_after (first_standing time) pairs) frame pair ≡ is_past_day (first_standing time) frame pair
 past_is time pairs frame pair =
     same_past (stand_after (first_standing time) pairs) (first_standing time) frame pair
@@ -131,7 +143,7 @@ gathered_failed a b c held piece all way failed =
     puts_stop a c all piece (way_unwritten a b c held all way failed)
 
 -- the front of a file and what ends it are the file
-text_is : (pairs : Placed) (w : Standing) → pieces w pairs ++ end_text (stand_after w pairs).behind ≡ text_from w pairs
+text_is : (pairs : PlacedPairs) (w : Standing) → pieces w pairs ++ end_text (stand_after w pairs).behind ≡ text_from w pairs
 text_is [] w = refl
 text_is (placed ∷ pairs) w =
     append_assoc (piece_of w placed.0 placed.1) (pieces (stand_behind w placed.0 placed.1) pairs) (end_text (stand_after (stand_behind w placed.0 placed.1) pairs).behind)

@@ -1,10 +1,10 @@
+-- Believed in part: the program's answer stands on some of these definitions.
 -- What `export` answers: the SCC file of the field 1 pairs that the frames of a words file carry, or why the run stopped, and with what
 -- text before.
-use Rattle.std.specs.Prelude.{◌≡◌, ◌≢◌, ◌<◌, ◌≤◌, ◌⊎◌, ℕ, suc, true, false, List, [], ◌∷◌, ◌++◌, length, None, ⊤}
-use Rattle.cc_base.specs.Streams.{Rose}
+use Rattle.std.specs.Prelude.{◌≡◌, ◌≢◌, ◌<◌, ◌≤◌, ℕ, suc, true, false, List, [], ◌∷◌, ◌++◌, length, map, None}
+use Rattle.std.specs.List.{AllByRecursion}
 use Rattle.cc_base.specs.declared.limit_of.LimitOf.TheVariants as limit
 use Rattle.cc_base.specs.declared.rate.Rate.TheVariants as rate
-use Rattle.cc_base.specs.declared.streams.Put.TheVariants as put
 use Rattle.line21_codes.specs.declared.channels.FieldNumber.TheVariants.{One}
 use Rattle.line21_codes.specs.declared.pairs.Pair.{Pair}
 use Rattle.findings.specs.declared.finding.Kind45.{Kind45}
@@ -13,34 +13,27 @@ use Rattle.time_codes.specs.Frames.{frame_number}
 use Rattle.time_codes.specs.declared.time_code.TimeCode.{TimeCode}
 use Rattle.scc_files.specs.Writing.{Standing, head_text, is_past_day, piece_of, stand_behind}
 use Rattle.scc_files.specs.Written.{written_file}
-use Rattle.cdp_packets.specs.Packets.{Packet as Frame}
+use Rattle.cdp_packets.specs.Packets.{Frame}
 use Rattle.cdp_packets.specs.PacketTriplets.{packet_triplets}
 use Rattle.words_files.specs.Received.{field_pairs}
-use Rattle.command_base.specs.Ends.{Ends, IsSteady}
+use Rattle.command_base.specs.Ends.{Ends}
 use Rattle.command_base.specs.declared.status.Status.{Status}
 use Rattle.command_base.specs.declared.status.Status.TheVariants as status
-use Rattle.words_reading.specs.Answers.{StopsEarlyAs}
-use Rattle.words_reading.specs.Causes.{IsWholeFile}
+use Rattle.words_reading.specs.Answers.{FileAnswer}
 use Rattle.words_reading.specs.FrameTexts.{FramesHalt, FramesSay}
-use Rattle.words_reading.specs.Reading.{Stops}
-use Rattle.scc_commands.specs.Import.{Placed}
+use Rattle.scc_commands.specs.Import.{PlacedPairs}
 
 -- the field 1 pairs of a frame: those of its triplets that count
 abbrev pub pairs_of : Frame → List Pair
 pairs_of frame = field_pairs One (packet_triplets frame)
 
--- pairs at one frame
-abbrev pub at_number : ℕ → List Pair → Placed
-at_number number [] = []
-at_number number (pair ∷ pairs) = (number, pair) ∷ at_number number pairs
-
 -- the field 1 pairs of frames, each at its frame, where the first has this number
-abbrev pub exported_from : ℕ → List Frame → Placed
+abbrev pub exported_from : ℕ → List Frame → PlacedPairs
 exported_from number [] = []
-exported_from number (frame ∷ frames) = at_number number (pairs_of frame) ++ exported_from (suc number) frames
+exported_from number (frame ∷ frames) = map (λ pair. (number, pair)) (pairs_of frame) ++ exported_from (suc number) frames
 
 -- the field 1 pairs of a file's frames
-abbrev pub exported : List Frame → Placed
+abbrev pub exported : List Frame → PlacedPairs
 exported frames = exported_from 0 frames
 
 -- the SCC file of frames, in its written form
@@ -52,11 +45,11 @@ abbrev pub first_standing : TimeCode → Standing
 first_standing time = record { start = frame_number time; drop_frame = time.drop_frame; behind = None }
 
 -- what is written of pairs one after another, and where that leads
-abbrev pub pieces : Standing → Placed → List ℕ
+abbrev pub pieces : Standing → PlacedPairs → List ℕ
 pieces w [] = []
 pieces w (placed ∷ pairs) = piece_of w placed.0 placed.1 ++ pieces (stand_behind w placed.0 placed.1) pairs
 
-abbrev pub stand_after : Standing → Placed → Standing
+abbrev pub stand_after : Standing → PlacedPairs → Standing
 stand_after w [] = w
 stand_after w (placed ∷ pairs) = stand_after (stand_behind w placed.0 placed.1) pairs
 
@@ -75,19 +68,10 @@ HasFinding frame (kind.WrongRate expected seen) = (expected ≡ rate.F2997) × (
 HasFinding frame (kind.TwoPairs seen) = (frame.rate ≡ rate.F2997) × (seen ≡ length (pairs_of frame)) × (1 < length (pairs_of frame))
 HasFinding frame _ = ⊥
 
-abbrev pub HaveNoFinding : List Frame → Type 0
-HaveNoFinding [] = ⊤
-HaveNoFinding (frame ∷ frames) = HasNoFinding frame × HaveNoFinding frames
-
--- no pair that isn't null stands at or past the end of the day of frame 0
-abbrev pub AreWithinDay : TimeCode → Placed → Type 0
-AreWithinDay time [] = ⊤
-AreWithinDay time (placed ∷ pairs) = (is_past_day (first_standing time) placed.0 placed.1 ≡ false) × AreWithinDay time pairs
-
--- frames that are exported
+-- frames that are exported: nothing is found at any, and no pair that isn't null stands at or past the end of the day of frame 0
 pub record AreExported (time : TimeCode) (frames : List Frame) : Type 0 where
-  pub no_finding : HaveNoFinding frames
-  pub within_day : AreWithinDay time (exported frames)
+  pub no_finding : AllByRecursion HasNoFinding frames
+  pub within_day : AllByRecursion (λ (placed : ℕ × Pair). is_past_day (first_standing time) placed.0 placed.1 ≡ false) (exported frames)
 
 -- nothing is found at the frame of this number, and its pair isn't null and stands at or past the end of the day
 pub record StandsPastDay (time : TimeCode) (number : ℕ) (frame : Frame) : Type 0 where
@@ -97,29 +81,19 @@ pub record StandsPastDay (time : TimeCode) (number : ℕ) (frame : Frame) : Type
   pub past : is_past_day (first_standing time) number pair ≡ true
 
 -- an export stops at the frame of this number with this status: something is found at it, or its pair stands past the day
-abbrev pub StopsAt : TimeCode → ℕ → Frame → Status → Type 0
-StopsAt time number frame (status.Differs finding) = (finding.frame ≡ number) × HasFinding frame finding.kind
-StopsAt time number frame (status.Limit limit.Day) = StandsPastDay time number frame
-StopsAt time number frame _ = ⊥
+abbrev pub StopsAtFrame : TimeCode → ℕ → Frame → Status → Type 0
+StopsAtFrame time number frame (status.Differs finding) = (finding.frame ≡ number) × HasFinding frame finding.kind
+StopsAtFrame time number frame (status.Limit limit.Day) = StandsPastDay time number frame
+StopsAtFrame time number frame _ = ⊥
 
 -- this is the text of the frames that bytes bring, which are exported
 abbrev pub IsExportOf : TimeCode → (TimeCode → List Frame → List ℕ) → List ℕ → List ℕ → Type 0
 IsExportOf time text_of = FramesSay (text_of time) (AreExported time)
 
 -- bytes, none of whose words offends, end with the first frame at which an export stops, and this is the text of the frames before
-abbrev pub HaltsWith : TimeCode → Status → List ℕ → List ℕ → Type 0
-HaltsWith time answer = FramesHalt (export_front time) (AreExported time) (λ frames last. StopsAt time (length frames) last answer)
-
--- how a run ends before the end of a words file
-abbrev pub StopsEarly : TimeCode → Ends → Ends → Status → Type 0
-StopsEarly time old new answer = StopsEarlyAs (IsExportOf time export_front) (HaltsWith time) old new answer
+abbrev pub ExportHalts : TimeCode → Status → List ℕ → List ℕ → Type 0
+ExportHalts time answer = FramesHalt (export_front time) (AreExported time) (λ frames last. StopsAtFrame time (length frames) last answer)
 
 -- what `export` answers, where frame 0 has this time code
 abbrev pub ExportAnswer : TimeCode → Ends → Ends → Status → Type 0
-ExportAnswer time old new status.Ok = IsSteady old new × Stops (IsExportOf time export_file) (IsWholeFile old.left) put.Done old new
-ExportAnswer time old new status.WriteFault =
-    StopsEarly time old new status.WriteFault
-    ⊎ ((new.read_faults ≡ old.read_faults) × Rose old.write_faults new.write_faults
-    × Stops (IsExportOf time export_file) (IsWholeFile old.left) put.Failed old new)
-ExportAnswer time old new status.Memory = new ≡ old
-ExportAnswer time old new answer = StopsEarly time old new answer
+ExportAnswer time old new answer = FileAnswer (IsExportOf time export_file) (IsExportOf time export_front) (ExportHalts time) old new answer

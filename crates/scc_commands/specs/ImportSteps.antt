@@ -1,3 +1,4 @@
+-- Between crates: the program's answer stands on none of these definitions.
 -- Steps of `import`.
 use Rattle.std.specs.Prelude.{◌≤◌, [], Some}
 use Rattle.scc_files.specs.Reading.{frames_of}
@@ -7,7 +8,7 @@ use Rattle.line21_codes.specs.declared.pairs.Pair.{Pair}
 use Rattle.line21_codes.specs.NullPairs.{null_pair}
 use Rattle.scc_files.specs.declared.fault.SccFault.{SccFault}
 use Rattle.scc_files.specs.declared.fault.SccFault.TheVariants as fault
-use Rattle.scc_commands.specs.Import.{Placed, most_import_frames}
+use Rattle.scc_commands.specs.Import.{PlacedPairs, most_import_frames}
 use Rattle.command_base.specs.declared.status.Place.TheVariants.{Byte}
 use Rattle.command_base.specs.declared.status.Status.{Status}
 use Rattle.command_base.specs.declared.status.Status.TheVariants as status
@@ -23,6 +24,6 @@ abbrev pub frame_with : Pair → FrameBytes
 frame_with pair = record { one = Some pair; two = Some null_pair; blocks = record { items = [] } }
 
 -- pairs at frames of the day in order
-pub record ArePlaced (pairs : Placed) : Type 0 where
+pub record ArePlaced (pairs : PlacedPairs) : Type 0 where
   pub rising : AreRising 0 pairs
   pub few : frames_of pairs ≤ most_import_frames

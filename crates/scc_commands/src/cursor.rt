@@ -2,10 +2,7 @@ ghost use Rattle.std.specs.Prelude.{◌≡◌};
 ghost use Rattle.scc_files.specs.SccFiles.{AreRising};
 ghost use Rattle.scc_commands.specs.Cursors.{Passes, pairs_left};
 
-use line21_codes::Pair;
-
-/// The pair that says nothing.
-pub const NULL: Pair = Pair { a: 0x80, b: 0x80 };
+use line21_codes::{NULL_PAIR, Pair};
 
 /// The pairs of an SCC file on their way, frame by frame.
 #[derive(Clone, Copy)]
@@ -33,10 +30,10 @@ impl<'a> Cursor<'a> {
                     self.left = rest;
                     placed.1
                 } else {
-                    NULL
+                    NULL_PAIR
                 }
             }
-            None => NULL,
+            None => NULL_PAIR,
         }
     }
 }

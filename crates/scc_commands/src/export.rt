@@ -26,7 +26,8 @@ pub fn run_export<M: Source, O: Sink>(
     requires { is_time_code time ≡ true }
     ensures { ExportAnswer time
         (ends (M.left input.old) (M.faults input.old) (O.written out.old) (O.faults out.old))
-        (ends (M.left input.new) (M.faults input.new) (O.written out.new) (O.faults out.new)) result }
+        (ends (M.left input.new) (M.faults input.new) (O.written out.new)
+        (O.faults out.new)) result }
 {
     let writer = SccWriter::new(time);
     let Ok(mut frames) = Frames::new(alloc, Exporting { writer }) else {

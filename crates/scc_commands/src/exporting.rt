@@ -1,7 +1,7 @@
 ghost use Rattle.std.specs.Prelude.{List, length};
-ghost use Rattle.cdp_packets.specs.Packets.{Packet as Frame};
+ghost use Rattle.cdp_packets.specs.Packets.{Frame};
 ghost use Rattle.time_codes.specs.declared.time_code.TimeCode.{TimeCode as Time};
-ghost use Rattle.scc_commands.specs.Export.{AreExported, StopsAt, export_front};
+ghost use Rattle.scc_commands.specs.Export.{AreExported, StopsAtFrame, export_front};
 ghost use Rattle.scc_commands.specs.Exporting.{StandsBehind, reason_status};
 
 use crate::finding::find;
@@ -51,7 +51,7 @@ impl PerFrame for Exporting {
 
     ghost Stands = { λ time frames export. StandsBehind time frames export };
 
-    ghost IsReason = { λ time frames last reason. StopsAt time (length frames) last (reason_status reason) };
+    ghost IsReason = { λ time frames last reason. StopsAtFrame time (length frames) last (reason_status reason) };
 
     /// Writes the pair of the frame: tries its findings first, and then the day.
     fn frame<O: Sink>(

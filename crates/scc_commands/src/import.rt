@@ -6,13 +6,13 @@ ghost use Rattle.scc_files.specs.Reading.{frames_of};
 ghost use Rattle.scc_commands.specs.Import.{ImportAnswer, IsImport, IsRefusedImport, ReadsImport, import_words, most_import_frames};
 ghost use Rattle.scc_commands.specs.ImportSteps.{ArePlaced, fault_status, frame_with};
 
-use crate::cursor::{Cursor, NULL};
+use crate::cursor::Cursor;
 use arrayvec::ArrayVec;
 use cc_base::{Put, Rate, Sink, Source};
 use command_base::{Place, Status, read_input};
 use frame_carrier::Carrier;
 use frame_scheduler::FrameBytes;
-use line21_codes::Pair;
+use line21_codes::{NULL_PAIR, Pair};
 use scc_files::{SccFault, SccPairs, read_scc};
 use std::alloc::Global;
 use text_output::Gathered;
@@ -26,7 +26,8 @@ use text_output::Gathered;
 pub fn run_import<M: Source, O: Sink>(alloc: Global, input: &mut M, out: &mut O) -> Status
     ensures { ImportAnswer
         (ends (M.left input.old) (M.faults input.old) (O.written out.old) (O.faults out.old))
-        (ends (M.left input.new) (M.faults input.new) (O.written out.new) (O.faults out.new)) result }
+        (ends (M.left input.new) (M.faults input.new) (O.written out.new)
+        (O.faults out.new)) result }
 {
     match read_pairs(alloc, input) {
         Ok(pairs) => match put_words(pairs, out) {
@@ -39,7 +40,8 @@ pub fn run_import<M: Source, O: Sink>(alloc: Global, input: &mut M, out: &mut O)
 
 /// Reads an SCC file to its end and judges it. Gives its pairs, or the status with which it is refused.
 fn read_pairs<M: Source>(alloc: Global, input: &mut M) -> Result<SccPairs, Status>
-    ensures reads { ReadsImport (M.left input.old) (M.left input.new) (M.faults input.old) (M.faults input.new) result }
+    ensures reads { ReadsImport (M.left input.old) (M.left input.new) (M.faults input.old)
+        (M.faults input.new) result }
     ensures placed { IfOk result ArePlaced }
 {
     let bytes = read_input(alloc, input)?;
@@ -85,7 +87,7 @@ fn frame_with(pair: Pair) -> FrameBytes
 {
     FrameBytes {
         one: Some(pair),
-        two: Some(NULL),
+        two: Some(NULL_PAIR),
         blocks: ArrayVec::new(),
     }
 }

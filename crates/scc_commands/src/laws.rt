@@ -1,6 +1,6 @@
 //! Laws of what the commands of SCC files put: functions that do nothing, with the laws as their contracts.
 ghost use Rattle.std.specs.Prelude.{◌≡◌, ◌++◌, List, ℕ};
-ghost use Rattle.cdp_packets.specs.Packets.{Packet as Frame};
+ghost use Rattle.cdp_packets.specs.Packets.{Frame};
 ghost use Rattle.scc_files.specs.SccFiles.{AreBytes, AreRising, IsSccFile};
 ghost use Rattle.scc_files.specs.Writing.{end_text};
 ghost use Rattle.scc_files.specs.Written.{counted, pairs_not_null, written_file};
@@ -8,25 +8,29 @@ ghost use Rattle.time_codes.specs.Frames.{frame_number};
 ghost use Rattle.time_codes.specs.declared.time_code.TimeCode.{TimeCode as Time};
 ghost use Rattle.words_files.specs.Frames.{IsFileOf};
 ghost use Rattle.scc_commands.specs.Export.{AreExported, export_file, export_front, exported, first_standing, stand_after};
-ghost use Rattle.scc_commands.specs.Import.{Placed, import_packets};
+ghost use Rattle.scc_commands.specs.Import.{PlacedPairs, import_packets};
 
 /// The law that the front of a file which `export` puts is the file without what ends it: the two line ends behind its last stretch,
 /// where it has one.
 pub fn front_and_end_are_the_file()
     ensures { (time : Time) (frames : List Frame)
-        → export_front time frames ++ end_text (stand_after (first_standing time) (exported frames)).behind ≡ export_file time frames }
+        → export_front time frames
+        ++ end_text (stand_after (first_standing time) (exported frames)).behind
+        ≡ export_file time frames }
 {}
 
 /// The law that what is imported is exported again: the words of an SCC file's pairs are exported as the written form of these pairs. So a
 /// file in written form, imported and exported with the time code of its first line, is given back byte for byte.
 pub fn import_is_exported_again()
-    ensures { (time : Time) (pairs : Placed) → AreRising 0 pairs → AreBytes pairs
-        → export_file time (import_packets pairs) ≡ written_file (frame_number time) time.drop_frame pairs }
+    ensures { (time : Time) (pairs : PlacedPairs) → AreRising 0 pairs → AreBytes pairs
+        → export_file time (import_packets pairs)
+        ≡ written_file (frame_number time) time.drop_frame pairs }
 {}
 
 /// The law that what is exported is an SCC file of just the pairs that were exported and aren't null, each at its frame less that of the
 /// first of them.
 pub fn exported_words_are_an_scc_file()
-    ensures { (time : Time) (frames : List Frame) (bytes : List ℕ) → IsFileOf frames bytes → AreExported time frames
+    ensures { (time : Time) (frames : List Frame) (bytes : List ℕ) → IsFileOf frames bytes
+        → AreExported time frames
         → IsSccFile (counted (pairs_not_null (exported frames))) (export_file time frames) }
 {}

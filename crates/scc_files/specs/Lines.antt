@@ -1,3 +1,4 @@
+-- Believed: the program's answer stands on these definitions.
 -- The lines of SCC files, by cases on what a line says, and which bytes are an SCC file in form: its first line, and then lines that are
 -- blank or have a time code and words. Every line but the first stands behind the line end of the line before it, so the last line's
 -- end is one more blank line.

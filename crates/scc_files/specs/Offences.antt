@@ -1,3 +1,4 @@
+-- Believed in part: the program's answer stands on some of these definitions.
 -- Where bytes first offend that are no SCC file. A byte offends where no file goes on with it; a time code's text is one unit, which is
 -- judged when it is whole and before the byte after it. So nothing offends in bytes with which some file begins, nor in those that end
 -- within a time code's text behind a line's end, where some file begins with the bytes before that text, and some file in form with all of

@@ -1,3 +1,4 @@
+-- Believed in part: the program's answer stands on some of these definitions.
 -- SCC files read byte by byte: the pairs at their frames, or the first offence.
 use Rattle.std.specs.Prelude.{◌≡◌, ℕ, ◌+◌, ◌-◌, ◌<◌, Bool, true, false, if◌then◌else◌, nat_lt, max, List, [], ◌∷◌, Option, Some, None, Result, Ok, Err, unwrap_or, is_some, ⊤, ◌≤◌}
 use Rattle.std.specs.Option.{option_and_then}

@@ -1,3 +1,4 @@
+-- Believed in part: the program's answer stands on some of these definitions.
 -- Which bytes are an SCC file of which pairs at which frames.
 use Rattle.std.specs.Prelude.{◌≡◌, ℕ, ◌+◌, ◌-◌, ◌<◌, ◌≤◌, max, List, [], ◌∷◌, ◌++◌, length, Option, Some, None, unwrap_or, Ok, ⊤}
 use Rattle.line21_codes.specs.declared.pairs.Pair.{Pair}

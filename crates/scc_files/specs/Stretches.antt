@@ -1,3 +1,4 @@
+-- Between crates: the program's answer stands on none of these definitions.
 -- The written form of pairs in its own words: each longest stretch of consecutive frames with a pair that isn't null is one line.
 use Rattle.std.specs.Prelude.{◌≡◌, ℕ, ◌+◌, ◌<◌, Bool, List, [], ◌∷◌, ◌++◌, length, None, ⊤}
 use Rattle.line21_codes.specs.declared.pairs.Pair.{Pair}

@@ -1,3 +1,4 @@
+-- Believed: the program's answer stands on these definitions.
 -- The words of pairs as they are written.
 use Rattle.std.specs.Prelude.{ℕ, ◌/◌, ◌%◌, List, [], ◌∷◌}
 use Rattle.hex_digits.specs.HexDigits.{lower_hex_digit}

@@ -1,3 +1,4 @@
+-- Believed in part: the program's answer stands on some of these definitions.
 -- How pairs are written as an SCC file, call by call.
 use Rattle.std.specs.Prelude.{◌≡◌, ℕ, ◌+◌, ◌==◌, ◌&&◌, Bool, true, false, not, if◌then◌else◌, nat_le, List, [], ◌∷◌, ◌++◌, codes, Option, Some, None, Result, Ok, Err}
 use Rattle.cc_base.specs.Streams.{PutCause, Puts}
@@ -38,16 +39,16 @@ between None = []
 between (Some behind) = 10 ∷ 10 ∷ []
 
 -- a pair on the frame behind the last one goes on with its stretch
-abbrev pub goes_on : Option ℕ → ℕ → Bool
-goes_on None frame = false
-goes_on (Some behind) frame = behind == frame
+abbrev pub goes_on_with_stretch : Option ℕ → ℕ → Bool
+goes_on_with_stretch None frame = false
+goes_on_with_stretch (Some behind) frame = behind == frame
 
 -- what is put of a pair: nothing of a null pair; a space and the word where its stretch goes on; else the end of the stretch before,
 -- the time code, a TAB and the word
 abbrev pub piece_of : Standing → ℕ → Pair → List ℕ
 piece_of w frame pair =
     if is_null pair then []
-    else if goes_on w.behind frame then 32 ∷ pair_word pair
+    else if goes_on_with_stretch w.behind frame then 32 ∷ pair_word pair
     else between w.behind ++ (text_of (time_at (w.start + frame) w.drop_frame) ++ (9 ∷ pair_word pair))
 
 -- where a writer stands behind a pair

@@ -47,7 +47,9 @@ fn frame_of_text(text: &[u8]) -> Option<u32>
 impl Position {
     /// Begins a line with this text of a time code.
     fn begin_line(&mut self, text: &[u8]) -> Result<(), Offence>
-        ensures begins { MatchResult result (λ _. timed self.old (frame_of_text text.now) ≡ Ok self.new) (λ offence. timed self.old (frame_of_text text.now) ≡ Err offence) }
+        ensures begins { MatchResult result
+            (λ _. timed self.old (frame_of_text text.now) ≡ Ok self.new)
+            (λ offence. timed self.old (frame_of_text text.now) ≡ Err offence) }
         ensures next { IfOk result (λ _. self.new.next ≤ max 2592000 self.old.next) }
         ensures back { IfErr result (λ offence. offence.back ≤ 10) }
     {
@@ -91,10 +93,13 @@ impl Reader {
     pub fn step(&mut self, byte: u8) -> Result<Option<(u32, Pair)>, Offence>
         requires within { HasNumbersInRange self.old.phase }
         requires room { self.old.position.next < 2 ^ 32 - 1 }
-        ensures steps { MatchResult result (λ given. step true self.old byte ≡ Ok (self.new, given)) (λ offence. step true self.old byte ≡ Err offence) }
+        ensures steps { MatchResult result (λ given. step true self.old byte ≡ Ok (self.new, given))
+            (λ offence. step true self.old byte ≡ Err offence) }
         ensures within { IfOk result (λ _. HasNumbersInRange self.new.phase) }
-        ensures next { IfOk result (λ _. self.new.position.next ≤ max 2592000 (self.old.position.next + 1)) }
-        ensures last { IfOk result (λ given. IfSome given (λ placed. self.new.position.next ≡ placed.0 + 1)) }
+        ensures next { IfOk result
+            (λ _. self.new.position.next ≤ max 2592000 (self.old.position.next + 1)) }
+        ensures last { IfOk result
+            (λ given. IfSome given (λ placed. self.new.position.next ≡ placed.0 + 1)) }
         ensures back { IfErr result (λ offence. offence.back ≤ 10) }
     {
         let Some(phase) = self.phase.moved(byte) else {

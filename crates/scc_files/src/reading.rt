@@ -41,7 +41,8 @@ impl Gathered {
         requires room { self.old.reader.position.next < 2 ^ 32 - 1 }
         ensures gathers { GathersByte self.old self.new byte result }
         ensures within { IfOk result (λ _. HasNumbersInRange self.new.reader.phase) }
-        ensures next { IfOk result (λ _. self.new.reader.position.next ≤ max 2592000 (self.old.reader.position.next + 1)) }
+        ensures next { IfOk result
+            (λ _. self.new.reader.position.next ≤ max 2592000 (self.old.reader.position.next + 1)) }
     {
         match self.reader.step(byte) {
             Ok(None) => Ok(()),

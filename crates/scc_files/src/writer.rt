@@ -58,7 +58,8 @@ impl SccWriter {
     /// Begins a file whose frame 0 has this time code, which a frame of the day must have: puts the first line and an empty one.
     pub fn begin<O: Sink>(start: TimeCode, out: &mut O) -> Result<SccWriter, SccPut>
         requires { is_time_code start ≡ true }
-        ensures { BeginsWriting start (O.written out.old) (O.written out.new) (O.faults out.old) (O.faults out.new) result }
+        ensures { BeginsWriting start (O.written out.old) (O.written out.new) (O.faults out.old)
+            (O.faults out.new) result }
     {
         let writer = SccWriter::new(start);
         match out.put(HEAD) {
@@ -93,7 +94,8 @@ impl SccWriter {
     /// What is put of the pair of a frame above those before: nothing of a null pair (80 80), which so ends a stretch; None exactly
     /// where the pair isn't null and its frame stands at or past the end of the start's day.
     pub fn piece(&mut self, frame: u32, pair: Pair) -> Option<ArrayVec<u8, PIECE>>
-        ensures { GivesPiece (standing_of self.old) (standing_of self.new) frame pair (option_map (λ piece. piece.items) result) }
+        ensures { GivesPiece (standing_of self.old) (standing_of self.new) frame pair
+            (option_map (λ piece. piece.items) result) }
     {
         if pair.a == 0x80 && pair.b == 0x80 {
             return Some(ArrayVec::new());
@@ -116,7 +118,8 @@ impl SccWriter {
     /// Day comes exactly where the pair isn't null and its frame stands at or past the end of the start's day, and puts nothing; Fault
     /// only where the sink's count of faults rose, with a front of the piece put.
     pub fn pair<O: Sink>(&mut self, frame: u32, pair: Pair, out: &mut O) -> Result<(), SccPut>
-        ensures { WritesPair (standing_of self.old) (standing_of self.new) frame pair (O.written out.old) (O.written out.new) (O.faults out.old) (O.faults out.new) result }
+        ensures { WritesPair (standing_of self.old) (standing_of self.new) frame pair
+            (O.written out.old) (O.written out.new) (O.faults out.old) (O.faults out.new) result }
     {
         match self.piece(frame, pair) {
             Some(piece) => match out.put(&piece) {
@@ -139,7 +142,8 @@ impl SccWriter {
 
     /// Ends the file: puts the two line ends behind the last stretch, if there is one.
     pub fn finish<O: Sink>(&mut self, out: &mut O) -> Result<(), SccPut>
-        ensures { FinishesWriting (standing_of self.old) (O.written out.old) (O.written out.new) (O.faults out.old) (O.faults out.new) result }
+        ensures { FinishesWriting (standing_of self.old) (O.written out.old) (O.written out.new)
+            (O.faults out.old) (O.faults out.new) result }
     {
         match out.put(self.ending()) {
             Put::Done => Ok(()),

@@ -22,8 +22,12 @@ pub(crate) fn shows_other(
 ) -> bool
     requires timed { AreCuesTimed 0 (cues_on (cursor_channel cursor.now) cues.now) }
     requires stands { StandsAtFrame cues.now frame cursor.now }
-    ensures other { result ≡ true → HasOther (displayed_grid receiver.now (cursor_channel cursor.now)) (authored_grid (cursor_channel cursor.now) cues.now frame) }
-    ensures same { result ≡ false → HasOther (displayed_grid receiver.now (cursor_channel cursor.now)) (authored_grid (cursor_channel cursor.now) cues.now frame) → ⊥ }
+    ensures other { result ≡ true
+        → HasOther (displayed_grid receiver.now (cursor_channel cursor.now))
+        (authored_grid (cursor_channel cursor.now) cues.now frame) }
+    ensures same { result ≡ false
+        → HasOther (displayed_grid receiver.now (cursor_channel cursor.now))
+        (authored_grid (cursor_channel cursor.now) cues.now frame) → ⊥ }
 {
     for row in 1..16u8 {
         let line = cursor.line(cues, frame, row);
@@ -44,8 +48,11 @@ fn row_shows_other(
 ) -> bool
     requires from { 1 ≤ row }
     requires to { row ≤ 15 }
-    ensures other { result ≡ true → (column : ℕ) × (column < 32) × (displayed_grid receiver.now channel row column ≢ line_cell cues.now line column) }
-    ensures same { result ≡ false → (column : ℕ) → column < 32 → displayed_grid receiver.now channel row column ≡ line_cell cues.now line column }
+    ensures other { result ≡ true
+        → (column : ℕ) × (column < 32)
+        × (displayed_grid receiver.now channel row column ≢ line_cell cues.now line column) }
+    ensures same { result ≡ false → (column : ℕ) → column < 32
+        → displayed_grid receiver.now channel row column ≡ line_cell cues.now line column }
 {
     for column in 0..32u8 {
         if receiver.cell(channel, row, column) != cell_at(cues, line, column) {

@@ -38,7 +38,8 @@ impl ChannelCheck {
     ) -> Result<ChannelCheck, AllocError>
         requires { AreCuesTimed 0 (cues_on channel cues.now) }
         ensures ready { IfOk result (IsReadyToCheck cues.now 0) }
-        ensures knows { IfOk result (λ check. (former : GridOf) → Knows channel cues.now 0 former check) }
+        ensures knows { IfOk result
+            (λ check. (former : GridOf) → Knows channel cues.now 0 former check) }
     {
         Ok(ChannelCheck {
             cursor: ChannelCursor::new(channel, cues),
@@ -58,15 +59,23 @@ impl ChannelCheck {
     ) -> bool
         requires { IsReadyToCheck cues.now frame self.now }
         ensures ready { IsReadyToCheck cues.now frame self.new }
-        ensures differs { (channel : Chan) (former : GridOf) → Knows channel cues.now frame former self.old
+        ensures differs { (channel : Chan) (former : GridOf)
+            → Knows channel cues.now frame former self.old
             → LeavesGrid is_idle former (displayed_grid receiver.now channel)
-            → result ≡ true → IsSettled channel cues.now frame × HasOther (displayed_grid receiver.now channel) (authored_grid channel cues.now frame) }
-        ensures agrees { (channel : Chan) (former : GridOf) → Knows channel cues.now frame former self.old
+            → result ≡ true → IsSettled channel cues.now frame
+            × HasOther (displayed_grid receiver.now channel)
+            (authored_grid channel cues.now frame) }
+        ensures agrees { (channel : Chan) (former : GridOf)
+            → Knows channel cues.now frame former self.old
             → LeavesGrid is_idle former (displayed_grid receiver.now channel)
-            → result ≡ false → IsSettled channel cues.now frame → HasOther (displayed_grid receiver.now channel) (authored_grid channel cues.now frame) → ⊥ }
-        ensures knows { (channel : Chan) (former : GridOf) → Knows channel cues.now frame former self.old
+            → result ≡ false → IsSettled channel cues.now frame
+            → HasOther (displayed_grid receiver.now channel) (authored_grid channel cues.now frame)
+            → ⊥ }
+        ensures knows { (channel : Chan) (former : GridOf)
+            → Knows channel cues.now frame former self.old
             → LeavesGrid is_idle former (displayed_grid receiver.now channel)
-            → result ≡ false → Knows channel cues.now frame (displayed_grid receiver.now channel) self.new }
+            → result ≡ false → Knows channel cues.now frame
+            (displayed_grid receiver.now channel) self.new }
     {
         let now = receiver.displayed(self.cursor.channel());
         if self.still_agrees(now, is_idle) {
@@ -96,7 +105,8 @@ impl ChannelCheck {
     pub(crate) fn advance(&mut self, cues: &[Cue], frame: u32)
         requires { (former : ℕ) × (frame ≡ former + 1) × IsReadyToCheck cues.now former self.now }
         ensures ready { IsReadyToCheck cues.now frame self.new }
-        ensures knows { (channel : Chan) (former : ℕ) (grid : GridOf) → frame ≡ former + 1 → Knows channel cues.now former grid self.old
+        ensures knows { (channel : Chan) (former : ℕ) (grid : GridOf) → frame ≡ former + 1
+            → Knows channel cues.now former grid self.old
             → Knows channel cues.now frame grid self.new }
     {
         if self.cursor.advance(cues, frame) {

@@ -23,7 +23,8 @@ impl ChannelChecks {
     pub fn new(alloc: Global, cues: &[Cue]) -> Result<ChannelChecks, AllocError>
         requires { AreTimedAll cues.now }
         ensures ready { IfOk result (AreReady cues.now 0) }
-        ensures knows { IfOk result (λ checks. (former : Chan → GridOf) → KnowAll cues.now 0 former checks) }
+        ensures knows { IfOk result
+            (λ checks. (former : Chan → GridOf) → KnowAll cues.now 0 former checks) }
     {
         Ok(ChannelChecks {
             cc1: ChannelCheck::new(alloc, Chan::Cc1, cues)?,
@@ -44,9 +45,11 @@ impl ChannelChecks {
     ) -> Option<Chan>
         requires { AreReady cues.now frame self.now }
         ensures ready { AreReady cues.now frame self.new }
-        ensures first { (former : Chan → GridOf) → KnowAll cues.now frame former self.old → LeaveGrids is_idle former (displayed_grid receiver.now)
+        ensures first { (former : Chan → GridOf) → KnowAll cues.now frame former self.old
+            → LeaveGrids is_idle former (displayed_grid receiver.now)
             → IsFirstOther cues.now frame (displayed_grid receiver.now) result }
-        ensures knows { (former : Chan → GridOf) → KnowAll cues.now frame former self.old → LeaveGrids is_idle former (displayed_grid receiver.now)
+        ensures knows { (former : Chan → GridOf) → KnowAll cues.now frame former self.old
+            → LeaveGrids is_idle former (displayed_grid receiver.now)
             → result ≡ None → KnowAll cues.now frame (displayed_grid receiver.now) self.new }
     {
         if self.cc1.differs(receiver, cues, frame, is_idle) {
@@ -68,7 +71,8 @@ impl ChannelChecks {
     pub fn advance(&mut self, cues: &[Cue], frame: u32)
         requires { (former : ℕ) × (frame ≡ former + 1) × AreReady cues.now former self.now }
         ensures ready { AreReady cues.now frame self.new }
-        ensures knows { (former : ℕ) (grids : Chan → GridOf) → frame ≡ former + 1 → KnowAll cues.now former grids self.old
+        ensures knows { (former : ℕ) (grids : Chan → GridOf) → frame ≡ former + 1
+            → KnowAll cues.now former grids self.old
             → KnowAll cues.now frame grids self.new }
     {
         self.cc1.advance(cues, frame);

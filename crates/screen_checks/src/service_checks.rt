@@ -2,7 +2,7 @@ ghost use Rattle.std.specs.Prelude.{◌≡◌, ◌≢◌, ◌<◌, ◌≤◌, �
 ghost use Rattle.authored_grids.specs.AuthoredServiceGrid.{authored_windows};
 ghost use Rattle.cc_receiver.specs.ReceivedServices.{received_windows};
 ghost use Rattle.cc_receiver.specs.Receivers.{HasReceived, frame_count};
-ghost use Rattle.cdp_packets.specs.Packets.{Packet as Frame};
+ghost use Rattle.cdp_packets.specs.Packets.{Frame};
 ghost use Rattle.cue_types.specs.Cues.{IsCueFormed};
 ghost use Rattle.dtvcc_services.specs.Numbers.{IsService};
 ghost use Rattle.window_places.specs.Cursors.{AreAt};
@@ -15,11 +15,8 @@ ghost use Rattle.screen_checks.specs.Differing.{AllSeenWindows, ShowsItsWindows,
 ghost use Rattle.screen_checks.specs.Services.{IsFirstOtherService, KnowServices, StandAt};
 
 use cc_receiver::Receiver;
-use cue_types::Cue;
+use cue_types::{Cue, LAST_SERVICE};
 use window_places::{WindowCursors, differs};
-
-/// The last service that a cue list can author.
-const LAST_AUTHORED: u8 = 6;
 
 /// The check of the 63 services of DTVCC, frame by frame: what their windows are to show, and whether all were last seen to show
 /// that (CTA-708-E).
@@ -51,12 +48,17 @@ impl ServiceChecks {
         requires formed { All IsCueFormed cues.now }
         requires at { StandAt cues.now frame self.now }
         ensures at { StandAt cues.now frame self.new }
-        ensures first { (bytes : List ℕ) (earlier : List Frame) (last : Frame) → HasReceived bytes receiver.now
-            → AreFramesOf caption_channel (earlier ++ last ∷ []) bytes → KnowServices cues.now frame (received_windows earlier) self.old
+        ensures first { (bytes : List ℕ) (earlier : List Frame) (last : Frame)
+            → HasReceived bytes receiver.now
+            → AreFramesOf caption_channel (earlier ++ last ∷ []) bytes
+            → KnowServices cues.now frame (received_windows earlier) self.old
             → IsFirstOtherService cues.now frame (received_windows (earlier ++ last ∷ [])) result }
-        ensures knows { (bytes : List ℕ) (earlier : List Frame) (last : Frame) → HasReceived bytes receiver.now
-            → AreFramesOf caption_channel (earlier ++ last ∷ []) bytes → KnowServices cues.now frame (received_windows earlier) self.old
-            → result ≡ None → KnowServices cues.now frame (received_windows (earlier ++ last ∷ [])) self.new }
+        ensures knows { (bytes : List ℕ) (earlier : List Frame) (last : Frame)
+            → HasReceived bytes receiver.now
+            → AreFramesOf caption_channel (earlier ++ last ∷ []) bytes
+            → KnowServices cues.now frame (received_windows earlier) self.old
+            → result ≡ None → KnowServices cues.now frame
+            (received_windows (earlier ++ last ∷ [])) self.new }
     {
         if self.still_agrees(receiver) {
             return None;
@@ -71,9 +73,12 @@ impl ServiceChecks {
     fn still_agrees(&self, receiver: &Receiver) -> bool
         requires { 0 < frame_count receiver.now }
         ensures agrees { result ≡ true → self.now.agrees ≡ true }
-        ensures same { (bytes : List ℕ) (earlier : List Frame) (last : Frame) → HasReceived bytes receiver.now
-            → AreFramesOf caption_channel (earlier ++ last ∷ []) bytes → result ≡ true → (service id : ℕ) → IsService service
-            → received_windows (earlier ++ last ∷ []) service id ≡ received_windows earlier service id }
+        ensures same { (bytes : List ℕ) (earlier : List Frame) (last : Frame)
+            → HasReceived bytes receiver.now
+            → AreFramesOf caption_channel (earlier ++ last ∷ []) bytes → result ≡ true
+            → (service id : ℕ) → IsService service
+            → received_windows (earlier ++ last ∷ []) service id
+            ≡ received_windows earlier service id }
     {
         self.agrees && !receiver.is_touched()
     }
@@ -84,8 +89,10 @@ impl ServiceChecks {
         requires formed { All IsCueFormed cues.now }
         requires at { (former : ℕ) × (frame ≡ former + 1) × StandAt cues.now former self.now }
         ensures at { StandAt cues.now frame self.new }
-        ensures knows { (former : ℕ) (windows : AllSeenWindows) → frame ≡ former + 1 → StandAt cues.now former self.old
-            → KnowServices cues.now former windows self.old → KnowServices cues.now frame windows self.new }
+        ensures knows { (former : ℕ) (windows : AllSeenWindows) → frame ≡ former + 1
+            → StandAt cues.now former self.old
+            → KnowServices cues.now former windows self.old
+            → KnowServices cues.now frame windows self.new }
     {
         if self.cursors.advance(cues, frame) {
             self.agrees = false;
@@ -98,7 +105,8 @@ fn first_other(receiver: &Receiver, cursors: &WindowCursors, cues: &[Cue], frame
     requires turn { AreAllInTurn cues.now }
     requires formed { All IsCueFormed cues.now }
     requires at { AreAt cues.now frame cursors.now }
-    ensures { (bytes : List ℕ) (frames : List Frame) → HasReceived bytes receiver.now → AreFramesOf caption_channel frames bytes
+    ensures { (bytes : List ℕ) (frames : List Frame) → HasReceived bytes receiver.now
+        → AreFramesOf caption_channel frames bytes
         → IsFirstOtherService cues.now frame (received_windows frames) result }
 {
     for service in 1..64u8 {
@@ -121,12 +129,14 @@ fn has_other_window(
     requires turn { AreAllInTurn cues.now }
     requires formed { All IsCueFormed cues.now }
     requires at { AreAt cues.now frame cursors.now }
-    ensures other { (bytes : List ℕ) (frames : List Frame) → HasReceived bytes receiver.now → AreFramesOf caption_channel frames bytes
+    ensures other { (bytes : List ℕ) (frames : List Frame) → HasReceived bytes receiver.now
+        → AreFramesOf caption_channel frames bytes
         → result ≡ true → ShowsOtherWindow cues.now frame (received_windows frames) service }
-    ensures same { (bytes : List ℕ) (frames : List Frame) → HasReceived bytes receiver.now → AreFramesOf caption_channel frames bytes
+    ensures same { (bytes : List ℕ) (frames : List Frame) → HasReceived bytes receiver.now
+        → AreFramesOf caption_channel frames bytes
         → result ≡ false → ShowsItsWindows cues.now frame (received_windows frames) service }
 {
-    if LAST_AUTHORED < service && !receiver.is_used(service) {
+    if LAST_SERVICE < service && !receiver.is_used(service) {
         return false;
     }
     for id in 0..8u8 {
@@ -154,7 +164,7 @@ fn cue_of<'a>(
     ensures authored { IsAuthoredBy cues.now frame service id result }
     ensures formed { IsFormedCue result }
 {
-    if service <= LAST_AUTHORED {
+    if service <= LAST_SERVICE {
         cursors.cue(cues, frame, service, id)
     } else {
         None

@@ -1,3 +1,4 @@
+-- Believed: the program's answer stands on these definitions.
 -- What service blocks say (CTA-708-E, section 6.2): bytes of services.
 use Rattle.std.specs.Prelude.{ℕ, ◌/◌, ◌%◌, ◌==◌, nat_lt, if◌then◌else◌, List, [], ◌∷◌, map, Option, Some, None}
 use Rattle.service_blocks.specs.declared.parts.BlockPart.{BlockPart}

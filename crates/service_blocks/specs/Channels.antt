@@ -1,3 +1,4 @@
+-- Believed in part: the program's answer stands on some of these definitions.
 -- The caption channel of a file (CTA-708-E, sections 5 and 6): triplets of cc_data, their channel packets, and the service blocks of
 -- each packet.
 use Rattle.std.specs.Prelude.{ℕ, if◌then◌else◌, List, [], ◌∷◌, ◌++◌, Option, Some, ⊤}

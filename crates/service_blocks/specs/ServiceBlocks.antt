@@ -1,3 +1,4 @@
+-- Believed: the program's answer stands on these definitions.
 -- Service blocks (CTA-708-E, section 6.2): the bytes of a caption channel packet behind its header, one block after another. A
 -- block begins with its header: a number in the top three bits, and in the low five how many bytes it has behind its header.
 -- Where the number is 7 and the size isn't 0, a second header byte comes between these.

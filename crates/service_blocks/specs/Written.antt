@@ -1,3 +1,4 @@
+-- Believed: the program's answer stands on these definitions.
 -- What is written of a service block (CTA-708-E, section 6.2): services 1 to 6 have their number in the header, and those from 7 on
 -- in a second header byte, whose top two bits are zero.
 use Rattle.std.specs.Prelude.{ℕ, ◌+◌, ◌*◌, nat_lt, if◌then◌else◌, List, ◌∷◌, length}

@@ -116,8 +116,10 @@ impl OpenBlock {
 
     // Judges a byte of the packet, behind which so many are left, and goes on behind it where it isn't refused.
     fn byte(&mut self, value: u8, left: u8) -> Step<BlockPart>
-        ensures says { (block : List ℕ) → self.old.next ≡ next_of block → result ≡ judge_byte block left value }
-        ensures next { (block : List ℕ) → self.old.next ≡ next_of block → IsTaken result → self.new.next ≡ next_of (block_after block value) }
+        ensures says { (block : List ℕ) → self.old.next ≡ next_of block
+            → result ≡ judge_byte block left value }
+        ensures next { (block : List ℕ) → self.old.next ≡ next_of block → IsTaken result
+            → self.new.next ≡ next_of (block_after block value) }
         ensures left { self.new.left ≡ self.old.left }
     {
         match self.next {

@@ -39,11 +39,15 @@ impl BlockReader {
     /// Reads the next part, and gives what it makes in place of handing it upward: what `feed` makes of it under a layer that takes
     /// it. A refusal is kept, and answered from then on with nothing read.
     pub fn step(&mut self, part: PacketPart) -> Step<BlockPart>
-        ensures says { (parts : List Part) → HasRead parts self.old → result ≡ judge_part (open_behind block_syntax parts) part }
-        ensures leads { (parts : List Part) → HasRead parts self.old → IsTaken result → HasRead (parts ++ part ∷ []) self.new }
-        ensures refused { (parts : List Part) (reason : Reason) → HasRead parts self.old → result ≡ Refuse reason
+        ensures says { (parts : List Part) → HasRead parts self.old
+            → result ≡ judge_part (open_behind block_syntax parts) part }
+        ensures leads { (parts : List Part) → HasRead parts self.old → IsTaken result
+            → HasRead (parts ++ part ∷ []) self.new }
+        ensures refused { (parts : List Part) (reason : Reason) → HasRead parts self.old
+            → result ≡ Refuse reason
             → kept_refusal self.new ≡ Some (record { place = place_by 1 parts; why = reason }) }
-        ensures kept { (refused : Refused) → kept_refusal self.old ≡ Some refused → (result ≡ Refuse refused.why) × (self.new ≡ self.old) }
+        ensures kept { (refused : Refused) → kept_refusal self.old ≡ Some refused
+            → (result ≡ Refuse refused.why) × (self.new ≡ self.old) }
         ensures told { step_why result ≡ why_of (kept_refusal self.new) }
     {
         self.fed.step(part)

@@ -7,7 +7,7 @@ use Rattle.std.proofs.lemmas.List.Concat.{flat_map-append}
 use Rattle.std.proofs.lemmas.List.Sums.{sum_by-cons}
 use Rattle.dtvcc_codes.specs.declared.commands.Command.{Command}
 use Rattle.dtvcc_codes.specs.declared.commands.Command.TheVariants.{Dlw, Dsw}
-use Rattle.dtvcc_codes.specs.Writing.{written}
+use Rattle.dtvcc_codes.specs.Writing.{bytes_of_command}
 use Rattle.dtvcc_author.specs.FrameEvents.{delay_commands, delay_end, delayed_at, event_bytes, is_hidden_at, is_shown_at, names, windows_byte, windows_command}
 use Rattle.dtvcc_author.specs.declared.caption.Caption.{Caption}
 use Rattle.placements.specs.FirstFit.{IsFirst}
@@ -61,28 +61,28 @@ pub reaches_all : (share : ℕ) (cs : List Caption) (us : List Chunk) (k : ℕ) 
 reaches_all share cs us k frames front end r = subst (λ l. IsEarliest (caption_lane share cs) l frames) (take_all k us end) r.earliest
 
 -- the events of a frame have at most eight bytes
-windows_few : (command : ℕ → Command) (test : Caption → Bool) (cs : List Caption) → ((windows : ℕ) → length (written (command windows)) ≡ 2)
-    → length (flat_map written (windows_command command test cs)) ≤ 2
+windows_few : (command : ℕ → Command) (test : Caption → Bool) (cs : List Caption) → ((windows : ℕ) → length (bytes_of_command (command windows)) ≡ 2)
+    → length (flat_map bytes_of_command (windows_command command test cs)) ≤ 2
 windows_few command test cs two = at (list_any test cs) refl
   where
-    at : (b : Bool) → list_any test cs ≡ b → length (flat_map written (windows_command command test cs)) ≤ 2
+    at : (b : Bool) → list_any test cs ≡ b → length (flat_map bytes_of_command (windows_command command test cs)) ≤ 2
     at true some =
         let size = two (windows_byte (names test cs)) in
-        let whole = length-append (written (command (windows_byte (names test cs)))) [] in
+        let whole = length-append (bytes_of_command (command (windows_byte (names test cs)))) [] in
         rw some (omega (arith, size, whole))
     at false none = rw none (omega arith)
 
-delays_few : (c : Option Caption) → length (flat_map written (delay_commands c)) ≤ 4
-unfolding written
+delays_few : (c : Option Caption) → length (flat_map bytes_of_command (delay_commands c)) ≤ 4
+unfolding bytes_of_command
 delays_few None = omega arith
 delays_few (Some c) = omega arith
 
-dlw_two : (windows : ℕ) → length (written (Dlw windows)) ≡ 2
-unfolding written
+dlw_two : (windows : ℕ) → length (bytes_of_command (Dlw windows)) ≡ 2
+unfolding bytes_of_command
 dlw_two windows = refl
 
-dsw_two : (windows : ℕ) → length (written (Dsw windows)) ≡ 2
-unfolding written
+dsw_two : (windows : ℕ) → length (bytes_of_command (Dsw windows)) ≡ 2
+unfolding bytes_of_command
 dsw_two windows = refl
 
 pub events_few : (frame : ℕ) (cs : List Caption) → length (event_bytes frame cs) ≤ 8
@@ -90,10 +90,10 @@ events_few frame cs =
     let hide_commands = windows_command Dlw (is_hidden_at frame) cs in
     let show_commands = windows_command Dsw (is_shown_at frame) cs in
     let delays = delay_commands (delayed_at frame cs) in
-    let all = ap length (flat_map-append written (hide_commands ++ show_commands) delays) in
-    let front = ap length (flat_map-append written hide_commands show_commands) in
-    let outer = length-append (flat_map written (hide_commands ++ show_commands)) (flat_map written delays) in
-    let inner = length-append (flat_map written hide_commands) (flat_map written show_commands) in
+    let all = ap length (flat_map-append bytes_of_command (hide_commands ++ show_commands) delays) in
+    let front = ap length (flat_map-append bytes_of_command hide_commands show_commands) in
+    let outer = length-append (flat_map bytes_of_command (hide_commands ++ show_commands)) (flat_map bytes_of_command delays) in
+    let inner = length-append (flat_map bytes_of_command hide_commands) (flat_map bytes_of_command show_commands) in
     let hides = windows_few Dlw (is_hidden_at frame) cs dlw_two in
     let shows = windows_few Dsw (is_shown_at frame) cs dsw_two in
     let delayed = delays_few (delayed_at frame cs) in

@@ -8,7 +8,7 @@ use Rattle.service_lanes.specs.Chunks.{Chunk}
 use Rattle.placements.specs.FirstFit.{EarliestIsFirstFit}
 use Rattle.placements.specs.OneMore.{FitsEarlier, OneMore}
 use Rattle.placements.specs.Placing.{IsPlaced, IsEarliest, NoLater}
-use Rattle.service_lanes.specs.ServiceLane.{AreUpTo, IsAllowed, IsWithinRoom, KeepsRoom, bytes_between, chunk_size, is_between, most_in_delay, service_lane, used}
+use Rattle.service_lanes.specs.ServiceLane.{AreUpTo, IsAllowedInService, IsWithinRoom, KeepsRoom, bytes_between, chunk_size, is_between, most_in_delay, service_lane, used}
 use Rattle.placements.proofs.FirstFitLemmas.{earliest_is_first_fit}
 use Rattle.placements.proofs.PlacingLemmas.{one_more}
 
@@ -85,7 +85,7 @@ between_parts from to f is = (grind (arith, nat_tests), grind (arith, nat_tests)
 
 -- one more unit where it is allowed keeps within the room
 within_push : (room : ℕ → ℕ) (ends : ℕ → Option ℕ) (before : List (Chunk × ℕ)) (u : Chunk) (f : ℕ) → IsWithinRoom room ends before
-    → IsAllowed room ends before u f → IsWithinRoom room ends (before ++ (u, f) ∷ [])
+    → IsAllowedInService room ends before u f → IsWithinRoom room ends (before ++ (u, f) ∷ [])
 within_push room ends before u f within a = record {
   frames = λ frame. rw (used_push frame (frame + 1) before u f) (in_frame frame (is_between frame (frame + 1) f) refl);
   delays = λ start end is. rw (used_push start end before u f) (in_delay start end is (is_between start end f) refl);

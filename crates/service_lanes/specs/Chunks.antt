@@ -1,3 +1,4 @@
+-- Believed: the program's answer stands on these definitions.
 -- A unit of a service, one command or one character, with what its cue asks of its place. Frames are counted from 0.
 use Rattle.std.specs.Prelude.{ℕ, List}
 

@@ -1,3 +1,4 @@
+-- Between crates: the program's answer stands on none of these definitions.
 -- The units of a service as they are kept: the units themselves, and once a cue what it asks of their places.
 use Rattle.std.specs.Prelude.{◌≡◌, ℕ, ◌≤◌, List, [], ◌∷◌, ◌++◌, drop, length, map, take}
 use Rattle.service_lanes.specs.Chunks.{Chunk}

@@ -1,3 +1,4 @@
+-- Believed in part: the program's answer stands on some of these definitions.
 -- The bytes that a service is sent in a frame: those of the frame's events, and behind them the units that stand in the frame.
 use Rattle.std.specs.Prelude.{◌≡◌, ℕ, ◌≤◌, ◌==◌, if◌then◌else◌, List, [], ◌∷◌, ◌++◌, drop, ⊤}
 use Rattle.std.specs.List.{flat_map, zip}

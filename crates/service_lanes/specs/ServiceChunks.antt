@@ -1,3 +1,4 @@
+-- Believed: the program's answer stands on these definitions.
 -- The units of a service: those of its window cues in file order, each with what its cue asks of its place (CTA-708-E, 7.1).
 use Rattle.std.specs.Prelude.{ℕ, suc, List, [], ◌∷◌, ◌++◌, Option, Some, None, map}
 use Rattle.cc_base.specs.declared.rate.Rate.{Rate}

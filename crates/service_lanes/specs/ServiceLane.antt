@@ -1,3 +1,4 @@
+-- Believed in part: the program's answer stands on some of these definitions.
 -- A service's lane: where a unit of a window cue may stand. Its frames have a room each, the bytes of its share that the
 -- frame's events leave; and what comes in a delay is held by the receiver, whose buffer takes at most 127 bytes and ends the
 -- delay at the 128th (CTA-708-E, service blocks and Delay).
@@ -32,7 +33,7 @@ AreUpTo frame placed = AllByRecursion (λ (each : Chunk × ℕ). each.1 ≤ fram
 
 -- the unit may stand in the frame behind those placed before it, where frames have this room, and a delay that starts in a
 -- frame ends in the frame that `ends` gives
-pub record IsAllowed (room : ℕ → ℕ) (ends : ℕ → Option ℕ) (before : List (Chunk × ℕ)) (chunk : Chunk) (frame : ℕ) : Type 0 where
+pub record IsAllowedInService (room : ℕ → ℕ) (ends : ℕ → Option ℕ) (before : List (Chunk × ℕ)) (chunk : Chunk) (frame : ℕ) : Type 0 where
   pub order : AreUpTo frame before
   pub loaded : chunk.load ≤ frame
   pub ended : frame < chunk.until
@@ -41,7 +42,7 @@ pub record IsAllowed (room : ℕ → ℕ) (ends : ℕ → Option ℕ) (before : 
 
 -- what the lane allows, for the placements of its units
 abbrev pub service_lane : (ℕ → ℕ) → (ℕ → Option ℕ) → List (Chunk × ℕ) → Chunk → ℕ → Type 0
-service_lane room ends before chunk frame = IsAllowed room ends before chunk frame
+service_lane room ends before chunk frame = IsAllowedInService room ends before chunk frame
 
 -- the placed units have at most the room of each frame, and at most 125 bytes in each delay
 pub record IsWithinRoom (room : ℕ → ℕ) (ends : ℕ → Option ℕ) (placed : List (Chunk × ℕ)) : Type 0 where

@@ -40,7 +40,8 @@ fn push_cue(
     requires counted { AreCounted loads.old.items units.old }
     ensures counted { OnOk result (AreCounted loads.new.items units.new) }
     ensures chunks { OnOk result (chunks_of loads.new.items units.new
-        ≡ chunks_of loads.old.items units.old ++ map (chunk_of number caption) (window_cue_units cue.now)) }
+        ≡ chunks_of loads.old.items units.old
+        ++ map (chunk_of number caption) (window_cue_units cue.now)) }
 {
     let before = units.len();
     push_units(units, cue)?;

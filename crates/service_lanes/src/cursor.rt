@@ -46,8 +46,11 @@ impl Cursor {
     ) -> ArrayVec<u8, 31>
         requires small { self.old.frame + 1 < 2 ^ 32 }
         requires ready { IsReadyForBytes captions.now chunks.now batches.now self.old }
-        requires within { length (bytes_in captions.now (zip chunks.now (batch_frames batches.now)) self.old.frame) ≤ 31 }
-        ensures bytes { result.items ≡ bytes_in captions.now (zip chunks.now (batch_frames batches.now)) self.old.frame }
+        requires within { length
+            (bytes_in captions.now (zip chunks.now (batch_frames batches.now)) self.old.frame)
+            ≤ 31 }
+        ensures bytes { result.items
+            ≡ bytes_in captions.now (zip chunks.now (batch_frames batches.now)) self.old.frame }
         ensures frame { self.new.frame ≡ self.old.frame + 1 }
         ensures ready { IsReadyForBytes captions.now chunks.now batches.now self.new }
     {
@@ -63,8 +66,11 @@ impl Cursor {
     fn load(&mut self, chunks: &ChunkList, batches: &[Batch], bytes: &mut ArrayVec<u8, 31>)
         requires small { self.old.frame + 1 < 2 ^ 32 }
         requires loading { IsLoading chunks.now batches.now self.old }
-        requires room { length bytes.old.items + length (loads_at (zip chunks.now (batch_frames batches.now)) self.old.frame) ≤ 31 }
-        ensures bytes { bytes.new.items ≡ bytes.old.items ++ loads_at (zip chunks.now (batch_frames batches.now)) self.old.frame }
+        requires room { length bytes.old.items + length
+            (loads_at (zip chunks.now (batch_frames batches.now)) self.old.frame) ≤ 31 }
+        ensures bytes { bytes.new.items
+            ≡ bytes.old.items ++ loads_at
+            (zip chunks.now (batch_frames batches.now)) self.old.frame }
         ensures frame { self.new.frame ≡ self.old.frame + 1 }
         ensures latest { self.new.latest ≡ self.old.latest }
         ensures loading { IsLoading chunks.now batches.now self.new }

@@ -53,13 +53,19 @@ impl Front {
         requires kept { (rate : Rate) × ((frames : ℕ) × AreKept rate frames captions.now) }
         requires least { 8 ≤ share }
         requires small { length unit.now ≤ 7 }
-        ensures some { IfSome result (λ frame. (before : List (Chunk × ℕ)) → IsFront share captions.now before self.old
-            → IsFirstBehind before self.old.frame → IsFirst (caption_lane share captions.now before (chunk_in cue.now unit.now)) frame) }
-        ensures front { IfSome result (λ frame. (before : List (Chunk × ℕ)) → IsFront share captions.now before self.old
-            → IsFront share captions.now (before ++ (chunk_in cue.now unit.now, frame) ∷ []) self.new) }
+        ensures some { IfSome result
+            (λ frame. (before : List (Chunk × ℕ)) → IsFront share captions.now before self.old
+            → IsFirstBehind before self.old.frame
+            → IsFirst (caption_lane share captions.now before (chunk_in cue.now unit.now)) frame) }
+        ensures front { IfSome result
+            (λ frame. (before : List (Chunk × ℕ)) → IsFront share captions.now before self.old
+            → IsFront share captions.now
+            (before ++ (chunk_in cue.now unit.now, frame) ∷ []) self.new) }
         ensures at { IfSome result (λ frame. self.new.frame ≡ frame) }
-        ensures none { IfNone result ((before : List (Chunk × ℕ)) → IsFront share captions.now before self.old
-            → IsFirstBehind before self.old.frame → (frame : ℕ) → caption_lane share captions.now before (chunk_in cue.now unit.now) frame → ⊥) }
+        ensures none { IfNone result
+            ((before : List (Chunk × ℕ)) → IsFront share captions.now before self.old
+            → IsFirstBehind before self.old.frame → (frame : ℕ)
+            → caption_lane share captions.now before (chunk_in cue.now unit.now) frame → ⊥) }
     {
         let until = cue.until;
         while self.frame < until {
@@ -82,7 +88,8 @@ impl Front {
         ensures room { IsLatestAt captions.now self.old.frame self.old.latest
             → self.new.room + length (event_bytes self.old.frame captions.now) ≡ share }
         ensures budget { IsLatestAt captions.now self.old.frame self.old.latest
-            → self.new.budget ≡ budget_in self.old.budget (delay_end captions.now self.old.frame) self.old.frame }
+            → self.new.budget ≡ budget_in self.old.budget
+            (delay_end captions.now self.old.frame) self.old.frame }
     {
         let events = self.latest.events(self.frame);
         self.room = share - events.bytes().len() as u8;
@@ -92,7 +99,8 @@ impl Front {
     // Takes the bytes of a unit that is loaded by the front's frame, where this and its delay have them; else the answer is false.
     fn admit(&mut self, cue: &CueLoad, unit: &[u8]) -> bool
         requires { length unit.now ≤ 7 }
-        ensures admits { result ≡ (nat_le cue.now.load self.old.frame && takes self.old (length unit.now)) }
+        ensures admits { result ≡ (nat_le cue.now.load self.old.frame
+            && takes self.old (length unit.now)) }
         ensures taken { OnTrue result (self.new ≡ behind_taking self.old (length unit.now)) }
         ensures kept { OnFalse result (self.new ≡ self.old) }
     {

@@ -13,8 +13,10 @@ ghost use Rattle.service_lanes.specs.ServiceLane.{KeepsRoom, service_lane};
 /// A service's units with one more, whatever room its frames have and whatever delays there are: there is a placement exactly
 /// where some frame is allowed for that unit behind the earliest placement of the others, which stays as it is.
 pub fn law_of_one_more_chunk()
-    ensures { (room : ℕ → ℕ) (ends : ℕ → Option ℕ) (chunks : List Chunk) (frames : List ℕ) (chunk : Chunk)
-        → IsEarliest (service_lane room ends) chunks frames → OneMore (service_lane room ends) chunks frames chunk }
+    ensures { (room : ℕ → ℕ) (ends : ℕ → Option ℕ) (chunks : List Chunk) (frames : List ℕ)
+        (chunk : Chunk)
+        → IsEarliest (service_lane room ends) chunks frames
+        → OneMore (service_lane room ends) chunks frames chunk }
 {}
 
 /// A service's earliest placement, if there is one, puts each unit in turn in the first frame that is allowed, and where each
@@ -31,5 +33,6 @@ pub fn law_of_rooms()
 
 /// The captions of each service of a cue list that keeps the rules do: each by itself, and with all before it.
 pub fn law_of_kept_captions()
-    ensures { (list : Listing) (service : ℕ) → IsFormed list → IsRuled list → AreKept list.rate list.frames (service_captions list.rate service list.cues) }
+    ensures { (list : Listing) (service : ℕ) → IsFormed list → IsRuled list
+        → AreKept list.rate list.frames (service_captions list.rate service list.cues) }
 {}

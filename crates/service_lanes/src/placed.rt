@@ -38,7 +38,8 @@ impl ServiceLane {
         requires least { 8 ≤ self.share }
         requires most { self.share ≤ 31 }
         requires order { AreInCueOrder chunk_cue self.chunks }
-        ensures planned { IfOk result (IsPlanOf self.service self.share self.captions.items self.chunks) }
+        ensures planned { IfOk result
+            (IsPlanOf self.service self.share self.captions.items self.chunks) }
         ensures fault { IfErr result (IsLaneFault self.share self.captions.items self.chunks) }
     {
         let batches = placed_batches(alloc, &self.chunks, &self.captions, self.share)?;
@@ -63,7 +64,9 @@ fn placed_batches(
     requires kept { (rate : Rate) × ((frames : ℕ) × AreKept rate frames captions.now) }
     requires least { 8 ≤ share }
     requires order { AreInCueOrder chunk_cue chunks.now }
-    ensures frames { IfOk result (λ batches. IsEarliest (caption_lane share captions.now) chunks.now (batch_frames batches.items)) }
+    ensures frames { IfOk result
+        (λ batches. IsEarliest (caption_lane share captions.now) chunks.now
+        (batch_frames batches.items)) }
     ensures batches { IfOk result (λ batches. AreBatches chunks.now 0 0 batches.items) }
     ensures fault { IfErr result (IsLaneFault share captions.now chunks.now) }
 {

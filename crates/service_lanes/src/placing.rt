@@ -59,12 +59,16 @@ impl Placing {
         requires least { 8 ≤ share }
         requires within { self.old.last.units + cue.count ≤ length units.now }
         requires bytes { self.old.last.bytes ≡ bytes_before self.old.last.units units.now }
-        ensures placed { (chunks : List Chunk) → AreOfCue cue units.now chunks self.old.last.units → IsPlacing share captions.now chunks self.old
+        ensures placed { (chunks : List Chunk) → AreOfCue cue units.now chunks self.old.last.units
+            → IsPlacing share captions.now chunks self.old
             → OnOk result (IsPlacing share captions.now chunks self.new) }
         ensures units { OnOk result (self.new.last.units ≡ self.old.last.units + cue.count) }
-        ensures bytes { OnOk result (self.new.last.bytes ≡ bytes_before self.new.last.units units.now) }
-        ensures fault { (chunks : List Chunk) → AreOfCue cue units.now chunks self.old.last.units → AreInCueOrder chunk_cue chunks
-            → IsPlacing share captions.now chunks self.old → IfErr result (IsLaneFault share captions.now chunks) }
+        ensures bytes { OnOk result
+            (self.new.last.bytes ≡ bytes_before self.new.last.units units.now) }
+        ensures fault { (chunks : List Chunk) → AreOfCue cue units.now chunks self.old.last.units
+            → AreInCueOrder chunk_cue chunks
+            → IsPlacing share captions.now chunks self.old
+            → IfErr result (IsLaneFault share captions.now chunks) }
     {
         let lengths = units.lengths();
         let end = self.last.units + cue.count;
@@ -89,14 +93,21 @@ impl Placing {
         requires least { 8 ≤ share }
         requires within { self.old.last.units < length units.now }
         requires bytes { self.old.last.bytes ≡ bytes_before self.old.last.units units.now }
-        ensures placed { (chunks : List Chunk) → IsOfCue cue.now units.now chunks self.old.last.units → IsPlacing share captions.now chunks self.old
+        ensures placed { (chunks : List Chunk)
+            → IsOfCue cue.now units.now chunks self.old.last.units
+            → IsPlacing share captions.now chunks self.old
             → OnOk result (IsPlacing share captions.now chunks self.new) }
-        ensures stands { (chunks : List Chunk) → IsOfCue cue.now units.now chunks self.old.last.units → IsPlacing share captions.now chunks self.old
+        ensures stands { (chunks : List Chunk)
+            → IsOfCue cue.now units.now chunks self.old.last.units
+            → IsPlacing share captions.now chunks self.old
             → OnOk result (MayStand cue.now self.new.front) }
         ensures units { OnOk result (self.new.last.units ≡ self.old.last.units + 1) }
-        ensures bytes { OnOk result (self.new.last.bytes ≡ bytes_before self.new.last.units units.now) }
-        ensures fault { (chunks : List Chunk) → IsOfCue cue.now units.now chunks self.old.last.units → AreInCueOrder chunk_cue chunks
-            → IsPlacing share captions.now chunks self.old → IfErr result (IsLaneFault share captions.now chunks) }
+        ensures bytes { OnOk result
+            (self.new.last.bytes ≡ bytes_before self.new.last.units units.now) }
+        ensures fault { (chunks : List Chunk) → IsOfCue cue.now units.now chunks self.old.last.units
+            → AreInCueOrder chunk_cue chunks
+            → IsPlacing share captions.now chunks self.old
+            → IfErr result (IsLaneFault share captions.now chunks) }
     {
         let unit = units.unit(self.last.units, self.last.bytes);
         let Some(frame) = self.front.place(cue, unit, captions, share) else {
@@ -116,15 +127,19 @@ impl Placing {
     // Places more units in the frame of the last one, up to so many in all, as far as the frame and its delay have the bytes.
     fn fill(&mut self, lengths: &[u8], end: usize)
         requires few { end ≤ length lengths.now }
-        requires room { (units : List (List ℕ)) × ((lengths.now ≡ map length units) × (length (concat units) < 2 ^ 64)
+        requires room { (units : List (List ℕ))
+            × ((lengths.now ≡ map length units) × (length (concat units) < 2 ^ 64)
             × (self.old.last.bytes ≡ bytes_before self.old.last.units units)) }
         requires within { self.old.last.units ≤ end }
-        ensures placed { (share : ℕ) (captions : List Caption) (chunks : List Chunk) (units : List (List ℕ)) (cue : CueLoad)
-            → lengths.now ≡ map length units → FillsFrame captions cue units chunks self.old end → IsPlacing share captions chunks self.old
+        ensures placed { (share : ℕ) (captions : List Caption) (chunks : List Chunk)
+            (units : List (List ℕ)) (cue : CueLoad)
+            → lengths.now ≡ map length units → FillsFrame captions cue units chunks self.old end
+            → IsPlacing share captions chunks self.old
             → IsPlacing share captions chunks self.new }
         ensures units { self.old.last.units ≤ self.new.last.units }
         ensures within { self.new.last.units ≤ end }
-        ensures bytes { (units : List (List ℕ)) → lengths.now ≡ map length units → self.old.last.bytes ≡ bytes_before self.old.last.units units
+        ensures bytes { (units : List (List ℕ)) → lengths.now ≡ map length units
+            → self.old.last.bytes ≡ bytes_before self.old.last.units units
             → self.new.last.bytes ≡ bytes_before self.new.last.units units }
     {
         let most = self.front.most();
@@ -141,8 +156,10 @@ impl Placing {
 
     // Makes this the last batch: in place of the last one, where that is in its frame, or else behind it.
     fn hold(&mut self, batch: Batch) -> Result<(), AllocError>
-        ensures grown { batch.frame ≡ self.old.last.frame → OnOk result (batches_of self.new ≡ self.old.batches.items ++ batch ∷ []) }
-        ensures more { (batch.frame ≡ self.old.last.frame → ⊥) → OnOk result (batches_of self.new ≡ batches_of self.old ++ batch ∷ []) }
+        ensures grown { batch.frame ≡ self.old.last.frame
+            → OnOk result (batches_of self.new ≡ self.old.batches.items ++ batch ∷ []) }
+        ensures more { (batch.frame ≡ self.old.last.frame → ⊥)
+            → OnOk result (batches_of self.new ≡ batches_of self.old ++ batch ∷ []) }
         ensures last { OnOk result (self.new.last ≡ batch) }
         ensures front { self.new.front ≡ self.old.front }
     {
@@ -156,7 +173,8 @@ impl Placing {
     /// The batches of the units, when all are placed.
     pub fn finish(self) -> Result<Vec<Batch>, PlanFault>
         ensures batches { IfOk result (λ batches. batches.items ≡ batches_of self) }
-        ensures fault { (captions : List Caption) (chunks : List Chunk) (share : ℕ) → IfErr result (IsLaneFault share captions chunks) }
+        ensures fault { (captions : List Caption) (chunks : List Chunk) (share : ℕ)
+            → IfErr result (IsLaneFault share captions chunks) }
     {
         let mut batches = self.batches;
         match batches.push(self.last) {

@@ -13,7 +13,7 @@ use Rattle.cue_lists.specs.declared.cue.WinCue.{WinCue}
 use Rattle.dtvcc_codes.specs.declared.commands.Command.{Command}
 use Rattle.dtvcc_codes.specs.declared.commands.Command.TheVariants.{Dlw, Dly, Dsw}
 use Rattle.dtvcc_codes.specs.Spellable.{IsSpellable, is_skipped}
-use Rattle.dtvcc_codes.specs.Writing.{bit, written}
+use Rattle.dtvcc_codes.specs.Writing.{bit, bytes_of_command}
 use Rattle.dtvcc_codes.proofs.WrittenLemmas.{written_are_bytes}
 use Rattle.dtvcc_author.specs.Captions.{caption_of, caption_with, service_captions, window_caption}
 use Rattle.dtvcc_author.specs.CueUnits.{IsWritable, window_cue_units}
@@ -31,10 +31,10 @@ abbrev pub IsByte : ℕ → Type 0
 IsByte byte = byte < 256
 
 -- what is written of commands that have bytes is these
-written_bytes : (commands : List Command) → All IsWritable commands → All IsByte (flat_map written commands)
+written_bytes : (commands : List Command) → All IsWritable commands → All IsByte (flat_map bytes_of_command commands)
 written_bytes [] all = All-nil IsByte
 written_bytes (command ∷ commands) all =
-    All-append IsByte (written command) (flat_map written commands) (written_are_bytes command (All-head IsWritable command commands all).spellable)
+    All-append IsByte (bytes_of_command command) (flat_map bytes_of_command commands) (written_are_bytes command (All-head IsWritable command commands all).spellable)
     (written_bytes commands (All-tail IsWritable command commands all))
 
 -- a byte of windows is one
@@ -119,10 +119,10 @@ captions_short r service (cue ∷ cues) formed =
 abbrev IsOfBytes : Chunk → Type 0
 IsOfBytes chunk = All IsByte chunk.unit
 
-units_are_bytes : (number : ℕ) (c : Caption) (commands : List Command) → All IsWritable commands → All IsOfBytes (map (chunk_of number c) (map written commands))
+units_are_bytes : (number : ℕ) (c : Caption) (commands : List Command) → All IsWritable commands → All IsOfBytes (map (chunk_of number c) (map bytes_of_command commands))
 units_are_bytes number c [] all = All-nil IsOfBytes
 units_are_bytes number c (command ∷ commands) all =
-    All-cons IsOfBytes (chunk_of number c (written command)) (map (chunk_of number c) (map written commands))
+    All-cons IsOfBytes (chunk_of number c (bytes_of_command command)) (map (chunk_of number c) (map bytes_of_command commands))
     (written_are_bytes command (All-head IsWritable command commands all).spellable)
     (units_are_bytes number c commands (All-tail IsWritable command commands all))
 

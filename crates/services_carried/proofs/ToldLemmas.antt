@@ -5,7 +5,7 @@ use Rattle.std.proofs.lemmas.List.{append_cancel_left, map-append}
 use Rattle.cc_base.specs.declared.rate.Rate.{Rate}
 use Rattle.line21_codes.specs.declared.channels.FieldNumber.{FieldNumber}
 use Rattle.cc_data.specs.declared.triplet.Triplet.{Triplet}
-use Rattle.cdp_packets.specs.Packets.{Packet as Frame}
+use Rattle.cdp_packets.specs.Packets.{Frame}
 use Rattle.cdp_packets.specs.PacketTriplets.{packet_triplets}
 use Rattle.dtvcc_screen.specs.Meaning.{Byte, Tick}
 use Rattle.service_blocks.specs.declared.parts.BlockPart.{BlockPart}
@@ -21,7 +21,7 @@ use Rattle.frame_scheduler.specs.Columns.{Columns}
 use Rattle.frame_carrier.specs.Carrying.{channel_packet_of, column_packets, frame_packet, packets_before}
 use Rattle.frame_carrier.proofs.CarriedLemmas.{packet_channel_is}
 use Rattle.services_carried.specs.ServicesCarried.{HasBlocks, Sent}
-use Rattle.services_carried.specs.Told.{AreAlike, ColumnsAreTold, LikeFramesSayAlike, sent_to, told, told_since}
+use Rattle.services_carried.specs.Told.{CarryTheSame, ColumnsAreTold, LikeFramesSayAlike, sent_to, told, told_since}
 use Rattle.services_carried.proofs.ChannelLemmas.{channel_since, parts_from, parts_sent}
 
 -- what is said of a service is told to it, and to no other
@@ -128,7 +128,7 @@ told_same rate sent other same (suc n) =
     ∙ ap (λ bytes. told rate other n ++ (Tick rate ∷ map Byte bytes)) (same n)
 
 -- frames of the same rates and triplets
-behind_alike : (service : ℕ) (before : List Triplet) (frames others : List Frame) → AreAlike frames others
+behind_alike : (service : ℕ) (before : List Triplet) (frames others : List Frame) → CarryTheSame frames others
     → events_behind service before frames ≡ events_behind service before others
 behind_alike service before [] [] alike = refl
 behind_alike service before [] (other ∷ others) alike = let rates = alike.rates in absurd cc

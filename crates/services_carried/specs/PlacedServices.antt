@@ -1,3 +1,4 @@
+-- Between crates: the program's answer stands on none of these definitions.
 -- Where the units of a list's services stand, whatever stands of its caption channels.
 use Rattle.std.specs.Prelude.{ℕ}
 use Rattle.cue_lists.specs.Listing.{Listing}

@@ -1,3 +1,4 @@
+-- Believed in part: the program's answer stands on some of these definitions.
 -- What is carried of the services of a cue list.
 use Rattle.std.specs.Prelude.{◌≡◌, ℕ, ◌≤◌, List, [], ◌∷◌, ◌++◌, All, length}
 use Rattle.cc_base.specs.declared.rate.Rate.{Rate}

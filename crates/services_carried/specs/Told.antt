@@ -1,10 +1,11 @@
+-- Believed in part: the program's answer stands on some of these definitions.
 -- What the services of a caption channel are told by frames: in each a tick of the frame's rate, then the bytes that the service is sent
 -- there, and no reset. What else the frames carry says nothing to them.
 use Rattle.std.specs.Prelude.{◌≡◌, ℕ, zero, suc, ◌+◌, ◌<◌, ◌≤◌, ◌==◌, if◌then◌else◌, List, [], ◌∷◌, ◌++◌, None, map, take}
 use Rattle.std.specs.List.{flat_map}
 use Rattle.cc_base.specs.declared.rate.Rate.{Rate}
 use Rattle.line21_codes.specs.declared.channels.FieldNumber.{FieldNumber}
-use Rattle.cdp_packets.specs.Packets.{Packet as Frame}
+use Rattle.cdp_packets.specs.Packets.{Frame}
 use Rattle.cdp_packets.specs.PacketTriplets.{packet_triplets}
 use Rattle.cue_lists.specs.Listing.{IsFormed, Listing, share_of}
 use Rattle.cue_lists.specs.Rules.{IsRuled}
@@ -57,7 +58,7 @@ abbrev pub HighAreUnshared : Type 0
 HighAreUnshared = (list : Listing) → IsFormed list → IsRuled list → (service : ℕ) → 6 < service → share_of list service ≡ None
 
 -- frames have the rates and the triplets of others, one by one
-pub record AreAlike (frames others : List Frame) : Type 0 where
+pub record CarryTheSame (frames others : List Frame) : Type 0 where
   pub rates : map (λ frame. frame.rate) frames ≡ map (λ frame. frame.rate) others
   pub triplets : map packet_triplets frames ≡ map packet_triplets others
 
@@ -68,4 +69,4 @@ pub record SayAlike (frames others : List Frame) : Type 0 where
 
 -- frames say nothing but their rates and triplets
 abbrev pub LikeFramesSayAlike : Type 0
-LikeFramesSayAlike = (frames others : List Frame) → AreAlike frames others → SayAlike frames others
+LikeFramesSayAlike = (frames others : List Frame) → CarryTheSame frames others → SayAlike frames others

@@ -6,7 +6,7 @@ use Rattle.cc_base.specs.Syntax.{open_behind, parts_from, parts_of}
 use Rattle.cc_base.proofs.StepLemmas.{front_from-append}
 use Rattle.cc_base.proofs.SyntaxLemmas.{parts_from-append}
 use Rattle.cc_data.specs.declared.triplet.Triplet.{Triplet}
-use Rattle.cdp_packets.specs.Packets.{Packet as Frame}
+use Rattle.cdp_packets.specs.Packets.{Frame}
 use Rattle.cdp_packets.specs.PacketTriplets.{packet_triplets}
 use Rattle.channel_packets.specs.ChannelPackets.{ChannelPacket}
 use Rattle.channel_packets.specs.Reading as packets

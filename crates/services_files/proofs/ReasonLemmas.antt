@@ -14,7 +14,7 @@ use Rattle.cc_data.specs.Triplets.{triplet_of, triplets_of}
 use Rattle.cdp_packets.specs.declared.parts.CdpPart.{CdpPart}
 use Rattle.cdp_packets.specs.PacketParts.{packet_parts}
 use Rattle.cdp_packets.specs.PacketTriplets.{packet_triplets, section_triplets}
-use Rattle.cdp_packets.specs.Packets.{Packet as Frame}
+use Rattle.cdp_packets.specs.Packets.{Frame}
 use Rattle.channel_packets.specs.declared.parts.PacketPart.{PacketPart}
 use Rattle.channel_packets.specs.Reading.{packet_syntax}
 use Rattle.service_blocks.specs.Channels.{IsHeard}

@@ -7,7 +7,7 @@ use Rattle.cc_data.specs.Triplets.{triplet_of, triplets_of}
 use Rattle.cdp_packets.specs.declared.parts.CdpPart.{CdpPart}
 use Rattle.cdp_packets.specs.declared.parts.CdpPart.TheVariants as part
 use Rattle.cdp_packets.specs.PacketParts.{packet_parts, section_parts, triplet_parts}
-use Rattle.cdp_packets.specs.Packets.{Packet as Frame}
+use Rattle.cdp_packets.specs.Packets.{Frame}
 use Rattle.cdp_packets.specs.PacketTriplets.{packet_triplets, section_triplets}
 use Rattle.service_blocks.specs.Channels.{IsHeard}
 use Rattle.service_blocks.proofs.ChannelLemmas.{channel_heard, half_heard, heard_channel, heard_first, heard_pieces}

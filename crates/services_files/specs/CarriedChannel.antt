@@ -1,8 +1,9 @@
+-- Believed: the program's answer stands on these definitions.
 -- Frames whose triplets, one frame after another, are a caption channel (SMPTE ST 334-2; CTA-708-E, sections 5 and 6).
 use Rattle.std.specs.Prelude.{List}
 use Rattle.std.specs.List.{flat_map}
 use Rattle.cc_data.specs.declared.triplet.Triplet.{Triplet}
-use Rattle.cdp_packets.specs.Packets.{Packet as Frame}
+use Rattle.cdp_packets.specs.Packets.{Frame}
 use Rattle.cdp_packets.specs.PacketTriplets.{packet_triplets}
 use Rattle.channel_packets.specs.ChannelPackets.{ChannelPacket}
 use Rattle.service_blocks.specs.Channels.{AreChannel}

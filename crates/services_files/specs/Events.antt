@@ -1,10 +1,11 @@
+-- Believed in part: the program's answer stands on some of these definitions.
 -- What a service of DTVCC is given by the frames of a words file (CTA-708-E, sections 5 to 7; SMPTE ST 334-2): in each frame first a tick,
 -- then the bytes of this service that the frame's triplets bring. Where a channel packet is missing all services are reset.
 use Rattle.std.specs.Prelude.{ℕ, ◌==◌, if◌then◌else◌, List, [], ◌∷◌, ◌++◌}
 use Rattle.std.specs.List.{flat_map}
 use Rattle.cc_base.specs.declared.rate.Rate.{Rate}
 use Rattle.cc_data.specs.declared.triplet.Triplet.{Triplet}
-use Rattle.cdp_packets.specs.Packets.{Packet as Frame}
+use Rattle.cdp_packets.specs.Packets.{Frame}
 use Rattle.cdp_packets.specs.PacketTriplets.{packet_triplets}
 use Rattle.dtvcc_screen.specs.Meaning.{Event, Byte, Reset, Tick}
 use Rattle.service_blocks.specs.declared.parts.BlockPart.{BlockPart}

@@ -1,3 +1,4 @@
+-- Believed: the program's answer stands on these definitions.
 -- At which byte of a triplet a header of a service block is refused (CTA-708-E, sections 5 and 6.2). A header says how many bytes its
 -- block has behind it; where the channel packet's size leaves fewer, the header's own byte is refused. In a triplet that starts a
 -- packet the third byte can be a header, since the second one is the packet's; in one that goes on with a packet, each of both.

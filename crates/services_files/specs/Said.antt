@@ -1,3 +1,4 @@
+-- Believed: the program's answer stands on these definitions.
 -- What triplets of cc_data say to the services of DTVCC (CTA-708-E, sections 5 and 6): they are cut into channel packets, the bytes of
 -- each packet into service blocks, and the blocks say bytes of services. Any triplets say something, also where a header passes its packet.
 use Rattle.std.specs.Prelude.{ℕ, zero, suc, ◌==◌, if◌then◌else◌, List, [], ◌∷◌, ◌++◌, drop, length, map, take, take_while, None}

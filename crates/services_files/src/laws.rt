@@ -11,7 +11,7 @@ ghost use Rattle.anc_words.specs.Reading.{anc_syntax, nothing_open};
 ghost use Rattle.cdp_packets.specs.declared.parts.CdpPart.{CdpPart as Part};
 ghost use Rattle.cdp_packets.specs.declared.parts.CdpPart.TheVariants as part;
 ghost use Rattle.cdp_packets.specs.PacketParts.{packet_parts};
-ghost use Rattle.cdp_packets.specs.Packets.{Packet as Frame};
+ghost use Rattle.cdp_packets.specs.Packets.{Frame};
 ghost use Rattle.cc_data.specs.declared.triplet.Triplet.{Triplet};
 ghost use Rattle.cc_data.specs.Triplets.{triplet_of};
 ghost use Rattle.channel_packets.specs.ChannelPackets.{AreChannelPackets, ChannelPacket};
@@ -32,9 +32,12 @@ ghost use Rattle.services_files.specs.CarriedChannel.{file_triplets};
 /// all taken have whole triplets that are heard, and those of frames' parts are the frames' triplets.
 pub fn triplets_are_tried_and_taken()
     ensures taken { (before : List Part) (next : Part)
-        → (services_say before next ≡ None) ↔ IsHeardBehind (whole_triplets before) (tried_at next) }
-    ensures heard { (parts : List Part) → AreAccepted services_say [] parts → IsHeard (whole_triplets parts) }
-    ensures frames { (frames : List Frame) → whole_triplets (flat_map packet_parts frames) ≡ file_triplets frames }
+        → (services_say before next ≡ None)
+        ↔ IsHeardBehind (whole_triplets before) (tried_at next) }
+    ensures heard { (parts : List Part) → AreAccepted services_say [] parts
+        → IsHeard (whole_triplets parts) }
+    ensures frames { (frames : List Frame)
+        → whole_triplets (flat_map packet_parts frames) ≡ file_triplets frames }
 {}
 
 /// The services take what only fills the open packet, wherever they took what came before. So a file that was begun can be
@@ -46,11 +49,16 @@ pub fn filling_is_taken()
 /// The services take the parts of just those words files whose frames carry a caption channel, and they refuse the others for the reason
 /// for which a word of them offends: no part of a packet, no half of a triplet and no reader stands in this.
 pub fn services_say_what_the_channel_is()
-    ensures whole { (frames : List Frame) (bytes : List ℕ) → IsFileUnder (layers_of services_say) frames bytes → IsFileUnder caption_channel frames bytes }
-    ensures file { (frames : List Frame) (bytes : List ℕ) → IsFileUnder caption_channel frames bytes → IsFileUnder (layers_of services_say) frames bytes }
-    ensures begins { (bytes : List ℕ) → Begins (layers_of services_say) bytes ↔ Begins caption_channel bytes }
+    ensures whole { (frames : List Frame) (bytes : List ℕ)
+        → IsFileUnder (layers_of services_say) frames bytes
+        → IsFileUnder caption_channel frames bytes }
+    ensures file { (frames : List Frame) (bytes : List ℕ) → IsFileUnder caption_channel frames bytes
+        → IsFileUnder (layers_of services_say) frames bytes }
+    ensures begins { (bytes : List ℕ)
+        → Begins (layers_of services_say) bytes ↔ Begins caption_channel bytes }
     ensures reason { (before : List ℕ) (high low : ℕ) (reason : Reason)
-        → HasReason (layers_of services_say) before high low reason ↔ HasReason caption_channel before high low reason }
+        → HasReason (layers_of services_say) before high low reason
+        ↔ HasReason caption_channel before high low reason }
 {}
 
 /// Over all layers, bytes are refused exactly where they have an offending word, at the place of the first and for its reason, and
@@ -58,15 +66,19 @@ pub fn services_say_what_the_channel_is()
 /// are cut short.
 pub fn first_offence_over_all_layers()
     ensures refused { (bytes : List ℕ) (refused : Refused) → All (λ byte. byte < 256) bytes
-        → refusal_of services_say bytes ≡ Some refused → FirstOffendingWord caption_channel bytes refused }
-    ensures offends { (bytes : List ℕ) (refused : Refused) → FirstOffendingWord caption_channel bytes refused
+        → refusal_of services_say bytes ≡ Some refused
+        → FirstOffendingWord caption_channel bytes refused }
+    ensures offends { (bytes : List ℕ) (refused : Refused)
+        → FirstOffendingWord caption_channel bytes refused
         → refusal_of services_say bytes ≡ Some refused }
     ensures unrefused { (bytes : List ℕ) → All (λ byte. byte < 256) bytes
         → refusal_of services_say bytes ≡ None → IsUnoffending caption_channel bytes }
-    ensures unoffending { (bytes : List ℕ) → IsUnoffending caption_channel bytes → refusal_of services_say bytes ≡ None }
+    ensures unoffending { (bytes : List ℕ) → IsUnoffending caption_channel bytes
+        → refusal_of services_say bytes ≡ None }
     ensures cut_short { (bytes : List ℕ) → All (λ byte. byte < 256) bytes
         → refusal_of services_say bytes ≡ None → (open_behind anc_syntax bytes ≡ nothing_open → ⊥)
-        → IsCutShort caption_channel bytes (record { place = length bytes % 2 ^ 64; why = why.Truncated }) }
+        → IsCutShort caption_channel bytes
+        (record { place = length bytes % 2 ^ 64; why = why.Truncated }) }
 {}
 
 /// Over all layers, bytes are a file, or cut short, or they have an offending word, which is one, with one place and one reason, and never
@@ -74,21 +86,32 @@ pub fn first_offence_over_all_layers()
 pub fn every_input_is_whole_or_cut_short_or_offends()
     ensures each { (bytes : List ℕ) → All (λ byte. byte < 256) bytes
         → ((frames : List Frame) × IsFileUnder caption_channel frames bytes)
-        ⊎ (((refused : Refused) × IsCutShort caption_channel bytes refused) ⊎ ((refused : Refused) × FirstOffendingWord caption_channel bytes refused)) }
-    ensures file { (frames : List Frame) (bytes : List ℕ) (refused : Refused) → IsFileUnder caption_channel frames bytes
+        ⊎ (((refused : Refused) × IsCutShort caption_channel bytes refused)
+        ⊎ ((refused : Refused) × FirstOffendingWord caption_channel bytes refused)) }
+    ensures file { (frames : List Frame) (bytes : List ℕ) (refused : Refused)
+        → IsFileUnder caption_channel frames bytes
         → IsMalformed caption_channel bytes refused → ⊥ }
-    ensures cut_short { (bytes : List ℕ) (refused other : Refused) → IsCutShort caption_channel bytes refused
+    ensures cut_short { (bytes : List ℕ) (refused other : Refused)
+        → IsCutShort caption_channel bytes refused
         → FirstOffendingWord caption_channel bytes other → ⊥ }
-    ensures one { (bytes : List ℕ) (refused other : Refused) → FirstOffendingWord caption_channel bytes refused
+    ensures one { (bytes : List ℕ) (refused other : Refused)
+        → FirstOffendingWord caption_channel bytes refused
         → FirstOffendingWord caption_channel bytes other → refused ≡ other }
 {}
 
 /// A whole file is caught to its end: the parts of its frames, nothing that is open, and no refusal. And bytes that aren't refused
 /// and leave nothing open are a whole file.
 pub fn whole_files_are_caught()
-    ensures caught { (frames : List Frame) (bytes : List ℕ) → IsFileUnder caption_channel frames bytes
-        → caught_in services_say bytes ≡ record { open_caption = None; frames = reverse (map packet_parts frames); refused = None } }
-    ensures unrefused { (frames : List Frame) (bytes : List ℕ) → IsFileUnder caption_channel frames bytes
+    ensures caught { (frames : List Frame) (bytes : List ℕ)
+        → IsFileUnder caption_channel frames bytes
+        → caught_in services_say bytes
+        ≡ record {
+          open_caption = None;
+          frames = reverse (map packet_parts frames);
+          refused = None;
+        } }
+    ensures unrefused { (frames : List Frame) (bytes : List ℕ)
+        → IsFileUnder caption_channel frames bytes
         → (refusal_of services_say bytes ≡ None) × (open_behind anc_syntax bytes ≡ nothing_open) }
     ensures file { (bytes : List ℕ) → All (λ byte. byte < 256) bytes
         → refusal_of services_say bytes ≡ None → open_behind anc_syntax bytes ≡ nothing_open
@@ -100,28 +123,37 @@ pub fn whole_files_are_caught()
 /// that are cut from its bytes, and a caption channel says what its packets and blocks do.
 pub fn what_triplets_say_is_heard()
     ensures heard { (triplets : List Triplet) → heard_parts triplets ≡ said_in triplets }
-    ensures behind { (before triplets : List Triplet) → heard_behind before triplets ≡ said_behind before triplets }
-    ensures more { (before triplets : List Triplet) → said_in (before ++ triplets) ≡ said_in before ++ said_behind before triplets }
-    ensures packets { (packets : List ChannelPacket) (triplets : List Triplet) → AreChannelPackets packets triplets ↔ (packets ≡ channel_packets_in triplets) }
-    ensures blocks { (room : ℕ) (blocks : List Block) (packet : ChannelPacket) → AreBlocks room blocks packet.bytes → blocks ≡ blocks_in packet }
-    ensures channel { (packets : List ChannelPacket) (blocks : List (List Block)) (triplets : List Triplet) → AreChannel packets blocks triplets
+    ensures behind { (before triplets : List Triplet)
+        → heard_behind before triplets ≡ said_behind before triplets }
+    ensures more { (before triplets : List Triplet)
+        → said_in (before ++ triplets) ≡ said_in before ++ said_behind before triplets }
+    ensures packets { (packets : List ChannelPacket) (triplets : List Triplet)
+        → AreChannelPackets packets triplets ↔ (packets ≡ channel_packets_in triplets) }
+    ensures blocks { (room : ℕ) (blocks : List Block) (packet : ChannelPacket)
+        → AreBlocks room blocks packet.bytes → blocks ≡ blocks_in packet }
+    ensures channel { (packets : List ChannelPacket) (blocks : List (List Block))
+        (triplets : List Triplet) → AreChannel packets blocks triplets
         → said_in triplets ≡ said None packets blocks }
 {}
 
 /// One more frame adds its events behind those of the frames before it.
 pub fn events_come_frame_by_frame()
-    ensures { (service : ℕ) (frames : List Frame) (frame : Frame) → service_events service (frames ++ frame ∷ [])
+    ensures { (service : ℕ) (frames : List Frame) (frame : Frame)
+        → service_events service (frames ++ frame ∷ [])
         ≡ service_events service frames ++ frame_events service (file_triplets frames) frame }
 {}
 
 /// The events of a service have one tick for each frame, at the frame's rate. Beside the ticks, nothing but what the blocks of the
 /// file's channel packets say to the service is in them, once and in order.
 pub fn events_are_what_packets_say()
-    ensures ticks { (service : ℕ) (frames : List Frame) → rates_of (service_events service frames) ≡ map (λ frame. frame.rate) frames }
-    ensures said_packets { (service : ℕ) (frames : List Frame) (packets : List ChannelPacket) (blocks : List (List Block))
+    ensures ticks { (service : ℕ) (frames : List Frame)
+        → rates_of (service_events service frames) ≡ map (λ frame. frame.rate) frames }
+    ensures said_packets { (service : ℕ) (frames : List Frame) (packets : List ChannelPacket)
+        (blocks : List (List Block))
         → AreChannel packets blocks (file_triplets frames)
         → untimed (service_events service frames) ≡ events_of service (said None packets blocks) }
-    ensures frame { (before triplets : List Triplet) (packets others : List ChannelPacket) (blocks more : List (List Block))
+    ensures frame { (before triplets : List Triplet) (packets others : List ChannelPacket)
+        (blocks more : List (List Block))
         → AreChannel packets blocks before → AreChannel others more (before ++ triplets)
         → said None others more ≡ said None packets blocks ++ heard_behind before triplets }
 {}
@@ -136,5 +168,6 @@ pub fn overrun_stands_at_its_own_byte()
         → services_say before (part.Half (triplet_of first second 0x00)) ≡ None
         → (services_say before (part.Triplet (triplet_of first second next)) ≡ Some reason)
         ↔ ((reason ≡ why.Overrun) × Overruns (whole_triplets before) (first ∷ second ∷ []) next) }
-    ensures others { (before : List Part) (next : Part) → tried_at next ≡ [] → services_say before next ≡ None }
+    ensures others { (before : List Part) (next : Part) → tried_at next ≡ []
+        → services_say before next ≡ None }
 {}

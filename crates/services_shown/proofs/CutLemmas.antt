@@ -6,7 +6,7 @@ use Rattle.cc_base.specs.declared.rate.Rate.{Rate}
 use Rattle.cue_lists.specs.Cues.{IsCueFormed}
 use Rattle.cue_lists.specs.declared.cue.Cue.{Cue}
 use Rattle.dtvcc_codes.specs.Cut.{IsCut}
-use Rattle.dtvcc_codes.specs.Writing.{written}
+use Rattle.dtvcc_codes.specs.Writing.{bytes_of_command}
 use Rattle.dtvcc_codes.specs.declared.commands.Command.{Command}
 use Rattle.dtvcc_codes.proofs.CutLemmas.{bytes_are_cut}
 use Rattle.dtvcc_author.specs.Captions.{service_captions}
@@ -24,11 +24,11 @@ nothing_cut : IsCut [] [] []
 nothing_cut = bytes_are_cut [] (All-nil (λ byte. byte < 256))
 
 -- what is written of commands is cut into them
-written_cut : (commands : List Command) → All IsWritable commands → IsCut commands [] (flat_map written commands)
+written_cut : (commands : List Command) → All IsWritable commands → IsCut commands [] (flat_map bytes_of_command commands)
 written_cut [] writable = nothing_cut
 written_cut (command ∷ commands) writable = (
-  written command,
-  flat_map written commands,
+  bytes_of_command command,
+  flat_map bytes_of_command commands,
   refl,
   spelled_by command (All-head IsWritable command commands writable),
   written_cut commands (All-tail IsWritable command commands writable),
@@ -62,10 +62,10 @@ both_loads bytes more are too = record {
   loading = All-append (λ command. is_loading command ≡ true) are.commands too.commands are.loading too.loading;
 }
 
-one_load : (command : Command) → IsWritable command → is_loading command ≡ true → AreLoads (written command)
+one_load : (command : Command) → IsWritable command → is_loading command ≡ true → AreLoads (bytes_of_command command)
 one_load command is loads = record {
   commands = command ∷ [];
-  cut = (written command, [], sym (append-nil (written command)), spelled_by command is, nothing_cut);
+  cut = (bytes_of_command command, [], sym (append-nil (bytes_of_command command)), spelled_by command is, nothing_cut);
   loading = All-cons (λ command. is_loading command ≡ true) command [] loads (All-nil (λ command. is_loading command ≡ true));
 }
 

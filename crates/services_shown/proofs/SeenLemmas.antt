@@ -3,7 +3,7 @@ use Rattle.std.proofs.Common.{◌∙◌, ℕ, suc, ◌<◌, ap, arith}
 use Rattle.cue_lists.specs.Listing.{IsFormed, Listing}
 use Rattle.cue_lists.specs.Rules.{IsRuled}
 use Rattle.cue_lists.specs.declared.lane.Lane.TheVariants.{Service}
-use Rattle.dtvcc_screen.specs.Meaning.{Served, after, start}
+use Rattle.dtvcc_screen.specs.Meaning.{Served, served_after, start}
 use Rattle.dtvcc_screen.specs.Shown.{grids}
 use Rattle.frame_carrier.specs.Carrying.{column_packets}
 use Rattle.frame_scheduler.specs.Planned.{Placement, columns_of, share_in}
@@ -18,5 +18,5 @@ pub authored_windows_seen : (list : Listing) (placed : Placement) → IsFormed l
 authored_windows_seen list placed formed ruled is frame below service id numbered low =
     let lane = list_lane list service (placed (Service service)) in
     ap (λ (s : Served). grids s.core.screen id)
-    (ap (after start) (front_told list placed service (suc frame) formed ruled is (omega arith)) ∙ told_leads lane (suc frame))
+    (ap (served_after start) (front_told list placed service (suc frame) formed ruled is (omega arith)) ∙ told_leads lane (suc frame))
     ∙ windows_are_shown list (share_in list service) service (placed (Service service)) formed ruled (is service).placed frame id low

@@ -6,7 +6,7 @@ use Rattle.cc_base.specs.declared.rate.Rate.{Rate}
 use Rattle.cue_lists.specs.Listing.{IsFormed, Listing}
 use Rattle.cue_lists.specs.Rules.{IsRuled}
 use Rattle.cue_lists.specs.declared.lane.Lane.TheVariants.{Service}
-use Rattle.dtvcc_screen.specs.Meaning.{Served, after, start}
+use Rattle.dtvcc_screen.specs.Meaning.{Served, served_after, start}
 use Rattle.dtvcc_screen.proofs.MeaningLemmas.{after_append}
 use Rattle.dtvcc_shown.specs.Filling.{AllFill}
 use Rattle.dtvcc_shown.specs.ServiceLanes.{Lane, lane_frame_bytes, lane_frame_events, served}
@@ -25,11 +25,11 @@ use Rattle.services_files.specs.Events.{service_events}
 use Rattle.windows_shown.specs.AuthoredShown.{list_lane}
 
 -- the frames of a lane lead where it says
-pub told_leads : (lane : Lane) (n : ℕ) → after start (told lane.rate (lane_frame_bytes lane) n) ≡ served lane n
+pub told_leads : (lane : Lane) (n : ℕ) → served_after start (told lane.rate (lane_frame_bytes lane) n) ≡ served lane n
 told_leads lane zero = refl
 told_leads lane (suc n) =
     after_append start (told lane.rate (lane_frame_bytes lane) n) (lane_frame_events lane n)
-    ∙ ap (λ (s : Served). after s (lane_frame_events lane n)) (told_leads lane n)
+    ∙ ap (λ (s : Served). served_after s (lane_frame_events lane n)) (told_leads lane n)
 
 -- and fill nothing, where it is sound
 pub told_fills : (lane : Lane) (n : ℕ) → IsSoundLane lane → AllFill 127 start (told lane.rate (lane_frame_bytes lane) n)

@@ -1,7 +1,8 @@
+-- Believed: the program's answer stands on these definitions.
 -- That no service's buffer is ever filled by the frames of words (CTA-708-E, Delay: a receiver holds what comes in a delay, and
 -- a full buffer ends it).
 use Rattle.std.specs.Prelude.{ℕ, List}
-use Rattle.cdp_packets.specs.Packets.{Packet as Frame}
+use Rattle.cdp_packets.specs.Packets.{Frame}
 use Rattle.dtvcc_screen.specs.Meaning.{start}
 use Rattle.dtvcc_services.specs.Numbers.{IsService}
 use Rattle.dtvcc_shown.specs.Filling.{AllFill}

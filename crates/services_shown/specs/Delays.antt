@@ -1,3 +1,4 @@
+-- Believed: the program's answer stands on these definitions.
 -- That the delays of a cue list are sent (CTA-708-E, Delay and DisplayWindows): in the frame in which the delay of a window cue
 -- starts, its service is sent Delay and, next, the DisplayWindows that it puts off; in the frame of SHOW nothing that it is sent
 -- shows the window. What it is sent goes by its bytes alone: by their cut into commands.

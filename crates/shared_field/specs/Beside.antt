@@ -1,3 +1,4 @@
+-- Between crates: the program's answer stands on none of these definitions.
 -- The pair of a frame in a field that two lanes share, and how long lanes last.
 use Rattle.std.specs.Prelude.{ℕ, ◌-◌, ◌^◌, min, Option, Some, None}
 use Rattle.line21_codes.specs.declared.pairs.Pair.{Pair}

@@ -1,3 +1,4 @@
+-- Between crates: the program's answer stands on none of these definitions.
 -- The frames of a dual plan carry the timelines of both lanes of a field.
 use Rattle.std.specs.Prelude.{◌≡◌, ℕ, true, List, Option, option_map}
 use Rattle.line21_slots.specs.Cadences.{slot_in}

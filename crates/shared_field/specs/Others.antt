@@ -1,3 +1,4 @@
+-- Between crates: the program's answer stands on none of these definitions.
 -- Second lanes put other pairs into frames, and leave their blocks.
 use Rattle.std.specs.Prelude.{ℕ}
 use Rattle.frame_scheduler.specs.Columns.{Columns}

@@ -1,3 +1,4 @@
+-- Between crates: the program's answer stands on none of these definitions.
 -- The units of a cue one after another, behind its first one where that has stood.
 use Rattle.std.specs.Prelude.{is_some, unwrap_or, List, Option, Some, None, map}
 use Rattle.line21_author.specs.declared.unit.Unit.{Unit}

@@ -1,3 +1,4 @@
+-- Between crates: the program's answer stands on none of these definitions.
 -- The units and events of a channel's cues are as placing and coding them for data channel 2 ask.
 use Rattle.std.specs.Prelude.{◌≡◌, ℕ, List, All}
 use Rattle.line21_codes.specs.declared.channels.Chan.{Chan}

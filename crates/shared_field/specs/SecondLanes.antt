@@ -1,3 +1,4 @@
+-- Between crates: the program's answer stands on none of these definitions.
 -- What second lanes make of frames.
 use Rattle.std.specs.Prelude.{◌≡◌, ℕ}
 use Rattle.cc_base.specs.declared.rate.Rate.{Rate}

@@ -25,7 +25,8 @@ pub fn channel_parts(
 ) -> Result<Vec<Part>, AllocError>
     requires formed { All IsCueFormed cues.now }
     requires few { length cues.now ≤ most_cues }
-    ensures { IfOk result (λ parts. parts.items ≡ channel_parts channel (cues_in_slots cadence cues.now)) }
+    ensures { IfOk result (λ parts. parts.items
+        ≡ channel_parts channel (cues_in_slots cadence cues.now)) }
 {
     let mut parts = Vec::new(alloc);
     for (index, cue) in cues.iter().enumerate() {
@@ -45,7 +46,8 @@ fn push_cue(
     cadence: Cadence,
 ) -> Result<(), AllocError>
     requires { IsCueFormed cue.now }
-    ensures { OnOk result (parts.new.items ≡ parts.old.items ++ parts_of (cue_pieces number (timed_in_slots cadence cue.now))) }
+    ensures { OnOk result (parts.new.items
+        ≡ parts.old.items ++ parts_of (cue_pieces number (timed_in_slots cadence cue.now))) }
 {
     let load = cadence.slot_from(cue.load);
     let until = cadence.slot_from(cue.show);

@@ -25,7 +25,8 @@ pub fn units_in(
 
 // Appends a unit in its place, behind the first one of its cue where that comes again.
 fn push_unit(units: &mut Vec<PlacedUnit>, part: Part, place: Place) -> Result<(), AllocError>
-    ensures { OnOk result (units.new.items ≡ units.old.items ++ unit_in part place.slot place.resume) }
+    ensures { OnOk result (units.new.items
+        ≡ units.old.items ++ unit_in part place.slot place.resume) }
 {
     if let Some(slot) = place.resume {
         units.push(PlacedUnit {

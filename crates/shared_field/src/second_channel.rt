@@ -1,7 +1,7 @@
 ghost use Rattle.std.specs.Prelude.{◌≡◌, All, IfOk};
 ghost use Rattle.line21_codes.specs.Reading.{code_of};
 ghost use Rattle.line21_codes.specs.Writable.{IsWritable};
-ghost use Rattle.line21_codes.specs.Writing.{written};
+ghost use Rattle.line21_codes.specs.Writing.{pair_of_code};
 ghost use Rattle.shared_field.specs.SecondChannel.{second_event, second_events};
 ghost use Rattle.shared_field_shown.specs.Seen.{as_second, second_part, second_parts, second_unit};
 
@@ -85,7 +85,7 @@ fn second_unit(in_field: FieldNumber, unit: Unit) -> Unit
 // The pair with which the field writes the code for data channel 2.
 fn second_pair(in_field: FieldNumber, pair: Pair) -> Pair
     requires { IsWritable (code_of pair) }
-    ensures { result ≡ written in_field (as_second (code_of pair)) }
+    ensures { result ≡ pair_of_code in_field (as_second (code_of pair)) }
 {
     let code = match read_pair(pair) {
         Ok(code) => as_second(code),

@@ -12,7 +12,7 @@ use Rattle.frame_scheduler.specs.LaneTimeline.{stands}
 use Rattle.frame_scheduler.specs.Timeline.{first_of}
 use Rattle.frame_scheduler.proofs.FieldLaneLemmas.{end_push}
 use Rattle.placements.specs.Placing.{IsPlaced}
-use Rattle.resumed_lanes.specs.Parts.{size_of}
+use Rattle.resumed_lanes.specs.Parts.{part_slots}
 use Rattle.resumed_lanes.specs.ResumedLane.{Stand}
 use Rattle.resumed_lanes.specs.Slots.{Slots}
 use Rattle.resumed_lanes.specs.declared.part.Part.{Part}
@@ -30,7 +30,7 @@ Secure end None = ⊤
 Secure end (Some former) = IsSecure end former
 
 secure_next : (end : ℕ) (former : Option Part) (part : Part) (f : ℕ) (later : Bool) → IsBehind later former part → Secure end former → part.piece.load ≤ f
-    → IsSecure (f + size_of part) part
+    → IsSecure (f + part_slots part) part
 secure_next end former part f false begins secure loaded =
     record { loaded = omega (arith, loaded); doubled = ap (λ (u : Unit). u.doubled) begins.first ∙ begins.doubled }
 secure_next end None part f true continues secure loaded = absurd continues
@@ -53,7 +53,7 @@ module _ (events : List Event) (slots : Slots) (free : (n : ℕ) → slots.free 
   placed_expanded before end former (part ∷ parts) (f ∷ fs) [] at cues secure stand = absurd stand
   placed_expanded before end former (part ∷ parts) (f ∷ fs) (None ∷ rs) at cues secure stand = (
     record { behind = omega (arith, at, stand.0.behind); loaded = stand.0.loaded; ended = stand.0.ended; free = λ n high low. free n (stand.0.free n high low) },
-    placed_expanded (before ++ (part.piece, f) ∷ []) (f + size_of part) (Some part) parts fs rs (end_push before part.piece f) cues.1
+    placed_expanded (before ++ (part.piece, f) ∷ []) (f + part_slots part) (Some part) parts fs rs (end_push before part.piece f) cues.1
         (secure_next end former part f part.later cues.0 secure stand.0.loaded) stand.2,
   )
   placed_expanded before end former (part ∷ parts) (f ∷ fs) (Some q ∷ rs) at cues secure stand =
@@ -78,7 +78,7 @@ module _ (events : List Event) (slots : Slots) (free : (n : ℕ) → slots.free 
             ended = stand.0.ended;
             free = λ n high low. free n (stand.0.free n high low);
           },
-          placed_expanded ((before ++ (first_again part, q) ∷ []) ++ (part.piece, f) ∷ []) (f + size_of part) (Some part) parts fs rs
+          placed_expanded ((before ++ (first_again part, q) ∷ []) ++ (part.piece, f) ∷ []) (f + part_slots part) (Some part) parts fs rs
               (end_push (before ++ (first_again part, q) ∷ []) part.piece f) cues.1 (secure_next end former part f part.later cues.0 secure stand.0.loaded) stand.2,
         ),
       )
@@ -94,7 +94,7 @@ stands_expanded slots end [] [] rs n stand = refl
 stands_expanded slots end [] (f ∷ fs) rs n stand = absurd stand
 stands_expanded slots end (part ∷ parts) [] rs n stand = absurd stand
 stands_expanded slots end (part ∷ parts) (f ∷ fs) [] n stand = absurd stand
-stands_expanded slots end (part ∷ parts) (f ∷ fs) (None ∷ rs) n stand = by_slot (n == f) (stands_expanded slots (f + size_of part) parts fs rs n stand.2)
+stands_expanded slots end (part ∷ parts) (f ∷ fs) (None ∷ rs) n stand = by_slot (n == f) (stands_expanded slots (f + part_slots part) parts fs rs n stand.2)
   where
     by_slot : (b : Bool) → stands (expanded parts rs) (spread fs rs) n ≡ first_of (stands (pieces_of parts) fs n) (again parts rs n)
         → (if b then Some part.piece.unit else stands (expanded parts rs) (spread fs rs) n)
@@ -102,7 +102,7 @@ stands_expanded slots end (part ∷ parts) (f ∷ fs) (None ∷ rs) n stand = by
     by_slot true rest = refl
     by_slot false rest = rest
 stands_expanded slots end (part ∷ parts) (f ∷ fs) (Some q ∷ rs) n stand =
-    by_resume (n == q) refl (stands_expanded slots (f + size_of part) parts fs rs n stand.2)
+    by_resume (n == q) refl (stands_expanded slots (f + part_slots part) parts fs rs n stand.2)
   where
     by_resume : (b : Bool) → (n == q) ≡ b → stands (expanded parts rs) (spread fs rs) n ≡ first_of (stands (pieces_of parts) fs n) (again parts rs n)
         → (if b then Some part.first else (if n == f then Some part.piece.unit else stands (expanded parts rs) (spread fs rs) n))
@@ -110,7 +110,7 @@ stands_expanded slots end (part ∷ parts) (f ∷ fs) (Some q ∷ rs) n stand =
     by_resume true test rest =
         let low : n < f = let b = stand.1.1.at_is.before in grind (arith, nat_tests) in
         let not_f : (n == f) ≡ false = grind (arith, nat_tests) in
-        rw (not_f, stands_none slots (f + size_of part) parts fs rs n stand.2 (omega arith)) refl
+        rw (not_f, stands_none slots (f + part_slots part) parts fs rs n stand.2 (omega arith)) refl
     by_resume false test rest = by_slot (n == f)
       where
         by_slot : (b : Bool) → (if b then Some part.piece.unit else stands (expanded parts rs) (spread fs rs) n)

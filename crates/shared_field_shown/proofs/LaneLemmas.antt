@@ -8,29 +8,29 @@ use Rattle.line21_author.specs.declared.unit.Unit.{Unit}
 use Rattle.line21_screen.specs.declared.modes.Mode.{Mode}
 use Rattle.frame_scheduler.specs.LaneTimeline.{stands}
 use Rattle.frame_scheduler.specs.Timeline.{Timeline, first_of}
-use Rattle.resumed_lanes.specs.Parts.{size_of}
+use Rattle.resumed_lanes.specs.Parts.{part_slots}
 use Rattle.resumed_lanes.specs.ResumedLane.{IsResume, Stand}
 use Rattle.resumed_lanes.specs.Slots.{Slots}
 use Rattle.resumed_lanes.specs.declared.part.Part.{Part}
-use Rattle.shared_field_shown.specs.Lanes.{AreCues, AreQuiet, Begins, Continues, IsBehind, IsLane, again, pieces_of, plain}
+use Rattle.shared_field_shown.specs.Lanes.{AreCues, AreQuiet, Begins, Continues, IsBehind, IsLane, again, pieces_of, plain_timeline}
 use Rattle.shared_field_shown.specs.Resuming.{AreResumed, IsResumed, keeps_mode, opens}
 
 -- a unit takes a slot, and two where it is doubled
-pub some_size : (part : Part) → 1 ≤ size_of part
+pub some_size : (part : Part) → 1 ≤ part_slots part
 some_size part = by_doubled part.piece.unit.doubled
   where
     by_doubled : (b : Bool) → 1 ≤ (if b then 2 else 1)
     by_doubled true = omega arith
     by_doubled false = omega arith
 
-pub few_size : (part : Part) → size_of part ≤ 2
+pub few_size : (part : Part) → part_slots part ≤ 2
 few_size part = by_doubled part.piece.unit.doubled
   where
     by_doubled : (b : Bool) → (if b then 2 else 1) ≤ 2
     by_doubled true = omega arith
     by_doubled false = omega arith
 
-pub two_size : (part : Part) → part.piece.unit.doubled ≡ true → size_of part ≡ 2
+pub two_size : (part : Part) → part.piece.unit.doubled ≡ true → part_slots part ≡ 2
 two_size part doubled = ap (λ b. cond b 2 1) doubled
 
 -- what stands first stands at its slot
@@ -51,7 +51,7 @@ stands_none slots end (part ∷ parts) (f ∷ fs) [] n stand low = absurd stand
 stands_none slots end (part ∷ parts) (f ∷ fs) (r ∷ rs) n stand low =
     let behind : end ≤ f = stand.0.behind in
     let test : (n == f) ≡ false = grind (arith, nat_tests) in
-    stands_at part parts f fs n false test ∙ stands_none slots (f + size_of part) parts fs rs n stand.2 (omega arith)
+    stands_at part parts f fs n false test ∙ stands_none slots (f + part_slots part) parts fs rs n stand.2 (omega arith)
 
 -- nor does one come again
 pub again_none : (slots : Slots) (end : ℕ) (parts : List Part) (fs : List ℕ) (rs : List (Option ℕ)) (n : ℕ) → Stand slots end parts fs rs
@@ -60,11 +60,11 @@ again_none slots end [] fs rs n stand low = refl
 again_none slots end (part ∷ parts) fs [] n stand low = refl
 again_none slots end (part ∷ parts) [] (r ∷ rs) n stand low = absurd stand
 again_none slots end (part ∷ parts) (f ∷ fs) (None ∷ rs) n stand low =
-    again_none slots (f + size_of part) parts fs rs n stand.2 (omega (arith, stand.0.behind))
+    again_none slots (f + part_slots part) parts fs rs n stand.2 (omega (arith, stand.0.behind))
 again_none slots end (part ∷ parts) (f ∷ fs) (Some at ∷ rs) n stand low =
     let high : end < at = omega (arith, stand.1.1.last_is.behind, stand.1.1.at_is.behind) in
     let test : (n == at) ≡ false = grind (arith, nat_tests) in
-    again_at part parts at rs n false test ∙ again_none slots (f + size_of part) parts fs rs n stand.2 (omega (arith, stand.0.behind))
+    again_at part parts at rs n false test ∙ again_none slots (f + part_slots part) parts fs rs n stand.2 (omega (arith, stand.0.behind))
 
 -- nothing of a lane's own events begins in a slot that is free, nor in the one behind an event
 pub free_none : (slots : Slots) (events : Timeline) → ((n : ℕ) (unit : Unit) → events n ≡ Some unit → (slots.free n ≡ false) × (slots.free (n + 1) ≡ false))
@@ -100,7 +100,7 @@ module _ (slots : Slots) (events t : Timeline)
     in_front n high low =
         let test : (n == f) ≡ false = grind (arith, nat_tests) in
         let none : stands (pieces_of (part ∷ parts)) (f ∷ fs) n ≡ None =
-        stands_at part parts f fs n false test ∙ stands_none slots (f + size_of part) parts fs rs n stand.2 (omega arith) in
+        stands_at part parts f fs n false test ∙ stands_none slots (f + part_slots part) parts fs rs n stand.2 (omega arith) in
         same n high ∙ ap (first_of (events n)) none ∙ or_nothing (events n)
       where
         or_nothing : (u : Option Unit) → first_of u None ≡ u
@@ -115,21 +115,21 @@ module _ (slots : Slots) (events t : Timeline)
         same f stand.0.behind ∙ ap (λ u. first_of u (stands (pieces_of (part ∷ parts)) (f ∷ fs) f)) none ∙ stands_at part parts f fs f true test
 
     -- and in its second slot nothing does
-    pub in_second : (n : ℕ) → f < n → n < f + size_of part → t n ≡ None
+    pub in_second : (n : ℕ) → f < n → n < f + part_slots part → t n ≡ None
     in_second n high low =
         let none : events n ≡ None = free_none slots events held n (stand.0.free n (omega arith) low) in
         let test : (n == f) ≡ false = grind (arith, nat_tests) in
         same n (omega (arith, stand.0.behind)) ∙ ap (λ u. first_of u (stands (pieces_of (part ∷ parts)) (f ∷ fs) n)) none
-        ∙ stands_at part parts f fs n false test ∙ stands_none slots (f + size_of part) parts fs rs n stand.2 low
+        ∙ stands_at part parts f fs n false test ∙ stands_none slots (f + part_slots part) parts fs rs n stand.2 low
 
     -- behind it the rest goes on
-    pub same_behind : (n : ℕ) → f + size_of part ≤ n → t n ≡ first_of (events n) (stands (pieces_of parts) fs n)
+    pub same_behind : (n : ℕ) → f + part_slots part ≤ n → t n ≡ first_of (events n) (stands (pieces_of parts) fs n)
     same_behind n high =
         let test : (n == f) ≡ false = let s = some_size part in grind (arith, nat_tests) in
         same n (omega (arith, stand.0.behind)) ∙ ap (first_of (events n)) (stands_at part parts f fs n false test)
 
     -- a cue's first unit puts it under way
-    pub begun : Begins part → IsUnderWay t (f + size_of part) part
+    pub begun : Begins part → IsUnderWay t (f + part_slots part) part
     begun begins = record {
       at = f;
       before = omega (arith, some_size part);
@@ -151,7 +151,7 @@ module _ (slots : Slots) (events t : Timeline)
           (cases_lt n end)
 
       -- a later one leaves it under way
-      pub goes_on : IsUnderWay t (f + size_of part) part
+      pub goes_on : IsUnderWay t (f + part_slots part) part
       goes_on = record {
         at = under.at;
         before = omega (arith, under.before, stand.0.behind);
@@ -192,7 +192,7 @@ module _ (slots : Slots) (events t : Timeline)
       (same : (n : ℕ) → end ≤ n → t n ≡ first_of (events n) (stands (pieces_of (part ∷ parts)) (f ∷ fs) n))
       (former : Option Part) (later : Bool) → IsBehind later former part → UnderWay t end former
       → ((n : ℕ) (unit : Unit) → part.piece.load < n → n < part.piece.until → events n ≡ Some unit → keeps_mode (code_of unit.pair) ≡ true)
-      → IsUnderWay t (f + size_of part) part
+      → IsUnderWay t (f + part_slots part) part
   under_next end part parts f fs r rs stand same former false behind under quiet = begun end part parts f fs r rs stand same behind
   under_next end part parts f fs r rs stand same None true behind under quiet = absurd behind
   under_next end part parts f fs r rs stand same (Some former) true behind under quiet = goes_on end part parts f fs r rs stand same former under behind quiet
@@ -216,11 +216,11 @@ module _ (slots : Slots) (events t : Timeline)
   resumed_all end former (part ∷ parts) fs [] stand same cues quiet under at unit is = cc
   resumed_all end former (part ∷ parts) [] (r ∷ rs) stand same cues quiet under at unit is = absurd stand
   resumed_all end former (part ∷ parts) (f ∷ fs) (None ∷ rs) stand same cues quiet under at unit is =
-      resumed_all (f + size_of part) (Some part) parts fs rs stand.2 (same_behind end part parts f fs None rs stand same) cues.1 quiet.1
+      resumed_all (f + part_slots part) (Some part) parts fs rs stand.2 (same_behind end part parts f fs None rs stand same) cues.1 quiet.1
       (under_next end part parts f fs None rs stand same former part.later cues.0 under quiet.0) at unit is
   resumed_all end former (part ∷ parts) (f ∷ fs) (Some q ∷ rs) stand same cues quiet under at unit is =
       by_slot (at == q) refl
-      (λ rest. resumed_all (f + size_of part) (Some part) parts fs rs stand.2 (same_behind end part parts f fs (Some q) rs stand same) cues.1 quiet.1
+      (λ rest. resumed_all (f + part_slots part) (Some part) parts fs rs stand.2 (same_behind end part parts f fs (Some q) rs stand same) cues.1 quiet.1
       (under_next end part parts f fs (Some q) rs stand same former part.later cues.0 under quiet.0) at unit rest)
     where
       by_slot : (b : Bool) → (at == q) ≡ b → (again parts rs at ≡ Some unit → IsResumed t at unit) → IsResumed t at unit
@@ -234,6 +234,6 @@ module _ (slots : Slots) (events t : Timeline)
 
 -- the first units of a lane that come again change nothing
 pub lane_resumed : (slots : Slots) (events : Timeline) (parts : List Part) (fs : List ℕ) (rs : List (Option ℕ)) → IsLane slots events parts fs rs
-    → AreResumed (plain events parts fs) (again parts rs)
+    → AreResumed (plain_timeline events parts fs) (again parts rs)
 lane_resumed slots events parts fs rs is =
-    resumed_all slots events (plain events parts fs) is.held 0 None parts fs rs is.stand (λ n from. refl) is.cues is.quiet tt
+    resumed_all slots events (plain_timeline events parts fs) is.held 0 None parts fs rs is.stand (λ n from. refl) is.cues is.quiet tt

@@ -10,7 +10,7 @@ use Rattle.line21_author.specs.declared.unit.Unit.{Unit}
 use Rattle.line21_screen.specs.declared.modes.Mode.{Mode}
 use Rattle.frame_scheduler.specs.LaneTimeline.{stands}
 use Rattle.frame_scheduler.specs.Timeline.{Timeline, first_of}
-use Rattle.resumed_lanes.specs.Parts.{size_of}
+use Rattle.resumed_lanes.specs.Parts.{part_slots}
 use Rattle.resumed_lanes.specs.ResumedLane.{ResumesAt, Stand}
 use Rattle.resumed_lanes.specs.Slots.{Slots}
 use Rattle.resumed_lanes.specs.Spans.{covers}
@@ -35,24 +35,24 @@ or_second true b is = refl
 or_second false b is = is
 
 -- the slots of a later unit, and those between it and the one before, are in the span
-pub covered_later : (end : ℕ) (part : Part) (parts : List Part) (f : ℕ) (fs : List ℕ) (m : ℕ) → part.later ≡ true → end ≤ m → m < f + size_of part
+pub covered_later : (end : ℕ) (part : Part) (parts : List Part) (f : ℕ) (fs : List ℕ) (m : ℕ) → part.later ≡ true → end ≤ m → m < f + part_slots part
     → covers end (part ∷ parts) (f ∷ fs) m ≡ true
 covered_later end part parts f fs m later high low =
-    or_true _ (covers (f + size_of part) parts fs m)
-    (rw later (let one : nat_le end m ≡ true = grind (arith, nat_tests) in let two : nat_lt m (f + size_of part) ≡ true = grind (arith, nat_tests) in rw (one, two) refl))
+    or_true _ (covers (f + part_slots part) parts fs m)
+    (rw later (let one : nat_le end m ≡ true = grind (arith, nat_tests) in let two : nat_lt m (f + part_slots part) ≡ true = grind (arith, nat_tests) in rw (one, two) refl))
 
-pub covered_own : (end : ℕ) (part : Part) (parts : List Part) (f : ℕ) (fs : List ℕ) (m : ℕ) → end ≤ f → f ≤ m → m < f + size_of part
+pub covered_own : (end : ℕ) (part : Part) (parts : List Part) (f : ℕ) (fs : List ℕ) (m : ℕ) → end ≤ f → f ≤ m → m < f + part_slots part
     → covers end (part ∷ parts) (f ∷ fs) m ≡ true
 covered_own end part parts f fs m behind high low =
-    or_true _ (covers (f + size_of part) parts fs m) (by_later part.later)
+    or_true _ (covers (f + part_slots part) parts fs m) (by_later part.later)
   where
-    by_later : (b : Bool) → (nat_le (if b then end else f) m && nat_lt m (f + size_of part)) ≡ true
-    by_later true = let one : nat_le end m ≡ true = grind (arith, nat_tests) in let two : nat_lt m (f + size_of part) ≡ true = grind (arith, nat_tests) in rw (one, two) refl
-    by_later false = let one : nat_le f m ≡ true = grind (arith, nat_tests) in let two : nat_lt m (f + size_of part) ≡ true = grind (arith, nat_tests) in rw (one, two) refl
+    by_later : (b : Bool) → (nat_le (if b then end else f) m && nat_lt m (f + part_slots part)) ≡ true
+    by_later true = let one : nat_le end m ≡ true = grind (arith, nat_tests) in let two : nat_lt m (f + part_slots part) ≡ true = grind (arith, nat_tests) in rw (one, two) refl
+    by_later false = let one : nat_le f m ≡ true = grind (arith, nat_tests) in let two : nat_lt m (f + part_slots part) ≡ true = grind (arith, nat_tests) in rw (one, two) refl
 
-pub covered_rest : (end : ℕ) (part : Part) (parts : List Part) (f : ℕ) (fs : List ℕ) (m : ℕ) → covers (f + size_of part) parts fs m ≡ true
+pub covered_rest : (end : ℕ) (part : Part) (parts : List Part) (f : ℕ) (fs : List ℕ) (m : ℕ) → covers (f + part_slots part) parts fs m ≡ true
     → covers end (part ∷ parts) (f ∷ fs) m ≡ true
-covered_rest end part parts f fs m is = or_second _ (covers (f + size_of part) parts fs m) is
+covered_rest end part parts f fs m is = or_second _ (covers (f + part_slots part) parts fs m) is
 
 -- up to a slot the lane is led by a control code of its own, behind which the other lane has nothing
 pub record IsLedUp (own other : Timeline) (end : ℕ) : Type 0 where
@@ -84,14 +84,14 @@ module _ (slots : Slots) (events t own other : Timeline)
       (mine : (n : ℕ) → end ≤ n → own n ≡ first_of (t n) (again (part ∷ parts) (r ∷ rs) n))
       (clear : (m : ℕ) → covers end (part ∷ parts) (f ∷ fs) m ≡ true → slots.foreign m ≡ false → other m ≡ None) where
     -- in its own slots the other lane has nothing
-    none_in : (m : ℕ) → f ≤ m → m < f + size_of part → other m ≡ None
+    none_in : (m : ℕ) → f ≤ m → m < f + part_slots part → other m ≡ None
     none_in m high low =
         clear m (covered_own end part parts f fs m stand.0.behind high low) (not_foreign m (stand.0.free m high low))
 
     own_at : own f ≡ Some part.piece.unit
     own_at = mine f stand.0.behind ∙ ap (λ u. first_of u (again (part ∷ parts) (r ∷ rs) f)) (at_slot slots events t held end part parts f fs r rs stand same)
 
-    mine_behind : (n : ℕ) → f + size_of part ≤ n → own n ≡ first_of (t n) (again parts rs n)
+    mine_behind : (n : ℕ) → f + part_slots part ≤ n → own n ≡ first_of (t n) (again parts rs n)
     mine_behind n high = by_resume r refl
       where
         by_resume : (q : Option ℕ) → r ≡ q → own n ≡ first_of (t n) (again parts rs n)
@@ -102,11 +102,11 @@ module _ (slots : Slots) (events t own other : Timeline)
             mine n (omega (arith, stand.0.behind)) ∙ ap (λ (q : Option ℕ). first_of (t n) (again (part ∷ parts) (q ∷ rs) n)) is
             ∙ ap (first_of (t n)) (again_at part parts at rs n false test)
 
-    clear_behind : (m : ℕ) → covers (f + size_of part) parts fs m ≡ true → slots.foreign m ≡ false → other m ≡ None
+    clear_behind : (m : ℕ) → covers (f + part_slots part) parts fs m ≡ true → slots.foreign m ≡ false → other m ≡ None
     clear_behind m is = clear m (covered_rest end part parts f fs m is)
 
     -- a cue's first unit leads on
-    led_begun : Begins part → IsLedUp own other (f + size_of part)
+    led_begun : Begins part → IsLedUp own other (f + part_slots part)
     led_begun begins = record {
       at = f;
       before = omega (arith, some_size part);
@@ -156,7 +156,7 @@ module _ (slots : Slots) (events t own other : Timeline)
                     clear m (covered_later end part parts f fs m later (omega arith) (omega arith)) (resume.last_is.none_later m (omega (arith, resume.at_is.behind)) below);
               }
 
-      led_behind : IsLedUp own other (f + size_of part)
+      led_behind : IsLedUp own other (f + part_slots part)
       led_behind = record {
         at = led_up.at;
         before = omega (arith, led_up.before);
@@ -185,7 +185,7 @@ module _ (slots : Slots) (events t own other : Timeline)
       (same : (n : ℕ) → end ≤ n → t n ≡ first_of (events n) (stands (pieces_of (part ∷ parts)) (f ∷ fs) n))
       (mine : (n : ℕ) → end ≤ n → own n ≡ first_of (t n) (again (part ∷ parts) (r ∷ rs) n))
       (clear : (m : ℕ) → covers end (part ∷ parts) (f ∷ fs) m ≡ true → slots.foreign m ≡ false → other m ≡ None) where
-    behind_next : (former : Option Part) (later : Bool) → part.later ≡ later → IsBehind later former part → BehindUnit end former → IsBehindUnit (f + size_of part) part
+    behind_next : (former : Option Part) (later : Bool) → part.later ≡ later → IsBehind later former part → BehindUnit end former → IsBehindUnit (f + part_slots part) part
     behind_next former false is begins behind = record {
       led = led_begun end part parts f fs r rs stand same mine clear begins;
       mode = begins.mode;
@@ -221,7 +221,7 @@ module _ (slots : Slots) (events t own other : Timeline)
   led_all end former (part ∷ parts) (f ∷ fs) [] stand same mine clear cues behind n unit is text = absurd stand
   led_all end former (part ∷ parts) (f ∷ fs) (r ∷ rs) stand same mine clear cues behind n unit is text =
       by_slot (n == f) refl
-      (λ rest. led_all (f + size_of part) (Some part) parts fs rs stand.2 (same_behind slots events t held end part parts f fs r rs stand same)
+      (λ rest. led_all (f + part_slots part) (Some part) parts fs rs stand.2 (same_behind slots events t held end part parts f fs r rs stand same)
       (mine_behind end part parts f fs r rs stand same mine clear) (clear_behind end part parts f fs r rs stand same mine clear) cues.1
       (behind_next end part parts f fs r rs stand same mine clear former part.later refl cues.0 behind) n unit rest text)
     where

@@ -15,7 +15,7 @@ use Rattle.line21_codes.specs.declared.codes.Control.TheVariants.{Cr, Edm, Enm, 
 use Rattle.line21_codes.specs.Channels.{field_of_channel}
 use Rattle.line21_codes.specs.Reading.{code_of}
 use Rattle.line21_codes.specs.Writable.{IsWritable}
-use Rattle.line21_codes.specs.Writing.{written}
+use Rattle.line21_codes.specs.Writing.{pair_of_code}
 use Rattle.line21_codes.proofs.CodeLemmas.{written-code_of}
 use Rattle.cue_lists.specs.Cues.{IsCueFormed}
 use Rattle.cue_lists.specs.Rules.Lane.{is_line21, is_pop}
@@ -246,10 +246,10 @@ parts_are events channel number (cue ∷ cues) formed quiet former =
 
 -- an event of cues shows one of them or hides one
 abbrev showing_unit : FieldNumber → Unit
-showing_unit f = record { pair = written f (first_channel Eoc); doubled = true }
+showing_unit f = record { pair = pair_of_code f (first_channel Eoc); doubled = true }
 
 abbrev hiding_unit : FieldNumber → Unit
-hiding_unit f = record { pair = written f (first_channel Edm); doubled = true }
+hiding_unit f = record { pair = pair_of_code f (first_channel Edm); doubled = true }
 
 event_append : (es fs : List Event) (n : ℕ) → event_at (es ++ fs) n ≡ first_of (event_at es n) (event_at fs n)
 event_append [] fs n = refl

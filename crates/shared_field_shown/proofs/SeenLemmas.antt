@@ -34,12 +34,12 @@ use Rattle.line21_shown.specs.Doing.{does}
 use Rattle.line21_shown.specs.Reading.{acts, does_unit, pairs_before}
 use Rattle.line21_shown.proofs.SequenceLemmas.{channel_shown}
 use Rattle.placements.specs.Placing.{IsPlaced}
-use Rattle.resumed_lanes.specs.Parts.{size_of}
+use Rattle.resumed_lanes.specs.Parts.{part_slots}
 use Rattle.resumed_lanes.specs.ResumedLane.{ResumesAt, Stand}
 use Rattle.resumed_lanes.specs.Slots.{Slots}
 use Rattle.resumed_lanes.specs.Spans.{in_spans}
 use Rattle.resumed_lanes.specs.declared.part.Part.{Part}
-use Rattle.shared_field_shown.specs.Lanes.{AreCues, AreQuiet, IsBehind, pieces_of, plain}
+use Rattle.shared_field_shown.specs.Lanes.{AreCues, AreQuiet, IsBehind, pieces_of, plain_timeline}
 use Rattle.shared_field_shown.specs.ChannelParts.{channel_parts}
 use Rattle.shared_field_shown.specs.Resuming.{keeps_mode, opens}
 use Rattle.shared_field_shown.specs.Seen.{field_timeline, as_second, first_events, second_events, second_part, second_parts, second_timeline, second_unit}
@@ -160,7 +160,7 @@ module _ (f : FieldNumber) where
   first_second None v = refl
   first_second (Some u) v = refl
 
-  plain_second : (events : Timeline) (parts : List Part) (fs : List ℕ) (n : ℕ) → plain (second_timeline f events) (second_parts f parts) fs n ≡ second_timeline f (plain events parts fs) n
+  plain_second : (events : Timeline) (parts : List Part) (fs : List ℕ) (n : ℕ) → plain_timeline (second_timeline f events) (second_parts f parts) fs n ≡ second_timeline f (plain_timeline events parts fs) n
   plain_second events parts fs n =
       ap (first_of (second_timeline f events n)) (stands_second parts fs n) ∙ first_second (events n) (stands (pieces_of parts) fs n)
 
@@ -229,7 +229,7 @@ module _ (f : FieldNumber) where
             let same : part.piece.unit ≡ unit = cc in subst (IsOfChannel One) same own.0
         by_test false test rest = let on : stands (pieces_of ps) fs n ≡ Some unit = sym (rw test refl) ∙ is in rest on
 
-    plain_own : (fs : List ℕ) (n : ℕ) (unit : Unit) → plain events parts fs n ≡ Some unit → IsOfChannel One unit
+    plain_own : (fs : List ℕ) (n : ℕ) (unit : Unit) → plain_timeline events parts fs n ≡ Some unit → IsOfChannel One unit
     plain_own fs n unit is = by_event (events n) refl
       where
         by_event : (u : Option Unit) → events n ≡ u → IsOfChannel One unit
@@ -248,7 +248,7 @@ module _ (f : FieldNumber) where
   back slots end (part ∷ parts) (g ∷ fs) (r ∷ rs) stand = (
     record { behind = stand.0.behind; loaded = stand.0.loaded; ended = stand.0.ended; free = stand.0.free; resumed = stand.0.resumed },
     resumes r stand.1,
-    back slots (g + size_of part) parts fs rs stand.2,
+    back slots (g + part_slots part) parts fs rs stand.2,
   )
     where
       resumes : (q : Option ℕ) → ResumesAt slots end (second_part f part) g q → ResumesAt slots end part g q
@@ -305,7 +305,7 @@ stand_placed events slots free before end at (part ∷ parts) (g ∷ fs) (r ∷ 
     ended = stand.0.ended;
     free = λ n high low. free n (stand.0.free n high low);
   },
-  stand_placed events slots free (before ++ (part.piece, g) ∷ []) (g + size_of part) (end_push before part.piece g) parts fs rs stand.2,
+  stand_placed events slots free (before ++ (part.piece, g) ∷ []) (g + part_slots part) (end_push before part.piece g) parts fs rs stand.2,
 )
 
 pub second_not : (a b c : Bool) → (not a && (not b && not c)) ≡ true → b ≡ false
@@ -356,7 +356,7 @@ module _ (of_list : Chan) (slots : ℕ) (cues others : List Cue) (fs gs : List �
       [] 0 refl (channel_parts of_list others) gs qs
       (back (field_of_channel of_list) (second_slots (first_events of_list cues) (second_events of_list others) (in_spans (channel_parts of_list cues) fs)) 0 (channel_parts of_list others) gs qs are.beside))
 
-  plain_is : (all : List Cue) (hs : List ℕ) (n : ℕ) → plain (first_events of_list all) (channel_parts of_list all) hs n ≡ lane_timeline (channel_events of_list all) (channel_pieces of_list all) hs n
+  plain_is : (all : List Cue) (hs : List ℕ) (n : ℕ) → plain_timeline (first_events of_list all) (channel_parts of_list all) hs n ≡ lane_timeline (channel_events of_list all) (channel_pieces of_list all) hs n
   plain_is all hs n = ap (λ (l : List Piece). first_of (event_at (channel_events of_list all) n) (stands l hs n)) (pieces_from_back of_list 1 all)
 
   acts_same : (t u : Timeline) → ((n : ℕ) → t n ≡ u n) → (n : ℕ) → acts t n ≡ acts u n
@@ -370,17 +370,17 @@ module _ (of_list : Chan) (slots : ℕ) (cues others : List Cue) (fs gs : List �
       record {
         first = λ settled.
             ap (λ (s : ChannelState). s.displayed) alone.first
-            ∙ ap (λ (s : ChannelState). s.displayed) (acts_same (plain (first_events of_list cues) (channel_parts of_list cues) fs)
+            ∙ ap (λ (s : ChannelState). s.displayed) (acts_same (plain_timeline (first_events of_list cues) (channel_parts of_list cues) fs)
             (lane_timeline (channel_events of_list cues) (channel_pieces of_list cues) fs) (plain_is cues fs) (suc k))
             ∙ channel_shown slots of_list cues fs are.formed are.sequence placed k settled;
         second = λ settled.
             ap (λ (s : ChannelState). s.displayed) alone.second
-            ∙ ap (λ (s : ChannelState). s.displayed) (acts_same (plain (second_events of_list others) (second_parts (field_of_channel of_list) (channel_parts of_list others)) gs)
-            (second_timeline (field_of_channel of_list) (plain (first_events of_list others) (channel_parts of_list others) gs))
+            ∙ ap (λ (s : ChannelState). s.displayed) (acts_same (plain_timeline (second_events of_list others) (second_parts (field_of_channel of_list) (channel_parts of_list others)) gs)
+            (second_timeline (field_of_channel of_list) (plain_timeline (first_events of_list others) (channel_parts of_list others) gs))
             (plain_second (field_of_channel of_list) (first_events of_list others) (channel_parts of_list others) gs) (suc k))
-            ∙ ap (λ (s : ChannelState). s.displayed) (acts_second (field_of_channel of_list) (plain (first_events of_list others) (channel_parts of_list others) gs)
+            ∙ ap (λ (s : ChannelState). s.displayed) (acts_second (field_of_channel of_list) (plain_timeline (first_events of_list others) (channel_parts of_list others) gs)
             (plain_own (field_of_channel of_list) (first_events of_list others) (channel_parts of_list others) others_listed gs) (suc k))
-            ∙ ap (λ (s : ChannelState). s.displayed) (acts_same (plain (first_events of_list others) (channel_parts of_list others) gs)
+            ∙ ap (λ (s : ChannelState). s.displayed) (acts_same (plain_timeline (first_events of_list others) (channel_parts of_list others) gs)
             (lane_timeline (channel_events of_list others) (channel_pieces of_list others) gs) (plain_is others gs) (suc k))
             ∙ channel_shown slots of_list others gs are.others_formed are.others_sequence others_placed k settled;
       }

@@ -15,13 +15,13 @@ use Rattle.frame_scheduler.specs.DoubledPairs.{IsDoubled}
 use Rattle.frame_scheduler.specs.Timeline.{Timeline, column, first_of, over, repeat_at, repeat_of}
 use Rattle.frame_scheduler.proofs.ColumnLemmas.{column_doubled}
 use Rattle.line21_shown.specs.Reading.{acts, does_unit, IsMarked}
-use Rattle.resumed_lanes.specs.Parts.{BeginWithFirst, size_of}
+use Rattle.resumed_lanes.specs.Parts.{BeginWithFirst, part_slots}
 use Rattle.resumed_lanes.specs.ResumedLane.{Stand}
 use Rattle.resumed_lanes.specs.Slots.{Slots}
 use Rattle.resumed_lanes.specs.Spans.{GoOn, covers, in_spans}
 use Rattle.resumed_lanes.proofs.SpansLemmas.{spans_covered}
 use Rattle.resumed_lanes.specs.declared.part.Part.{Part}
-use Rattle.shared_field_shown.specs.Lanes.{AreCues, IsBehind, IsLane, again, pieces_of, plain, whole}
+use Rattle.shared_field_shown.specs.Lanes.{AreCues, IsBehind, IsLane, again, pieces_of, plain_timeline, whole}
 use Rattle.shared_field_shown.specs.Own.{own_of}
 use Rattle.shared_field_shown.specs.Sharing.{AreFor, AreShared, IsLed, is_text}
 use Rattle.resumed_lanes.specs.FieldSlots.{first_slots, holds, second_slots}
@@ -58,15 +58,15 @@ unit_occupies slots end [] fs rs n unit stand is = cc
 unit_occupies slots end (part ∷ parts) [] rs n unit stand is = cc
 unit_occupies slots end (part ∷ parts) (f ∷ fs) [] n unit stand is = absurd stand
 unit_occupies slots end (part ∷ parts) (f ∷ fs) (r ∷ rs) n unit stand is =
-    by_slot (n == f) refl (λ rest. unit_occupies slots (f + size_of part) parts fs rs n unit stand.2 rest)
+    by_slot (n == f) refl (λ rest. unit_occupies slots (f + part_slots part) parts fs rs n unit stand.2 rest)
   where
-    by_slot : (b : Bool) → (n == f) ≡ b → (stands (pieces_of parts) fs n ≡ Some unit → Occupies slots (f + size_of part) parts fs rs n unit.doubled)
+    by_slot : (b : Bool) → (n == f) ≡ b → (stands (pieces_of parts) fs n ≡ Some unit → Occupies slots (f + part_slots part) parts fs rs n unit.doubled)
         → Occupies slots end (part ∷ parts) (f ∷ fs) (r ∷ rs) n unit.doubled
     by_slot true test rest =
         let here : n ≡ f = grind (arith, nat_tests) in
         let it : Some part.piece.unit ≡ Some unit = sym (stands_at part parts f fs n true test) ∙ is in
         let same : part.piece.unit ≡ unit = cc in
-        let two : unit.doubled ≡ true → size_of part ≡ 2 = λ doubled. two_size part (ap (λ (u : Unit). u.doubled) same ∙ doubled) in
+        let two : unit.doubled ≡ true → part_slots part ≡ 2 = λ doubled. two_size part (ap (λ (u : Unit). u.doubled) same ∙ doubled) in
         record {
           here = record {
             free = stand.0.free n (omega arith) (omega (arith, some_size part));
@@ -79,20 +79,20 @@ unit_occupies slots end (part ∷ parts) (f ∷ fs) (r ∷ rs) n unit stand is =
           no_unit = λ doubled.
               let s = two doubled in
               let after' : (suc n == f) ≡ false = grind (arith, nat_tests) in
-              stands_at part parts f fs (suc n) false after' ∙ stands_none slots (f + size_of part) parts fs rs (suc n) stand.2 (omega arith);
+              stands_at part parts f fs (suc n) false after' ∙ stands_none slots (f + part_slots part) parts fs rs (suc n) stand.2 (omega arith);
           no_again = λ doubled.
               let s = two doubled in
-              again_behind slots end part parts f fs r rs (suc n) stand (omega arith) ∙ again_none slots (f + size_of part) parts fs rs (suc n) stand.2 (omega arith);
+              again_behind slots end part parts f fs r rs (suc n) stand (omega arith) ∙ again_none slots (f + part_slots part) parts fs rs (suc n) stand.2 (omega arith);
         }
     by_slot false test rest =
         let w = rest (sym (stands_at part parts f fs n false test) ∙ is) in
-        let late : f + size_of part ≤ n =
+        let late : f + part_slots part ≤ n =
         ⊎_elim
-        (λ (low : n < f + size_of part).
-        let none : stands (pieces_of parts) fs n ≡ None = stands_none slots (f + size_of part) parts fs rs n stand.2 low in
+        (λ (low : n < f + part_slots part).
+        let none : stands (pieces_of parts) fs n ≡ None = stands_none slots (f + part_slots part) parts fs rs n stand.2 low in
         let wrong : Some unit ≡ None = sym is ∙ stands_at part parts f fs n false test ∙ none in absurd (cc))
-        (λ (high : f + size_of part ≤ n). high)
-        (cases_lt n (f + size_of part)) in
+        (λ (high : f + part_slots part ≤ n). high)
+        (cases_lt n (f + part_slots part)) in
         let after' : (suc n == f) ≡ false = grind (arith, nat_tests) in
         record {
           here = record { free = w.here.free; covered = covered_rest end part parts f fs n w.here.covered };
@@ -114,16 +114,16 @@ again_occupies slots end [] fs rs n unit stand is = cc
 again_occupies slots end (part ∷ parts) fs [] n unit stand is = cc
 again_occupies slots end (part ∷ parts) [] (r ∷ rs) n unit stand is = absurd stand
 again_occupies slots end (part ∷ parts) (f ∷ fs) (r ∷ rs) n unit stand is =
-    by_resume r refl (λ rest. again_occupies slots (f + size_of part) parts fs rs n unit stand.2 rest)
+    by_resume r refl (λ rest. again_occupies slots (f + part_slots part) parts fs rs n unit stand.2 rest)
   where
     -- behind the unit
-    later : OccupiesAgain slots (f + size_of part) parts fs rs n → again parts rs n ≡ Some unit → OccupiesAgain slots end (part ∷ parts) (f ∷ fs) (r ∷ rs) n
+    later : OccupiesAgain slots (f + part_slots part) parts fs rs n → again parts rs n ≡ Some unit → OccupiesAgain slots end (part ∷ parts) (f ∷ fs) (r ∷ rs) n
     later w at =
-        let late : f + size_of part ≤ n =
+        let late : f + part_slots part ≤ n =
         ⊎_elim
-        (λ (low : n < f + size_of part). let none : again parts rs n ≡ None = again_none slots (f + size_of part) parts fs rs n stand.2 low in let wrong : Some unit ≡ None = sym at ∙ none in absurd (cc))
-        (λ (high : f + size_of part ≤ n). high)
-        (cases_lt n (f + size_of part)) in
+        (λ (low : n < f + part_slots part). let none : again parts rs n ≡ None = again_none slots (f + part_slots part) parts fs rs n stand.2 low in let wrong : Some unit ≡ None = sym at ∙ none in absurd (cc))
+        (λ (high : f + part_slots part ≤ n). high)
+        (cases_lt n (f + part_slots part)) in
         let after' : (suc n == f) ≡ false = let s = some_size part in grind (arith, nat_tests) in
         record {
           here = record { free = w.here.free; covered = covered_rest end part parts f fs n w.here.covered };
@@ -132,7 +132,7 @@ again_occupies slots end (part ∷ parts) (f ∷ fs) (r ∷ rs) n unit stand is 
           no_again = again_behind slots end part parts f fs r rs (suc n) stand (omega arith) ∙ w.no_again;
         }
 
-    by_resume : (q : Option ℕ) → r ≡ q → (again parts rs n ≡ Some unit → OccupiesAgain slots (f + size_of part) parts fs rs n)
+    by_resume : (q : Option ℕ) → r ≡ q → (again parts rs n ≡ Some unit → OccupiesAgain slots (f + part_slots part) parts fs rs n)
         → OccupiesAgain slots end (part ∷ parts) (f ∷ fs) (r ∷ rs) n
     by_resume None r_is rest =
         let at : again parts rs n ≡ Some unit = sym (ap (λ (q : Option ℕ). again (part ∷ parts) (q ∷ rs) n) r_is) ∙ is in
@@ -161,9 +161,9 @@ again_occupies slots end (part ∷ parts) (f ∷ fs) (r ∷ rs) n unit stand is 
                 free = ap slots.free (sym e) ∙ resume.at_is.second;
                 covered = covered_later end part parts f fs (suc n) stand_q.1.0 (omega (arith, resume.last_is.behind, resume.at_is.behind)) (omega (arith, resume.at_is.before, some_size part));
               };
-              no_unit = stands_at part parts f fs (suc n) false after' ∙ stands_none slots (f + size_of part) parts fs rs (suc n) stand.2 (omega (arith, resume.at_is.before, some_size part));
+              no_unit = stands_at part parts f fs (suc n) false after' ∙ stands_none slots (f + part_slots part) parts fs rs (suc n) stand.2 (omega (arith, resume.at_is.before, some_size part));
               no_again = ap (λ (q : Option ℕ). again (part ∷ parts) (q ∷ rs) (suc n)) r_is ∙ again_at part parts q rs (suc n) false not_q
-                  ∙ again_none slots (f + size_of part) parts fs rs (suc n) stand.2 (omega (arith, resume.at_is.before, some_size part));
+                  ∙ again_none slots (f + part_slots part) parts fs rs (suc n) stand.2 (omega (arith, resume.at_is.before, some_size part));
             }
         by_slot false test =
             let at : again parts rs n ≡ Some unit = sym (again_at part parts q rs n false test) ∙ is_q in
@@ -202,15 +202,15 @@ module _ (c : DataChannel) (slots : Slots) (events : Timeline) (parts : List Par
   source : (n : ℕ) (unit : Unit) → whole events parts fs rs n ≡ Some unit → Source slots (covers 0 parts fs) events n unit
   source n unit is =
       ⊎_elim
-      (λ (at : plain events parts fs n ≡ Some unit).
+      (λ (at : plain_timeline events parts fs n ≡ Some unit).
       ⊎_elim
       (λ (event : events n ≡ Some unit). inl event)
       (λ (w : (events n ≡ None) × (stands (pieces_of parts) fs n ≡ Some unit)).
       let o = unit_occupies slots 0 parts fs rs n unit stand w.1 in inr (o.here, o.next))
       (or_else (events n) (stands (pieces_of parts) fs n) unit at))
-      (λ (w : (plain events parts fs n ≡ None) × (again parts rs n ≡ Some unit)).
+      (λ (w : (plain_timeline events parts fs n ≡ None) × (again parts rs n ≡ Some unit)).
       let o = again_occupies slots 0 parts fs rs n unit stand w.1 in inr (o.here, λ doubled. o.next))
-      (or_else (plain events parts fs n) (again parts rs n) unit is)
+      (or_else (plain_timeline events parts fs n) (again parts rs n) unit is)
 
   -- no event begins in a slot of the lane's
   no_event : (n : ℕ) → slots.free n ≡ true → events n ≡ None
@@ -230,25 +230,25 @@ module _ (c : DataChannel) (slots : Slots) (events : Timeline) (parts : List Par
   spaced : (n : ℕ) (unit : Unit) → whole events parts fs rs n ≡ Some unit → unit.doubled ≡ true → whole events parts fs rs (suc n) ≡ None
   spaced n unit is doubled =
       ⊎_elim
-      (λ (at : plain events parts fs n ≡ Some unit).
+      (λ (at : plain_timeline events parts fs n ≡ Some unit).
       ⊎_elim
       (λ (event : events n ≡ Some unit).
       let taken = (held n unit event).1 in
-      none_both (plain events parts fs (suc n)) (again parts rs (suc n))
+      none_both (plain_timeline events parts fs (suc n)) (again parts rs (suc n))
       (none_both (events (suc n)) (stands (pieces_of parts) fs (suc n)) (listed.apart n unit event) (no_unit_behind (suc n) taken))
       (no_again_behind (suc n) taken))
       (λ (w : (events n ≡ None) × (stands (pieces_of parts) fs n ≡ Some unit)).
       let o = unit_occupies slots 0 parts fs rs n unit stand w.1 in
-      none_both (plain events parts fs (suc n)) (again parts rs (suc n))
+      none_both (plain_timeline events parts fs (suc n)) (again parts rs (suc n))
       (none_both (events (suc n)) (stands (pieces_of parts) fs (suc n)) (no_event (suc n) (o.next doubled).free) (o.no_unit doubled))
       (o.no_again doubled))
       (or_else (events n) (stands (pieces_of parts) fs n) unit at))
-      (λ (w : (plain events parts fs n ≡ None) × (again parts rs n ≡ Some unit)).
+      (λ (w : (plain_timeline events parts fs n ≡ None) × (again parts rs n ≡ Some unit)).
       let o = again_occupies slots 0 parts fs rs n unit stand w.1 in
-      none_both (plain events parts fs (suc n)) (again parts rs (suc n))
+      none_both (plain_timeline events parts fs (suc n)) (again parts rs (suc n))
       (none_both (events (suc n)) (stands (pieces_of parts) fs (suc n)) (no_event (suc n) o.next.free) o.no_unit)
       o.no_again)
-      (or_else (plain events parts fs n) (again parts rs n) unit is)
+      (or_else (plain_timeline events parts fs n) (again parts rs n) unit is)
 
   -- what is said of each unit is so of one that begins
   part_own : (ps : List Part) (gs : List ℕ) (n : ℕ) (unit : Unit) → AreOfChannel c ps → stands (pieces_of ps) gs n ≡ Some unit → IsOfChannel c unit
@@ -277,13 +277,13 @@ module _ (c : DataChannel) (slots : Slots) (events : Timeline) (parts : List Par
   all_own : (n : ℕ) (unit : Unit) → whole events parts fs rs n ≡ Some unit → IsOfChannel c unit
   all_own n unit is =
       ⊎_elim
-      (λ (at : plain events parts fs n ≡ Some unit).
+      (λ (at : plain_timeline events parts fs n ≡ Some unit).
       ⊎_elim
       (λ (event : events n ≡ Some unit). listed.events_own n unit event)
       (λ (w : (events n ≡ None) × (stands (pieces_of parts) fs n ≡ Some unit)). part_own parts fs n unit listed.parts_own w.1)
       (or_else (events n) (stands (pieces_of parts) fs n) unit at))
-      (λ (w : (plain events parts fs n ≡ None) × (again parts rs n ≡ Some unit)). again_own parts rs n unit listed.parts_own w.1)
-      (or_else (plain events parts fs n) (again parts rs n) unit is)
+      (λ (w : (plain_timeline events parts fs n ≡ None) × (again parts rs n ≡ Some unit)). again_own parts rs n unit listed.parts_own w.1)
+      (or_else (plain_timeline events parts fs n) (again parts rs n) unit is)
 
   module _ (sound : (n : ℕ) → slots.foreign n ≡ true → slots.free n ≡ false) where
     abbrev held_at : (n : ℕ) (unit : Unit) → events n ≡ Some unit → (slots.free n ≡ false) × (slots.free (n + 1) ≡ false)
@@ -303,16 +303,16 @@ module _ (c : DataChannel) (slots : Slots) (events : Timeline) (parts : List Par
     is_led : (other : Timeline) → ((m : ℕ) → covers 0 parts fs m ≡ true → slots.foreign m ≡ false → other m ≡ None) → IsLed (whole events parts fs rs) other
     is_led other clear n unit is text =
         ⊎_elim
-        (λ (at : plain events parts fs n ≡ Some unit).
+        (λ (at : plain_timeline events parts fs n ≡ Some unit).
         ⊎_elim
         (λ (event : events n ≡ Some unit). let wrong : is_text (code_of unit.pair) ≡ false = listed.controls n unit event in absurd (cc))
         (λ (w : (events n ≡ None) × (stands (pieces_of parts) fs n ≡ Some unit)).
-        led_all slots events (plain events parts fs) (whole events parts fs rs) other held_at sound 0 None parts fs rs stand (λ m from. refl) (λ m from. refl) clear listed.cues tt n unit w.1 text)
+        led_all slots events (plain_timeline events parts fs) (whole events parts fs rs) other held_at sound 0 None parts fs rs stand (λ m from. refl) (λ m from. refl) clear listed.cues tt n unit w.1 text)
         (or_else (events n) (stands (pieces_of parts) fs n) unit at))
-        (λ (w : (plain events parts fs n ≡ None) × (again parts rs n ≡ Some unit)).
+        (λ (w : (plain_timeline events parts fs n ≡ None) × (again parts rs n ≡ Some unit)).
         let resumed = lane_resumed slots events parts fs rs is_lane n unit w.1 in
         let wrong : is_text (code_of unit.pair) ≡ false = opener_plain (code_of unit.pair) resumed.mode resumed.opens_it in absurd (cc))
-        (or_else (plain events parts fs n) (again parts rs n) unit is)
+        (or_else (plain_timeline events parts fs n) (again parts rs n) unit is)
 
 -- the tests of the slots
 pub both_not : (a b : Bool) → (not a && not b) ≡ true → (a ≡ false) × (b ≡ false)
@@ -364,7 +364,7 @@ goes_on : (slots : Slots) (end : ℕ) (parts : List Part) (fs : List ℕ) (rs : 
 goes_on slots end [] fs rs stand = tt
 goes_on slots end (part ∷ parts) [] rs stand = tt
 goes_on slots end (part ∷ parts) (f ∷ fs) [] stand = absurd stand
-goes_on slots end (part ∷ parts) (f ∷ fs) (r ∷ rs) stand = (stand.0.behind, goes_on slots (f + size_of part) parts fs rs stand.2)
+goes_on slots end (part ∷ parts) (f ∷ fs) (r ∷ rs) stand = (stand.0.behind, goes_on slots (f + part_slots part) parts fs rs stand.2)
 
 module _ (in_field : FieldNumber) (one two : Timeline) (parts others : List Part) (fs gs : List ℕ) (rs qs : List (Option ℕ))
     (are : AreTogether one two parts others fs gs rs qs) where
@@ -418,7 +418,7 @@ module _ (in_field : FieldNumber) (one two : Timeline) (parts others : List Part
 
   -- in the first lane's spans the second has nothing but its events
   clear1 : (m : ℕ) → covers 0 parts fs m ≡ true → slots1.foreign m ≡ false → t2 m ≡ None
-  clear1 m spanned plain' =
+  clear1 m spanned plain_timeline' =
       nothing_is (t2 m)
       (λ unit is.
       ⊎_elim
@@ -429,8 +429,8 @@ module _ (in_field : FieldNumber) (one two : Timeline) (parts others : List Part
 
   -- in slots that aren't foreign to the second lane the first has nothing
   clear2 : (m : ℕ) → slots2.foreign m ≡ false → t1 m ≡ None
-  clear2 m plain' =
-      let none = either_false (holds one m) (spans m) plain' in
+  clear2 m plain_timeline' =
+      let none = either_false (holds one m) (spans m) plain_timeline' in
       nothing_is (t1 m)
       (λ unit is.
       ⊎_elim
@@ -524,11 +524,11 @@ module _ (in_field : FieldNumber) (one two : Timeline) (parts others : List Part
     first =
         ap (channel One) (fields_read in_field (over t1 t2) marked n) ∙ channels_own in_field (over t1 t2) One n
         ∙ acts_same (own_of in_field One (over t1 t2)) t1 (λ m. (shared_own in_field t1 t2 shared m).first) n
-        ∙ resumes_idle (plain one parts fs) (again parts rs) (lane_resumed slots1 one parts fs rs (is_lane One slots1 one parts fs rs are.first are.stand held1 sound1)) n;
+        ∙ resumes_idle (plain_timeline one parts fs) (again parts rs) (lane_resumed slots1 one parts fs rs (is_lane One slots1 one parts fs rs are.first are.stand held1 sound1)) n;
     second =
         ap (channel Two) (fields_read in_field (over t1 t2) marked n) ∙ channels_own in_field (over t1 t2) Two n
         ∙ acts_same (own_of in_field Two (over t1 t2)) t2 (λ m. (shared_own in_field t1 t2 shared m).second) n
-        ∙ resumes_idle (plain two others gs) (again others qs) (lane_resumed slots2 two others gs qs (is_lane Two slots2 two others gs qs are.second are.beside held2 sound2)) n;
+        ∙ resumes_idle (plain_timeline two others gs) (again others qs) (lane_resumed slots2 two others gs qs (is_lane Two slots2 two others gs qs are.second are.beside held2 sound2)) n;
   }
 
 pub together_alone : TogetherIsAlone

@@ -1,3 +1,4 @@
+-- Believed: the program's answer stands on these definitions.
 -- The units of a channel's cues, each with the first one of its cue.
 use Rattle.std.specs.Prelude.{ℕ, suc, true, false, if◌then◌else◌, List, [], ◌∷◌, ◌++◌, map}
 use Rattle.line21_codes.specs.declared.channels.Chan.{Chan}

@@ -1,3 +1,4 @@
+-- Believed in part: the program's answer stands on some of these definitions.
 -- What a viewer sees of the frames of two cue lists: each field carries a channel of both.
 use Rattle.std.specs.Prelude.{◌≡◌, ℕ, List, Option, option_map, true, false}
 use Rattle.line21_codes.specs.declared.channels.Chan.{Chan}

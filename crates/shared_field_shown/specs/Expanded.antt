@@ -1,3 +1,4 @@
+-- Between crates: the program's answer stands on none of these definitions.
 -- The units of a lane with those that come again, as one list: a placement of the longer list in a lane of its own events.
 use Rattle.std.specs.Prelude.{◌≡◌, ℕ, true, List, [], ◌∷◌, Option, Some, None}
 use Rattle.line21_author.specs.declared.event.Event.{Event}

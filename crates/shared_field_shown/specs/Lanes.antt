@@ -1,3 +1,4 @@
+-- Believed in part: the program's answer stands on some of these definitions.
 -- A lane beside another one of its field: its timeline, with the first units of cues that come again, and what its cues give.
 use Rattle.std.specs.Prelude.{◌≡◌, ⊤, ℕ, ◌+◌, ◌<◌, ◌==◌, Bool, true, false, if◌then◌else◌, List, [], ◌∷◌, Option, Some, None, map}
 use Rattle.line21_codes.specs.Reading.{code_of}
@@ -24,12 +25,12 @@ abbrev pub pieces_of : List Part → List Piece
 pieces_of parts = map (λ part. part.piece) parts
 
 -- the lane's own timeline, without them
-abbrev pub plain : Timeline → List Part → List ℕ → Timeline
-plain events parts fs = over events (stands (pieces_of parts) fs)
+abbrev pub plain_timeline : Timeline → List Part → List ℕ → Timeline
+plain_timeline events parts fs = over events (stands (pieces_of parts) fs)
 
 -- with the first units that come again
 abbrev pub whole : Timeline → List Part → List ℕ → List (Option ℕ) → Timeline
-whole events parts fs rs = over (plain events parts fs) (again parts rs)
+whole events parts fs rs = over (plain_timeline events parts fs) (again parts rs)
 
 -- a cue's first unit begins its mode, and is doubled
 pub record Begins (part : Part) : Type 0 where

@@ -1,3 +1,4 @@
+-- Believed in part: the program's answer stands on some of these definitions.
 -- What a viewer sees of a field that two cue lists share: the second list's codes are those of data channel 2.
 use Rattle.std.specs.Prelude.{ℕ, true, List, Option, map, option_map}
 use Rattle.line21_codes.specs.declared.channels.Chan.{Chan}
@@ -6,7 +7,7 @@ use Rattle.line21_codes.specs.declared.codes.Code.{Code}
 use Rattle.line21_codes.specs.declared.codes.Code.TheVariants.{Null, Text, Xds, Control}
 use Rattle.line21_codes.specs.Channels.{field_of_channel}
 use Rattle.line21_codes.specs.Reading.{code_of}
-use Rattle.line21_codes.specs.Writing.{written}
+use Rattle.line21_codes.specs.Writing.{pair_of_code}
 use Rattle.cue_lists.specs.declared.cue.Cue.{Cue}
 use Rattle.line21_author.specs.CueEvents.{channel_events}
 use Rattle.line21_author.specs.declared.unit.Unit.{Unit}
@@ -25,7 +26,7 @@ as_second (Control second control) = Control true control
 
 -- the unit of that code in a field
 abbrev pub second_unit : FieldNumber → Unit → Unit
-second_unit in_field unit = record { pair = written in_field (as_second (code_of unit.pair)); doubled = unit.doubled }
+second_unit in_field unit = record { pair = pair_of_code in_field (as_second (code_of unit.pair)); doubled = unit.doubled }
 
 -- with each unit so
 abbrev pub second_timeline : FieldNumber → Timeline → Timeline

@@ -1,3 +1,4 @@
+-- Between crates: the program's answer stands on none of these definitions.
 -- Two timelines in one field: when each channel gets just its own.
 use Rattle.std.specs.Prelude.{◌≡◌, ⊤, ℕ, ◌<◌, Bool, true, false, Some, None}
 use Rattle.line21_codes.specs.declared.channels.FieldNumber.{FieldNumber}

@@ -1,3 +1,4 @@
+-- Between crates: the program's answer stands on none of these definitions.
 -- Two lanes in one field, and what each of its channels gets.
 use Rattle.std.specs.Prelude.{◌≡◌, ⊤, ℕ, suc, true, false, List, [], ◌∷◌, Option, Some, None}
 use Rattle.line21_codes.specs.declared.channels.FieldNumber.{FieldNumber}
@@ -15,7 +16,7 @@ use Rattle.resumed_lanes.specs.ResumedLane.{Stand}
 use Rattle.resumed_lanes.specs.FieldSlots.{first_slots, holds, second_slots}
 use Rattle.resumed_lanes.specs.Spans.{in_spans}
 use Rattle.resumed_lanes.specs.declared.part.Part.{Part}
-use Rattle.shared_field_shown.specs.Lanes.{AreCues, AreQuiet, plain, whole}
+use Rattle.shared_field_shown.specs.Lanes.{AreCues, AreQuiet, plain_timeline, whole}
 use Rattle.shared_field_shown.specs.Sharing.{IsFor, is_text}
 
 -- what begins on a channel is for it, and doubled exactly where it is a control pair
@@ -49,8 +50,8 @@ pub record AreTogether (one two : Timeline) (parts others : List Part) (fs gs : 
 
 -- each channel gets what its own list gives it, as if it were alone and no unit came again
 pub record EachIsAlone (in_field : FieldNumber) (one two : Timeline) (parts others : List Part) (fs gs : List ℕ) (rs qs : List (Option ℕ)) (n : ℕ) : Type 0 where
-  pub first : channel data_channels.One (after in_field (pairs_before (slot (over (whole one parts fs rs) (whole two others gs qs))) n)) ≡ acts (plain one parts fs) n
-  pub second : channel data_channels.Two (after in_field (pairs_before (slot (over (whole one parts fs rs) (whole two others gs qs))) n)) ≡ acts (plain two others gs) n
+  pub first : channel data_channels.One (after in_field (pairs_before (slot (over (whole one parts fs rs) (whole two others gs qs))) n)) ≡ acts (plain_timeline one parts fs) n
+  pub second : channel data_channels.Two (after in_field (pairs_before (slot (over (whole one parts fs rs) (whole two others gs qs))) n)) ≡ acts (plain_timeline two others gs) n
 
 abbrev pub TogetherIsAlone : Type 0
 TogetherIsAlone = (in_field : FieldNumber) (one two : Timeline) (parts others : List Part) (fs gs : List ℕ) (rs qs : List (Option ℕ))

@@ -1,14 +1,14 @@
 -- Columns with the same service blocks and other pairs.
 use Rattle.std.proofs.Common.{◌≡◌, ℕ, zero, suc, ◌+◌, ◌<◌, ◌≤◌, All, is_some, List, [], ◌∷◌, ◌++◌, Option, Some, None, length, length-append, refl, sym, ap, ◌∙◌, subst, arith, take, map}
 use Rattle.cc_base.specs.Rate.{triplets_in_frame}
-use Rattle.cdp_packets.specs.Packets.{Packet as Frame}
+use Rattle.cdp_packets.specs.Packets.{Frame}
 use Rattle.cc_data.specs.declared.triplet.Triplet.{Triplet}
 use Rattle.line21_codes.specs.declared.pairs.Pair.{Pair}
 use Rattle.frame_scheduler.specs.Columns.{Columns}
 use Rattle.frame_carrier.specs.Carrying.{channel_packet, channel_packet_of, column_packets, packet_count, packets_before}
 use Rattle.cc_base.specs.declared.rate.Rate.{Rate}
 use Rattle.cue_lists.specs.Shares.{share_room}
-use Rattle.dtvcc_screen.specs.Meaning.{Byte, Event, Tick, after, start}
+use Rattle.dtvcc_screen.specs.Meaning.{Byte, Event, Tick, served_after, start}
 use Rattle.dtvcc_screen.specs.Shown.{grids}
 use Rattle.dtvcc_shown.specs.Filling.{AllFill}
 use Rattle.services_files.specs.Events.{service_events}
@@ -94,7 +94,7 @@ other_pairs rate n columns others are fit =
       events = told;
       shares = λ share kept service frame below. shares_same rate (share service) (column_packets rate columns 0 n) (column_packets rate others 0 n) service frame
           (told service frame (omega (arith, below))) (told service (suc frame) (omega (arith, below))) (kept service frame below);
-      windows = λ k low service id. ap (λ (events : List Event). grids (after start events).core.screen id) (told service k low);
+      windows = λ k low service id. ap (λ (events : List Event). grids (served_after start events).core.screen id) (told service k low);
     }
   where
     are_itself : (some : Columns) → HaveOtherPairs some some

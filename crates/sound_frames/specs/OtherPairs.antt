@@ -1,3 +1,4 @@
+-- Between crates: the program's answer stands on none of these definitions.
 -- Columns with the same service blocks and other pairs.
 use Rattle.std.specs.Prelude.{◌≡◌, ℕ, ◌≤◌, is_some, take}
 use Rattle.cc_base.specs.declared.rate.Rate.{Rate}

@@ -1,7 +1,8 @@
+-- Believed: the program's answer stands on these definitions.
 -- That no service is told more than its share in a frame (CTA-708-E: service blocks).
 use Rattle.std.specs.Prelude.{◌≡◌, ℕ, suc, ◌<◌, ◌≤◌, List, ◌∷◌, ◌++◌, length, map, take}
 use Rattle.cc_base.specs.declared.rate.Rate.{Rate}
-use Rattle.cdp_packets.specs.Packets.{Packet as Frame}
+use Rattle.cdp_packets.specs.Packets.{Frame}
 use Rattle.dtvcc_screen.specs.Meaning.{Byte, Tick}
 use Rattle.services_files.specs.Events.{service_events}
 

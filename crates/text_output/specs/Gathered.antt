@@ -1,3 +1,4 @@
+-- Between crates: the program's answer stands on none of these definitions.
 -- A text that is gathered before it is put: what is held, and what adding a piece does.
 use Rattle.std.specs.Prelude.{◌≡◌, ◌++◌, ℕ, List, [], Option}
 use Rattle.std.specs.Io.KnownBytes.{Appends}

@@ -1,3 +1,4 @@
+-- Between crates: the program's answer stands on none of these definitions.
 -- A text that is written piece by piece: gathered on its way to a sink, or left off where a put failed.
 use Rattle.std.specs.Prelude.{ℕ, List, ◌++◌, Option}
 use Rattle.cc_base.specs.Streams.{PutCause, Puts}

@@ -38,7 +38,8 @@ impl Gathered {
     /// Adds a piece of at most `ROOM` bytes. What was held is put first where the piece doesn't fit behind it.
     pub fn add<O: Sink>(&mut self, piece: &[u8], out: &mut O) -> Put
         requires { length piece.now ≤ ROOM }
-        ensures bytes { Gathers (O.written out.old) (O.written out.new) (held_of self.old) (held_of self.new) result piece.now }
+        ensures bytes { Gathers (O.written out.old) (O.written out.new) (held_of self.old)
+            (held_of self.new) result piece.now }
         ensures cause { PutCause (O.faults out.old) (O.faults out.new) result }
     {
         if self.held.try_extend_from_slice(piece).is_ok() {
@@ -56,7 +57,8 @@ impl Gathered {
 
     /// Puts what is held, if anything is.
     pub fn flush<O: Sink>(&mut self, out: &mut O) -> Put
-        ensures bytes { Flushes (O.written out.old) (O.written out.new) (held_of self.old) (held_of self.new) result }
+        ensures bytes { Flushes (O.written out.old) (O.written out.new) (held_of self.old)
+            (held_of self.new) result }
         ensures cause { PutCause (O.faults out.old) (O.faults out.new) result }
     {
         if self.held.is_empty() {
@@ -88,7 +90,8 @@ impl Gathered {
 
     /// Puts what is held of the text that is being written, unless a put failed since it was begun, and gives what its puts answered.
     pub fn finish<O: Sink>(&mut self, out: &mut O) -> Put
-        ensures { Finishes (page self.old (O.written out.old) (O.faults out.old)) (O.written out.new) (O.faults out.new) result }
+        ensures { Finishes (page self.old (O.written out.old) (O.faults out.old))
+            (O.written out.new) (O.faults out.new) result }
     {
         match self.answer {
             Put::Failed => Put::Failed,
@@ -98,7 +101,8 @@ impl Gathered {
 
     /// Writes a piece of any length, unless a put failed since the text was begun.
     pub fn write<O: Sink>(&mut self, piece: &[u8], out: &mut O)
-        ensures { Writes (page self.old (O.written out.old) (O.faults out.old)) (page self.new (O.written out.new) (O.faults out.new)) piece.now }
+        ensures { Writes (page self.old (O.written out.old) (O.faults out.old))
+            (page self.new (O.written out.new) (O.faults out.new)) piece.now }
     {
         match self.answer {
             Put::Failed => {}
@@ -111,7 +115,8 @@ impl Gathered {
 
     // Adds a piece of any length: one that is longer than the room is put behind what is held.
     fn put_piece<O: Sink>(&mut self, piece: &[u8], out: &mut O) -> Put
-        ensures bytes { PutsPiece (O.written out.old) (O.written out.new) (held_of self.old) (held_of self.new) result piece.now }
+        ensures bytes { PutsPiece (O.written out.old) (O.written out.new) (held_of self.old)
+            (held_of self.new) result piece.now }
         ensures cause { PutCause (O.faults out.old) (O.faults out.new) result }
     {
         if piece.len() <= ROOM {
@@ -125,7 +130,9 @@ impl Gathered {
 
     /// Writes several pieces, one after another.
     pub fn write_all<O: Sink>(&mut self, pieces: &[&[u8]], out: &mut O)
-        ensures { Writes (page self.old (O.written out.old) (O.faults out.old)) (page self.new (O.written out.new) (O.faults out.new)) (flat_map (λ p. p.now) pieces.now) }
+        ensures { Writes (page self.old (O.written out.old) (O.faults out.old))
+            (page self.new (O.written out.new) (O.faults out.new))
+            (flat_map (λ p. p.now) pieces.now) }
     {
         for piece in pieces {
             self.write(piece, out);
@@ -134,21 +141,24 @@ impl Gathered {
 
     /// Writes a number.
     pub fn write_number<O: Sink>(&mut self, number: u32, out: &mut O)
-        ensures { Writes (page self.old (O.written out.old) (O.faults out.old)) (page self.new (O.written out.new) (O.faults out.new)) (decimal number) }
+        ensures { Writes (page self.old (O.written out.old) (O.faults out.old))
+            (page self.new (O.written out.new) (O.faults out.new)) (decimal number) }
     {
         self.write(Buffer::new().format(number).as_bytes(), out);
     }
 
     /// Writes a number of 64 bits.
     pub fn write_long<O: Sink>(&mut self, long: u64, out: &mut O)
-        ensures { Writes (page self.old (O.written out.old) (O.faults out.old)) (page self.new (O.written out.new) (O.faults out.new)) (decimal long) }
+        ensures { Writes (page self.old (O.written out.old) (O.faults out.old))
+            (page self.new (O.written out.new) (O.faults out.new)) (decimal long) }
     {
         self.write(Buffer::new().format(long).as_bytes(), out);
     }
 
     /// Writes a character in UTF-8.
     pub fn write_character<O: Sink>(&mut self, ch: char, out: &mut O)
-        ensures { Writes (page self.old (O.written out.old) (O.faults out.old)) (page self.new (O.written out.new) (O.faults out.new)) (encode_utf8 ch) }
+        ensures { Writes (page self.old (O.written out.old) (O.faults out.old))
+            (page self.new (O.written out.new) (O.faults out.new)) (encode_utf8 ch) }
     {
         let mut bytes = [0; 4];
         self.write(ch.encode_utf8(&mut bytes).as_bytes(), out);

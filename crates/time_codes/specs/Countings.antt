@@ -1,3 +1,4 @@
+-- Believed in part: the program's answer stands on some of these definitions.
 -- Time codes at 24, 25, 30, 50 and 60 frames a second, at 30 and 60 also with drop frame (SMPTE ST 12-1; ST 12-3 above 30). With drop
 -- frame the first frame numbers of each minute, two at 30 frames a second and four at 60, are left out of the count, except for minutes
 -- 00, 10, 20, 30, 40 and 50. So the frame of a time code is how many of the time codes before it aren't left out. Whether its text has a

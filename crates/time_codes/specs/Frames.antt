@@ -1,3 +1,4 @@
+-- Believed: the program's answer stands on these definitions.
 -- Frames and time codes computed: the frame of a time code, and the time code of a frame.
 use Rattle.std.specs.Prelude.{ℕ, ◌+◌, ◌-◌, ◌*◌, ◌/◌, ◌%◌, Bool, if◌then◌else◌, Result, Ok, Err}
 use Rattle.cc_base.specs.declared.why.Why.{Why}

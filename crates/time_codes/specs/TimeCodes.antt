@@ -1,3 +1,4 @@
+-- Believed in part: the program's answer stands on some of these definitions.
 -- Time codes of a day (SMPTE ST 12-1): hours, minutes, seconds and frames at 30 frames a second. With drop frame the first two frame
 -- numbers, 00 and 01, are left out of the count at the start of each minute, except for minutes 00, 10, 20, 30, 40 and 50. So the
 -- frame of a time code is how many of the time codes before it aren't left out.

@@ -42,7 +42,8 @@ impl Counting {
     /// The count that MCC files name by a text: `24`, `25`, `30`, `30DF`, `50`, `60` or `60DF`; None exactly where the text is
     /// another one.
     pub fn read(text: &[u8]) -> Option<Counting>
-        ensures { MatchOption result ((count : Count) → text.now ≡ counting_text count → ⊥) (λ count. text.now ≡ counting_text count) }
+        ensures { MatchOption result ((count : Count) → text.now ≡ counting_text count → ⊥)
+            (λ count. text.now ≡ counting_text count) }
     {
         match *text {
             [b'2', b'4'] => Some(Counting::F24),

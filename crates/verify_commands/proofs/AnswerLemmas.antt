@@ -7,7 +7,7 @@ use Rattle.cc_base.specs.declared.streams.Put.{Put}
 use Rattle.cc_base.specs.declared.streams.Put.TheVariants as put
 use Rattle.cc_receiver.proofs.TakenLemmas.{frames_count}
 use Rattle.cc_verifier.specs.Verifiers.{verified_frames}
-use Rattle.cdp_packets.specs.Packets.{Packet as Frame}
+use Rattle.cdp_packets.specs.Packets.{Frame}
 use Rattle.command_base.specs.Ends.{Ends, IsSteady, ends}
 use Rattle.command_base.specs.WholeInput.{IsReadToEnd}
 use Rattle.command_base.specs.declared.status.Place.TheVariants.{Byte}
@@ -21,12 +21,12 @@ use Rattle.services_files.specs.CaptionChannel.{caption_channel}
 use Rattle.words_files.specs.Offences.{IsFileUnder}
 use Rattle.words_reading.proofs.KnownLemmas.{file_of}
 use Rattle.words_reading.proofs.UnderwayLemmas.{nothing_put}
-use Rattle.words_reading.specs.Causes.{Cause, IsWholeFile}
+use Rattle.words_reading.specs.Causes.{Cause, HasEnough, IsShort, IsWholeFile}
 use Rattle.words_reading.specs.Reading.{Stops, StopsEarly}
 use Rattle.words_reading.specs.Statuses.{stop_status}
 use Rattle.words_reading.specs.declared.judge.Stop.{Stop}
 use Rattle.words_reading.specs.declared.judge.Stop.TheVariants as stop
-use Rattle.verify_commands.specs.VerifyAnswer.{FindsFirst, FindsNothing, HasEnough, IsShort, OfGoodList, VerifyAnswer, ok_line}
+use Rattle.verify_commands.specs.VerifyAnswer.{FindsFirst, FindsNothing, OfGoodList, VerifyAnswer, ok_line}
 use Rattle.verify_commands.specs.Verifying.{HasJudgedSo, found_status}
 use Rattle.verify_commands.specs.declared.verifying.Found.{Found}
 use Rattle.verify_commands.specs.declared.verifying.Verifying.{Verifying}
@@ -140,7 +140,7 @@ whole_of list verifying first after reads then count (steady, stops) is =
 
 -- there are frames enough
 enough_of : (list : Listing) (verifying : Verifying) (first after : Option (List ℕ)) (reads then count : ℕ) → (ended : HasEnded list verifying first after reads then)
-    → count ≡ verified_frames verifying.verifier → list.frames ≤ count → HasEnough list first ended.1.judged ended.1.unjudged
+    → count ≡ verified_frames verifying.verifier → list.frames ≤ count → HasEnough list.frames first ended.1.judged ended.1.unjudged
 enough_of list verifying first after reads then count ended is enough =
     let (frames, file, number) = whole_of list verifying first after reads then count ended is in (ended.1.cause.0, (frames, file, omega arith))
 
@@ -155,7 +155,7 @@ verified_put left later first after written now_written before now reads then wr
   puts,
   end,
   of_list left before list _ good
-      (line_put list verifying ok_line (HasEnough list first) put.Done first after written now_written reads then writes still ended puts
+      (line_put list verifying ok_line (HasEnough list.frames first) put.Done first after written now_written reads then writes still ended puts
       (enough_of list verifying first after reads then count ended is enough)),
 )
 
@@ -169,7 +169,7 @@ verified_failed left later first after written now_written before now reads then
   rose,
   puts,
   of_list left before list _ good
-      (line_put list verifying ok_line (HasEnough list first) put.Failed first after written now_written reads then writes still ended puts
+      (line_put list verifying ok_line (HasEnough list.frames first) put.Failed first after written now_written reads then writes still ended puts
       (enough_of list verifying first after reads then count ended is enough)),
 )
 
@@ -184,6 +184,6 @@ short_answer left later first after written before now reads then writes count l
       ended.0.reads,
       (refl, keeps_same written),
       of_list left before list _ good
-          (line_put list verifying [] (IsShort list count first) put.Done first after written written reads then writes writes ended (nothing_put written)
+          (line_put list verifying [] (IsShort list.frames count first) put.Done first after written written reads then writes writes ended (nothing_put written)
           (ended.1.cause.0, (frames, file, number, omega arith))),
     )

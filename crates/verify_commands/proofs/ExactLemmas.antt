@@ -7,7 +7,7 @@ use Rattle.cc_base.specs.declared.refusal.Refusal.{Refusal}
 use Rattle.cc_base.specs.declared.streams.Put.{Put}
 use Rattle.cc_base.specs.declared.streams.Put.TheVariants as put
 use Rattle.cc_verifier.specs.Findings.{AreClean}
-use Rattle.cdp_packets.specs.Packets.{Packet as Frame}
+use Rattle.cdp_packets.specs.Packets.{Frame}
 use Rattle.command_base.specs.Counts.{IsReadOf}
 use Rattle.command_base.specs.Ends.{Ends}
 use Rattle.command_base.specs.declared.status.Place.TheVariants.{Byte}
@@ -26,10 +26,10 @@ use Rattle.services_files.specs.CaptionChannel.{caption_channel}
 use Rattle.words_reading.proofs.FrontLemmas.{TwoFronts, before_it, behind_it, same, two_fronts}
 use Rattle.words_reading.proofs.KnownLemmas.{known_frames, known_judged, known_no_file, known_whole, long_front, long_offends, long_passes, malformed_no_file, never_whole, one_malformed, refused_behind, refused_so, within_passes}
 use Rattle.words_reading.specs.Answers.{IsPastLimit}
-use Rattle.words_reading.specs.Causes.{IsAnyhow, IsRefusedWith, PassesLimit, words_limit}
+use Rattle.words_reading.specs.Causes.{HasEnough, IsAnyhow, IsRefusedWith, IsShort, PassesLimit, words_limit}
 use Rattle.words_reading.specs.Reading.{Stops}
 use Rattle.verify_commands.proofs.FoundLemmas.{found_once}
-use Rattle.verify_commands.specs.VerifyAnswer.{FindsFirst, FindsNothing, HasEnough, IsFoundAt, IsShort, OfGoodList, VerifyAnswer, ok_line}
+use Rattle.verify_commands.specs.VerifyAnswer.{FindsFirst, FindsNothing, IsFoundAtFrame, OfGoodList, VerifyAnswer, ok_line}
 use Rattle.verify_commands.specs.VerifyVerdict.{AreVerified, FindingIsAnswered, LongIsAnswered, MalformedIsAnswered, OkIsVerified, ShortIsAnswered, VerifiedIsAnswered}
 
 -- what holds of the list of a side file holds of every list that it spells and that keeps the rules
@@ -47,18 +47,18 @@ never_refused text list side later old new answer known good is =
 
 -- what the words are answered with, against a list that keeps the rules, where no count of faults rose
 abbrev AnswersWords : Listing → Ends → Ends → Status → Type 0
-AnswersWords list old new status.Ok = Stops (FindsNothing list ok_line) (HasEnough list old.left) put.Done old new
+AnswersWords list old new status.Ok = Stops (FindsNothing list ok_line) (HasEnough list.frames old.left) put.Done old new
 AnswersWords list old new status.Memory = ⊤
 AnswersWords list old new (status.Limit limit.Bytes) = Stops (FindsNothing list []) PassesLimit put.Done old new
 AnswersWords list old new (status.Malformed (Byte place) why) = Stops (FindsNothing list []) (IsRefusedWith (record { place = place; why = why }) old.left) put.Done old new
 AnswersWords list old new (status.Differs finding) = Stops (FindsFirst list finding) IsAnyhow put.Done old new
-AnswersWords list old new (status.Short count) = Stops (FindsNothing list []) (IsShort list count old.left) put.Done old new
+AnswersWords list old new (status.Short count) = Stops (FindsNothing list []) (IsShort list.frames count old.left) put.Done old new
 AnswersWords list old new _ = ⊥
 
 words_answered : (text bytes : List ℕ) (list : Listing) (side later : SideEnds) (old new : Ends) (answer : Status) → IsGoodList text list → IsSideOf text side later
     → IsReadOf bytes old new → VerifyAnswer side later old new answer → AnswersWords list old new answer
 words_answered text bytes list side later old new status.Ok good side_is read is =
-    list_known text side list (λ (l : Listing). Stops (FindsNothing l ok_line) (HasEnough l old.left) put.Done old new) side_is.left good is.4
+    list_known text side list (λ (l : Listing). Stops (FindsNothing l ok_line) (HasEnough l.frames old.left) put.Done old new) side_is.left good is.4
 words_answered text bytes list side later old new status.Memory good side_is read is = tt
 words_answered text bytes list side later old new status.Usage good side_is read is = absurd is
 words_answered text bytes list side later old new status.ReadFault good side_is read (inl is) = absurd (side_is.faults is.0)
@@ -73,7 +73,7 @@ words_answered text bytes list side later old new (status.Malformed (Byte place)
 words_answered text bytes list side later old new (status.Differs finding) good side_is read is =
     list_known text side list (λ (l : Listing). Stops (FindsFirst l finding) IsAnyhow put.Done old new) side_is.left good is.3
 words_answered text bytes list side later old new (status.Short count) good side_is read is =
-    list_known text side list (λ (l : Listing). Stops (FindsNothing l []) (IsShort l count old.left) put.Done old new) side_is.left good is.3
+    list_known text side list (λ (l : Listing). Stops (FindsNothing l []) (IsShort l.frames count old.left) put.Done old new) side_is.left good is.3
 words_answered text bytes list side later old new answer good side_is read is = absurd (never_refused text list side later old new answer side_is.left good is)
 
 -- where nothing is found at the frames of the words, nothing is found in a front of them
@@ -188,7 +188,7 @@ pub record FindsIn (list : Listing) (bytes : List ℕ) (finding : Finding) : Typ
   pub behind : List Frame
   pub are : AreFramesOf caption_channel ((frames ++ last ∷ []) ++ behind) bytes
   pub clean : AreClean list frames
-  pub found : IsFoundAt list finding frames last
+  pub found : IsFoundAtFrame list finding frames last
 
 -- at some of all their frames something is found
 not_clean : (list : Listing) (bytes : List ℕ) (finding : Finding) (frames more : List Frame) → (has : FindsIn list bytes finding)
@@ -206,12 +206,12 @@ not_whole list bytes judged text finding line left has known whole says =
 
 -- and none is found first anywhere else
 same_finding : (list : Listing) (bytes : List ℕ) (finding other : Finding) (frames rest : List Frame) (last : Frame) → (has : FindsIn list bytes finding) → AreClean list frames
-    → IsFoundAt list other frames last → TwoFronts frames (last ∷ rest) has.frames has.last → other ≡ finding
+    → IsFoundAtFrame list other frames last → TwoFronts frames (last ∷ rest) has.frames has.last → other ≡ finding
 same_finding list bytes finding other frames rest last has clean found (behind_it more is) =
     absurd (clean has.frames has.last more (is ∙ append_assoc has.frames (has.last ∷ []) more) finding.kind has.found.1.is)
 same_finding list bytes finding other frames rest last has clean found (same is more left) =
     let end : last ≡ has.last = cc in
-    let moved = subst (IsFoundAt list other has.frames) end (subst (λ f. IsFoundAt list other f last) is found) in
+    let moved = subst (IsFoundAtFrame list other has.frames) end (subst (λ f. IsFoundAtFrame list other f last) is found) in
     one_finding other finding (moved.0 ∙ sym has.found.0) (found_once list has.frames has.last other.kind finding.kind moved.1 has.found.1)
   where
     one_finding : (x y : Finding) → x.frame ≡ y.frame → x.kind ≡ y.kind → x ≡ y
@@ -250,7 +250,7 @@ finding_answered text bytes list frames behind last finding side later old new a
 -- and no others
 pub ok_verified : OkIsVerified
 ok_verified text bytes list side later old new good side_left left is =
-    let stops = list_known text side list (λ (l : Listing). Stops (FindsNothing l ok_line) (HasEnough l old.left) put.Done old new) side_left good is.4 in
+    let stops = list_known text side list (λ (l : Listing). Stops (FindsNothing l ok_line) (HasEnough l.frames old.left) put.Done old new) side_left good is.4 in
     let (whole, (frames, file, enough)) = stops.cause in
     let same = known_whole old.left bytes stops.judged left whole.0 in
     let own = frames_of_once caption_channel stops.says.frames frames stops.judged stops.says.frames_are (file_frames caption_channel frames stops.judged file) in

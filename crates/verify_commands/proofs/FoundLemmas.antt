@@ -1,7 +1,7 @@
 -- What is found first at a frame is one.
 use Rattle.std.proofs.Common.{◌≡◌, ◌∙◌, ◌+◌, ◌%◌, ◌≤◌, ◌++◌, ap, append-nil, arith, length, length-append, refl, sym, ℕ, List, [], ◌∷◌}
 use Rattle.cc_verifier.specs.Findings.{IsFirstFound, IsFound, Jumps, place_of}
-use Rattle.cdp_packets.specs.Packets.{Packet as Frame}
+use Rattle.cdp_packets.specs.Packets.{Frame}
 use Rattle.cue_types.specs.Lane.{channel_number}
 use Rattle.cue_types.specs.Listing.{Listing}
 use Rattle.findings.specs.declared.finding.Kind45.{Kind45}
@@ -50,6 +50,8 @@ number_once _ _ is = absurd (omega arith)
 found_at_place : (list : Listing) (earlier : List Frame) (last : Frame) (a b : Kind45) → IsFound list earlier last a → IsFound list earlier last b → place_of a ≡ place_of b → a ≡ b
 found_at_place list earlier last (kind.TwoPairs a) _ one other is = absurd one
 found_at_place list earlier last _ (kind.TwoPairs b) one other is = absurd other
+found_at_place list earlier last kind.EightBits _ one other is = absurd one
+found_at_place list earlier last _ kind.EightBits one other is = absurd other
 found_at_place list earlier last (kind.CounterJump a b) (kind.CounterJump c d) one other is =
     rw (expected_once earlier last a b c d one other, one.seen_is, other.seen_is) refl
 found_at_place list earlier last (kind.WrongCount a b) (kind.WrongCount c d) one other is = rw (one.expected_is, other.expected_is, one.seen_is, other.seen_is) refl

@@ -12,9 +12,9 @@ use Rattle.cue_list_commands.specs.SideEnds.{SideEnds}
 use Rattle.cue_list_commands.specs.SideLists.{TellsAllFaults}
 use Rattle.cue_types.specs.Listing.{Listing}
 use Rattle.words_reading.specs.Causes.{Cause}
-use Rattle.verify_commands.specs.VerifyAnswer.{JudgesWords, VerifyAnswer}
+use Rattle.verify_commands.specs.VerifyAnswer.{VerifyAnswer, VerifyIsStopped}
 
-judged_told : (Says : Listing → List ℕ → List ℕ → Type 0) (Why : Listing → Cause) (side later : SideEnds) (old new : Ends) (answer : Status) → JudgesWords Says Why side later old new
+judged_told : (Says : Listing → List ℕ → List ℕ → Type 0) (Why : Listing → Cause) (side later : SideEnds) (old new : Ends) (answer : Status) → VerifyIsStopped Says Why side later old new
     → TellsAllFaults side later old new answer
 judged_told Says Why side later old new answer is = (side_kept side later _ is.0, steady_told old new answer is.1 is.2.0)
 

@@ -13,7 +13,7 @@ use Rattle.cc_verifier.specs.Verifiers.{FeedsOn, HasVerified, JudgesFile, findin
 use Rattle.cc_verifier.specs.declared.verifier.Verdict.{Verdict}
 use Rattle.cc_verifier.specs.declared.verifier.Verdict.TheVariants as verdict
 use Rattle.cc_verifier.specs.declared.verifier.Verifier.{Verifier}
-use Rattle.cdp_packets.specs.Packets.{Packet as Frame}
+use Rattle.cdp_packets.specs.Packets.{Frame}
 use Rattle.cue_types.specs.Listing.{Listing}
 use Rattle.findings.specs.declared.finding.Finding.{Finding}
 use Rattle.services_files.specs.CaptionChannel.{caption_channel}
@@ -22,7 +22,7 @@ use Rattle.words_reading.proofs.FrontLemmas.{TwoFronts, before_it, behind_it, sa
 use Rattle.words_reading.proofs.PieceLemmas.{cut_short, front_size, front_spelled}
 use Rattle.words_reading.specs.Judging.{EndsAt, HasGathered, HasStopped}
 use Rattle.words_reading.specs.declared.judge.Stop.TheVariants as stop
-use Rattle.verify_commands.specs.VerifyAnswer.{FindsFirst, FindsNothing, IsFoundAt}
+use Rattle.verify_commands.specs.VerifyAnswer.{FindsFirst, FindsNothing, IsFoundAtFrame}
 use Rattle.verify_commands.specs.Verifying.{HasJudged, HasJudgedSo}
 use Rattle.verify_commands.specs.declared.verifying.Found.{Found}
 use Rattle.verify_commands.specs.declared.verifying.Verifying.{Verifying}
@@ -99,7 +99,7 @@ nothing_met list start now held before bytes old new fed had feeds verified own 
 
 -- where nothing is found at the frames before the last, the first finding is at it
 found_by : (list : Listing) (frames : List Frame) (next : Frame) (finding : Finding) → AreClean list frames → (first : FirstFinding list (frames ++ next ∷ []) finding)
-    → TwoFronts first.earlier (first.last ∷ first.later) frames next → IsFoundAt list finding frames next
+    → TwoFronts first.earlier (first.last ∷ first.later) frames next → IsFoundAtFrame list finding frames next
 found_by list frames next finding clean first (behind_it more is) =
     let all = ap length first.split in
     let one = length-append frames (next ∷ []) in
@@ -108,13 +108,13 @@ found_by list frames next finding clean first (behind_it more is) =
     absurd (omega arith)
 found_by list frames next finding clean first (same is more left) =
     let last : first.last ≡ next = cc in
-    subst (IsFoundAt list finding frames) last (subst (λ f. IsFoundAt list finding f first.last) is (first.frame_is, first.first))
+    subst (IsFoundAtFrame list finding frames) last (subst (λ f. IsFoundAtFrame list finding f first.last) is (first.frame_is, first.first))
 found_by list frames next finding clean first (before_it item more left is rest) =
     let last : item ≡ first.last = cc in
     absurd (clean first.earlier first.last more (is ∙ append_assoc first.earlier (item ∷ []) more ∙ ap (λ f. first.earlier ++ f ∷ more) last) finding.kind first.first.is)
 
 found_last : (list : Listing) (frames : List Frame) (next : Frame) (finding : Finding) → AreClean list frames → FirstFinding list (frames ++ next ∷ []) finding
-    → IsFoundAt list finding frames next
+    → IsFoundAtFrame list finding frames next
 found_last list frames next finding clean first =
     found_by list frames next finding clean first
     (two_fronts first.earlier (first.last ∷ first.later) frames [] next (sym first.split ∙ sym (append-nil (frames ++ next ∷ []))))

@@ -1,9 +1,10 @@
+-- Between crates: the program's answer stands on none of these definitions.
 -- The verdict of a verifying where no count of faults rose: against a list that keeps the rules Ok comes exactly where the words are
 -- verified, or want of memory.
 use Rattle.std.specs.Prelude.{◌≡◌, ◌<◌, ◌≤◌, ◌⊎◌, ℕ, List, [], ◌∷◌, ◌++◌, length, take, Some}
 use Rattle.cc_base.specs.declared.refusal.Refusal.{Refusal}
 use Rattle.cc_verifier.specs.Findings.{AreClean}
-use Rattle.cdp_packets.specs.Packets.{Packet as Frame}
+use Rattle.cdp_packets.specs.Packets.{Frame}
 use Rattle.command_base.specs.Counts.{IsReadOf}
 use Rattle.command_base.specs.Ends.{Ends}
 use Rattle.command_base.specs.declared.status.Place.TheVariants.{Byte}
@@ -19,7 +20,7 @@ use Rattle.words_reading.specs.Causes.{words_limit}
 use Rattle.words_files.specs.FramesOf.{AreFramesOf}
 use Rattle.words_files.specs.Offences.{IsFileUnder, IsMalformed}
 use Rattle.services_files.specs.CaptionChannel.{caption_channel}
-use Rattle.verify_commands.specs.VerifyAnswer.{IsFoundAt, VerifyAnswer}
+use Rattle.verify_commands.specs.VerifyAnswer.{IsFoundAtFrame, VerifyAnswer}
 
 -- the words are a file within the limit with as many frames as the list, at least, and nothing is found at any
 pub record AreVerified (list : Listing) (bytes : List ℕ) : Type 0 where
@@ -59,7 +60,7 @@ ShortIsAnswered = (text bytes : List ℕ) (list : Listing) (frames : List Frame)
 -- follows it, or want of memory
 abbrev pub FindingIsAnswered : Type 0
 FindingIsAnswered = (text bytes : List ℕ) (list : Listing) (frames behind : List Frame) (last : Frame) (finding : Finding) (side later : SideEnds) (old new : Ends) (answer : Status)
-    → IsGoodList text list → AreFramesOf caption_channel ((frames ++ last ∷ []) ++ behind) bytes → AreClean list frames → IsFoundAt list finding frames last
+    → IsGoodList text list → AreFramesOf caption_channel ((frames ++ last ∷ []) ++ behind) bytes → AreClean list frames → IsFoundAtFrame list finding frames last
     → length bytes ≤ words_limit → IsSideOf text side later → IsReadOf bytes old new → VerifyAnswer side later old new answer
     → (answer ≡ status.Differs finding) ⊎ (answer ≡ status.Memory)
 

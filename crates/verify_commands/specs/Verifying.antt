@@ -1,3 +1,4 @@
+-- Between crates: the program's answer stands on none of these definitions.
 -- Words that are verified.
 use Rattle.std.specs.Prelude.{◌≡◌, ◌≤◌, ℕ, List, [], length, None}
 use Rattle.cc_verifier.specs.Verifiers.{HasVerified, finding_of, list_of, verified_frames}

@@ -8,7 +8,7 @@ use Rattle.dtvcc_codes.specs.declared.pens.PenColors.{PenColors}
 use Rattle.dtvcc_codes.specs.declared.windows.Definition.{Definition}
 use Rattle.dtvcc_codes.specs.declared.windows.WinAttr.{WinAttr}
 use Rattle.dtvcc_windows.specs.declared.cells.DCell.{DCell}
-use Rattle.dtvcc_windows.specs.Places.{Cells, with_cell}
+use Rattle.dtvcc_windows.specs.Places.{Cells, with_window_cell}
 use Rattle.dtvcc_windows.specs.Text.{with_character}
 use Rattle.dtvcc_windows.specs.Windows.{WindowState}
 use Rattle.dtvcc_author.specs.WindowCommands.{character_commands}
@@ -56,7 +56,7 @@ no_text pen colors row col cells = fun_ext (λ r. fun_ext (λ c.
 
 -- a character, and those behind it
 next_text : (pen : PenAttr) (colors : PenColors) (row col ch : ℕ) (text : List ℕ) (cells : Cells)
-    → with_text pen colors row (col + 1) text (with_cell cells row col (cell pen colors ch)) ≡ with_text pen colors row col (ch ∷ text) cells
+    → with_text pen colors row (col + 1) text (with_window_cell cells row col (cell pen colors ch)) ≡ with_text pen colors row col (ch ∷ text) cells
 next_text pen colors row col ch text cells = fun_ext (λ r. fun_ext (λ c.
     joined (r == row && (nat_le (col + 1) c && nat_lt c (col + 1 + length text))) (r == row && c == col)
     (r == row && (nat_le col c && nat_lt c (col + suc (length text))))
@@ -72,7 +72,7 @@ next_text pen colors row col ch text cells = fun_ext (λ r. fun_ext (λ c.
 -- a character is written at the pen, which isn't behind the last column
 character_on : (d : Definition) (attributes : WinAttr) (cells : Cells) (row col : ℕ) (pen : PenAttr) (colors : PenColors) (ch : ℕ) → col < d.cols
     → with_character (Some ch) (hidden d attributes cells row col pen colors)
-    ≡ hidden d attributes (with_cell cells row col (cell pen colors ch)) row (col + 1) pen colors
+    ≡ hidden d attributes (with_window_cell cells row col (cell pen colors ch)) row (col + 1) pen colors
 character_on d attributes cells row col pen colors ch within =
     let inside : (col == d.cols) ≡ false = grind (arith, nat_tests) in rw inside refl
 
@@ -88,6 +88,6 @@ text_on [] d attributes cells row col pen colors fits =
 text_on (ch ∷ text) d attributes cells row col pen colors fits =
     let far : col + 1 + length text ≡ col + suc (length text) = omega arith in
     ap (edited_all (character_commands text)) (character_on d attributes cells row col pen colors ch (omega arith))
-    ∙ text_on text d attributes (with_cell cells row col (cell pen colors ch)) row (col + 1) pen colors (omega arith)
-    ∙ ap (λ n. hidden d attributes (with_text pen colors row (col + 1) text (with_cell cells row col (cell pen colors ch))) row n pen colors) far
+    ∙ text_on text d attributes (with_window_cell cells row col (cell pen colors ch)) row (col + 1) pen colors (omega arith)
+    ∙ ap (λ n. hidden d attributes (with_text pen colors row (col + 1) text (with_window_cell cells row col (cell pen colors ch))) row n pen colors) far
     ∙ ap (λ g. hidden d attributes g row (col + suc (length text)) pen colors) (next_text pen colors row col ch text cells)

@@ -1,3 +1,4 @@
+-- Between crates: the program's answer stands on none of these definitions.
 -- The windows of a list of literals, as the commands of its cues make them.
 use Rattle.std.specs.Prelude.{ℕ, slice_get, Option}
 use Rattle.std.specs.Option.{option_and_then}

@@ -19,12 +19,14 @@ ghost use Rattle.window_loading.specs.Loading.{IsLoad, IsLoadedAsAuthored, loade
 /// The commands of each cue of a list that keeps the rules make the window that the list authors: behind them it is seen as
 /// authored once it is shown. A line 21 cue has no commands and no window.
 pub fn windows_are_loaded_as_authored()
-    ensures { (list : Listing) → IsFormed list → IsRuled list → AllByRecursion IsLoadedAsAuthored list.cues }
+    ensures { (list : Listing) → IsFormed list → IsRuled list
+        → AllByRecursion IsLoadedAsAuthored list.cues }
 {}
 
 /// The commands of a window cue define its window, and then are text alone.
 pub fn windows_are_defined_and_written()
-    ensures { (window : WinCue) (runs : List Run) → IsLoad (definition_of window) (window_commands window runs) }
+    ensures { (window : WinCue) (runs : List Run)
+        → IsLoad (definition_of window) (window_commands window runs) }
 {}
 
 /// While they come nothing is seen of the window.
@@ -42,8 +44,10 @@ pub fn commands_are_writable()
 pub fn loaded_windows_by_hand()
     ensures coloured { option_and_then (λ w. w.cells 0 1) (nth_loaded 0) ≡ cell 73 false yellow }
     ensures between { option_and_then (λ w. w.cells 0 3) (nth_loaded 0) ≡ None }
-    ensures italic { option_and_then (λ w. w.cells 0 4) (nth_loaded 0) ≡ cell 88 true example_white }
+    ensures italic { option_and_then (λ w. w.cells 0 4) (nth_loaded 0)
+        ≡ cell 88 true example_white }
     ensures own { option_map ways_of (nth_loaded 0) ≡ Some (false, true, true, centred) }
-    ensures second_row { option_and_then (λ w. w.cells 1 0) (nth_loaded 1) ≡ cell 65 false example_white }
+    ensures second_row { option_and_then (λ w. w.cells 1 0) (nth_loaded 1)
+        ≡ cell 65 false example_white }
     ensures place { option_map seen_place (nth_loaded 1) ≡ Some (10, 50, 2, 10, 7) }
 {}

@@ -1,3 +1,4 @@
+-- Between crates: the program's answer stands on none of these definitions.
 -- A received window beside the one of a cue.
 use Rattle.std.specs.Prelude.{true, false, List, Option, Some, None, IfSome, IsTrue, All}
 use Rattle.std.specs.Borrow.{Bor}

@@ -38,7 +38,8 @@ impl WindowCursors {
     pub fn advance(&mut self, cues: &[Cue], frame: u32) -> bool
         requires { (former : ℕ) × (frame ≡ former + 1) × AreAt cues.now former self.now }
         ensures at { AreAt cues.now frame self.new }
-        ensures same { (former : ℕ) → AreAllInTurn cues.now → frame ≡ former + 1 → AreAt cues.now former self.old → result ≡ false
+        ensures same { (former : ℕ) → AreAllInTurn cues.now → frame ≡ former + 1
+            → AreAt cues.now former self.old → result ≡ false
             → SameWindows cues.now former frame }
     {
         if frame < self.due {

@@ -40,8 +40,10 @@ fn is_seen(window: Option<&Window>) -> bool
 fn differs_from_cue(window: Option<&Window>, cue: &Cue) -> bool
     requires live { IsLive window }
     requires formed { IsCueFormed cue.now }
-    ensures same { result ≡ false → seen_window window.entry ≡ cue_window cue.now.kind cue.now.runs }
-    ensures other { result ≡ true → seen_window window.entry ≢ cue_window cue.now.kind cue.now.runs }
+    ensures same { result ≡ false
+        → seen_window window.entry ≡ cue_window cue.now.kind cue.now.runs }
+    ensures other { result ≡ true
+        → seen_window window.entry ≢ cue_window cue.now.kind cue.now.runs }
 {
     match cue.kind {
         Kind::Win(own) => differs_from(window, own, cue.runs.as_slice()),
@@ -104,7 +106,8 @@ fn has_other_cell(window: &Window, own: WinCue, runs: &[Run]) -> bool
 fn row_has_other_cell(window: &Window, own: WinCue, runs: &[Run], row: u8) -> bool
     requires live { IsTrue (is_live window.now) }
     requires formed { IsFormedWindow own runs.now }
-    ensures same { result ≡ false → (column : ℕ) → column < own.cols → (state_of window.now).cells row column ≡ written_cells own.ps runs.now row column }
+    ensures same { result ≡ false → (column : ℕ) → column < own.cols
+        → (state_of window.now).cells row column ≡ written_cells own.ps runs.now row column }
     ensures other { result ≡ true → (state_of window.now).cells ≢ written_cells own.ps runs.now }
 {
     for column in 0..own.cols {

@@ -18,7 +18,7 @@ use Rattle.dtvcc_windows.specs.Objects.{state_of, window_of}
 use Rattle.dtvcc_windows.specs.Showing.{ShownWindow, shown}
 use Rattle.dtvcc_windows.specs.Windows.{WindowState}
 use Rattle.dtvcc_windows.specs.Sizes.{IsWithin, in_size}
-use Rattle.window_texts.specs.Differences.{differs, same_cell, same_cells, same_place, same_shown_window}
+use Rattle.window_texts.specs.Differences.{differs, same_cells, same_place, same_shown_window, same_window_cell}
 use Rattle.cell_runs.proofs.AlikeLemmas.{Decides-alike}
 use Rattle.dtvcc_windows.proofs.SameLemmas.{Decides-attributes}
 
@@ -33,7 +33,7 @@ cell_parts a = refl
 one_cell : (a b : DCell) → (a.ch ≡ b.ch) × ((a.pen ≡ b.pen) × (a.colors ≡ b.colors)) → a ≡ b
 one_cell a b (ch, (pen, colors)) = cc (cell_parts a, cell_parts b)
 
-Decides-cell : (a b : Option DCell) → Decides (same_cell a b) (a ≡ b)
+Decides-cell : (a b : Option DCell) → Decides (same_window_cell a b) (a ≡ b)
 Decides-cell None None = (λ same. refl, λ one. refl)
 Decides-cell None (Some b) = (λ same. cc, λ one. cc)
 Decides-cell (Some a) None = (λ same. cc, λ one. cc)
@@ -59,10 +59,10 @@ all_of test from (suc count) each =
 Decides-cells : (rows cols : ℕ) (a b : Cells) → Decides (same_cells rows cols a b) ((row col : ℕ) → row < rows → col < cols → a row col ≡ b row col)
 Decides-cells rows cols a b = (
   λ same row col in_row in_col.
-      (Decides-cell (a row col) (b row col)).0 (each_of (λ col. same_cell (a row col) (b row col)) cols
-      (each_of (λ row. list_all (λ col. same_cell (a row col) (b row col)) (range_with_len 0 cols)) rows same row in_row) col in_col),
-  λ one. all_of (λ row. list_all (λ col. same_cell (a row col) (b row col)) (range_with_len 0 cols)) 0 rows
-      (λ row in_row. all_of (λ col. same_cell (a row col) (b row col)) 0 cols
+      (Decides-cell (a row col) (b row col)).0 (each_of (λ col. same_window_cell (a row col) (b row col)) cols
+      (each_of (λ row. list_all (λ col. same_window_cell (a row col) (b row col)) (range_with_len 0 cols)) rows same row in_row) col in_col),
+  λ one. all_of (λ row. list_all (λ col. same_window_cell (a row col) (b row col)) (range_with_len 0 cols)) 0 rows
+      (λ row in_row. all_of (λ col. same_window_cell (a row col) (b row col)) 0 cols
       (λ col in_col. (Decides-cell (a row col) (b row col)).1 (one row col (omega arith) (omega arith)))),
 )
 

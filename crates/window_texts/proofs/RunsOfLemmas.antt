@@ -5,10 +5,10 @@ use Rattle.cell_runs.specs.RunsOf.{AreRunsOf}
 use Rattle.cell_runs.specs.Writing.{in_pens}
 use Rattle.cell_runs.proofs.AlikeLemmas.{pens_are_written}
 use Rattle.cell_runs.proofs.RunsOfLemmas.{AreRows, are_runs_of}
-use Rattle.dtvcc_windows.specs.Places.{row_cells}
+use Rattle.dtvcc_windows.specs.Places.{window_row}
 use Rattle.dtvcc_windows.specs.Showing.{ShownWindow}
 use Rattle.dtvcc_windows.specs.Sizes.{in_size}
-use Rattle.window_texts.specs.Runs.{places, runs}
+use Rattle.window_texts.specs.Runs.{places, window_runs}
 use Rattle.window_texts.proofs.RowLemmas.{cell_in_row, length-row_cells}
 
 -- a place of a window
@@ -22,7 +22,7 @@ is_place : (rows cols row col : ℕ) → row < rows → col < cols → in_size r
 is_place rows cols row col in_row in_col = grind (arith, nat_tests)
 
 -- the rows of a window
-window_rows : (window : ShownWindow) → AreRows (places window) (row_cells window.cells window.cols) 0 window.rows window.cols
+window_rows : (window : ShownWindow) → AreRows (places window) (window_row window.cells window.cols) 0 window.rows window.cols
 window_rows window = record {
   long = length-row_cells window.cells window.cols;
   cell = cell_in_row window.cells window.cols;
@@ -32,6 +32,6 @@ window_rows window = record {
   col_to = place_col window.rows window.cols;
 }
 
-pub runs_are_stretches : (window : ShownWindow) → AreRunsOf in_pens (places window) (runs window)
-unfolding runs
-runs_are_stretches window = are_runs_of in_pens pens_are_written (places window) (row_cells window.cells window.cols) 0 window.rows window.cols (window_rows window)
+pub runs_are_stretches : (window : ShownWindow) → AreRunsOf in_pens (places window) (window_runs window)
+unfolding window_runs
+runs_are_stretches window = are_runs_of in_pens pens_are_written (places window) (window_row window.cells window.cols) 0 window.rows window.cols (window_rows window)

@@ -4,11 +4,11 @@ use Rattle.std.proofs.lemmas.List.{append-nil}
 use Rattle.std.specs.List.{flat_map}
 use Rattle.cc_base.specs.Texts.{text}
 use Rattle.dtvcc_windows.specs.Showing.{ShownWindow}
-use Rattle.window_texts.specs.Runs.{runs}
-use Rattle.window_texts.specs.WindowTexts.{run_line, window_line, window_text}
+use Rattle.window_texts.specs.Runs.{window_runs}
+use Rattle.window_texts.specs.WindowTexts.{window_line, window_run_line, window_text}
 
 -- the text of a window of its parts
-pub window_joined : (before lines : List ℕ) (id : ℕ) (window : ShownWindow) → lines ≡ flat_map run_line (runs window)
+pub window_joined : (before lines : List ℕ) (id : ℕ) (window : ShownWindow) → lines ≡ flat_map window_run_line (window_runs window)
     → before ++ window_line id window ++ lines ≡ before ++ window_text id window
 unfolding window_text
 window_joined before lines id window are =

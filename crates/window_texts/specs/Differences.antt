@@ -1,3 +1,4 @@
+-- Believed: the program's answer stands on these definitions.
 -- Whether two windows are shown otherwise: at another place or in another size, with other attributes, or with another cell at some
 -- place (CTA-708-E, caption windows).
 use Rattle.std.specs.Prelude.{ℕ, ◌==◌, ◌&&◌, not, Bool, true, false, Option, Some, None}
@@ -10,14 +11,14 @@ use Rattle.dtvcc_windows.specs.Showing.{ShownWindow}
 use Rattle.cell_runs.specs.Writing.{same_fill, same_rgb, written_alike}
 
 -- two places have the same cell, or neither has one
-abbrev pub same_cell : Option DCell → Option DCell → Bool
-same_cell None None = true
-same_cell (Some a) (Some b) = a.ch == b.ch && written_alike a b
-same_cell _ _ = false
+abbrev pub same_window_cell : Option DCell → Option DCell → Bool
+same_window_cell None None = true
+same_window_cell (Some a) (Some b) = a.ch == b.ch && written_alike a b
+same_window_cell _ _ = false
 
 -- the same cell stands at each place of so many rows and columns
 abbrev pub same_cells : ℕ → ℕ → Cells → Cells → Bool
-same_cells rows cols a b = list_all (λ row. list_all (λ col. same_cell (a row col) (b row col)) (range_with_len 0 cols)) (range_with_len 0 rows)
+same_cells rows cols a b = list_all (λ row. list_all (λ col. same_window_cell (a row col) (b row col)) (range_with_len 0 cols)) (range_with_len 0 rows)
 
 abbrev pub same_attributes : WinAttr → WinAttr → Bool
 same_attributes a b =

@@ -1,3 +1,4 @@
+-- Between crates: the program's answer stands on none of these definitions.
 -- A service for the worked examples: its window 0 has one row of ten columns, in the window style 1, and HELLO is written from
 -- column 0 on in the pen style 1.
 use Rattle.std.specs.Prelude.{ℕ, ◌==◌, true, false, if◌then◌else◌, Option, Some, None, codes, slice_get}

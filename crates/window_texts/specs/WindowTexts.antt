@@ -1,3 +1,4 @@
+-- Believed: the program's answer stands on these definitions.
 -- The texts of caption windows: of each visible window what is shown of it, and its runs.
 use Rattle.std.specs.Prelude.{ℕ, ◌++◌, Bool, if◌then◌else◌, List, [], ◌∷◌, Option, Some, None, codes, decimal, encode_utf8_all, length}
 use Rattle.std.specs.List.{filter_map, flat_map, range_with_len}
@@ -10,7 +11,7 @@ use Rattle.dtvcc_codes.specs.declared.windows.WinAttr.{WinAttr}
 use Rattle.dtvcc_windows.specs.declared.cells.DCell.{DCell}
 use Rattle.dtvcc_windows.specs.Showing.{ShownWindow}
 use Rattle.cell_runs.specs.Runs.{Run}
-use Rattle.window_texts.specs.Runs.{runs}
+use Rattle.window_texts.specs.Runs.{window_runs}
 
 -- a space and a number
 abbrev pub spaced : ℕ → List ℕ
@@ -55,23 +56,23 @@ attributes_text a = text (
 -- the line of a window, with the number of its runs
 unfoldable pub window_line : ℕ → ShownWindow → List ℕ
 window_line id w = text (
-    codes "W" ∷ decimal id ∷ place_text w ∷ attributes_text w.attributes ∷ codes " runs " ∷ decimal (length (runs w)) ∷ codes "\n" ∷ [])
+    codes "W" ∷ decimal id ∷ place_text w ∷ attributes_text w.attributes ∷ codes " runs " ∷ decimal (length (window_runs w)) ∷ codes "\n" ∷ [])
 
 -- the attributes of a pen
-abbrev pub pen_text : PenAttr → List ℕ
-pen_text p = all_spaced (p.size ∷ p.font ∷ p.tag ∷ p.offset ∷ flag p.italic ∷ flag p.underline ∷ p.edge ∷ [])
+abbrev pub pen_attributes_text : PenAttr → List ℕ
+pen_attributes_text p = all_spaced (p.size ∷ p.font ∷ p.tag ∷ p.offset ∷ flag p.italic ∷ flag p.underline ∷ p.edge ∷ [])
 
 -- its colours
 abbrev pub colors_text : PenColors → List ℕ
 colors_text c = text (codes " " ∷ fill_digits c.fg ∷ codes " " ∷ fill_digits c.bg ∷ codes " " ∷ rgb_digits c.edge ∷ codes " " ∷ [])
 
 -- the line of a run: its row and column, its pen and colours, and its characters in UTF-8
-unfoldable pub run_line : Run DCell → List ℕ
-run_line run = text (decimal run.row ∷ all_spaced (run.col ∷ []) ∷ pen_text run.first.pen ∷ colors_text run.first.colors ∷ encode_utf8_all run.text ∷ codes "\n" ∷ [])
+unfoldable pub window_run_line : Run DCell → List ℕ
+window_run_line run = text (decimal run.row ∷ all_spaced (run.col ∷ []) ∷ pen_attributes_text run.first.pen ∷ colors_text run.first.colors ∷ encode_utf8_all run.text ∷ codes "\n" ∷ [])
 
 -- the text of a window: its line, and those of its runs
 unfoldable pub window_text : ℕ → ShownWindow → List ℕ
-window_text id w = window_line id w ++ flat_map run_line (runs w)
+window_text id w = window_line id w ++ flat_map window_run_line (window_runs w)
 
 -- a window that is shown, with its id
 abbrev pub with_id : ℕ → Option ShownWindow → Option (ℕ × ShownWindow)

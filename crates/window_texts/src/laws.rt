@@ -7,18 +7,19 @@ ghost use Rattle.window_texts.specs.Differences.{differs};
 ghost use Rattle.window_texts.specs.Examples.{hello, no_service};
 ghost use Rattle.cell_runs.specs.RunsOf.{AreRunsOf};
 ghost use Rattle.cell_runs.specs.Writing.{in_pens};
-ghost use Rattle.window_texts.specs.Runs.{places, runs};
+ghost use Rattle.window_texts.specs.Runs.{places, window_runs};
 ghost use Rattle.window_texts.specs.WindowTexts.{service_text};
 
 /// The runs of a window are the longest stretches of neighbouring cells of one row with one pen and the same colours, in which they
 /// are written alike (`cell_runs::laws`): each is one, each cell is in one, and they stand by row, then column.
 pub fn runs_are_the_longest_stretches()
-    ensures { (window : ShownWindow) → AreRunsOf in_pens (places window) (runs window) }
+    ensures { (window : ShownWindow) → AreRunsOf in_pens (places window) (window_runs window) }
 {}
 
 /// The text of service 1 where its window 0 has one row of ten columns with HELLO in it, and of service 63 without a window.
 pub fn a_window_is_printed()
-    ensures hello { service_text 1 hello ≡ codes "S1 1\nW0 at 0 60 50 0 size 1 10 lock 1 1 pri 0 attr 0 0 3 0 0 0 0 fill 0000 border 0000 runs 1\n0 0 1 0 0 1 0 0 0 0222 0000 000 HELLO\n" }
+    ensures hello { service_text 1 hello
+        ≡ codes "S1 1\nW0 at 0 60 50 0 size 1 10 lock 1 1 pri 0 attr 0 0 3 0 0 0 0 fill 0000 border 0000 runs 1\n0 0 1 0 0 1 0 0 0 0222 0000 000 HELLO\n" }
     ensures none { service_text 63 no_service ≡ codes "S63 0\n" }
 {}
 

@@ -1,7 +1,7 @@
 ghost use Rattle.std.specs.Prelude.{◌≡◌, ◌≤◌, ◌*◌, IfSome, IsTrue, length};
 ghost use Rattle.dtvcc_windows.specs.Objects.{is_live, state_of, window_of};
 ghost use Rattle.dtvcc_windows.specs.Showing.{as_shown};
-ghost use Rattle.window_texts.specs.Runs.{runs};
+ghost use Rattle.window_texts.specs.Runs.{window_runs};
 
 use cell_runs::runs_of_row;
 use dtvcc_windows::Window;
@@ -9,7 +9,7 @@ use dtvcc_windows::Window;
 /// The number of runs of a window that is shown.
 pub(crate) fn run_count(window: &Window) -> u16
     requires { IsTrue (is_live window.now) }
-    ensures { result ≡ length (runs (as_shown (state_of window.now))) }
+    ensures { result ≡ length (window_runs (as_shown (state_of window.now))) }
 {
     let rows = window.rows();
     let mut count = 0;

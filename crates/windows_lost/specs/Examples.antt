@@ -1,10 +1,11 @@
+-- Between crates: the program's answer stands on none of these definitions.
 -- A worked example: windows of a service of which frame 5 is lost, in the midst of one that is shown and of one that is loading.
 use Rattle.std.specs.Prelude.{ℕ, suc, ◌-◌, Bool, List, [], ◌∷◌, is_some}
 use Rattle.cc_base.specs.declared.rate.Rate.TheVariants.{F2997}
 use Rattle.cue_types.specs.Listing.{Listing}
 use Rattle.cue_types.specs.declared.cue.Cue.{Cue}
 use Rattle.cue_rules.specs.Rules.Examples.{window, window_list}
-use Rattle.dtvcc_screen.specs.Meaning.{after, cleaned}
+use Rattle.dtvcc_screen.specs.Meaning.{cleaned, served_after}
 use Rattle.dtvcc_screen.specs.Shown.{grids}
 use Rattle.windows_shown.specs.AuthoredShown.{list_lane}
 use Rattle.windows_lost.specs.Loss.{lane_events_since}
@@ -24,4 +25,4 @@ interrupted_frames = 0 ∷ 0 ∷ 1 ∷ 3 ∷ 3 ∷ 4 ∷ 4 ∷ 6 ∷ 8 ∷ 8 ∷
 -- whether a window is seen when a frame has come, if the service was reset before frame 6
 abbrev pub is_seen_since : ℕ → ℕ → Bool
 is_seen_since id frame =
-    is_some (grids (after (cleaned (record { ticks = 5; rate = F2997 })) (lane_events_since (list_lane interrupted_list 1 interrupted_frames) 6 (suc frame - 6))).core.screen id)
+    is_some (grids (served_after (cleaned (record { ticks = 5; rate = F2997 })) (lane_events_since (list_lane interrupted_list 1 interrupted_frames) 6 (suc frame - 6))).core.screen id)

@@ -1,3 +1,4 @@
+-- Between crates: the program's answer stands on none of these definitions.
 -- What is seen of a service that is reset behind lost frames, and hears all frames from there on (CTA-708-E, Reset and caption windows;
 -- that a receiver resets where frames are missing, and by which cue it shows the authored windows again, are this project's own choice).
 use Rattle.std.specs.Prelude.{◌≡◌, ℕ, zero, suc, ◌+◌, ◌<◌, ◌≤◌, List, [], ◌∷◌, ◌++◌, IfSome}
@@ -7,7 +8,7 @@ use Rattle.cue_types.specs.Listing.{IsFormed, Listing}
 use Rattle.cue_types.specs.declared.cue.Cue.{Cue}
 use Rattle.cue_rules.specs.Rules.{IsRuled}
 use Rattle.authored_grids.specs.AuthoredServiceGrid.{authored_windows}
-use Rattle.dtvcc_screen.specs.Meaning.{Event, after, cleaned}
+use Rattle.dtvcc_screen.specs.Meaning.{Event, cleaned, served_after}
 use Rattle.dtvcc_screen.specs.Shown.{grids}
 use Rattle.dtvcc_screen.specs.declared.clock.Clock.{Clock}
 use Rattle.dtvcc_shown.specs.ServiceLanes.{Lane, lane_frame_events}
@@ -33,5 +34,5 @@ abbrev pub ServiceLossIsRecovered : Type 0
 ServiceLossIsRecovered = (list : Listing) (service : ℕ) (frames : List ℕ) → IsFormed list → IsRuled list → IsServicePlaced list service frames
     → (clock : Clock) (lost count frame id : ℕ) (cue : Cue) → suc lost + count ≡ suc frame → ResynchronisesService list service lost cue → cue.show ≤ frame
     → id < 8
-    → grids (after (cleaned clock) (lane_events_since (list_lane list service frames) (suc lost) count)).core.screen id
+    → grids (served_after (cleaned clock) (lane_events_since (list_lane list service frames) (suc lost) count)).core.screen id
     ≡ authored_windows service list.cues frame id

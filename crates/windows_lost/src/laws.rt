@@ -16,8 +16,11 @@ pub fn service_loss_is_recovered()
 /// came before, though more of its load and what shows it come later; a window that is loaded later, while the delay of the lost one is
 /// on; and from its SHOW on that of a cue that resynchronises the service.
 pub fn windows_behind_a_loss_are_seen()
-    ensures shown { map (is_seen_since 0) (6 ∷ 11 ∷ 12 ∷ 24 ∷ 25 ∷ 29 ∷ 30 ∷ []) ≡ false ∷ false ∷ false ∷ false ∷ true ∷ true ∷ false ∷ [] }
-    ensures loading { map (is_seen_since 1) (9 ∷ 10 ∷ 19 ∷ 20 ∷ []) ≡ false ∷ false ∷ false ∷ false ∷ [] }
-    ensures meanwhile { map (is_seen_since 2) (14 ∷ 15 ∷ 19 ∷ 20 ∷ []) ≡ false ∷ true ∷ true ∷ false ∷ [] }
+    ensures shown { map (is_seen_since 0) (6 ∷ 11 ∷ 12 ∷ 24 ∷ 25 ∷ 29 ∷ 30 ∷ [])
+        ≡ false ∷ false ∷ false ∷ false ∷ true ∷ true ∷ false ∷ [] }
+    ensures loading { map (is_seen_since 1) (9 ∷ 10 ∷ 19 ∷ 20 ∷ [])
+        ≡ false ∷ false ∷ false ∷ false ∷ [] }
+    ensures meanwhile { map (is_seen_since 2) (14 ∷ 15 ∷ 19 ∷ 20 ∷ [])
+        ≡ false ∷ true ∷ true ∷ false ∷ [] }
     ensures again { ResynchronisesService interrupted_list 1 5 last_cue }
 {}

@@ -5,7 +5,7 @@ use Rattle.std.specs.Prelude.{option_map}
 use Rattle.std.specs.List.{flat_map, list_any}
 use Rattle.cc_base.specs.declared.rate.Rate.{Rate}
 use Rattle.dtvcc_codes.specs.declared.commands.Command.TheVariants.{Dlw, Dsw}
-use Rattle.dtvcc_codes.specs.Writing.{written}
+use Rattle.dtvcc_codes.specs.Writing.{bytes_of_command}
 use Rattle.dtvcc_screen.specs.Screens.{ScreenState}
 use Rattle.dtvcc_author.specs.declared.caption.Caption.{Caption}
 use Rattle.dtvcc_author.specs.FrameEvents.{delayed_at, is_hidden_at, is_shown_at, names, windows_byte}
@@ -21,18 +21,18 @@ use Rattle.windows_shown.proofs.HeardLaneLemmas.{heard_lane}
 use Rattle.windows_shown.proofs.WindowLemmas.{empty_until, opening, screen_from}
 
 -- one command for windows, and one behind another
-one_dsw : (windows : ℕ) (s : ScreenState) → acted_on (written (Dsw windows) ++ []) s ≡ acted_by (Dsw windows ∷ []) s
-one_dsw windows s = ap (λ (bytes : List ℕ). acted_on bytes s) (append-nil (written (Dsw windows))) ∙ dsw_acts windows s
+one_dsw : (windows : ℕ) (s : ScreenState) → acted_on (bytes_of_command (Dsw windows) ++ []) s ≡ acted_by (Dsw windows ∷ []) s
+one_dsw windows s = ap (λ (bytes : List ℕ). acted_on bytes s) (append-nil (bytes_of_command (Dsw windows))) ∙ dsw_acts windows s
 
-one_dlw : (windows : ℕ) (s : ScreenState) → acted_on (written (Dlw windows) ++ []) s ≡ acted_by (Dlw windows ∷ []) s
-one_dlw windows s = ap (λ (bytes : List ℕ). acted_on bytes s) (append-nil (written (Dlw windows))) ∙ dlw_acts windows s
+one_dlw : (windows : ℕ) (s : ScreenState) → acted_on (bytes_of_command (Dlw windows) ++ []) s ≡ acted_by (Dlw windows ∷ []) s
+one_dlw windows s = ap (λ (bytes : List ℕ). acted_on bytes s) (append-nil (bytes_of_command (Dlw windows))) ∙ dlw_acts windows s
 
 both_act : (a b : Bool) (hides shows : ℕ) (s : ScreenState)
-    → acted_on (flat_map written ((if a then Dlw hides ∷ [] else []) ++ (if b then Dsw shows ∷ [] else []))) s
+    → acted_on (flat_map bytes_of_command ((if a then Dlw hides ∷ [] else []) ++ (if b then Dsw shows ∷ [] else []))) s
     ≡ acted_by (if b then Dsw shows ∷ [] else []) (acted_by (if a then Dlw hides ∷ [] else []) s)
 both_act true true hides shows s =
-    acted_append (written (Dlw hides)) (written (Dsw shows) ++ []) s (dlw_plain hides)
-    ∙ ap (acted_on (written (Dsw shows) ++ [])) (dlw_acts hides s)
+    acted_append (bytes_of_command (Dlw hides)) (bytes_of_command (Dsw shows) ++ []) s (dlw_plain hides)
+    ∙ ap (acted_on (bytes_of_command (Dsw shows) ++ [])) (dlw_acts hides s)
     ∙ one_dsw shows (acted_by (Dlw hides ∷ []) s)
 both_act true false hides shows s = one_dlw hides s
 both_act false true hides shows s = one_dsw shows s
@@ -46,7 +46,7 @@ events_act frame gs s =
 
 -- what a delay puts off
 delay_acts : (found : Option Caption) (s : ScreenState) → acted_on (shows_bytes (option_map caption_delay found)) s ≡ delay_shows found s
-unfolding written
+unfolding bytes_of_command
 delay_acts None s = refl
 delay_acts (Some c) s = dsw_acts (windows_byte (λ id. c.id == id)) s
 

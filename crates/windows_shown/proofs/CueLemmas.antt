@@ -12,7 +12,7 @@ use Rattle.cue_types.specs.declared.cue.WinCue.{WinCue}
 use Rattle.cue_types.specs.Cues.{IsCueFormed, IsOfKind}
 use Rattle.dtvcc_codes.specs.declared.commands.Command.{Command}
 use Rattle.dtvcc_codes.specs.declared.windows.Definition.{Definition}
-use Rattle.dtvcc_codes.specs.Writing.{written}
+use Rattle.dtvcc_codes.specs.Writing.{bytes_of_command}
 use Rattle.dtvcc_windows.specs.Showing.{ShownWindow}
 use Rattle.cue_types.specs.Channels.{uses_window}
 use Rattle.authored_grids.specs.AuthoredServiceGrid.{authored_windows, cue_window, is_before, shows_in}
@@ -49,12 +49,12 @@ placed_timely share cs before (u ∷ us) (f ∷ fs) placed = (
 more_commands : (number : ℕ) (c : Caption) (d : Definition) (commands : List Command) (rest : List Chunk) (cs : List Caption) (fs : List ℕ)
     (authored : ℕ → ℕ → Option ShownWindow) (window : Option ShownWindow)
     → d.id ≡ c.id → IsLoad d commands → All IsWritable commands → seen_behind commands ≡ window
-    → AreTimely (map (chunk_of number c) (map written commands) ++ rest) fs
+    → AreTimely (map (chunk_of number c) (map bytes_of_command commands) ++ rest) fs
     → ((left : List ℕ) → AreTimely rest left → Loads cs rest left authored)
-    → Loads (c ∷ cs) (map (chunk_of number c) (map written commands) ++ rest) fs (λ id frame. if shows id frame c then window else authored id frame)
+    → Loads (c ∷ cs) (map (chunk_of number c) (map bytes_of_command commands) ++ rest) fs (λ id frame. if shows id frame c then window else authored id frame)
 more_commands number c d commands rest cs fs authored window names load writable is timely others =
-    subst (λ (all : List Command). All IsWritable all → seen_behind all ≡ window → AreTimely (map (chunk_of number c) (map written all) ++ rest) fs
-    → Loads (c ∷ cs) (map (chunk_of number c) (map written all) ++ rest) fs (λ id frame. if shows id frame c then window else authored id frame))
+    subst (λ (all : List Command). All IsWritable all → seen_behind all ≡ window → AreTimely (map (chunk_of number c) (map bytes_of_command all) ++ rest) fs
+    → Loads (c ∷ cs) (map (chunk_of number c) (map bytes_of_command all) ++ rest) fs (λ id frame. if shows id frame c then window else authored id frame))
     (sym load.split)
     (λ some seen in_time. one_more number c d load.text rest cs fs authored window names load.hidden load.texts some seen in_time others)
     writable is timely
@@ -78,7 +78,7 @@ module _ (rate : Rate) (service : ℕ) where
 
   -- the units of a cue, with this caption and these commands, before those of later cues
   abbrev units : ℕ → Option Caption → List Command → List Cue → List Chunk
-  units number c commands cues = chunks_with number c (map written commands) ++ chunks_from rate service (suc number) cues
+  units number c commands cues = chunks_with number c (map bytes_of_command commands) ++ chunks_from rate service (suc number) cues
 
   -- the captions with that of a cue before them, which uses these windows
   abbrev WithCue : ℕ → Cue → List Cue → List ℕ → Option Caption → List Command → (ℕ → Bool) → Type 0

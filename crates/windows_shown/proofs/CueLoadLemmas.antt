@@ -9,7 +9,7 @@ use Rattle.std.proofs.lemmas.List.Elements.{All-head, All-tail}
 use Rattle.dtvcc_codes.specs.declared.commands.Command.{Command}
 use Rattle.dtvcc_codes.specs.declared.commands.Command.TheVariants.{Df, Dly, Dlc, Rst}
 use Rattle.dtvcc_codes.specs.declared.windows.Definition.{Definition}
-use Rattle.dtvcc_codes.specs.Writing.{written}
+use Rattle.dtvcc_codes.specs.Writing.{bytes_of_command}
 use Rattle.dtvcc_windows.specs.Defining.{defined}
 use Rattle.dtvcc_windows.specs.Showing.{ShownWindow, shown}
 use Rattle.dtvcc_windows.specs.Windows.{WindowState, with_visibility}
@@ -47,9 +47,9 @@ text_plain _ text = refl
 
 -- a unit that stands in a frame, or not, before others
 unit_acts : (here : Bool) (command : Command) (more : List ℕ) (s : ScreenState) → IsWritable command → is_plain command ≡ true
-    → acted_on ((if here then written command else []) ++ more) s ≡ acted_on more (if here then on_screen command s else s)
+    → acted_on ((if here then bytes_of_command command else []) ++ more) s ≡ acted_on more (if here then on_screen command s else s)
 unit_acts true command more s writable plain =
-    acted_append (written command) more s (written_plain command writable plain) ∙ ap (acted_on more) (written_acts command s writable)
+    acted_append (bytes_of_command command) more s (written_plain command writable plain) ∙ ap (acted_on more) (written_acts command s writable)
 unit_acts false command more s writable plain = refl
 
 abbrev AreTexts : List Command → Type 0
@@ -67,7 +67,7 @@ record PlacedText (number : ℕ) (c : Caption) (commands : List Command) (rest :
   rising : AreRising text
   more : AreFramesFrom last left
   timely : AreTimely rest left
-  acts : (frame : ℕ) (s : ScreenState) → acted_on (loads_at (zip (map (chunk_of number c) (map written commands) ++ rest) fs) frame) s
+  acts : (frame : ℕ) (s : ScreenState) → acted_on (loads_at (zip (map (chunk_of number c) (map bytes_of_command commands) ++ rest) fs) frame) s
       ≡ acted_on (loads_at (zip rest left) frame) (text_acts frame text s)
   edits_are : (w : WindowState) → edits all_frames text (Some w) ≡ Some (edited_all commands w)
 
@@ -77,7 +77,7 @@ at_least low high [] less all = tt
 at_least low high (u ∷ us) less all = let first : high ≤ u.1 = all.0 in (omega arith, at_least low high us less all.1)
 
 placed_text : (number : ℕ) (c : Caption) (commands : List Command) (rest : List Chunk) (from : ℕ) (fs : List ℕ) → AreTexts commands
-    → All IsWritable commands → AreFramesFrom from fs → AreTimely (map (chunk_of number c) (map written commands) ++ rest) fs
+    → All IsWritable commands → AreFramesFrom from fs → AreTimely (map (chunk_of number c) (map bytes_of_command commands) ++ rest) fs
     → PlacedText number c commands rest from fs
 placed_text number c [] rest from fs texts writable low timely = record {
   text = [];
@@ -110,7 +110,7 @@ placed_text number c (command ∷ commands) rest from (f ∷ fs) texts writable 
       more = later.more;
       timely = later.timely;
       acts = λ frame s.
-          unit_acts (f == frame) command (loads_at (zip (map (chunk_of number c) (map written commands) ++ rest) fs) frame) s
+          unit_acts (f == frame) command (loads_at (zip (map (chunk_of number c) (map bytes_of_command commands) ++ rest) fs) frame) s
           (All-head IsWritable command commands writable) (text_plain command texts.0)
           ∙ later.acts frame (if f == frame then on_screen command s else s);
       edits_are = λ w. later.edits_are (edited_by command w);
@@ -165,9 +165,9 @@ shows_holds id frame c is from to = grind (arith, nat_tests)
 pub one_more : (number : ℕ) (c : Caption) (d : Definition) (text : List Command) (rest : List Chunk) (cs : List Caption) (fs : List ℕ)
     (authored : ℕ → ℕ → Option ShownWindow) (window : Option ShownWindow)
     → d.id ≡ c.id → d.visible ≡ false → AreTexts text → All IsWritable (Df d ∷ text) → seen_behind (Df d ∷ text) ≡ window
-    → AreTimely (map (chunk_of number c) (map written (Df d ∷ text)) ++ rest) fs
+    → AreTimely (map (chunk_of number c) (map bytes_of_command (Df d ∷ text)) ++ rest) fs
     → ((left : List ℕ) → AreTimely rest left → Loads cs rest left authored)
-    → Loads (c ∷ cs) (map (chunk_of number c) (map written (Df d ∷ text)) ++ rest) fs (λ id frame. if shows id frame c then window else authored id frame)
+    → Loads (c ∷ cs) (map (chunk_of number c) (map bytes_of_command (Df d ∷ text)) ++ rest) fs (λ id frame. if shows id frame c then window else authored id frame)
 one_more number c d text rest cs [] authored window names hidden texts writable is timely others = absurd timely
 one_more number c d text rest cs (f ∷ fs) authored window names hidden texts writable is timely others =
     let own = placed_text number c text rest f fs texts (All-tail IsWritable (Df d) text writable) timely.2 timely.3 in
@@ -195,7 +195,7 @@ one_more number c d text rest cs (f ∷ fs) authored window names hidden texts w
           let first : frame ≤ f = low.0 in
           (first, all_from frame own.last later.loads (omega arith) (later.from own.last own.more));
       acts = λ frame s.
-          unit_acts (f == frame) (Df d) (loads_at (zip (map (chunk_of number c) (map written text) ++ rest) fs) frame) s
+          unit_acts (f == frame) (Df d) (loads_at (zip (map (chunk_of number c) (map bytes_of_command text) ++ rest) fs) frame) s
           (All-head IsWritable (Df d) text writable) refl
           ∙ own.acts frame (if f == frame then with_definition d s else s)
           ∙ later.acts frame (load_acts frame g s);

@@ -13,21 +13,21 @@ use Rattle.cue_types.specs.Windows.{IsWindowRun}
 use Rattle.cue_rules.specs.Rules.{IsRuled, verdicts}
 use Rattle.cue_rules.specs.Rules.Examples.{window}
 use Rattle.cue_rules.proofs.RulesSaid.{faultless_ruled}
-use Rattle.dtvcc_codes.specs.CharacterSpellings.{spelling_of}
-use Rattle.dtvcc_codes.specs.Writing.{written}
+use Rattle.dtvcc_codes.specs.CharacterSpellings.{dtvcc_spelling}
+use Rattle.dtvcc_codes.specs.Writing.{bytes_of_command}
 use Rattle.dtvcc_author.specs.FrameEvents.{delay_end}
 use Rattle.dtvcc_author.specs.declared.caption.Caption.{Caption}
 use Rattle.frame_scheduler.specs.Planned.{captions_in, chunks_in, share_in}
 use Rattle.placements.specs.Placing.{IsPlaced}
 use Rattle.service_lanes.specs.Chunks.{Chunk}
-use Rattle.service_lanes.specs.ServiceLane.{AreUpTo, IsAllowed, bytes_between, chunk_size, is_between, most_in_delay, used}
+use Rattle.service_lanes.specs.ServiceLane.{AreUpTo, IsAllowedInService, bytes_between, chunk_size, is_between, most_in_delay, used}
 use Rattle.service_lanes.specs.ServiceRoom.{caption_lane, frame_room}
 use Rattle.windows_shown.specs.AuthoredShown.{IsServicePlaced}
 use Rattle.windows_shown.specs.Examples.{delayed_frames, delayed_list}
 
 -- a window of the example in its ranges
 cue_formed : (id load show hide tenths : ℕ) → id ≤ 7 → load < 100 → show < 100 → hide < 100 → tenths ≤ 255 → IsCueFormed (window id load show hide tenths)
-unfolding spelling_of
+unfolding dtvcc_spelling
 cue_formed id load show hide tenths a b c d e = record {
   load = omega arith;
   show = omega arith;
@@ -55,7 +55,7 @@ cue_formed id load show hide tenths a b c d e = record {
       pen = tt;
       some = omega arith;
       fits = omega arith;
-      coded = All-cons (λ ch. IsSome (spelling_of ch)) 65 [] refl (All-nil (λ ch. IsSome (spelling_of ch)));
+      coded = All-cons (λ ch. IsSome (dtvcc_spelling ch)) 65 [] refl (All-nil (λ ch. IsSome (dtvcc_spelling ch)));
       colors = tt;
     }) (All-nil (IsWindowRun _)),
   );
@@ -128,7 +128,7 @@ up_to f (each ∷ before) test =
     (le_holds each.1 f parts.0, up_to f before parts.1)
 
 allowed_by : (share : ℕ) (cs : List Caption) (before : List (Chunk × ℕ)) (u : Chunk) (f : ℕ) → is_allowed share cs before u f ≡ true
-    → IsAllowed (frame_room share cs) (delay_end cs) before u f
+    → IsAllowedInService (frame_room share cs) (delay_end cs) before u f
 allowed_by share cs before u f test =
     let first = and_parts (list_all (λ (each : Chunk × ℕ). nat_le each.1 f) before) _ test in
     let second = and_parts (nat_le u.load f) _ first.1 in
@@ -153,5 +153,5 @@ placed_by share cs before (u ∷ us) (f ∷ fs) test =
     (allowed_by share cs before u f parts.0, placed_by share cs (before ++ (u, f) ∷ []) us fs parts.1)
 
 pub units_placed : IsServicePlaced delayed_list 1 delayed_frames
-unfolding written spelling_of
+unfolding bytes_of_command dtvcc_spelling
 units_placed = placed_by (share_in delayed_list 1) (captions_in delayed_list 1) [] (chunks_in delayed_list 1) delayed_frames refl

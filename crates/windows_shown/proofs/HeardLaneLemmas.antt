@@ -3,7 +3,7 @@
 use Rattle.std.proofs.Common.{◌≡◌, ◌∙◌, ℕ, zero, suc, ◌+◌, ◌-◌, ◌≤◌, nat_lt, Bool, true, false, if◌then◌else◌, List, [], length, Some, None, refl, sym, ap, arith}
 use Rattle.std.proofs.lemmas.Bool.Decides.{nat_tests}
 use Rattle.dtvcc_author.specs.declared.frame_events.Delay.{Delay}
-use Rattle.dtvcc_screen.specs.Meaning.{Served, after}
+use Rattle.dtvcc_screen.specs.Meaning.{Served, served_after}
 use Rattle.dtvcc_shown.specs.ServiceLanes.{Lane, lane_frame_events, served, spent}
 use Rattle.dtvcc_shown.specs.Soundness.{ArePlain, HasOnlyLoads, IsSoundLane}
 use Rattle.dtvcc_shown.proofs.PlainLemmas.{nothing_plain}
@@ -25,8 +25,8 @@ same_events lane since frame low = let test : nat_lt frame since ≡ false = gri
 pub whole_served : (lane : Lane) (n : ℕ) → served (heard_lane 0 lane) n ≡ served lane n
 whole_served lane zero = refl
 whole_served lane (suc n) =
-    ap (after (served (heard_lane 0 lane) n)) (same_events lane 0 n (omega arith))
-    ∙ ap (λ (s : Served). after s (lane_frame_events lane n)) (whole_served lane n)
+    ap (served_after (served (heard_lane 0 lane) n)) (same_events lane 0 n (omega arith))
+    ∙ ap (λ (s : Served). served_after s (lane_frame_events lane n)) (whole_served lane n)
 
 plain_or_none : (b : Bool) (bytes : List ℕ) → ArePlain bytes → ArePlain (if b then [] else bytes)
 plain_or_none true bytes plain = nothing_plain

@@ -1,3 +1,4 @@
+-- Between crates: the program's answer stands on none of these definitions.
 -- That what a viewer sees of a service is what the cue list authors (CTA-708-E, caption windows).
 use Rattle.std.specs.Prelude.{◌≡◌, ℕ, suc, ◌<◌, List, []}
 use Rattle.std.specs.List.{zip}

@@ -4,14 +4,14 @@ use Rattle.std.proofs.Math.Path.{fun_ext}
 use Rattle.cc_base.specs.declared.refusal.Refusal.{Refusal}
 use Rattle.cc_base.specs.declared.streams.Put.{Put}
 use Rattle.cc_base.specs.declared.streams.Put.TheVariants as put
-use Rattle.cc_conceal.specs.Concealed.{concealed_grids, concealed_windows, missing_before, number_of}
+use Rattle.cc_conceal.specs.Concealed.{concealed_grids, concealed_windows, missing_before, number_of_last}
 use Rattle.cc_conceal.specs.Concealers.{Conceals, HasConcealed, concealed_frames, displayed_now, receiver_of}
 use Rattle.cc_conceal.specs.declared.concealer.Concealer.{Concealer}
 use Rattle.cc_receiver.proofs.FedFrames.{IsNextFrame, counted_nothing, counts_none, counts_one, frame_more, frames_still, nothing_is_file, nothing_offends}
 use Rattle.cc_receiver.specs.Feeds.{Counts, HasFed, HasRefused}
 use Rattle.cc_receiver.specs.declared.receiver.Ended.TheVariants as ended
 use Rattle.cc_receiver.specs.declared.receiver.Fed.{Fed}
-use Rattle.cdp_packets.specs.Packets.{Packet as Frame}
+use Rattle.cdp_packets.specs.Packets.{Frame}
 use Rattle.command_base.specs.Ends.{Ends, IsSteady}
 use Rattle.dtvcc_services.specs.Numbers.{IsService}
 use Rattle.grid_print.proofs.ScreenLemmas.{changes_alike, no_changes}
@@ -70,8 +70,8 @@ idle_kept start now held frames last shown missing alike way is zero grids windo
       windows = λ service id numbered small. sym (windows service id numbered);
     } in
     let none : next_concealed frames last ≡ [] =
-    ap (λ m. lost_line m (number_of all) ++ changes_text (number_of all) (concealed_screens frames) (concealed_screens all)) (sym is ∙ zero)
-    ∙ no_changes (number_of all) (concealed_screens frames) (concealed_screens all) same in (
+    ap (λ m. lost_line m (number_of_last all) ++ changes_text (number_of_last all) (concealed_screens frames) (concealed_screens all)) (sym is ∙ zero)
+    ∙ no_changes (number_of_last all) (concealed_screens frames) (concealed_screens all) same in (
       alike_after (last_shown shown) (concealed_screens frames) (concealed_screens all) alike same,
       gathered_still start now held (concealed_changes frames) (concealed_changes all) way
           (texts_more next_concealed frames last ∙ ap (λ l. concealed_changes frames ++ l) none ∙ append-nil (concealed_changes frames)),
@@ -82,21 +82,21 @@ pub frame_gathered : (start : Option (List ℕ)) (old then new : Page) (r : Put)
     → IsGathered start old.written (held_of old.text) (concealed_changes frames) → answer_of old.text ≡ put.Done
     → Writes old then (lost_line missing number) → Writes then new (changes_text number shown screens) → r ≡ answer_of new.text
     → LookAlike shown (concealed_screens frames) → screens ≡ concealed_screens (frames ++ last ∷ []) → missing ≡ missing_before (frames ++ last ∷ [])
-    → number ≡ number_of (frames ++ last ∷ [])
+    → number ≡ number_of_last (frames ++ last ∷ [])
     → GathersText start new.written (held_of new.text) (concealed_changes (frames ++ last ∷ [])) r
 frame_gathered start old then new r frames last missing number shown screens way done lost changed answered alike same missed numbered =
     let all = frames ++ last ∷ [] in
     let before = concealed_changes frames in
-    let line : lost_line missing number ≡ lost_line (missing_before all) (number_of all) =
+    let line : lost_line missing number ≡ lost_line (missing_before all) (number_of_last all) =
     ap (λ m. lost_line m number) missed ∙ ap (lost_line (missing_before all)) numbered in
-    let changes : changes_text number shown screens ≡ changes_text (number_of all) (concealed_screens frames) (concealed_screens all) =
+    let changes : changes_text number shown screens ≡ changes_text (number_of_last all) (concealed_screens frames) (concealed_screens all) =
     changes_alike number shown (concealed_screens frames) screens alike
     ∙ ap (λ s. changes_text number (concealed_screens frames) s) same
     ∙ ap (λ n. changes_text n (concealed_screens frames) (concealed_screens all)) numbered in
     let more : (before ++ lost_line missing number) ++ changes_text number shown screens ≡ concealed_changes all =
     append_assoc before (lost_line missing number) (changes_text number shown screens)
     ∙ ap (λ l. before ++ (l ++ changes_text number shown screens)) line
-    ∙ ap (λ l. before ++ (lost_line (missing_before all) (number_of all) ++ l)) changes
+    ∙ ap (λ l. before ++ (lost_line (missing_before all) (number_of_last all) ++ l)) changes
     ∙ sym (texts_more next_concealed frames last) in
     subst (λ a. GathersText start new.written (held_of new.text) (concealed_changes all) a) (sym answered)
     (subst (λ l. GathersText start new.written (held_of new.text) l (answer_of new.text)) more

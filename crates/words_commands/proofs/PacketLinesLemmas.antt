@@ -7,7 +7,7 @@ use Rattle.std.proofs.lemmas.List.{map-append}
 use Rattle.cc_base.specs.declared.streams.Put.{Put}
 use Rattle.cc_receiver.specs.Receivers.{HasReceived}
 use Rattle.cdp_packets.specs.PacketTriplets.{packet_triplets}
-use Rattle.cdp_packets.specs.Packets.{Packet as Frame}
+use Rattle.cdp_packets.specs.Packets.{Frame}
 use Rattle.line21_codes.specs.Reading.{code_of}
 use Rattle.line21_codes.specs.declared.channels.FieldNumber.TheVariants.{Two}
 use Rattle.line21_codes.specs.declared.codes.Code.{Code}

@@ -5,7 +5,7 @@ use Rattle.cc_base.specs.Streams.{Puts, Rose}
 use Rattle.cc_base.specs.declared.streams.Put.{Put}
 use Rattle.cc_base.specs.declared.streams.Put.TheVariants as put
 use Rattle.cc_receiver.specs.Receivers.{HasReceived}
-use Rattle.cdp_packets.specs.Packets.{Packet as Frame}
+use Rattle.cdp_packets.specs.Packets.{Frame}
 use Rattle.command_base.specs.Ends.{Ends, IsSteady, ends}
 use Rattle.command_base.specs.declared.status.Status.{Status}
 use Rattle.command_base.specs.declared.status.Status.TheVariants as status
@@ -16,8 +16,10 @@ use Rattle.line21_screen.specs.Grid.{empty_grid}
 use Rattle.services_files.specs.CaptionChannel.{caption_channel}
 use Rattle.words_files.specs.FramesOf.{AreFramesOf}
 use Rattle.words_reading.proofs.AnswersLemmas.{stop_answered_as}
+use Rattle.words_reading.proofs.EarlyLemmas.{early_answered}
 use Rattle.words_reading.proofs.FrameLemmas.{nothing_judged}
 use Rattle.words_reading.proofs.KnownLemmas.{file_of}
+use Rattle.words_reading.specs.Answers.{StopsEarlyAs}
 use Rattle.words_reading.specs.Causes.{IsWholeFile}
 use Rattle.words_reading.specs.FrameTexts.{FramesHalt}
 use Rattle.words_reading.specs.FramesRead.{HasJudgedFrames, receiver_of}
@@ -29,7 +31,7 @@ use Rattle.words_reading.specs.declared.judge.Stop.{Stop}
 use Rattle.words_reading.specs.declared.judge.Stop.TheVariants as stop
 use Rattle.words_commands.proofs.PrintingLemmas.{nothing_shown, show_before}
 use Rattle.words_commands.specs.Screens.{changes_of, counted, frames_line, show_output}
-use Rattle.words_commands.specs.WordsAnswer.{ChangesAnswer, IsTextOf, NeverHalts, ShowAnswer, StopsEarly}
+use Rattle.words_commands.specs.WordsAnswer.{ChangesAnswer, IsTextOf, NeverHalts, ShowAnswer}
 use Rattle.words_commands.specs.declared.changes.Changes.{Changes}
 use Rattle.words_commands.specs.declared.screens_at.ScreensAt.{ScreensAt}
 
@@ -48,7 +50,7 @@ abbrev pub HasStopped : (List Frame → List ℕ) → Ends → Ends → Stop Nev
 HasStopped text_of old new why =
     Stopped (IsTextOf text_of) (λ never. FramesHalt text_of (λ frames. Unit {0}) (λ frames last. ⊥)) old new why
 
-stopped_early : (text_of : List Frame → List ℕ) (old new : Ends) (why : Stop Never) → HasStopped text_of old new why → StopsEarly text_of old new (stop_status never_status why)
+stopped_early : (text_of : List Frame → List ℕ) (old new : Ends) (why : Stop Never) → HasStopped text_of old new why → StopsEarlyAs (IsTextOf text_of) NeverHalts old new (stop_status never_status why)
 stopped_early text_of old new why stops =
     stop_answered_as (IsTextOf text_of) _ NeverHalts never_status (λ never. elim never [ ]) (λ never bytes text halts. halts.is) old new why stops
 
@@ -131,20 +133,12 @@ changes_unwritten changes first left start now then reads later writes still las
     inr (ended.0.reads, subst (λ n. Rose n last) ended.0.writes rose, count_put changes first left start now then reads later writes still last count put.Failed ended line)
 
 -- a reading that stopped before the end of the file is answered so
-changes_early : (changes : List Frame → List ℕ) (old new : Ends) (why : Stop Never) → StopsEarly changes old new (stop_status never_status why)
-    → ChangesAnswer changes old new (stop_status never_status why)
-changes_early changes old new stop.ReadFault stops = stops
-changes_early changes old new stop.WriteFault stops = inl stops
-changes_early changes old new stop.Limit stops = stops
-changes_early changes old new (stop.Refused refusal) stops = stops
-changes_early changes old new (stop.Own never) stops = elim never [ ]
-
 pub changes_stopped : (changes : List Frame → List ℕ) (old new : Ends) (why : Stop Never) (answer : Status) → HasStopped changes old new why
     → answer ≡ stop_status never_status why → ChangesAnswer changes old new answer
 changes_stopped changes old new why answer stops is =
-    subst (ChangesAnswer changes old new) (sym is) (changes_early changes old new why (stopped_early changes old new why stops))
+    subst (ChangesAnswer changes old new) (sym is) (early_answered (IsTextOf (counted changes)) (IsTextOf changes) NeverHalts old new (stop_status never_status why) (stopped_early changes old new why stops))
 
-show_early : (frame : ℕ) (old new : Ends) (why : Stop Never) → StopsEarly (show_output frame) old new (stop_status never_status why)
+show_early : (frame : ℕ) (old new : Ends) (why : Stop Never) → StopsEarlyAs (IsTextOf (show_output frame)) NeverHalts old new (stop_status never_status why)
     → ShowAnswer frame old new (stop_status never_status why)
 show_early frame old new stop.ReadFault stops = stops
 show_early frame old new stop.WriteFault stops = stops
@@ -196,7 +190,7 @@ show_short Stands reading frame count old new (steady, stops) counts few =
         taken = stops.taken;
         within = stops.within;
         says = record { frames = had.frames; frames_are = had.frames_are; fit = tt; text_is = had.text_is };
-        cause = (stops.cause.0, (had.frames, file_of had.frames stops.judged had.frames_are stops.cause.1, number, few));
+        cause = (stops.cause.0, (had.frames, file_of had.frames stops.judged had.frames_are stops.cause.1, number, omega arith));
         output = stops.output;
       },
     )

@@ -1,9 +1,10 @@
+-- Believed in part: the program's answer stands on some of these definitions.
 -- What `conceal` puts of frames of which some are missing: how many are missing before each, and the screens that a concealing receiver
 -- shows (CTA-608-E; CTA-708-E; 47 CFR 79.101; the numbers by SMPTE ST 334-2, cdp_hdr_sequence_cntr).
 use Rattle.std.specs.Prelude.{ℕ, ◌==◌, if◌then◌else◌, List, [], ◌∷◌, ◌++◌, codes, decimal}
 use Rattle.cc_base.specs.Texts.{text}
-use Rattle.cc_conceal.specs.Concealed.{concealed_grids, concealed_windows, missing_before, number_of}
-use Rattle.cdp_packets.specs.Packets.{Packet as Frame}
+use Rattle.cc_conceal.specs.Concealed.{concealed_grids, concealed_windows, missing_before, number_of_last}
+use Rattle.cdp_packets.specs.Packets.{Frame}
 use Rattle.grid_print.specs.GridTexts.{changes_text}
 use Rattle.grid_print.specs.Screens.{Screens, screens_of}
 use Rattle.words_commands.specs.Screens.{counted, texts_behind}
@@ -21,7 +22,7 @@ lost_line missing frame =
 abbrev pub next_concealed : List Frame → Frame → List ℕ
 next_concealed before frame =
     let frames = before ++ frame ∷ [] in
-    lost_line (missing_before frames) (number_of frames) ++ changes_text (number_of frames) (concealed_screens before) (concealed_screens frames)
+    lost_line (missing_before frames) (number_of_last frames) ++ changes_text (number_of_last frames) (concealed_screens before) (concealed_screens frames)
 
 -- those of each frame
 abbrev pub concealed_changes : List Frame → List ℕ

@@ -1,7 +1,8 @@
+-- Between crates: the program's answer stands on none of these definitions.
 -- Words on their way through a concealing receiver.
 use Rattle.std.specs.Prelude.{◌≡◌, ◌≤◌, ℕ, List, length}
 use Rattle.cc_conceal.specs.Concealers.{HasConcealed, concealed_frames}
-use Rattle.cdp_packets.specs.Packets.{Packet as Frame}
+use Rattle.cdp_packets.specs.Packets.{Frame}
 use Rattle.grid_print.specs.Screens.{LookAlike}
 use Rattle.grid_print.specs.Shown.{last_shown}
 use Rattle.grid_print.specs.declared.shown.Shown.{Shown}

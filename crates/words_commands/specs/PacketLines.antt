@@ -1,15 +1,16 @@
+-- Believed in part: the program's answer stands on some of these definitions.
 -- What `xds-show` puts of the frames of a words file: the packets of extended data that end in the pairs of field 2 (CTA-608-E; CTA-708-E,
 -- cc_data(); 47 CFR 79.101).
 use Rattle.std.specs.Prelude.{◌≡◌, ℕ, List, [], ◌∷◌, ◌++◌, length, map, codes, decimal}
 use Rattle.std.specs.List.{flat_map}
 use Rattle.cc_base.specs.Texts.{text}
 use Rattle.cdp_packets.specs.PacketTriplets.{packet_triplets}
-use Rattle.cdp_packets.specs.Packets.{Packet as Frame}
+use Rattle.cdp_packets.specs.Packets.{Frame}
 use Rattle.line21_codes.specs.Reading.{code_of}
 use Rattle.line21_codes.specs.declared.channels.FieldNumber.TheVariants.{Two}
 use Rattle.line21_codes.specs.declared.pairs.Pair.{Pair}
 use Rattle.words_files.specs.Received.{field_pairs, received_pairs}
-use Rattle.xds_packets.specs.Reading.{packets_behind, packets_of}
+use Rattle.xds_packets.specs.Reading.{packets_behind, packets_within}
 use Rattle.xds_packets.specs.declared.packets.XdsPacket.{XdsPacket}
 use Rattle.words_commands.specs.Screens.{counted, texts_behind}
 
@@ -45,4 +46,4 @@ packets_in before (frame ∷ frames) = frame_packets before frame ++ packets_in 
 
 -- they are the packets that are read in all pairs of field 2 of the file
 abbrev pub AllPacketsAreShown : Type 0
-AllPacketsAreShown = (frames : List Frame) → packets_in [] frames ≡ packets_of (received_pairs Two frames)
+AllPacketsAreShown = (frames : List Frame) → packets_in [] frames ≡ packets_within (received_pairs Two frames)

@@ -1,7 +1,8 @@
+-- Believed in part: the program's answer stands on some of these definitions.
 -- What `decode` and `show` put of the frames of a words file: the screens of line 21 and the windows of the services of DTVCC that a
 -- receiver shows which was reset before the first of them (CTA-608-E; CTA-708-E; 47 CFR 79.101).
 use Rattle.std.specs.Prelude.{ℕ, suc, nat_lt, if◌then◌else◌, List, [], ◌∷◌, ◌++◌, length, take, codes, decimal}
-use Rattle.cdp_packets.specs.Packets.{Packet as Frame}
+use Rattle.cdp_packets.specs.Packets.{Frame}
 use Rattle.grid_print.specs.GridTexts.{all_text, changes_text}
 use Rattle.grid_print.specs.Screens.{received_screens}
 use Rattle.cc_base.specs.Texts.{text}

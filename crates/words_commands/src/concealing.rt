@@ -1,6 +1,6 @@
 ghost use Rattle.std.specs.Prelude.{◌≡◌, ◌<◌, ◌++◌, ◌∷◌, [], ℕ, List, Option};
 ghost use Rattle.cc_conceal.specs.Concealers.{HasConcealed, concealed_frames};
-ghost use Rattle.cdp_packets.specs.Packets.{Packet as Frame};
+ghost use Rattle.cdp_packets.specs.Packets.{Frame};
 ghost use Rattle.services_files.specs.CaptionChannel.{caption_channel};
 ghost use Rattle.text_output.specs.Gathered.{IsGathered, held_of};
 ghost use Rattle.text_output.specs.Pages.{Writes, page};
@@ -29,10 +29,14 @@ impl Concealing {
     fn add_frame<O: Sink>(&mut self, text: &mut Gathered, out: &mut O) -> Result<(), Stop<Never>>
         requires { 0 < concealed_frames self.old.concealer }
         ensures concealer { self.new.concealer ≡ self.old.concealer }
-        ensures makes { (start : Option (List ℕ)) (bytes : List ℕ) (frames : List Frame) (last : Frame) → ShownLast frames self.old.shown
-            → IsGathered start (O.written out.old) (held_of text.old) (concealed_changes frames) → HasConcealed bytes self.old.concealer
+        ensures makes { (start : Option (List ℕ)) (bytes : List ℕ) (frames : List Frame)
+            (last : Frame) → ShownLast frames self.old.shown
+            → IsGathered start (O.written out.old) (held_of text.old) (concealed_changes frames)
+            → HasConcealed bytes self.old.concealer
             → AreFramesOf caption_channel (frames ++ last ∷ []) bytes
-            → MakesFrame concealed_changes (λ frames. Unit {0}) ShownLast (λ frames last never. ⊥) start (O.written out.new) (held_of text.new) frames last self.new.shown result }
+            → MakesFrame concealed_changes (λ frames. Unit {0}) ShownLast
+            (λ frames last never. ⊥) start (O.written out.new)
+            (held_of text.new) frames last self.new.shown result }
         ensures cause { StopCause (O.faults out.old) (O.faults out.new) result }
     {
         let missing = self.concealer.missing();
@@ -54,7 +58,8 @@ impl Concealing {
 
 /// Writes the line of frames that are missing before one; nothing where none is.
 fn write_lost<O: Sink>(missing: u64, frame: u64, text: &mut Gathered, out: &mut O)
-    ensures { Writes (page text.old (O.written out.old) (O.faults out.old)) (page text.new (O.written out.new) (O.faults out.new)) (lost_line missing frame) }
+    ensures { Writes (page text.old (O.written out.old) (O.faults out.old))
+        (page text.new (O.written out.new) (O.faults out.new)) (lost_line missing frame) }
 {
     if missing == 0 {
         return;

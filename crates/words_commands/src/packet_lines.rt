@@ -1,6 +1,6 @@
 ghost use Rattle.std.specs.Prelude.{◌++◌, List};
 ghost use Rattle.std.specs.List.{flat_map};
-ghost use Rattle.cdp_packets.specs.Packets.{Packet as Frame};
+ghost use Rattle.cdp_packets.specs.Packets.{Frame};
 ghost use Rattle.line21_codes.specs.declared.channels.FieldNumber.TheVariants.{Two};
 ghost use Rattle.line21_codes.specs.declared.pairs.Pair.{Pair};
 ghost use Rattle.text_output.specs.Pages.{Writes, WritesSome, page};
@@ -31,10 +31,14 @@ impl PacketLines {
         text: &mut Gathered,
         out: &mut O,
     )
-        ensures reads { (before : List Pair) → HasRead before self.old.reader → HasRead (before ++ pairs.now) self.new.reader }
+        ensures reads { (before : List Pair) → HasRead before self.old.reader
+            → HasRead (before ++ pairs.now) self.new.reader }
         ensures writes { (before : List Pair) → HasRead before self.old.reader
-            → Writes (page text.old (O.written out.old) (O.faults out.old)) (page text.new (O.written out.new) (O.faults out.new)) (flat_map (packet_line frame) (ended_in before pairs.now)) }
-        ensures some { WritesSome (page text.old (O.written out.old) (O.faults out.old)) (page text.new (O.written out.new) (O.faults out.new)) }
+            → Writes (page text.old (O.written out.old) (O.faults out.old))
+            (page text.new (O.written out.new) (O.faults out.new))
+            (flat_map (packet_line frame) (ended_in before pairs.now)) }
+        ensures some { WritesSome (page text.old (O.written out.old) (O.faults out.old))
+            (page text.new (O.written out.new) (O.faults out.new)) }
     {
         for pair in pairs {
             let ended = self.reader.pair(*pair);
@@ -45,7 +49,9 @@ impl PacketLines {
 
 /// Writes the line of a packet, if there is one.
 fn write_ended<O: Sink>(ended: &Option<XdsPacket>, frame: u32, text: &mut Gathered, out: &mut O)
-    ensures { Writes (page text.old (O.written out.old) (O.faults out.old)) (page text.new (O.written out.new) (O.faults out.new)) (flat_map (packet_line frame) (listed ended.now)) }
+    ensures { Writes (page text.old (O.written out.old) (O.faults out.old))
+        (page text.new (O.written out.new) (O.faults out.new))
+        (flat_map (packet_line frame) (listed ended.now)) }
 {
     if let Some(packet) = ended {
         write_packet(packet, frame, text, out);
@@ -54,7 +60,8 @@ fn write_ended<O: Sink>(ended: &Option<XdsPacket>, frame: u32, text: &mut Gather
 
 /// Writes the line of a packet that ended in a frame.
 fn write_packet<O: Sink>(packet: &XdsPacket, frame: u32, text: &mut Gathered, out: &mut O)
-    ensures { Writes (page text.old (O.written out.old) (O.faults out.old)) (page text.new (O.written out.new) (O.faults out.new)) (packet_line frame packet.now) }
+    ensures { Writes (page text.old (O.written out.old) (O.faults out.old))
+        (page text.new (O.written out.new) (O.faults out.new)) (packet_line frame packet.now) }
 {
     text.write(b"frame ", out);
     text.write_number(frame, out);

@@ -1,5 +1,6 @@
 ghost use Rattle.command_base.specs.Ends.{ends};
-ghost use Rattle.words_commands.specs.WordsAnswer.{XdsShowAnswer};
+ghost use Rattle.words_commands.specs.PacketLines.{packet_lines};
+ghost use Rattle.words_commands.specs.WordsAnswer.{ChangesAnswer};
 
 use crate::count::put_count;
 use crate::packet_lines::PacketLines;
@@ -11,9 +12,10 @@ use xds_packets::XdsReader;
 
 /// Reads a words file, and puts the packets of extended data that end in each frame, and behind the last one the number of frames.
 pub fn run_xds_show<M: Source, O: Sink>(alloc: Global, input: &mut M, out: &mut O) -> Status
-    ensures { XdsShowAnswer
+    ensures { ChangesAnswer packet_lines
         (ends (M.left input.old) (M.faults input.old) (O.written out.old) (O.faults out.old))
-        (ends (M.left input.new) (M.faults input.new) (O.written out.new) (O.faults out.new)) result }
+        (ends (M.left input.new) (M.faults input.new) (O.written out.new)
+        (O.faults out.new)) result }
 {
     let reader = XdsReader::new();
     let Ok(mut frames) = Frames::new(alloc, PacketLines { reader }) else {

@@ -19,7 +19,7 @@ use Rattle.anc_words.proofs.WordLemmas.{AreWords-append, AreWords-flat_map, word
 use Rattle.anc_words.proofs.WordsFileLemmas.{ArePackets-append}
 use Rattle.cdp_packets.specs.declared.parts.CdpPart.{CdpPart}
 use Rattle.cdp_packets.specs.PacketParts.{packet_parts}
-use Rattle.cdp_packets.specs.Packets.{Packet as Frame}
+use Rattle.cdp_packets.specs.Packets.{Frame}
 use Rattle.words_files.specs.Catching.{Caught, caught_after, caught_of, refusal_of}
 use Rattle.words_files.specs.Frames.{CarryFrames}
 use Rattle.words_files.specs.Offences.{AreWholeWords, Begins}

@@ -16,7 +16,7 @@ use Rattle.anc_words.specs.declared.parts.WordPart.TheVariants as part
 use Rattle.anc_words.specs.Reading.{anc_syntax}
 use Rattle.cdp_packets.specs.declared.parts.CdpPart.{CdpPart}
 use Rattle.cdp_packets.specs.PacketParts.{packet_parts}
-use Rattle.cdp_packets.specs.Packets.{Packet as Frame}
+use Rattle.cdp_packets.specs.Packets.{Frame}
 use Rattle.cdp_packets.specs.Reading.{cdp_syntax, judge_cdp, nothing_open, open_after}
 use Rattle.words_files.specs.Catching.{Caught, OpenCaption, caption_verdict, caught_after, caught_in, caught_of, nothing_caught, packet_gone_on, reading_behind, refusal_of, unless_refused, verdict_behind}
 

@@ -14,7 +14,7 @@ use Rattle.anc_words.specs.Reading.{anc_syntax, nothing_open as no_word, packet_
 use Rattle.anc_words.proofs.ByteLemmas.{file_is_read, what_is_read_is_file}
 use Rattle.cdp_packets.specs.declared.parts.CdpPart.{CdpPart}
 use Rattle.cdp_packets.specs.PacketParts.{packet_parts}
-use Rattle.cdp_packets.specs.Packets.{IsCdp, Packet as Frame}
+use Rattle.cdp_packets.specs.Packets.{Frame, IsCdp}
 use Rattle.cdp_packets.specs.Reading.{IsPacketLength, cdp_syntax}
 use Rattle.cdp_packets.proofs.ReadLemmas.{packet_length, packet_read}
 use Rattle.cdp_packets.proofs.SoundLemmas.{sound}

@@ -8,7 +8,7 @@ use Rattle.cc_base.specs.Syntax.{open_behind}
 use Rattle.anc_words.specs.Reading.{Open, anc_syntax, nothing_open}
 use Rattle.anc_words.proofs.ByteLemmas.{file_is_read}
 use Rattle.cdp_packets.specs.declared.parts.CdpPart.{CdpPart}
-use Rattle.cdp_packets.specs.Packets.{Packet as Frame}
+use Rattle.cdp_packets.specs.Packets.{Frame}
 use Rattle.words_files.specs.Catching.{refusal_of}
 use Rattle.words_files.specs.Offences.{AreWholeWords, FirstOffendingWord, IsCutShort, IsFileUnder}
 use Rattle.words_files.specs.Layers.{Layers}

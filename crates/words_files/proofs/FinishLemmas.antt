@@ -22,7 +22,7 @@ use Rattle.anc_words.proofs.ReadLemmas.{FitsUser, Reads-head, Reads-users}
 use Rattle.anc_words.proofs.SoundLemmas.{IsBegun, IsBody, IsByteWord, IsPacket-ended, IsUserBehind, packet_behind}
 use Rattle.cdp_packets.specs.declared.parts.CdpPart.{CdpPart}
 use Rattle.cdp_packets.specs.PacketParts.{packet_parts}
-use Rattle.cdp_packets.specs.Packets.{IsCdp, Packet as Frame}
+use Rattle.cdp_packets.specs.Packets.{Frame, IsCdp}
 use Rattle.cdp_packets.specs.Reading.{IsPacketLength, cdp_syntax, judge_cdp, nothing_open, open_after}
 use Rattle.cdp_packets.proofs.FillLemmas.{goes_on}
 use Rattle.words_files.specs.Catching.{Caught, caught_after}

@@ -2,7 +2,7 @@
 use Rattle.std.proofs.Common.{◌≡◌, ℕ, List, [], ◌++◌, refl, subst}
 use Rattle.anc_words.specs.Packets.{AncillaryPacket, user_bytes}
 use Rattle.anc_words.proofs.WordsFileLemmas.{IsWordsFile-append, IsWordsFile-unique}
-use Rattle.cdp_packets.specs.Packets.{Packet as Frame}
+use Rattle.cdp_packets.specs.Packets.{Frame}
 use Rattle.cdp_packets.proofs.PacketLemmas.{packet_once}
 use Rattle.words_files.specs.Frames.{CarryFrames, IsFileOf, none, caption, foreign}
 

@@ -4,7 +4,7 @@ use Rattle.anc_words.specs.Packets.{AncillaryPacket}
 use Rattle.anc_words.specs.WordsFiles.{IsPacketBytes, IsWordsFile}
 use Rattle.anc_words.proofs.PacketLemmas.{IsPacketBytes-unique}
 use Rattle.anc_words.proofs.WordsFileLemmas.{IsWordsFile-first}
-use Rattle.cdp_packets.specs.Packets.{Packet as Frame}
+use Rattle.cdp_packets.specs.Packets.{Frame}
 use Rattle.cdp_packets.proofs.SectionLemmas.{split_same}
 use Rattle.words_files.specs.Frames.{CarryFrames, IsFileOf, none, caption, foreign}
 use Rattle.anc_words.specs.Words.{AreWords}

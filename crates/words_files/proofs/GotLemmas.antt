@@ -19,7 +19,7 @@ use Rattle.anc_words.specs.Writing.{checksum_word}
 use Rattle.anc_words.proofs.WordsFileLemmas.{IsWordsFile-nil}
 use Rattle.cdp_packets.specs.declared.parts.CdpPart.{CdpPart}
 use Rattle.cdp_packets.specs.PacketParts.{packet_parts}
-use Rattle.cdp_packets.specs.Packets.{Packet as Frame}
+use Rattle.cdp_packets.specs.Packets.{Frame}
 use Rattle.words_files.specs.Catching.{Caught, OpenCaption, caption_verdict, caught_after, caught_in, caught_of, ended_with, is_packet_length, nothing_caught, packet_gone_on, refusal_of, taken_in, unless_refused}
 use Rattle.words_files.specs.Frames.{none}
 use Rattle.words_files.specs.FramesOf.{AreFramesOf}

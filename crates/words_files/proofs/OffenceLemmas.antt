@@ -17,7 +17,7 @@ use Rattle.anc_words.proofs.ByteLemmas.{last_high, open-words_of}
 use Rattle.anc_words.proofs.PacketLemmas.{same_heads}
 use Rattle.cdp_packets.specs.declared.parts.CdpPart.{CdpPart}
 use Rattle.cdp_packets.specs.PacketParts.{packet_parts}
-use Rattle.cdp_packets.specs.Packets.{Packet as Frame}
+use Rattle.cdp_packets.specs.Packets.{Frame}
 use Rattle.cdp_packets.specs.Reading.{cdp_syntax}
 use Rattle.words_files.specs.Catching.{caption_verdict, never, reason_of, refusal_of}
 use Rattle.words_files.specs.Frames.{IsFileOf}

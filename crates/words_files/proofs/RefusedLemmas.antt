@@ -16,7 +16,7 @@ use Rattle.anc_words.specs.Reading.{anc_syntax, packet_parts as word_parts}
 use Rattle.anc_words.proofs.ByteLemmas.{file_is_read}
 use Rattle.cdp_packets.specs.declared.parts.CdpPart.{CdpPart}
 use Rattle.cdp_packets.specs.PacketParts.{packet_parts}
-use Rattle.cdp_packets.specs.Packets.{IsCdp, Packet as Frame}
+use Rattle.cdp_packets.specs.Packets.{Frame, IsCdp}
 use Rattle.cdp_packets.specs.Reading.{cdp_syntax, judge_cdp, nothing_open, open_after}
 use Rattle.cdp_packets.proofs.PacketLemmas.{packet_once}
 use Rattle.words_files.specs.Catching.{Caught, OpenCaption, caption_verdict, caught_after, caught_of, ended_with, nothing_caught, packet_gone_on, reading_behind, refusal_of, unless_refused, verdict_behind}

@@ -10,7 +10,7 @@ use Rattle.cc_base.specs.declared.refusal.Refusal.{Refusal}
 use Rattle.cc_base.specs.declared.why.Why.TheVariants as why
 use Rattle.anc_words.specs.Reading.{Open, anc_syntax, nothing_open}
 use Rattle.cdp_packets.specs.PacketParts.{packet_parts}
-use Rattle.cdp_packets.specs.Packets.{Packet as Frame}
+use Rattle.cdp_packets.specs.Packets.{Frame}
 use Rattle.words_files.specs.Catching.{Caught, caught_in, never, refusal_of}
 use Rattle.words_files.specs.Examples.{frame_without_captions}
 use Rattle.words_files.specs.Offences.{FirstOffendingWord, IsCutShort, IsFileUnder}

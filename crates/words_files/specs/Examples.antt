@@ -1,3 +1,4 @@
+-- Between crates: the program's answer stands on none of these definitions.
 -- Words for the worked examples.
 use Rattle.std.specs.Prelude.{ℕ, List, [], ◌∷◌, ◌++◌, replicate}
 use Rattle.std.specs.List.{concat, flat_map}

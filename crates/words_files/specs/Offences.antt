@@ -1,9 +1,10 @@
+-- Believed in part: the program's answer stands on some of these definitions.
 -- Where the bytes of a words file offend (SMPTE ST 291-1, ST 334-1 and ST 334-2; CTA-708-E). The layers above distribution
 -- packets are a parameter.
 use Rattle.std.specs.Prelude.{◌≡◌, ℕ, ◌%◌, ◌^◌, ◌≤◌, ◌⊎◌, List, [], ◌∷◌, ◌++◌, length}
 use Rattle.cc_base.specs.declared.refusal.Refusal.{Refusal}
 use Rattle.cc_base.specs.declared.why.Why.TheVariants as why
-use Rattle.cdp_packets.specs.Packets.{Packet as Frame}
+use Rattle.cdp_packets.specs.Packets.{Frame}
 use Rattle.words_files.specs.Frames.{IsFileOf}
 use Rattle.words_files.specs.Layers.{Layers}
 use Rattle.words_files.specs.Reasons.{HasReason}

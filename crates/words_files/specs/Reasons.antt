@@ -1,3 +1,4 @@
+-- Believed: the program's answer stands on these definitions.
 -- For what reason a word of a words file offends, by the words of the open packet before it and by what it is (SMPTE ST 291-1,
 -- ST 334-1 and ST 334-2); or else by what the layers above distribution packets refuse.
 use Rattle.std.specs.Prelude.{◌≡◌, ℕ, ◌+◌, ◌*◌, ◌%◌, ◌<◌, List, [], ◌∷◌, ◌++◌, length, map}
@@ -8,7 +9,7 @@ use Rattle.anc_words.specs.Packets.{AncillaryPacket, IsPacket}
 use Rattle.anc_words.specs.Refusals.{WordOffends}
 use Rattle.anc_words.specs.Words.{AreWords}
 use Rattle.anc_words.specs.WordsFiles.{IsWordsFile}
-use Rattle.cdp_packets.specs.Packets.{IsCdp, Packet as Frame}
+use Rattle.cdp_packets.specs.Packets.{Frame, IsCdp}
 use Rattle.cdp_packets.specs.Reading.{IsPacketLength}
 use Rattle.cdp_packets.specs.Refusals.{StandsAt}
 use Rattle.words_files.specs.Frames.{IsFileOf}

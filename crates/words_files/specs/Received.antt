@@ -1,3 +1,4 @@
+-- Believed in part: the program's answer stands on some of these definitions.
 -- What a receiver gets of line 21 from the frames of a words file: the pairs of each field, and the screens that they leave
 -- in a receiver that was reset before the first frame (CTA-708-E, cc_data(); CTA-608-E; 47 CFR 79.101).
 use Rattle.std.specs.Prelude.{ℕ, suc, ◌==◌, ◌&&◌, if◌then◌else◌, List, [], ◌∷◌, reverse, take}
@@ -11,7 +12,7 @@ use Rattle.line21_screen.specs.Fields.{FieldState, channel}
 use Rattle.line21_screen.specs.Grid.{Grid}
 use Rattle.line21_screen.specs.Meaning.{after}
 use Rattle.cc_data.specs.declared.triplet.Triplet.{Triplet}
-use Rattle.cdp_packets.specs.Packets.{Packet as Frame}
+use Rattle.cdp_packets.specs.Packets.{Frame}
 use Rattle.cdp_packets.specs.PacketTriplets.{packet_triplets}
 
 -- the kind of a field's triplets: 0 for field 1, and 1 for field 2

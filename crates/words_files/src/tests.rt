@@ -3,7 +3,7 @@
 
 ghost use Rattle.std.specs.Prelude.{◌≡◌, ℕ, ◌<◌, List, [], ◌∷◌, length, take};
 ghost use Rattle.cc_base.specs.declared.why.Why.TheVariants as why;
-ghost use Rattle.cdp_packets.specs.Packets.{Packet};
+ghost use Rattle.cdp_packets.specs.Packets.{Frame};
 ghost use Rattle.words_files.specs.Catching.{never};
 ghost use Rattle.words_files.specs.Examples.{frame_without_captions};
 ghost use Rattle.words_files.specs.Offences.{FirstOffendingWord, IsCutShort, IsFileUnder};
@@ -61,7 +61,7 @@ fn what_is_open_is_cut_short()
 
 // A packet of captions is a file of one frame, and cut anywhere it is cut short there.
 fn a_packet_is_a_file_of_one_frame()
-    ensures { (frames : List Packet) × IsFileUnder (layers_of never) frames frame_without_captions × (length frames ≡ 1) }
+    ensures { (frames : List Frame) × IsFileUnder (layers_of never) frames frame_without_captions × (length frames ≡ 1) }
 {}
 
 fn a_packet_cut_anywhere_is_cut_short()

@@ -7,7 +7,7 @@ use Rattle.cc_receiver.specs.declared.receiver.Ended.TheVariants as ended
 use Rattle.cc_receiver.specs.declared.receiver.Fed.{Fed}
 use Rattle.cc_receiver.specs.declared.receiver.Receiver.{Receiver}
 use Rattle.cc_receiver.proofs.FedFrames.{IsNextFrame, counted_nothing, counts_none, counts_one, frame_more, frames_still, nothing_is_file, nothing_offends}
-use Rattle.cdp_packets.specs.Packets.{Packet as Frame}
+use Rattle.cdp_packets.specs.Packets.{Frame}
 use Rattle.text_output.specs.Gathered.{IsGathered}
 use Rattle.words_files.proofs.FramesOfLemmas.{file_frames}
 use Rattle.services_files.specs.CaptionChannel.{caption_channel}

@@ -8,7 +8,7 @@ use Rattle.cc_base.specs.declared.refusal.Refusal.{Refusal}
 use Rattle.cc_base.specs.declared.why.Why.{Why}
 use Rattle.cc_base.specs.declared.streams.Put.{Put}
 use Rattle.cc_base.specs.declared.streams.Put.TheVariants as put
-use Rattle.cdp_packets.specs.Packets.{Packet as Frame}
+use Rattle.cdp_packets.specs.Packets.{Frame}
 use Rattle.command_base.specs.Counts.{IsReadOf}
 use Rattle.command_base.specs.Ends.{Ends}
 use Rattle.services_files.proofs.ChannelFiles.{offence_is_once}

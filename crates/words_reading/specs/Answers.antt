@@ -1,3 +1,4 @@
+-- Believed in part: the program's answer stands on some of these definitions.
 -- What a run answers that stops before the end of a words file: each status has its cause, and what was put, in one place.
 use Rattle.std.specs.Prelude.{◌≡◌, ◌⊎◌, ℕ, List, take, ⊤}
 use Rattle.cc_base.specs.Streams.{Rose}
@@ -10,7 +11,7 @@ use Rattle.command_base.specs.declared.status.Status.{Status}
 use Rattle.command_base.specs.declared.status.Status.TheVariants as status
 use Rattle.words_files.specs.Offences.{FirstOffendingWord, IsUnoffending}
 use Rattle.services_files.specs.CaptionChannel.{caption_channel}
-use Rattle.words_reading.specs.Causes.{HasNoOffence, IsAnyhow, IsRefusedWith, PassesLimit, words_limit}
+use Rattle.words_reading.specs.Causes.{HasNoOffence, IsAnyhow, IsRefusedWith, IsWholeFile, PassesLimit, words_limit}
 use Rattle.words_reading.specs.Judging.{SaysFront}
 use Rattle.words_reading.specs.Reading.{Stops}
 
@@ -36,6 +37,16 @@ StopsEarlyAs Says Halts old new (status.Limit limit.Bytes) = IsSteady old new ×
 StopsEarlyAs Says Halts old new (status.Malformed (Byte place) why) =
     IsSteady old new × Stops Says (IsRefusedWith (record { place = place; why = why }) old.left) put.Done old new
 StopsEarlyAs Says Halts old new answer = StopsOwn Halts old new answer
+
+-- what a command answers that puts text of a words file's frames as they come: at the end of the file this is said of the whole of it,
+-- or a put failed there; or the run ended before
+abbrev pub FileAnswer : (List ℕ → List ℕ → Type 0) → (List ℕ → List ℕ → Type 0) → (Status → List ℕ → List ℕ → Type 0) → Ends → Ends → Status → Type 0
+FileAnswer SaysWhole Says Halts old new status.Ok = IsSteady old new × Stops SaysWhole (IsWholeFile old.left) put.Done old new
+FileAnswer SaysWhole Says Halts old new status.WriteFault =
+    StopsEarlyAs Says Halts old new status.WriteFault
+    ⊎ ((new.read_faults ≡ old.read_faults) × Rose old.write_faults new.write_faults × Stops SaysWhole (IsWholeFile old.left) put.Failed old new)
+FileAnswer SaysWhole Says Halts old new status.Memory = new ≡ old
+FileAnswer SaysWhole Says Halts old new answer = StopsEarlyAs Says Halts old new answer
 
 -- an input past the limit is malformed where a word within the limit offends, and else it passes the limit
 abbrev pub IsPastLimit : List ℕ → Status → Type 0

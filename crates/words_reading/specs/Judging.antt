@@ -1,9 +1,10 @@
+-- Believed in part: the program's answer stands on some of these definitions.
 -- Steps on the way through words: a piece of their bytes is judged, and the text that stands for them is gathered and put.
 use Rattle.std.specs.Prelude.{◌≡◌, ◌≤◌, ◌+◌, ◌⊎◌, ℕ, List, [], ◌++◌, length, take, Option, Result, Ok, Err}
 use Rattle.cc_base.specs.Streams.{Puts, Rose}
 use Rattle.cc_base.specs.declared.refusal.Refusal.{Refusal}
 use Rattle.cc_base.specs.declared.streams.Put.TheVariants as put
-use Rattle.cdp_packets.specs.Packets.{Packet as Frame}
+use Rattle.cdp_packets.specs.Packets.{Frame}
 use Rattle.text_output.specs.Gathered.{IsGathered}
 use Rattle.words_files.specs.Offences.{FirstOffendingWord, IsCutShort, IsFileUnder}
 use Rattle.services_files.specs.CaptionChannel.{caption_channel}

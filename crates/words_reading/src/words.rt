@@ -25,11 +25,14 @@ pub fn read_words<J: Judge, M: Source, O: Sink>(
     out: &mut O,
 ) -> Result<(), Stop<J::Reason>>
     requires { J.HasRead [] judge.now }
-    ensures words { (given : J.Given) (start : Option (List ℕ)) (front : List ℕ) → J.HasJudged given [] front judge.old → Appends start (O.written out.old) front
+    ensures words { (given : J.Given) (start : Option (List ℕ)) (front : List ℕ)
+        → J.HasJudged given [] front judge.old → Appends start (O.written out.old) front
         → ReadsWords (J.HasJudged given) (J.Says given) (J.Halts given) judge.new
         (ends (M.left input.old) (M.faults input.old) start (O.faults out.old))
-        (ends (M.left input.new) (M.faults input.new) (O.written out.new) (O.faults out.new)) result }
-    ensures counts { CountsBy (M.faults input.old) (M.faults input.new) (O.faults out.old) (O.faults out.new) result }
+        (ends (M.left input.new) (M.faults input.new) (O.written out.new)
+        (O.faults out.new)) result }
+    ensures counts { CountsBy (M.faults input.old) (M.faults input.new) (O.faults out.old)
+        (O.faults out.new) result }
 {
     let mut text = Gathered::new();
     let mut bytes = [0u8; TAKE];
@@ -60,10 +63,13 @@ fn judge_and_put<J: Judge, O: Sink>(
     out: &mut O,
 ) -> Result<(), Stop<J::Reason>>
     requires { IsReady J.HasRead judge.now (length bytes.now) }
-    ensures reads { (before : List ℕ) → J.HasRead before judge.old → IfOk result (λ done. J.HasRead (before ++ bytes.now) judge.new) }
+    ensures reads { (before : List ℕ) → J.HasRead before judge.old
+        → IfOk result (λ done. J.HasRead (before ++ bytes.now) judge.new) }
     ensures judges { (given : J.Given) (start : Option (List ℕ)) (before : List ℕ)
-        → HasGathered (J.HasJudged given) start (O.written out.old) (held_of text.old) before judge.old
-        → JudgesAndPuts (J.HasJudged given) (J.Says given) (J.Halts given) start (O.written out.new) (held_of text.new) (before ++ bytes.now) judge.new result }
+        → HasGathered (J.HasJudged given) start (O.written out.old)
+        (held_of text.old) before judge.old
+        → JudgesAndPuts (J.HasJudged given) (J.Says given) (J.Halts given) start (O.written out.new)
+        (held_of text.new) (before ++ bytes.now) judge.new result }
     ensures none { IfOk result (λ done. held_of text.new ≡ []) }
     ensures cause { StopCause (O.faults out.old) (O.faults out.new) result }
 {
@@ -83,9 +89,11 @@ fn put_before<J: Judge, O: Sink>(
     out: &mut O,
 ) -> Stop<J::Reason>
     ensures stops { (given : J.Given) (start : Option (List ℕ)) (bytes : List ℕ)
-        → HasStopped (J.Says given) (J.Halts given) start (O.written out.old) (held_of text.old) bytes stop
+        → HasStopped (J.Says given) (J.Halts given) start (O.written out.old)
+        (held_of text.old) bytes stop
         → HasStopped (J.Says given) (J.Halts given) start (O.written out.new) [] bytes result }
-    ensures cause { (before : ℕ) → StopsBy before (O.faults out.old) stop → StopsBy before (O.faults out.new) result }
+    ensures cause { (before : ℕ) → StopsBy before (O.faults out.old) stop
+        → StopsBy before (O.faults out.new) result }
 {
     match stop {
         Stop::WriteFault => Stop::WriteFault,
@@ -104,10 +112,13 @@ fn judge_all<J: Judge, O: Sink>(
     out: &mut O,
 ) -> Result<(), Stop<J::Reason>>
     requires { IsReady J.HasRead judge.now (length bytes.now) }
-    ensures reads { (before : List ℕ) → J.HasRead before judge.old → IfOk result (λ done. J.HasRead (before ++ bytes.now) judge.new) }
+    ensures reads { (before : List ℕ) → J.HasRead before judge.old
+        → IfOk result (λ done. J.HasRead (before ++ bytes.now) judge.new) }
     ensures judges { (given : J.Given) (start : Option (List ℕ)) (before : List ℕ)
-        → HasGathered (J.HasJudged given) start (O.written out.old) (held_of text.old) before judge.old
-        → Judges (J.HasJudged given) (J.Says given) (J.Halts given) start (O.written out.new) (held_of text.new) (before ++ bytes.now) judge.new result }
+        → HasGathered (J.HasJudged given) start (O.written out.old)
+        (held_of text.old) before judge.old
+        → Judges (J.HasJudged given) (J.Says given) (J.Halts given) start (O.written out.new)
+        (held_of text.new) (before ++ bytes.now) judge.new result }
     ensures cause { StopCause (O.faults out.old) (O.faults out.new) result }
 {
     let mut at = 0;

@@ -14,7 +14,7 @@ use Rattle.line21_shown.specs.Reading.{IsMarked}
 use Rattle.frame_scheduler.specs.Timeline.{Timeline, first_of, repeat_at, repeat_of, slot}
 use Rattle.shared_field_shown.specs.Sharing.{IsFor, is_text}
 use Rattle.xds_beside_captions.specs.Beside.{CaptionsAreBeside, caption_codes}
-use Rattle.xds_beside_captions.specs.PacketTimeline.{IsLedClosed, LeaveFree}
+use Rattle.xds_beside_captions.specs.PacketTimeline.{LeaveFree}
 use Rattle.xds_packets.specs.Carried.{IsCaption, IsControlCode, IsLed, IsTextCode}
 
 -- a slot's pair, by what is due and what begins

@@ -1,11 +1,8 @@
 -- The captions of CC3 leave the free slots of field 2.
-use Rattle.std.proofs.Common.{◌≡◌, ℕ, zero, suc, ◌+◌, ◌*◌, ◌/◌, ◌%◌, ◌<◌, ◌≤◌, ◌==◌, ◌&&◌, ◌||◌, not, nat_le, nat_lt, Bool, true, false, List, [], ◌∷◌, ◌++◌, All, Option, Some, None, option_map, unwrap_or, refl, sym, ap, ◌∙◌, subst, arith, ⊎_elim, eqb, le-leb, lt-ltb, length-append, map}
+use Rattle.std.proofs.Common.{◌≡◌, ℕ, suc, ◌+◌, ◌<◌, ◌≤◌, ◌==◌, ◌&&◌, ◌||◌, not, nat_le, nat_lt, Bool, true, false, List, [], ◌∷◌, ◌++◌, Option, Some, None, refl, sym, ap, ◌∙◌, subst, arith, ⊎_elim, eqb, le-leb, lt-ltb, map}
 use Rattle.std.specs.Prelude.{if◌then◌else◌, ⊤}
-use Rattle.std.specs.List.{AllByRecursion, list_any}
-use Rattle.std.proofs.lemmas.Bool.{cases_Bool, cases_lt}
+use Rattle.std.proofs.lemmas.Bool.{cases_lt}
 use Rattle.std.proofs.lemmas.Bool.Decides.{nat_tests}
-use Rattle.cue_lists.specs.Listing.{IsFormed, Listing}
-use Rattle.cue_lists.specs.Rules.{IsRuled}
 use Rattle.cue_lists.specs.declared.cue.Cue.{Cue}
 use Rattle.line21_author.specs.Channels.{is_on}
 use Rattle.line21_author.specs.CueEvents.{channel_events}
@@ -23,11 +20,11 @@ use Rattle.line21_slots.specs.declared.cadence.Cadence.{Cadence}
 use Rattle.line21_slots.proofs.CadenceLemmas.{frame_not_before, slot_not_before}
 use Rattle.frame_scheduler.specs.declared.lane.piece.Piece.{Piece}
 use Rattle.frame_scheduler.specs.ChannelLane.{channel_pieces, cue_pieces}
-use Rattle.frame_scheduler.specs.FieldLane.{IsAllowed, end_of, lane}
+use Rattle.frame_scheduler.specs.FieldLane.{IsAllowedInField, end_of, lane}
 use Rattle.frame_scheduler.specs.LaneEvents.{event_at}
 use Rattle.frame_scheduler.specs.LaneTimeline.{lane_timeline, stands}
 use Rattle.frame_scheduler.specs.SlotLists.{slot_cues, slots_in_list}
-use Rattle.frame_scheduler.specs.Timeline.{Timeline, first_of, over, repeat_at, repeat_of, slot}
+use Rattle.frame_scheduler.specs.Timeline.{Timeline, first_of, repeat_of, slot}
 use Rattle.frame_scheduler.proofs.DoublingLemmas.{at_unit, free_none, over_cases, unit_begins}
 use Rattle.frame_scheduler.proofs.EventLemmas.{some_slot}
 use Rattle.frame_scheduler.proofs.FieldLaneLemmas.{end_push}
@@ -41,7 +38,7 @@ use Rattle.shared_field_shown.specs.ChannelParts.{channel_parts, later_part, par
 use Rattle.shared_field_shown.specs.Lanes.{AreCues, IsBehind, pieces_of}
 use Rattle.shared_field_shown.specs.Sharing.{IsFor, is_text}
 use Rattle.shared_field_shown.specs.Together.{AreOfChannel, IsListed, IsOfChannel}
-use Rattle.resumed_lanes.specs.Parts.{size_of}
+use Rattle.resumed_lanes.specs.Parts.{part_slots}
 use Rattle.shared_field_shown.specs.Resuming.{opens}
 use Rattle.shared_field_shown.proofs.LaneLemmas.{some_size}
 use Rattle.shared_field_shown.proofs.LedLemmas.{opener_plain}
@@ -114,7 +111,7 @@ module _ (events : List Event) (t : Timeline) (free : ℕ → Bool) where
   Up (Some former) end = IsUp former end
 
   up_next : (former : Option Part) (part : Part) (end f : ℕ) (later : Bool) → IsBehind later former part → Up former end → end ≤ f → t f ≡ Some part.piece.unit
-      → part.piece.load ≤ f → IsUp part (f + size_of part)
+      → part.piece.load ≤ f → IsUp part (f + part_slots part)
   up_next former part end f false begins up behind there loaded = record {
     at = f;
     before = let some = some_size part in omega arith;
@@ -132,7 +129,7 @@ module _ (events : List Event) (t : Timeline) (free : ℕ → Bool) where
   }
 
   -- a text unit is led to by the first unit of its cue
-  led_here : (former : Option Part) (part : Part) (end f : ℕ) (later : Bool) → IsBehind later former part → Up former end → IsAllowed events end part.piece f
+  led_here : (former : Option Part) (part : Part) (end f : ℕ) (later : Bool) → IsBehind later former part → Up former end → IsAllowedInField events end part.piece f
       → ((m : ℕ) → part.piece.load ≤ m → m < part.piece.until → free m ≡ false) → is_text (code_of part.piece.unit.pair) ≡ true → IsLedClosed t free f
   led_here former part end f false begins up allowed closed text =
       let plain : is_text (code_of part.piece.unit.pair) ≡ false =

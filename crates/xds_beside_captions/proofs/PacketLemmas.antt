@@ -1,5 +1,5 @@
 -- The pairs of packets in free slots keep out of the captions.
-use Rattle.std.proofs.Common.{◌≡◌, ℕ, zero, suc, ◌+◌, ◌-◌, ◌*◌, ◌<◌, ◌≤◌, nat_le, nat_lt, Bool, true, false, List, [], ◌∷◌, ◌++◌, Option, Some, None, option_map, refl, sym, ap, ◌∙◌, subst, arith, ⊎_elim, lt-ltb}
+use Rattle.std.proofs.Common.{◌≡◌, ℕ, zero, suc, ◌-◌, ◌*◌, ◌<◌, ◌≤◌, nat_le, Bool, true, false, List, [], ◌∷◌, ◌++◌, Option, Some, None, option_map, refl, sym, ap, ◌∙◌, subst, arith, ⊎_elim, lt-ltb}
 use Rattle.std.specs.Prelude.{All, if◌then◌else◌, ⊤}
 use Rattle.std.proofs.lemmas.Bool.{cases_lt}
 use Rattle.std.proofs.lemmas.List.Elements.{All-head, All-tail}
@@ -7,7 +7,6 @@ use Rattle.line21_codes.proofs.CodeLemmas.{is_control-written, written-code_of}
 use Rattle.line21_codes.specs.ControlPairs.{is_control}
 use Rattle.line21_codes.specs.Reading.{code_of}
 use Rattle.line21_codes.specs.Writable.{IsWritable, is_doubled}
-use Rattle.line21_codes.specs.Writing.{written}
 use Rattle.line21_codes.specs.declared.channels.FieldNumber.TheVariants as fields
 use Rattle.line21_codes.specs.declared.codes.Code.{Code}
 use Rattle.line21_codes.specs.declared.codes.Code.TheVariants.{Null, Text, Xds, Control}
@@ -17,9 +16,9 @@ use Rattle.shared_field_shown.specs.Sharing.{is_text}
 use Rattle.xds_beside_captions.specs.Outside.{AreOutside, IsData, IsWithinData, begins}
 use Rattle.xds_beside_captions.specs.PacketTimeline.{LeaveFree, PacketsAreOutside, packet_timeline, packet_unit}
 use Rattle.xds_packets.proofs.FollowLemmas.{packets_can_be_written}
-use Rattle.xds_packets.specs.PacketCodes.{AreWritable, IsPacket, checksum, continue_code, rest_codes, start_code, text_codes}
+use Rattle.xds_packets.specs.PacketCodes.{AreWritable, IsXdsPacket, checksum, continue_code, data_codes, rest_codes, start_code}
 use Rattle.xds_packets.specs.Places.{given_at}
-use Rattle.xds_packets.specs.Sending.{Given, Listed, Writing, begun_at, given_in, new_writing, sent_on, writing_at}
+use Rattle.xds_packets.specs.Sending.{Given, Listed, Unsent, begun_at, given_in, sent_on, writing_at}
 use Rattle.xds_packets.specs.declared.packets.XdsPacket.{XdsPacket}
 
 -- a code of extended data that can be written
@@ -52,11 +51,11 @@ data_text : (code next : Code) (codes : List Code) → AreData (code ∷ (next �
 unfolding AreData
 data_text code next codes all = all.1.0
 
-rest_data : (text : List ℕ) (last : Code) → IsData last → AreWritable (text_codes text ++ last ∷ []) → AreData (text_codes text ++ last ∷ [])
+rest_data : (text : List ℕ) (last : Code) → IsData last → AreWritable (data_codes text ++ last ∷ []) → AreData (data_codes text ++ last ∷ [])
 unfolding AreData
 rest_data [] last is can = record { data_is = is; writable = can.0 }
 rest_data (a ∷ []) last is can = (record { data_is = tt; writable = can.0 }, (refl, record { data_is = is; writable = can.1.0 }))
-rest_data (a ∷ (b ∷ text)) last is can = data_more (Text a b) (text_codes text ++ last ∷ []) (record { data_is = tt; writable = can.0 }) refl (rest_data text last is can.1)
+rest_data (a ∷ (b ∷ text)) last is can = data_more (Text a b) (data_codes text ++ last ∷ []) (record { data_is = tt; writable = can.0 }) refl (rest_data text last is can.1)
 
 -- what is sent of a packet
 record IsSendable (packet : XdsPacket) : Type 0 where
@@ -66,7 +65,7 @@ record IsSendable (packet : XdsPacket) : Type 0 where
   cont_data : IsDataCode (continue_code packet)
   rest_are : AreData (rest_codes packet packet.text)
 
-sendable : (packet : XdsPacket) → IsPacket packet → IsSendable packet
+sendable : (packet : XdsPacket) → IsXdsPacket packet → IsSendable packet
 sendable packet is =
     let can = packets_can_be_written packet is in
     let from = is.class_from in
@@ -108,8 +107,8 @@ begins_plain (Xds first second) is = refl
 begins_plain (Control second control) is = absurd is
 
 -- what is kept of the writing
-record IsSound (s : Writing) : Type 0 where
-  left : All (λ (l : Listed). IsPacket l.packet) s.left
+record IsSound (s : Unsent) : Type 0 where
+  left : All (λ (l : Listed). IsXdsPacket l.packet) s.left
   codes : AreData s.codes
   cont : (code : Code) (codes : List Code) → s.codes ≡ code ∷ codes → begins s.cont × IsDataCode s.cont
 
@@ -118,26 +117,26 @@ record GivesData (given : Given) : Type 0 where
   sound : IsSound given.next
   data_is : (code : Code) → given.code ≡ Some code → IsDataCode code
 
-abbrev begun : Writing → Listed → List Listed → Bool → Given
+abbrev begun : Unsent → Listed → List Listed → Bool → Given
 begun s listed left b =
     if b then record { next = record { left = left; cont = continue_code listed.packet; codes = rest_codes listed.packet listed.packet.text; broken = false }; code = Some (start_code listed.packet) }
     else record { next = s; code = None }
 
-begun_sound : (frame : ℕ) (s : Writing) (left : List Listed) → All (λ (l : Listed). IsPacket l.packet) left → IsSound s → GivesData (begun_at frame s left)
+begun_sound : (frame : ℕ) (s : Unsent) (left : List Listed) → All (λ (l : Listed). IsXdsPacket l.packet) left → IsSound s → GivesData (begun_at frame s left)
 begun_sound frame s [] are sound = record { sound = sound; data_is = λ code is. cc }
 begun_sound frame s (listed ∷ left) are sound = by_test (nat_le listed.from frame)
   where
     can : IsSendable listed.packet
-    can = sendable listed.packet (All-head (λ (l : Listed). IsPacket l.packet) listed left are)
+    can = sendable listed.packet (All-head (λ (l : Listed). IsXdsPacket l.packet) listed left are)
 
     by_test : (b : Bool) → GivesData (begun s listed left b)
     by_test true = record {
-      sound = record { left = All-tail (λ (l : Listed). IsPacket l.packet) listed left are; codes = can.rest_are; cont = λ code codes is. (can.cont_is, can.cont_data) };
+      sound = record { left = All-tail (λ (l : Listed). IsXdsPacket l.packet) listed left are; codes = can.rest_are; cont = λ code codes is. (can.cont_is, can.cont_data) };
       data_is = λ code is. let it : start_code listed.packet ≡ code = cc in subst IsDataCode it can.start_data;
     }
     by_test false = record { sound = sound; data_is = λ code is. cc }
 
-sent_sound : (broken : Bool) (frame : ℕ) (s : Writing) (codes : List Code) → s.codes ≡ codes → IsSound s → GivesData (sent_on broken frame s codes)
+sent_sound : (broken : Bool) (frame : ℕ) (s : Unsent) (codes : List Code) → s.codes ≡ codes → IsSound s → GivesData (sent_on broken frame s codes)
 sent_sound broken frame s [] at sound = begun_sound frame s s.left sound.left sound
 sent_sound true frame s (code ∷ codes) at sound = record {
   sound = record { left = sound.left; codes = sound.codes; cont = sound.cont };
@@ -150,15 +149,15 @@ sent_sound false frame s (code ∷ codes) at sound =
       data_is = λ c is. let it : code ≡ c = cc in subst IsDataCode it (data_first code codes all);
     }
 
-given_sound : (free : Bool) (frame : ℕ) (s : Writing) → IsSound s → GivesData (given_in free frame s)
+given_sound : (free : Bool) (frame : ℕ) (s : Unsent) → IsSound s → GivesData (given_in free frame s)
 given_sound false frame s sound = record { sound = record { left = sound.left; codes = sound.codes; cont = sound.cont }; data_is = λ code is. cc }
 given_sound true frame s sound = sent_sound s.broken frame s s.codes refl sound
 
-module _ (captions : Timeline) (free : ℕ → Bool) (frame_of : ℕ → ℕ) (listed : List Listed) (leave : LeaveFree captions free) (are : All (λ (l : Listed). IsPacket l.packet) listed) where
+module _ (captions : Timeline) (free : ℕ → Bool) (frame_of : ℕ → ℕ) (listed : List Listed) (leave : LeaveFree captions free) (are : All (λ (l : Listed). IsXdsPacket l.packet) listed) where
   abbrev data_of : Timeline
   data_of = packet_timeline free frame_of listed
 
-  abbrev at : ℕ → Writing
+  abbrev at : ℕ → Unsent
   at n = writing_at free frame_of listed n
 
   sound_at : (n : ℕ) → IsSound (writing_at free frame_of listed n)
@@ -226,10 +225,10 @@ module _ (captions : Timeline) (free : ℕ → Bool) (frame_of : ℕ → ℕ) (l
       ∙ ap (λ b. sent_on b (frame_of n) (writing_at free frame_of listed n) (writing_at free frame_of listed n).codes) broken
       ∙ ap (λ (l : List Code). sent_on br (frame_of n) (writing_at free frame_of listed n) l) codes
 
-  abbrev WithinBy : ℕ → Writing → Type 0
+  abbrev WithinBy : ℕ → Unsent → Type 0
   WithinBy n s = (code : Code) (codes : List Code) → s.codes ≡ code ∷ codes → s.broken ≡ false → IsWithinData captions data_of n
 
-  begun_within : (n : ℕ) (left : List Listed) → All (λ (l : Listed). IsPacket l.packet) left → (writing_at free frame_of listed n).codes ≡ []
+  begun_within : (n : ℕ) (left : List Listed) → All (λ (l : Listed). IsXdsPacket l.packet) left → (writing_at free frame_of listed n).codes ≡ []
       → given_in (free n) (frame_of n) (writing_at free frame_of listed n) ≡ begun_at (frame_of n) (writing_at free frame_of listed n) left
       → WithinBy (suc n) (begun_at (frame_of n) (writing_at free frame_of listed n) left).next
   begun_within n [] packets none given = λ code codes is plain. let wrong : [] ≡ code ∷ codes = sym none ∙ is in absurd (cc)
@@ -237,7 +236,7 @@ module _ (captions : Timeline) (free : ℕ → Bool) (frame_of : ℕ → ℕ) (l
     where
       by_test : (b : Bool) → nat_le first.from (frame_of n) ≡ b → WithinBy (suc n) (begun (writing_at free frame_of listed n) first left b).next
       by_test true test code codes is plain =
-          let can = sendable first.packet (All-head (λ (l : Listed). IsPacket l.packet) first left packets) in
+          let can = sendable first.packet (All-head (λ (l : Listed). IsXdsPacket l.packet) first left packets) in
           let there : data_of n ≡ Some (packet_unit (start_code first.packet)) =
           ap (λ (g : Given). option_map packet_unit g.code) (given ∙ ap (begun (writing_at free frame_of listed n) first left) test) in
           begun_by n (start_code first.packet) can.start_data can.start_is there
@@ -283,13 +282,13 @@ module _ (captions : Timeline) (free : ℕ → Bool) (frame_of : ℕ → ℕ) (l
           let some_text : is_text code ≡ true =
           ap is_text (sym (written-code_of fields.Two code own.writable)) ∙ ap (λ (u : Unit). is_text (code_of u.pair)) it ∙ text in cc
 
-      by_left : (left : List Listed) → All (λ (l : Listed). IsPacket l.packet) left → option_map packet_unit (begun_at (frame_of n) (writing_at free frame_of listed n) left).code ≡ Some unit → ⊥
+      by_left : (left : List Listed) → All (λ (l : Listed). IsXdsPacket l.packet) left → option_map packet_unit (begun_at (frame_of n) (writing_at free frame_of listed n) left).code ≡ Some unit → ⊥
       by_left [] packets given = cc
       by_left (first ∷ left) packets given = by_test (nat_le first.from (frame_of n)) refl
         where
           by_test : (b : Bool) → nat_le first.from (frame_of n) ≡ b → ⊥
           by_test true test =
-              let can = sendable first.packet (All-head (λ (l : Listed). IsPacket l.packet) first left packets) in
+              let can = sendable first.packet (All-head (λ (l : Listed). IsXdsPacket l.packet) first left packets) in
               plain_unit (start_code first.packet) can.start_data
               (sym (ap (λ b. option_map packet_unit (begun (writing_at free frame_of listed n) first left b).code) test) ∙ given) can.start_is
           by_test false test =
@@ -333,11 +332,11 @@ module _ (captions : Timeline) (free : ℕ → Bool) (frame_of : ℕ → ℕ) (l
 
 -- what is given in a free slot can be written, and none is given in another
 pub codes_written : (captions : Timeline) (free : ℕ → Bool) (frame_of : ℕ → ℕ) (listed : List Listed) → LeaveFree captions free
-    → All (λ (l : Listed). IsPacket l.packet) listed → (n : ℕ) (code : Code) → given_at free frame_of listed n ≡ Some code → IsWritable code
+    → All (λ (l : Listed). IsXdsPacket l.packet) listed → (n : ℕ) (code : Code) → given_at free frame_of listed n ≡ Some code → IsWritable code
 codes_written captions free frame_of listed leave are n code is = given_writable captions free frame_of listed leave are n code is
 
 pub given_free : (captions : Timeline) (free : ℕ → Bool) (frame_of : ℕ → ℕ) (listed : List Listed) → LeaveFree captions free
-    → All (λ (l : Listed). IsPacket l.packet) listed → (n : ℕ) (code : Code) → given_at free frame_of listed n ≡ Some code → free n ≡ true
+    → All (λ (l : Listed). IsXdsPacket l.packet) listed → (n : ℕ) (code : Code) → given_at free frame_of listed n ≡ Some code → free n ≡ true
 given_free captions free frame_of listed leave are n code is =
     free_given captions free frame_of listed leave are n (packet_unit code) (ap (option_map packet_unit) is)
 

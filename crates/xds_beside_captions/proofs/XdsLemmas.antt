@@ -1,5 +1,5 @@
 -- The frames of a cue list with packets in the slots that its captions leave free.
-use Rattle.std.proofs.Common.{◌≡◌, ℕ, zero, suc, ◌<◌, Bool, true, false, List, [], ◌∷◌, ◌++◌, length, map, reverse, Option, Some, None, option_map, option_to_list, unwrap_or, refl, sym, ap, ◌∙◌, subst, arith}
+use Rattle.std.proofs.Common.{◌≡◌, ℕ, zero, suc, Bool, List, [], ◌∷◌, ◌++◌, length, map, reverse, Option, Some, None, option_map, option_to_list, unwrap_or, refl, sym, ap, ◌∙◌, subst}
 use Rattle.std.specs.Prelude.{All, IfSome, is_some}
 use Rattle.std.proofs.lemmas.List.{map-append}
 use Rattle.cue_lists.specs.Listing.{Listing}
@@ -7,11 +7,9 @@ use Rattle.cue_lists.specs.declared.lane.Lane.TheVariants.{Channel, Service}
 use Rattle.line21_author.specs.CueEvents.{channel_events}
 use Rattle.line21_author.specs.declared.unit.Unit.{Unit}
 use Rattle.line21_codes.proofs.CodeLemmas.{written-a, written-b, written-code_of}
-use Rattle.line21_codes.specs.Channels.{data_channel_of, field_of_channel}
+use Rattle.line21_codes.specs.Channels.{data_channel_of}
 use Rattle.line21_codes.specs.NullPairs.{null_pair}
 use Rattle.line21_codes.specs.Reading.{code_of}
-use Rattle.line21_codes.specs.Writing.{written}
-use Rattle.line21_codes.specs.declared.channels.Chan.{Chan}
 use Rattle.line21_codes.specs.declared.channels.Chan.TheVariants.{Cc1, Cc2, Cc3, Cc4}
 use Rattle.line21_codes.specs.declared.channels.DataChannel.{DataChannel}
 use Rattle.line21_codes.specs.declared.channels.DataChannel.TheVariants as data_channels
@@ -23,7 +21,6 @@ use Rattle.line21_screen.specs.Channels.{ChannelState, new_channel}
 use Rattle.line21_screen.specs.Fields.{FieldState, channel}
 use Rattle.line21_screen.specs.Meaning.{after}
 use Rattle.line21_slots.specs.Cadences.{cadence_of, slot_from, slot_in}
-use Rattle.line21_slots.specs.declared.cadence.Cadence.{Cadence}
 use Rattle.line21_shown.proofs.CaptionedLemmas.{AreBytes, channel_captioned, frame_bytes}
 use Rattle.line21_shown.proofs.ReadingLemmas.{columns_read}
 use Rattle.line21_shown.proofs.SequenceLemmas.{newest_pairs}
@@ -31,7 +28,7 @@ use Rattle.line21_shown.specs.Reading.{IsCaptioned, IsMarked, acts, first_alone,
 use Rattle.line21_shown.specs.Shown.{state_at}
 use Rattle.frame_carrier.specs.Carried.{AreBytePairs, IsBytePair}
 use Rattle.frame_scheduler.specs.ChannelLane.{channel_pieces, channel_slot}
-use Rattle.frame_scheduler.specs.Columns.{Columns, first_pairs, pair_in}
+use Rattle.frame_scheduler.specs.Columns.{first_pairs, pair_in}
 use Rattle.frame_scheduler.specs.DoubledPairs.{IsDoubled}
 use Rattle.frame_scheduler.specs.Planned.{Placement, columns_of}
 use Rattle.frame_scheduler.specs.SlotLists.{slot_cues, slots_in_list}
@@ -54,9 +51,9 @@ use Rattle.xds_beside_captions.specs.PacketTimeline.{LeaveFree, packet_timeline,
 use Rattle.xds_beside_captions.specs.XdsFrames.{AreFitBeside, AreSendable, HasXdsRoom, IsSoundBeside, PacketsAreRead, PacketsChangeNothing, PacketsLeaveFramesSound, ShowTheSame, laid, xds_columns, xds_pair}
 use Rattle.xds_packets.proofs.PlacesLemmas.{over_where_all_stand}
 use Rattle.xds_packets.proofs.UnfinishedLemmas.{unfinished_is_first}
-use Rattle.xds_packets.specs.PacketCodes.{IsPacket}
+use Rattle.xds_packets.specs.PacketCodes.{IsXdsPacket}
 use Rattle.xds_packets.specs.Places.{given_at}
-use Rattle.xds_packets.specs.Reading.{packets_behind, packets_of}
+use Rattle.xds_packets.specs.Reading.{packets_behind, packets_within}
 use Rattle.xds_packets.specs.Carried.{ReadsUpTo}
 use Rattle.xds_packets.specs.Sending.{Listed, code_or, codes_to, packets_left, unended, unfinished, first_of as first_number, writing_at}
 
@@ -73,7 +70,7 @@ map_same f g same None = refl
 map_same f g same (Some n) = ap (λ x. Some x) (same n)
 
 -- the pairs of captions and packets, where the captions leave the slots free
-module _ (captions : Timeline) (free : ℕ → Bool) (frame_of : ℕ → ℕ) (listed : List Listed) (leave : LeaveFree captions free) (are : All (λ (l : Listed). IsPacket l.packet) listed) where
+module _ (captions : Timeline) (free : ℕ → Bool) (frame_of : ℕ → ℕ) (listed : List Listed) (leave : LeaveFree captions free) (are : All (λ (l : Listed). IsXdsPacket l.packet) listed) where
   abbrev packets : Timeline
   packets = packet_timeline free frame_of listed
 
@@ -251,7 +248,7 @@ module _ (list : Listing) (placed : Placement) (listed : List Listed) (are : Are
   none_unended : (codes : List Code) (left : List Listed) → codes ≡ [] → left ≡ [] → first_number (length listed) (unended codes left) ≡ None
   none_unended codes left none over = rw (none, over) refl
 
-  are_read : HasXdsRoom list placed listed → packets_of (first_pairs fields.Two (xds_columns list placed listed) list.frames) ≡ packets_left listed
+  are_read : HasXdsRoom list placed listed → packets_within (first_pairs fields.Two (xds_columns list placed listed) list.frames) ≡ packets_left listed
   are_read room =
       let free = free_in list (placed (Channel Cc3)) in
       let captions = captions_of list (placed (Channel Cc3)) in

@@ -1,3 +1,4 @@
+-- Between crates: the program's answer stands on none of these definitions.
 -- The codes of captions, beside which packets in free slots are read.
 use Rattle.std.specs.Prelude.{ℕ, Bool}
 use Rattle.line21_codes.specs.Reading.{code_of}

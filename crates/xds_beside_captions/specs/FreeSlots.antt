@@ -1,3 +1,4 @@
+-- Believed in part: the program's answer stands on some of these definitions.
 -- The slots of field 2 that the captions of CC3 leave free, at every rate.
 use Rattle.std.specs.Prelude.{ℕ, ◌&&◌, Bool, not, nat_le, nat_lt, List}
 use Rattle.std.specs.List.{list_any}

@@ -1,3 +1,4 @@
+-- Between crates: the program's answer stands on none of these definitions.
 -- Extended data in a field beside captions: they change nothing of what the captions' channel gets.
 use Rattle.std.specs.Prelude.{◌≡◌, ⊤, ℕ, suc, ◌<◌, true, false, Some, None}
 use Rattle.line21_codes.specs.declared.channels.DataChannel.TheVariants as data_channels

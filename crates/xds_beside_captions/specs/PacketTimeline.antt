@@ -1,23 +1,24 @@
+-- Between crates: the program's answer stands on none of these definitions.
 -- Packets of extended data in free slots beside captions, as a timeline of field 2.
-use Rattle.std.specs.Prelude.{◌≡◌, ⊤, ℕ, suc, ◌<◌, All, Bool, true, false, List, Option, Some, None, option_map}
+use Rattle.std.specs.Prelude.{◌≡◌, ℕ, suc, ◌<◌, All, Bool, true, false, List, Some, None, option_map}
 use Rattle.line21_codes.specs.declared.channels.DataChannel.TheVariants as data_channels
 use Rattle.line21_codes.specs.declared.channels.FieldNumber.TheVariants as fields
 use Rattle.line21_codes.specs.declared.codes.Code.{Code}
 use Rattle.line21_codes.specs.declared.pairs.Pair.{Pair}
 use Rattle.line21_codes.specs.Reading.{code_of}
-use Rattle.line21_codes.specs.Writing.{written}
+use Rattle.line21_codes.specs.Writing.{pair_of_code}
 use Rattle.line21_author.specs.declared.unit.Unit.{Unit}
 use Rattle.line21_shown.specs.Reading.{IsMarked}
 use Rattle.frame_scheduler.specs.Timeline.{Timeline, repeat_of}
 use Rattle.shared_field_shown.specs.Sharing.{AreFor, is_text}
 use Rattle.xds_beside_captions.specs.Outside.{AreOutside}
-use Rattle.xds_packets.specs.PacketCodes.{IsPacket}
+use Rattle.xds_packets.specs.PacketCodes.{IsXdsPacket}
 use Rattle.xds_packets.specs.Places.{given_at}
 use Rattle.xds_packets.specs.Sending.{Listed}
 
 -- a code that is sent once
 abbrev pub packet_unit : Code → Unit
-packet_unit code = record { pair = written fields.Two code; doubled = false }
+packet_unit code = record { pair = pair_of_code fields.Two code; doubled = false }
 
 -- the codes of the packets in their slots
 abbrev pub packet_timeline : (ℕ → Bool) → (ℕ → ℕ) → List Listed → Timeline
@@ -43,4 +44,4 @@ pub record LeaveFree (captions : Timeline) (free : ℕ → Bool) : Type 0 where
 -- packets in the slots that captions leave free keep out of the captions
 abbrev pub PacketsAreOutside : Type 0
 PacketsAreOutside = (captions : Timeline) (free : ℕ → Bool) (frame_of : ℕ → ℕ) (listed : List Listed) → LeaveFree captions free
-    → All (λ (l : Listed). IsPacket l.packet) listed → AreOutside captions (packet_timeline free frame_of listed)
+    → All (λ (l : Listed). IsXdsPacket l.packet) listed → AreOutside captions (packet_timeline free frame_of listed)

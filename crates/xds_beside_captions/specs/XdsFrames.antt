@@ -1,9 +1,10 @@
+-- Believed in part: the program's answer stands on some of these definitions.
 -- The frames of a cue list with packets of extended data in the slots of field 2 that its captions leave free.
 use Rattle.std.specs.Prelude.{◌≡◌, ℕ, ◌-◌, All, List, Option, Some, None, option_map, take}
 use Rattle.cue_lists.specs.Listing.{IsFormed, Listing}
 use Rattle.cue_lists.specs.Rules.{IsRuled}
 use Rattle.cue_lists.specs.declared.lane.Lane.TheVariants.{Channel}
-use Rattle.line21_codes.specs.Writing.{written}
+use Rattle.line21_codes.specs.Writing.{pair_of_code}
 use Rattle.line21_codes.specs.declared.channels.Chan.{Chan}
 use Rattle.line21_codes.specs.declared.channels.Chan.TheVariants.{Cc3}
 use Rattle.line21_codes.specs.declared.channels.FieldNumber.TheVariants.{Two}
@@ -18,15 +19,15 @@ use Rattle.sound_frames.specs.Showing.{column_grids}
 use Rattle.sound_frames.specs.OtherPairs.{AreFitAlike}
 use Rattle.sound_frames.specs.Sound.{HasFitPairs, IsSoundFrames}
 use Rattle.xds_beside_captions.specs.FreeSlots.{frame_of_slot, free_in}
-use Rattle.xds_packets.specs.PacketCodes.{IsPacket}
+use Rattle.xds_packets.specs.PacketCodes.{IsXdsPacket}
 use Rattle.xds_packets.specs.Places.{AllStand, given_at}
-use Rattle.xds_packets.specs.Reading.{packets_of}
+use Rattle.xds_packets.specs.Reading.{packets_within}
 use Rattle.xds_packets.specs.Sending.{Listed, packets_left}
 
 -- the pair of a code that is sent, or else another one
 abbrev pub laid : Option Code → Pair → Pair
 laid None pair = pair
-laid (Some code) pair = written Two code
+laid (Some code) pair = pair_of_code Two code
 
 -- the pair of a slot of field 2: that of the packets, or else of the captions
 abbrev pub xds_pair : Listing → List ℕ → List Listed → ℕ → Pair
@@ -54,7 +55,7 @@ pub record AreSendable (list : Listing) (placed : Placement) (listed : List List
   pub formed : IsFormed list
   pub ruled : IsRuled list
   pub placed_is : IsListPlaced list placed
-  pub packets : All (λ (l : Listed). IsPacket l.packet) listed
+  pub packets : All (λ (l : Listed). IsXdsPacket l.packet) listed
 
 -- the frames show on each channel what they show without the packets
 abbrev pub ShowTheSame : Listing → Placement → List Listed → Type 0
@@ -79,4 +80,4 @@ PacketsLeaveFramesSound = (list : Listing) (placed : Placement) (listed : List L
 -- where all packets have room, the pairs of field 2 are read as just these packets, in their order
 abbrev pub PacketsAreRead : Type 0
 PacketsAreRead = (list : Listing) (placed : Placement) (listed : List Listed) → AreSendable list placed listed → HasXdsRoom list placed listed
-    → packets_of (first_pairs Two (xds_columns list placed listed) list.frames) ≡ packets_left listed
+    → packets_within (first_pairs Two (xds_columns list placed listed) list.frames) ≡ packets_left listed

@@ -11,8 +11,8 @@ use Rattle.xds_packets.specs.declared.packets.XdsPacket.{XdsPacket}
 use Rattle.xds_packets.specs.Segments.{data_bytes}
 use Rattle.xds_packets.specs.Reading.{checks, ends_at, listed as packet_list, packets_behind}
 use Rattle.xds_packets.specs.OneByOne.{IsCode, Label, StandsAt, State, added, begun, finished, fitted, fresh, given, given_end, gone_on, next_state, put}
-use Rattle.xds_packets.specs.PacketCodes.{IsPacket, checksum, continue_code, rest_codes, start_code}
-use Rattle.xds_packets.specs.Sending.{Given, Listed, Writing, begun_at, code_or, codes_to, column, given_in, packets_left, sent_on, writing_at}
+use Rattle.xds_packets.specs.PacketCodes.{IsXdsPacket, checksum, continue_code, rest_codes, start_code}
+use Rattle.xds_packets.specs.Sending.{Given, Listed, Unsent, begun_at, code_or, codes_to, column, given_in, packets_left, sent_on, writing_at}
 use Rattle.xds_packets.specs.Carried.{AreBeside, IsCaption, IsControlCode, IsLed, IsTextCode, PacketsAreCarried}
 use Rattle.xds_packets.proofs.SegmentLemmas.{nil_right}
 use Rattle.xds_packets.proofs.OneByOneLemmas.{codes_are_read_one_by_one}
@@ -25,10 +25,10 @@ behind_more before (c ∷ codes) code =
     ∙ ap (λ b. packets_behind (before ++ c ∷ []) codes ++ packet_list (ends_at b code)) (append_assoc before (c ∷ []) codes))
     ∙ sym (append_assoc (packet_list (ends_at before c)) (packets_behind (before ++ c ∷ []) codes) (packet_list (ends_at (before ++ c ∷ codes) code)))
 
-all_first : (l : Listed) (ls : List Listed) → All (λ (m : Listed). IsPacket m.packet) (l ∷ ls) → IsPacket l.packet
+all_first : (l : Listed) (ls : List Listed) → All (λ (m : Listed). IsXdsPacket m.packet) (l ∷ ls) → IsXdsPacket l.packet
 all_first l ls all = all 0 l (omega arith)
 
-all_rest : (l : Listed) (ls : List Listed) → All (λ (m : Listed). IsPacket m.packet) (l ∷ ls) → All (λ (m : Listed). IsPacket m.packet) ls
+all_rest : (l : Listed) (ls : List Listed) → All (λ (m : Listed). IsXdsPacket m.packet) (l ∷ ls) → All (λ (m : Listed). IsXdsPacket m.packet) ls
 all_rest l ls all = λ k d is. all (suc k) d (omega (arith, is))
 
 bytes_first : (a : ℕ) (text : List ℕ) → All (λ byte. (0x20 ≤ byte) × (byte ≤ 0x7E)) (a ∷ text) → 0x20 ≤ a
@@ -49,8 +49,8 @@ two_bytes a b is that =
     ∙ ap (λ t. a ∷ (if t then b ∷ [] else [])) second
 
 -- the packet is under way: this much of its text was read, this much is left
-pub record IsUnder (packet : XdsPacket) (sent unsent : List ℕ) (s : Writing) (r : State) : Type 0 where
-  is : IsPacket packet
+pub record IsUnder (packet : XdsPacket) (sent unsent : List ℕ) (s : Unsent) (r : State) : Type 0 where
+  is : IsXdsPacket packet
   text_is : packet.text ≡ sent ++ unsent
   bytes : All (λ byte. (0x20 ≤ byte) × (byte ≤ 0x7E)) unsent
   codes_are : s.codes ≡ rest_codes packet unsent
@@ -58,21 +58,21 @@ pub record IsUnder (packet : XdsPacket) (sent unsent : List ℕ) (s : Writing) (
   so_far : r.under_way packet.class ≡ Some (record { kind = packet.kind; text = sent })
   label : s.broken ≡ false → r.label ≡ Some (record { class = packet.class; kind = packet.kind })
 
-pub record IsBusy (packet : XdsPacket) (s : Writing) (r : State) : Type 0 where
+pub record IsBusy (packet : XdsPacket) (s : Unsent) (r : State) : Type 0 where
   sent : List ℕ
   unsent : List ℕ
   under : IsUnder packet sent unsent s r
 
-abbrev pub Under : Writing → State → List XdsPacket → Type 0
+abbrev pub Under : Unsent → State → List XdsPacket → Type 0
 Under s r [] = s.codes ≡ []
 Under s r (packet ∷ []) = IsBusy packet s r
 Under s r (packet ∷ (other ∷ packets)) = ⊥
 
-abbrev AreGood : Writing → Type 0
-AreGood s = All (λ (m : Listed). IsPacket m.packet) s.left
+abbrev AreGood : Unsent → Type 0
+AreGood s = All (λ (m : Listed). IsXdsPacket m.packet) s.left
 
 -- what a slot does: the packets that end, and what is under way behind it
-record Does (code : Code) (next : Writing) (r : State) (left under : List XdsPacket) : Type 0 where
+record Does (code : Code) (next : Unsent) (r : State) (left under : List XdsPacket) : Type 0 where
   is_code : IsCode code
   after_under : List XdsPacket
   under_way : Under next (next_state code r) after_under
@@ -89,7 +89,7 @@ caption_keeps (Text first second) r is closed = (refl, (λ class. ap (λ l. (gon
 caption_keeps (Xds first second) r is closed = absurd is
 caption_keeps (Control second control) r is closed = (refl, (λ class. refl, tt))
 
-taken_under : (code : Code) (s : Writing) (r : State) (under : List XdsPacket) → KeepsUnderWay code r → Under s r under → Under (record s { broken = true }) (next_state code r) under
+taken_under : (code : Code) (s : Unsent) (r : State) (under : List XdsPacket) → KeepsUnderWay code r → Under s r under → Under (record s { broken = true }) (next_state code r) under
 taken_under code s r [] keeps none = none
 taken_under code s r (packet ∷ []) keeps busy = let u = busy.under in record {
   sent = busy.sent;
@@ -106,7 +106,7 @@ taken_under code s r (packet ∷ []) keeps busy = let u = busy.under in record {
 }
 taken_under code s r (packet ∷ (other ∷ packets)) keeps never = absurd never
 
-taken_does : (code : Code) (s : Writing) (r : State) (under : List XdsPacket) → KeepsUnderWay code r → Under s r under → AreGood s
+taken_does : (code : Code) (s : Unsent) (r : State) (under : List XdsPacket) → KeepsUnderWay code r → Under s r under → AreGood s
     → Does code (record s { broken = true }) r (packets_left s.left) under
 taken_does code s r under keeps u good = record {
   is_code = keeps.1.1;
@@ -129,7 +129,7 @@ continue_class class = omega arith
 continue_even : (class : ℕ) → (2 * class) % 2 ≡ 0
 continue_even class = omega arith
 
-begun_state : (packet : XdsPacket) → IsPacket packet → (r : State) → next_state (start_code packet) r ≡ record { label = Some (record { class = packet.class; kind = packet.kind }); under_way = put packet.class (Some (record { kind = packet.kind; text = [] })) r.under_way }
+begun_state : (packet : XdsPacket) → IsXdsPacket packet → (r : State) → next_state (start_code packet) r ≡ record { label = Some (record { class = packet.class; kind = packet.kind }); under_way = put packet.class (Some (record { kind = packet.kind; text = [] })) r.under_way }
 begun_state packet is r =
     let low : nat_lt (2 * packet.class - 1) 0x0F ≡ true = let from = is.class_from in let to = is.class_to in grind (arith, nat_tests) in
     let odd : ((2 * packet.class - 1) % 2 == 1) ≡ true = ap (λ k. k == 1) (start_odd packet.class is.class_from) in
@@ -140,7 +140,7 @@ begun_state packet is r =
     ended_state : State
     ended_state = next_state (Xds 0x0F packet.kind) r
 
-continued_state : (packet : XdsPacket) → IsPacket packet → (r : State) → next_state (continue_code packet) r ≡ record { label = Some (record { class = packet.class; kind = packet.kind }); under_way = r.under_way }
+continued_state : (packet : XdsPacket) → IsXdsPacket packet → (r : State) → next_state (continue_code packet) r ≡ record { label = Some (record { class = packet.class; kind = packet.kind }); under_way = r.under_way }
 continued_state packet is r =
     let low : nat_lt (2 * packet.class) 0x0F ≡ true = let to = is.class_to in grind (arith, nat_tests) in
     let even : ((2 * packet.class) % 2 == 1) ≡ false = ap (λ k. k == 1) (continue_even packet.class) in
@@ -160,7 +160,7 @@ same_class class = grind (arith, nat_tests)
 put_here : (class : ℕ) (so_far : Option UnderWay) (under_way : ℕ → Option UnderWay) → put class so_far under_way class ≡ so_far
 put_here class so_far under_way = ap (λ b. if b then so_far else under_way class) (same_class class)
 
-begun_under : (l : Listed) (ls : List Listed) (r : State) → IsPacket l.packet
+begun_under : (l : Listed) (ls : List Listed) (r : State) → IsXdsPacket l.packet
     → IsUnder l.packet [] l.packet.text (record { left = ls; cont = continue_code l.packet; codes = rest_codes l.packet l.packet.text; broken = false }) (next_state (start_code l.packet) r)
 begun_under l ls r is = record {
   is = is;
@@ -175,15 +175,15 @@ begun_under l ls r is = record {
 abbrev done_in : Given → State → List XdsPacket → List XdsPacket → Type 0
 done_in g r left under = Does (code_or g.code Null) g.next r left under
 
-begun_does : (frame : ℕ) (s : Writing) (left : List Listed) (r : State) → s.left ≡ left → s.codes ≡ [] → AreGood s → done_in (begun_at frame s left) r (packets_left left) []
+begun_does : (frame : ℕ) (s : Unsent) (left : List Listed) (r : State) → s.left ≡ left → s.codes ≡ [] → AreGood s → done_in (begun_at frame s left) r (packets_left left) []
 begun_does frame s [] r at none good = record { is_code = tt; after_under = []; under_way = none; whole = ap packets_left at; good = good }
 begun_does frame s (l ∷ ls) r at none good = by_frame (nat_le l.from frame)
   where
     by_frame : (b : Bool) → done_in (if b then record { next = record { left = ls; cont = continue_code l.packet; codes = rest_codes l.packet l.packet.text; broken = false }; code = Some (start_code l.packet) }
         else record { next = s; code = None }) r (packets_left (l ∷ ls)) []
     by_frame true =
-        let all : All (λ (m : Listed). IsPacket m.packet) (l ∷ ls) = subst (λ ks. All (λ (m : Listed). IsPacket m.packet) ks) at good in
-        let is : IsPacket l.packet = all_first l ls all in
+        let all : All (λ (m : Listed). IsXdsPacket m.packet) (l ∷ ls) = subst (λ ks. All (λ (m : Listed). IsXdsPacket m.packet) ks) at good in
+        let is : IsXdsPacket l.packet = all_first l ls all in
         let from = is.class_from in let to = is.class_to in
         let other : (2 * l.packet.class - 1 == 0x0F) ≡ false = grind (arith, nat_tests) in
         record {
@@ -196,7 +196,7 @@ begun_does frame s (l ∷ ls) r at none good = by_frame (nat_le l.from frame)
     by_frame false = record { is_code = tt; after_under = []; under_way = none; whole = ap packets_left at; good = good }
 
 -- a continue pair
-continued_does : (packet : XdsPacket) (sent unsent : List ℕ) (s : Writing) (r : State) → IsUnder packet sent unsent s r → AreGood s
+continued_does : (packet : XdsPacket) (sent unsent : List ℕ) (s : Unsent) (r : State) → IsUnder packet sent unsent s r → AreGood s
     → Does s.cont (record s { broken = false }) r (packets_left s.left) (packet ∷ [])
 continued_does packet sent unsent s r u good =
     subst (λ c. Does c (record s { broken = false }) r (packets_left s.left) (packet ∷ [])) (sym u.cont_is) (
@@ -238,7 +238,7 @@ text_state packet sent bytes first second r are fits label so_far =
 text_label : (first second : ℕ) (r : State) (label : Label) → r.label ≡ Some label → (next_state (Text first second) r).label ≡ Some label
 text_label first second r label is = ap (λ l. (gone_on l (data_bytes (Text first second)) r).label) is ∙ is
 
-text_does : (packet : XdsPacket) (sent bytes unsent : List ℕ) (first second : ℕ) (s : Writing) (r : State) → IsUnder packet sent (bytes ++ unsent) s r → AreGood s → s.broken ≡ false
+text_does : (packet : XdsPacket) (sent bytes unsent : List ℕ) (first second : ℕ) (s : Unsent) (r : State) → IsUnder packet sent (bytes ++ unsent) s r → AreGood s → s.broken ≡ false
     → data_bytes (Text first second) ≡ bytes → All (λ byte. (0x20 ≤ byte) × (byte ≤ 0x7E)) unsent
     → Does (Text first second) (record s { codes = rest_codes packet unsent }) r (packets_left s.left) (packet ∷ [])
 text_does packet sent bytes unsent first second s r u good whole are all =
@@ -269,7 +269,7 @@ text_does packet sent bytes unsent first second s r u good whole are all =
 checked : (class kind total : ℕ) → (2 * class + kind + total + 0x0E + (128 - (2 * class + kind + total + 0x0E) % 128) % 128) % 128 ≡ 0
 checked class kind total = omega arith
 
-end_does : (packet : XdsPacket) (sent : List ℕ) (s : Writing) (r : State) → IsUnder packet sent [] s r → AreGood s → s.broken ≡ false
+end_does : (packet : XdsPacket) (sent : List ℕ) (s : Unsent) (r : State) → IsUnder packet sent [] s r → AreGood s → s.broken ≡ false
     → Does (Xds 0x0F (checksum packet)) (record s { codes = [] }) r (packets_left s.left) (packet ∷ [])
 end_does packet sent s r u good whole =
     let text_is : packet.text ≡ sent = u.text_is ∙ nil_right sent in
@@ -288,7 +288,7 @@ end_does packet sent s r u good whole =
     }
 
 -- a slot that is free, with a packet under way
-busy_does : (packet : XdsPacket) (sent unsent : List ℕ) (frame : ℕ) (s : Writing) (r : State) → IsUnder packet sent unsent s r → AreGood s → s.broken ≡ false
+busy_does : (packet : XdsPacket) (sent unsent : List ℕ) (frame : ℕ) (s : Unsent) (r : State) → IsUnder packet sent unsent s r → AreGood s → s.broken ≡ false
     → done_in (sent_on false frame s (rest_codes packet unsent)) r (packets_left s.left) (packet ∷ [])
 busy_does packet sent [] frame s r u good whole = end_does packet sent s r u good whole
 busy_does packet sent (a ∷ []) frame s r u good whole = text_does packet sent (a ∷ []) [] a 0 s r u good whole (one_byte a (bytes_first a [] u.bytes)) (bytes_rest a [] u.bytes)
@@ -302,7 +302,7 @@ rest_some packet [] = (Xds 0x0F (checksum packet), ([], refl))
 rest_some packet (a ∷ []) = (Text a 0, (Xds 0x0F (checksum packet) ∷ [], refl))
 rest_some packet (a ∷ (b ∷ unsent)) = (Text a b, (rest_codes packet unsent, refl))
 
-free_does : (frame : ℕ) (s : Writing) (r : State) (under : List XdsPacket) → Under s r under → AreGood s → done_in (sent_on s.broken frame s s.codes) r (packets_left s.left) under
+free_does : (frame : ℕ) (s : Unsent) (r : State) (under : List XdsPacket) → Under s r under → AreGood s → done_in (sent_on s.broken frame s s.codes) r (packets_left s.left) under
 free_does frame s r [] none good =
     subst (λ cs. done_in (sent_on s.broken frame s cs) r (packets_left s.left) []) (sym none) (by_broken s.broken)
   where
@@ -323,7 +323,7 @@ free_does frame s r (packet ∷ []) busy good =
 free_does frame s r (packet ∷ (other ∷ packets)) never good = absurd never
 
 -- a control code came, and no slot behind it was free: no segment is open
-module _ (free : ℕ → Bool) (frame_of : ℕ → ℕ) (others : ℕ → Code) (listed : List Listed) (beside : AreBeside others free) (are : All (λ (m : Listed). IsPacket m.packet) listed) where
+module _ (free : ℕ → Bool) (frame_of : ℕ → ℕ) (others : ℕ → Code) (listed : List Listed) (beside : AreBeside others free) (are : All (λ (m : Listed). IsXdsPacket m.packet) listed) where
   pub record Stands (n : ℕ) : Type 0 where
     pub state : State
     stands : StandsAt (codes_to free frame_of others listed n) state
@@ -419,19 +419,19 @@ module _ (free : ℕ → Bool) (frame_of : ℕ → ℕ) (others : ℕ → Code) 
         good = d.good;
       }
 
-  nothing_under : (under : List XdsPacket) (s : Writing) (r : State) → Under s r under → s.codes ≡ [] → under ≡ []
+  nothing_under : (under : List XdsPacket) (s : Unsent) (r : State) → Under s r under → s.codes ≡ [] → under ≡ []
   nothing_under [] s r way none = refl
   nothing_under (packet ∷ []) s r busy none =
       let rest = rest_some packet busy.unsent in
       let wrong : [] ≡ rest.0 ∷ rest.1.0 = sym none ∙ busy.under.codes_are ∙ rest.1.1 in absurd (cc)
   nothing_under (packet ∷ (other ∷ packets)) s r never none = absurd never
 
-  nothing_coded : (under : List XdsPacket) (s : Writing) (r : State) → Under s r under → under ≡ [] → s.codes ≡ []
+  nothing_coded : (under : List XdsPacket) (s : Unsent) (r : State) → Under s r under → under ≡ [] → s.codes ≡ []
   nothing_coded [] s r way none = way
   nothing_coded (packet ∷ []) s r busy none = cc
   nothing_coded (packet ∷ (other ∷ packets)) s r never none = absurd never
 
-few : (under : List XdsPacket) (s : Writing) → (r : State) → Under s r under → length under ≤ 1
+few : (under : List XdsPacket) (s : Unsent) → (r : State) → Under s r under → length under ≤ 1
 few [] s r way = omega arith
 few (packet ∷ []) s r way = omega arith
 few (packet ∷ (other ∷ packets)) s r never = absurd never

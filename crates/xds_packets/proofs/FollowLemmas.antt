@@ -5,13 +5,13 @@ use Rattle.std.specs.List.{All}
 use Rattle.line21_codes.specs.declared.codes.Code.{Code}
 use Rattle.line21_codes.specs.declared.codes.Code.TheVariants.{Xds}
 use Rattle.xds_packets.specs.declared.packets.XdsPacket.{XdsPacket}
-use Rattle.xds_packets.specs.PacketCodes.{AreWritable, PacketsCanBeWritten, checksum, continue_code, rest_codes, start_code, text_codes}
-use Rattle.xds_packets.specs.Sending.{Given, Listed, Writing, begun_at, given_in, sent_on, writing_at}
+use Rattle.xds_packets.specs.PacketCodes.{AreWritable, PacketsCanBeWritten, checksum, continue_code, data_codes, rest_codes, start_code}
+use Rattle.xds_packets.specs.Sending.{Given, Listed, Unsent, begun_at, given_in, sent_on, writing_at}
 use Rattle.xds_packets.specs.Places.{PairsStandInTheNextFreeSlots}
 use Rattle.line21_codes.specs.Writable.{IsWritable}
 
 -- behind a slot that is free a packet that is under way isn't broken
-whole_begun : (frame : ℕ) (s : Writing) (left : List Listed) (code : Code) (codes : List Code) → s.codes ≡ [] → (begun_at frame s left).next.codes ≡ code ∷ codes → (begun_at frame s left).next.broken ≡ false
+whole_begun : (frame : ℕ) (s : Unsent) (left : List Listed) (code : Code) (codes : List Code) → s.codes ≡ [] → (begun_at frame s left).next.codes ≡ code ∷ codes → (begun_at frame s left).next.broken ≡ false
 whole_begun frame s [] code codes none is = let wrong : [] ≡ code ∷ codes = sym none ∙ is in absurd (cc)
 whole_begun frame s (l ∷ left) code codes none is = by_frame (nat_le l.from frame) is
   where
@@ -22,17 +22,17 @@ whole_begun frame s (l ∷ left) code codes none is = by_frame (nat_le l.from fr
     by_frame true at = refl
     by_frame false at = let wrong : [] ≡ code ∷ codes = sym none ∙ at in absurd (cc)
 
-whole_on : (b : Bool) (frame : ℕ) (s : Writing) (sent : List Code) (code : Code) (codes : List Code) → s.broken ≡ b → s.codes ≡ sent → (sent_on b frame s sent).next.codes ≡ code ∷ codes → (sent_on b frame s sent).next.broken ≡ false
+whole_on : (b : Bool) (frame : ℕ) (s : Unsent) (sent : List Code) (code : Code) (codes : List Code) → s.broken ≡ b → s.codes ≡ sent → (sent_on b frame s sent).next.codes ≡ code ∷ codes → (sent_on b frame s sent).next.broken ≡ false
 whole_on true frame s [] code codes is at on = whole_begun frame s s.left code codes at on
 whole_on false frame s [] code codes is at on = whole_begun frame s s.left code codes at on
 whole_on true frame s (c ∷ cs) code codes is at on = refl
 whole_on false frame s (c ∷ cs) code codes is at on = is
 
-broken_behind : (b : Bool) (frame : ℕ) (s : Writing) (code : Code) (codes : List Code) → (given_in b frame s).next.codes ≡ code ∷ codes → (given_in b frame s).next.broken ≡ not b
+broken_behind : (b : Bool) (frame : ℕ) (s : Unsent) (code : Code) (codes : List Code) → (given_in b frame s).next.codes ≡ code ∷ codes → (given_in b frame s).next.broken ≡ not b
 broken_behind true frame s code codes on = whole_on s.broken frame s s.codes code codes refl refl on
 broken_behind false frame s code codes on = refl
 
-given_behind : (b was : Bool) (frame : ℕ) (s : Writing) (code : Code) (codes : List Code) → s.codes ≡ code ∷ codes → s.broken ≡ not was
+given_behind : (b was : Bool) (frame : ℕ) (s : Unsent) (code : Code) (codes : List Code) → s.codes ≡ code ∷ codes → s.broken ≡ not was
     → (given_in b frame s).code ≡ (if b then Some (if was then code else s.cont) else None)
 given_behind false was frame s code codes at is = refl
 given_behind true true frame s code codes at is = ap (λ b. (sent_on b frame s s.codes).code) is ∙ ap (λ cs. (sent_on false frame s cs).code) at
@@ -43,7 +43,7 @@ pairs_stand_in_the_next_free_slots free frame_of listed n code codes at =
     given_behind (free (suc n)) (free n) (frame_of (suc n)) (writing_at free frame_of listed (suc n)) code codes at
     (broken_behind (free n) (frame_of n) (writing_at free frame_of listed n) code codes at)
 
-texts_writable : (text : List ℕ) (end : Code) → All (λ byte. (0x20 ≤ byte) × (byte ≤ 0x7E)) text → IsWritable end → AreWritable (text_codes text ++ end ∷ [])
+texts_writable : (text : List ℕ) (end : Code) → All (λ byte. (0x20 ≤ byte) × (byte ≤ 0x7E)) text → IsWritable end → AreWritable (data_codes text ++ end ∷ [])
 texts_writable [] end all is = (is, tt)
 texts_writable (a ∷ []) end all is = let first = all 0 a (omega arith) in ((omega (arith, first.1), omega arith, inr first.0), (is, tt))
 texts_writable (a ∷ (b ∷ text)) end all is =

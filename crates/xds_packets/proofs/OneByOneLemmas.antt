@@ -6,7 +6,7 @@ use Rattle.std.proofs.lemmas.Bool.Decides.{nat_tests}
 use Rattle.line21_codes.specs.declared.codes.Code.{Code}
 use Rattle.line21_codes.specs.declared.codes.Code.TheVariants.{Null, Text, Xds, Control}
 use Rattle.xds_packets.specs.declared.under_way.UnderWay.{UnderWay}
-use Rattle.xds_packets.specs.Segments.{Segment, data_bytes, is_end, is_ended, is_mark, is_of, is_open, is_open_end, open_of, opened, segments, since_start, starts, text_of}
+use Rattle.xds_packets.specs.Segments.{Segment, data_bytes, is_end, is_ended, is_mark, is_of_type, is_open, is_open_end, open_of, opened, segments, segments_text, since_start, starts_class}
 use Rattle.xds_packets.specs.Reading.{checks, closed_by, ends_at, from_start, judged}
 use Rattle.xds_packets.specs.OneByOne.{CodesAreReadOneByOne, IsCode, Label, StandsAt, State, added, begun, dropped, ended, finished, fitted, given, given_end, gone_on, label_of, next_state, put, under_way_from}
 use Rattle.xds_packets.proofs.SegmentLemmas.{AreClosed, any_more, any_map, are_closed, glued, grown, nil_right, segments_more, since_map, since_new, since_other}
@@ -14,7 +14,7 @@ use Rattle.xds_packets.proofs.SegmentLemmas.{AreClosed, any_more, any_map, are_c
 -- the segments that are closed but the last
 closed_since : (class : ℕ) (ss : List Segment) → AreClosed ss → AreClosed (since_start class ss)
 closed_since class [] are = tt
-closed_since class (s ∷ ss) are = by_test (starts class s && not (list_any (starts class) ss)) (closed_since class ss are.1)
+closed_since class (s ∷ ss) are = by_test (starts_class class s && not (list_any (starts_class class) ss)) (closed_since class ss are.1)
   where
     by_test : (b : Bool) → AreClosed (since_start class ss) → AreClosed (if b then s ∷ ss else since_start class ss)
     by_test true more = are
@@ -30,9 +30,9 @@ some_rest class (u ∷ us) t ts is = (u, (us, refl))
 
 open_since : (class : ℕ) (ss : List Segment) → AreClosed ss → (t : Segment) (ts : List Segment) → since_start class ss ≡ t ∷ ts → open_of (t ∷ ts) ≡ open_of ss
 open_since class [] are t ts is = cc
-open_since class (s ∷ ss) are t ts is = by_test (starts class s && not (list_any (starts class) ss)) refl (open_since class ss are.1 t ts)
+open_since class (s ∷ ss) are t ts is = by_test (starts_class class s && not (list_any (starts_class class) ss)) refl (open_since class ss are.1 t ts)
   where
-    by_test : (b : Bool) → (starts class s && not (list_any (starts class) ss)) ≡ b → (since_start class ss ≡ t ∷ ts → open_of (t ∷ ts) ≡ open_of ss) → open_of (t ∷ ts) ≡ open_of (s ∷ ss)
+    by_test : (b : Bool) → (starts_class class s && not (list_any (starts_class class) ss)) ≡ b → (since_start class ss ≡ t ∷ ts → open_of (t ∷ ts) ≡ open_of ss) → open_of (t ∷ ts) ≡ open_of (s ∷ ss)
     by_test true e more = let it : s ∷ ss ≡ t ∷ ts = sym (ap (λ b. if b then s ∷ ss else since_start class ss) e) ∙ is in ap open_of (sym it)
     by_test false e more =
         let there : since_start class ss ≡ t ∷ ts = sym (ap (λ b. if b then s ∷ ss else since_start class ss) e) ∙ is in
@@ -94,18 +94,18 @@ filter_append test (s ∷ ss) new = ap (λ r. if test s then s ∷ r else r) (fi
     by_test false = refl
 
 -- the texts and the ends of grown segments
-text_grown : (x : Code) (ss : List Segment) → AreClosed ss → text_of (map (grown x) ss) ≡ text_of ss ++ (if list_any is_open ss then data_bytes x else [])
+text_grown : (x : Code) (ss : List Segment) → AreClosed ss → segments_text (map (grown x) ss) ≡ segments_text ss ++ (if list_any is_open ss then data_bytes x else [])
 text_grown x [] are = refl
 text_grown x (s ∷ ss) are = by_open (is_open s) refl (text_grown x ss are.1)
   where
-    by_open : (b : Bool) → is_open s ≡ b → text_of (map (grown x) ss) ≡ text_of ss ++ (if list_any is_open ss then data_bytes x else [])
-        → (s.bytes ++ (if is_open s then data_bytes x else [])) ++ text_of (map (grown x) ss)
-        ≡ (s.bytes ++ text_of ss) ++ (if is_open s || list_any is_open ss then data_bytes x else [])
+    by_open : (b : Bool) → is_open s ≡ b → segments_text (map (grown x) ss) ≡ segments_text ss ++ (if list_any is_open ss then data_bytes x else [])
+        → (s.bytes ++ (if is_open s then data_bytes x else [])) ++ segments_text (map (grown x) ss)
+        ≡ (s.bytes ++ segments_text ss) ++ (if is_open s || list_any is_open ss then data_bytes x else [])
     by_open true e more =
         let none : ss ≡ [] = are.0 e in
         rw (e, none) (nil_right (s.bytes ++ data_bytes x) ∙ ap (λ r. r ++ data_bytes x) (sym (nil_right s.bytes)))
     by_open false e more =
-        rw e (ap (λ r. r ++ text_of (map (grown x) ss)) (nil_right s.bytes) ∙ ap (λ r. s.bytes ++ r) more ∙ sym (append_assoc s.bytes (text_of ss) (if list_any is_open ss then data_bytes x else [])))
+        rw e (ap (λ r. r ++ segments_text (map (grown x) ss)) (nil_right s.bytes) ∙ ap (λ r. s.bytes ++ r) more ∙ sym (append_assoc s.bytes (segments_text ss) (if list_any is_open ss then data_bytes x else [])))
 
 ended_same : (x : Code) → is_end (Some x) ≡ false → (s : Segment) → is_ended (grown x s) ≡ is_ended s
 ended_same x is s = by_end s.end (is_mark x)
@@ -134,48 +134,48 @@ ended_now check (s ∷ ss) = by_end s.end (list_any is_ended (map (grown (Xds 0x
 
 -- the packet under way of a class behind one pair more
 abbrev under_way_in : ℕ → List Segment → Option UnderWay
-under_way_in kind own = if list_any is_ended own then None else fitted kind (text_of own)
+under_way_in kind own = if list_any is_ended own then None else fitted kind (segments_text own)
 
 under_way_grown : (class : ℕ) (x : Code) → is_end (Some x) ≡ false → (s : Segment) (ss : List Segment) → AreClosed (s ∷ ss)
     → under_way_from class (map (grown x) (s ∷ ss))
-    ≡ (if list_any is_ended (filter (is_of class s.kind) (s ∷ ss)) then None
-    else fitted s.kind (text_of (filter (is_of class s.kind) (s ∷ ss)) ++ (if passes (is_of class s.kind) (open_of (s ∷ ss)) then data_bytes x else [])))
+    ≡ (if list_any is_ended (filter (is_of_type class s.kind) (s ∷ ss)) then None
+    else fitted s.kind (segments_text (filter (is_of_type class s.kind) (s ∷ ss)) ++ (if passes (is_of_type class s.kind) (open_of (s ∷ ss)) then data_bytes x else [])))
 under_way_grown class x is s ss are =
-    let own : List Segment = filter (is_of class s.kind) (s ∷ ss) in
-    ap (under_way_in s.kind) (filter_map (is_of class s.kind) x (λ t. refl) (s ∷ ss))
-    ∙ ap (λ b. if b then None else fitted s.kind (text_of (map (grown x) (filter (is_of class s.kind) (s ∷ ss))))) (any_map x is_ended (ended_same x is) (filter (is_of class s.kind) (s ∷ ss)))
-    ∙ ap (λ t. if list_any is_ended (filter (is_of class s.kind) (s ∷ ss)) then None else fitted s.kind t) (text_grown x (filter (is_of class s.kind) (s ∷ ss)) (closed_filter (is_of class s.kind) (s ∷ ss) are))
-    ∙ ap (λ b. if list_any is_ended (filter (is_of class s.kind) (s ∷ ss)) then None else fitted s.kind (text_of (filter (is_of class s.kind) (s ∷ ss)) ++ (if b then data_bytes x else []))) (open_filter (is_of class s.kind) (s ∷ ss) are)
+    let own : List Segment = filter (is_of_type class s.kind) (s ∷ ss) in
+    ap (under_way_in s.kind) (filter_map (is_of_type class s.kind) x (λ t. refl) (s ∷ ss))
+    ∙ ap (λ b. if b then None else fitted s.kind (segments_text (map (grown x) (filter (is_of_type class s.kind) (s ∷ ss))))) (any_map x is_ended (ended_same x is) (filter (is_of_type class s.kind) (s ∷ ss)))
+    ∙ ap (λ t. if list_any is_ended (filter (is_of_type class s.kind) (s ∷ ss)) then None else fitted s.kind t) (text_grown x (filter (is_of_type class s.kind) (s ∷ ss)) (closed_filter (is_of_type class s.kind) (s ∷ ss) are))
+    ∙ ap (λ b. if list_any is_ended (filter (is_of_type class s.kind) (s ∷ ss)) then None else fitted s.kind (segments_text (filter (is_of_type class s.kind) (s ∷ ss)) ++ (if b then data_bytes x else []))) (open_filter (is_of_type class s.kind) (s ∷ ss) are)
 
 under_way_ended : (class check : ℕ) (s : Segment) (ss : List Segment) → AreClosed (s ∷ ss)
     → under_way_from class (map (grown (Xds 0x0F check)) (s ∷ ss))
-    ≡ (if list_any is_ended (filter (is_of class s.kind) (s ∷ ss)) || passes (is_of class s.kind) (open_of (s ∷ ss)) then None
-    else fitted s.kind (text_of (filter (is_of class s.kind) (s ∷ ss))))
+    ≡ (if list_any is_ended (filter (is_of_type class s.kind) (s ∷ ss)) || passes (is_of_type class s.kind) (open_of (s ∷ ss)) then None
+    else fitted s.kind (segments_text (filter (is_of_type class s.kind) (s ∷ ss))))
 under_way_ended class check s ss are =
-    ap (under_way_in s.kind) (filter_map (is_of class s.kind) (Xds 0x0F check) (λ t. refl) (s ∷ ss))
-    ∙ ap (λ b. if b then None else fitted s.kind (text_of (map (grown (Xds 0x0F check)) (filter (is_of class s.kind) (s ∷ ss))))) (ended_now check (filter (is_of class s.kind) (s ∷ ss)))
-    ∙ ap (λ b. if list_any is_ended (filter (is_of class s.kind) (s ∷ ss)) || b then None else fitted s.kind (text_of (map (grown (Xds 0x0F check)) (filter (is_of class s.kind) (s ∷ ss))))) (open_filter (is_of class s.kind) (s ∷ ss) are)
-    ∙ ap (λ t. if list_any is_ended (filter (is_of class s.kind) (s ∷ ss)) || passes (is_of class s.kind) (open_of (s ∷ ss)) then None else fitted s.kind t)
-    (text_grown (Xds 0x0F check) (filter (is_of class s.kind) (s ∷ ss)) (closed_filter (is_of class s.kind) (s ∷ ss) are)
-    ∙ no_more (list_any is_open (filter (is_of class s.kind) (s ∷ ss))) (text_of (filter (is_of class s.kind) (s ∷ ss))))
+    ap (under_way_in s.kind) (filter_map (is_of_type class s.kind) (Xds 0x0F check) (λ t. refl) (s ∷ ss))
+    ∙ ap (λ b. if b then None else fitted s.kind (segments_text (map (grown (Xds 0x0F check)) (filter (is_of_type class s.kind) (s ∷ ss))))) (ended_now check (filter (is_of_type class s.kind) (s ∷ ss)))
+    ∙ ap (λ b. if list_any is_ended (filter (is_of_type class s.kind) (s ∷ ss)) || b then None else fitted s.kind (segments_text (map (grown (Xds 0x0F check)) (filter (is_of_type class s.kind) (s ∷ ss))))) (open_filter (is_of_type class s.kind) (s ∷ ss) are)
+    ∙ ap (λ t. if list_any is_ended (filter (is_of_type class s.kind) (s ∷ ss)) || passes (is_of_type class s.kind) (open_of (s ∷ ss)) then None else fitted s.kind t)
+    (text_grown (Xds 0x0F check) (filter (is_of_type class s.kind) (s ∷ ss)) (closed_filter (is_of_type class s.kind) (s ∷ ss) are)
+    ∙ no_more (list_any is_open (filter (is_of_type class s.kind) (s ∷ ss))) (segments_text (filter (is_of_type class s.kind) (s ∷ ss))))
   where
     no_more : (b : Bool) (t : List ℕ) → t ++ (if b then [] else []) ≡ t
     no_more true t = nil_right t
     no_more false t = nil_right t
 
-text_append : (xs ys : List Segment) → text_of (xs ++ ys) ≡ text_of xs ++ text_of ys
+text_append : (xs ys : List Segment) → segments_text (xs ++ ys) ≡ segments_text xs ++ segments_text ys
 text_append [] ys = refl
-text_append (x ∷ xs) ys = ap (λ r. x.bytes ++ r) (text_append xs ys) ∙ sym (append_assoc x.bytes (text_of xs) (text_of ys))
+text_append (x ∷ xs) ys = ap (λ r. x.bytes ++ r) (text_append xs ys) ∙ sym (append_assoc x.bytes (segments_text xs) (segments_text ys))
 
 under_way_glued : (class : ℕ) (ss : List Segment) (new : Segment) → new.bytes ≡ [] → new.end ≡ None → under_way_from class (glued ss new) ≡ under_way_from class ss
 under_way_glued class [] new none open_it = refl
 under_way_glued class (s ∷ ss) new none open_it =
-    ap (under_way_in s.kind) (filter_append (is_of class s.kind) (s ∷ ss) new) ∙ by_test (is_of class s.kind new) (filter (is_of class s.kind) (s ∷ ss))
+    ap (under_way_in s.kind) (filter_append (is_of_type class s.kind) (s ∷ ss) new) ∙ by_test (is_of_type class s.kind new) (filter (is_of_type class s.kind) (s ∷ ss))
   where
     by_test : (b : Bool) (own : List Segment) → under_way_in s.kind (own ++ (if b then new ∷ [] else [])) ≡ under_way_in s.kind own
     by_test true own =
-        ap (λ b. if b then None else fitted s.kind (text_of (own ++ new ∷ []))) (any_more is_ended own new ∙ ap (λ e. list_any is_ended own || is_end e) open_it ∙ or_false (list_any is_ended own))
-        ∙ ap (λ t. if list_any is_ended own then None else fitted s.kind t) (text_append own (new ∷ []) ∙ ap (λ b. text_of own ++ (b ++ [])) none ∙ nil_right (text_of own))
+        ap (λ b. if b then None else fitted s.kind (segments_text (own ++ new ∷ []))) (any_more is_ended own new ∙ ap (λ e. list_any is_ended own || is_end e) open_it ∙ or_false (list_any is_ended own))
+        ∙ ap (λ t. if list_any is_ended own then None else fitted s.kind t) (text_append own (new ∷ []) ∙ ap (λ b. segments_text own ++ (b ++ [])) none ∙ nil_right (segments_text own))
     by_test false own = ap (under_way_in s.kind) (nil_right own)
 
 -- what a pair makes of a packet under way
@@ -198,7 +198,7 @@ added_under_way label bytes kind false t = by_fit (nat_le (length t) 32) refl
     by_fit false fit = ap (λ b. added label bytes (if b then Some (record { kind = kind; text = t }) else None)) fit ∙ sym (too_long kind t (if label.kind == kind then bytes else []) fit)
 
 added_is : (class : ℕ) (o : Option Segment) (bytes : List ℕ) (state : State) (kind : ℕ) (e : Bool) (t : List ℕ) → state.under_way class ≡ (if e then None else fitted kind t)
-    → (gone_on (label_of o) bytes state).under_way class ≡ (if e then None else fitted kind (t ++ (if passes (is_of class kind) o then bytes else [])))
+    → (gone_on (label_of o) bytes state).under_way class ≡ (if e then None else fitted kind (t ++ (if passes (is_of_type class kind) o then bytes else [])))
 added_is class None bytes state kind e t is = is ∙ ap (λ r. if e then None else fitted kind r) (sym (nil_right t))
 added_is class (Some s) bytes state kind e t is = by_class (s.class == class) refl
   where
@@ -238,7 +238,7 @@ dropped_under_way label kind false t = by_case (nat_le (length t) 32) ∙ by_fit
     by_fit false false = refl
 
 dropped_is : (class : ℕ) (o : Option Segment) (state : State) (kind : ℕ) (e : Bool) (t : List ℕ) → state.under_way class ≡ (if e then None else fitted kind t)
-    → (ended (label_of o) state).under_way class ≡ (if e || passes (is_of class kind) o then None else fitted kind t)
+    → (ended (label_of o) state).under_way class ≡ (if e || passes (is_of_type class kind) o then None else fitted kind t)
 dropped_is class None state kind e t is = is ∙ ap (λ b. if b then None else fitted kind t) (sym (or_false e))
 dropped_is class (Some s) state kind e t is = by_class (s.class == class) refl
   where
@@ -300,17 +300,17 @@ under_way_idle : (class : ℕ) (x : Code) → is_end (Some x) ≡ false → data
 under_way_idle class x is none [] are = refl
 under_way_idle class x is none (s ∷ ss) are =
     under_way_grown class x is s ss are
-    ∙ ap (λ t. if list_any is_ended (filter (is_of class s.kind) (s ∷ ss)) then None else fitted s.kind t)
-    (same_bytes (passes (is_of class s.kind) (open_of (s ∷ ss))) (text_of (filter (is_of class s.kind) (s ∷ ss))) (data_bytes x) none)
+    ∙ ap (λ t. if list_any is_ended (filter (is_of_type class s.kind) (s ∷ ss)) then None else fitted s.kind t)
+    (same_bytes (passes (is_of_type class s.kind) (open_of (s ∷ ss))) (segments_text (filter (is_of_type class s.kind) (s ∷ ss))) (data_bytes x) none)
 
 under_way_added : (class : ℕ) (x : Code) → is_end (Some x) ≡ false → (all : List Segment) → AreClosed all → (state : State) → (ss : List Segment) → since_start class all ≡ ss
     → state.under_way class ≡ under_way_from class ss → (gone_on (label_of (open_of all)) (data_bytes x) state).under_way class ≡ under_way_from class (map (grown x) ss)
 under_way_added class x is all are state [] at was = none_added class (open_of all) (data_bytes x) state was
 under_way_added class x is all are state (s ∷ ss) at was =
     let closed : AreClosed (s ∷ ss) = subst AreClosed at (closed_since class all are) in
-    added_is class (open_of all) (data_bytes x) state s.kind (list_any is_ended (filter (is_of class s.kind) (s ∷ ss))) (text_of (filter (is_of class s.kind) (s ∷ ss))) was
-    ∙ ap (λ o. if list_any is_ended (filter (is_of class s.kind) (s ∷ ss)) then None
-    else fitted s.kind (text_of (filter (is_of class s.kind) (s ∷ ss)) ++ (if passes (is_of class s.kind) o then data_bytes x else []))) (sym (open_since class all are s ss at))
+    added_is class (open_of all) (data_bytes x) state s.kind (list_any is_ended (filter (is_of_type class s.kind) (s ∷ ss))) (segments_text (filter (is_of_type class s.kind) (s ∷ ss))) was
+    ∙ ap (λ o. if list_any is_ended (filter (is_of_type class s.kind) (s ∷ ss)) then None
+    else fitted s.kind (segments_text (filter (is_of_type class s.kind) (s ∷ ss)) ++ (if passes (is_of_type class s.kind) o then data_bytes x else []))) (sym (open_since class all are s ss at))
     ∙ sym (under_way_grown class x is s ss closed)
 
 under_way_dropped : (class check : ℕ) (all : List Segment) → AreClosed all → (state : State) → (ss : List Segment) → since_start class all ≡ ss
@@ -318,21 +318,21 @@ under_way_dropped : (class check : ℕ) (all : List Segment) → AreClosed all �
 under_way_dropped class check all are state [] at was = none_dropped class (open_of all) state was
 under_way_dropped class check all are state (s ∷ ss) at was =
     let closed : AreClosed (s ∷ ss) = subst AreClosed at (closed_since class all are) in
-    dropped_is class (open_of all) state s.kind (list_any is_ended (filter (is_of class s.kind) (s ∷ ss))) (text_of (filter (is_of class s.kind) (s ∷ ss))) was
-    ∙ ap (λ o. if list_any is_ended (filter (is_of class s.kind) (s ∷ ss)) || passes (is_of class s.kind) o then None
-    else fitted s.kind (text_of (filter (is_of class s.kind) (s ∷ ss)))) (sym (open_since class all are s ss at))
+    dropped_is class (open_of all) state s.kind (list_any is_ended (filter (is_of_type class s.kind) (s ∷ ss))) (segments_text (filter (is_of_type class s.kind) (s ∷ ss))) was
+    ∙ ap (λ o. if list_any is_ended (filter (is_of_type class s.kind) (s ∷ ss)) || passes (is_of_type class s.kind) o then None
+    else fitted s.kind (segments_text (filter (is_of_type class s.kind) (s ∷ ss)))) (sym (open_since class all are s ss at))
     ∙ sym (under_way_ended class check s ss closed)
 
 -- the packet that ends
 judged_own : (class kind : ℕ) (own : List Segment) (check : ℕ) → finished (record { class = class; kind = kind }) (under_way_in kind own) check ≡ judged class kind (Some own) check
-judged_own class kind own check = by_ended (list_any is_ended own) (nat_le (length (text_of own)) 32)
+judged_own class kind own check = by_ended (list_any is_ended own) (nat_le (length (segments_text own)) 32)
   where
-    by_ended : (e fit : Bool) → finished (record { class = class; kind = kind }) (if e then None else (if fit then Some (record { kind = kind; text = text_of own }) else None)) check
-        ≡ (if not e && (fit && checks class kind (text_of own) check) then Some (record { class = class; kind = kind; text = text_of own }) else None)
+    by_ended : (e fit : Bool) → finished (record { class = class; kind = kind }) (if e then None else (if fit then Some (record { kind = kind; text = segments_text own }) else None)) check
+        ≡ (if not e && (fit && checks class kind (segments_text own) check) then Some (record { class = class; kind = kind; text = segments_text own }) else None)
     by_ended true fit = refl
     by_ended false false = refl
     by_ended false true = let same : (kind == kind) ≡ true = grind (arith, nat_tests) in
-        ap (λ b. if b && checks class kind (text_of own) check then Some (record { class = class; kind = kind; text = text_of own }) else None) same
+        ap (λ b. if b && checks class kind (segments_text own) check then Some (record { class = class; kind = kind; text = segments_text own }) else None) same
 
 finished_is : (class kind check : ℕ) (ss : List Segment) → finished (record { class = class; kind = kind }) (under_way_from class ss) check ≡ judged class kind (from_start class kind ss) check
 finished_is class kind check [] = refl
@@ -344,13 +344,13 @@ finished_is class kind check (s ∷ ss) = by_kind (s.kind == kind) refl
     other false true t is = ap (λ b. if b && checks class kind t check then Some (record { class = class; kind = kind; text = t }) else None) is
 
     by_kind : (b : Bool) → (s.kind == kind) ≡ b → finished (record { class = class; kind = kind }) (under_way_from class (s ∷ ss)) check
-        ≡ judged class kind (if b then Some (filter (is_of class kind) (s ∷ ss)) else None) check
+        ≡ judged class kind (if b then Some (filter (is_of_type class kind) (s ∷ ss)) else None) check
     by_kind true at =
         let same : s.kind ≡ kind = grind (arith, nat_tests) in
-        ap (λ k. finished (record { class = class; kind = kind }) (under_way_in k (filter (is_of class k) (s ∷ ss))) check) same ∙ judged_own class kind (filter (is_of class kind) (s ∷ ss)) check
+        ap (λ k. finished (record { class = class; kind = kind }) (under_way_in k (filter (is_of_type class k) (s ∷ ss))) check) same ∙ judged_own class kind (filter (is_of_type class kind) (s ∷ ss)) check
     by_kind false at =
         let differ : (kind == s.kind) ≡ false = grind (arith, nat_tests) in
-        other (list_any is_ended (filter (is_of class s.kind) (s ∷ ss))) (nat_le (length (text_of (filter (is_of class s.kind) (s ∷ ss)))) 32) (text_of (filter (is_of class s.kind) (s ∷ ss))) differ
+        other (list_any is_ended (filter (is_of_type class s.kind) (s ∷ ss))) (nat_le (length (segments_text (filter (is_of_type class s.kind) (s ∷ ss)))) 32) (segments_text (filter (is_of_type class s.kind) (s ∷ ss))) differ
 
 given_is : (ss : List Segment) (o : Option Segment) (check : ℕ) (state : State) → ((class : ℕ) → state.under_way class ≡ under_way_from class (since_start class ss))
     → given_end (label_of o) state check ≡ closed_by o ss check
@@ -438,16 +438,16 @@ module _ (codes : List Code) (first second : ℕ) (below : nat_lt first 0x0F ≡
   new_label = sym (ap (λ ss. label_of (open_of ss)) with_new ∙ ap label_of (open_append (map (grown x) (segments codes)) new (open_marked x refl (segments codes))))
 
   new_under_way : (class : ℕ) → Some (record { kind = second; text = [] }) ≡ under_way_from class (new ∷ [])
-  new_under_way class = by_test (is_of class second new)
+  new_under_way class = by_test (is_of_type class second new)
     where
       by_test : (b : Bool) → Some (record { kind = second; text = [] }) ≡ under_way_in second (if b then new ∷ [] else [])
       by_test true = refl
       by_test false = refl
 
-  under_way_started : (class : ℕ) → starts class new ≡ true → under_way_from class (since_start class (segments (codes ++ x ∷ []))) ≡ Some (record { kind = second; text = [] })
+  under_way_started : (class : ℕ) → starts_class class new ≡ true → under_way_from class (since_start class (segments (codes ++ x ∷ []))) ≡ Some (record { kind = second; text = [] })
   under_way_started class is = ap (λ ss. under_way_from class (since_start class ss)) with_new ∙ ap (under_way_from class) (since_new class (map (grown x) (segments codes)) new is) ∙ sym (new_under_way class)
 
-  under_way_kept : (class : ℕ) → starts class new ≡ false → under_way_from class (since_start class (segments (codes ++ x ∷ []))) ≡ state.under_way class
+  under_way_kept : (class : ℕ) → starts_class class new ≡ false → under_way_from class (since_start class (segments (codes ++ x ∷ []))) ≡ state.under_way class
   under_way_kept class is =
       ap (λ ss. under_way_from class (since_start class ss)) with_new
       ∙ ap (under_way_from class) (since_other class (map (grown x) (segments codes)) new is ∙ ap (λ ss. glued ss new) (since_map class x (segments codes)))

@@ -6,23 +6,23 @@ use Rattle.std.proofs.lemmas.List.{take-append-drop}
 use Rattle.std.proofs.lemmas.Bool.Decides.{nat_tests}
 use Rattle.line21_codes.specs.declared.codes.Code.{Code}
 use Rattle.xds_packets.specs.PacketCodes.{continue_code, rest_codes, start_code}
-use Rattle.xds_packets.specs.Sending.{Given, Listed, Writing, begun_at, first_of, given_in, sent_on, unended, writing_at}
-use Rattle.xds_packets.specs.Places.{AllStand, Follow, IsNext, IsStart, LacksRoom, OverWhereAllStand, Placed, StandFrom, StandingIsGiven, StandsFrom, UnfinishedLacksRoom, given_at, given_from, placed_in}
+use Rattle.xds_packets.specs.Sending.{Given, Listed, Unsent, begun_at, first_of, given_in, sent_on, unended, writing_at}
+use Rattle.xds_packets.specs.Places.{AllStand, Follow, IsNext, IsStart, LacksRoom, OverWhereAllStand, PlacedCode, StandFrom, StandingIsGiven, StandsFrom, UnfinishedLacksRoom, given_at, given_from, placed_in}
 use Rattle.xds_packets.proofs.SegmentLemmas.{nil_right}
 
 -- in a slot that isn't free, and in one that is
-taken_next : (b : Bool) (frame : ℕ) (s : Writing) → b ≡ false → given_in b frame s ≡ record { next = record s { broken = true }; code = None }
+taken_next : (b : Bool) (frame : ℕ) (s : Unsent) → b ≡ false → given_in b frame s ≡ record { next = record s { broken = true }; code = None }
 taken_next b frame s is = ap (λ x. given_in x frame s) is
 
-next_code : (b : Bool) (frame : ℕ) (s : Writing) (code : Code) (rest : List Code) → b ≡ true → s.broken ≡ false → s.codes ≡ code ∷ rest → given_in b frame s ≡ record { next = record s { codes = rest }; code = Some code }
+next_code : (b : Bool) (frame : ℕ) (s : Unsent) (code : Code) (rest : List Code) → b ≡ true → s.broken ≡ false → s.codes ≡ code ∷ rest → given_in b frame s ≡ record { next = record s { codes = rest }; code = Some code }
 next_code b frame s code rest is whole at =
     ap (λ x. given_in x frame s) is ∙ ap (λ x. sent_on x frame s s.codes) whole ∙ ap (λ cs. sent_on false frame s cs) at
 
-next_continue : (b : Bool) (frame : ℕ) (s : Writing) (code : Code) (rest : List Code) → b ≡ true → s.broken ≡ true → s.codes ≡ code ∷ rest → given_in b frame s ≡ record { next = record s { broken = false }; code = Some s.cont }
+next_continue : (b : Bool) (frame : ℕ) (s : Unsent) (code : Code) (rest : List Code) → b ≡ true → s.broken ≡ true → s.codes ≡ code ∷ rest → given_in b frame s ≡ record { next = record s { broken = false }; code = Some s.cont }
 next_continue b frame s code rest is broken at =
     ap (λ x. given_in x frame s) is ∙ ap (λ x. sent_on x frame s s.codes) broken ∙ ap (λ cs. sent_on true frame s cs) at
 
-idle_next : (b : Bool) (frame : ℕ) (s : Writing) (left : List Listed) → b ≡ true → s.codes ≡ [] → s.left ≡ left → given_in b frame s ≡ begun_at frame s left
+idle_next : (b : Bool) (frame : ℕ) (s : Unsent) (left : List Listed) → b ≡ true → s.codes ≡ [] → s.left ≡ left → given_in b frame s ≡ begun_at frame s left
 idle_next b frame s left is none at = ap (λ x. given_in x frame s) is ∙ ap (λ cs. sent_on s.broken frame s cs) none ∙ by_broken s.broken ∙ ap (begun_at frame s) at
   where
     by_broken : (x : Bool) → sent_on x frame s [] ≡ begun_at frame s s.left
@@ -30,38 +30,38 @@ idle_next b frame s left is none at = ap (λ x. given_in x frame s) is ∙ ap (�
     by_broken false = refl
 
 module _ (free : ℕ → Bool) (frame_of : ℕ → ℕ) (listed : List Listed) where
-  abbrev w : ℕ → Writing
+  abbrev w : ℕ → Unsent
   w n = writing_at free frame_of listed n
 
   abbrev t : ℕ → Option Code
   t n = given_at free frame_of listed n
 
-  record Gives (from : ℕ) (placed : List Placed) (end : ℕ) : Type 0 where
+  record Gives (from : ℕ) (placed : List PlacedCode) (end : ℕ) : Type 0 where
     count : ℕ
     sums : from + count ≡ end
     list_is : given_from (given_at free frame_of listed) from count ≡ placed
 
-  one_given : (n : ℕ) (code : Code) (placed : List Placed) (end : ℕ) → given_at free frame_of listed n ≡ Some code → Gives (suc n) placed end → Gives n (record { slot = n; code = code } ∷ placed) end
+  one_given : (n : ℕ) (code : Code) (placed : List PlacedCode) (end : ℕ) → given_at free frame_of listed n ≡ Some code → Gives (suc n) placed end → Gives n (record { slot = n; code = code } ∷ placed) end
   one_given n code placed end is g = record {
     count = suc g.count;
     sums = let sums = g.sums in omega arith;
     list_is = ap (λ o. placed_in n o (given_from (given_at free frame_of listed) (suc n) g.count)) is ∙ ap (λ r. record { slot = n; code = code } ∷ r) g.list_is;
   }
 
-  none_given : (n : ℕ) (placed : List Placed) (end : ℕ) → given_at free frame_of listed n ≡ None → Gives (suc n) placed end → Gives n placed end
+  none_given : (n : ℕ) (placed : List PlacedCode) (end : ℕ) → given_at free frame_of listed n ≡ None → Gives (suc n) placed end → Gives n placed end
   none_given n placed end is g = record {
     count = suc g.count;
     sums = let sums = g.sums in omega arith;
     list_is = ap (λ o. placed_in n o (given_from (given_at free frame_of listed) (suc n) g.count)) is ∙ g.list_is;
   }
 
-  skipped : (j from n : ℕ) (placed : List Placed) (end : ℕ) → from + j ≡ n → ((m : ℕ) → from ≤ m → m < n → given_at free frame_of listed m ≡ None) → Gives n placed end → Gives from placed end
+  skipped : (j from n : ℕ) (placed : List PlacedCode) (end : ℕ) → from + j ≡ n → ((m : ℕ) → from ≤ m → m < n → given_at free frame_of listed m ≡ None) → Gives n placed end → Gives from placed end
   skipped zero from n placed end is none g = let same : n ≡ from = omega arith in subst (λ m. Gives m placed end) same g
   skipped (suc j) from n placed end is none g =
       none_given from placed end (none from (omega arith) (omega arith)) (skipped j (suc from) n placed end (omega arith) (λ m low high. none m (omega (arith, low)) high) g)
 
   -- behind slots that aren't free
-  record Alike (s u : Writing) : Type 0 where
+  record Alike (s u : Unsent) : Type 0 where
     left : u.left ≡ s.left
     cont : u.cont ≡ s.cont
     codes : u.codes ≡ s.codes
@@ -86,12 +86,12 @@ module _ (free : ℕ → Bool) (frame_of : ℕ → ℕ) (listed : List Listed) w
   taken_none m is = ap (λ (g : Given). g.code) (taken_next (free m) (frame_of m) (writing_at free frame_of listed m) is)
 
   -- the pairs of a packet behind one of them
-  record Ends (from : ℕ) (placed : List Placed) (end : ℕ) (left : List Listed) : Type 0 where
+  record Ends (from : ℕ) (placed : List PlacedCode) (end : ℕ) (left : List Listed) : Type 0 where
     gives : Gives from placed end
     none_under : (writing_at free frame_of listed end).codes ≡ []
     left_is : (writing_at free frame_of listed end).left ≡ left
 
-  follow_ends : (placed : List Placed) (cont : Code) (at : ℕ) (codes : List Code) (end : ℕ) → Follow free cont at codes placed end
+  follow_ends : (placed : List PlacedCode) (cont : Code) (at : ℕ) (codes : List Code) (end : ℕ) → Follow free cont at codes placed end
       → (writing_at free frame_of listed (suc at)).codes ≡ codes → (writing_at free frame_of listed (suc at)).cont ≡ cont → (writing_at free frame_of listed (suc at)).broken ≡ false
       → Ends (suc at) placed end (writing_at free frame_of listed (suc at)).left
   follow_ends [] cont at codes end follow is is_cont whole =
@@ -130,7 +130,7 @@ module _ (free : ℕ → Bool) (frame_of : ℕ → ℕ) (listed : List Listed) w
   record Waits (from n : ℕ) (left : List Listed) : Type 0 where
     none_under : (writing_at free frame_of listed n).codes ≡ []
     left_is : (writing_at free frame_of listed n).left ≡ left
-    back : (placed : List Placed) (end : ℕ) → Gives n placed end → Gives from placed end
+    back : (placed : List PlacedCode) (end : ℕ) → Gives n placed end → Gives from placed end
 
   record Idles (n : ℕ) (left : List Listed) : Type 0 where
     none : given_at free frame_of listed n ≡ None
@@ -144,12 +144,12 @@ module _ (free : ℕ → Bool) (frame_of : ℕ → ℕ) (listed : List Listed) w
     left_is = ap (λ (g : Given). g.next.left) e ∙ at;
   }
 
-  not_begun : (frame : ℕ) (s : Writing) (l : Listed) (ls : List Listed) → frame < l.from → begun_at frame s (l ∷ ls) ≡ record { next = s; code = None }
+  not_begun : (frame : ℕ) (s : Unsent) (l : Listed) (ls : List Listed) → frame < l.from → begun_at frame s (l ∷ ls) ≡ record { next = s; code = None }
   not_begun frame s l ls early =
       let test : nat_le l.from frame ≡ false = grind (arith, nat_tests) in
       ap (λ b. if b then record { next = record { left = ls; cont = continue_code l.packet; codes = rest_codes l.packet l.packet.text; broken = false }; code = Some (start_code l.packet) } else record { next = s; code = None }) test
 
-  begun : (frame : ℕ) (s : Writing) (l : Listed) (ls : List Listed) → l.from ≤ frame
+  begun : (frame : ℕ) (s : Unsent) (l : Listed) (ls : List Listed) → l.from ≤ frame
       → begun_at frame s (l ∷ ls) ≡ record { next = record { left = ls; cont = continue_code l.packet; codes = rest_codes l.packet l.packet.text; broken = false }; code = Some (start_code l.packet) }
   begun frame s l ls due =
       let test : nat_le l.from frame ≡ true = grind (arith, nat_tests) in
@@ -173,7 +173,7 @@ module _ (free : ℕ → Bool) (frame_of : ℕ → ℕ) (listed : List Listed) w
       let more = waits j (suc from) n l ls (omega arith) one.none_under one.left_is (λ m low high. early m (omega (arith, low)) high) in
       record { none_under = more.none_under; left_is = more.left_is; back = λ placed end g. none_given from placed end one.none (more.back placed end g) }
 
-  stands_ends : (from : ℕ) (l : Listed) (ls : List Listed) (placed : List Placed) (end : ℕ) → StandsFrom free frame_of from l placed end
+  stands_ends : (from : ℕ) (l : Listed) (ls : List Listed) (placed : List PlacedCode) (end : ℕ) → StandsFrom free frame_of from l placed end
       → (writing_at free frame_of listed from).codes ≡ [] → (writing_at free frame_of listed from).left ≡ l ∷ ls → Ends from placed end ls
   stands_ends from l ls placed end stands none at =
       let start = stands.start in
@@ -190,7 +190,7 @@ module _ (free : ℕ → Bool) (frame_of : ℕ → ℕ) (listed : List Listed) w
         left_is = more.left_is ∙ ap (λ (g : Given). g.next.left) e;
       }
 
-  placed_append : (n : ℕ) (o : Option Code) (xs ys : List Placed) → placed_in n o (xs ++ ys) ≡ placed_in n o xs ++ ys
+  placed_append : (n : ℕ) (o : Option Code) (xs ys : List PlacedCode) → placed_in n o (xs ++ ys) ≡ placed_in n o xs ++ ys
   placed_append n None xs ys = refl
   placed_append n (Some code) xs ys = refl
 
@@ -206,7 +206,7 @@ module _ (free : ℕ → Bool) (frame_of : ℕ → ℕ) (listed : List Listed) w
       ∙ ap (placed_in from (given_at free frame_of listed from)) (given_append j (suc from) k (j + k) refl ∙ ap (λ m. given_from (given_at free frame_of listed) (suc from) j ++ given_from (given_at free frame_of listed) m k) same)
       ∙ placed_append from (given_at free frame_of listed from) (given_from (given_at free frame_of listed) (suc from) j) (given_from (given_at free frame_of listed) (from + suc j) k)
 
-  gives_append : (from behind end : ℕ) (first rest : List Placed) → Gives from first behind → Gives behind rest end → Gives from (first ++ rest) end
+  gives_append : (from behind end : ℕ) (first rest : List PlacedCode) → Gives from first behind → Gives behind rest end → Gives from (first ++ rest) end
   gives_append from behind end first rest one two =
       let a = one.sums in let b = two.sums in
       record {
@@ -218,7 +218,7 @@ module _ (free : ℕ → Bool) (frame_of : ℕ → ℕ) (listed : List Listed) w
             ∙ ap (λ r. first ++ r) two.list_is;
       }
 
-  all_end : (ls more : List Listed) (from : ℕ) (placed : List Placed) (end : ℕ) → StandFrom free frame_of from ls placed end
+  all_end : (ls more : List Listed) (from : ℕ) (placed : List PlacedCode) (end : ℕ) → StandFrom free frame_of from ls placed end
       → (writing_at free frame_of listed from).codes ≡ [] → (writing_at free frame_of listed from).left ≡ ls ++ more → Ends from placed end more
   all_end [] more from placed end stand none at =
       subst (λ ps. Ends from ps end more) (sym stand.0) (subst (λ e. Ends from [] e more) (sym stand.1)
@@ -286,7 +286,7 @@ module _ (free : ℕ → Bool) (frame_of : ℕ → ℕ) (listed : List Listed) w
   still_waiting n l ls is at = rw (is, at) (omega arith)
 
   record Follows (cont : Code) (at : ℕ) (codes : List Code) (n : ℕ) : Type 0 where
-    placed : List Placed
+    placed : List PlacedCode
     end : ℕ
     follow : Follow free cont at codes placed end
     within : end ≤ n
@@ -334,7 +334,7 @@ module _ (free : ℕ → Bool) (frame_of : ℕ → ℕ) (listed : List Listed) w
       (find_next (n - suc at) (suc at) n (omega (arith, least)))
 
   record StandsIn (from : ℕ) (l : Listed) (n : ℕ) : Type 0 where
-    placed : List Placed
+    placed : List PlacedCode
     end : ℕ
     stands : StandsFrom free frame_of from l placed end
     within : end ≤ n
@@ -365,7 +365,7 @@ module _ (free : ℕ → Bool) (frame_of : ℕ → ℕ) (listed : List Listed) w
       (find_start (n - from) from n l.from (omega (arith, least)))
 
   record StandIn (from : ℕ) (ls : List Listed) (n : ℕ) : Type 0 where
-    placed : List Placed
+    placed : List PlacedCode
     end : ℕ
     stand : StandFrom free frame_of from ls placed end
     within : end ≤ n
@@ -409,7 +409,7 @@ module _ (free : ℕ → Bool) (frame_of : ℕ → ℕ) (listed : List Listed) w
   few_unended [] left = omega arith
   few_unended (c ∷ codes) left = omega arith
 
-  fewer_begun : (frame : ℕ) (s : Writing) (left : List Listed) → s.codes ≡ [] → s.left ≡ left → unended (begun_at frame s left).next.codes (begun_at frame s left).next.left ≤ length left
+  fewer_begun : (frame : ℕ) (s : Unsent) (left : List Listed) → s.codes ≡ [] → s.left ≡ left → unended (begun_at frame s left).next.codes (begun_at frame s left).next.left ≤ length left
   fewer_begun frame s [] none at = rw (none, at) (omega arith)
   fewer_begun frame s (l ∷ left) none at = by_frame (nat_le l.from frame)
     where
@@ -420,13 +420,13 @@ module _ (free : ℕ → Bool) (frame_of : ℕ → ℕ) (listed : List Listed) w
       by_frame true = few_unended (rest_codes l.packet l.packet.text) left
       by_frame false = rw (none, at) (omega arith)
 
-  fewer_on : (b : Bool) (frame : ℕ) (s : Writing) (codes : List Code) → s.codes ≡ codes → unended (sent_on b frame s codes).next.codes (sent_on b frame s codes).next.left ≤ unended codes s.left
+  fewer_on : (b : Bool) (frame : ℕ) (s : Unsent) (codes : List Code) → s.codes ≡ codes → unended (sent_on b frame s codes).next.codes (sent_on b frame s codes).next.left ≤ unended codes s.left
   fewer_on true frame s [] is = fewer_begun frame s s.left is refl
   fewer_on false frame s [] is = fewer_begun frame s s.left is refl
   fewer_on true frame s (c ∷ cs) is = rw is (omega arith)
   fewer_on false frame s (c ∷ cs) is = few_unended cs s.left
 
-  fewer_next : (b : Bool) (frame : ℕ) (s : Writing) → unended (given_in b frame s).next.codes (given_in b frame s).next.left ≤ unended s.codes s.left
+  fewer_next : (b : Bool) (frame : ℕ) (s : Unsent) → unended (given_in b frame s).next.codes (given_in b frame s).next.left ≤ unended s.codes s.left
   fewer_next true frame s = fewer_on s.broken frame s s.codes refl
   fewer_next false frame s = omega arith
 

@@ -4,7 +4,7 @@ use Rattle.std.specs.Prelude.{⊤, if◌then◌else◌, not, ◌==◌, ◌&&◌,
 use Rattle.std.specs.List.{flat_map, list_any}
 use Rattle.line21_codes.specs.declared.codes.Code.{Code}
 use Rattle.line21_codes.specs.declared.codes.Code.TheVariants.{Null, Text, Xds, Control}
-use Rattle.xds_packets.specs.Segments.{Segment, data_bytes, first_mark, is_mark, is_open, is_open_end, opened, segments, since_start, starts, stretch}
+use Rattle.xds_packets.specs.Segments.{Segment, data_bytes, first_mark, is_mark, is_open, is_open_end, opened, segments, since_start, starts_class, stretch}
 
 -- a segment with one pair more behind it
 abbrev pub grown : Code → Segment → Segment
@@ -104,9 +104,9 @@ any_map x test same (s ∷ ss) = ap (λ b. b || list_any test (map (grown x) ss)
 pub since_map : (class : ℕ) (x : Code) (ss : List Segment) → since_start class (map (grown x) ss) ≡ map (grown x) (since_start class ss)
 since_map class x [] = refl
 since_map class x (s ∷ ss) =
-    ap (λ b. if starts class s && not b then grown x s ∷ map (grown x) ss else since_start class (map (grown x) ss)) (any_map x (starts class) (λ t. refl) ss)
-    ∙ ap (λ r. if starts class s && not (list_any (starts class) ss) then grown x s ∷ map (grown x) ss else r) (since_map class x ss)
-    ∙ by_test (starts class s && not (list_any (starts class) ss))
+    ap (λ b. if starts_class class s && not b then grown x s ∷ map (grown x) ss else since_start class (map (grown x) ss)) (any_map x (starts_class class) (λ t. refl) ss)
+    ∙ ap (λ r. if starts_class class s && not (list_any (starts_class class) ss) then grown x s ∷ map (grown x) ss else r) (since_map class x ss)
+    ∙ by_test (starts_class class s && not (list_any (starts_class class) ss))
   where
     by_test : (b : Bool) → (if b then grown x s ∷ map (grown x) ss else map (grown x) (since_start class ss)) ≡ map (grown x) (if b then s ∷ ss else since_start class ss)
     by_test true = refl
@@ -128,24 +128,24 @@ any_more test (s ∷ ss) new = by_test (test s) (any_more test ss new)
     by_test true more = refl
     by_test false more = more
 
-pub since_new : (class : ℕ) (ss : List Segment) (new : Segment) → starts class new ≡ true → since_start class (ss ++ new ∷ []) ≡ new ∷ []
+pub since_new : (class : ℕ) (ss : List Segment) (new : Segment) → starts_class class new ≡ true → since_start class (ss ++ new ∷ []) ≡ new ∷ []
 since_new class [] new is = rw is refl
 since_new class (s ∷ ss) new is =
-    ap (λ b. if starts class s && not b then s ∷ (ss ++ new ∷ []) else since_start class (ss ++ new ∷ [])) (any_more (starts class) ss new)
-    ∙ ap (λ b. if starts class s && not (list_any (starts class) ss || b) then s ∷ (ss ++ new ∷ []) else since_start class (ss ++ new ∷ [])) is
-    ∙ by_tests (starts class s) (list_any (starts class) ss) (since_new class ss new is)
+    ap (λ b. if starts_class class s && not b then s ∷ (ss ++ new ∷ []) else since_start class (ss ++ new ∷ [])) (any_more (starts_class class) ss new)
+    ∙ ap (λ b. if starts_class class s && not (list_any (starts_class class) ss || b) then s ∷ (ss ++ new ∷ []) else since_start class (ss ++ new ∷ [])) is
+    ∙ by_tests (starts_class class s) (list_any (starts_class class) ss) (since_new class ss new is)
   where
     by_tests : (b e : Bool) → since_start class (ss ++ new ∷ []) ≡ new ∷ [] → (if b && not (e || true) then s ∷ (ss ++ new ∷ []) else since_start class (ss ++ new ∷ [])) ≡ new ∷ []
     by_tests true true more = more
     by_tests true false more = more
     by_tests false e more = more
 
-pub since_other : (class : ℕ) (ss : List Segment) (new : Segment) → starts class new ≡ false → since_start class (ss ++ new ∷ []) ≡ glued (since_start class ss) new
+pub since_other : (class : ℕ) (ss : List Segment) (new : Segment) → starts_class class new ≡ false → since_start class (ss ++ new ∷ []) ≡ glued (since_start class ss) new
 since_other class [] new is = rw is refl
 since_other class (s ∷ ss) new is =
-    ap (λ b. if starts class s && not b then s ∷ (ss ++ new ∷ []) else since_start class (ss ++ new ∷ [])) (any_more (starts class) ss new)
-    ∙ ap (λ b. if starts class s && not (list_any (starts class) ss || b) then s ∷ (ss ++ new ∷ []) else since_start class (ss ++ new ∷ [])) is
-    ∙ by_tests (starts class s) (list_any (starts class) ss) (since_other class ss new is)
+    ap (λ b. if starts_class class s && not b then s ∷ (ss ++ new ∷ []) else since_start class (ss ++ new ∷ [])) (any_more (starts_class class) ss new)
+    ∙ ap (λ b. if starts_class class s && not (list_any (starts_class class) ss || b) then s ∷ (ss ++ new ∷ []) else since_start class (ss ++ new ∷ [])) is
+    ∙ by_tests (starts_class class s) (list_any (starts_class class) ss) (since_other class ss new is)
   where
     by_tests : (b e : Bool) → since_start class (ss ++ new ∷ []) ≡ glued (since_start class ss) new → (if b && not (e || false) then s ∷ (ss ++ new ∷ []) else since_start class (ss ++ new ∷ [])) ≡ glued (if b && not e then s ∷ ss else since_start class ss) new
     by_tests true true more = more

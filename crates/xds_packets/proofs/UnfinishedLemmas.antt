@@ -3,7 +3,7 @@ use Rattle.std.proofs.Common.{◌≡◌, ℕ, zero, suc, ◌+◌, ◌≤◌, Lis
 use Rattle.line21_codes.specs.declared.codes.Code.{Code}
 use Rattle.xds_packets.specs.declared.packets.XdsPacket.{XdsPacket}
 use Rattle.xds_packets.specs.Reading.{packets_behind}
-use Rattle.xds_packets.specs.Sending.{Listed, Writing, codes_to, first_of, packets_left, unended, writing_at}
+use Rattle.xds_packets.specs.Sending.{Listed, Unsent, codes_to, first_of, packets_left, unended, writing_at}
 use Rattle.xds_packets.specs.Carried.{ReadsUpTo, UnfinishedIsFirst}
 use Rattle.xds_packets.proofs.SegmentLemmas.{nil_right}
 use Rattle.xds_packets.proofs.CarriedLemmas.{packets_are_carried}
@@ -12,7 +12,7 @@ length_left : (left : List Listed) → length (packets_left left) ≡ length lef
 length_left [] = refl
 length_left (l ∷ left) = ap suc (length_left left)
 
-counted : (under : List XdsPacket) (s : Writing) (left : List Listed) → (under ≡ [] → s.codes ≡ []) → (s.codes ≡ [] → under ≡ []) → length under ≤ 1 → length (under ++ packets_left left) ≡ unended s.codes left
+counted : (under : List XdsPacket) (s : Unsent) (left : List Listed) → (under ≡ [] → s.codes ≡ []) → (s.codes ≡ [] → under ≡ []) → length under ≤ 1 → length (under ++ packets_left left) ≡ unended s.codes left
 counted [] s left none some most = let e = none refl in rw e (length_left left)
 counted (packet ∷ []) s left none some most = by_codes s.codes refl
   where

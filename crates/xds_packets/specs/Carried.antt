@@ -1,3 +1,4 @@
+-- Between crates: the program's answer stands on none of these definitions.
 -- The packets that are sent in free slots beside captions are read again.
 use Rattle.std.specs.Prelude.{◌≡◌, ⊤, ◌≤◌, ℕ, suc, length, take, ◌<◌, Bool, true, false, List, [], ◌++◌, Option, Some, None}
 use Rattle.std.specs.List.{All}
@@ -5,7 +6,7 @@ use Rattle.line21_codes.specs.declared.codes.Code.{Code}
 use Rattle.line21_codes.specs.declared.codes.Code.TheVariants.{Null, Text, Xds, Control}
 use Rattle.xds_packets.specs.declared.packets.XdsPacket.{XdsPacket}
 use Rattle.xds_packets.specs.Reading.{packets_behind}
-use Rattle.xds_packets.specs.PacketCodes.{IsPacket}
+use Rattle.xds_packets.specs.PacketCodes.{IsXdsPacket}
 use Rattle.xds_packets.specs.Sending.{Listed, codes_to, packets_left, unfinished, writing_at}
 
 abbrev pub IsCaption : Code → Type 0
@@ -48,7 +49,7 @@ pub record IsCarried (free : ℕ → Bool) (frame_of : ℕ → ℕ) (others : �
   pub whole : packets_behind [] (codes_to free frame_of others listed n) ++ (under_way ++ packets_left (writing_at free frame_of listed n).left) ≡ packets_left listed
 
 abbrev pub PacketsAreCarried : Type 0
-PacketsAreCarried = (free : ℕ → Bool) (frame_of : ℕ → ℕ) (others : ℕ → Code) (listed : List Listed) → AreBeside others free → All (λ (l : Listed). IsPacket l.packet) listed
+PacketsAreCarried = (free : ℕ → Bool) (frame_of : ℕ → ℕ) (others : ℕ → Code) (listed : List Listed) → AreBeside others free → All (λ (l : Listed). IsXdsPacket l.packet) listed
     → (n : ℕ) → IsCarried free frame_of others listed n
 
 -- all packets were read, or those before this one
@@ -57,5 +58,5 @@ ReadsUpTo all read None = read ≡ all
 ReadsUpTo all read (Some number) = (suc (length read) ≡ number) × ((length read < length all) × (read ≡ take (length read) all))
 
 abbrev pub UnfinishedIsFirst : Type 0
-UnfinishedIsFirst = (free : ℕ → Bool) (frame_of : ℕ → ℕ) (others : ℕ → Code) (listed : List Listed) → AreBeside others free → All (λ (l : Listed). IsPacket l.packet) listed
+UnfinishedIsFirst = (free : ℕ → Bool) (frame_of : ℕ → ℕ) (others : ℕ → Code) (listed : List Listed) → AreBeside others free → All (λ (l : Listed). IsXdsPacket l.packet) listed
     → (n : ℕ) → ReadsUpTo (packets_left listed) (packets_behind [] (codes_to free frame_of others listed n)) (unfinished (length listed) (writing_at free frame_of listed n))

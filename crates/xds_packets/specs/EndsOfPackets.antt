@@ -1,3 +1,4 @@
+-- Between crates: the program's answer stands on none of these definitions.
 -- Where a packet of extended data ends (CTA-608-E, 47 CFR 79.101), in the standard's words: the four conditions under which an end pair ends the
 -- packet of the segment that it closes.
 use Rattle.std.specs.Prelude.{◌≡◌, ◌↔◌, ℕ, ◌+◌, ◌-◌, ◌*◌, ◌%◌, ◌≤◌, true, false, List, ◌∷◌, ◌++◌, length, Option, Some, None}
@@ -5,7 +6,7 @@ use Rattle.std.specs.List.{All, filter, sum}
 use Rattle.line21_codes.specs.declared.codes.Code.{Code}
 use Rattle.line21_codes.specs.declared.codes.Code.TheVariants.{Xds}
 use Rattle.xds_packets.specs.declared.packets.XdsPacket.{XdsPacket}
-use Rattle.xds_packets.specs.Segments.{Segment, is_ended, is_of, open_of, segments, starts, text_of}
+use Rattle.xds_packets.specs.Segments.{Segment, is_ended, is_of_type, open_of, segments, segments_text, starts_class}
 use Rattle.xds_packets.specs.Reading.{ends_at}
 
 -- the segment that is open is of the packet's class and type: an end pair now closes it
@@ -25,13 +26,13 @@ pub record EndsBehind (segments : List Segment) (check : ℕ) (packet : XdsPacke
   pub start : Segment
   pub later : List Segment
   pub segments_are : segments ≡ earlier ++ start ∷ later
-  pub is_start : starts packet.class start ≡ true
-  pub is_last : All (λ segment. starts packet.class segment ≡ false) later
+  pub is_start : starts_class packet.class start ≡ true
+  pub is_last : All (λ segment. starts_class packet.class segment ≡ false) later
   pub kind_is : start.kind ≡ packet.kind
   -- no earlier end pair behind it closed a segment of the class and type
-  pub unended : All (λ segment. is_ended segment ≡ false) (filter (is_of packet.class packet.kind) (start ∷ later))
+  pub unended : All (λ segment. is_ended segment ≡ false) (filter (is_of_type packet.class packet.kind) (start ∷ later))
   -- the segments of the class and type since then have together at most 32 bytes, which are the text
-  pub text_is : packet.text ≡ text_of (filter (is_of packet.class packet.kind) (start ∷ later))
+  pub text_is : packet.text ≡ segments_text (filter (is_of_type packet.class packet.kind) (start ∷ later))
   pub fits : length packet.text ≤ 32
   -- and these sum up with the start pair and the end pair
   pub sums : sum_with packet check % 128 ≡ 0

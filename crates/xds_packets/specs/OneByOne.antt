@@ -1,3 +1,4 @@
+-- Between crates: the program's answer stands on none of these definitions.
 -- The reading, a code at a time: what is kept of the codes so far is the class and type of the open segment, and of each class the packet that
 -- is under way.
 use Rattle.std.specs.Prelude.{◌≡◌, ⊤, ◌≤◌, ℕ, ◌+◌, ◌/◌, ◌%◌, ◌==◌, ◌&&◌, nat_lt, nat_le, if◌then◌else◌, List, [], ◌∷◌, ◌++◌, length, Option, Some, None}
@@ -6,7 +7,7 @@ use Rattle.line21_codes.specs.declared.codes.Code.{Code}
 use Rattle.line21_codes.specs.declared.codes.Code.TheVariants.{Null, Text, Xds, Control}
 use Rattle.xds_packets.specs.declared.packets.XdsPacket.{XdsPacket}
 use Rattle.xds_packets.specs.declared.under_way.UnderWay.{UnderWay}
-use Rattle.xds_packets.specs.Segments.{Segment, data_bytes, is_ended, is_of, open_of, segments, since_start, text_of}
+use Rattle.xds_packets.specs.Segments.{Segment, data_bytes, is_ended, is_of_type, open_of, segments, segments_text, since_start}
 use Rattle.xds_packets.specs.Reading.{checks, ends_at}
 
 -- the class and type of a segment
@@ -92,8 +93,8 @@ label_of (Some segment) = Some (record { class = segment.class; kind = segment.k
 abbrev pub under_way_from : ℕ → List Segment → Option UnderWay
 under_way_from class [] = None
 under_way_from class (segment ∷ segments) =
-    if list_any is_ended (filter (is_of class segment.kind) (segment ∷ segments)) then None
-    else fitted segment.kind (text_of (filter (is_of class segment.kind) (segment ∷ segments)))
+    if list_any is_ended (filter (is_of_type class segment.kind) (segment ∷ segments)) then None
+    else fitted segment.kind (segments_text (filter (is_of_type class segment.kind) (segment ∷ segments)))
 
 -- what is kept behind these codes
 pub record StandsAt (codes : List Code) (state : State) : Type 0 where

@@ -1,3 +1,4 @@
+-- Between crates: the program's answer stands on none of these definitions.
 -- A reader of packets, and the pairs that it has read.
 use Rattle.std.specs.Prelude.{◌≡◌, ℕ, List, None, option_map, map, slice_index_or}
 use Rattle.line21_codes.specs.declared.pairs.Pair.{Pair}

@@ -1,3 +1,4 @@
+-- Believed: the program's answer stands on these definitions.
 -- The packets of extended data in the pairs of field 2 (CTA-608-E, 47 CFR 79.101). A packet of a class and a type ends at an end pair that closes
 -- a segment of these, where the last start pair of the class has the type, no earlier end pair behind it closed such a segment, and the
 -- segments of the class and type since then have at most 32 bytes, which the end pair's second byte sums up.
@@ -8,12 +9,12 @@ use Rattle.line21_codes.specs.declared.codes.Code.TheVariants.{Null, Text, Xds, 
 use Rattle.line21_codes.specs.declared.pairs.Pair.{Pair}
 use Rattle.line21_codes.specs.Reading.{code_of}
 use Rattle.xds_packets.specs.declared.packets.XdsPacket.{XdsPacket}
-use Rattle.xds_packets.specs.Segments.{Segment, is_ended, is_of, open_of, segments, since_start, text_of}
+use Rattle.xds_packets.specs.Segments.{Segment, is_ended, is_of_type, open_of, segments, segments_text, since_start}
 
 -- the segments of a class and a type, of those from a start pair on; none where that pair has another type
 abbrev pub from_start : ℕ → ℕ → List Segment → Option (List Segment)
 from_start class kind [] = None
-from_start class kind (segment ∷ segments) = if segment.kind == kind then Some (filter (is_of class kind) (segment ∷ segments)) else None
+from_start class kind (segment ∷ segments) = if segment.kind == kind then Some (filter (is_of_type class kind) (segment ∷ segments)) else None
 
 -- the segments of a class and a type from the last start pair of the class on
 abbrev pub of_packet : ℕ → ℕ → List Segment → Option (List Segment)
@@ -27,8 +28,8 @@ checks class kind text check = (2 * class + kind + sum text + 0x0E + check) % 12
 abbrev pub judged : ℕ → ℕ → Option (List Segment) → ℕ → Option XdsPacket
 judged class kind None check = None
 judged class kind (Some segments) check =
-    if not (list_any is_ended segments) && (nat_le (length (text_of segments)) 32 && checks class kind (text_of segments) check)
-    then Some (record { class = class; kind = kind; text = text_of segments }) else None
+    if not (list_any is_ended segments) && (nat_le (length (segments_text segments)) 32 && checks class kind (segments_text segments) check)
+    then Some (record { class = class; kind = kind; text = segments_text segments }) else None
 
 abbrev pub closed_by : Option Segment → List Segment → ℕ → Option XdsPacket
 closed_by None segments check = None
@@ -51,5 +52,5 @@ packets_behind before [] = []
 packets_behind before (code ∷ codes) = listed (ends_at before code) ++ packets_behind (before ++ code ∷ []) codes
 
 -- the packets of a list of pairs, in the order of their ends; a pair with bad parity counts as null
-abbrev pub packets_of : List Pair → List XdsPacket
-packets_of pairs = packets_behind [] (map code_of pairs)
+abbrev pub packets_within : List Pair → List XdsPacket
+packets_within pairs = packets_behind [] (map code_of pairs)

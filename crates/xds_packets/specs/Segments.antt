@@ -1,3 +1,4 @@
+-- Believed: the program's answer stands on these definitions.
 -- The segments of extended data in the codes of field 2 (CTA-608-E, 47 CFR 79.101): a start or continue pair, with a first byte 01 to 0E, opens
 -- a segment of its class and its type, which runs to the next control pair or the next pair with a first byte 01 to 0F.
 use Rattle.std.specs.Prelude.{ℕ, ◌+◌, ◌/◌, ◌%◌, ◌==◌, ◌&&◌, nat_lt, nat_le, not, Bool, true, false, if◌then◌else◌, List, [], ◌∷◌, ◌++◌, Option, Some, None}
@@ -53,18 +54,18 @@ segments [] = []
 segments (code ∷ codes) = opened code codes ++ segments codes
 
 -- a start pair of the class opened it
-abbrev pub starts : ℕ → Segment → Bool
-starts class segment = segment.is_start && segment.class == class
+abbrev pub starts_class : ℕ → Segment → Bool
+starts_class class segment = segment.is_start && segment.class == class
 
 -- the segments from the last start pair of a class on
 abbrev pub since_start : ℕ → List Segment → List Segment
 since_start class [] = []
 since_start class (segment ∷ segments) =
-    if starts class segment && not (list_any (starts class) segments) then segment ∷ segments else since_start class segments
+    if starts_class class segment && not (list_any (starts_class class) segments) then segment ∷ segments else since_start class segments
 
 -- it is of this class and this type
-abbrev pub is_of : ℕ → ℕ → Segment → Bool
-is_of class kind segment = segment.class == class && segment.kind == kind
+abbrev pub is_of_type : ℕ → ℕ → Segment → Bool
+is_of_type class kind segment = segment.class == class && segment.kind == kind
 
 -- an end pair: its first byte is 0F
 abbrev pub is_end : Option Code → Bool
@@ -90,5 +91,5 @@ open_of [] = None
 open_of (segment ∷ segments) = if is_open segment then Some segment else open_of segments
 
 -- the bytes of segments, in order
-abbrev pub text_of : List Segment → List ℕ
-text_of segments = flat_map (λ segment. segment.bytes) segments
+abbrev pub segments_text : List Segment → List ℕ
+segments_text segments = flat_map (λ segment. segment.bytes) segments

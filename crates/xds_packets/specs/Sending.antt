@@ -1,3 +1,4 @@
+-- Believed in part: the program's answer stands on some of these definitions.
 -- The slots in which packets are sent, slot by slot: whole packet after whole packet, each pair in the next free slot, and behind a slot that
 -- isn't free the packet's continue pair first.
 use Rattle.std.specs.Prelude.{ℕ, zero, suc, ◌-◌, nat_le, Bool, true, false, if◌then◌else◌, List, [], ◌∷◌, ◌++◌, length, map, Option, Some, None}
@@ -13,7 +14,7 @@ pub record Listed : Type 0 where
 
 -- the packets that haven't begun; of the one that is under way its continue pair and the codes that are left; and whether the slot before
 -- wasn't free
-pub record Writing : Type 0 where
+pub record Unsent : Type 0 where
   pub left : List Listed
   pub cont : Code
   pub codes : List Code
@@ -21,33 +22,33 @@ pub record Writing : Type 0 where
 
 -- what is sent in a slot, and what is left behind it
 pub record Given : Type 0 where
-  pub next : Writing
+  pub next : Unsent
   pub code : Option Code
 
 -- the next packet begins, in a slot of its frame or a later one
-abbrev pub begun_at : ℕ → Writing → List Listed → Given
+abbrev pub begun_at : ℕ → Unsent → List Listed → Given
 begun_at frame s [] = record { next = s; code = None }
 begun_at frame s (listed ∷ left) =
     if nat_le listed.from frame
     then record { next = record { left = left; cont = continue_code listed.packet; codes = rest_codes listed.packet listed.packet.text; broken = false }; code = Some (start_code listed.packet) }
     else record { next = s; code = None }
 
-abbrev pub sent_on : Bool → ℕ → Writing → List Code → Given
+abbrev pub sent_on : Bool → ℕ → Unsent → List Code → Given
 sent_on broken frame s [] = begun_at frame s s.left
 sent_on true frame s (code ∷ codes) = record { next = record s { broken = false }; code = Some s.cont }
 sent_on false frame s (code ∷ codes) = record { next = record s { codes = codes }; code = Some code }
 
 -- what is sent in a slot of a frame, by whether it is free
-abbrev pub given_in : Bool → ℕ → Writing → Given
+abbrev pub given_in : Bool → ℕ → Unsent → Given
 given_in false frame s = record { next = record s { broken = true }; code = None }
 given_in true frame s = sent_on s.broken frame s s.codes
 
 -- nothing was sent
-abbrev pub new_writing : List Listed → Writing
+abbrev pub new_writing : List Listed → Unsent
 new_writing listed = record { left = listed; cont = Null; codes = []; broken = false }
 
 -- what is left behind so many slots
-abbrev pub writing_at : (ℕ → Bool) → (ℕ → ℕ) → List Listed → ℕ → Writing
+abbrev pub writing_at : (ℕ → Bool) → (ℕ → ℕ) → List Listed → ℕ → Unsent
 writing_at free frame_of listed zero = new_writing listed
 writing_at free frame_of listed (suc n) = (given_in (free n) (frame_of n) (writing_at free frame_of listed n)).next
 
@@ -77,5 +78,5 @@ first_of total zero = None
 first_of total (suc count) = Some (total - count)
 
 -- the number, from 1, of the first packet that isn't ended, of so many
-abbrev pub unfinished : ℕ → Writing → Option ℕ
+abbrev pub unfinished : ℕ → Unsent → Option ℕ
 unfinished total s = first_of total (unended s.codes s.left)

@@ -35,7 +35,8 @@ impl XdsReader {
     /// Reads the next pair. Gives the packet that ends there, if one does.
     pub fn pair(&mut self, pair: Pair) -> Option<XdsPacket>
         ensures { (pairs : List Pair) → HasRead pairs self.old
-            → (result ≡ ends_at (map code_of pairs) (code_of pair)) × HasRead (pairs ++ pair ∷ []) self.new }
+            → (result ≡ ends_at (map code_of pairs) (code_of pair))
+            × HasRead (pairs ++ pair ∷ []) self.new }
     {
         match read_pair(pair) {
             Ok(code) => self.code(code),
@@ -70,7 +71,8 @@ impl XdsReader {
     }
 
     fn text(&mut self, first: u8, second: u8)
-        ensures { IsState (gone_on (state_of self.old).label (data_bytes (Text first second)) (state_of self.old)) (state_of self.new) }
+        ensures { IsState (gone_on (state_of self.old).label (data_bytes (Text first second))
+            (state_of self.old)) (state_of self.new) }
     {
         if let Some(segment) = self.segment {
             let so_far = self.under_way[usize::from(segment.class)].take();
@@ -103,7 +105,8 @@ impl XdsReader {
 
     fn end(&mut self, check: u8) -> Option<XdsPacket>
         ensures gives { result ≡ given_end (state_of self.old).label (state_of self.old) check }
-        ensures next { IsState (ended (state_of self.old).label (state_of self.old)) (state_of self.new) }
+        ensures next { IsState (ended (state_of self.old).label (state_of self.old))
+            (state_of self.new) }
     {
         match self.segment.take() {
             Some(segment) => {

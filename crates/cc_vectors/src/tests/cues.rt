@@ -1,9 +1,9 @@
 //! What `cues` puts: the list as it is written.
 
-use crate::tests::{Given, broken, malformed, pairs_of, run_to_end};
 use cc_base::Why;
 use ccsuite_cli::Status;
 use cue_lists::RuleFault;
+use memory_runs::{Given, broken, malformed, pairs_of, run_to_end};
 use std::alloc::Global;
 use std::test::Fail;
 

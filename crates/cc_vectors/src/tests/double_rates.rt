@@ -2,9 +2,9 @@
 //! triplets.
 
 use crate::tests::pairs::{Lines, written_out};
-use crate::tests::{broken, build_of, decode_of, pairs_of, run_to_end};
 use cc_base::Why;
 use ccsuite_cli::Status;
+use memory_runs::{broken, build_of, decode_of, pairs_of, run_to_end};
 use std::test::Fail;
 
 /// The caption HI at 59.94, with these LOAD, SHOW and HIDE.

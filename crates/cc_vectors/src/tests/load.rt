@@ -1,8 +1,8 @@
 //! What `load` puts: the four lines of a list of many captions.
 
-use crate::tests::{Ended, Given, decode_of, run_to_end};
 use ccsuite_cli::Status;
-use std::alloc::Global;
+use memory_runs::{Ended, Given, decode_of, run_to_end};
+use std::alloc::{AllocError, Global};
 use std::test::Fail;
 
 /// Each of the three captions is 60 frames behind its LOAD, and goes 90 frames later. What a pop-on caption shows, it shows at once,
@@ -20,7 +20,7 @@ fn load_of<'a>(words: &'a [&'a str], failing_puts: &'a [u64]) -> Given<'a> {
     }
 }
 
-fn loaded(alloc: Global, count: &str, failing_puts: &[u64]) -> Result<Ended, Fail> {
+fn loaded(alloc: Global, count: &str, failing_puts: &[u64]) -> Result<Ended, AllocError> {
     let words = ["load", count];
     run_to_end(alloc, load_of(&words, failing_puts))
 }

@@ -1,7 +1,8 @@
 //! What `pairs` puts: a line a frame, with the pair of field 1 and that of field 2.
 
-use crate::tests::{Given, HI, pairs_of, run_to_end};
 use ccsuite_cli::Status;
+use memory_runs::lists::{FIVE_LINES, HI};
+use memory_runs::{Given, pairs_of, run_to_end};
 use std::alloc::Global;
 use std::test::Fail;
 
@@ -111,20 +112,7 @@ const EXTENDED_LINES: Lines = &[
     (18, NOTHING),
 ];
 
-/// Five lines that roll up on CC3: each has roll-up captions of 3 rows, carriage return, the preamble of row 15 and its text.
-pub(super) const FIVE_LINES: &str = "ccsuite,1,29.97,70
-roll,CC3,3,0,7,
-run,15,0,white,A1
-roll,CC3,3,10,17,
-run,15,0,white,A2
-roll,CC3,3,20,27,
-run,15,0,white,A3
-roll,CC3,3,30,37,
-run,15,0,white,A4
-roll,CC3,3,40,47,60
-run,15,0,white,A5
-";
-
+/// What is put of five lines that roll up.
 const FIVE_LINES_LINES: Lines = &[
     (2, "8080 1526"),
     (2, "8080 15AD"),

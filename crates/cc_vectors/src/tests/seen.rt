@@ -2,11 +2,11 @@
 
 ghost use Rattle.std.specs.Prelude.{◌≤◌};
 
-use crate::tests::pairs::FIVE_LINES;
-use crate::tests::{Ended, pairs_of, run_to_end};
 use ccsuite_cli::Status;
 use line21_codes::{Cell, Colour, Pair, Style};
 use line21_screen::Field;
+use memory_runs::lists::FIVE_LINES;
+use memory_runs::{Ended, pairs_of, run_to_end};
 use std::alloc::Global;
 use std::num::ParseIntError;
 use std::str;

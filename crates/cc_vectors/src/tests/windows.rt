@@ -1,14 +1,10 @@
 //! What `build` sends of windows, and what `decode` shows of it.
 
-use crate::tests::services::SHOWN;
-use crate::tests::{Given, build_of, decode_of, pairs_of, run_to_end};
 use ccsuite_cli::Status;
+use memory_runs::lists::{HELLO, HELLO_SHOWN, PROGRAMME};
+use memory_runs::{Given, build_of, decode_of, pairs_of, run_to_end};
 use std::alloc::Global;
 use std::test::Fail;
-
-/// A window with a delay of a second, which starts at frame 30.
-const HELLO: &str =
-    "ccsuite,1,29.97,300\nshare,1,31\nwin,1,0,0,60,200,10,0,60,50,1,10,0,1,1\nrun,0,0,plain,HELLO\n";
 
 /// Two windows of one id, the second loaded as the first is hidden.
 const AGAIN: &str =
@@ -17,10 +13,6 @@ const AGAIN: &str =
 /// A window with attributes and colours.
 const COLOURED: &str =
     "ccsuite,2,29.97,200\nshare,1,31\nwin,1,0,0,60,100,0,0,60,50,1,10,0,1,1\nattr,2,0,3,1,0,0,0,3000,3,300\nrun,0,0,plain,HI\ncolour,0330,3000,000\n";
-
-/// Captions of both fields and of a service.
-pub(super) const PROGRAMME: &str =
-    "ccsuite,1,29.97,900\nshare,1,31\npop,CC1,30,90,240\nrun,14,0,white,THE COUNCIL VOTED LATE ON MONDAY\nrun,15,0,white,TO REOPEN THE NORTH BRIDGES.\nwin,1,0,250,300,450,10,7,70,105,2,32,0,1,1\nrun,0,0,plain,ENGINEERS FOUND NO NEW CRACKS\nrun,1,2,plain-i,(applause)\nroll,CC3,2,500,540,\nrun,15,0,white,>> GOOD EVENING\nroll,CC3,2,545,600,800\nrun,15,0,white,AND WELCOME.\n";
 
 /// The bytes of the channel packet that a frame of 29.97 carries: its triplets begin at word 15, the first two of them are
 /// of the fields, so the others begin at byte 42; the first word of a triplet of a channel packet is FF or FE.
@@ -133,7 +125,7 @@ fn windows_are_shown_as_they_are_authored(rt: HostRuntime) -> Result<(), Fail> {
     let rows = [
         (
             HELLO,
-            format!(in alloc; "frame 60\n{SHOWN}frame 200\nS1 0\nframes 300\n")?,
+            format!(in alloc; "frame 60\n{HELLO_SHOWN}frame 200\nS1 0\nframes 300\n")?,
         ),
         (
             COLOURED,

@@ -1,3 +1,4 @@
+-- Believed: the program's answer stands on these definitions.
 -- Delays of window cues: a cue with a DELAY above 0 is shown by a command that is sent earlier, at its delay start.
 use Rattle.std.specs.Prelude.{ℕ, ◌-◌, nat_lt, if◌then◌else◌, List, ◌∷◌, Option, Some, None, unwrap_or}
 use Rattle.std.specs.Option.{option_to_list}

@@ -1,3 +1,4 @@
+-- Between crates: the program's answer stands on none of these definitions.
 -- What is remembered of the cues so far: the number of the last cue on each channel of line 21, of each service, and in each
 -- of a service's eight windows.
 use Rattle.std.specs.Prelude.{◌≡◌, ℕ, zero, suc, ◌+◌, ◌-◌, ◌*◌, ◌<◌, max, Bool, if◌then◌else◌, List, Option, Some, None, slice_get, slice_index_or, slice_set}

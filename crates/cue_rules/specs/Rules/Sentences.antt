@@ -1,3 +1,4 @@
+-- Believed: the program's answer stands on these definitions.
 -- The rules of a cue list as sentences on the cues of each channel and on those of each service, in the order of the
 -- list. Among these, the cue before a cue is its former cue.
 use Rattle.std.specs.Prelude.{◌≡◌, ◌≢◌, ℕ, ◌+◌, ◌*◌, ◌<◌, ◌≤◌, true, false, List, [], ◌∷◌, None, IfSome, IsSome, MatchOption, ⊤}

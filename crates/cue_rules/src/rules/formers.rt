@@ -38,7 +38,8 @@ impl Formers {
     /// The number of the former cue of a cue.
     pub fn number(&self, cue: &Cue) -> Option<u32>
         requires { IsCueFormed cue.now }
-        ensures { (earlier : List Cue) → Remembers self.now earlier → result ≡ former_number cue.now earlier }
+        ensures { (earlier : List Cue) → Remembers self.now earlier
+            → result ≡ former_number cue.now earlier }
     {
         match cue.kind {
             Kind::Pop(channel) | Kind::Paint(channel) | Kind::Roll(channel, _) => {
@@ -80,7 +81,8 @@ impl Formers {
     /// Remembers the cue of this number.
     pub fn pass(&mut self, cue: &Cue, number: u32)
         requires { IsCueFormed cue.now }
-        ensures { (earlier : List Cue) → number ≡ length earlier + 1 → Remembers self.old earlier → Remembers self.new (cue.now ∷ earlier) }
+        ensures { (earlier : List Cue) → number ≡ length earlier + 1 → Remembers self.old earlier
+            → Remembers self.new (cue.now ∷ earlier) }
     {
         match cue.kind {
             Kind::Pop(channel) | Kind::Paint(channel) | Kind::Roll(channel, _) => {

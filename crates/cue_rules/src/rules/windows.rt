@@ -24,7 +24,8 @@ pub fn breaks_window_busy(cue: &Cue, earlier: &[Cue], formers: &Formers) -> Opti
     requires formed { IsCueFormed cue.now }
     requires earlier { All IsCueFormed earlier.now }
     requires formers { Remembers formers.now (reverse earlier.now) }
-    ensures { (list : Listing) → AreFaultless list (reverse earlier.now) → result ≡ first_broken (window_busy cue.now (reverse earlier.now)) }
+    ensures { (list : Listing) → AreFaultless list (reverse earlier.now)
+        → result ≡ first_broken (window_busy cue.now (reverse earlier.now)) }
 {
     let Kind::Win(window) = cue.kind else {
         return None;
@@ -103,7 +104,8 @@ pub fn breaks_delay_covers(
 /// The number of an earlier cue, where the delays of the cue that has it and of this one cross.
 fn crossing(rate: Rate, cue: &Cue, earlier: &[Cue], number: Option<u32>) -> Option<u32>
     requires { ForSome number (λ n. 1 ≤ n) }
-    ensures { result ≡ number_if (delays_cross rate cue.now) number (numbered_cue earlier.now number) }
+    ensures { result ≡ number_if (delays_cross rate cue.now) number
+        (numbered_cue earlier.now number) }
 {
     let other = cue_of(earlier, number)?;
     if delays_cross(rate, cue, other) {
@@ -156,7 +158,8 @@ fn same_start(rate: Rate, cue: &Cue, other: &Cue) -> bool
 
 /// An event frame of the other cue lies strictly between the delay start and the SHOW of a cue.
 fn delay_has(rate: Rate, cue: &Cue, other: &Cue) -> bool
-    ensures { result ≡ delay_has (delay_start rate cue.now) cue.now.show (event_frames rate other.now) }
+    ensures { result ≡ delay_has (delay_start rate cue.now) cue.now.show
+        (event_frames rate other.now) }
 {
     let Some(start) = delay_start(rate, cue) else {
         return false;

@@ -2,10 +2,7 @@ ghost use Rattle.std.specs.Prelude.{◌≡◌, ◌+◌, ◌^◌, ◌<◌, IfSome
 
 use crate::lane::placed_unit::PlacedUnit;
 use line21_author::Event;
-use line21_codes::Pair;
-
-/// The pair of a slot that carries nothing: two null bytes, 00 with odd parity (CTA-608-E).
-pub const NULL_PAIR: Pair = Pair { a: 0x80, b: 0x80 };
+use line21_codes::{NULL_PAIR, Pair};
 
 /// A place in a lane's units and events, from which the pair of each slot is given in turn.
 #[derive(Clone, Copy, Debug, PartialEq, Eq)]
@@ -62,7 +59,8 @@ impl Cursor {
         ensures some { IfSome result
             (λ event. IsNext events.now self.now.next_event event × (event.slot ≡ self.now.slot)) }
         ensures none { IfNone result
-            ((event : Event) → IsNext events.now self.now.next_event event → event.slot ≡ self.now.slot → ⊥) }
+            ((event : Event) → IsNext events.now self.now.next_event event
+            → event.slot ≡ self.now.slot → ⊥) }
     {
         match events.get(self.next_event) {
             Some(event) if event.slot == self.slot => Some(*event),
@@ -75,7 +73,8 @@ impl Cursor {
         ensures some { IfSome result
             (λ placed. IsNext units.now self.now.next_unit placed × (placed.slot ≡ self.now.slot)) }
         ensures none { IfNone result
-            ((placed : PlacedUnit) → IsNext units.now self.now.next_unit placed → placed.slot ≡ self.now.slot → ⊥) }
+            ((placed : PlacedUnit) → IsNext units.now self.now.next_unit placed
+            → placed.slot ≡ self.now.slot → ⊥) }
     {
         match units.get(self.next_unit) {
             Some(placed) if placed.slot == self.slot => Some(*placed),

@@ -1,6 +1,6 @@
 ghost use Rattle.std.specs.Prelude.{◌≡◌, ℕ, ◌+◌, ◌^◌, ◌<◌, ◌≤◌, IfSome, IfNone};
 ghost use Rattle.line21_author.specs.EventOrder.{AreApart};
-ghost use Rattle.frame_scheduler.specs.FieldLane.{IsAllowed, slots_of};
+ghost use Rattle.frame_scheduler.specs.FieldLane.{IsAllowedInField, slots_of};
 ghost use Rattle.placements.specs.FirstFit.{IsFirst};
 
 use crate::lane::piece::Piece;
@@ -30,11 +30,13 @@ impl Front {
         requires small { self.old.end < 2 ^ 32 }
         requires apart { AreApart events.now }
         requires front { IsFrontOfEvents events.now self.old }
-        ensures first { IfSome result (IsFirst (IsAllowed events.now self.old.end piece)) }
-        ensures end { IfSome result (λ slot. (self.new.end ≡ slot + slots_of piece) × (self.new.end < 2 ^ 32)) }
+        ensures first { IfSome result (IsFirst (IsAllowedInField events.now self.old.end piece)) }
+        ensures end { IfSome result
+            (λ slot. (self.new.end ≡ slot + slots_of piece) × (self.new.end < 2 ^ 32)) }
         ensures front { IfSome result (λ _. IsFrontOfEvents events.now self.new) }
         ensures onward { self.old.passed ≤ self.new.passed }
-        ensures none { IfNone result ((slot : ℕ) → IsAllowed events.now self.old.end piece slot → ⊥) }
+        ensures none { IfNone result
+            ((slot : ℕ) → IsAllowedInField events.now self.old.end piece slot → ⊥) }
     {
         let slots = piece.unit.slots();
         self.end = self.end.max(u64::from(piece.load));

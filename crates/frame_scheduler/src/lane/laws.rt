@@ -40,7 +40,8 @@ pub fn law_of_slots_and_frames()
 pub fn law_of_doubling()
     ensures { (events : List Event) (pieces : List Piece) (fs : List ℕ) (n : ℕ)
         → AreApart events → AreDoubledControls events pieces → AreEnded events pieces n
-        → IsPlaced (lane events) [] pieces fs → IsDoubled (column (lane_timeline events pieces fs) n) }
+        → IsPlaced (lane events) [] pieces fs
+        → IsDoubled (column (lane_timeline events pieces fs) n) }
 {}
 
 /// One cue alone, whose events are at its SHOW or later, has no room exactly where its units take

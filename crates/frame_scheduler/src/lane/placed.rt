@@ -117,7 +117,8 @@ impl PlacedLane {
     /// The pair of the next slot, in order from slot 0.
     pub fn next(&mut self) -> Pair
         requires { self.old.slot + 1 < 2 ^ 32 }
-        ensures pair { result ≡ slot (placed_timeline self.old.events self.old.units) self.old.slot }
+        ensures pair { result ≡ slot
+            (placed_timeline self.old.events self.old.units) self.old.slot }
         ensures moves { self.new ≡ record self.old { slot = self.old.slot + 1 } }
     {
         self.cursor.step(&self.units, &self.events)

@@ -19,3 +19,6 @@ returns-in-GridDiffers-clause-bytes g c = rw c.in-GridDiffers.is c.put_grid.ensu
 
 pub returns-in-TwoPairs-clause-bytes : goal.returns-in-TwoPairs-clause-bytes
 returns-in-TwoPairs-clause-bytes g c = rw c.in-TwoPairs.is c.put_seen-in-TwoPairs.ensures.bytes
+
+pub returns-in-EightBits-clause-bytes : goal.returns-in-EightBits-clause-bytes
+returns-in-EightBits-clause-bytes g c = rw c.in-EightBits.is c.put_plain.ensures.bytes

@@ -22,6 +22,9 @@ returns-in-XdsShow-clause-answer g c = rw c.in-XdsShow.is (refl, c.run_xds_show.
 pub returns-in-Conceal-clause-answer : goal.returns-in-Conceal-clause-answer
 returns-in-Conceal-clause-answer g c = rw c.in-Conceal.is (refl, c.run_conceal.ensures)
 
+pub returns-in-Convert-clause-answer : goal.returns-in-Convert-clause-answer
+returns-in-Convert-clause-answer g c = rw c.in-Convert.is (refl, c.run_convert.ensures)
+
 pub returns-in-Show-clause-answer : goal.returns-in-Show-clause-answer
 returns-in-Show-clause-answer g c = rw c.in-Show.is (refl, c.run_show.ensures)
 
@@ -49,8 +52,23 @@ returns-in-Dual-clause-answer g c = rw c.in-Dual.is c.run_dual.ensures
 pub returns-in-Dual-clause-side : goal.returns-in-Dual-clause-side
 returns-in-Dual-clause-side g c = rw c.in-Dual.is (λ none. cc)
 
+pub returns-in-Xds-clause-answer : goal.returns-in-Xds-clause-answer
+returns-in-Xds-clause-answer g c = rw c.in-Xds.is c.run_xds.ensures
+
+pub returns-in-Xds-clause-side : goal.returns-in-Xds-clause-side
+returns-in-Xds-clause-side g c = rw c.in-Xds.is (λ none. cc)
+
 pub run_load-requires : goal.run_load-requires
 run_load-requires g c = let within = rw c.in-Load.is at c.requires in record { some = within.0; most = within.1 }
 
 pub returns-in-Load-clause-answer : goal.returns-in-Load-clause-answer
 returns-in-Load-clause-answer g c = rw c.in-Load.is (refl, c.run_load.ensures _ _)
+
+pub returns-in-ImportMcc-clause-answer : goal.returns-in-ImportMcc-clause-answer
+returns-in-ImportMcc-clause-answer g c = rw c.in-ImportMcc.is (refl, c.run_import_mcc.ensures)
+
+pub run_export_mcc-requires : goal.run_export_mcc-requires
+run_export_mcc-requires g c = rw c.in-ExportMcc.is at c.requires
+
+pub returns-in-ExportMcc-clause-answer : goal.returns-in-ExportMcc-clause-answer
+returns-in-ExportMcc-clause-answer g c = rw c.in-ExportMcc.is (refl, c.run_export_mcc.ensures)

@@ -1,7 +1,7 @@
 use Rattle.std.proofs.Common.{arith, sym, subst}
 use Rattle.std.proofs.lemmas.Grind.{common_steps}
 use Rattle.std.proofs.lemmas.List.Folds.{flat_map-map}
-use Rattle.cc_data.specs.Triplets.{written}
+use Rattle.cc_data.specs.Triplets.{bytes_of_triplet}
 use Rattle.cdp_packets.specs.Sections.{IsSectionList}
 use Rattle.cdp_packets.specs.Written.{cc_data_section}
 use Rattle.cdp_packets.proofs.SectionLemmas.{list-push, cc_data_section-is}
@@ -9,7 +9,7 @@ use Rattle.cdp_packets.proofs.sections.cc_section.Goals as goal
 
 pub returns-clause-section : goal.returns-clause-section
 returns-clause-section c =
-    let joined = flat_map-map (λ bytes. bytes) written c.args.triplets.now in
+    let joined = flat_map-map (λ bytes. bytes) bytes_of_triplet c.args.triplets.now in
     grind (arith, common_steps)
 
 pub returns-clause-list : goal.returns-clause-list

@@ -13,16 +13,16 @@ table_beside-requires-clause-onward c =
 
 pub returns-in-Ok-clause-filled : goal.returns-in-Ok-clause-filled
 returns-in-Ok-clause-filled c =
-    filled_result c.args.count
+    filled_result c.slots_needed-count.result
     (second_slots (event_at c.args.one.now.events.items) (event_at c.args.two.now.events.items) (in_spans c.args.one.now.parts.items (slots_at c.args.places.now)))
     c.in-Ok.uses.items c.args.two.now.parts.items
-    (rw (c.deref.ensures.value, c.deref-2.ensures.value, c.deref-3.ensures.value) at c.in-Ok.ensures).agree c.requires.second.ends c.place_all.result
+    (rw (c.deref.ensures.value, c.deref-2.ensures.value, c.deref-3.ensures.value) at c.in-Ok.ensures).agree c.slots_needed-count.ensures.ends c.place_all.result
     (rw (c.deref-in-Ok.ensures.value, c.deref-in-Ok-2.ensures.value) at c.place_all.ensures.filled)
 
 pub returns-in-Ok-clause-fault : goal.returns-in-Ok-clause-fault
 returns-in-Ok-clause-fault c =
-    fault_result c.args.count
+    fault_result c.slots_needed-count.result
     (second_slots (event_at c.args.one.now.events.items) (event_at c.args.two.now.events.items) (in_spans c.args.one.now.parts.items (slots_at c.args.places.now)))
     c.in-Ok.uses.items c.args.two.now.parts.items
-    (rw (c.deref.ensures.value, c.deref-2.ensures.value, c.deref-3.ensures.value) at c.in-Ok.ensures).agree c.requires.second.ends c.place_all.result
+    (rw (c.deref.ensures.value, c.deref-2.ensures.value, c.deref-3.ensures.value) at c.in-Ok.ensures).agree c.slots_needed-count.ensures.ends c.place_all.result
     (rw (c.deref-in-Ok.ensures.value, c.deref-in-Ok-2.ensures.value) at c.place_all.ensures.fault)

@@ -5,13 +5,13 @@ use Rattle.line21_codes.specs.ControlPairs.{is_control}
 use Rattle.line21_codes.specs.Reading.{code_of}
 use Rattle.line21_codes.specs.Repeats.{is_ignored, number_behind}
 use Rattle.line21_codes.specs.Spellings.{spelling_of}
-use Rattle.line21_codes.specs.Writing.{written}
+use Rattle.line21_codes.specs.Writing.{pair_of_code}
 use Rattle.line21_screen.specs.Meaning.{after}
 use Rattle.line21_lost.specs.Examples.{letter_a}
 use Rattle.line21_lost.proofs.laws.captions_behind_a_loss_are_seen.Goals as goal
 
 pub returns-clause-sent : goal.returns-clause-sent
-unfolding ones spelling_of written
+unfolding ones spelling_of pair_of_code
 returns-clause-sent c = refl
 
 pub returns-clause-cut : goal.returns-clause-cut

@@ -1,6 +1,6 @@
 use Rattle.std.proofs.Common.{◌≡◌, ◌≤◌, ◌++◌, bit_or, length, take, drop, refl, sym, ap, subst, ◌∙◌, arith}
 use Rattle.std.specs.List.{concat}
-use Rattle.cdp_packets.specs.Packets.{Packet}
+use Rattle.cdp_packets.specs.Packets.{Frame}
 use Rattle.cdp_packets.specs.Sections.{AreSections}
 use Rattle.cdp_packets.specs.Written.{cc_data_section, written_packet}
 use Rattle.cdp_packets.proofs.SectionLemmas.{cc_data_section-is}
@@ -9,7 +9,7 @@ use Rattle.packet_inserter.proofs.insertion.insert.Goals as goal
 use Rattle.packet_inserter.proofs.insertion.insert.Goals.{After-deref, After-place}
 
 -- what is made of a packet with these sections
-made_of : (c : After-place) (old : Packet) → AreSections old.sections → concat old.sections ≡ c.args.packet.now.sections.now
+made_of : (c : After-place) (old : Frame) → AreSections old.sections → concat old.sections ≡ c.args.packet.now.sections.now
     → IsMade c.args.triplets.now old c.kept_sections-kept.result.items c.place.result
 made_of c old are joined =
     let spot = c.place.ensures old.sections are joined in
@@ -17,7 +17,7 @@ made_of c old are joined =
     (cc_data_section-is c.args.triplets.now c.requires.few) are spot.1 spot.2 (c.kept_sections-kept.ensures old.sections are joined)
 
 -- the packet that the sections are of, whatever else it says
-abbrev packet_of : (c : After-place) → Packet
+abbrev packet_of : (c : After-place) → Frame
 packet_of c = record { rate = c.args.packet.now.rate; flags = 0; counter = 0; sections = c.requires.list.cut }
 
 made_here : (c : After-place) → IsMade c.args.triplets.now (packet_of c) c.kept_sections-kept.result.items c.place.result

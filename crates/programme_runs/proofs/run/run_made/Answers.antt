@@ -1,7 +1,7 @@
 use Rattle.cc_base.specs.declared.streams.Put.TheVariants as put
 use Rattle.command_base.proofs.WholeInputLemmas.{read_refused}
 use Rattle.programme_runs.specs.Made.{IsMadeOf}
-use Rattle.programme_runs.specs.MakesAnswer.{PutsMade}
+use Rattle.command_base.specs.MakesAnswer.{PutsMade}
 use Rattle.programme_runs.proofs.MadeLemmas.{made_put}
 use Rattle.programme_runs.proofs.run.run_made.Goals as goal
 

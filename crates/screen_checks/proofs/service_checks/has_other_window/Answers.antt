@@ -6,7 +6,7 @@ use Rattle.screen_checks.proofs.service_checks.has_other_window.Goals as goal
 pub returns-then-not-is_used-clause-same : goal.returns-then-not-is_used-clause-same
 returns-then-not-is_used-clause-same c bytes frames had are told id within =
     c.is_used.ensures bytes frames had are c.if-not-is_used.true id
-    ∙ sym (none_past_six c.args.service id c.args.frame c.args.cues.now c.if-service-gt-LAST_AUTHORED.true c.requires.formed)
+    ∙ sym (none_past_six c.args.service id c.args.frame c.args.cues.now c.if-service-gt-LAST_SERVICE.true c.requires.formed)
 
 pub returns-then-differs-clause-other : goal.returns-then-differs-clause-other
 returns-then-differs-clause-other c bytes frames had are told = record {

@@ -2,7 +2,7 @@ use Rattle.std.proofs.Common.{◌≡◌, ◌<◌, ℕ, List}
 use Rattle.authored_grids.specs.AuthoredServiceGrid.{authored_windows}
 use Rattle.cc_receiver.specs.ReceivedServices.{received_windows}
 use Rattle.cc_receiver.specs.Receivers.{HasReceived}
-use Rattle.cdp_packets.specs.Packets.{Packet as Frame}
+use Rattle.cdp_packets.specs.Packets.{Frame}
 use Rattle.words_files.specs.FramesOf.{AreFramesOf}
 use Rattle.services_files.specs.CaptionChannel.{caption_channel}
 use Rattle.screen_checks.proofs.service_checks.has_other_window.Given as goal

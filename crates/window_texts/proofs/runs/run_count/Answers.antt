@@ -3,7 +3,7 @@ use Rattle.std.proofs.lemmas.List.{length-append}
 use Rattle.std.specs.List.{flat_map, range_with_len}
 use Rattle.dtvcc_windows.specs.declared.cells.DCell.{DCell}
 use Rattle.dtvcc_windows.specs.Objects.{state_of}
-use Rattle.dtvcc_windows.specs.Places.{row_cells}
+use Rattle.dtvcc_windows.specs.Places.{window_row}
 use Rattle.dtvcc_windows.specs.Showing.{StandsIn, as_shown}
 use Rattle.cell_runs.specs.Runs.{Run, row_runs}
 use Rattle.cell_runs.specs.Writing.{in_pens}
@@ -23,7 +23,7 @@ loop-row-init c =
 pub loop-row-preserved : goal.loop-row-preserved
 loop-row-preserved c =
     let window = as_shown (state_of c.args.window.now) in
-    let row = at_live c.args.window.now (λ w. c.row.result.now ≡ row_cells w.cells w.definition.cols c.loop-row.row) c.requires c.row.ensures in
+    let row = at_live c.args.window.now (λ w. c.row.result.now ≡ window_row w.cells w.definition.cols c.loop-row.row) c.requires c.row.ensures in
     record {
       counted = ap (λ n. n + c.runs_of_row-count.result) c.loop-row.invariant.counted
           ∙ ap (λ n. length (flat_map (runs_in window) (range_with_len 0 c.loop-row.row)) + n)
@@ -44,5 +44,5 @@ returns c =
 
 pub runs_of_row-count-requires : goal.runs_of_row-count-requires
 runs_of_row-count-requires c =
-    let row = at_live c.args.window.now (λ w. c.row.result.now ≡ row_cells w.cells w.definition.cols c.loop-row.row) c.requires c.row.ensures in
+    let row = at_live c.args.window.now (λ w. c.row.result.now ≡ window_row w.cells w.definition.cols c.loop-row.row) c.requires c.row.ensures in
     short_row (state_of c.args.window.now) c.loop-row.row c.row.result.now row c.args.window.now.cols_to

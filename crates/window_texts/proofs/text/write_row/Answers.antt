@@ -2,7 +2,7 @@ use Rattle.std.proofs.Common.{◌≡◌, ◌++◌, ◌∙◌, None, get_or, leng
 use Rattle.std.proofs.lemmas.List.{append-nil, take_rest}
 use Rattle.std.specs.List.{filter_map, flat_map, range_with_len}
 use Rattle.text_output.proofs.PageLemmas.{written_same}
-use Rattle.window_texts.specs.WindowTexts.{run_line}
+use Rattle.window_texts.specs.WindowTexts.{window_run_line}
 use Rattle.cell_runs.specs.Runs.{begun, left_of, row_runs, run_at}
 use Rattle.cell_runs.specs.Writing.{in_pens}
 use Rattle.cell_runs.proofs.RunLemmas.{left_next, lines_kept, lines_more}
@@ -21,10 +21,10 @@ loop-col-preserved g c =
       written = λ start faults before has.
           elim c.match-begun.branch [
             | in-Some w ↦ rw (w.text-is, w.out-is) (written_same start faults _ _ _
-                (lines_more in_pens run_line c.args.row c.args.cells.now c.loop-col.col before w.in-Some.first (sym starts ∙ w.in-Some.is))
+                (lines_more in_pens window_run_line c.args.row c.args.cells.now c.loop-col.col before w.in-Some.first (sym starts ∙ w.in-Some.is))
                 (rw (take_rest c.args.cells.now c.loop-col.col) at (w.write_run.ensures start faults _ (c.loop-col.invariant.written start faults before has))))
             | in_default w ↦ rw (w.text-is, w.out-is) (written_same start faults _ _ _
-                (lines_kept in_pens run_line c.args.row c.args.cells.now c.loop-col.col before (sym starts ∙ w.in_default.is))
+                (lines_kept in_pens window_run_line c.args.row c.args.cells.now c.loop-col.col before (sym starts ∙ w.in_default.is))
                 (c.loop-col.invariant.written start faults before has))
           ];
     }
@@ -34,5 +34,5 @@ unfolding row_runs
 returns g c start faults before has =
     let all : c.loop-col.col ≡ length c.args.cells.now = omega arith in
     written_same start faults _ _ _
-    (ap (λ n. before ++ flat_map run_line (filter_map (run_at in_pens c.args.row c.args.cells.now) (range_with_len 0 n))) all)
+    (ap (λ n. before ++ flat_map window_run_line (filter_map (run_at in_pens c.args.row c.args.cells.now) (range_with_len 0 n))) all)
     (c.loop-col.invariant.written start faults before has)

@@ -1,7 +1,7 @@
 use Rattle.std.proofs.Common.{◌≡◌}
 use Rattle.std.specs.List.{filter_map, flat_map, range_with_len}
 use Rattle.text_output.specs.Pages.{Writes, page}
-use Rattle.window_texts.specs.WindowTexts.{run_line}
+use Rattle.window_texts.specs.WindowTexts.{window_run_line}
 use Rattle.cell_runs.specs.Runs.{left_of, run_at}
 use Rattle.cell_runs.specs.Writing.{in_pens}
 use Rattle.window_texts.proofs.text.write_row.Given as goal
@@ -11,5 +11,5 @@ abbrev pub invariant-loop-col : goal.invariant-loop-col
 invariant-loop-col g l = record {
   left : l.left ≡ left_of l.cells l.col;
   written : Writes (page l.initial.text (g.O.Sink.written l.initial.out) (g.O.Sink.faults l.initial.out)) (page l.text (g.O.Sink.written l.out) (g.O.Sink.faults l.out))
-      (flat_map run_line (filter_map (run_at in_pens l.row l.cells) (range_with_len 0 l.col)));
+      (flat_map window_run_line (filter_map (run_at in_pens l.row l.cells) (range_with_len 0 l.col)));
 }

@@ -1,12 +1,12 @@
 use Rattle.std.proofs.Common.{[], ◌∷◌, arith, refl}
 use Rattle.cue_rules.specs.Rules.Examples.{window}
-use Rattle.dtvcc_codes.specs.CharacterSpellings.{spelling_of}
+use Rattle.dtvcc_codes.specs.CharacterSpellings.{dtvcc_spelling}
 use Rattle.dtvcc_codes.specs.Reading.{spelled_command, told_size}
-use Rattle.dtvcc_codes.specs.Writing.{written}
+use Rattle.dtvcc_codes.specs.Writing.{bytes_of_command}
 use Rattle.windows_lost.proofs.laws.windows_behind_a_loss_are_seen.Goals as goal
 
 pub returns : goal.returns
-unfolding spelled_command spelling_of told_size written
+unfolding spelled_command dtvcc_spelling told_size bytes_of_command
 returns c = record {
   shown = refl;
   loading = refl;

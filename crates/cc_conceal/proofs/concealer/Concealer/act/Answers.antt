@@ -1,7 +1,7 @@
 use Rattle.std.proofs.Common.{◌≡◌, ◌∙◌, Bool, false, ℕ, ◌≤◌, ◌*◌, Option, ◌∷◌, ◌++◌, [], List, refl, sym, ap, subst, length, length-append, arith}
-use Rattle.cdp_packets.specs.Packets.{Packet as Frame}
+use Rattle.cdp_packets.specs.Packets.{Frame}
 use Rattle.cc_receiver.specs.Receivers.{HasReceived}
-use Rattle.cc_conceal.specs.Concealed.{heard_of, missing_before, number_of}
+use Rattle.cc_conceal.specs.Concealed.{heard_of, missing_before, number_of_last}
 use Rattle.cc_conceal.specs.Concealers.{HasActed, IsBehind, jumps_from, kept_at, next_missing, next_number}
 use Rattle.cc_conceal.proofs.HeardLemmas.{heard_more, lasts_are, missing_next_is, number_next_is, number_small}
 use Rattle.cc_conceal.proofs.TakeLemmas.{kept_suffix, not_apart, suffix_heard}
@@ -26,10 +26,10 @@ returns-clause-acted c = λ bytes earlier last received are had.
     let long = length-append earlier (last ∷ []) in
     let counters = c.take.ensures.counter ∙ c.reset_at.ensures.counter in
     let numbers = c.take.ensures.number ∙ c.reset_at.ensures.number in
-    let number : next_number c.take.new.self.counter c.take.new.self.number c.counter-counter.result ≡ number_of (earlier ++ last ∷ []) =
+    let number : next_number c.take.new.self.counter c.take.new.self.number c.counter-counter.result ≡ number_of_last (earlier ++ last ∷ []) =
     ap (λ (o : Option ℕ). next_number o c.take.new.self.number c.counter-counter.result) counters
     ∙ ap (λ (n : ℕ). next_number c.args.self.now.counter n c.counter-counter.result) (numbers ∙ had.number)
-    ∙ ap (λ (n : ℕ). next_number c.args.self.now.counter (number_of earlier) n) counter_is
+    ∙ ap (λ (n : ℕ). next_number c.args.self.now.counter (number_of_last earlier) n) counter_is
     ∙ sym (number_next_is earlier c.args.self.now.counter last had.counter) in
     let missing : next_missing c.take.new.self.counter c.counter-counter.result ≡ missing_before (earlier ++ last ∷ []) =
     ap (λ (o : Option ℕ). next_missing o c.counter-counter.result) counters

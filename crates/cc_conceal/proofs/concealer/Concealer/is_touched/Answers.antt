@@ -1,5 +1,5 @@
 use Rattle.std.proofs.Common.{◌∙◌, ◌∷◌, ◌++◌, [], List, ap, refl, subst, sym}
-use Rattle.cdp_packets.specs.Packets.{Packet as Frame}
+use Rattle.cdp_packets.specs.Packets.{Frame}
 use Rattle.dtvcc_services.specs.Objects.{served_now, service_behind}
 use Rattle.services_files.specs.CarriedChannel.{file_triplets}
 use Rattle.cc_receiver.specs.ReceivedServices.{received_windows}

@@ -1,5 +1,6 @@
-use Rattle.std.proofs.Common.{arith, rules, ◌≡◌, ◌+◌, ◌-◌, ◌<◌, ◌++◌, List, ℕ, Err, Some, length, take, drop, ap, refl, sym, subst, ◌∙◌}
-use Rattle.std.proofs.lemmas.List.Elements.{All-append, All-drop}
+use Rattle.std.proofs.Common.{arith, rules, ◌≡◌, ◌+◌, ◌-◌, ◌<◌, ◌≤◌, ◌++◌, List, ℕ, Err, Some, length, length-append, take, drop, ap, refl, sym, subst, ◌∙◌}
+use Rattle.std.proofs.lemmas.List.{length-take}
+use Rattle.std.proofs.lemmas.List.Elements.{All-drop}
 use Rattle.cc_base.specs.Syntax.{open_behind}
 use Rattle.anc_words.specs.Ending.{bytes_to_end}
 use Rattle.anc_words.specs.Reading.{anc_syntax}
@@ -12,7 +13,7 @@ use Rattle.cc_receiver.specs.Receiving.{EndsBy}
 use Rattle.cc_receiver.specs.Receivers.{HasReceived}
 use Rattle.cc_receiver.proofs.FeedLemmas.{bytes-cut, bytes_fit, counts_by, piece_few, piece_is, piece_most, up_to, within_piece}
 use Rattle.cc_receiver.proofs.ReceivedLemmas.{kept_is}
-use Rattle.cc_receiver.proofs.RefusedLemmas.{received-refused, refusal-stays}
+use Rattle.cc_receiver.proofs.RefusedLemmas.{offends-still, offends-within, received-refused}
 use Rattle.cc_receiver.proofs.TakenLemmas.{refused_counts}
 use Rattle.cc_receiver.proofs.receiver.Receiver.feed.Goals as goal
 
@@ -20,10 +21,11 @@ pub returns-in-Some-clause-feeds : goal.returns-in-Some-clause-feeds
 returns-in-Some-clause-feeds c = λ before had.
     let some : refusal_of services_say before ≡ Some c.in-Some.refusal = sym (kept_is before c.args.self.now had) ∙ sym c.refusal.ensures ∙ c.in-Some.is in
     let fit = bytes_fit c.args.bytes.now (λ k below. omega (arith, c.type_inv.bytes k)) in
-    let received = received-refused before c.args.bytes.now c.in-Some.refusal c.args.self.now some fit had in record {
+    let received = received-refused before c.args.bytes.now c.in-Some.refusal c.args.self.now some fit had in
+    let own = refused_offence before c.in-Some.refusal had.bytes_are some in record {
       received = received;
-      offence = refused_offence (before ++ c.args.bytes.now) c.in-Some.refusal received.bytes_are
-          (refusal-stays before c.args.bytes.now c.in-Some.refusal some);
+      offence = offends-still before c.args.bytes.now (before ++ c.args.bytes.now) c.in-Some.refusal refl own;
+      first = λ packets n any few is. absurd (omega (arith, any, few, offends-within before c.in-Some.refusal own));
       stays = refl;
     }
 
@@ -99,13 +101,24 @@ returns-in_err-ended-clause-feeds c = λ before had.
     let received = subst (λ (bs : List ℕ). HasReceived bs c.read.new.self) is (c.read.ensures.received behind u.received few) in
     let stays = subst (λ (bs : List ℕ). HasReceived bs c.read.new.self) cut
     (received-refused front back c.in_err-ended.field-0.0 c.read.new.self refused (All-drop (λ b. b < 256) (c.loop-used.used + c.min.result) c.args.bytes.now fit) received) in
-    let whole = ap (refusal_of services_say) (sym cut) ∙ refusal-stays front back c.in_err-ended.field-0.0 refused in
-    let offence = refused_offence (before ++ c.args.bytes.now) c.in_err-ended.field-0.0 (All-append (λ b. b < 256) before c.args.bytes.now had.bytes_are fit) whole in
+    let own = refused_offence front c.in_err-ended.field-0.0 received.bytes_are refused in
+    let offence = offends-still front back (before ++ c.args.bytes.now) c.in_err-ended.field-0.0 cut own in
+    let most = piece_most c.min.result c.bytes_to_end.result (bytes_to_end (open_behind anc_syntax behind)) (length c.args.bytes.now - c.loop-used.used) c.min.ensures
+    (c.bytes_to_end.ensures.least behind (u.received.reached.leads u.none)) in
+    let short : length front ≤ length before + (c.loop-used.used + c.min.result) =
+    omega (arith, length-append before (take (c.loop-used.used + c.min.result) c.args.bytes.now), length-take (c.loop-used.used + c.min.result) c.args.bytes.now) in
     let counts = refused_counts behind _ c.in_err-ended.field-0.0 c.loop-used.self c.read.new.self few (sym (c.in_err-ended.ensures.refusal behind u.received few)) u.received
     (c.read.ensures.received behind u.received few) in
     let same = counts ∙ c.loop-used.invariant.frames in
     let answer : c.from_residual.result ≡ Err c.in_err-ended.field-0.0 = Prim.search rules in
-    subst (Feeds before c.args.bytes.now c.args.self.now c.read.new.self) (sym answer) (record { received = stays; offence = offence; stays = same })
+    subst (Feeds before c.args.bytes.now c.args.self.now c.read.new.self) (sym answer) (record {
+      received = stays;
+      offence = offence;
+      first = λ packets n any few is.
+          within_piece before c.args.bytes.now c.loop-used.used c.min.result (omega (arith, c.min.ensures, c.loop-used.invariant.within)) most u.within packets n any
+          (omega (arith, few, short, offends-within front c.in_err-ended.field-0.0 own)) is;
+      stays = same;
+    })
 
 pub returns-in-Some-whole-clause-feeds : goal.returns-in-Some-whole-clause-feeds
 returns-in-Some-whole-clause-feeds c = λ before had.

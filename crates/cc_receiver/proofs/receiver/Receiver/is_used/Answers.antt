@@ -1,5 +1,5 @@
 use Rattle.std.proofs.Common.{◌∙◌, ap, sym}
-use Rattle.dtvcc_screen.specs.Meaning.{after, start}
+use Rattle.dtvcc_screen.specs.Meaning.{served_after, start}
 use Rattle.dtvcc_screen.specs.Screens.{ScreenState}
 use Rattle.dtvcc_screen.specs.Shown.{grids}
 use Rattle.cc_receiver.proofs.ServedLemmas.{received_events}
@@ -9,4 +9,4 @@ pub returns : goal.returns
 returns c bytes frames had are unused id =
     let served = received_events frames bytes c.args.self.now had are in
     ap (λ (s : ScreenState). grids s id)
-    (ap (λ events. (after start events).core.screen) (sym (served.all c.args.service)) ∙ c.is_used.ensures served.earlier served.last served.leads unused)
+    (ap (λ events. (served_after start events).core.screen) (sym (served.all c.args.service)) ∙ c.is_used.ensures served.earlier served.last served.leads unused)

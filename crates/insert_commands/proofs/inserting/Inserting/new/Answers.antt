@@ -1,9 +1,9 @@
-use Rattle.std.proofs.Common.{[], sym}
+use Rattle.packet_reading.proofs.WayLemmas.{none_read}
 use Rattle.insert_commands.proofs.StepLemmas.{nothing_judged}
 use Rattle.insert_commands.proofs.inserting.Inserting.new.Goals as goal
 
 pub returns-clause-read : goal.returns-clause-read
-returns-clause-read c = record { frames = []; file = []; spelled = sym c.in_ok-new.ensures.none; read = c.in_ok-new.ensures.read }
+returns-clause-read c = none_read c.in_ok-new.field-0 c.in_ok-new.ensures.read c.in_ok-new.ensures.none
 
 pub returns-clause-judged : goal.returns-clause-judged
 returns-clause-judged c list has =

@@ -4,8 +4,9 @@ use Rattle.cc_receiver.proofs.FeedLemmas.{bytes_fit}
 use Rattle.words_files.proofs.FramesOfLemmas.{file_frames}
 use Rattle.services_files.specs.CaptionChannel.{caption_channel}
 use Rattle.text_output.specs.Gathered.{Gathers, held_of}
-use Rattle.insert_commands.specs.OpenPackets.{open_bytes}
-use Rattle.insert_commands.proofs.StepLemmas.{ends_caption, halted, has_frame, judged_caption, judged_foreign, judged_still, may_follow, read_caption, read_foreign, read_still, word_refused, words_unwritten}
+use Rattle.packet_reading.specs.OpenPackets.{open_bytes}
+use Rattle.packet_reading.proofs.WayLemmas.{ends_caption, read_caption, read_foreign, read_still}
+use Rattle.insert_commands.proofs.StepLemmas.{halted, has_frame, judged_caption, judged_foreign, judged_still, may_follow, word_refused, words_unwritten}
 use Rattle.insert_commands.proofs.inserting.InsertingJudge.step.Goals as goal
 
 pub feed-requires : goal.feed-requires
@@ -36,7 +37,7 @@ returns-in-No-clause-used g c =
 
 pub returns-in-No-clause-reads : goal.returns-in-No-clause-reads
 returns-in-No-clause-reads g c before had =
-    read_still before c.args.bytes.now c.args.self.now had c.feed.new.self c.in-Ok.fed (c.in-Ok.ensures had.frames had.file had.read) c.args.self.now.captions c.in-No.is
+    read_still before c.args.bytes.now c.args.self.now.packets had c.feed.new.self c.in-Ok.fed (c.in-Ok.ensures had.frames had.file had.read) c.in-No.is
 
 pub returns-in-Done-clause-judges : goal.returns-in-Done-clause-judges
 returns-in-Done-clause-judges g c list start before had =
@@ -55,8 +56,8 @@ returns-in-Done-clause-used g c =
 
 pub returns-in-Done-clause-reads : goal.returns-in-Done-clause-reads
 returns-in-Done-clause-reads g c before had =
-    read_foreign before c.args.bytes.now c.args.self.now had c.feed.new.self c.in-Ok.fed (c.in-Ok.ensures had.frames had.file had.read) c.begin.new.self
-    c.args.self.now.captions c.in-Foreign.is c.begin.ensures.receiver c.begin.ensures.none
+    read_foreign before c.args.bytes.now c.args.self.now.packets had c.feed.new.self c.in-Ok.fed (c.in-Ok.ensures had.frames had.file had.read) c.begin.new.self
+    c.in-Foreign.is c.begin.ensures.receiver c.begin.ensures.none
 
 pub returns-in-Failed-clause-judges : goal.returns-in-Failed-clause-judges
 returns-in-Failed-clause-judges g c list start before had =
@@ -83,8 +84,8 @@ returns-in-Done-add-clause-used g c =
 
 pub returns-in-Done-add-clause-reads : goal.returns-in-Done-add-clause-reads
 returns-in-Done-add-clause-reads g c before had =
-    read_caption before c.args.bytes.now c.args.self.now had c.feed.new.self c.in-Ok.fed (c.in-Ok.ensures had.frames had.file had.read) c.begin-in-Done-add.new.self
-    c.replace.new.captions c.in-Caption.is c.begin-in-Done-add.ensures.receiver c.begin-in-Done-add.ensures.none
+    read_caption before c.args.bytes.now c.args.self.now.packets had c.feed.new.self c.in-Ok.fed (c.in-Ok.ensures had.frames had.file had.read) c.begin-in-Done-add.new.self
+    c.in-Caption.is c.begin-in-Done-add.ensures.receiver c.begin-in-Done-add.ensures.none
 
 pub returns-in-Failed-add-clause-judges : goal.returns-in-Failed-add-clause-judges
 returns-in-Failed-add-clause-judges g c list start before had =

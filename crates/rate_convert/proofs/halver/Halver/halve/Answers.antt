@@ -2,8 +2,8 @@ use Rattle.std.proofs.Common.{◌≡◌, ◌≤◌, ◌∙◌, ◌++◌, ◌+◌
 use Rattle.cc_receiver.specs.ReceivedServices.{received_windows}
 use Rattle.cc_receiver.proofs.TakenLemmas.{frames_count}
 use Rattle.cdp_packets.specs.PacketTriplets.{packet_triplets}
-use Rattle.cdp_packets.specs.Packets.{Packet as Frame}
-use Rattle.halved_frames.specs.Conversion.{conversion, first_of, half_bytes, second_of}
+use Rattle.cdp_packets.specs.Packets.{Frame}
+use Rattle.halved_frames.specs.Conversion.{conversion, first_half_of, half_bytes, second_half_of}
 use Rattle.rate_convert.specs.ServedFrames.{AreServed}
 use Rattle.rate_convert.proofs.ConversionLemmas.{conversion_more}
 use Rattle.rate_convert.proofs.ConverterLemmas.{last_number}
@@ -23,8 +23,8 @@ returns-in-None c = λ bytes earlier last had are halved.
     let most = c.requires.few in
     let few : length (earlier ++ last ∷ []) ≤ 2147483647 = omega (arith, count, most) in
     let place : c.args.frame ≡ length earlier = last_number bytes earlier last c.args.input.now c.args.frame had are c.requires.number in
-    let one = first_of (length earlier) last in
-    let two = second_of (length earlier) last in
+    let one = first_half_of (length earlier) last in
+    let two = second_half_of (length earlier) last in
     let next = halves_next bytes earlier last c.args.self.now c.of-halves.result.first c.of-halves.result.second are halved full.convertible few h.0 h.1 in
     let served = c.serve-touched.ensures.served (conversion earlier) one two next in
     let output = subst (λ (fs : List Frame). AreServed fs c.serve-touched.new.served) (sym (conversion_more earlier last)) served in
@@ -42,8 +42,8 @@ returns-in-Some c = λ bytes earlier last had are halved.
     let count = frames_count (earlier ++ last ∷ []) bytes c.args.input.now had are in
     let most = c.requires.few in
     let few : length (earlier ++ last ∷ []) ≤ 2147483647 = omega (arith, count, most) in
-    let one = first_of (length earlier) last in
-    let two = second_of (length earlier) last in
+    let one = first_half_of (length earlier) last in
+    let two = second_half_of (length earlier) last in
     let next = halves_next bytes earlier last c.args.self.now c.of-halves.result.first c.of-halves.result.second are halved full.convertible few h.0 h.1 in
     let output = subst (λ (fs : List Frame). AreServed fs c.serve-touched.new.served) (sym (conversion_more earlier last))
     (c.serve-touched.ensures.served (conversion earlier) one two next) in

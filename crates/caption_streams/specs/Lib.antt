@@ -1,0 +1,5 @@
+pub mod Builders
+pub mod Receivings
+pub mod Receptions
+pub mod Sources
+pub mod Verifications

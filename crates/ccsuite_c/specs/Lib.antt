@@ -1,0 +1,10 @@
+pub mod Builders
+pub mod Calls
+pub mod Cells
+pub mod Codes
+pub mod Handles
+pub mod Held
+pub mod Receivers
+pub mod States
+pub mod Told
+pub mod Verifiers

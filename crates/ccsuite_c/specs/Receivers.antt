@@ -1,0 +1,142 @@
+-- Between crates: the program's answer stands on none of these definitions.
+-- Receivers, as C holds them.
+use Rattle.std.specs.Prelude.{◌≡◌, ◌⊎◌, ◌<◌, ◌++◌, ℕ, Bool, true, false, List, [], length, drop, Option, Some, None, Result}
+use Rattle.caption_streams.specs.Receivings.{reception_of, told_screens}
+use Rattle.caption_streams.specs.Receptions.{AnswersFed, HasFed, IsConcealing, IsPlain, frame_total, grids_behind, missing_behind, number_behind, screens_behind}
+use Rattle.caption_streams.specs.declared.fault.FeedFault.{FeedFault}
+use Rattle.caption_streams.specs.declared.receiving.Receiving.{Receiving}
+use Rattle.caption_streams.specs.declared.reception.Reception.{Reception}
+use Rattle.cc_base.specs.Why.{reason_number}
+use Rattle.cc_base.specs.declared.refusal.Refusal.{Refusal}
+use Rattle.cc_receiver.specs.declared.receiver.Fed.{Fed}
+use Rattle.cdp_packets.specs.Packets.{Frame}
+use Rattle.dtvcc_services.specs.Numbers.{IsService}
+use Rattle.dtvcc_windows.specs.Windows.{WindowState}
+use Rattle.grid_print.specs.GridTexts.{all_text, changes_text}
+use Rattle.grid_print.specs.Screens.{LookAlike}
+use Rattle.line21_codes.specs.declared.channels.Chan.{Chan}
+use Rattle.line21_screen.specs.Grid.{empty_grid}
+use Rattle.services_files.specs.CaptionChannel.{caption_channel}
+use Rattle.words_files.specs.Offences.{IsFileUnder, IsMalformed}
+use Rattle.ccsuite_c.specs.Cells.{chan_of, text_cell, window_cell, window_seen}
+use Rattle.ccsuite_c.specs.Codes.{argument_code, memory_code, none_code, refused_code, room_code}
+use Rattle.ccsuite_c.specs.Told.{TellsFed, read_so, refused_so}
+use Rattle.ccsuite_c.specs.declared.cells.TextCell.{TextCell}
+use Rattle.ccsuite_c.specs.declared.cells.WindowCell.{WindowCell}
+use Rattle.ccsuite_c.specs.declared.cells.WindowSeen.{WindowSeen}
+use Rattle.ccsuite_c.specs.declared.receiver.FrameSeen.{FrameSeen}
+use Rattle.ccsuite_c.specs.declared.state.State.{State}
+use Rattle.ccsuite_c.specs.declared.state.State.TheVariants as held
+use Rattle.ccsuite_c.specs.declared.told.FedBytes.{FedBytes}
+
+-- which of both kinds it is
+abbrev pub IsOfKind : Bool → Reception → Type 0
+IsOfKind true reception = IsConcealing reception
+IsOfKind false reception = IsPlain reception
+
+-- it was fed nothing, and nothing was told
+pub record BeginsReceiving (conceals : Bool) (receiving : Receiving) : Type 0 where
+  pub kind : IsOfKind conceals (reception_of receiving)
+  pub fed : HasFed [] (reception_of receiving)
+  pub grids : (told_screens receiving).grids ≡ (λ chan. empty_grid)
+  pub windows : (service id : ℕ) → (told_screens receiving).windows service id ≡ None
+
+-- how opening one ended
+abbrev pub OpenedReceiver : Bool → ℕ → Option State → Type 0
+OpenedReceiver conceals code (Some (held.Receiving receiving)) = (code ≡ 0) × BeginsReceiving conceals receiving
+OpenedReceiver conceals code None = code ≡ memory_code
+OpenedReceiver conceals code _ = ⊥
+
+-- bytes were fed, and C is told what came of them
+pub record ReceivesMore (before bytes : List ℕ) (old new : Receiving) (code : ℕ) (told : FedBytes) : Type 0 where
+  pub answer : Result Fed FeedFault
+  pub feeds : AnswersFed before bytes (reception_of old) (reception_of new) answer
+  pub tells : TellsFed answer code told
+  pub same : told_screens new ≡ told_screens old
+
+abbrev pub ReceivesAnswer : List ℕ → List ℕ → Receiving → ℕ → FedBytes → Option State → Type 0
+ReceivesAnswer before bytes old code told (Some (held.Receiving new)) = ReceivesMore before bytes old new code told
+ReceivesAnswer before bytes old code told _ = ⊥
+
+-- words end behind these bytes: they are a words file, or it is told why they are none
+abbrev pub EndAnswer : List ℕ → ℕ → FedBytes → Type 0
+EndAnswer bytes code told =
+    ((code ≡ 0) × (told ≡ read_so 0 0) × ((frames : List Frame) × IsFileUnder caption_channel frames bytes))
+    ⊎ ((code ≡ refused_code)
+    × ((refusal : Refusal) × IsMalformed caption_channel bytes refusal × (told ≡ refused_so refusal.place (reason_number refusal.why))))
+
+-- the last of frames is told, or there is none
+abbrev pub FrameAnswer : Reception → List Frame → ℕ → FrameSeen → Type 0
+FrameAnswer reception frames code seen =
+    ((code ≡ 0) × (seen ≡ record { number = number_behind reception frames; missing = missing_behind reception frames; frames = frame_total reception }))
+    ⊎ ((code ≡ none_code) × (frame_total reception ≡ 0))
+
+-- no channel has this number, or no cell stands there
+abbrev pub IsNoCell : Option Chan → ℕ → ℕ → Type 0
+IsNoCell None row column = Unit {0}
+IsNoCell (Some chan) row column = (row < 1) ⊎ ((15 < row) ⊎ (31 < column))
+
+-- the displayed cell is told, or there is no such place
+abbrev pub CellAnswer : Reception → List Frame → ℕ → ℕ → ℕ → ℕ → TextCell → Type 0
+CellAnswer reception frames channel row column code cell =
+    ((code ≡ 0) × ((chan : Chan) × (chan_of channel ≡ Some chan) × (cell ≡ text_cell (grids_behind reception frames chan row column))))
+    ⊎ ((code ≡ argument_code) × IsNoCell (chan_of channel) row column)
+
+-- a service may have a window of this id
+pub record HasWindowPlace (service id : ℕ) : Type 0 where
+  pub is : IsService service
+  pub small : id < 8
+
+-- and this window a cell at this place
+pub record HasCellPlace (service id row column : ℕ) : Type 0 where
+  pub window : HasWindowPlace service id
+  pub in_rows : row < 16
+  pub in_columns : column < 64
+
+-- the window is told, or there is none
+abbrev pub WindowAnswer : Option WindowState → ℕ → WindowSeen → Type 0
+WindowAnswer (Some window) code seen = (code ≡ 0) × (seen ≡ window_seen window)
+WindowAnswer None code seen = code ≡ none_code
+
+-- and its cell at a place
+abbrev pub WindowCellAnswer : Option WindowState → ℕ → ℕ → ℕ → WindowCell → Type 0
+WindowCellAnswer (Some window) row column code cell = (code ≡ 0) × (cell ≡ window_cell (window.cells row column))
+WindowCellAnswer None row column code cell = code ≡ none_code
+
+-- a text stands at the front of the output, whose other bytes are as they were, and its length is told
+pub record TextStands (text before after : List ℕ) (count : ℕ) : Type 0 where
+  pub count_is : count ≡ length text
+  pub stands : after ≡ text ++ drop count before
+
+-- the output is as it was
+pub record IsUntouched (before after : List ℕ) (count : ℕ) : Type 0 where
+  pub untouched : after ≡ before
+  pub nothing : count ≡ 0
+
+-- a text is handed out, or there is too little room
+abbrev pub HandsOut : List ℕ → List ℕ → List ℕ → ℕ → ℕ → Type 0
+HandsOut text before after code count =
+    ((code ≡ 0) × TextStands text before after count) ⊎ ((code ≡ room_code) × IsUntouched before after count)
+
+-- the screens behind frames were told, and nothing else changed
+pub record HasTold (frames : List Frame) (old new : Receiving) : Type 0 where
+  pub reception : reception_of new ≡ reception_of old
+  pub told : LookAlike (told_screens new) (screens_behind (reception_of old) frames)
+
+-- what changed since the screens that were told last
+abbrev pub changes_of : Receiving → List Frame → List ℕ
+changes_of receiving frames =
+    changes_text (number_behind (reception_of receiving) frames) (told_screens receiving) (screens_behind (reception_of receiving) frames)
+
+-- it is handed out, or there is too little room, or memory wasn't found
+abbrev pub ChangesAnswer : Receiving → List Frame → List ℕ → List ℕ → ℕ → ℕ → Option State → Type 0
+ChangesAnswer old frames before after code count (Some (held.Receiving new)) =
+    (HasTold frames old new × HandsOut (changes_of old frames) before after code count)
+    ⊎ ((code ≡ memory_code) × (new ≡ old) × IsUntouched before after count)
+ChangesAnswer old frames before after code count _ = ⊥
+
+-- all screens behind frames are handed out, or there is too little room, or memory wasn't found
+abbrev pub ScreensAnswer : Reception → List Frame → List ℕ → List ℕ → ℕ → ℕ → Type 0
+ScreensAnswer reception frames before after code count =
+    HandsOut (all_text (number_behind reception frames) (screens_behind reception frames)) before after code count
+    ⊎ ((code ≡ memory_code) × IsUntouched before after count)

@@ -1,0 +1,37 @@
+-- Between crates: the program's answer stands on none of these definitions.
+-- What C is told of bytes that were fed.
+use Rattle.std.specs.Prelude.{◌≡◌, ℕ, Result, Ok, Err}
+use Rattle.cc_base.specs.Why.{reason_number}
+use Rattle.cc_base.specs.declared.refusal.Refusal.{Refusal}
+use Rattle.cc_receiver.specs.declared.receiver.Ended.{Ended}
+use Rattle.cc_receiver.specs.declared.receiver.Ended.TheVariants as ended
+use Rattle.cc_receiver.specs.declared.receiver.Fed.{Fed}
+use Rattle.caption_streams.specs.declared.fault.FeedFault.{FeedFault}
+use Rattle.caption_streams.specs.declared.fault.FeedFault.TheVariants as fault
+use Rattle.ccsuite_c.specs.Codes.{found_code, full_code, refused_code}
+use Rattle.ccsuite_c.specs.declared.told.FedBytes.{FedBytes}
+
+abbrev pub ended_number : Ended → ℕ
+ended_number ended.No = 0
+ended_number ended.Foreign = 1
+ended_number ended.Caption = 2
+
+-- so many bytes were read, and a packet ended so, or none
+abbrev pub read_so : ℕ → ℕ → FedBytes
+read_so count ending = record { used = count; place = 0; ended = ending; why = 0 }
+
+-- nothing was read, as this word is refused for this reason
+abbrev pub refused_so : ℕ → ℕ → FedBytes
+refused_so byte reason = record { used = 0; place = byte; ended = 0; why = reason }
+
+-- the code that is answered, and what is told beside it
+abbrev pub TellsFed : Result Fed FeedFault → ℕ → FedBytes → Type 0
+TellsFed (Ok fed) code told = (code ≡ 0) × (told ≡ read_so fed.used (ended_number fed.ended))
+TellsFed (Err (fault.Refused refusal)) code told = (code ≡ refused_code) × (told ≡ refused_so refusal.place (reason_number refusal.why))
+TellsFed (Err (fault.Found finding)) code told = (code ≡ found_code) × (told ≡ read_so 0 0)
+TellsFed (Err fault.TooManyFrames) code told = (code ≡ full_code) × (told ≡ read_so 0 0)
+
+-- the same of words that end
+abbrev pub TellsEnd : {A : Type 0} → Result A Refusal → ℕ → FedBytes → Type 0
+TellsEnd (Ok done) code told = (code ≡ 0) × (told ≡ read_so 0 0)
+TellsEnd (Err refusal) code told = (code ≡ refused_code) × (told ≡ refused_so refusal.place (reason_number refusal.why))

@@ -1,0 +1,144 @@
+ghost use Rattle.std.specs.Prelude.{◌≡◌, ◌≤◌, ℕ, None, Some, IfErr, IfOk, length};
+ghost use Rattle.cue_lists.specs.Listing.{Listing};
+ghost use Rattle.frame_scheduler.specs.Planned.{Placement};
+ghost use Rattle.caption_streams.specs.Builders.{Begins, IsBuilding, frames_to_come};
+ghost use Rattle.caption_streams.specs.declared.building.Building.{Building as BuildingOf};
+ghost use Rattle.ccsuite_c.specs.Builders.{NextAnswer, Opening, OverAnswer, Refuses};
+ghost use Rattle.ccsuite_c.specs.Codes.{closed_code};
+ghost use Rattle.ccsuite_c.specs.Handles.{HasNoBuilder, StaysSo, state_in};
+ghost use Rattle.ccsuite_c.specs.States.{IsNoBuilder, WasFed};
+ghost use Rattle.ccsuite_c.specs.declared.state.State.TheVariants as held;
+
+use crate::handle::Handle;
+use crate::state::State;
+use crate::told::{CLOSED, END, ROOM};
+use arrayvec::ArrayVec;
+use caption_streams::Building;
+use command_base::Status;
+use reported_runs::{Report, report_of};
+use std::alloc::Global;
+
+/// The most bytes of a frame's ancillary packet.
+const PACKET_ROOM: usize = 524;
+
+/// Opens a builder of a cue list, at its frame 0; what the handle held before is freed. A list that is refused leaves it closed.
+#[unsafe(no_mangle)]
+pub extern "C" fn ccsuite_builder_open(
+    alloc: Global,
+    list: &[u8],
+    builder: &mut Handle,
+    report: &mut Report,
+) -> u32
+    ensures opening { Opening list.now (state_in builder.new) report.new }
+    ensures status { result ≡ report.new.status }
+{
+    let _ = builder.take(alloc);
+    match open(alloc, list) {
+        Ok(building) => {
+            *builder = Handle::of(building);
+            *report = report_of(Status::Ok, 0);
+        }
+        Err(status) => *report = report_of(status, 0),
+    }
+    report.status
+}
+
+// The builder of a list, at its frame 0.
+fn open(alloc: Global, list: &[u8]) -> Result<Box<State>, Status>
+    ensures begins { IfOk result
+        (λ state. (b : BuildingOf) × (state.value ≡ held.Building b) × Begins list.now b) }
+    ensures fed { IfOk result (λ state. WasFed state.value) }
+    ensures refused { IfErr result (Refuses list.now) }
+{
+    let building = Building::read(alloc, list)?;
+    match Box::new(alloc, State::Building(building)) {
+        Ok(state) => Ok(state),
+        Err(_) => Err(Status::Memory),
+    }
+}
+
+/// Writes the ancillary packet of the next frame to the front of `out`, and the number of its bytes: 0. Where nothing is written: 32 where
+/// there is no open builder, 3 where `out` has room for fewer than 524 bytes, 33 behind the last frame.
+#[unsafe(no_mangle)]
+pub extern "C" fn ccsuite_builder_next(
+    alloc: Global,
+    builder: &mut Handle,
+    out: &mut [u8],
+    written: &mut usize,
+) -> u32
+    ensures next { (b : BuildingOf) (list : Listing) (placed : Placement) (frame : ℕ)
+        → state_in builder.old ≡ Some (held.Building b)
+        → IsBuilding list placed frame b
+        → NextAnswer list placed frame b out.old out.new result written.new (state_in builder.new) }
+    ensures over { (b : BuildingOf) → state_in builder.old ≡ Some (held.Building b)
+        → frames_to_come b ≡ 0
+        → OverAnswer b out.old out.new result written.new (state_in builder.new) }
+    ensures closed { HasNoBuilder (state_in builder.old)
+        → (result ≡ closed_code)
+        × StaysSo out.old out.new written.new (state_in builder.old) (state_in builder.new) }
+{
+    *written = 0;
+    match builder.take(alloc) {
+        None => CLOSED,
+        Some(mut state) => {
+            let code = next(&mut state, out, written);
+            *builder = Handle::of(state);
+            code
+        }
+    }
+}
+
+// Writes the packet of the next frame of a builder to the front of `out`.
+fn next(state: &mut State, out: &mut [u8], written: &mut usize) -> u32
+    requires none { written.old ≡ 0 }
+    requires fed { WasFed state.old }
+    ensures next { (b : BuildingOf) (list : Listing) (placed : Placement) (frame : ℕ)
+        → state.old ≡ held.Building b
+        → IsBuilding list placed frame b
+        → NextAnswer list placed frame b out.old out.new result written.new (Some state.new) }
+    ensures over { (b : BuildingOf) → state.old ≡ held.Building b → frames_to_come b ≡ 0
+        → OverAnswer b out.old out.new result written.new (Some state.new) }
+    ensures closed { IsNoBuilder state.old
+        → (result ≡ closed_code)
+        × StaysSo out.old out.new written.new (Some state.old) (Some state.new) }
+    ensures fed { WasFed state.new }
+{
+    let State::Building(building) = state else {
+        return CLOSED;
+    };
+    if out.len() < PACKET_ROOM {
+        return ROOM;
+    }
+    write_next(building, out, written)
+}
+
+// Writes the packet of the next frame where there is room.
+fn write_next(building: &mut Building, out: &mut [u8], written: &mut usize) -> u32
+    requires room { 524 ≤ length out.old }
+    requires none { written.old ≡ 0 }
+    ensures next { (list : Listing) (placed : Placement) (frame : ℕ)
+        → IsBuilding list placed frame building.old
+        → NextAnswer list placed frame building.old out.old out.new result written.new
+        (Some (held.Building building.new)) }
+    ensures over { frames_to_come building.old ≡ 0
+        → OverAnswer building.old out.old out.new result written.new
+        (Some (held.Building building.new)) }
+{
+    let mut words = ArrayVec::new();
+    let more = building.next(&mut words);
+    if !more {
+        return END;
+    }
+    let count = words.len();
+    out[..count].copy_from_slice(&words);
+    *written = count;
+    0
+}
+
+/// Closes a builder, and frees what it holds; a closed one stays closed.
+#[unsafe(no_mangle)]
+pub extern "C" fn ccsuite_builder_close(alloc: Global, builder: &mut Handle)
+    ensures { state_in builder.new ≡ None }
+{
+    let _ = builder.take(alloc);
+}

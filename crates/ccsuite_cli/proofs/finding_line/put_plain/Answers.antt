@@ -1,0 +1,10 @@
+use Rattle.ccsuite_cli.proofs.finding_line.put_plain.Goals as goal
+
+pub returns-clause-bytes : goal.returns-clause-bytes
+returns-clause-bytes g c =
+    rw (
+      c.as_bytes.ensures.value,
+      c.format.ensures.text,
+      c.as_bytes-2.ensures.value,
+      c.name.ensures,
+    ) at c.put_pieces.ensures.bytes

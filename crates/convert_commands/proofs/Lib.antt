@@ -1,0 +1,3 @@
+pub mod ConvertingLemmas
+pub mod ConvertAnswerLemmas
+pub mod ConvertVerdictLemmas

@@ -1,0 +1,3 @@
+pub mod ConvertAnswer
+pub mod Converting
+pub mod ConvertVerdict

@@ -1,0 +1,4 @@
+pub mod GoodStreamLemmas
+pub mod SoundLaneLemmas
+pub mod DelayLemmas
+pub mod FitLemmas

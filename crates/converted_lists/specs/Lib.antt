@@ -1,0 +1,3 @@
+pub mod FilledStreams
+pub mod SoundLanes
+pub mod ConvertedLists

@@ -1,5 +1,0 @@
-use Rattle.load_rooms.proofs.LoadRoomLemmas.{list_placed}
-use Rattle.load_rooms.proofs.laws.loads_are_placed.Goals as goal
-
-pub returns : goal.returns
-returns c = list_placed

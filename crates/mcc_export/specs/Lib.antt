@@ -1,0 +1,5 @@
+pub mod Placing
+pub mod Exported
+pub mod ExportMcc
+pub mod ExportSteps
+pub mod Verdict

@@ -1,0 +1,341 @@
+use crate::reader::MccReader;
+use arrayvec::ArrayVec;
+use cc_base::Why;
+use std::process::Abort;
+
+// The frames and the numbers of bytes of at most four packets.
+type Packets = ArrayVec<(u32, usize), 4>;
+
+// Adds the packet whose line has ended.
+fn add(reader: &MccReader, packets: &mut Packets) {
+    let _ = packets.try_push((reader.frame(), reader.bytes().len()));
+}
+
+// The packets of a file, or the place and the reason of its first offence.
+fn read(file: &[u8]) -> Result<Packets, (usize, Why)> {
+    let mut reader = MccReader::new();
+    let mut packets = ArrayVec::new();
+    for (at, byte) in file.iter().enumerate() {
+        match reader.take(*byte) {
+            Ok(false) => {}
+            Ok(true) => add(&reader, &mut packets),
+            Err(offence) => {
+                return Err((at.saturating_sub(usize::from(offence.back)), offence.why));
+            }
+        }
+    }
+    match reader.finish() {
+        Ok(false) => {}
+        Ok(true) => add(&reader, &mut packets),
+        Err(why) => return Err((file.len(), why)),
+    }
+    Ok(packets)
+}
+
+// A head of 50 bytes, which says 30 frames a second, with lines behind it.
+fn behind_head(lines: &[u8]) -> ArrayVec<u8, 256> {
+    let mut file = ArrayVec::new();
+    let _ = file.try_extend_from_slice(b"File Format=MacCaption_MCC V1.0\nTime Code Rate=30\n");
+    let _ = file.try_extend_from_slice(lines);
+    file
+}
+
+// The file has these packets.
+fn has(rt: &impl Abort, file: &[u8], packets: &[(u32, usize)]) {
+    match read(file) {
+        Ok(found) => assert_eq!(rt; found.as_slice(), packets),
+        Err(_) => panic!(rt; "the file is refused"),
+    }
+}
+
+// The file's first offence is at this place.
+fn offends(rt: &impl Abort, file: &[u8], place: usize, why: Why) {
+    match read(file) {
+        Ok(_) => panic!(rt; "no offence"),
+        Err(found) => assert_eq!(rt; found, (place, why)),
+    }
+}
+
+#[test]
+fn first_lines_are_read(rt: HostRuntime) {
+    let good: [&[u8]; 6] = [
+        b"File Format=MacCaption_MCC V1.0",
+        b"File Format=MacCaption_MCC V2.0",
+        b"File Format=MacCaption_MCC V1.0  \r\n",
+        b"File Format=MacCaption_MCC V2.0\n \t\n\r\n// what = ever\n",
+        b"File Format=MacCaption_MCC V1.0\n\nUUID=\nTime Code Rate=60DF  \n//",
+        b"File Format=MacCaption_MCC V1.0\nTime Code Rate=24",
+    ];
+    for file in good {
+        has(&rt, file, &[]);
+    }
+    let bad: [(&[u8], usize, Why); 21] = [
+        (b"", 0, Why::Header),
+        (b"File", 4, Why::Header),
+        (b"file Format", 0, Why::Header),
+        (b" File Format", 0, Why::Header),
+        (b"File Format=MacCaption_MCC V3.0", 28, Why::Header),
+        (b"File Format=MacCaption_MCC V1.1", 30, Why::Header),
+        (b"File Format=MacCaption_MCC V2", 29, Why::Header),
+        (b"File Format=MacCaption_MCC V1.0\t", 31, Why::Header),
+        (b"File Format=MacCaption_MCC V1.0 x", 32, Why::Header),
+        (b"File Format=MacCaption_MCC V1.0\r", 32, Why::Header),
+        (b"File Format=MacCaption_MCC V1.0\rx", 32, Why::Header),
+        (b"File Format=MacCaption_MCC V1.0\n\rx", 33, Why::MccSyntax),
+        (b"File Format=MacCaption_MCC V1.0\n0", 32, Why::MccSyntax),
+        (
+            b"File Format=MacCaption_MCC V1.0\n00:00:00:00\t8001Z81",
+            32,
+            Why::MccSyntax,
+        ),
+        (
+            b"File Format=MacCaption_MCC V1.0\nTime Code Rate=30df",
+            49,
+            Why::MccSyntax,
+        ),
+        (
+            b"File Format=MacCaption_MCC V1.0\nTime Code Rate=",
+            47,
+            Why::MccSyntax,
+        ),
+        (
+            b"File Format=MacCaption_MCC V1.0\nTime Code Rate=2\n",
+            48,
+            Why::MccSyntax,
+        ),
+        (
+            b"File Format=MacCaption_MCC V1.0\nTime Code Rate=29",
+            48,
+            Why::MccSyntax,
+        ),
+        (
+            b"File Format=MacCaption_MCC V1.0\nTime Code Rate=24DF",
+            49,
+            Why::MccSyntax,
+        ),
+        (
+            b"File Format=MacCaption_MCC V1.0\nTime Code Rate=60D",
+            50,
+            Why::MccSyntax,
+        ),
+        (
+            b"File Format=MacCaption_MCC V1.0\nTime Code Rate=24 x",
+            50,
+            Why::MccSyntax,
+        ),
+    ];
+    for (file, place, why) in bad {
+        offends(&rt, file, place, why);
+    }
+}
+
+#[test]
+fn packets_are_read(rt: HostRuntime) {
+    let rows: [(&[u8], &[(u32, usize)]); 17] = [
+        (b"", &[]),
+        (b"\n \t \n", &[]),
+        (b"//\n// a = b\n", &[]),
+        (b"Creation Program=x\n", &[]),
+        (
+            b"Time Code Rat=9\nTime Code Rates=9\nTime code rate=9\nA b=",
+            &[],
+        ),
+        (b"00:00:00:00\t8001Z81", &[(0, 4)]),
+        (b"00:00:00:00\t8001Z81\n", &[(0, 4)]),
+        (b"00:00:00:00\t8001Z81\r\n", &[(0, 4)]),
+        (b"00:00:00:00\t8001Z81  \n\n", &[(0, 4)]),
+        (b"00:00:00;05\t80010177f9\n", &[(5, 5)]),
+        (
+            b"00:00:00:00\t80010177F9\n//\n\t\n00:00:00:00\t8001Z81",
+            &[(0, 5), (0, 4)],
+        ),
+        (
+            b"00:00:00:29\t8001Z81\n00:00:01:00\t8001Z81\n",
+            &[(29, 4), (30, 4)],
+        ),
+        (b"23:59:59:29\t8001Z81\n", &[(2_591_999, 4)]),
+        (
+            b"01:00:00:00\tT49S494F43ZZ72F4QROO74ZZBFAB\n",
+            &[(108_000, 77)],
+        ),
+        (b"00:00:00:00\tZZZZ", &[(0, 4)]),
+        (b"00:00:00:00\tFA00020000FC", &[(0, 6)]),
+        (b"UUID=1\n00:01:00:00\t8001Z81\n", &[(1_800, 4)]),
+    ];
+    for (lines, packets) in rows {
+        has(&rt, &behind_head(lines), packets);
+    }
+}
+
+#[test]
+fn lines_offend(rt: HostRuntime) {
+    let rows: [(&[u8], usize, Why); 46] = [
+        (b"/", 51, Why::MccSyntax),
+        (b"/ x", 51, Why::MccSyntax),
+        (b"/\n", 51, Why::MccSyntax),
+        (b"\r", 51, Why::MccSyntax),
+        (b"\rx", 51, Why::MccSyntax),
+        (b"//a\rb", 54, Why::MccSyntax),
+        (b" x", 51, Why::MccSyntax),
+        (b"=", 50, Why::MccSyntax),
+        (b"Abc", 53, Why::MccSyntax),
+        (b"Abc\n", 53, Why::MccSyntax),
+        (b"A1=", 51, Why::MccSyntax),
+        (b"Time Code Rate=25\n", 50, Why::MccSyntax),
+        (b"Time Code Rate=", 50, Why::MccSyntax),
+        (b"Time Code Rate", 64, Why::MccSyntax),
+        (b"0", 51, Why::MccSyntax),
+        (b"00:00:00:00", 61, Why::MccSyntax),
+        (b"00:00:00:00\n", 61, Why::MccSyntax),
+        (b"00-00:00:00\t", 52, Why::MccSyntax),
+        (b"99:9x:00:00\t", 54, Why::MccSyntax),
+        (b"00:00:00.00\t", 58, Why::MccSyntax),
+        (b"00:00:00:0\n", 60, Why::MccSyntax),
+        (b"24:00:00:00\t8001Z81", 50, Why::NoSuchTime),
+        (b"24:00:00:00", 50, Why::NoSuchTime),
+        (b"00:60:00:00x", 50, Why::NoSuchTime),
+        (b"00:00:60:00\t", 50, Why::NoSuchTime),
+        (b"00:00:00:30\t", 50, Why::NoSuchTime),
+        (
+            b"00:00:01:00\t8001Z81\n00:00:00:29\t8001Z81",
+            70,
+            Why::Backwards,
+        ),
+        (b"00:00:00:00 8001Z81", 61, Why::MccSyntax),
+        (b"00:00:00:00.0\t8001Z81", 61, Why::MccSyntax),
+        (b"00:00:00:00\t8001Z81\nUUID=x", 70, Why::MccSyntax),
+        (
+            b"00:00:00:00\t8001Z81\nTime Code Rate=30",
+            70,
+            Why::MccSyntax,
+        ),
+        (b"00:00:00:00\t", 62, Why::MccSyntax),
+        (b"00:00:00:00\t\n", 62, Why::MccSyntax),
+        (b"00:00:00:00\t8", 63, Why::MccSyntax),
+        (b"00:00:00:00\t8G", 63, Why::MccSyntax),
+        (b"00:00:00:00\tT49S4\n", 67, Why::MccSyntax),
+        (b"00:00:00:00\t80010177\n", 70, Why::MccSyntax),
+        (b"00:00:00:00\t80010177F8\n", 70, Why::AncSum),
+        (b"00:00:00:00\t80010177G\n", 70, Why::AncSum),
+        (b"00:00:00:00\t80010178G\n", 70, Why::MccSyntax),
+        (b"00:00:00:00\t80010177F9G\n", 72, Why::MccSyntax),
+        (b"00:00:00:00\t80010177F94\n", 72, Why::MccSyntax),
+        (b"00:00:00:00\t80010177F9\t\n", 72, Why::MccSyntax),
+        (b"00:00:00:00\t80010177F9 x", 73, Why::MccSyntax),
+        (b"00:00:00:00\t80010177F9\rx", 73, Why::MccSyntax),
+        (b"00:00:00:00\t8001Z81\n/", 71, Why::MccSyntax),
+    ];
+    for (lines, place, why) in rows {
+        offends(&rt, &behind_head(lines), place, why);
+    }
+}
+
+#[test]
+fn counts_are_told_apart(rt: HostRuntime) {
+    let good: [(&[u8], u32); 8] = [
+        (
+            b"File Format=MacCaption_MCC V1.0\nTime Code Rate=24\n00:00:01:00\t8001Z81",
+            24,
+        ),
+        (
+            b"File Format=MacCaption_MCC V1.0\nTime Code Rate=25\n00:00:01:00\t8001Z81",
+            25,
+        ),
+        (
+            b"File Format=MacCaption_MCC V1.0\nTime Code Rate=30DF\n00:01:00;02\t8001Z81",
+            1_800,
+        ),
+        (
+            b"File Format=MacCaption_MCC V1.0\nTime Code Rate=50\n00:00:01:49\t8001Z81",
+            99,
+        ),
+        (
+            b"File Format=MacCaption_MCC V1.0\nTime Code Rate=60\n00:01:00:00\t8001Z81",
+            3_600,
+        ),
+        (
+            b"File Format=MacCaption_MCC V2.0\nTime Code Rate=60DF\n00:01:00:04.0\t8001Z81",
+            3_600,
+        ),
+        (
+            b"File Format=MacCaption_MCC V2.0\nTime Code Rate=60DF\n00:10:00:00.1,5\t8001Z81",
+            35_964,
+        ),
+        (
+            b"File Format=MacCaption_MCC V2.0\nTime Code Rate=24\n00:00:00:01.0,12345\t8001Z81",
+            1,
+        ),
+    ];
+    for (file, frame) in good {
+        has(&rt, file, &[(frame, 4)]);
+    }
+    let bad: [(&[u8], usize, Why); 8] = [
+        (
+            b"File Format=MacCaption_MCC V1.0\nTime Code Rate=30DF\n00:01:00;00\t",
+            52,
+            Why::NoSuchTime,
+        ),
+        (
+            b"File Format=MacCaption_MCC V2.0\nTime Code Rate=60DF\n00:01:00:03\t",
+            52,
+            Why::NoSuchTime,
+        ),
+        (
+            b"File Format=MacCaption_MCC V2.0\nTime Code Rate=24\n00:00:00:24\t",
+            50,
+            Why::NoSuchTime,
+        ),
+        (
+            b"File Format=MacCaption_MCC V2.0\nTime Code Rate=24\n00:00:00:01.2",
+            62,
+            Why::MccSyntax,
+        ),
+        (
+            b"File Format=MacCaption_MCC V2.0\nTime Code Rate=24\n00:00:00:01.\t",
+            62,
+            Why::MccSyntax,
+        ),
+        (
+            b"File Format=MacCaption_MCC V2.0\nTime Code Rate=24\n00:00:00:01.0,\t",
+            64,
+            Why::MccSyntax,
+        ),
+        (
+            b"File Format=MacCaption_MCC V2.0\nTime Code Rate=24\n00:00:00:01.0,123456",
+            69,
+            Why::MccSyntax,
+        ),
+        (
+            b"File Format=MacCaption_MCC V2.0\nTime Code Rate=24\n00:00:00:01.0,x",
+            64,
+            Why::MccSyntax,
+        ),
+    ];
+    for (file, place, why) in bad {
+        offends(&rt, file, place, why);
+    }
+}
+
+// A packet is told with the byte that ends its line, and not before.
+#[test]
+fn packets_come_with_their_line_end(rt: HostRuntime) {
+    let mut reader = MccReader::new();
+    let mut told: u8 = 0;
+    for byte in behind_head(b"00:00:00:07\t8001Z81 \r") {
+        match reader.take(byte) {
+            Ok(false) => {}
+            _ => panic!(&rt; "told too early"),
+        }
+    }
+    for byte in b"\n\n00:00:00:08\t80010177F9\n" {
+        match reader.take(*byte) {
+            Ok(false) => {}
+            Ok(true) => told = told.wrapping_add(1),
+            Err(_) => panic!(&rt; "refused"),
+        }
+    }
+    assert_eq!(rt; told, 2);
+    assert_eq!(rt; reader.frame(), 8);
+    let packet: &[u8] = &[0x80, 0x01, 0x01, 0x77, 0xF9];
+    assert_eq!(rt; reader.bytes(), packet);
+}

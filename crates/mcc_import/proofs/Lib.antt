@@ -1,0 +1,13 @@
+pub mod WordsLemmas
+pub mod StateLemmas
+pub mod OffenceLemmas
+pub mod MadeLemmas
+pub mod ReadLemmas
+pub mod TakeLemmas
+pub mod HearLemmas
+pub mod AddLemmas
+pub mod ItemLemmas
+pub mod RunLemmas
+pub mod VerdictLemmas
+pub mod JudgeLemmas
+pub mod StepLemmas

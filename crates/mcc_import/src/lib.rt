@@ -1,0 +1,14 @@
+//! The command `import-mcc`: the words of the packets of an MCC file, with frames without captions where some are missing.
+#![tactic(auto)]
+
+pub use crate::import::run_import_mcc;
+pub use crate::stop::MccStop;
+
+mod adding;
+mod import;
+mod importing;
+mod item_words;
+mod made;
+mod stop;
+#[cfg(test)]
+mod tests;

@@ -1,0 +1,3 @@
+pub mod Imports
+pub mod Verdict
+pub mod Standing

@@ -1,0 +1,5 @@
+pub mod CaptionTests
+pub mod CloseLemmas
+pub mod MakerLemmas
+pub mod MissingLemmas
+pub mod RaiseLemmas

@@ -1,0 +1,6 @@
+pub mod Missing
+pub mod Raised
+pub mod MccWords
+pub mod Makers
+pub mod Calls
+pub mod Close

@@ -1,0 +1,5 @@
+pub mod SoundLemmas
+pub mod MadeLemmas
+pub mod NoPacketsLemmas
+pub mod PacketListLemmas
+pub mod VerdictLemmas

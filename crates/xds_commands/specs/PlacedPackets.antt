@@ -1,0 +1,29 @@
+-- Believed: the program's answer stands on these definitions.
+-- Which cue lists are accepted with packets, and why another one is refused with them.
+use Rattle.std.specs.Prelude.{◌≡◌, ℕ, List}
+use Rattle.command_base.specs.declared.status.Status.{Status}
+use Rattle.command_base.specs.declared.status.Status.TheVariants as status
+use Rattle.cue_list_commands.specs.Accepted.{IsAccepted, IsRefused, SpellGoodList}
+use Rattle.cue_lists.specs.Listing.{Listing}
+use Rattle.frame_scheduler.specs.Planned.{Placement}
+use Rattle.xds_beside_captions.specs.XdsFrames.{HasXdsRoom}
+use Rattle.xds_frames.specs.PlanAnswer.{LacksXdsRoom}
+use Rattle.xds_packets.specs.Sending.{Listed}
+
+-- a placed list, and packets beside its captions
+pub record PlacedPackets : Type 0 where
+  pub list : Listing
+  pub placed : Placement
+  pub listed : List Listed
+
+-- the bytes are accepted as the list of them with these packets, which all have room beside its captions
+pub record IsPlacedWith (listed : List Listed) (bytes : List ℕ) (made : PlacedPackets) : Type 0 where
+  pub accepted : IsAccepted bytes made.list made.placed
+  pub listed_are : made.listed ≡ listed
+  pub room : HasXdsRoom made.list made.placed made.listed
+
+-- the bytes are refused with this status, and with no other: as a list, for want of room for its cues, or as one that keeps the rules and
+-- has a placement, for want of room for packets
+abbrev pub IsXdsRefusal : List Listed → List ℕ → Status → Type 0
+IsXdsRefusal listed bytes (status.NoXdsRoom packet) = SpellGoodList bytes (λ list. LacksXdsRoom list listed packet)
+IsXdsRefusal listed bytes answer = IsRefused bytes answer

@@ -1,0 +1,47 @@
+-- Believed in part: the program's answer stands on some of these definitions.
+-- What is put of a cue list with packets, and what holds of it.
+use Rattle.std.specs.Prelude.{◌≡◌, ℕ, suc, ◌<◌, List, [], take}
+use Rattle.cc_receiver.specs.ReceivedServices.{received_windows}
+use Rattle.cdp_packets.specs.Packets.{Frame}
+use Rattle.cue_list_commands.specs.Output.{build_output, built_packets, list_grids, list_told, list_windows}
+use Rattle.cue_lists.specs.Listing.{Listing}
+use Rattle.frame_scheduler.specs.Planned.{Placement, share_in}
+use Rattle.line21_codes.specs.declared.channels.Chan.{Chan}
+use Rattle.line21_codes.specs.declared.channels.FieldNumber.TheVariants.{Two}
+use Rattle.programmes.specs.Framing.{Framing, packets_of, words_of}
+use Rattle.services_shown.specs.Delays.{AreDelaysSent}
+use Rattle.sound_frames.specs.Shares.{AreSharesKept}
+use Rattle.sound_frames.specs.Showing.{ShowsFrames}
+use Rattle.sound_frames.specs.Sound.{IsSoundFrames}
+use Rattle.words_files.specs.Received.{received_grids, received_pairs}
+use Rattle.xds_beside_captions.specs.XdsFrames.{xds_columns}
+use Rattle.xds_commands.specs.PlacedPackets.{PlacedPackets}
+use Rattle.xds_packets.specs.Reading.{packets_within as packets_in}
+use Rattle.xds_packets.specs.Sending.{packets_left}
+
+-- the frames of a placed list with packets
+abbrev pub xds_framing : PlacedPackets → Framing
+xds_framing made = record { rate = made.list.rate; columns = xds_columns made.list made.placed made.listed; count = made.list.frames }
+
+-- the distribution packets of these
+abbrev pub xds_packets : PlacedPackets → List Frame
+xds_packets made = packets_of (xds_framing made)
+
+-- what holds of the words that `xds` puts: their frames are sound, no service is told more than its share; a receiver that was reset
+-- before the first frame shows the list, and at every frame, settled or not, on each channel and in each service what it shows of the words
+-- that `build` puts of the list; the delay of each window cue is sent; and the packets that are read in the pairs of field 2 are just those of
+-- the list of packets, in their order
+pub record IsSoundXds (made : PlacedPackets) : Type 0 where
+  pub frames : IsSoundFrames made.list.rate made.list.frames (xds_columns made.list made.placed made.listed)
+  pub shares : AreSharesKept made.list.rate (share_in made.list) made.list.frames (xds_packets made)
+  pub shows : ShowsFrames (list_told made.list) (list_grids made.list) (list_windows made.list) made.list.frames (xds_packets made)
+  pub built_grids : (frame : ℕ) → frame < made.list.frames → (chan : Chan)
+      → received_grids (take (suc frame) (xds_packets made)) chan ≡ received_grids (take (suc frame) (built_packets made.list made.placed)) chan
+  pub built_windows : (frame : ℕ) → frame < made.list.frames → (service id : ℕ)
+      → received_windows (take (suc frame) (xds_packets made)) service id ≡ received_windows (take (suc frame) (built_packets made.list made.placed)) service id
+  pub delayed : AreDelaysSent made.list made.placed
+  pub packets : packets_in (received_pairs Two (xds_packets made)) ≡ packets_left made.listed
+
+-- without packets these are the words that `build` puts
+abbrev pub NoPacketsAreBuilt : Type 0
+NoPacketsAreBuilt = (list : Listing) (placed : Placement) → words_of (xds_framing (record { list = list; placed = placed; listed = [] })) ≡ build_output list placed

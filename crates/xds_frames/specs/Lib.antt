@@ -1,0 +1,4 @@
+pub mod ListPackets
+pub mod Loads
+pub mod Packets
+pub mod PlanAnswer

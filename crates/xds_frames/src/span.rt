@@ -1,0 +1,8 @@
+/// The time in which a cue is loaded: from the frame of its LOAD up to that of its SHOW.
+#[derive(Clone, Copy, Debug)]
+pub struct Span {
+    /// The first frame.
+    pub load: u32,
+    /// The frame behind the last one.
+    pub show: u32,
+}

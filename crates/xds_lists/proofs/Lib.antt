@@ -1,0 +1,4 @@
+pub mod FormLemmas
+pub mod PackedLemmas
+pub mod ReadLemmas
+pub mod WriterLemmas
