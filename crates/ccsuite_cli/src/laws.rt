@@ -34,13 +34,13 @@ pub fn file_is_shown()
     ensures { FileIsShown }
 {}
 
-/// The law that both answer an input whose words are malformed with the place and the reason of the first offending word, or of
+/// The law that these four answer an input whose words are malformed with the place and the reason of the first offending word, or of
 /// its end, or Memory.
 pub fn malformed_is_refused()
     ensures { MalformedIsRefused }
 {}
 
-/// The law that both answer an input of more bytes than the limit with the first offending word within the limit, or with the
+/// The law that these four answer an input of more bytes than the limit with the first offending word within the limit, or with the
 /// limit where no word within it offends, or Memory.
 pub fn long_words_are_refused()
     ensures { LongWordsAreRefused }
