@@ -16,7 +16,7 @@
  * ANSWERS
  *   Every call but `_close` returns one of the codes below, and says beside it which can come. Codes 0 to 13 are the exit statuses of the
  *   program. Where a call answers with a report, the report has the numbers of its status, and its line, which the program writes to its
- *   standard error.
+ *   standard error; of CCSUITE_ARGUMENT it is `argument out of range`.
  *
  * MEMORY
  *   The caller owns every buffer, and the library keeps no pointer to one beyond the call. A handle owns what its `_open` took from malloc, and
@@ -94,7 +94,7 @@ typedef struct ccsuite_report {
 /* ---- Whole runs ------------------------------------------------------------------------------------------------------------------------
  * Each reads its input to the end, writes to the front of `out`, fills the report and returns report->status. Where it isn't OK, the bytes
  * that were written before stand in `out` all the same (report->written), as with the program; commands that judge first have written none.
- * ROOM: the front that fits stands in `out`; give more room and call again. */
+ * ROOM: a front of the output stands in `out`; give more room and call again. */
 
 /* A cue list in; out a line for each frame, of its pairs of both fields; or the words of each frame; or the list as it is written.
  * LIMIT, MALFORMED, RULE, NO_ROOM (not of cues), ROOM, MEMORY. */
@@ -132,7 +132,8 @@ uint32_t ccsuite_verify(const uint8_t *words, size_t words_size, const uint8_t *
                         ccsuite_report *report);
 
 /* Words and a cue list in; out the words with the list's captions in place of their own. DIFFERS at the first frame of another rate, LIMIT
- * (packet) where a packet would be too long, SHORT where the list has more frames; MALFORMED, RULE, NO_ROOM, ROOM, MEMORY. */
+ * (packet) where a packet would be too long, SHORT where the list has more frames; other LIMITs, MALFORMED as of verify, RULE, NO_ROOM, ROOM,
+ * MEMORY. */
 uint32_t ccsuite_insert(const uint8_t *words, size_t words_size, const uint8_t *list, size_t list_size, uint8_t *out, size_t room,
                         ccsuite_report *report);
 
@@ -158,7 +159,7 @@ uint32_t ccsuite_export(const uint8_t *words, size_t words_size, const ccsuite_t
 
 /* Words in; out the MCC file of all their packets, whose time codes count so many frames a second: 24, 25, 30, 50 or 60, at 30 and 60 with drop
  * frame too. ARGUMENT where they can't count so, or no frame of the day has the time code; DIFFERS at the first packet whose rate they don't count,
- * or that MCC can't carry; LIMIT (day), MALFORMED, ROOM, MEMORY. */
+ * or that MCC can't carry; LIMIT (bytes, day), MALFORMED, ROOM, MEMORY. */
 uint32_t ccsuite_export_mcc(const uint8_t *words, size_t words_size, uint32_t frames, const ccsuite_time *start, uint8_t *out, size_t room,
                             ccsuite_report *report);
 

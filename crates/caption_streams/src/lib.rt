@@ -15,4 +15,6 @@ mod fault;
 mod receiving;
 mod reception;
 mod slice_source;
+#[cfg(test)]
+mod tests;
 mod verifying;

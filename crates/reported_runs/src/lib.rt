@@ -9,3 +9,5 @@ pub use crate::run::run_in_memory;
 mod line;
 mod report;
 mod run;
+#[cfg(test)]
+mod tests;

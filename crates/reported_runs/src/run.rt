@@ -13,7 +13,7 @@ use std::alloc::Global;
 /// stands at the front of `out`, whose other bytes are as they were.
 ///
 /// What the command answers on its input, its side file and its output holds of these: too little room in `out` is WriteFault, with
-/// the front that fits. Memory is also the answer where there is none for as many bytes as `out` has, and then `out` is as it was.
+/// a front of what it writes. Memory is also the answer where there is none for as many bytes as `out` has, and then `out` is as it was.
 pub fn run_in_memory(
     alloc: Global,
     command: Command,
