@@ -200,6 +200,28 @@ fn insert_into<'a>(
     )
 }
 
+/// `verify` of words against a list.
+fn verify_against<'a>(alloc: Global, list: &'a [u8], words: &'a [u8]) -> Result<Ended, AllocError> {
+    run_to_end(
+        alloc,
+        Given {
+            words: &["verify", "list.csv"],
+            ..insert_of(list, words)
+        },
+    )
+}
+
+/// The words that `build` puts of a list on so many frames; at 29.97 each frame has 160 bytes.
+fn built_frames(alloc: Global, list: &[u8], frames: usize) -> Result<Ended, AllocError> {
+    run_to_end(
+        alloc,
+        Given {
+            room: frames.saturating_mul(160),
+            ..build_of(list)
+        },
+    )
+}
+
 #[test]
 fn the_longest_programmes_are_built_verified_and_left_as_they_are_by_insert(
     rt: HostRuntime,
@@ -207,32 +229,14 @@ fn the_longest_programmes_are_built_verified_and_left_as_they_are_by_insert(
     let alloc = rt.alloc();
     for (cues, frames) in [(1, 1_000_000), (20_000, 800_040)] {
         let list = list_of(alloc, cues, frames)?;
-        // A frame at 29.97 has 160 bytes.
-        let room = frames.saturating_mul(160);
-        let built = run_to_end(
-            alloc,
-            Given {
-                room,
-                ..build_of(list.as_bytes())
-            },
-        )?;
-        assert_eq!(rt; built.status, Status::Ok, "build of {cues} cues");
-        assert_eq!(rt; built.out.bytes().len(), room, "build of {cues} cues");
+        let built = built_frames(alloc, list.as_bytes(), frames)?;
         let words = built.out.bytes();
-        let verified = run_to_end(
-            alloc,
-            Given {
-                words: &["verify", "list.csv"],
-                ..insert_of(list.as_bytes(), words)
-            },
-        )?;
+        assert_eq!(rt; built.status, Status::Ok, "build of {cues} cues");
+        assert_eq!(rt; words.len(), frames.saturating_mul(160));
+        let verified = verify_against(alloc, list.as_bytes(), words)?;
         assert_eq!(rt; verified.status, Status::Ok, "verify of {cues} cues");
-        assert_eq!(rt;
-            verified.out.bytes(),
-            b"ok\n".as_slice(),
-            "verify of {cues} cues"
-        );
-        let inserted = insert_into(alloc, list.as_bytes(), words, room)?;
+        assert_eq!(rt; verified.out.bytes(), b"ok\n".as_slice());
+        let inserted = insert_into(alloc, list.as_bytes(), words, words.len())?;
         assert_eq!(rt; inserted.status, Status::Ok, "insert of {cues} cues");
         let is_same = inserted.out.bytes() == words;
         assert!(rt; is_same, "insert of {cues} cues");
