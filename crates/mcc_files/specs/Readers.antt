@@ -35,6 +35,11 @@ StepsTo due old new (Err offence) = (placed : TimedPackets) → due (state_of ol
 abbrev pub read_bytes : MccReader → List ℕ
 read_bytes reader = (open_of reader.payload).bytes
 
+-- whether a line begins
+abbrev pub is_at_start : Phase → Bool
+is_at_start phase.Start = true
+is_at_start _ = false
+
 -- the packet of the line that ended, or of the open one
 abbrev pub packet_in : MccReader → ℕ × Payload
 packet_in reader = (unwrap_or reader.last 0, payload_in (read_bytes reader))

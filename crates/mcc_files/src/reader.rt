@@ -74,7 +74,7 @@ impl MccReader {
     ghost use Rattle.mcc_files.specs.Phases.{rate_moved, why_in};
     ghost use Rattle.mcc_files.specs.declared.phase.Phase.TheVariants as phase;
     ghost use Rattle.mcc_files.specs.Reading.{awaits_payload, begun, ends, first_read, goes, in_phase, name_read, payload_read, rate_read, taken, time_read, within};
-    ghost use Rattle.mcc_files.specs.Readers.{Finishes, HasRead, StepsTo, TakesByte, TakesOn, back_in, item_in, packet_in, read_bytes, state_of};
+    ghost use Rattle.mcc_files.specs.Readers.{Finishes, HasRead, StepsTo, TakesByte, TakesOn, back_in, is_at_start, item_in, packet_in, read_bytes, state_of};
     ghost use Rattle.mcc_payloads.specs.Readers.{open_of};
 
     /// A reader of no bytes.
@@ -89,6 +89,32 @@ impl MccReader {
             text: ArrayVec::new(),
             payload: PayloadReader::new(),
         }
+    }
+
+    /// A reader that has read the same.
+    pub fn copied(&self) -> MccReader
+        ensures { (before : List ℕ) (placed : TimedPackets) → HasRead before placed self.now
+            → HasRead before placed result }
+    {
+        let mut text = ArrayVec::new();
+        if text.try_extend_from_slice(&self.text).is_err() {
+            unreachable!();
+        }
+        MccReader {
+            phase: self.phase,
+            two: self.two,
+            count: self.count,
+            last: self.last,
+            text,
+            payload: self.payload.copied(),
+        }
+    }
+
+    /// Whether a line begins with the next byte, behind the first line.
+    pub fn is_at_start(&self) -> bool
+        ensures { result ≡ is_at_start self.now.phase }
+    {
+        matches!(self.phase, Phase::Start)
     }
 
     // No line goes on.

@@ -16,19 +16,20 @@ use Rattle.mcc_files.specs.declared.reader.MccReader.{MccReader}
 use Rattle.mcc_files.proofs.RunLemmas.{ok_same}
 use Rattle.mcc_import.specs.Importing.{HasHeard, HasImported}
 use Rattle.mcc_import.specs.Words.{state_words}
+use Rattle.mcc_import.specs.declared.hearing.Hearer.{Hearer}
 use Rattle.mcc_import.specs.declared.importing.Importing.{Importing}
 use Rattle.mcc_import.specs.Importing.{IsMade}
 use Rattle.mcc_import.proofs.OffenceLemmas.{no_word_first}
 use Rattle.mcc_import.proofs.TakeLemmas.{no_lines}
 
 -- a front of words was heard, and the rest is to come
-pub record HeardFront (words rest : List ℕ) (first now : Receiver) : Type 0 where
+pub record HeardFront (words rest : List ℕ) (first now : Hearer) : Type 0 where
   pub front : List ℕ
   pub spelled : words ≡ front ++ rest
-  pub few : frame_count now + length rest < 4294967295
+  pub few : now.heard + length rest < 4294967295
   pub heard : (before : List ℕ) → HasHeard before first → HasHeard (before ++ front) now
 
-pub none_heard : (words : List ℕ) (first : Receiver) → frame_count first + length words < 4294967295 → HeardFront words words first first
+pub none_heard : (words : List ℕ) (first : Hearer) → first.heard + length words < 4294967295 → HeardFront words words first first
 none_heard words first few = record {
   front = [];
   spelled = refl;
@@ -36,41 +37,48 @@ none_heard words first few = record {
   heard = λ before had. subst (λ (w : List ℕ). HasHeard w first) (sym (append-nil before)) had;
 }
 
+-- a hearer of nothing
+pub nothing_heard : (hearer : Hearer) → HasReceived [] hearer.receiver → hearer.heard ≡ 0 → HasHeard [] hearer
+nothing_heard hearer received none =
+    let count = counted_nothing hearer.receiver received in record { received = received; unoffending = nothing_offends; few = omega (arith, count); counted = none }
+
 -- more were heard
-fed_on : (before rest : List ℕ) (old new : Receiver) (fed : Fed) → fed.used ≤ length rest → 0 < fed.used → HasHeard before old → HasFed before rest old new fed
-    → HasHeard (before ++ take fed.used rest) new
-fed_on before rest old new fed within moves had feeds =
-    let one = counts_one (frame_count old) (frame_count new) fed.ended feeds.counts in
+fed_on : (before rest : List ℕ) (old new : Hearer) (fed : Fed) → fed.used ≤ length rest → 0 < fed.used → HasHeard before old → HasFed before rest old.receiver new.receiver fed
+    → new.heard ≡ old.heard + fed.used → HasHeard (before ++ take fed.used rest) new
+fed_on before rest old new fed within moves had feeds count =
+    let one = counts_one (frame_count old.receiver) (frame_count new.receiver) fed.ended feeds.counts in
     let few = had.few in
+    let counted = had.counted in
     let long = length-append before (take fed.used rest) in
     let size = length-take-le fed.used rest within in
-    record { received = feeds.received; unoffending = feeds.unoffending; few = omega (arith, one, few, long, size, moves) }
+    record { received = feeds.received; unoffending = feeds.unoffending; few = omega (arith, one, few, long, size, moves); counted = omega (arith, count, counted, long, size) }
 
 pub moved : (rest : List ℕ) (fed : Fed) → (fed.ended ≡ ended.No → fed.used ≡ length rest) → (fed.ended ≢ ended.No → 0 < fed.used) → 0 < length rest → 0 < fed.used
 moved rest fed all some any = moves_by fed.used (length rest) fed.ended all some any
 
-pub heard_on : (words rest : List ℕ) (first old new : Receiver) (fed : Fed) → HeardFront words rest first old → fed.used ≤ length rest → 0 < fed.used
-    → ((before : List ℕ) → HasReceived before old → HasFed before rest old new fed) → frame_count new ≤ frame_count old + 1 → HeardFront words (drop fed.used rest) first new
-heard_on words rest first old new fed so within moves feeds one =
+pub heard_on : (words rest : List ℕ) (first old new : Hearer) (fed : Fed) → HeardFront words rest first old → fed.used ≤ length rest → 0 < fed.used
+    → ((before : List ℕ) → HasReceived before old.receiver → HasFed before rest old.receiver new.receiver fed) → new.heard ≡ old.heard + fed.used
+    → HeardFront words (drop fed.used rest) first new
+heard_on words rest first old new fed so within moves feeds count =
     let few = so.few in
     let left = length-drop fed.used rest in
     record {
       front = so.front ++ take fed.used rest;
       spelled = so.spelled ∙ (ap (λ r. so.front ++ r) (sym (take-append-drop fed.used rest)) ∙ sym (append_assoc so.front (take fed.used rest) (drop fed.used rest)));
-      few = omega (arith, few, left, one, moves, within);
+      few = omega (arith, few, left, count, within);
       heard = λ before had.
           let here = so.heard before had in
           subst (λ (w : List ℕ). HasHeard w new) (append_assoc before so.front (take fed.used rest))
-          (fed_on (before ++ so.front) rest old new fed within moves here (feeds (before ++ so.front) here.received));
+          (fed_on (before ++ so.front) rest old new fed within moves here (feeds (before ++ so.front) here.received) count);
     }
 
-pub all_heard : (words rest before : List ℕ) (first now : Receiver) → HeardFront words rest first now → length rest ≡ 0 → HasHeard before first → HasHeard (before ++ words) now
+pub all_heard : (words rest before : List ℕ) (first now : Hearer) → HeardFront words rest first now → length rest ≡ 0 → HasHeard before first → HasHeard (before ++ words) now
 all_heard words [] before first now so none had =
     subst (λ (w : List ℕ). HasHeard (before ++ w) now) (sym (so.spelled ∙ append-nil so.front)) (so.heard before had)
 all_heard words (b ∷ rest) before first now so none had = absurd (omega (arith, none))
 
-pub front_refused : (words rest before : List ℕ) (first old new : Receiver) (refusal : Refusal) → HeardFront words rest first old → HasHeard before first
-    → ((bytes : List ℕ) → HasReceived bytes old → HasRefused bytes rest old new refusal) → FirstOffendingWord caption_channel (before ++ words) refusal
+pub front_refused : (words rest before : List ℕ) (first old : Hearer) (new : Receiver) (refusal : Refusal) → HeardFront words rest first old → HasHeard before first
+    → ((bytes : List ℕ) → HasReceived bytes old.receiver → HasRefused bytes rest old.receiver new refusal) → FirstOffendingWord caption_channel (before ++ words) refusal
 front_refused words rest before first old new refusal so had feeds =
     let here = so.heard before had in
     let refused = feeds (before ++ so.front) here.received in
@@ -80,18 +88,15 @@ front_refused words rest before first old new refusal so had feeds =
 fresh_words : (reader : MccReader) → HasRead [] [] reader → [] ≡ state_words (state_of reader [])
 fresh_words reader read = ap (λ (s : State). state_words s) (ok_same at_first (state_of reader []) read)
 
-pub nothing_imported : (importing : Importing) → HasRead [] [] importing.reader → HasReceived [] importing.receiver → IsMade [] [] importing.made → importing.place ≡ 0
+pub nothing_imported : (importing : Importing) → HasRead [] [] importing.reader → HasHeard [] importing.hearer → IsMade [] [] importing.made → importing.place ≡ 0
     → HasImported [] [] importing
-nothing_imported importing read received made place =
-    let count = counted_nothing importing.receiver received in
-    let heard : HasHeard [] importing.receiver = record { received = received; unoffending = nothing_offends; few = omega (arith, count) } in
-    record {
-      placed = [];
-      read = read;
-      lines = no_lines;
-      no_word = no_word_first;
-      heard = subst (λ (w : List ℕ). HasHeard w importing.receiver) (fresh_words importing.reader read) heard;
-      file = record { frames = []; under = nothing_is_file };
-      made = made;
-      place_is = place;
-    }
+nothing_imported importing read heard made place = record {
+  placed = [];
+  read = read;
+  lines = no_lines;
+  no_word = no_word_first;
+  heard = subst (λ (w : List ℕ). HasHeard w importing.hearer) (fresh_words importing.reader read) heard;
+  file = record { frames = []; under = nothing_is_file };
+  made = made;
+  place_is = place;
+}

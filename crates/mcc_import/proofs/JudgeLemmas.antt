@@ -4,8 +4,7 @@ use Rattle.std.proofs.Math.Seq.{take-append_seam}
 use Rattle.std.proofs.lemmas.Bool.{cases_Bool}
 use Rattle.std.specs.List.{concat}
 use Rattle.cc_base.specs.declared.refusal.Refusal.{Refusal}
-use Rattle.cc_receiver.specs.Receivers.{frame_count}
-use Rattle.cc_receiver.specs.declared.receiver.Receiver.{Receiver}
+use Rattle.mcc_import.specs.declared.hearing.Hearer.{Hearer}
 use Rattle.mcc_files.specs.MccFiles.{TimedPackets}
 use Rattle.mcc_files.specs.Readers.{item_in, state_of}
 use Rattle.mcc_files.specs.Reading.{State, at_first, run}
@@ -89,9 +88,9 @@ open_few (b ∷ bytes) not_yet =
     let same = ap length (open_not_yet b bytes not_yet) in
     omega (arith, each, same)
 
-pub state_few : (s : State) (words : List ℕ) (made : Made) (placed : TimedPackets) (receiver : Receiver) (fit : List ℕ) (more : ℕ) → s.placed ≡ placed → IsMade placed words made
-    → HasHeard (state_words s) receiver → ItemFacts s fit → length s.payload.bytes ≤ 259 → more ≤ 524 → frame_count receiver + more < 4294967295
-state_few s words made placed receiver fit more same is heard facts few fits =
+pub state_few : (s : State) (words : List ℕ) (made : Made) (placed : TimedPackets) (hearer : Hearer) (fit : List ℕ) (more : ℕ) → s.placed ≡ placed → IsMade placed words made
+    → HasHeard (state_words s) hearer → ItemFacts s fit → length s.payload.bytes ≤ 259 → more ≤ 524 → hearer.heard + more < 4294967295
+state_few s words made placed hearer fit more same is heard facts few fits =
     let came = came_fewer placed words _ _ is.has in
     let bytes = is.bytes_are in
     let short = made.short in
@@ -100,8 +99,8 @@ state_few s words made placed receiver fit more same is heard facts few fits =
     ap (λ (b : Bool). length (words_as_they_came s.placed ++ open_part b s.payload.bytes)) open_is
     ∙ (ap (λ (p : TimedPackets). length (words_as_they_came p ++ open_words s.payload.bytes)) same ∙ length-append (words_as_they_came placed) (open_words s.payload.bytes)) in
     let open_size = open_few s.payload.bytes facts.not_yet in
-    let frames = heard.few in
-    omega (arith, came, bytes, short, all, open_size, frames, few, fits)
+    let counted = heard.counted in
+    omega (arith, came, bytes, short, all, open_size, counted, few, fits)
 
 -- the words that are put are those of the item
 pub words_put : (s : State) (fit out : List ℕ) (from : ℕ) → is_open s.phase ≡ true → from ≡ length s.payload.bytes
@@ -118,19 +117,19 @@ words_put s fit out from open_is from_is put =
 pub nothing_judged : (bytes words : List ℕ) (byte : ℕ) (importing : Importing) (had : HasImported bytes words importing) → step_item importing.reader byte ≡ []
     → JudgesItem bytes had.placed byte importing importing (Ok tt)
 nothing_judged bytes words byte importing had none =
-    (refl, refl, refl, subst (λ (w : List ℕ). HasHeard w importing.receiver) (sym (none_with (state_of importing.reader had.placed) (step_item importing.reader byte) none)) had.heard)
+    (refl, refl, refl, subst (λ (w : List ℕ). HasHeard w importing.hearer) (sym (none_with (state_of importing.reader had.placed) (step_item importing.reader byte) none)) had.heard)
 
 -- one does, and its words were heard
-pub item_judged : (bytes words out : List ℕ) (byte from : ℕ) (importing : Importing) (receiver : Receiver) (had : HasImported bytes words importing)
+pub item_judged : (bytes words out : List ℕ) (byte from : ℕ) (importing : Importing) (hearer : Hearer) (had : HasImported bytes words importing)
     → (step_item importing.reader byte ≡ [] → ⊥) → from ≡ length (state_of importing.reader had.placed).payload.bytes
     → open_words (take from ((state_of importing.reader had.placed).payload.bytes ++ step_item importing.reader byte)) ++ out
     ≡ open_words ((state_of importing.reader had.placed).payload.bytes ++ step_item importing.reader byte)
-    → HearsMore (state_words (state_of importing.reader had.placed)) out receiver (Ok tt)
-    → HasHeard (words_with (state_of importing.reader had.placed) (step_item importing.reader byte)) receiver
-item_judged bytes words out byte from importing receiver had some from_is put heard =
+    → HearsMore (state_words (state_of importing.reader had.placed)) out hearer (Ok tt)
+    → HasHeard (words_with (state_of importing.reader had.placed) (step_item importing.reader byte)) hearer
+item_judged bytes words out byte from importing hearer had some from_is put heard =
     let s = state_of importing.reader had.placed in
     let facts = item_facts bytes s byte had.read some in
-    subst (λ (w : List ℕ). HasHeard w receiver) (words_put s (step_item importing.reader byte) out from (ap is_open facts.at) from_is put) heard
+    subst (λ (w : List ℕ). HasHeard w hearer) (words_put s (step_item importing.reader byte) out from (ap is_open facts.at) from_is put) heard
 
 -- or one of them offends
 pub item_refused : (bytes words out : List ℕ) (byte from : ℕ) (importing : Importing) (had : HasImported bytes words importing) (word : Refusal)

@@ -11,3 +11,5 @@ pub mod RunLemmas
 pub mod VerdictLemmas
 pub mod JudgeLemmas
 pub mod StepLemmas
+pub mod FrontLemmas
+pub mod LineLemmas

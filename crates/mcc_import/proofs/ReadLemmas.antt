@@ -12,7 +12,7 @@ use Rattle.mcc_files.specs.MccFiles.{TimedPackets}
 use Rattle.text_output.specs.Gathered.{IsGathered}
 use Rattle.words_reading.proofs.PieceLemmas.{IsPiece, all_taken, whole_piece, with_piece}
 use Rattle.words_reading.proofs.WayLemmas.{way_unwritten}
-use Rattle.words_reading.specs.Causes.{Cause, IsAnyhow, IsWholeInput, words_limit}
+use Rattle.words_reading.specs.Causes.{Cause, IsWholeInput, words_limit}
 use Rattle.words_reading.specs.Judging.{StopCause, StopsBy}
 use Rattle.words_reading.specs.declared.judge.Stop.{Stop}
 use Rattle.words_reading.specs.declared.judge.Stop.TheVariants as stopped

@@ -1,8 +1,8 @@
 -- An import goes on by a byte.
-use Rattle.std.proofs.Common.{add-one, ◌≡◌, ℕ, zero, suc, ◌+◌, ◌-◌, ◌<◌, ◌≤◌, drop, slice_index, take, inl, inr, List, [], ◌∷◌, ◌++◌, append_assoc, append-nil, length, length-append, Option, Result, Ok, Err, refl, ap, sym, ◌∙◌, subst, arith}
-use Rattle.std.proofs.lemmas.List.{take-append-drop, take_all}
+use Rattle.std.proofs.Common.{add-one, ◌≡◌, ℕ, zero, suc, ◌+◌, ◌-◌, ◌<◌, drop, slice_index, take, inl, inr, List, [], ◌∷◌, ◌++◌, append_assoc, append-nil, length, length-append, Option, Result, Ok, Err, refl, ap, sym, ◌∙◌, subst, arith}
+use Rattle.std.proofs.lemmas.List.{take-append-drop}
 use Rattle.cc_base.specs.declared.refusal.Refusal.{Refusal}
-use Rattle.cc_receiver.specs.declared.receiver.Receiver.{Receiver}
+use Rattle.mcc_import.specs.declared.hearing.Hearer.{Hearer}
 use Rattle.mcc_files.specs.MccFiles.{IsMccFile, TimedPackets}
 use Rattle.mcc_files.specs.Offences.{IsFirstOffence}
 use Rattle.mcc_files.specs.Readers.{HasRead, HasWholeBytes, packet_in, state_of}
@@ -16,7 +16,7 @@ use Rattle.text_output.specs.Gathered.{IsGathered}
 use Rattle.words_reading.specs.declared.judge.Stop.{Stop}
 use Rattle.words_reading.specs.declared.judge.Stop.TheVariants as stopped
 use Rattle.mcc_import.specs.ImportMcc.{RefusesAt}
-use Rattle.mcc_import.specs.Importing.{AddsPacket, AreFile, EndsFile, HasEnded, HasHalted, HasHeard, HasImported, HasLines, IsMade, JudgesItem, TakesBytes, step_item}
+use Rattle.mcc_import.specs.Importing.{AddsPacket, AreFile, EndsFile, HasEnded, HasHalted, HasHeard, HasImported, HasLines, IsMade, JudgesItem, MayTake, MayTakeAll, TakesBytes, TakesNext, step_item}
 use Rattle.mcc_import.specs.Offences.{NoWordOffends}
 use Rattle.mcc_import.specs.Words.{is_open, state_words, words_with}
 use Rattle.mcc_import.specs.declared.importing.Importing.{Importing}
@@ -28,36 +28,36 @@ use Rattle.mcc_import.proofs.ReadLemmas.{says_lines, within_of}
 use Rattle.mcc_import.proofs.TakeLemmas.{byte_offends, cut_short, line_words, started_file, started_words, taken_lines, taken_step}
 
 -- the words with a byte more were heard
-heard_step : (bytes : List ℕ) (byte : ℕ) (placed later : TimedPackets) (old new : MccReader) (receiver : Receiver) → HasRead bytes placed old → HasRead (bytes ++ byte ∷ []) later new
-    → HasHeard (words_with (state_of old placed) (step_item old byte)) receiver → HasHeard (state_words (state_of new later)) receiver
-heard_step bytes byte placed later old new receiver was now heard =
-    subst (λ (w : List ℕ). HasHeard w receiver) (sym (taken_step bytes byte placed later old new was now).words) heard
+heard_step : (bytes : List ℕ) (byte : ℕ) (placed later : TimedPackets) (old new : MccReader) (hearer : Hearer) → HasRead bytes placed old → HasRead (bytes ++ byte ∷ []) later new
+    → HasHeard (words_with (state_of old placed) (step_item old byte)) hearer → HasHeard (state_words (state_of new later)) hearer
+heard_step bytes byte placed later old new hearer was now heard =
+    subst (λ (w : List ℕ). HasHeard w hearer) (sym (taken_step bytes byte placed later old new was now).words) heard
 
-no_word_step : (bytes words : List ℕ) (byte : ℕ) (old : Importing) (receiver : Receiver) (had : HasImported bytes words old)
-    → HasHeard (words_with (state_of old.reader had.placed) (step_item old.reader byte)) receiver → NoWordOffends (bytes ++ byte ∷ [])
-no_word_step bytes words byte old receiver had heard = no_word_more bytes (state_of old.reader had.placed) byte had.read had.no_word heard.unoffending
+no_word_step : (bytes words : List ℕ) (byte : ℕ) (old : Importing) (hearer : Hearer) (had : HasImported bytes words old)
+    → HasHeard (words_with (state_of old.reader had.placed) (step_item old.reader byte)) hearer → NoWordOffends (bytes ++ byte ∷ [])
+no_word_step bytes words byte old hearer had heard = no_word_more bytes (state_of old.reader had.placed) byte had.read had.no_word heard.unoffending
 
 place_more : (bytes : List ℕ) (byte was mid now : ℕ) → was ≡ length bytes → mid ≡ was → now ≡ mid + 1 → now ≡ length (bytes ++ byte ∷ [])
 place_more bytes byte was mid now is same more = omega (arith, is, same, more, length-append bytes (byte ∷ []))
 
 -- no packet's line has ended
 pub byte_taken : (bytes words : List ℕ) (byte : ℕ) (old mid new : Importing) (had : HasImported bytes words old) → JudgesItem bytes had.placed byte old mid (Ok tt)
-    → HasRead (bytes ++ byte ∷ []) had.placed new.reader → new.receiver ≡ mid.receiver → new.made ≡ mid.made → new.place ≡ mid.place + 1
+    → HasRead (bytes ++ byte ∷ []) had.placed new.reader → new.hearer ≡ mid.hearer → new.made ≡ mid.made → new.place ≡ mid.place + 1
     → HasImported (bytes ++ byte ∷ []) words new
-byte_taken bytes words byte old mid new had (reader, made, place, heard) read receiver_same made_same place_is = record {
+byte_taken bytes words byte old mid new had (reader, made, place, heard) read hearer_same made_same place_is = record {
   placed = had.placed;
   read = read;
   lines = taken_lines bytes byte had.placed had.placed old.reader new.reader had.read read had.lines;
-  no_word = no_word_step bytes words byte old mid.receiver had heard;
-  heard = subst (λ (r : Receiver). HasHeard (state_words (state_of new.reader had.placed)) r) (sym receiver_same)
-      (heard_step bytes byte had.placed had.placed old.reader new.reader mid.receiver had.read read heard);
+  no_word = no_word_step bytes words byte old mid.hearer had heard;
+  heard = subst (λ (h : Hearer). HasHeard (state_words (state_of new.reader had.placed)) h) (sym hearer_same)
+      (heard_step bytes byte had.placed had.placed old.reader new.reader mid.hearer had.read read heard);
   file = had.file;
   made = subst (λ (m : Made). IsMade had.placed words m) (sym (made_same ∙ made)) had.made;
   place_is = place_more bytes byte old.place mid.place new.place had.place_is place place_is;
 }
 
 -- that of a packet has
-longer_not : (placed : TimedPackets) (one : ℕ × Payload) → placed ++ one ∷ [] ≡ placed → ⊥
+pub longer_not : (placed : TimedPackets) (one : ℕ × Payload) → placed ++ one ∷ [] ≡ placed → ⊥
 longer_not placed one same = omega (arith, ap length same, length-append placed (one ∷ []))
 
 pub record LineTaken (bytes words : List ℕ) (byte : ℕ) (placed : TimedPackets) (now : Importing) : Type 0 where
@@ -71,9 +71,9 @@ pub record LineTaken (bytes words : List ℕ) (byte : ℕ) (placed : TimedPacket
   pub place_is : now.place ≡ length (bytes ++ byte ∷ [])
 
 pub line_taken : (bytes words : List ℕ) (byte : ℕ) (old mid now : Importing) (had : HasImported bytes words old) → JudgesItem bytes had.placed byte old mid (Ok tt)
-    → HasRead (bytes ++ byte ∷ []) (had.placed ++ packet_in now.reader ∷ []) now.reader → now.receiver ≡ mid.receiver → now.made ≡ mid.made → now.place ≡ mid.place + 1
+    → HasRead (bytes ++ byte ∷ []) (had.placed ++ packet_in now.reader ∷ []) now.reader → now.hearer ≡ mid.hearer → now.made ≡ mid.made → now.place ≡ mid.place + 1
     → LineTaken bytes words byte had.placed now
-line_taken bytes words byte old mid now had (reader, made, place, heard) read receiver_same made_same place_is =
+line_taken bytes words byte old mid now had (reader, made, place, heard) read hearer_same made_same place_is =
     let later = had.placed ++ packet_in now.reader ∷ [] in
     let step = taken_step bytes byte had.placed later old.reader now.reader had.read read in
     let start : (state_of now.reader later).phase ≡ phase.Start = elim step.line [
@@ -84,17 +84,17 @@ line_taken bytes words byte old mid now had (reader, made, place, heard) read re
       | inl line ↦ (bytes, ap (λ b. bytes ++ b ∷ []) line.0)
       | inr line ↦ absurd (longer_not had.placed (packet_in now.reader) line.1)
     ] in
-    let words_heard = heard_step bytes byte had.placed later old.reader now.reader mid.receiver had.read read heard in
+    let words_heard = heard_step bytes byte had.placed later old.reader now.reader mid.hearer had.read read heard in
     let came = started_words later now.reader (ap is_open start) in
     record {
       read = read;
       start = start;
       ends = ends;
       lines = taken_lines bytes byte had.placed later old.reader now.reader had.read read had.lines;
-      no_word = no_word_step bytes words byte old mid.receiver had heard;
+      no_word = no_word_step bytes words byte old mid.hearer had heard;
       ended = record {
         file = had.file;
-        heard = subst (λ (r : Receiver). HasHeard (words_as_they_came later) r) (sym receiver_same) (subst (λ (w : List ℕ). HasHeard w mid.receiver) came words_heard);
+        heard = subst (λ (h : Hearer). HasHeard (words_as_they_came later) h) (sym hearer_same) (subst (λ (w : List ℕ). HasHeard w mid.hearer) came words_heard);
       };
       made = subst (λ (m : Made). IsMade had.placed words m) (sym (made_same ∙ made)) had.made;
       place_is = place_more bytes byte old.place mid.place now.place had.place_is place place_is;
@@ -103,18 +103,18 @@ line_taken bytes words byte old mid now had (reader, made, place, heard) read re
 -- its packet was added
 pub packet_taken : (bytes words more : List ℕ) (byte : ℕ) (placed : TimedPackets) (now new : Importing) → LineTaken bytes words byte placed now
     → AreFile (placed ++ packet_in now.reader ∷ []) → IsMade (placed ++ packet_in now.reader ∷ []) (words ++ more) new.made
-    → new.reader ≡ now.reader → new.receiver ≡ now.receiver → new.place ≡ now.place → HasImported (bytes ++ byte ∷ []) (words ++ more) new
-packet_taken bytes words more byte placed now new line file made reader receiver place =
+    → new.reader ≡ now.reader → new.hearer ≡ now.hearer → new.place ≡ now.place → HasImported (bytes ++ byte ∷ []) (words ++ more) new
+packet_taken bytes words more byte placed now new line file made reader hearer place =
     let later = placed ++ packet_in now.reader ∷ [] in
-    let heard : HasHeard (state_words (state_of now.reader later)) now.receiver =
-    subst (λ (w : List ℕ). HasHeard w now.receiver) (sym (started_words later now.reader (ap is_open line.start))) line.ended.heard in
+    let heard : HasHeard (state_words (state_of now.reader later)) now.hearer =
+    subst (λ (w : List ℕ). HasHeard w now.hearer) (sym (started_words later now.reader (ap is_open line.start))) line.ended.heard in
     record {
       placed = later;
       read = subst (λ (r : MccReader). HasRead (bytes ++ byte ∷ []) later r) (sym reader) line.read;
       lines = line.lines;
       no_word = line.no_word;
-      heard = subst (λ (r : Receiver). HasHeard (state_words (state_of new.reader later)) r) (sym receiver)
-          (subst (λ (r : MccReader). HasHeard (state_words (state_of r later)) now.receiver) (sym reader) heard);
+      heard = subst (λ (h : Hearer). HasHeard (state_words (state_of new.reader later)) h) (sym hearer)
+          (subst (λ (r : MccReader). HasHeard (state_words (state_of r later)) now.hearer) (sym reader) heard);
       file = file;
       made = made;
       place_is = place ∙ line.place_is;
@@ -123,10 +123,10 @@ packet_taken bytes words more byte placed now new line file made reader receiver
 -- the result of its line
 pub line_result : (bytes words : List ℕ) (byte : ℕ) (placed : TimedPackets) (start then : Option (List ℕ)) (after : List ℕ) (now new : Importing) (result : Result (Unit {0}) (Stop MccStop))
     → LineTaken bytes words byte placed now → AreFile (placed ++ packet_in now.reader ∷ []) → AddsPacket placed words (packet_in now.reader) start then after new.made result
-    → new.reader ≡ now.reader → new.receiver ≡ now.receiver → new.place ≡ now.place → TakesBytes start then after (bytes ++ byte ∷ []) new result
-line_result bytes words byte placed start then after now new (Ok done) line file (more, made, way) reader receiver place =
-    (words ++ more, packet_taken bytes words more byte placed now new line file made reader receiver place, way)
-line_result bytes words byte placed start then after now new (Err stopped.WriteFault) line file (more, within, failed) reader receiver place = record {
+    → new.reader ≡ now.reader → new.hearer ≡ now.hearer → new.place ≡ now.place → TakesBytes start then after (bytes ++ byte ∷ []) new result
+line_result bytes words byte placed start then after now new (Ok done) line file (more, made, way) reader hearer place =
+    (words ++ more, packet_taken bytes words more byte placed now new line file made reader hearer place, way)
+line_result bytes words byte placed start then after now new (Err stopped.WriteFault) line file (more, within, failed) reader hearer place = record {
   judged = bytes ++ byte ∷ [];
   unjudged = [];
   words = words ++ more;
@@ -144,7 +144,7 @@ line_result bytes words byte placed start then after now new (Err stopped.WriteF
     failed,
   );
 }
-line_result bytes words byte placed start then after now new (Err (stopped.Own (stop.Passes which))) line file (passes, way) reader receiver place = record {
+line_result bytes words byte placed start then after now new (Err (stopped.Own (stop.Passes which))) line file (passes, way) reader hearer place = record {
   judged = bytes ++ byte ∷ [];
   unjudged = [];
   words = words;
@@ -164,13 +164,13 @@ line_result bytes words byte placed start then after now new (Err (stopped.Own (
     way,
   );
 }
-line_result bytes words byte placed start then after now new (Err (stopped.Own (stop.Offends refusal))) line file is reader receiver place = absurd is
-line_result bytes words byte placed start then after now new (Err stopped.ReadFault) line file is reader receiver place = absurd is
-line_result bytes words byte placed start then after now new (Err stopped.Limit) line file is reader receiver place = absurd is
-line_result bytes words byte placed start then after now new (Err (stopped.Refused refusal)) line file is reader receiver place = absurd is
+line_result bytes words byte placed start then after now new (Err (stopped.Own (stop.Offends refusal))) line file is reader hearer place = absurd is
+line_result bytes words byte placed start then after now new (Err stopped.ReadFault) line file is reader hearer place = absurd is
+line_result bytes words byte placed start then after now new (Err stopped.Limit) line file is reader hearer place = absurd is
+line_result bytes words byte placed start then after now new (Err (stopped.Refused refusal)) line file is reader hearer place = absurd is
 
 -- something offends
-halts_at : (bytes words : List ℕ) (byte : ℕ) (start then : Option (List ℕ)) (after : List ℕ) (refusal : Refusal) → RefusesAt refusal (bytes ++ byte ∷ []) words
+pub halts_at : (bytes words : List ℕ) (byte : ℕ) (start then : Option (List ℕ)) (after : List ℕ) (refusal : Refusal) → RefusesAt refusal (bytes ++ byte ∷ []) words
     → IsGathered start then after words → HasHalted start then after (bytes ++ byte ∷ []) (stopped.Own (stop.Offends refusal))
 halts_at bytes words byte start then after refusal refuses way =
     record { judged = bytes ++ byte ∷ []; unjudged = []; words = words; spelled = sym (append-nil (bytes ++ byte ∷ [])); cause = (refuses, tt, way) }
@@ -192,7 +192,7 @@ byte_halts bytes words byte old mid start then after offence had (reader, made, 
     let b = byte_offends bytes byte refusal offence.back refl first in
     subst (λ (n : ℕ). HasHalted start then after (bytes ++ byte ∷ []) (stopped.Own (stop.Offends (record { place = n - offence.back; why = offence.why })))) at
     (halts_at bytes words byte start then after refusal
-    (record { offends = inr (b, no_word_step bytes words byte old mid.receiver had heard); front = bytes; last = byte; spelled = refl; says = says_lines bytes words old had }) way)
+    (record { offends = inr (b, no_word_step bytes words byte old mid.hearer had heard); front = bytes; last = byte; spelled = refl; says = says_lines bytes words old had }) way)
 
 -- the bytes end
 pub none_ends : (bytes words : List ℕ) (importing : Importing) (start then : Option (List ℕ)) (after : List ℕ) (had : HasImported bytes words importing) → IsMccFile had.placed bytes
@@ -209,7 +209,7 @@ pub line_ended : (bytes words : List ℕ) (importing : Importing) (had : HasImpo
     → HasWholeBytes importing.reader → HasEnded had.placed importing
 line_ended bytes words importing had file whole = record {
   file = had.file;
-  heard = subst (λ (w : List ℕ). HasHeard w importing.receiver) (line_words bytes had.placed importing.reader had.read file whole) had.heard;
+  heard = subst (λ (w : List ℕ). HasHeard w importing.hearer) (line_words bytes had.placed importing.reader had.read file whole) had.heard;
 }
 
 pub packet_ends : (bytes words : List ℕ) (old new : Importing) (start then : Option (List ℕ)) (after : List ℕ) (result : Result (Unit {0}) (Stop MccStop)) (had : HasImported bytes words old)
@@ -271,13 +271,65 @@ halted_more start then after front rest why had = record {
   cause = had.cause;
 }
 
-pub halted_by : (start then : Option (List ℕ)) (after before all : List ℕ) (i : ℕ) (why : Stop MccStop) → i < length all
-    → HasHalted start then after ((before ++ take i all) ++ slice_index all i ∷ []) why → HasHalted start then after (before ++ all) why
-halted_by start then after before all i why below had =
-    subst (λ (b : List ℕ). HasHalted start then after b why)
-    (ap (λ b. b ++ drop (suc i) all) (next_suc before all i below)
-    ∙ (append_assoc before (take (suc i) all) (drop (suc i) all) ∙ ap (λ b. before ++ b) (take-append-drop (suc i) all)))
-    (halted_more start then after ((before ++ take i all) ++ slice_index all i ∷ []) (drop (suc i) all) why had)
+-- a front of bytes was taken, and the rest is to come
+pub record TakenFront (bytes rest : List ℕ) (first now : Importing) (was then : Option (List ℕ)) (held after : List ℕ) : Type 0 where
+  pub front : List ℕ
+  pub spelled : bytes ≡ front ++ rest
+  pub takes : (before words : List ℕ) (start : Option (List ℕ)) → HasImported before words first → IsGathered start was held words
+      → (more : List ℕ) × HasImported (before ++ front) more now × IsGathered start then after more
 
-pub all_taken_by : (before all : List ℕ) (i : ℕ) → length all ≤ i → before ++ take i all ≡ before ++ all
-all_taken_by before all i past = ap (λ b. before ++ b) (take_all i all past)
+pub none_taken : (bytes : List ℕ) (first : Importing) (was : Option (List ℕ)) (held : List ℕ) → TakenFront bytes bytes first first was was held held
+none_taken bytes first was held = record {
+  front = [];
+  spelled = refl;
+  takes = λ before words start had way. (words, subst (λ (b : List ℕ). HasImported b words first) (sym (append-nil before)) had, way);
+}
+
+pub front_may : (bytes rest : List ℕ) (first now : Importing) (was then : Option (List ℕ)) (held after : List ℕ) → TakenFront bytes rest first now was then held after
+    → MayTakeAll was held first (length bytes) → MayTake now (length rest)
+front_may bytes rest first now was then held after so all =
+    let may = all.may in
+    let (words, had, way) = so.takes may.bytes may.words all.start may.had all.way in
+    let within = may.within in
+    let long = ap length so.spelled ∙ length-append so.front rest in
+    record { bytes = may.bytes ++ so.front; words = words; had = had; within = omega (arith, within, long, length-append may.bytes so.front) }
+
+pub front_more : (bytes rest : List ℕ) (count : ℕ) (first mid new : Importing) (was then later : Option (List ℕ)) (held between after : List ℕ)
+    → TakenFront bytes rest first mid was then held between
+    → ((before words : List ℕ) (start : Option (List ℕ)) → HasImported before words mid → IsGathered start then between words → TakesNext start later after before rest new (Ok count))
+    → TakenFront bytes (drop count rest) first new was later held after
+front_more bytes rest count first mid new was then later held between after so next = record {
+  front = so.front ++ take count rest;
+  spelled = so.spelled ∙ (ap (λ (r : List ℕ). so.front ++ r) (sym (take-append-drop count rest)) ∙ sym (append_assoc so.front (take count rest) (drop count rest)));
+  takes = λ before words start had way.
+      let (more, here, there) = so.takes before words start had way in
+      let (now, taken, gathered) = next (before ++ so.front) more start here there in
+      (now, subst (λ (b : List ℕ). HasImported b now new) (append_assoc before so.front (take count rest)) taken, gathered);
+}
+
+pub front_halts : (bytes rest before words : List ℕ) (first mid new : Importing) (start was then later : Option (List ℕ)) (held between after : List ℕ) (why : Stop MccStop)
+    → TakenFront bytes rest first mid was then held between
+    → ((before words : List ℕ) (start : Option (List ℕ)) → HasImported before words mid → IsGathered start then between words → TakesNext start later after before rest new (Err why))
+    → HasImported before words first → IsGathered start was held words → HasHalted start later after (before ++ bytes) why
+front_halts bytes rest before words first mid new start was then later held between after why so next had way =
+    let (more, here, there) = so.takes before words start had way in
+    subst (λ (b : List ℕ). HasHalted start later after b why) (append_assoc before so.front rest ∙ ap (λ (b : List ℕ). before ++ b) (sym so.spelled))
+    (next (before ++ so.front) more start here there)
+
+pub front_all : (bytes rest before words : List ℕ) (first now : Importing) (start was then : Option (List ℕ)) (held after : List ℕ) → TakenFront bytes rest first now was then held after
+    → length rest ≡ 0 → HasImported before words first → IsGathered start was held words → TakesBytes start then after (before ++ bytes) now (Ok tt)
+front_all bytes [] before words first now start was then held after so none had way =
+    let (more, here, there) = so.takes before words start had way in
+    (more, subst (λ (b : List ℕ). HasImported (before ++ b) more now) (sym (so.spelled ∙ append-nil so.front)) here, there)
+front_all bytes (byte ∷ rest) before words first now start was then held after so none had way = absurd (omega (arith, none))
+
+-- the first byte
+pub first_taken : (before bytes : List ℕ) → 0 < length bytes → before ++ slice_index bytes 0 ∷ [] ≡ before ++ take 1 bytes
+first_taken before [] some = absurd (omega (arith, some))
+first_taken before (byte ∷ bytes) some = refl
+
+pub first_halts : (start then : Option (List ℕ)) (after before bytes : List ℕ) (why : Stop MccStop) → 0 < length bytes → HasHalted start then after (before ++ slice_index bytes 0 ∷ []) why
+    → HasHalted start then after (before ++ bytes) why
+first_halts start then after before [] why some had = absurd (omega (arith, some))
+first_halts start then after before (byte ∷ bytes) why some had =
+    subst (λ (b : List ℕ). HasHalted start then after b why) (append_assoc before (byte ∷ []) bytes) (halted_more start then after (before ++ byte ∷ []) bytes why had)

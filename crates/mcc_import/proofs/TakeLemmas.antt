@@ -5,7 +5,7 @@ use Rattle.anc_words.specs.Writing.{packet_of}
 use Rattle.anc_words.proofs.PacketLemmas.{user_bytes-packet_of}
 use Rattle.anc_words.proofs.WordsFileLemmas.{IsWordsFile-append, IsWordsFile-one}
 use Rattle.cc_base.specs.declared.refusal.Refusal.{Refusal}
-use Rattle.cc_receiver.specs.declared.receiver.Receiver.{Receiver}
+use Rattle.mcc_import.specs.declared.hearing.Hearer.{Hearer}
 use Rattle.cdp_packets.specs.Packets.{Frame, IsCdp}
 use Rattle.mcc_files.specs.MccFiles.{IsMccFile, TimedPackets}
 use Rattle.mcc_files.specs.Offences.{IsFirstOffence, MccByteOffends}
@@ -82,9 +82,9 @@ pub record FileMore (placed : TimedPackets) (one : ℕ × Payload) : Type 0 wher
   pub file : AreFile (placed ++ one ∷ [])
   pub captions : IsCaptions one.1 → (frame : Frame) × IsCdp frame one.1.user
 
-pub file_more : (placed : TimedPackets) (one : ℕ × Payload) (receiver : Receiver) → AreFile placed → All (λ byte. byte < 256) (payload_bytes one.1)
-    → HasHeard (words_as_they_came (placed ++ one ∷ [])) receiver → FileMore placed one
-file_more placed one receiver was are heard =
+pub file_more : (placed : TimedPackets) (one : ℕ × Payload) (hearer : Hearer) → AreFile placed → All (λ byte. byte < 256) (payload_bytes one.1)
+    → HasHeard (words_as_they_came (placed ++ one ∷ [])) hearer → FileMore placed one
+file_more placed one hearer was are heard =
     let p = one.1 in
     let packet = packet_of p.did p.sdid p.user in
     let is = payload_is_packet p are in

@@ -129,6 +129,15 @@ pub record WordsOn (fewer more : List ℕ) : Type 0 where
   pub rest : List ℕ
   pub spelled : more ≡ fewer ++ rest
 
+pub on_both : (fewer middle more : List ℕ) → WordsOn fewer middle → WordsOn middle more → WordsOn fewer more
+on_both fewer middle more first second = record {
+  rest = first.rest ++ second.rest;
+  spelled = second.spelled ∙ (ap (λ (w : List ℕ). w ++ second.rest) first.spelled ∙ append_assoc fewer first.rest second.rest);
+}
+
+pub on_none : (fewer more : List ℕ) → more ≡ fewer → WordsOn fewer more
+on_none fewer more same = record { rest = []; spelled = same ∙ sym (append-nil fewer) }
+
 pub takes_on : (m n : ℕ) (words : List ℕ) → m ≤ n → WordsOn (take m words) (take n words)
 takes_on m n words fewer = record {
   rest = drop m (take n words);

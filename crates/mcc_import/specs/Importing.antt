@@ -1,6 +1,6 @@
 -- Between crates: the program's answer stands on none of these definitions.
 -- An import on its way: what was read of the file, which words were heard, and what was made of the packets.
-use Rattle.std.specs.Prelude.{◌≡◌, ◌≤◌, ◌<◌, ◌+◌, ◌*◌, ℕ, List, [], ◌∷◌, ◌++◌, length, Option, Result, Ok, Err}
+use Rattle.std.specs.Prelude.{◌≡◌, ◌≤◌, ◌<◌, ◌+◌, ◌*◌, ℕ, List, [], ◌∷◌, ◌++◌, length, take, Option, Result, Ok, Err}
 use Rattle.cc_base.specs.Rate.{triplets_in_frame}
 use Rattle.std.specs.Io.KnownBytes.{Appends, Consumes}
 use Rattle.cc_base.specs.Streams.{Puts, Rose}
@@ -10,13 +10,13 @@ use Rattle.cc_base.specs.declared.rate.Rate.{Rate}
 use Rattle.cc_base.specs.declared.refusal.Refusal.{Refusal}
 use Rattle.cc_base.specs.declared.streams.Put.{Put}
 use Rattle.cc_base.specs.declared.streams.Put.TheVariants as put
-use Rattle.cc_base.specs.declared.why.Why.{Why}
 use Rattle.command_base.specs.Ends.{Ends, IsSteady}
 use Rattle.cc_receiver.specs.Receivers.{HasReceived, frame_count}
-use Rattle.cc_receiver.specs.declared.receiver.Receiver.{Receiver}
 use Rattle.cdp_packets.specs.Packets.{Frame}
 use Rattle.mcc_files.specs.MccFiles.{TimedPackets}
-use Rattle.mcc_files.specs.Readers.{HasRead, back_in, item_in, packet_in, state_of}
+use Rattle.mcc_files.specs.Readers.{HasRead, HasWholeBytes, back_in, item_in, packet_in, state_of}
+use Rattle.mcc_files.specs.Reading.{State, at_first, run}
+use Rattle.mcc_files.specs.declared.phase.Phase.TheVariants as phase
 use Rattle.mcc_files.specs.declared.reader.MccReader.{MccReader}
 use Rattle.mcc_payloads.specs.Payloads.{Payload}
 use Rattle.mcc_words.specs.Close.{words_as_they_came}
@@ -36,6 +36,7 @@ use Rattle.mcc_import.specs.ImportMcc.{EndsInput, HaltsImport, HasEndedLine, IsU
 use Rattle.mcc_import.specs.Imported.{AreEndedLines, AreWithinImport, HaveNoLf, IsMccImport, PassesAtPacket, PassesWith, SaysLines, frames_put, most_imported_frames}
 use Rattle.mcc_import.specs.Offences.{IsMccCutShort, ItemWordOffends, NoWordOffends}
 use Rattle.mcc_import.specs.Words.{state_words, words_with}
+use Rattle.mcc_import.specs.declared.hearing.Hearer.{Hearer}
 use Rattle.mcc_import.specs.declared.importing.Importing.{Importing}
 use Rattle.mcc_import.specs.declared.made.Made.{Made}
 use Rattle.mcc_import.specs.declared.stop.MccStop.{MccStop}
@@ -78,21 +79,22 @@ abbrev pub AddsMissing : Rate → ℕ → ℕ → List ℕ → Option (List ℕ)
 AddsMissing rate number left words start then after answer =
     (without : List ℕ) × AreFramesWithout rate number left without × GathersText start then after (words ++ without) answer
 
--- a receiver heard these words, of which none offends
-pub record HasHeard (words : List ℕ) (receiver : Receiver) : Type 0 where
-  pub received : HasReceived words receiver
+-- a hearer heard these words, of which none offends
+pub record HasHeard (words : List ℕ) (hearer : Hearer) : Type 0 where
+  pub received : HasReceived words hearer.receiver
   pub unoffending : IsUnoffending caption_channel words
-  pub few : frame_count receiver ≤ length words
+  pub few : frame_count hearer.receiver ≤ length words
+  pub counted : hearer.heard ≡ length words
 
 -- it heard some
-pub record SomeHeard (receiver : Receiver) : Type 0 where
+pub record SomeHeard (hearer : Hearer) : Type 0 where
   pub words : List ℕ
-  pub heard : HasHeard words receiver
+  pub heard : HasHeard words hearer
 
 -- it heard more, or one of them offends
-abbrev pub HearsMore : List ℕ → List ℕ → Receiver → Result (Unit {0}) Why → Type 0
+abbrev pub HearsMore : List ℕ → List ℕ → Hearer → Result (Unit {0}) Refusal → Type 0
 HearsMore before words new (Ok done) = HasHeard (before ++ words) new
-HearsMore before words new (Err why) = (refusal : Refusal) × FirstOffendingWord caption_channel (before ++ words) refusal × (why ≡ refusal.why)
+HearsMore before words new (Err refusal) = FirstOffendingWord caption_channel (before ++ words) refusal
 
 -- the lines that ended, and the open one
 pub record HasLines (bytes : List ℕ) (placed : TimedPackets) : Type 0 where
@@ -113,7 +115,7 @@ pub record HasImported (bytes words : List ℕ) (importing : Importing) : Type 0
   pub read : HasRead bytes placed importing.reader
   pub lines : HasLines bytes placed
   pub no_word : NoWordOffends bytes
-  pub heard : HasHeard (state_words (state_of importing.reader placed)) importing.receiver
+  pub heard : HasHeard (state_words (state_of importing.reader placed)) importing.hearer
   pub file : AreFile placed
   pub made : IsMade placed words importing.made
   pub place_is : importing.place ≡ length bytes
@@ -141,7 +143,7 @@ step_back reader = back_in (state_of reader []).phase (state_of reader []).paylo
 -- the words of the item that ends with a byte were heard, or one of them offends
 abbrev pub JudgesItem : List ℕ → TimedPackets → ℕ → Importing → Importing → Result (Unit {0}) MccStop → Type 0
 JudgesItem bytes placed byte old new (Ok done) =
-    (new.reader ≡ old.reader) × (new.made ≡ old.made) × (new.place ≡ old.place) × HasHeard (words_with (state_of old.reader placed) (step_item old.reader byte)) new.receiver
+    (new.reader ≡ old.reader) × (new.made ≡ old.made) × (new.place ≡ old.place) × HasHeard (words_with (state_of old.reader placed) (step_item old.reader byte)) new.hearer
 JudgesItem bytes placed byte old new (Err why) = (refusal : Refusal) × (why ≡ stop.Offends refusal) × ItemWordOffends (bytes ++ byte ∷ []) refusal
 
 -- where a limit is passed with a packet, its line has ended: within the bytes by its line end, or with the whole input
@@ -216,9 +218,50 @@ PutsRest now before then after held read result = PutsHeld now before then after
 -- a packet's line has ended behind those of these packets, and the words with it were heard
 pub record HasEnded (placed : TimedPackets) (importing : Importing) : Type 0 where
   pub file : AreFile placed
-  pub heard : HasHeard (words_as_they_came (placed ++ packet_in importing.reader ∷ [])) importing.receiver
+  pub heard : HasHeard (words_as_they_came (placed ++ packet_in importing.reader ∷ [])) importing.hearer
 
 -- one has
 pub record SomeEnded (importing : Importing) : Type 0 where
   pub placed : TimedPackets
   pub ended : HasEnded placed importing
+
+-- a reader took a line behind bytes, and it is a packet's
+pub record ReadsLine (before : List ℕ) (placed : TimedPackets) (line : List ℕ) (reader : MccReader) : Type 0 where
+  pub front : List ℕ
+  pub spelled : line ≡ front ++ 10 ∷ []
+  pub open_lines : HasLines (before ++ front) placed
+  pub read : HasRead (before ++ line) (placed ++ packet_in reader ∷ []) reader
+  pub whole : HasWholeBytes reader
+  pub start : reader.phase ≡ phase.Start
+  pub lines : HasLines (before ++ line) (placed ++ packet_in reader ∷ [])
+
+-- so long is the first line of bytes
+pub record IsFirstLine (before : List ℕ) (placed : TimedPackets) (bytes : List ℕ) (count : ℕ) (reader : MccReader) : Type 0 where
+  pub within : count ≤ length bytes
+  pub some : 0 < count
+  pub line : ReadsLine before placed (take count bytes) reader
+
+-- such a line may be taken
+pub record MayTakeLine (importing : Importing) (line : List ℕ) (ahead : MccReader) : Type 0 where
+  pub may : MayTake importing (length line)
+  pub start : importing.reader.phase ≡ phase.Start
+  pub reads : ReadsLine may.bytes may.had.placed line ahead
+
+-- a word of what a reader reads of a line offends, which begins at a place, behind so many bytes of words
+pub record LineOffends (reader : MccReader) (line : List ℕ) (place heard : ℕ) (word : Refusal) : Type 0 where
+  pub before : List ℕ
+  pub placed : TimedPackets
+  pub to : State
+  pub read : HasRead before placed reader
+  pub goes : run at_first (before ++ line) ≡ Ok to
+  pub unoffending : IsUnoffending caption_channel (state_words (state_of reader placed))
+  pub offends : FirstOffendingWord caption_channel (state_words to) word
+  pub few : length (state_words to) < 4294967295
+  pub heard_is : heard ≡ length (state_words (state_of reader placed))
+  pub place_is : place ≡ length before
+  pub within : length (before ++ line) ≤ words_limit
+
+-- the next bytes were taken, so many, or the run stopped within those that follow
+abbrev pub TakesNext : Option (List ℕ) → Option (List ℕ) → List ℕ → List ℕ → List ℕ → Importing → Result ℕ (Stop MccStop) → Type 0
+TakesNext start then after before bytes importing (Ok count) = TakesBytes start then after (before ++ take count bytes) importing (Ok tt)
+TakesNext start then after before bytes importing (Err why) = HasHalted start then after (before ++ bytes) why

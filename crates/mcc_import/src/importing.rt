@@ -1,52 +1,83 @@
-ghost use Rattle.std.specs.Prelude.{◌≡◌, ◌<◌, ◌+◌, ◌-◌, ◌∷◌, ◌++◌, ℕ, List, [], Option, IfOk, length};
-ghost use Rattle.cc_receiver.specs.Receivers.{frame_count};
+ghost use Rattle.std.specs.Prelude.{◌≡◌, ◌<◌, ◌≤◌, ◌+◌, ◌-◌, ◌∷◌, ◌++◌, ℕ, List, [], Option, IfOk, IfSome, length};
+ghost use Rattle.mcc_files.specs.MccFiles.{TimedPackets};
+ghost use Rattle.mcc_files.specs.Readers.{HasRead};
 ghost use Rattle.text_output.specs.Gathered.{IsGathered, held_of};
 ghost use Rattle.words_reading.specs.Judging.{StopCause};
-ghost use Rattle.mcc_import.specs.Importing.{HasHeard, HearsMore, SomeHeard};
+ghost use Rattle.mcc_import.specs.Importing.{HasLines, IsFirstLine, LineOffends, ReadsLine};
+ghost use Rattle.mcc_import.specs.Offences.{ItemWordOffends};
 
-use crate::item_words::{PAYLOAD, add, put_words, said};
+use crate::hearing::Hearer;
+use crate::item_words::{PAYLOAD, add, put_packet, put_words, said, words_more};
 use crate::made::Made;
 use crate::stop::MccStop;
+use anc_words::{CAPTION_DID, CAPTION_SDID};
 use arrayvec::ArrayVec;
 use cc_base::{Refusal, Sink, Why};
-use cc_receiver::Receiver;
 use mcc_files::MccReader;
 use std::alloc::{AllocError, Global};
 use text_output::Gathered;
 use words_reading::Stop;
 
-/// An import on its way: the bytes of the file, one by one, their words, and what is made of the packets. All memory that it takes is taken
-/// by `new`.
+/// An import on its way: the bytes of the file, line by line where lines of packets stand whole in what is taken at once and else one by
+/// one, their words, and what is made of the packets. All memory that it takes is taken by `new`.
 #[derive(Drop)]
 pub struct Importing {
     reader: MccReader,
-    receiver: Receiver,
+    hearer: Hearer,
     made: Made,
     // How many bytes of the file were taken.
     place: u64,
 }
 
-/// Feeds words to a receiver, unless one of them is refused.
-fn feed(receiver: &mut Receiver, words: &[u8]) -> Result<(), Why>
-    requires few { frame_count receiver.old + length words.now < 4294967295 }
-    requires heard { SomeHeard receiver.old }
-    ensures { (before : List ℕ) → HasHeard before receiver.old
-        → HearsMore before words.now receiver.new result }
+/// Reads a packet's line: how many bytes it has. None where the first line is none, doesn't end within the bytes, or offends; then the reader
+/// is of no use any more.
+fn read_line(reader: &mut MccReader, bytes: &[u8]) -> Option<usize>
+    ensures { (before : List ℕ) (placed : TimedPackets) → HasRead before placed reader.old
+        → HasLines before placed
+        → IfSome result (λ count. IsFirstLine before placed bytes.now count reader.new) }
 {
-    let mut rest = words;
-    while !rest.is_empty() {
-        match receiver.feed(rest) {
-            Ok(fed) => rest = &rest[fed.used..],
-            Err(refusal) => return Err(refusal.why),
+    let mut count = 0;
+    for byte in bytes {
+        count += 1;
+        match reader.take(*byte) {
+            Ok(true) => return Some(count),
+            Ok(false) if *byte != b'\n' => {}
+            _ => return None,
         }
     }
-    Ok(())
+    None
+}
+
+/// Where a word of the packet in a line offends in the text: at its item. The line begins at such a place, behind so many bytes of words, and
+/// the word's place is counted with them.
+fn offence_in(reader: &MccReader, line: &[u8], place: u64, heard: u64, word: Refusal) -> Refusal
+    requires { LineOffends reader.now line.now place heard word }
+    ensures { (had : LineOffends reader.now line.now place heard word)
+        → ItemWordOffends (had.before ++ line.now) result }
+{
+    let mut ahead = reader.copied();
+    let mut place = place;
+    let mut heard = heard;
+    for byte in line {
+        let item = ahead.item(*byte);
+        heard += words_more(ahead.bytes().len(), item.bytes.len());
+        if word.place + 1 < heard {
+            return Refusal {
+                place: place.saturating_sub(u64::from(item.back)),
+                why: word.why,
+            };
+        }
+        if ahead.take(*byte).is_err() {
+            unreachable!();
+        }
+        place += 1;
+    }
+    unreachable!()
 }
 
 impl Importing {
-    ghost use Rattle.mcc_files.specs.MccFiles.{TimedPackets};
     ghost use Rattle.mcc_files.specs.Readers.{HasWholeBytes, packet_in};
-    ghost use Rattle.mcc_import.specs.Importing.{AddsPacket, AreFile, EndsFile, HasEnded, HasImported, IsMade, JudgesItem, MayTake, MayTakeAll, SomeEnded, TakesBytes};
+    ghost use Rattle.mcc_import.specs.Importing.{AddsPacket, AreFile, EndsFile, HasEnded, HasImported, IsMade, JudgesItem, MayTake, MayTakeAll, MayTakeLine, SomeEnded, TakesBytes, TakesNext};
     ghost use Rattle.mcc_import.specs.declared.stop.MccStop.TheVariants as stop;
 
     /// An import that took nothing.
@@ -55,7 +86,7 @@ impl Importing {
     {
         Ok(Importing {
             reader: MccReader::new(),
-            receiver: Receiver::new(alloc)?,
+            hearer: Hearer::new(alloc)?,
             made: Made::new(),
             place: 0,
         })
@@ -86,9 +117,9 @@ impl Importing {
         add(&item.bytes, &mut bytes);
         let mut words = ArrayVec::new();
         put_words(self.reader.bytes().len(), &bytes, &mut words);
-        match feed(&mut self.receiver, &words) {
+        match self.hearer.hear(&words) {
             Ok(()) => Ok(()),
-            Err(why) => Err(self.offends(item.back, why)),
+            Err(refusal) => Err(self.offends(item.back, refusal.why)),
         }
     }
 
@@ -104,12 +135,12 @@ impl Importing {
         ensures file { (placed : TimedPackets) → HasEnded placed self.old
             → AreFile (placed ++ packet_in self.old.reader ∷ []) }
         ensures reader { self.new.reader ≡ self.old.reader }
-        ensures receiver { self.new.receiver ≡ self.old.receiver }
+        ensures hearer { self.new.hearer ≡ self.old.hearer }
         ensures place { self.new.place ≡ self.old.place }
         ensures cause { StopCause (O.faults out.old) (O.faults out.new) result }
     {
         let (did, sdid, user) = said(self.reader.bytes());
-        if did == 0x61 && sdid == 0x01 {
+        if did == CAPTION_DID && sdid == CAPTION_SDID {
             self.made.add_captions(self.reader.frame(), user, text, out)
         } else {
             self.made.add_other(did, sdid, user, text, out)
@@ -147,6 +178,63 @@ impl Importing {
         }
     }
 
+    /// Takes a packet's line, which `ahead` has read: its words are heard at once.
+    fn take_line<O: Sink>(
+        &mut self,
+        line: &[u8],
+        ahead: MccReader,
+        text: &mut Gathered,
+        out: &mut O,
+    ) -> Result<(), Stop<MccStop>>
+        requires { MayTakeLine self.old line.now ahead }
+        ensures takes { (before words : List ℕ) (start : Option (List ℕ))
+            (had : HasImported before words self.old) → ReadsLine before had.placed line.now ahead
+            → IsGathered start (O.written out.old) (held_of text.old) words
+            → TakesBytes start (O.written out.new) (held_of text.new) (before ++ line.now) self.new
+            result }
+        ensures cause { StopCause (O.faults out.old) (O.faults out.new) result }
+    {
+        let heard = self.hearer.heard;
+        let mut words = ArrayVec::new();
+        put_packet(ahead.bytes(), &mut words);
+        if let Err(word) = self.hearer.hear(&words) {
+            let refusal = offence_in(&self.reader, line, self.place, heard, word);
+            return Err(Stop::Own(MccStop::Offends(refusal)));
+        }
+        self.reader = ahead;
+        self.place += line.len() as u64;
+        self.end_line(text, out)
+    }
+
+    /// Takes the next line, if it is a packet's and stands whole in the bytes, of which there are some, and else the next byte: how many bytes.
+    fn take_next<O: Sink>(
+        &mut self,
+        bytes: &[u8],
+        text: &mut Gathered,
+        out: &mut O,
+    ) -> Result<usize, Stop<MccStop>>
+        requires may { MayTake self.old (length bytes.now) }
+        requires some { 0 < length bytes.now }
+        ensures takes { (before words : List ℕ) (start : Option (List ℕ))
+            → HasImported before words self.old
+            → IsGathered start (O.written out.old) (held_of text.old) words
+            → TakesNext start (O.written out.new) (held_of text.new) before bytes.now self.new
+            result }
+        ensures some { IfOk result (λ count. 0 < count) }
+        ensures within { IfOk result (λ count. count ≤ length bytes.now) }
+        ensures cause { StopCause (O.faults out.old) (O.faults out.new) result }
+    {
+        if self.reader.is_at_start() {
+            let mut ahead = self.reader.copied();
+            if let Some(count) = read_line(&mut ahead, bytes) {
+                self.take_line(&bytes[..count], ahead, text, out)?;
+                return Ok(count);
+            }
+        }
+        self.take(bytes[0], text, out)?;
+        Ok(1)
+    }
+
     /// Takes bytes of the file.
     pub(crate) fn take_all<O: Sink>(
         &mut self,
@@ -162,8 +250,10 @@ impl Importing {
             result }
         ensures cause { StopCause (O.faults out.old) (O.faults out.new) result }
     {
-        for byte in bytes {
-            self.take(*byte, text, out)?;
+        let mut rest = bytes;
+        while !rest.is_empty() {
+            let count = self.take_next(rest, text, out)?;
+            rest = &rest[count..];
         }
         Ok(())
     }

@@ -1,5 +1,6 @@
 ghost use Rattle.std.specs.Prelude.{◌≡◌, ◌≤◌, ◌<◌, ◌+◌, ◌++◌, [], ◌*◌, length, take, true, false, Ok, EachIndex, slice_index};
 ghost use Rattle.mcc_payloads.specs.Payloads.{Payload, payload_bytes};
+ghost use Rattle.mcc_payloads.specs.PayloadWords.{payload_words};
 ghost use Rattle.mcc_payloads.specs.Reading.{is_whole, joined};
 ghost use Rattle.mcc_import.specs.Words.{eight_words, open_words};
 ghost use Rattle.anc_words.specs.Writing.{eight_bit_word, word_bytes};
@@ -72,6 +73,32 @@ fn words_size(bytes: usize) -> usize
     if bytes == 0 { 0 } else { 6 + 2 * bytes }
 }
 
+/// How many bytes the words have of bytes of a payload, so many behind the first ones.
+pub(crate) fn words_more(first: usize, more: usize) -> u64
+    requires { 0 < more → first + more ≤ 259 }
+    ensures none { more ≡ 0 → result ≡ 0 }
+    ensures begun { 0 < more → first ≡ 0 → result ≡ 6 + 2 * more }
+    ensures on { 0 < first → result ≡ 2 * more }
+    ensures small { result ≤ 524 }
+{
+    if more == 0 {
+        return 0;
+    }
+    (words_size(first + more) - words_size(first)) as u64
+}
+
+/// The words of the packet of these bytes, into an empty `out`.
+pub(crate) fn put_packet(bytes: &[u8], out: &mut ArrayVec<u8, ROOM>)
+    requires whole { (payload : Payload) × (bytes.now ≡ payload_bytes payload) }
+    requires few { length bytes.now ≤ 259 }
+    requires empty { out.old.items ≡ [] }
+    ensures { (payload : Payload) → bytes.now ≡ payload_bytes payload
+        → out.new.items ≡ payload_words payload }
+{
+    let (did, sdid, user) = said(bytes);
+    write_packet(did, sdid, user, out);
+}
+
 /// The last words of the packet of these bytes, behind those of so many bytes, into an empty `out`.
 fn add_last(from: usize, bytes: &[u8], out: &mut ArrayVec<u8, ROOM>)
     requires from { from ≤ length bytes.now }
@@ -82,9 +109,8 @@ fn add_last(from: usize, bytes: &[u8], out: &mut ArrayVec<u8, ROOM>)
     requires empty { out.old.items ≡ [] }
     ensures { open_words (take from bytes.now) ++ out.new.items ≡ open_words bytes.now }
 {
-    let (did, sdid, user) = said(bytes);
     let mut words = ArrayVec::new();
-    write_packet(did, sdid, user, &mut words);
+    put_packet(bytes, &mut words);
     let size = words_size(from);
     add(&words[size..], out);
 }

@@ -5,6 +5,7 @@ pub use crate::import::run_import_mcc;
 pub use crate::stop::MccStop;
 
 mod adding;
+mod hearing;
 mod import;
 mod importing;
 mod item_words;

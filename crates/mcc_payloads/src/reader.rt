@@ -109,6 +109,21 @@ impl PayloadReader {
         }
     }
 
+    /// A reader that has read the same.
+    pub fn copied(&self) -> PayloadReader
+        ensures { open_of result ≡ open_of self.now }
+    {
+        let mut bytes = ArrayVec::new();
+        if bytes.try_extend_from_slice(&self.bytes).is_err() {
+            unreachable!();
+        }
+        PayloadReader {
+            digit: self.digit,
+            bytes,
+            counted: self.counted,
+        }
+    }
+
     /// Whether the text is a whole payload, so that it may end here.
     pub fn is_whole(&self) -> bool
         ensures { result ≡ may_end (open_of self.now) }

@@ -10,7 +10,7 @@ use std::alloc::Global;
 use std::process::Abort;
 use std::test::Fail;
 
-/// The import of a text, whole and byte by byte, is refused at this place, behind these words.
+/// The import of a text, whole, in pieces and byte by byte, is refused at this place, behind these words.
 fn refuses(
     rt: &impl Abort,
     alloc: Global,
@@ -19,7 +19,7 @@ fn refuses(
     why: Why,
     words: &[u8],
 ) -> Result<(), Fail> {
-    for piece in [1, usize::MAX] {
+    for piece in [1, 64, usize::MAX] {
         let ended = imported(alloc, text, piece)?;
         assert_eq!(rt; ended.status, Status::Malformed(Place::Byte(place), why));
         assert_eq!(rt; ended.out.bytes(), words);
@@ -131,6 +131,74 @@ fn words_offend_at_their_items(rt: HostRuntime) -> Result<(), Fail> {
     ];
     for (lines, place, why) in rows {
         refuses(&rt, alloc, &joined(alloc, &[HEAD, lines])?, place, why, b"")?;
+    }
+    Ok(())
+}
+
+/// Where a word offends in a line whose text goes on behind it: the word is named, whether more words offend in the line, the text does, or
+/// neither. The line of a second packet begins at place 83, and its payload at 95.
+#[test]
+fn words_offend_before_what_follows(rt: HostRuntime) -> Result<(), Fail> {
+    let alloc = rt.alloc();
+    let rows: [(&[u8], u64, Why, bool); 12] = [
+        // the text offends behind: no item, and a checksum byte that the other bytes don't have
+        (b"00:00:00:00\tT0B97x\n", 65, Why::Identifier, false),
+        (b"00:00:00:00\tT0BS0CV\n", 66, Why::Length, false),
+        (b"00:00:00:00\tT0BS0B9F43ZZ74ZZF06D\n", 68, Why::Rate, false),
+        // the text is a whole payload: another rate, with which the sum is wrong too, another sum, another length, a section
+        (b"00:00:00:00\tT0BS0B9F43ZZ74ZZF0BD\n", 68, Why::Rate, false),
+        (
+            b"00:00:00:00\tT0BS0B4F43ZZ74ZZF16E\r\n",
+            78,
+            Why::Sum,
+            false,
+        ),
+        (b"00:00:00:00\tT0062\n", 63, Why::Length, false),
+        (
+            b"00:00:00:00\tT0BS0B4F43ZZ75ZZEF6D \n",
+            74,
+            Why::Section,
+            false,
+        ),
+        // other counters, by a letter and by digits
+        (
+            b"00:00:00:00\tT0BS0B4F43ZZ74Z01EF6D\n",
+            77,
+            Why::Counter,
+            false,
+        ),
+        (
+            b"00:00:00:00\tT0BS0B4F43Z0174ZZEF6D\n",
+            78,
+            Why::Counter,
+            false,
+        ),
+        // a service block of 31 bytes in a channel packet of three, in the second packet
+        (
+            b"00:00:00:00\tT0BS0B4F43ZZ74ZZF06D\n00:00:00:01\tT49S494F43Z0172F4QRFF023FON74Z0177AB\n",
+            118,
+            Why::Overrun,
+            true,
+        ),
+        // behind blank lines and comments, and with an offending line behind
+        (
+            b"\n// a\n00:00:00:00\tT0BS0B9F43ZZ74ZZF0BD\nx\n",
+            74,
+            Why::Rate,
+            false,
+        ),
+        (
+            b"00:00:00:00\tT0BS0B4F43ZZ74ZZF06D\n00:00:00:01\tT0BS0B9F43ZZ74ZZF0BD\nx\n",
+            101,
+            Why::Rate,
+            true,
+        ),
+    ];
+    let one = words_of(alloc, &[Own(0)])?;
+    for (lines, place, why, behind) in rows {
+        let words: &[u8] = if behind { &one } else { b"" };
+        let text = joined(alloc, &[HEAD, lines])?;
+        refuses(&rt, alloc, &text, place, why, words)?;
     }
     Ok(())
 }

@@ -1,21 +1,17 @@
-use Rattle.std.proofs.Common.{◌≡◌, ◌≤◌, ◌∙◌, ◌-◌, ◌++◌, List, ℕ, ap, drop, length, sym, subst, take, arith}
+use Rattle.std.proofs.Common.{◌≡◌, ◌∙◌, ◌-◌, ◌++◌, ap, drop, length, take, arith}
 use Rattle.words_reading.proofs.PieceLemmas.{rest_is}
 use Rattle.mcc_payloads.specs.PayloadWords.{payload_words}
 use Rattle.mcc_import.specs.Words.{open_words}
-use Rattle.mcc_import.proofs.ItemLemmas.{last_fits, last_put, packet_said, whole_bytes, whole_few}
+use Rattle.mcc_import.proofs.ItemLemmas.{last_fits, last_put, whole_bytes}
 use Rattle.mcc_import.proofs.item_words.add_last.Goals as goal
 
-pub write_packet-requires-clause-few : goal.write_packet-requires-clause-few
-write_packet-requires-clause-few c =
-    let w = whole_bytes c.args.bytes.now c.requires.goes c.requires.whole in
-    let s = c.said-did.ensures.says w.payload w.are in
-    subst (λ (u : List ℕ). length u ≤ 255) (sym s.2) (whole_few c.args.bytes.now w.payload w.are c.requires.few)
+pub put_packet-requires-clause-whole : goal.put_packet-requires-clause-whole
+put_packet-requires-clause-whole c = let w = whole_bytes c.args.bytes.now c.requires.goes c.requires.whole in (w.payload, w.are)
 
 pub slice_bounds-add-count : goal.slice_bounds-add-count
 slice_bounds-add-count c =
     let w = whole_bytes c.args.bytes.now c.requires.goes c.requires.whole in
-    let s = c.said-did.ensures.says w.payload w.are in
-    let words = packet_said w.payload _ _ _ _ s.0 s.1 s.2 c.write_packet.ensures.bytes in
+    let words = c.put_packet.ensures w.payload w.are in
     let fits = last_fits c.args.bytes.now w.payload c.args.from c.words_size-size.result w.are c.requires.from c.requires.fewer c.words_size-size.ensures.none c.words_size-size.ensures.some in
     let long = ap length (c.deref.ensures.0 ∙ words) in
     omega (arith, fits, long)
@@ -23,8 +19,7 @@ slice_bounds-add-count c =
 pub slice_bounds-add-start : goal.slice_bounds-add-start
 slice_bounds-add-start c =
     let w = whole_bytes c.args.bytes.now c.requires.goes c.requires.whole in
-    let s = c.said-did.ensures.says w.payload w.are in
-    let words = packet_said w.payload _ _ _ _ s.0 s.1 s.2 c.write_packet.ensures.bytes in
+    let words = c.put_packet.ensures w.payload w.are in
     let fits = last_fits c.args.bytes.now w.payload c.args.from c.words_size-size.result w.are c.requires.from c.requires.fewer c.words_size-size.ensures.none c.words_size-size.ensures.some in
     let long = ap length (c.deref.ensures.0 ∙ words) in
     omega (arith, fits, long)
@@ -32,8 +27,7 @@ slice_bounds-add-start c =
 pub returns : goal.returns
 returns c =
     let w = whole_bytes c.args.bytes.now c.requires.goes c.requires.whole in
-    let s = c.said-did.ensures.says w.payload w.are in
-    let words : c.deref.result.now ≡ payload_words w.payload = c.deref.ensures.0 ∙ packet_said w.payload _ _ _ _ s.0 s.1 s.2 c.write_packet.ensures.bytes in
+    let words : c.deref.result.now ≡ payload_words w.payload = c.deref.ensures.0 ∙ c.put_packet.ensures w.payload w.are in
     let fits = last_fits c.args.bytes.now w.payload c.args.from c.words_size-size.result w.are c.requires.from c.requires.fewer c.words_size-size.ensures.none c.words_size-size.ensures.some in
     let long = ap length words in
     let size = c.words_size-size.result in

@@ -1,7 +1,6 @@
 use Rattle.std.proofs.Common.{◌≡◌, ◌∙◌, ◌-◌, ◌++◌, ◌<◌, Ok, ap, false, length, lit<, List, ℕ, [], refl, sym, subst, take, true, arith}
 use Rattle.std.proofs.Math.Seq.{take-append_seam}
 use Rattle.cc_base.specs.declared.refusal.Refusal.{Refusal}
-use Rattle.cc_base.specs.declared.why.Why.{Why}
 use Rattle.mcc_files.specs.Readers.{read_bytes, state_of}
 use Rattle.mcc_payloads.specs.Reading.{is_whole, joined}
 use Rattle.mcc_import.specs.Importing.{step_back, step_item}
@@ -49,8 +48,8 @@ put_words-requires-clause-fewer c =
     ∙ (ap (λ (b : List ℕ). take (length open_bytes) b) all ∙ take-append_seam open_bytes fit) in
     subst (λ (b : List ℕ). is_whole b ≡ false) (sym front) facts.not_yet
 
-pub feed-requires-clause-few : goal.feed-requires-clause-few
-feed-requires-clause-few c =
+pub hear-requires-clause-few : goal.hear-requires-clause-few
+hear-requires-clause-few c =
     let had = c.requires.had in
     let s = state_of c.args.self.now.reader had.placed in
     let none = c.if-len-eq0.false in
@@ -58,11 +57,11 @@ feed-requires-clause-few c =
     let some : 0 < length c.item-item.result.bytes.items = omega (arith, none, size) in
     let room = c.item-item.ensures.room some in
     let facts = item_facts c.requires.bytes s c.args.byte had.read (λ none. c.if-len-eq0.false (c.len.ensures.value ∙ ap length (c.item-item.ensures.bytes ∙ none))) in
-    state_few s c.requires.words c.args.self.now.made had.placed c.args.self.now.receiver (step_item c.args.self.now.reader c.args.byte) (length c.deref-3.result.now) refl had.made had.heard facts
+    state_few s c.requires.words c.args.self.now.made had.placed c.args.self.now.hearer (step_item c.args.self.now.reader c.args.byte) (length c.deref-3.result.now) refl had.made had.heard facts
     (omega (arith, room)) c.deref-3.ensures.1
 
-pub feed-requires-clause-heard : goal.feed-requires-clause-heard
-feed-requires-clause-heard c =
+pub hear-requires-clause-heard : goal.hear-requires-clause-heard
+hear-requires-clause-heard c =
     record { words = state_words (state_of c.args.self.now.reader c.requires.had.placed); heard = c.requires.had.heard }
 
 pub returns-in-Ok : goal.returns-in-Ok
@@ -82,7 +81,7 @@ returns-in-Ok c bytes words had =
       refl,
       refl,
       refl,
-      item_judged bytes words out c.args.byte (length open_bytes) c.args.self.now c.feed.new.receiver had some refl put
+      item_judged bytes words out c.args.byte (length open_bytes) c.args.self.now c.hear.new.self had some refl put
           (c.in-Ok.ensures (state_words (state_of c.args.self.now.reader had.placed)) had.heard),
     )
 
@@ -100,12 +99,12 @@ returns-in-Err c bytes words had =
     subst (λ (o : List ℕ). open_words (take (length open_bytes) c.deref-2.result.now) ++ o ≡ open_words c.deref-2.result.now) (sym c.deref-3.ensures.0) sized in
     let put = subst (λ (b : List ℕ). open_words (take (length open_bytes) b) ++ out ≡ open_words b) all shown in
     let some = λ (none : fit ≡ []). c.if-len-eq0.false (c.len.ensures.value ∙ ap length (c.item-item.ensures.bytes ∙ none)) in
-    let (word, offends, why_is) = c.in-Err.ensures (state_words (state_of c.args.self.now.reader had.placed)) had.heard in
+    let word = c.in-Err.refusal in
+    let offends = c.in-Err.ensures (state_words (state_of c.args.self.now.reader had.placed)) had.heard in
     let refusal : Refusal = record { place = length bytes - step_back c.args.self.now.reader; why = word.why } in (
       refusal,
       c.offends.ensures
-          ∙ (ap (λ (n : ℕ). stop.Offends (record { place = n - c.item-item.result.back; why = c.in-Err.why })) had.place_is
-          ∙ (ap (λ (n : ℕ). stop.Offends (record { place = length bytes - n; why = c.in-Err.why })) c.item-item.ensures.back
-          ∙ ap (λ (w : Why). stop.Offends (record { place = length bytes - step_back c.args.self.now.reader; why = w })) why_is)),
+          ∙ (ap (λ (n : ℕ). stop.Offends (record { place = n - c.item-item.result.back; why = word.why })) had.place_is
+          ∙ ap (λ (n : ℕ). stop.Offends (record { place = length bytes - n; why = word.why })) c.item-item.ensures.back),
       item_refused bytes words out c.args.byte (length open_bytes) c.args.self.now had word some refl put offends,
     )

@@ -48,7 +48,7 @@ returns-then-ended-clause-takes g c bytes words start had way =
     let now : Importing = record c.judge.new.self { reader = c.take.new.self; place = c.judge.new.self.place + 1 } in
     let line = line_taken bytes words c.args.byte c.args.self.now c.judge.new.self now had judged on.0 refl refl refl in
     line_result bytes words c.args.byte had.placed start (g.O.Sink.written c.end_line.new.out) (held_of c.end_line.new.text) now c.end_line.new.self c.end_line.result line
-    (c.end_line.ensures.file had.placed line.ended) (c.end_line.ensures.adds had.placed words start line.made way) c.end_line.ensures.reader c.end_line.ensures.receiver c.end_line.ensures.place
+    (c.end_line.ensures.file had.placed line.ended) (c.end_line.ensures.adds had.placed words start line.made way) c.end_line.ensures.reader c.end_line.ensures.hearer c.end_line.ensures.place
 
 pub returns-else-ended-clause-takes : goal.returns-else-ended-clause-takes
 returns-else-ended-clause-takes g c bytes words start had way =

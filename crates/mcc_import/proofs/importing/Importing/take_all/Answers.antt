@@ -1,42 +1,40 @@
-use Rattle.std.proofs.Common.{Err, rules, ◌≡◌, ◌∙◌, ◌<◌, ◌++◌, ℕ, List, arith, length, length-append, subst, take}
-use Rattle.std.proofs.lemmas.List.{length-take-le}
+use Rattle.std.proofs.Common.{Err, rules, ◌≡◌, ◌∙◌, length, refl, sym, subst}
+use Rattle.std.proofs.lemmas.Bool.{eqb-true}
 use Rattle.text_output.specs.Gathered.{held_of}
-use Rattle.mcc_import.specs.Importing.{HasImported}
-use Rattle.mcc_import.proofs.StepLemmas.{all_taken_by, halted_by, next_taken}
+use Rattle.words_reading.proofs.PieceLemmas.{rest_is}
+use Rattle.mcc_import.proofs.StepLemmas.{TakenFront, front_all, front_halts, front_may, front_more, none_taken}
 use Rattle.mcc_import.proofs.importing.Importing.take_all.Goals as goal
 
-pub take-requires : goal.take-requires
-take-requires g c =
-    let may = c.requires.may in
-    let (now, had, way) = c.loop-byte.invariant.takes may.bytes may.words c.requires.start may.had c.requires.way in
-    let below : c.loop-byte.byte-index < length c.args.bytes.now = c.loop-byte-test.true in
-    let front = length-take-le c.loop-byte.byte-index c.args.bytes.now (omega (arith, below)) in
-    let all = length-append may.bytes (take c.loop-byte.byte-index c.args.bytes.now) in
-    let within = may.within in
-    record { bytes = may.bytes ++ take c.loop-byte.byte-index c.args.bytes.now; words = now; had = had; within = omega (arith, below, front, all, within) }
+pub loop-rest-init : goal.loop-rest-init
+loop-rest-init g c = record { steady = refl; taken = none_taken c.args.bytes.now c.args.self.now (g.O.Sink.written c.args.out.now) (held_of c.args.text.now) }
 
-pub returns-in_err-take-clause-takes : goal.returns-in_err-take-clause-takes
-returns-in_err-take-clause-takes g c before words start had way =
-    let (now, has, gathered) = c.loop-byte.invariant.takes before words start had way in
-    let below : c.loop-byte.byte-index < length c.args.bytes.now = c.loop-byte-test.true in
-    let why = c.in_err-take.field-0.0 in
-    let answer : c.from_residual.result ≡ Err why = search rules in
-    rw answer (halted_by start (g.O.Sink.written c.take.new.out) (held_of c.take.new.text) before c.args.bytes.now c.loop-byte.byte-index why below
-    (c.in_err-take.ensures.takes (before ++ take c.loop-byte.byte-index c.args.bytes.now) now start has gathered))
+pub take_next-requires-clause-may : goal.take_next-requires-clause-may
+take_next-requires-clause-may g c =
+    front_may c.args.bytes.now c.loop-rest.rest.now c.args.self.now c.loop-rest.self (g.O.Sink.written c.args.out.now) (g.O.Sink.written c.loop-rest.out) (held_of c.args.text.now)
+    (held_of c.loop-rest.text) c.loop-rest.invariant.taken c.requires
 
-pub loop-byte-preserved : goal.loop-byte-preserved
-loop-byte-preserved g c =
-    let below : c.loop-byte.byte-index < length c.args.bytes.now = c.loop-byte-test.true in
+pub loop-rest-preserved : goal.loop-rest-preserved
+loop-rest-preserved g c =
+    let rest = c.loop-rest.rest.now in
+    let count = c.in_ok-count.count in
     record {
-      steady = c.in_ok-take.ensures.cause ∙ c.loop-byte.invariant.steady;
-      takes = λ before words start had way.
-          let (now, has, gathered) = c.loop-byte.invariant.takes before words start had way in
-          let (more, took, put) = c.in_ok-take.ensures.takes (before ++ take c.loop-byte.byte-index c.args.bytes.now) now start has gathered in
-          (more, subst (λ (b : List ℕ). HasImported b more c.take.new.self) (next_taken before c.args.bytes.now c.loop-byte.byte-index below) took, put);
+      steady = c.in_ok-count.ensures.cause ∙ c.loop-rest.invariant.steady;
+      taken = subst
+          (λ r. TakenFront c.args.bytes.now r c.args.self.now c.take_next.new.self (g.O.Sink.written c.args.out.now) (g.O.Sink.written c.take_next.new.out) (held_of c.args.text.now)
+          (held_of c.take_next.new.text)) (sym (rest_is count rest c.in_ok-count.ensures.within))
+          (front_more c.args.bytes.now rest count c.args.self.now c.loop-rest.self c.take_next.new.self (g.O.Sink.written c.args.out.now) (g.O.Sink.written c.loop-rest.out)
+          (g.O.Sink.written c.take_next.new.out) (held_of c.args.text.now) (held_of c.loop-rest.text) (held_of c.take_next.new.text) c.loop-rest.invariant.taken c.in_ok-count.ensures.takes);
     }
+
+pub returns-in_err-count-clause-takes : goal.returns-in_err-count-clause-takes
+returns-in_err-count-clause-takes g c before words start had way =
+    let why = c.in_err-count.field-0.0 in
+    let answer : c.from_residual.result ≡ Err why = search rules in
+    rw answer (front_halts c.args.bytes.now c.loop-rest.rest.now before words c.args.self.now c.loop-rest.self c.take_next.new.self start (g.O.Sink.written c.args.out.now)
+    (g.O.Sink.written c.loop-rest.out) (g.O.Sink.written c.take_next.new.out) (held_of c.args.text.now) (held_of c.loop-rest.text) (held_of c.take_next.new.text) why c.loop-rest.invariant.taken
+    c.in_err-count.ensures.takes had way)
 
 pub returns-clause-takes : goal.returns-clause-takes
 returns-clause-takes g c before words start had way =
-    let (now, has, gathered) = c.loop-byte.invariant.takes before words start had way in
-    let past = c.loop-byte-test.false in
-    (now, subst (λ (b : List ℕ). HasImported b now c.loop-byte.self) (all_taken_by before c.args.bytes.now c.loop-byte.byte-index (omega (arith, past))) has, gathered)
+    front_all c.args.bytes.now c.loop-rest.rest.now before words c.args.self.now c.loop-rest.self start (g.O.Sink.written c.args.out.now) (g.O.Sink.written c.loop-rest.out) (held_of c.args.text.now)
+    (held_of c.loop-rest.text) c.loop-rest.invariant.taken (eqb-true (length c.loop-rest.rest.now) 0 (sym c.loop-rest-test.ensures)) had way

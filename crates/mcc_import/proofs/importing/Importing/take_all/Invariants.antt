@@ -1,11 +1,13 @@
-use Rattle.std.proofs.Common.{◌≡◌, ◌++◌, List, ℕ, Option, take}
-use Rattle.text_output.specs.Gathered.{IsGathered, held_of}
-use Rattle.mcc_import.specs.Importing.{HasImported}
+use Rattle.std.proofs.Common.{◌≡◌, length}
+use Rattle.text_output.specs.Gathered.{held_of}
+use Rattle.mcc_import.proofs.StepLemmas.{TakenFront}
 use Rattle.mcc_import.proofs.importing.Importing.take_all.Given as goal
 
-abbrev pub invariant-loop-byte : goal.invariant-loop-byte
-invariant-loop-byte g l = record {
+abbrev pub invariant-loop-rest : goal.invariant-loop-rest
+invariant-loop-rest g l = record {
   steady : g.O.Sink.faults l.out ≡ g.O.Sink.faults l.fn.out;
-  takes : (before words : List ℕ) (start : Option (List ℕ)) → HasImported before words l.fn.self → IsGathered start (g.O.Sink.written l.fn.out) (held_of l.fn.text) words
-      → (now : List ℕ) × HasImported (before ++ take l.byte-index l.bytes) now l.self × IsGathered start (g.O.Sink.written l.out) (held_of l.text) now;
+  taken : TakenFront l.bytes l.rest l.fn.self l.self (g.O.Sink.written l.fn.out) (g.O.Sink.written l.out) (held_of l.fn.text) (held_of l.text);
 }
+
+abbrev pub decreases-loop-rest : goal.decreases-loop-rest
+decreases-loop-rest g l = length l.rest
