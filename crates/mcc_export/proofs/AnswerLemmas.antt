@@ -17,7 +17,6 @@ use Rattle.words_reading.specs.Causes.{IsWholeFile}
 use Rattle.words_reading.specs.Reading.{Stops, StopsEarly as Stopped}
 use Rattle.words_reading.specs.Statuses.{stop_status as status_of}
 use Rattle.words_reading.specs.declared.judge.Stop.{Stop}
-use Rattle.words_reading.specs.declared.judge.Stop.TheVariants as stop
 use Rattle.mcc_export.proofs.StepLemmas.{Halts}
 use Rattle.mcc_export.specs.ExportMcc.{ExportMccAnswer, HaltsMcc, SaysMcc, start_at}
 use Rattle.mcc_export.specs.ExportSteps.{HasJudged, stop_status}

@@ -34,7 +34,7 @@ use Rattle.words_reading.specs.declared.judge.Stop.{Stop}
 use Rattle.words_reading.specs.declared.judge.Stop.TheVariants as stop
 use Rattle.mcc_export.proofs.ExportedLemmas.{mcc_caption, mcc_foreign, mcc_nothing, mcc_same}
 use Rattle.mcc_export.specs.ExportMcc.{HaltsMcc, IsMccOf, SaysMcc}
-use Rattle.mcc_export.specs.ExportSteps.{AddsLine, HasJudged, HasReadWords, IsAnyPacket, IsStoppedBy, StandsBehind, WritesCaption, WritesForeign, stop_status}
+use Rattle.mcc_export.specs.ExportSteps.{AddsLine, HasJudged, HasReadWords, IsAnyPacket, IsCaptionPacket, IsStoppedBy, StandsBehind, WritesCaption, WritesForeign, stop_status}
 use Rattle.mcc_export.specs.Exported.{Brings, IsFoundAtPacket, StopsAtPacket}
 use Rattle.mcc_export.specs.declared.clock.Clock.{Clock}
 use Rattle.mcc_export.specs.declared.stop.MccStop.{MccStop}
@@ -88,8 +88,8 @@ may_follow exporting more ready = packets_follow exporting.packets ready.before 
 pub any_foreign : (frames : List Frame) (file bytes : List ℕ) (packets : Packets) → EndsForeign frames file bytes packets → IsAnyPacket bytes
 any_foreign frames file bytes packets is = record { packet = is.packet; is = is.is }
 
-pub any_caption : (frames : List Frame) (file bytes : List ℕ) (packets : Packets) → EndsCaption frames file bytes packets → IsAnyPacket bytes
-any_caption frames file bytes packets is = record { packet = is.packet; is = is.is }
+pub any_caption : (frames : List Frame) (file bytes : List ℕ) (packets : Packets) → EndsCaption frames file bytes packets → IsCaptionPacket bytes
+any_caption frames file bytes packets is = record { packet = is.packet; is = is.is; is_caption = is.is_caption }
 
 pub some_frame : (frames : List Frame) (file bytes : List ℕ) (packets : Packets) → EndsCaption frames file bytes packets → 0 < frame_count packets.receiver
 some_frame frames file bytes packets is =

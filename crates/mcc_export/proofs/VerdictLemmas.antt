@@ -34,7 +34,7 @@ use Rattle.words_files.specs.FramesOf.{AreFramesOf}
 use Rattle.words_files.specs.Offences.{FirstOffendingWord, IsFileUnder}
 use Rattle.words_reading.proofs.EarlyLemmas.{file_answers, file_told, long_answers, malformed_answers, unless}
 use Rattle.words_reading.proofs.KnownLemmas.{known_judged, known_whole, long_front, within_passes}
-use Rattle.words_reading.specs.Answers.{IsPastLimit, StopsOwn}
+use Rattle.words_reading.specs.Answers.{StopsOwn}
 use Rattle.words_reading.specs.Causes.{IsAnyhow, IsRefusedWith, IsWholeFile, words_limit}
 use Rattle.words_reading.specs.Reading.{Stops}
 use Rattle.mcc_export.specs.ExportMcc.{ExportMccAnswer, HaltsMcc, SaysMcc, StopsBehind}

@@ -1,7 +1,7 @@
 -- Between crates: the program's answer stands on none of these definitions.
 -- Steps on the way through packets whose MCC file is put.
 use Rattle.std.specs.Prelude.{◌≡◌, ◌≢◌, ℕ, ◌+◌, ◌-◌, ◌<◌, ◌≤◌, ◌⊎◌, true, false, List, [], ◌∷◌, ◌++◌, length, take, Option, Some, None, Result, Ok, Err}
-use Rattle.anc_words.specs.Packets.{AncillaryPacket}
+use Rattle.anc_words.specs.Packets.{AncillaryPacket, IsCaption}
 use Rattle.anc_words.specs.WordsFiles.{IsPacketBytes}
 use Rattle.cc_base.specs.declared.limit_of.LimitOf.TheVariants as limit
 use Rattle.cc_base.specs.declared.rate.Rate.{Rate}
@@ -96,6 +96,12 @@ Passes start frames seen clock (Err why) = IsStoppedBy start frames seen why
 pub record IsAnyPacket (bytes : List ℕ) : Type 0 where
   pub packet : AncillaryPacket
   pub is : IsPacketBytes packet bytes
+
+-- or one of captions
+pub record IsCaptionPacket (bytes : List ℕ) : Type 0 where
+  pub packet : AncillaryPacket
+  pub is : IsPacketBytes packet bytes
+  pub is_caption : IsCaption packet
 
 -- the user bytes of what a packet says, and its payload
 abbrev pub user_in : Said → List ℕ

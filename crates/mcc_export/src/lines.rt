@@ -2,7 +2,7 @@ ghost use Rattle.std.specs.Prelude.{◌≡◌, ℕ, [], List, length};
 ghost use Rattle.anc_words.specs.Packets.{AncillaryPacket};
 ghost use Rattle.anc_words.specs.WordsFiles.{IsPacketBytes};
 ghost use Rattle.cdp_packets.specs.Packets.{Frame};
-ghost use Rattle.mcc_export.specs.ExportSteps.{IsAnyPacket, StandsBehind, WritesCaption, WritesForeign};
+ghost use Rattle.mcc_export.specs.ExportSteps.{IsAnyPacket, IsCaptionPacket, StandsBehind, WritesCaption, WritesForeign};
 ghost use Rattle.mcc_export.specs.declared.start.Start.{Start as StartOf};
 
 use crate::clock::Clock;
@@ -11,7 +11,7 @@ use crate::stop::MccStop;
 use arrayvec::ArrayVec;
 use cc_base::Rate;
 use findings::{Finding, Kind45};
-use mcc_files::{LINE, packet_line};
+use mcc_files::{LINE, packet_line, words_line};
 
 /// Writes the line of a packet that isn't of captions, behind so many that are, into an empty `line`.
 pub(crate) fn foreign_line(
@@ -52,7 +52,7 @@ pub(crate) fn caption_line(
     number: u32,
     line: &mut ArrayVec<u8, LINE>,
 ) -> Result<(), MccStop>
-    requires packet { IsAnyPacket packet.now }
+    requires packet { IsCaptionPacket packet.now }
     requires empty { line.old.items ≡ [] }
     ensures { (start : StartOf) (frames : List Frame) (is : AncillaryPacket)
         → StandsBehind start frames clock.old → number ≡ length frames
@@ -63,7 +63,6 @@ pub(crate) fn caption_line(
         Ok(frame) => frame,
         Err(why) => return Err(why),
     };
-    let said = read(packet);
-    packet_line(clock.count(), frame, said.did, said.sdid, said.user(), line);
+    words_line(clock.count(), frame, packet, line);
     Ok(())
 }

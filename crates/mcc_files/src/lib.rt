@@ -3,7 +3,7 @@
 #![tactic(auto)]
 
 pub use crate::reader::MccReader;
-pub use crate::writer::{HEAD, LINE, head, packet_line};
+pub use crate::writer::{HEAD, LINE, head, packet_line, words_line};
 
 pub mod laws;
 mod phase;

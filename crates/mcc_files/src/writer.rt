@@ -1,10 +1,12 @@
-ghost use Rattle.std.specs.Prelude.{◌≡◌, ◌≤◌, ◌<◌, ◌+◌, ◌++◌, [], length};
+ghost use Rattle.std.specs.Prelude.{◌≡◌, ◌≤◌, ◌<◌, ◌+◌, ◌++◌, ◌∷◌, [], length};
+ghost use Rattle.mcc_payloads.specs.Payloads.{Payload};
+ghost use Rattle.mcc_payloads.specs.PayloadWords.{IsPayloadOf};
 ghost use Rattle.time_codes.specs.Countings.{day_frames_in};
 ghost use Rattle.mcc_files.specs.Lines.{format_text};
-ghost use Rattle.mcc_files.specs.Writing.{IsWrittenLine, written_head, written_version};
+ghost use Rattle.mcc_files.specs.Writing.{IsWrittenLine, time_text, written_head, written_version};
 
 use arrayvec::ArrayVec;
-use mcc_payloads::write_payload;
+use mcc_payloads::{add_payload, write_payload};
 use time_codes::{Counting, time_in, time_text};
 
 /// The most bytes of a head.
@@ -56,14 +58,37 @@ pub fn packet_line(
     ensures { IsWrittenLine count frame
         (record { did = did; sdid = sdid; user = user.now }) out.new.items }
 {
-    let mut time = time_in(count, frame);
-    time.drop_frame = false;
     let mut payload = ArrayVec::new();
     write_payload(did, sdid, user, &mut payload);
-    add(&time_text(time), out);
-    add(b"\t", out);
+    add_time(count, frame, out);
     add(&payload, out);
     add(b"\n", out);
+}
+
+/// The line of the packet of these bytes, whose user words are 8-bit words, at a frame of the day, into `out`, which is empty before: as
+/// `packet_line` has it, of what the packet says.
+pub fn words_line(count: Counting, frame: u32, packet: &[u8], out: &mut ArrayVec<u8, LINE>)
+    requires day { frame < day_frames_in count }
+    requires packet { (payload : Payload) × IsPayloadOf payload packet.now }
+    requires empty { out.old.items ≡ [] }
+    ensures { (payload : Payload) → IsPayloadOf payload packet.now
+        → IsWrittenLine count frame payload out.new.items }
+{
+    add_time(count, frame, out);
+    add_payload(packet, out);
+    out.push(b'\n');
+}
+
+/// The front of a line at a frame of the day, into `out`, which is empty before: the frame's time code with a colon throughout, and TAB.
+fn add_time(count: Counting, frame: u32, out: &mut ArrayVec<u8, LINE>)
+    requires day { frame < day_frames_in count }
+    requires empty { out.old.items ≡ [] }
+    ensures { out.new.items ≡ time_text count frame ++ (9 ∷ []) }
+{
+    let mut time = time_in(count, frame);
+    time.drop_frame = false;
+    add(&time_text(time), out);
+    add(b"\t", out);
 }
 
 /// Adds bytes for which there is room.

@@ -1,5 +1,5 @@
 -- The first of the bytes of an item, down to one that offends.
-use Rattle.std.proofs.Common.{◌≡◌, ℕ, suc, ◌+◌, ◌≤◌, ◌<◌, true, List, [], ◌∷◌, ◌++◌, length, length-append, take, drop, get_or, Option, None, Some, refl, ap, sym, ◌∙◌, subst, append_assoc, append-nil, drop-cons, add-one, arith}
+use Rattle.std.proofs.Common.{◌≡◌, ℕ, suc, ◌+◌, ◌≤◌, ◌<◌, true, List, [], ◌∷◌, ◌++◌, length, length-append, take, drop, get_or, None, Some, refl, ap, sym, ◌∙◌, subst, append_assoc, append-nil, drop-cons, add-one, arith}
 use Rattle.std.proofs.lemmas.List.{take_more}
 use Rattle.cc_base.specs.declared.why.Why.{Why}
 use Rattle.mcc_payloads.specs.Counts.{AreCounted}

@@ -11,4 +11,5 @@ pub mod FirstLemmas
 pub mod WordLemmas
 pub mod SumLemmas
 pub mod OneLemmas
+pub mod LowLemmas
 pub mod FittingLemmas

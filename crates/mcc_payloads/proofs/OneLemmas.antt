@@ -1,18 +1,18 @@
 -- A text has one first offence, which is the one that is read.
-use Rattle.std.proofs.Common.{◌≡◌, ◌⊎◌, inl, inr, ℕ, zero, suc, ◌+◌, ◌-◌, ◌*◌, Bool, true, false, cond, List, [], ◌∷◌, ◌++◌, length, Option, Some, None, Result, Ok, Err, IsSome, refl, ap, sym, ◌∙◌, subst, arith, append_assoc, append-nil, length-append}
+use Rattle.std.proofs.Common.{◌≡◌, inl, inr, ℕ, ◌+◌, ◌-◌, ◌*◌, Bool, true, false, List, [], ◌∷◌, ◌++◌, length, Option, Some, None, Result, Ok, Err, IsSome, refl, ap, sym, ◌∙◌, subst, arith, append_assoc, append-nil}
 use Rattle.std.specs.List.{concat}
 use Rattle.cc_base.specs.declared.refusal.Refusal.{Refusal}
 use Rattle.cc_base.specs.declared.why.Why.{Why}
 use Rattle.cc_base.specs.declared.why.Why.TheVariants as why
 use Rattle.hex_digits.specs.HexDigits.{hex_value}
-use Rattle.mcc_payloads.specs.Items.{AreDigits, AreItems, IsItem, IsLetter}
+use Rattle.mcc_payloads.specs.Items.{AreItems, IsItem}
 use Rattle.mcc_payloads.specs.Letters.{letter_bytes}
-use Rattle.mcc_payloads.specs.Offences.{BeginsForm, BeginsPayload, BringWrongSum, ByteOffends, EndsEarly, IsFirstOffence, IsItemWhy, IsOpenDigit, IsUnoffending, ItemOffends}
-use Rattle.mcc_payloads.specs.Payloads.{IsPayload, IsPayloadForm, Payload, bytes_with, checksum_byte, payload_bytes}
-use Rattle.mcc_payloads.specs.Reading.{Open, behind, is_whole, item_ends, joined, joined_on, no_item, nothing_open, read_from, read_payload, step, stepped, why_of_byte}
+use Rattle.mcc_payloads.specs.Offences.{BeginsForm, BeginsPayload, ByteOffends, EndsEarly, IsFirstOffence, IsItemWhy, IsOpenDigit, IsUnoffending, ItemOffends}
+use Rattle.mcc_payloads.specs.Payloads.{IsPayloadForm, bytes_with, checksum_byte, payload_bytes}
+use Rattle.mcc_payloads.specs.Reading.{Open, is_whole, joined, joined_on, no_item, nothing_open, read_from, read_payload, step, stepped}
 use Rattle.mcc_payloads.specs.declared.reader.Offence.{Offence}
 use Rattle.mcc_payloads.proofs.CompleteLemmas.{begins_form, begins_payload, concat_both, items_both, joined_form, open_taken}
-use Rattle.mcc_payloads.proofs.FirstLemmas.{Stands, at_item, at_digit, Refuses, of_letter, of_digits, of_byte, both_ways, closed_of, digit_step, form_leads, item_why, letter_refused, no_going_on, refused_by, stands_lead, stands_on, stands_unoffending, whole_refuses, whole_stop}
+use Rattle.mcc_payloads.proofs.FirstLemmas.{Stands, at_item, at_digit, Refuses, of_letter, of_digits, of_byte, both_ways, closed_of, digit_step, form_leads, item_why, no_going_on, refused_by, stands_lead, stands_on, stands_unoffending, whole_refuses, whole_stop}
 use Rattle.mcc_payloads.proofs.LetterLemmas.{no_letter_is_digit}
 use Rattle.mcc_payloads.proofs.PacketLemmas.{packet_joined}
 use Rattle.mcc_payloads.proofs.ReadLemmas.{items_lead}

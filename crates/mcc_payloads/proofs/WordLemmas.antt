@@ -1,12 +1,12 @@
 -- The words of the packets of payloads.
-use Rattle.std.proofs.Common.{◌≡◌, ℕ, suc, ◌+◌, ◌%◌, ◌≤◌, ◌<◌, List, [], ◌∷◌, ◌++◌, length, map, refl, ap, sym, ◌∙◌, subst, arith, length-append}
+use Rattle.std.proofs.Common.{◌≡◌, ℕ, suc, ◌%◌, ◌<◌, List, [], ◌∷◌, ◌++◌, length, map, refl, ap, subst, arith}
 use Rattle.std.specs.List.{All}
 use Rattle.std.proofs.lemmas.List.Elements.{All-append}
 use Rattle.anc_words.proofs.EightBitLemmas.{IsEightBit-word}
 use Rattle.anc_words.proofs.PacketLemmas.{IsPacketBytes-same_bytes, packet_bytes-is}
 use Rattle.anc_words.specs.EightBitWords.{IsEightBit}
 use Rattle.anc_words.specs.Packets.{AncillaryPacket, user_bytes}
-use Rattle.anc_words.specs.Writing.{eight_bit_word, packet_bytes, packet_of}
+use Rattle.anc_words.specs.Writing.{eight_bit_word, packet_of}
 use Rattle.anc_words.specs.WordsFiles.{IsPacketBytes}
 use Rattle.mcc_payloads.specs.Payloads.{Payload, checksum_byte, payload_bytes}
 use Rattle.mcc_payloads.specs.PayloadWords.{payload_of, payload_words}

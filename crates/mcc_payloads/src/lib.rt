@@ -4,7 +4,7 @@
 
 pub use crate::letters::letter_bytes;
 pub use crate::reader::{Item, Offence, PayloadReader};
-pub use crate::writer::write_payload;
+pub use crate::writer::{add_payload, write_payload};
 
 pub mod laws;
 mod letters;

@@ -194,7 +194,7 @@ fn longest_letters_are_written(rt: HostRuntime) {
         (&[0x0A], b"0A"),
     ];
     for (row, (bytes, text)) in rows.iter().enumerate() {
-        let mut out = ArrayVec::new();
+        let mut out: ArrayVec<u8, 518> = ArrayVec::new();
         write_bytes(bytes, &mut out);
         assert_eq!(rt; out.as_slice(), *text, "row {row}");
     }
@@ -208,7 +208,7 @@ fn fillers_are_written_by_nines(rt: HostRuntime) {
     ];
     let mut bytes: ArrayVec<u8, 259> = ArrayVec::new();
     for text in texts {
-        let mut out = ArrayVec::new();
+        let mut out: ArrayVec<u8, 518> = ArrayVec::new();
         write_bytes(bytes.as_slice(), &mut out);
         assert_eq!(rt; out.as_slice(), text);
         let _ = bytes.try_extend_from_slice(&[0xFA, 0, 0]);

@@ -1,10 +1,19 @@
-ghost use Rattle.std.specs.Prelude.{◌≡◌, ◌≤◌, ◌<◌, ◌+◌, ◌++◌, [], length, take, drop, MatchOption, IfSome, None};
+ghost use Rattle.std.specs.Prelude.{◌≡◌, ◌≤◌, ◌<◌, ◌+◌, ◌*◌, ◌++◌, ℕ, List, [], length, map, take, drop, MatchOption, IfSome, None};
+ghost use Rattle.anc_words.specs.CaptionWords.{low_of};
+ghost use Rattle.arrayvec.specs.ArrayVec.{array_vec_len};
 ghost use Rattle.mcc_payloads.specs.Writing.{FitsBest, FitsNone, IsWritten};
-ghost use Rattle.mcc_payloads.specs.Payloads.{checksum_byte, payload_bytes};
+ghost use Rattle.mcc_payloads.specs.Payloads.{Payload, checksum_byte, payload_bytes};
+ghost use Rattle.mcc_payloads.specs.PayloadWords.{IsPayloadOf};
 ghost use Rattle.mcc_payloads.specs.Fillers.{AreAhead};
 
 use arrayvec::ArrayVec;
 use hex_digits::upper_hex_digit;
+
+/// The most bytes of a payload: DID, SDID, the count, 255 user bytes and the checksum byte.
+const MOST: usize = 259;
+
+/// The bytes of the ancillary data flag, of three words.
+const FLAG: usize = 6;
 
 /// How many triplets FA 00 00 stand at the front of `bytes`, at most 9.
 fn fillers_ahead(bytes: &[u8]) -> u8
@@ -42,11 +51,12 @@ fn letter_ahead(bytes: &[u8]) -> Option<(u8, usize)>
     }
 }
 
-/// Writes the bytes of a packet, at most 259, as a payload's text into `out`, which is empty before.
-pub(crate) fn write_bytes(bytes: &[u8], out: &mut ArrayVec<u8, 518>)
-    requires few { length bytes.now ≤ 259 }
-    requires empty { out.old.items ≡ [] }
-    ensures { IsWritten bytes.now out.new.items }
+/// Adds the text of the bytes of a packet to `out`, in which there is room for two bytes for each.
+pub(crate) fn write_bytes<const ROOM: usize>(bytes: &[u8], out: &mut ArrayVec<u8, ROOM>)
+    requires { array_vec_len out.old + 2 * length bytes.now ≤ ROOM }
+    ensures written { (text : List ℕ) × IsWritten bytes.now text
+        × (out.new.items ≡ out.old.items ++ text) }
+    ensures few { array_vec_len out.new ≤ array_vec_len out.old + 2 * length bytes.now }
 {
     let mut rest = bytes;
     while let [first, behind @ ..] = rest {
@@ -62,6 +72,41 @@ pub(crate) fn write_bytes(bytes: &[u8], out: &mut ArrayVec<u8, 518>)
             }
         }
     }
+}
+
+/// The low one of a word's two bytes. It is taken from the word, since words one behind another are read in one load, and every second
+/// byte in a load each.
+fn low_byte(word: [u8; 2]) -> u8
+    ensures { result ≡ low_of word }
+{
+    ((256 * u16::from(word[0]) + u16::from(word[1])) % 256) as u8
+}
+
+/// Puts the low bytes of words into the front of `bytes`.
+fn low_bytes(words: &[[u8; 2]], bytes: &mut [u8; MOST])
+    requires { length words.now ≤ 259 }
+    ensures { bytes.new ≡ map low_of words.now ++ drop (length words.now) bytes.old }
+{
+    for place in 0..words.len() {
+        bytes[place] = low_byte(words[place]);
+    }
+}
+
+/// Adds the payload of the packet of these bytes, whose user words are 8-bit words, to `out`, in which there is room for 518 bytes: DID,
+/// SDID, count, the user bytes and the low eight bits of the checksum word (SMPTE ST 291-1), at each byte the letter with the most bytes
+/// that fits, of `G` to `T` and `Z`, else two upper-case hex digits.
+pub fn add_payload<const ROOM: usize>(packet: &[u8], out: &mut ArrayVec<u8, ROOM>)
+    requires packet { (payload : Payload) × IsPayloadOf payload packet.now }
+    requires room { array_vec_len out.old + 518 ≤ ROOM }
+    ensures written { (payload : Payload) → IsPayloadOf payload packet.now
+        → (text : List ℕ) × IsWritten (payload_bytes payload) text
+        × (out.new.items ≡ out.old.items ++ text) }
+    ensures few { array_vec_len out.new ≤ array_vec_len out.old + 518 }
+{
+    let (words, _) = packet[FLAG..].as_chunks::<2>();
+    let mut bytes = [0; MOST];
+    low_bytes(words, &mut bytes);
+    write_bytes(&bytes[..words.len()], out);
 }
 
 /// The low eight bits of the checksum word of a packet.

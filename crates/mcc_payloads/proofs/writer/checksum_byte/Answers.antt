@@ -1,4 +1,4 @@
-use Rattle.std.proofs.Common.{◌≡◌, ◌+◌, ◌%◌, ◌∙◌, ap, arith, get_or, length, take}
+use Rattle.std.proofs.Common.{◌+◌, ◌%◌, ◌∙◌, ap, arith, get_or, length, take}
 use Rattle.std.proofs.lemmas.List.{take_all, take_more}
 use Rattle.mcc_payloads.proofs.PacketLemmas.{sum_onto}
 use Rattle.mcc_payloads.proofs.SumLemmas.{checksum_so, sum_more}

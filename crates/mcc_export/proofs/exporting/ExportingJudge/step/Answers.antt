@@ -5,7 +5,7 @@ use Rattle.services_files.specs.CaptionChannel.{caption_channel}
 use Rattle.packet_reading.proofs.WayLemmas.{ends_caption, ends_foreign, read_caption, read_foreign, read_still}
 use Rattle.packet_reading.specs.OpenPackets.{open_bytes}
 use Rattle.mcc_export.proofs.StepLemmas.{any_caption, any_foreign, halted_caption, halted_foreign, judged_caption, judged_foreign, judged_still, line_judged, line_read, line_used, may_follow, some_frame, word_refused}
-use Rattle.mcc_export.specs.ExportSteps.{IsAnyPacket, WritesCaption, WritesForeign}
+use Rattle.mcc_export.specs.ExportSteps.{IsAnyPacket, IsCaptionPacket, WritesCaption, WritesForeign}
 use Rattle.mcc_export.proofs.exporting.ExportingJudge.step.Goals as goal
 
 pub feed-requires : goal.feed-requires
@@ -48,7 +48,7 @@ pub caption_line-requires-clause-packet : goal.caption_line-requires-clause-pack
 caption_line-requires-clause-packet g c =
     let may = c.requires.ready.read in
     let read = c.in-Ok.ensures may.frames may.file may.read in
-    subst IsAnyPacket (sym c.bytes-packet.ensures.is)
+    subst IsCaptionPacket (sym c.bytes-packet.ensures.is)
     (any_caption may.frames may.file (open_bytes c.feed.new.self) c.feed.new.self (ends_caption c.in-Ok.fed.ended may.frames may.file c.feed.new.self c.in-Caption.is read.ends))
 
 pub returns-in-Ok-foreign_line-clause-reads : goal.returns-in-Ok-foreign_line-clause-reads
