@@ -9,13 +9,13 @@ use Rattle.mcc_files.proofs.FileReads.{file_run, lf_step}
 use Rattle.mcc_files.proofs.OriginLemmas.{origin}
 use Rattle.mcc_files.proofs.Refused.{no_offence, one_offence}
 use Rattle.mcc_files.proofs.PacketReads.{in_payload}
-use Rattle.mcc_files.proofs.RunLemmas.{ok_one, ok_same, run_front, run_more, run_on, went}
+use Rattle.mcc_files.proofs.RunLemmas.{ok_one, run_front, run_on}
 use Rattle.mcc_files.proofs.UnitReads.{awaiting_item, digit_runs}
 use Rattle.mcc_files.proofs.Unoffending.{unoffending}
 use Rattle.mcc_files.specs.MccFiles.{IsMccFile, TimedPackets}
 use Rattle.mcc_files.specs.Offences.{MccByteOffends}
 use Rattle.mcc_files.specs.Readers.{back_in, item_in}
-use Rattle.mcc_files.specs.Reading.{State, at_first, ends, placed_with, run, started, take_byte}
+use Rattle.mcc_files.specs.Reading.{State, at_first, ends, placed_with, run, started}
 use Rattle.mcc_payloads.proofs.StepLemmas.{at_bytes}
 use Rattle.mcc_payloads.specs.Items.{AreDigits, IsItem, IsLetter}
 use Rattle.mcc_payloads.specs.Payloads.{Payload, payload_bytes}
@@ -26,61 +26,16 @@ use Rattle.services_files.specs.CaptionChannel.{caption_channel}
 use Rattle.words_files.proofs.EndingLemmas.{file_whole, offence_stays}
 use Rattle.words_files.proofs.WordLemmas.{front_of}
 use Rattle.words_files.specs.Offences.{FirstOffendingWord, IsFileUnder, IsUnoffending}
+use Rattle.mcc_import.proofs.FrontLemmas.{item_read}
 use Rattle.mcc_import.proofs.JudgeLemmas.{item_facts}
 use Rattle.mcc_import.proofs.OffenceLemmas.{AtItems, awaits_at, behind_on, fitting_joined, no_front_offends, payload_fits, state_at, word_offends, words_at}
 use Rattle.mcc_import.proofs.StateLemmas.{letter_item, lf_item, none_with, second_item, stepped}
-use Rattle.mcc_import.proofs.WordsLemmas.{WordsOn, front_is_open, open_on}
+use Rattle.mcc_import.proofs.WordsLemmas.{front_is_open, on_none, open_on}
 use Rattle.mcc_import.specs.Imported.{IsMccImport}
 use Rattle.mcc_import.specs.Offences.{IsFirstOffence, ItemWordOffends, NoWordOffends, Offends, front_words}
-use Rattle.mcc_import.specs.Words.{is_open, open_words, state_words, words_with}
+use Rattle.mcc_import.specs.Words.{open_words, state_words, words_with}
 use Rattle.mcc_imported.proofs.WordsLemmas.{same_fronts}
 use Rattle.mcc_imported.specs.Imports.{NothingOffendsInImports, OffencesAreOne}
-
--- more words behind words
-on_both : (fewer middle more : List ℕ) → WordsOn fewer middle → WordsOn middle more → WordsOn fewer more
-on_both fewer middle more first second = record {
-  rest = first.rest ++ second.rest;
-  spelled = second.spelled ∙ (ap (λ (w : List ℕ). w ++ second.rest) first.spelled ∙ append_assoc fewer first.rest second.rest);
-}
-
-on_none : (fewer more : List ℕ) → more ≡ fewer → WordsOn fewer more
-on_none fewer more same = record { rest = []; spelled = same ∙ sym (append-nil fewer) }
-
--- the words of an item stand behind those before it
-item_on : (before : List ℕ) (s : State) (byte : ℕ) (item : List ℕ) → item_in s.phase s.payload byte ≡ item → run at_first before ≡ Ok s → WordsOn (state_words s) (words_with s item)
-item_on before s byte [] is reads = on_none (state_words s) (words_with s []) (none_with s [] refl)
-item_on before s byte (first ∷ item) is reads =
-    let some : item_in s.phase s.payload byte ≡ [] → ⊥ = λ none. let clash : first ∷ item ≡ [] = sym is ∙ none in absurd cc in
-    let facts = item_facts before s byte reads some in
-    let bytes = s.payload.bytes in
-    let join : joined true [] (bytes ++ first ∷ item) ≡ Ok (bytes ++ first ∷ item) =
-    subst (λ (f : List ℕ). joined true [] (bytes ++ f) ≡ Ok (bytes ++ f)) is facts.join in
-    let at : AtItems s s.placed bytes = record { open_is = ap is_open facts.at; bytes_are = refl; placed_are = refl } in
-    let on = behind_on (words_as_they_came s.placed) (open_words bytes) (open_words (bytes ++ first ∷ item)) (open_on bytes (first ∷ item) join) in
-    record {
-      rest = on.rest;
-      spelled = words_at s s.placed bytes (first ∷ item) at ∙ (on.spelled ∙ ap (λ (w : List ℕ). w ++ on.rest) (sym (state_at s s.placed bytes at)));
-    }
-
--- the words of what was read stand behind those of what was read before
-pub words_on : (rest before : List ℕ) (s t : State) → run at_first before ≡ Ok s → run s rest ≡ Ok t → WordsOn (state_words s) (state_words t)
-words_on [] before s t reads goes = on_none (state_words s) (state_words t) (ap (λ (x : State). state_words x) (sym (ok_same s t goes)))
-words_on (byte ∷ rest) before s t reads goes =
-    let w = went (take_byte s byte) (λ n. run n rest) t goes in
-    let item = item_in s.phase s.payload byte in
-    let step = (stepped before s w.next byte reads w.stepped).words in
-    let there = words_on rest (before ++ byte ∷ []) w.next t (run_more at_first before s byte w.next reads w.stepped) w.more in
-    on_both (state_words s) (words_with s item) (state_words t) (item_on before s byte item refl reads)
-    (subst (λ (x : List ℕ). WordsOn x (state_words t)) step there)
-
--- so do those of an item that was read
-item_read : (rest before : List ℕ) (s t : State) (byte : ℕ) → run at_first before ≡ Ok s → run s (byte ∷ rest) ≡ Ok t
-    → WordsOn (words_with s (item_in s.phase s.payload byte)) (state_words t)
-item_read rest before s t byte reads goes =
-    let w = went (take_byte s byte) (λ n. run n rest) t goes in
-    let step = (stepped before s w.next byte reads w.stepped).words in
-    subst (λ (x : List ℕ). WordsOn x (state_words t)) step
-    (words_on rest (before ++ byte ∷ []) w.next t (run_more at_first before s byte w.next reads w.stepped) w.more)
 
 -- a word of the item that ends with a byte offends
 pub record OffendsAt (bytes : List ℕ) (refusal : Refusal) : Type 0 where
