@@ -21,7 +21,7 @@ use Rattle.dtvcc_author.specs.Kept.{AreKept, IsUncovered}
 use Rattle.dtvcc_author.specs.Latest.{caption_delay}
 use Rattle.dtvcc_author.proofs.LatestLemmas.{Has, delays_written, kept_sound}
 use Rattle.placements.specs.Placing.{IsPlaced}
-use Rattle.service_lanes.specs.Chunks.{Chunk}
+use Rattle.service_lanes.specs.Chunks.{ServiceChunk}
 use Rattle.service_lanes.specs.ServiceBytes.{bytes_in, loads_at}
 use Rattle.service_lanes.specs.ServiceChunks.{service_chunks}
 use Rattle.service_lanes.specs.ServiceLane.{service_lane}
@@ -37,7 +37,7 @@ use Rattle.dtvcc_shown.proofs.UnitLemmas.{units_plain}
 use Rattle.dtvcc_shown.proofs.WrittenLemmas.{dlw_plain, dsw_plain}
 
 -- the bytes of the lane are those of the service
-pub lane_bytes_are : (rate : Rate) (cs : List Caption) (placed : List (Chunk × ℕ)) (frame : ℕ)
+pub lane_bytes_are : (rate : Rate) (cs : List Caption) (placed : List (ServiceChunk × ℕ)) (frame : ℕ)
     → lane_frame_bytes (lane_of rate cs placed) frame ≡ bytes_in cs placed frame
 lane_bytes_are rate cs placed frame =
     let plain : List ℕ = plain_events frame cs in
@@ -141,7 +141,7 @@ module _ (rate : Rate) (frames : ℕ) (cs : List Caption) (kept : AreKept rate f
       at true false is = refl
       at false b is = refl
 
-  delay_quiet : (placed : List (Chunk × ℕ)) → HasOnlyLoads (unloaded (lane_of rate cs placed)) frame
+  delay_quiet : (placed : List (ServiceChunk × ℕ)) → HasOnlyLoads (unloaded (lane_of rate cs placed)) frame
   delay_quiet placed = record {
     events = ap (λ (b : Bool). flat_map bytes_of_command (cond b (Dlw (windows_byte (names (is_hidden_at frame) cs)) ∷ []) [] ++ windows_command Dsw (is_shown_at frame) cs))
         (none_passes (is_hidden_at frame) cs not_hidden)
@@ -151,7 +151,7 @@ module _ (rate : Rate) (frames : ℕ) (cs : List Caption) (kept : AreKept rate f
   }
 
 -- a delay of the lane lasts its tenths
-delay_lasting : (rate : Rate) (frames : ℕ) (cs : List Caption) (placed : List (Chunk × ℕ)) (start : ℕ) (delay : Delay) → AreKept rate frames cs
+delay_lasting : (rate : Rate) (frames : ℕ) (cs : List Caption) (placed : List (ServiceChunk × ℕ)) (start : ℕ) (delay : Delay) → AreKept rate frames cs
     → (unloaded (lane_of rate cs placed)).delay start ≡ Some delay → IsLasting (unloaded (lane_of rate cs placed)) start delay
 delay_lasting rate frames cs placed start delay kept is =
     let s = starting cs start delay is in
@@ -177,7 +177,7 @@ none_spent lane from zero = refl
 none_spent lane from (suc count) = let rest = none_spent lane from count in omega (arith, rest)
 
 -- so the lane of captions that keep the rules is sound by itself
-pub captions_sound : (rate : Rate) (frames : ℕ) (cs : List Caption) (placed : List (Chunk × ℕ)) → AreKept rate frames cs
+pub captions_sound : (rate : Rate) (frames : ℕ) (cs : List Caption) (placed : List (ServiceChunk × ℕ)) → AreKept rate frames cs
     → IsSoundLane (unloaded (lane_of rate cs placed))
 captions_sound rate frames cs placed kept = record {
   events = λ frame. events_plain frame cs;

@@ -5,7 +5,7 @@ use Rattle.std.specs.List.{zip}
 use Rattle.std.proofs.lemmas.Bool.Decides.{nat_tests}
 use Rattle.std.proofs.lemmas.List.Elements.{All-head, All-tail}
 use Rattle.std.proofs.lemmas.List.Sums.{sum_by-cons}
-use Rattle.service_lanes.specs.Chunks.{Chunk}
+use Rattle.service_lanes.specs.Chunks.{ServiceChunk}
 use Rattle.service_lanes.specs.ServiceBytes.{loads_at}
 use Rattle.service_lanes.specs.ServiceLane.{bytes_between, chunk_size, is_between, used}
 use Rattle.service_lanes.proofs.ServiceLaneLemmas.{placed_within}
@@ -17,16 +17,16 @@ use Rattle.dtvcc_shown.proofs.PlainLemmas.{nothing_plain, plain_both}
 
 -- what holds of no bytes, and of bytes one behind another, holds of the units of a frame together
 module _ (P : List ℕ → Type 0) (none : P []) (both : (bytes more : List ℕ) → P bytes → P more → P (bytes ++ more)) where
-  pub loads_hold : (chunks : List Chunk) (frames : List ℕ) (frame : ℕ) → All (λ (chunk : Chunk). P chunk.unit) chunks
+  pub loads_hold : (chunks : List ServiceChunk) (frames : List ℕ) (frame : ℕ) → All (λ (chunk : ServiceChunk). P chunk.unit) chunks
       → P (loads_at (zip chunks frames) frame)
   loads_hold [] frames frame each = none
   loads_hold (u ∷ us) [] frame each = none
   loads_hold (u ∷ us) (f ∷ fs) frame each =
       both (if f == frame then u.unit else []) (loads_at (zip us fs) frame)
-      (at (f == frame)) (loads_hold us fs frame (All-tail (λ (chunk : Chunk). P chunk.unit) u us each))
+      (at (f == frame)) (loads_hold us fs frame (All-tail (λ (chunk : ServiceChunk). P chunk.unit) u us each))
     where
       at : (here : Bool) → P (if here then u.unit else [])
-      at true = All-head (λ (chunk : Chunk). P chunk.unit) u us each
+      at true = All-head (λ (chunk : ServiceChunk). P chunk.unit) u us each
       at false = none
 
 -- one frame more has what stands in it
@@ -43,7 +43,7 @@ between_never : (from count f : ℕ) → (f == from + count) ≡ false → is_be
     → is_between from (from + suc count) f ≡ false
 between_never from count f other out = grind (arith, nat_tests)
 
-piece_more : (from count : ℕ) (u : Chunk) (f : ℕ)
+piece_more : (from count : ℕ) (u : ServiceChunk) (f : ℕ)
     → bytes_between from (from + suc count) (u, f) ≡ bytes_between from (from + count) (u, f) + length (if f == from + count then u.unit else [])
 piece_more from count u f = at (f == from + count) (is_between from (from + count) f) refl refl
   where
@@ -59,7 +59,7 @@ piece_more from count u f = at (f == from + count) (is_between from (from + coun
     at false false is was =
         ap (λ (b : Bool). if b then chunk_size u else 0) (between_never from count f is was)
 
-used_more : (from count : ℕ) (chunks : List Chunk) (frames : List ℕ)
+used_more : (from count : ℕ) (chunks : List ServiceChunk) (frames : List ℕ)
     → used from (from + suc count) (zip chunks frames) ≡ used from (from + count) (zip chunks frames) + length (loads_at (zip chunks frames) (from + count))
 used_more from count [] frames = refl
 used_more from count (u ∷ us) [] = refl
@@ -71,7 +71,7 @@ used_more from count (u ∷ us) (f ∷ fs) =
     let parts = length-append (if f == from + count then u.unit else []) (loads_at (zip us fs) (from + count)) in
     rw (more, less, parts) (omega (arith, rest, here))
 
-used_none : (from to : ℕ) (chunks : List Chunk) (frames : List ℕ) → to ≤ from → used from to (zip chunks frames) ≡ 0
+used_none : (from to : ℕ) (chunks : List ServiceChunk) (frames : List ℕ) → to ≤ from → used from to (zip chunks frames) ≡ 0
 used_none from to [] frames below = refl
 used_none from to (u ∷ us) [] below = refl
 used_none from to (u ∷ us) (f ∷ fs) below =
@@ -82,7 +82,7 @@ used_none from to (u ∷ us) (f ∷ fs) below =
     rw all (omega (arith, rest, none))
 
 -- what a placed lane spends is what its units use
-spent_is : (lane : Lane) (chunks : List Chunk) (frames : List ℕ) (from count : ℕ)
+spent_is : (lane : Lane) (chunks : List ServiceChunk) (frames : List ℕ) (from count : ℕ)
     → spent (loaded lane (zip chunks frames)) from count ≡ used from (from + count) (zip chunks frames)
 spent_is lane chunks frames from zero = sym (used_none from (from + zero) chunks frames (omega arith))
 spent_is lane chunks frames from (suc count) =
@@ -90,7 +90,7 @@ spent_is lane chunks frames from (suc count) =
     ∙ sym (used_more from count chunks frames)
 
 -- a placed lane is sound
-pub placed_sound : (lane : Lane) (room : ℕ → ℕ) (chunks : List Chunk) (frames : List ℕ) → IsPlacedLane lane room chunks frames
+pub placed_sound : (lane : Lane) (room : ℕ → ℕ) (chunks : List ServiceChunk) (frames : List ℕ) → IsPlacedLane lane room chunks frames
     → IsSoundLane (loaded lane (zip chunks frames))
 placed_sound lane room chunks frames is = record {
   events = is.sound.events;

@@ -22,8 +22,8 @@ use Rattle.dtvcc_author.specs.Captions.{caption_of}
 use Rattle.dtvcc_author.specs.CueUnits.{IsWritable, window_cue_units}
 use Rattle.dtvcc_author.specs.WindowCommands.{are_coloured, attribute_commands, character_commands, color_commands, commands_of, commands_with, run_commands, window_commands}
 use Rattle.dtvcc_author.proofs.WritableLemmas.{commands_writable}
-use Rattle.service_lanes.specs.Chunks.{Chunk}
-use Rattle.service_lanes.specs.ServiceChunks.{chunk_of, chunks_from, chunks_with, service_chunks}
+use Rattle.service_lanes.specs.Chunks.{ServiceChunk}
+use Rattle.service_lanes.specs.ServiceChunks.{chunk_of, chunks_with, service_chunks, service_chunks_from}
 use Rattle.dtvcc_shown.specs.Soundness.{ArePlain, is_plain}
 use Rattle.dtvcc_shown.proofs.WrittenLemmas.{written_plain}
 
@@ -88,7 +88,7 @@ cue_loading cue = kind_loading cue.kind cue.runs
 
 -- what holds of all that is written of such commands holds of the units of formed cues
 module _ (P : List ℕ → Type 0) (holds : (command : Command) → IsWritable command → is_loading command ≡ true → P (bytes_of_command command)) where
-  abbrev IsUnit : Chunk → Type 0
+  abbrev IsUnit : ServiceChunk → Type 0
   IsUnit chunk = P chunk.unit
 
   own_hold : (number : ℕ) (c : Caption) (commands : List Command) → All IsWritable commands → AreLoading commands
@@ -99,10 +99,10 @@ module _ (P : List ℕ → Type 0) (holds : (command : Command) → IsWritable c
       (holds command (All-head IsWritable command commands writable) loading.0)
       (own_hold number c commands (All-tail IsWritable command commands writable) loading.1)
 
-  hold_from : (rate : Rate) (service number : ℕ) (cues : List Cue) → All IsCueFormed cues → All IsUnit (chunks_from rate service number cues)
+  hold_from : (rate : Rate) (service number : ℕ) (cues : List Cue) → All IsCueFormed cues → All IsUnit (service_chunks_from rate service number cues)
   hold_from rate service number [] formed = All-nil IsUnit
   hold_from rate service number (cue ∷ cues) formed =
-      All-append IsUnit (chunks_with number (caption_of rate service cue) (window_cue_units cue)) (chunks_from rate service (suc number) cues)
+      All-append IsUnit (chunks_with number (caption_of rate service cue) (window_cue_units cue)) (service_chunks_from rate service (suc number) cues)
       (at (caption_of rate service cue))
       (hold_from rate service (suc number) cues (All-tail IsCueFormed cue cues formed))
     where
@@ -111,7 +111,7 @@ module _ (P : List ℕ → Type 0) (holds : (command : Command) → IsWritable c
       at (Some c) = own_hold number c (commands_of cue) (commands_writable cue (All-head IsCueFormed cue cues formed)) (cue_loading cue)
 
   pub units_hold : (rate : Rate) (service : ℕ) (cues : List Cue) → All IsCueFormed cues
-      → All (λ (chunk : Chunk). P chunk.unit) (service_chunks rate service cues)
+      → All (λ (chunk : ServiceChunk). P chunk.unit) (service_chunks rate service cues)
   units_hold rate service cues formed = hold_from rate service 1 cues formed
 
 -- so they are plain
@@ -125,6 +125,6 @@ loading_plain (Df definition) loads = refl
 loading_plain _ loads = cc
 
 pub units_plain : (rate : Rate) (service : ℕ) (cues : List Cue) → All IsCueFormed cues
-    → All (λ (chunk : Chunk). ArePlain chunk.unit) (service_chunks rate service cues)
+    → All (λ (chunk : ServiceChunk). ArePlain chunk.unit) (service_chunks rate service cues)
 units_plain rate service cues formed =
     units_hold ArePlain (λ command is loads. written_plain command is (loading_plain command loads)) rate service cues formed

@@ -9,7 +9,7 @@ use Rattle.dtvcc_codes.specs.Writing.{bytes_of_command}
 use Rattle.dtvcc_author.specs.declared.caption.Caption.{Caption}
 use Rattle.dtvcc_author.specs.FrameEvents.{delayed_at, is_hidden_at, is_shown_at, windows_command}
 use Rattle.dtvcc_author.specs.Latest.{caption_delay}
-use Rattle.service_lanes.specs.Chunks.{Chunk}
+use Rattle.service_lanes.specs.Chunks.{ServiceChunk}
 use Rattle.service_lanes.specs.ServiceBytes.{loads_at}
 use Rattle.dtvcc_shown.specs.ServiceLanes.{Lane}
 
@@ -18,7 +18,7 @@ abbrev pub plain_events : ℕ → List Caption → List ℕ
 plain_events frame cs = flat_map bytes_of_command (windows_command Dlw (is_hidden_at frame) cs ++ windows_command Dsw (is_shown_at frame) cs)
 
 -- the lane of a service's captions and of their units, which stand in these frames
-abbrev pub lane_of : Rate → List Caption → List (Chunk × ℕ) → Lane
+abbrev pub lane_of : Rate → List Caption → List (ServiceChunk × ℕ) → Lane
 lane_of rate cs placed = record {
   rate = rate;
   events = λ frame. plain_events frame cs;

@@ -1,7 +1,7 @@
 -- Between crates: the program's answer stands on none of these definitions.
 -- The lane of a service whose units are placed: each frame is loaded with the units that stand in it.
 use Rattle.std.specs.Prelude.{ℕ, List, [], All, Option, option_map}
-use Rattle.service_lanes.specs.Chunks.{Chunk}
+use Rattle.service_lanes.specs.Chunks.{ServiceChunk}
 use Rattle.placements.specs.Placing.{IsPlaced}
 use Rattle.service_lanes.specs.ServiceBytes.{loads_at}
 use Rattle.service_lanes.specs.ServiceLane.{service_lane}
@@ -10,7 +10,7 @@ use Rattle.dtvcc_shown.specs.ServiceLanes.{Lane}
 use Rattle.dtvcc_shown.specs.Soundness.{ArePlain, IsSoundLane}
 
 -- the lane with these units, and with none
-abbrev pub loaded : Lane → List (Chunk × ℕ) → Lane
+abbrev pub loaded : Lane → List (ServiceChunk × ℕ) → Lane
 loaded lane placed = record { rate = lane.rate; events = lane.events; delay = lane.delay; loads = loads_at placed }
 
 abbrev pub unloaded : Lane → Lane
@@ -21,7 +21,7 @@ abbrev pub delay_ends : Lane → ℕ → Option ℕ
 delay_ends lane start = option_map (λ (delay : Delay). delay.ends) (lane.delay start)
 
 -- units of plain commands, placed in a lane whose events and delays are sound by themselves
-pub record IsPlacedLane (lane : Lane) (room : ℕ → ℕ) (chunks : List Chunk) (frames : List ℕ) : Type 0 where
+pub record IsPlacedLane (lane : Lane) (room : ℕ → ℕ) (chunks : List ServiceChunk) (frames : List ℕ) : Type 0 where
   pub sound : IsSoundLane (unloaded lane)
   pub plain : All (λ chunk. ArePlain chunk.unit) chunks
   pub placed : IsPlaced (service_lane room (delay_ends lane)) [] chunks frames

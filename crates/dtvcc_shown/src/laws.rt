@@ -10,7 +10,7 @@ ghost use Rattle.dtvcc_author.specs.declared.caption.Caption.{Caption};
 ghost use Rattle.dtvcc_author.specs.Captions.{service_captions};
 ghost use Rattle.dtvcc_author.specs.Kept.{AreKept};
 ghost use Rattle.placements.specs.Placing.{IsPlaced};
-ghost use Rattle.service_lanes.specs.Chunks.{Chunk};
+ghost use Rattle.service_lanes.specs.Chunks.{ServiceChunk};
 ghost use Rattle.service_lanes.specs.ServiceBytes.{bytes_in};
 ghost use Rattle.service_lanes.specs.ServiceChunks.{service_chunks};
 ghost use Rattle.service_lanes.specs.ServiceRoom.{caption_lane};
@@ -46,10 +46,10 @@ pub fn law_outside_of_delays()
 /// Units of plain commands that are placed, anywhere that their lane allows, in a service whose events and delays are sound by
 /// themselves make a sound lane; so its buffer never fills.
 pub fn law_of_placed_lanes()
-    ensures sound { (lane : Lane) (room : ℕ → ℕ) (chunks : List Chunk) (frames : List ℕ)
+    ensures sound { (lane : Lane) (room : ℕ → ℕ) (chunks : List ServiceChunk) (frames : List ℕ)
         → IsPlacedLane lane room chunks frames
         → IsSoundLane (loaded lane (zip chunks frames)) }
-    ensures fills { (lane : Lane) (room : ℕ → ℕ) (chunks : List Chunk) (frames : List ℕ)
+    ensures fills { (lane : Lane) (room : ℕ → ℕ) (chunks : List ServiceChunk) (frames : List ℕ)
         → IsPlacedLane lane room chunks frames
         → (frame : ℕ) → let all = loaded lane (zip chunks frames) in AllFill 127 (served all frame)
         (lane_frame_events all frame) }
@@ -59,9 +59,10 @@ pub fn law_of_placed_lanes()
 /// are in their ranges it is sound without its units, these are plain and whole, and it is sound with them, wherever they stand
 /// that it allows.
 pub fn law_of_caption_lanes()
-    ensures bytes { (rate : Rate) (cs : List Caption) (placed : List (Chunk × ℕ)) (frame : ℕ)
+    ensures bytes { (rate : Rate) (cs : List Caption) (placed : List (ServiceChunk × ℕ)) (frame : ℕ)
         → lane_frame_bytes (lane_of rate cs placed) frame ≡ bytes_in cs placed frame }
-    ensures captions { (rate : Rate) (frames : ℕ) (cs : List Caption) (placed : List (Chunk × ℕ))
+    ensures captions { (rate : Rate) (frames : ℕ) (cs : List Caption)
+        (placed : List (ServiceChunk × ℕ))
         → AreKept rate frames cs
         → IsSoundLane (unloaded (lane_of rate cs placed)) }
     ensures units { (rate : Rate) (service : ℕ) (cues : List Cue) → All IsCueFormed cues

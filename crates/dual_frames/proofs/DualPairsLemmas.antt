@@ -9,9 +9,9 @@ use Rattle.cue_lists.specs.Listing.{Listing}
 use Rattle.line21_author.specs.declared.unit.Unit.{Unit}
 use Rattle.line21_slots.specs.Cadences.{cadence_of, slot_in}
 use Rattle.frame_carrier.specs.Carried.{AreBytePairs, IsBytePair}
-use Rattle.frame_scheduler.specs.DoubledPairs.{IsDoubled}
+use Rattle.field_lanes.specs.DoubledPairs.{IsDoubled}
 use Rattle.frame_scheduler.specs.SlotLists.{slot_cues, slots_in_list}
-use Rattle.frame_scheduler.specs.Timeline.{Timeline, column, slot}
+use Rattle.field_lanes.specs.Timeline.{Timeline, column, slot}
 use Rattle.frame_scheduler.proofs.ListDoublingLemmas.{pairs_column}
 use Rattle.shared_field_shown.specs.ChannelParts.{channel_parts}
 use Rattle.shared_field_shown.specs.Dual.{IsDual, Places}

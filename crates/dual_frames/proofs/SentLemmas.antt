@@ -6,13 +6,13 @@ use Rattle.line21_codes.specs.declared.pairs.Pair.{Pair}
 use Rattle.line21_codes.specs.NullPairs.{null_pair}
 use Rattle.line21_author.specs.declared.unit.Unit.{Unit}
 use Rattle.frame_carrier.specs.Carried.{IsBytePair}
-use Rattle.frame_scheduler.specs.LaneTimeline.{stands}
-use Rattle.frame_scheduler.specs.Timeline.{Timeline, first_of, repeat_at, repeat_of, slot}
+use Rattle.field_lanes.specs.LaneTimeline.{stands}
+use Rattle.field_lanes.specs.Timeline.{Timeline, first_of, repeat_at, repeat_of, slot}
 use Rattle.resumed_lanes.specs.Parts.{part_slots}
 use Rattle.resumed_lanes.specs.ResumedLane.{Stand}
 use Rattle.resumed_lanes.specs.Slots.{Slots}
 use Rattle.resumed_lanes.specs.declared.part.Part.{Part}
-use Rattle.shared_field_shown.specs.Lanes.{again, pieces_of, plain_timeline, whole}
+use Rattle.shared_field_shown.specs.Lanes.{again, part_chunks, plain_timeline, whole}
 use Rattle.shared_field_shown.proofs.LaneLemmas.{again_at, some_size, stands_at, two_size}
 
 -- a unit that begins in a slot is of bytes, and sent within so many slots
@@ -22,9 +22,9 @@ pub record IsSent (count n : ℕ) (unit : Unit) : Type 0 where
 
 -- so is a unit wherever it ends in time, and the first of its cue
 pub record IsSendable (count : ℕ) (part : Part) : Type 0 where
-  pub unit : IsBytePair part.piece.unit.pair
+  pub unit : IsBytePair part.chunk.unit.pair
   pub first : IsBytePair part.first.pair
-  pub until : part.piece.until ≤ count
+  pub until : part.chunk.until ≤ count
 
 -- what begins is one of two
 pub either_is : (u v : Option Unit) (unit : Unit) → first_of u v ≡ Some unit → (u ≡ Some unit) ⊎ (v ≡ Some unit)
@@ -33,7 +33,7 @@ either_is (Some w) v unit is = inl is
 
 module _ (slots : Slots) (count : ℕ) where
   stands_sent : (end : ℕ) (parts : List Part) (fs : List ℕ) (rs : List (Option ℕ)) → Stand slots end parts fs rs → All (IsSendable count) parts
-      → (n : ℕ) (unit : Unit) → stands (pieces_of parts) fs n ≡ Some unit → IsSent count n unit
+      → (n : ℕ) (unit : Unit) → stands (part_chunks parts) fs n ≡ Some unit → IsSent count n unit
   stands_sent end [] fs rs stand are n unit is = cc
   stands_sent end (part ∷ parts) [] rs stand are n unit is = cc
   stands_sent end (part ∷ parts) (f ∷ fs) [] stand are n unit is = absurd stand
@@ -43,11 +43,11 @@ module _ (slots : Slots) (count : ℕ) where
       own : IsSendable count part
       own = All-head (IsSendable count) part parts are
 
-      by_slot : (b : Bool) → (n == f) ≡ b → (stands (pieces_of parts) fs n ≡ Some unit → IsSent count n unit) → IsSent count n unit
+      by_slot : (b : Bool) → (n == f) ≡ b → (stands (part_chunks parts) fs n ≡ Some unit → IsSent count n unit) → IsSent count n unit
       by_slot true test rest =
           let here : n ≡ f = grind (arith, nat_tests) in
-          let it : Some part.piece.unit ≡ Some unit = sym (stands_at part parts f fs n true test) ∙ is in
-          let same : part.piece.unit ≡ unit = cc in
+          let it : Some part.chunk.unit ≡ Some unit = sym (stands_at part parts f fs n true test) ∙ is in
+          let same : part.chunk.unit ≡ unit = cc in
           record {
             bytes = subst (λ (u : Unit). IsBytePair u.pair) same own.unit;
             ended = λ doubled.
@@ -88,8 +88,8 @@ module _ (slots : Slots) (count : ℕ) where
       (λ (at : plain_timeline events parts fs n ≡ Some unit).
       ⊎_elim
       (λ (event : events n ≡ Some unit). sent n unit event)
-      (λ (at_unit : stands (pieces_of parts) fs n ≡ Some unit). stands_sent 0 parts fs rs stand are n unit at_unit)
-      (either_is (events n) (stands (pieces_of parts) fs n) unit at))
+      (λ (at_unit : stands (part_chunks parts) fs n ≡ Some unit). stands_sent 0 parts fs rs stand are n unit at_unit)
+      (either_is (events n) (stands (part_chunks parts) fs n) unit at))
       (λ (at : again parts rs n ≡ Some unit). again_sent 0 parts fs rs stand are n unit at)
       (either_is (plain_timeline events parts fs n) (again parts rs n) unit is)
 

@@ -8,41 +8,41 @@ use Rattle.line21_author.specs.CueEvents.{channel_events}
 use Rattle.line21_author.specs.declared.event.Event.{Event}
 use Rattle.placements.specs.LaneRoom.{HasRoom, up_to}
 use Rattle.placements.specs.Placing.{IsPlaced}
-use Rattle.frame_scheduler.specs.FieldLane as alone
-use Rattle.frame_scheduler.specs.LaneEvents.{IsFree}
-use Rattle.frame_scheduler.specs.LanePlan.{piece_cue}
+use Rattle.field_lanes.specs.FieldLane as alone
+use Rattle.field_lanes.specs.LaneEvents.{IsFree}
+use Rattle.field_lanes.specs.FieldPlan.{field_chunk_cue}
 use Rattle.frame_scheduler.specs.Planned.{LaneHasRoom}
 use Rattle.frame_scheduler.specs.SlotLists.{slot_cues}
-use Rattle.frame_scheduler.specs.declared.lane.piece.Piece.{Piece}
-use Rattle.frame_scheduler.proofs.FieldLaneLemmas.{end_push as end_push_alone}
+use Rattle.field_lanes.specs.declared.chunk.FieldChunk.{FieldChunk}
+use Rattle.field_lanes.proofs.FieldLaneLemmas.{end_push as end_push_alone}
 use Rattle.resumed_lanes.specs.FieldSlots.{holds}
 use Rattle.resumed_lanes.specs.Parts.{part_cue}
 use Rattle.resumed_lanes.specs.ResumedLane.{end_of_parts, resumed_lane}
 use Rattle.resumed_lanes.specs.Slots.{Slots}
 use Rattle.resumed_lanes.specs.declared.part.Part.{Part}
 use Rattle.resumed_lanes.proofs.ResumedLemmas.{end_push}
-use Rattle.shared_field_shown.specs.Lanes.{pieces_of}
+use Rattle.shared_field_shown.specs.Lanes.{part_chunks}
 use Rattle.shared_field_shown.specs.Seen.{first_events, second_events}
-use Rattle.shared_field_shown.proofs.ListedLemmas.{pieces_from_back}
+use Rattle.shared_field_shown.proofs.ListedLemmas.{channel_chunks_from_back}
 use Rattle.shared_field_shown.proofs.SeenLemmas.{free_unless}
 use Rattle.shared_field_shown.proofs.TogetherLemmas.{both_not}
 use Rattle.dual_plans.specs.FieldPlaces.{first_units, slots_for_first}
 
 -- the units of the cues up to a number, by themselves
-pieces_up_to : (cue : ℕ) (parts : List Part) → pieces_of (up_to part_cue cue parts) ≡ up_to piece_cue cue (pieces_of parts)
-pieces_up_to cue [] = refl
-pieces_up_to cue (part ∷ parts) = by_test (nat_le part.piece.cue cue) (pieces_up_to cue parts)
+chunks_up_to : (cue : ℕ) (parts : List Part) → part_chunks (up_to part_cue cue parts) ≡ up_to field_chunk_cue cue (part_chunks parts)
+chunks_up_to cue [] = refl
+chunks_up_to cue (part ∷ parts) = by_test (nat_le part.chunk.cue cue) (chunks_up_to cue parts)
   where
-    by_test : (b : Bool) → pieces_of (up_to part_cue cue parts) ≡ up_to piece_cue cue (pieces_of parts)
-        → pieces_of (if b then part ∷ up_to part_cue cue parts else up_to part_cue cue parts)
-        ≡ (if b then part.piece ∷ up_to piece_cue cue (pieces_of parts) else up_to piece_cue cue (pieces_of parts))
-    by_test true rest = ap (λ (ps : List Piece). part.piece ∷ ps) rest
+    by_test : (b : Bool) → part_chunks (up_to part_cue cue parts) ≡ up_to field_chunk_cue cue (part_chunks parts)
+        → part_chunks (if b then part ∷ up_to part_cue cue parts else up_to part_cue cue parts)
+        ≡ (if b then part.chunk ∷ up_to field_chunk_cue cue (part_chunks parts) else up_to field_chunk_cue cue (part_chunks parts))
+    by_test true rest = ap (λ (ps : List FieldChunk). part.chunk ∷ ps) rest
     by_test false rest = rest
 
 -- units that are placed beside another lane are placed without it
-placed_without : (events : List Event) (slots : Slots) → ((n : ℕ) → slots.free n ≡ true → IsFree events n) → (before : List (Part × ℕ)) (others : List (Piece × ℕ))
+placed_without : (events : List Event) (slots : Slots) → ((n : ℕ) → slots.free n ≡ true → IsFree events n) → (before : List (Part × ℕ)) (others : List (FieldChunk × ℕ))
     → end_of_parts before ≡ alone.end_of others → (parts : List Part) (fs : List ℕ) → IsPlaced (resumed_lane slots) before parts fs
-    → IsPlaced (alone.lane events) others (pieces_of parts) fs
+    → IsPlaced (alone.field_lane events) others (part_chunks parts) fs
 placed_without events slots free before others at [] [] placed = tt
 placed_without events slots free before others at [] (f ∷ fs) placed = absurd placed
 placed_without events slots free before others at (part ∷ parts) [] placed = absurd placed
@@ -53,19 +53,19 @@ placed_without events slots free before others at (part ∷ parts) (f ∷ fs) pl
     ended = placed.0.ended;
     free = λ n high low. free n (placed.0.free n high low);
   },
-  placed_without events slots free (before ++ (part, f) ∷ []) (others ++ (part.piece, f) ∷ [])
-      (end_push before part f ∙ sym (end_push_alone others part.piece f)) parts fs placed.1,
+  placed_without events slots free (before ++ (part, f) ∷ []) (others ++ (part.chunk, f) ∷ [])
+      (end_push before part f ∙ sym (end_push_alone others part.chunk f)) parts fs placed.1,
 )
 
 -- so where a cue of the first list has room in a field beside the second, it has room alone
 pub room_alone : (one two : Listing) (channel : Chan) (cue : ℕ) → HasRoom (resumed_lane (slots_for_first one two channel)) part_cue (first_units one channel) cue
     → LaneHasRoom one (Channel channel) cue
 room_alone one two channel cue room =
-    let units : pieces_of (up_to part_cue cue (first_units one channel)) ≡ up_to piece_cue cue (pieces_of (first_units one channel)) =
-    pieces_up_to cue (first_units one channel) in (
+    let units : part_chunks (up_to part_cue cue (first_units one channel)) ≡ up_to field_chunk_cue cue (part_chunks (first_units one channel)) =
+    chunks_up_to cue (first_units one channel) in (
       room.0,
-      subst (λ (ps : List Piece). IsPlaced (alone.lane (channel_events channel (slot_cues one channel))) [] ps room.0)
-          (units ∙ ap (up_to piece_cue cue) (pieces_from_back channel 1 (slot_cues one channel)))
+      subst (λ (ps : List FieldChunk). IsPlaced (alone.field_lane (channel_events channel (slot_cues one channel))) [] ps room.0)
+          (units ∙ ap (up_to field_chunk_cue cue) (channel_chunks_from_back channel 1 (slot_cues one channel)))
           (placed_without (channel_events channel (slot_cues one channel)) (slots_for_first one two channel)
           (λ n free. free_unless (channel_events channel (slot_cues one channel)) n
           (both_not (holds (first_events channel (slot_cues one channel)) n) (holds (second_events channel (slot_cues two channel)) n) free).0)

@@ -7,10 +7,10 @@ use Rattle.cue_lists.specs.Listing.{Listing}
 use Rattle.line21_author.specs.CueEvents.{channel_events}
 use Rattle.line21_author.specs.declared.event.Event.{Event}
 use Rattle.field_clashes.proofs.ClashLemmas.{none_shared}
-use Rattle.frame_scheduler.specs.LaneEvents.{event_at}
+use Rattle.field_lanes.specs.LaneEvents.{event_at}
 use Rattle.frame_scheduler.specs.Planned.{authored_channel}
 use Rattle.frame_scheduler.specs.SlotLists.{slot_cues}
-use Rattle.frame_scheduler.specs.Timeline.{Timeline}
+use Rattle.field_lanes.specs.Timeline.{Timeline}
 use Rattle.placements.specs.declared.planning.PlanFault.{PlanFault}
 use Rattle.resumed_lanes.specs.FieldSlots.{first_slots, second_slots}
 use Rattle.resumed_lanes.specs.Filled.{IsFault, IsFilled}

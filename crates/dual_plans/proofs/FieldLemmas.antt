@@ -5,7 +5,7 @@ use Rattle.std.specs.Global.{Global}
 use Rattle.line21_codes.specs.declared.channels.Chan.{Chan}
 use Rattle.line21_slots.specs.Cadences.{cadence_of, slot_from}
 use Rattle.cue_lists.specs.Listing.{Listing}
-use Rattle.frame_scheduler.specs.LaneEvents.{event_at}
+use Rattle.field_lanes.specs.LaneEvents.{event_at}
 use Rattle.frame_scheduler.specs.SlotLists.{slots_in_list}
 use Rattle.placements.specs.declared.planning.PlanFault.{PlanFault}
 use Rattle.resumed_lanes.specs.FieldSlots.{second_slots}

@@ -17,8 +17,7 @@ use Rattle.placements.specs.declared.planning.PlanFault.{PlanFault}
 use Rattle.placements.specs.declared.planning.PlanFault.TheVariants.{Memory, NoRoom}
 use Rattle.placements.proofs.LaneRoomLemmas.{room_all}
 use Rattle.service_lanes.specs.ServicePlan.{PlannedService}
-use Rattle.frame_scheduler.specs.LanePlan.{earlier_fault, fault_beside}
-use Rattle.frame_scheduler.specs.LaneSets.{IsFaultIn, IsFirstIn, IsServiceBelow}
+use Rattle.frame_scheduler.specs.LaneSets.{IsFaultIn, IsFirstIn, IsServiceBelow, earlier_fault, fault_beside}
 use Rattle.frame_scheduler.specs.Planned.{LaneHasRoom, LaneLacksRoom}
 use Rattle.frame_scheduler.specs.ServicePlans.{AreServices}
 use Rattle.frame_scheduler.proofs.PlanLemmas.{far_roomy}

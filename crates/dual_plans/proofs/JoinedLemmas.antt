@@ -14,11 +14,11 @@ use Rattle.service_lanes.specs.ServicePlan.{PlannedService}
 use Rattle.frame_scheduler.specs.Blocks.{blocks_of}
 use Rattle.frame_scheduler.specs.Columns.{Columns}
 use Rattle.frame_scheduler.specs.Frames.{GivesFrom}
-use Rattle.frame_scheduler.specs.LaneEvents.{event_at}
-use Rattle.frame_scheduler.specs.LanePlan.{Planned, lane_pair}
+use Rattle.field_lanes.specs.LaneEvents.{event_at}
+use Rattle.field_lanes.specs.FieldPlan.{PlannedField, lane_pair}
 use Rattle.frame_scheduler.specs.Planned.{IsLanePlaced, authored_channel}
 use Rattle.frame_scheduler.specs.SlotLists.{slot_cues}
-use Rattle.frame_scheduler.specs.Timeline.{Timeline, over, slot}
+use Rattle.field_lanes.specs.Timeline.{Timeline, over, slot}
 use Rattle.frame_scheduler.specs.declared.frames.FrameBytes.{FrameBytes}
 use Rattle.frame_scheduler.specs.declared.frames.Plan.{Plan}
 use Rattle.frame_scheduler.proofs.LanesLemmas.{placement}
@@ -88,7 +88,7 @@ module _ (one two : Listing) (go_together : GoTogether one two) (in_field : Fiel
       places.first places.second places.first_again places.second_again) (sym is.two_is.parts) all)))
 
   -- so each frame has the pair of both
-  pub pair_joined : (first second : Planned)
+  pub pair_joined : (first second : PlannedField)
       → IsLaneOf field.one.events.items field.one.parts.items (slots_at field.places.items) (resumes_at field.places.items) first
       → IsLaneOf field.two.events.items field.two.parts.items (slots_at seconds) (resumes_at seconds) second → (frame : ℕ)
       → both_pair one two (authored_channel in_field) (places_of field seconds) frame
@@ -117,14 +117,14 @@ pub frame_same : (a b c d : Option Pair) (xs ys : List ℕ) → a ≡ b → c �
 frame_same a b c d xs ys one two blocks = rw (one, two, blocks) refl
 
 -- the lanes of both lists in a field
-pub record AreLanes (field : StartedField) (seconds : List Place) (first second : Planned) : Type 0 where
+pub record AreLanes (field : StartedField) (seconds : List Place) (first second : PlannedField) : Type 0 where
   pub first_is : IsLaneOf field.one.events.items field.one.parts.items (slots_at field.places.items) (resumes_at field.places.items) first
   pub second_is : IsLaneOf field.two.events.items field.two.parts.items (slots_at seconds) (resumes_at seconds) second
   pub first_at : first.slot ≡ 0
   pub second_at : second.slot ≡ 0
 
 -- a plan is of these lanes, and of the first list
-pub record IsPlanOfLanes (list : Listing) (one two : Planned) (plans : List PlannedService) (plan : Plan) : Type 0 where
+pub record IsPlanOfLanes (list : Listing) (one two : PlannedField) (plans : List PlannedService) (plan : Plan) : Type 0 where
   pub lanes : plan.lanes ≡ one ∷ two ∷ []
   pub services : plan.services.items ≡ plans
   pub rate : plan.rate ≡ list.rate
@@ -150,7 +150,7 @@ module _ (one two : Listing) (go_together : GoTogether one two) (placed : FirstP
   fields_placed One = are_places one two go_together One placed.one are.fields.one_is seconds.one.items beside_are.one_is
   fields_placed Two = are_places one two go_together Two placed.two are.fields.two_is seconds.two.items beside_are.two_is
 
-  module _ (plan : Plan) (lanes : SecondLanes) (first_one first_two : Planned)
+  module _ (plan : Plan) (lanes : SecondLanes) (first_one first_two : PlannedField)
       (one_are : AreLanes placed.one seconds.one.items first_one lanes.one) (two_are : AreLanes placed.two seconds.two.items first_two lanes.two)
       (plan_is : IsPlanOfLanes one first_one first_two placed.services.items plan) (rate : lanes.rate ≡ two.rate) (frame : lanes.frame ≡ 0) where
     same_rate : lanes.rate ≡ one.rate
@@ -163,7 +163,7 @@ module _ (one two : Listing) (go_together : GoTogether one two) (placed : FirstP
       blocks = record { items = blocks_of plan.services.items n };
     }
 
-    starts : (channel : Chan) (r : Rate) (planned : Planned) → planned.slot ≡ 0 → planned.slot ≡ slot_from (cadence_of r channel) 0
+    starts : (channel : Chan) (r : Rate) (planned : PlannedField) → planned.slot ≡ 0 → planned.slot ≡ slot_from (cadence_of r channel) 0
     starts channel r planned at = at ∙ sym (slot_from_first (cadence_of r channel))
 
     gives_firsts : GivesFrom firsts 0 plan
@@ -180,7 +180,7 @@ module _ (one two : Listing) (go_together : GoTogether one two) (placed : FirstP
     }
 
     -- the pair of a frame, by the rates of the plan and of the second lanes
-    by_rates : (channel : Chan) (first second : Planned) (n : ℕ)
+    by_rates : (channel : Chan) (first second : PlannedField) (n : ℕ)
         → beside (lane_pair (cadence_of one.rate channel) first n) (lane_pair (cadence_of one.rate channel) second n)
         ≡ beside (lane_pair (cadence_of plan.rate channel) first n) (lane_pair (cadence_of lanes.rate channel) second n)
     by_rates channel first second n =

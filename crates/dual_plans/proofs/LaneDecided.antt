@@ -54,7 +54,7 @@ place_from slots end part (suc tries) slot resume from describes none late =
 
 place_decided : (slots : Slots) (end : ℕ) (part : Part) → HasPlace slots end part
 place_decided slots end part =
-    place_from slots end part (suc part.piece.until) end NotNeeded (omega arith) (described_first slots end) (λ other a. a.behind)
+    place_from slots end part (suc part.chunk.until) end NotNeeded (omega arith) (described_first slots end) (λ other a. a.behind)
     (λ other a. let ended = a.ended in omega arith)
 
 -- the units are placed, or a cue is the first without room
@@ -80,7 +80,7 @@ module _ (slots : Slots) (sound : AreSound slots) (us : List Part) (begun : All 
                 (reaches_next slots sound us k d places end (found.place.slot + part_slots (get_or us k d)) found.place begun (omega arith) reaches found.first found.resumes refl),
           )
       next places end reaches (inr nowhere) =
-          inr ((get_or us k d).piece.cue, reaches_none slots sound us k d places end begun order (omega arith) reaches nowhere)
+          inr ((get_or us k d).chunk.cue, reaches_none slots sound us k d places end begun order (omega arith) reaches nowhere)
 
   -- what is placed is filled
   abbrev pub IsDecided : Type 0

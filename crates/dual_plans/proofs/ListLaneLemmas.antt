@@ -16,7 +16,7 @@ use Rattle.line21_author.specs.CueUnits.{units_of}
 use Rattle.line21_author.specs.declared.event.Event.{Event}
 use Rattle.line21_author.specs.declared.unit.Unit.{Unit}
 use Rattle.line21_author.proofs.SlotSequenceLemmas.{IsSoundInSlots, all_sound_in_slots}
-use Rattle.frame_scheduler.specs.ChannelLane.{cue_pieces}
+use Rattle.field_lanes.specs.ChannelLane.{field_cue_chunks}
 use Rattle.frame_scheduler.specs.SlotLists.{slot_cues, slots_in_list}
 use Rattle.frame_scheduler.proofs.SlotLemmas.{slot_sequence}
 use Rattle.resumed_lanes.specs.Agreeing.{EndsBy}
@@ -51,9 +51,9 @@ parts_end slots channel number (cue ∷ cues) sound = by_test (is_on channel cue
   where
     by_test : (on : Bool) → AllByRecursion (IsSoundInSlots slots) (if on then cue ∷ cues_on channel cues else cues_on channel cues)
         → (AllByRecursion (IsSoundInSlots slots) (cues_on channel cues) → All (EndsBy slots) (parts_from channel (suc number) cues))
-        → All (EndsBy slots) ((if on then parts_of (cue_pieces number cue) else []) ++ parts_from channel (suc number) cues)
+        → All (EndsBy slots) ((if on then parts_of (field_cue_chunks number cue) else []) ++ parts_from channel (suc number) cues)
     by_test true sound rest =
-        All-append (EndsBy slots) (parts_of (cue_pieces number cue)) (parts_from channel (suc number) cues)
+        All-append (EndsBy slots) (parts_of (field_cue_chunks number cue)) (parts_from channel (suc number) cues)
         (cue_end slots number cue.load cue.show (units_of cue) (shown_within slots cue.show cue.hide sound.0.hidden sound.0.ended)) (rest sound.1)
     by_test false sound rest = rest sound
 

@@ -1,11 +1,11 @@
 -- A lane whose units stand in their places can be read from slot 0 on.
 use Rattle.std.proofs.Common.{◌≡◌, List, None, ◌∙◌}
 use Rattle.line21_author.specs.EventOrder.{AreApart}
-use Rattle.frame_scheduler.specs.LaneCursor.{IsReady}
-use Rattle.frame_scheduler.specs.LaneTimeline.{in_slots, placed_timeline}
-use Rattle.frame_scheduler.specs.declared.lane.placed_unit.PlacedUnit.{PlacedUnit}
-use Rattle.frame_scheduler.specs.LanePlan.{Planned}
-use Rattle.frame_scheduler.proofs.LanePlanLemmas.{ready_placed}
+use Rattle.field_lanes.specs.LaneCursor.{IsReadyForPairs}
+use Rattle.field_lanes.specs.LaneTimeline.{in_slots, placed_timeline}
+use Rattle.field_lanes.specs.declared.placed_unit.PlacedUnit.{PlacedUnit}
+use Rattle.field_lanes.specs.FieldPlan.{PlannedField}
+use Rattle.field_lanes.proofs.LanePlanLemmas.{ready_placed}
 use Rattle.resumed_lanes.specs.Filled.{resumes_at, slots_at}
 use Rattle.resumed_lanes.specs.declared.place.Place.{Place}
 use Rattle.shared_field.specs.Joined.{IsLaneOf}
@@ -21,12 +21,12 @@ module _ (lane : ListLane) (places : List Place) (units : List PlacedUnit) (is :
   units_are = is ∙ units_of_one_lane lane.parts.items places
 
   pub ready : AreApart lane.events.items
-      → IsReady (placed_timeline lane.events.items units) lane.events.items units (record { slot = 0; next_unit = 0; next_event = 0; repeat = None })
+      → IsReadyForPairs (placed_timeline lane.events.items units) lane.events.items units (record { slot = 0; next_unit = 0; next_event = 0; repeat = None })
   ready apart =
       ready_placed lane.events.items (expanded lane.parts.items (resumes_at places)) (spread (slots_at places) (resumes_at places)) units apart
       (one_lane lane.events.items stand.slots lane.parts.items (slots_at places) (resumes_at places) stand.free stand.cues stand.stand).placed units_are
 
-  pub lane_made : (planned : Planned) → planned.units ≡ units → planned.events ≡ lane.events.items
+  pub lane_made : (planned : PlannedField) → planned.units ≡ units → planned.events ≡ lane.events.items
       → IsLaneOf lane.events.items lane.parts.items (slots_at places) (resumes_at places) planned
   lane_made planned units_is events_is = record {
     units_are = units_is ∙ units_are;

@@ -11,7 +11,7 @@ use Rattle.cue_lists.specs.Listing.{Listing}
 use Rattle.placements.specs.LaneRoom.{AreInCueOrder, HasRoom}
 use Rattle.placements.specs.declared.planning.PlanFault.{PlanFault}
 use Rattle.placements.specs.declared.planning.PlanFault.TheVariants.{NoRoom}
-use Rattle.frame_scheduler.specs.LanePlan.{fault_beside}
+use Rattle.frame_scheduler.specs.LaneSets.{fault_beside}
 use Rattle.frame_scheduler.proofs.PlanLemmas.{frames_of}
 use Rattle.placements.specs.Placing.{IsEarliest}
 use Rattle.resumed_lanes.specs.Filled.{IsFault, IsFilled, slots_at}

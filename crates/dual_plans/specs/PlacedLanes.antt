@@ -1,7 +1,7 @@
 -- Between crates: the program's answer stands on none of these definitions.
 -- Lanes whose units stand in their places.
 use Rattle.std.specs.Prelude.{◌≡◌, ℕ, true, List, None}
-use Rattle.frame_scheduler.specs.LaneEvents.{IsFree}
+use Rattle.field_lanes.specs.LaneEvents.{IsFree}
 use Rattle.resumed_lanes.specs.Filled.{resumes_at, slots_at}
 use Rattle.resumed_lanes.specs.ResumedLane.{Stand}
 use Rattle.resumed_lanes.specs.Slots.{Slots}

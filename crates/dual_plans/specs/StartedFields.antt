@@ -2,7 +2,7 @@
 -- A field in which the units of the first of two lists stand.
 use Rattle.line21_codes.specs.declared.channels.Chan.{Chan}
 use Rattle.cue_lists.specs.Listing.{Listing}
-use Rattle.frame_scheduler.specs.LaneEvents.{event_at}
+use Rattle.field_lanes.specs.LaneEvents.{event_at}
 use Rattle.frame_scheduler.specs.SlotLists.{slots_in_list}
 use Rattle.resumed_lanes.specs.FieldSlots.{first_slots}
 use Rattle.resumed_lanes.specs.Filled.{IsFilled}

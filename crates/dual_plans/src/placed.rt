@@ -5,7 +5,7 @@ ghost use Rattle.shared_field.specs.Joined.{IsLaneOf};
 ghost use Rattle.dual_plans.specs.PlacedLanes.{CanStand};
 
 use crate::list_lane::ListLane;
-use frame_scheduler::lane::placed::PlacedLane;
+use field_lanes::PlacedField;
 use resumed_lanes::Place;
 use shared_field::units_in;
 use std::alloc::{AllocError, Global};
@@ -16,7 +16,7 @@ pub fn placed_lane(
     alloc: Global,
     lane: ListLane,
     places: &[Place],
-) -> Result<PlacedLane, AllocError>
+) -> Result<PlacedField, AllocError>
     requires apart { AreApart lane.events.items }
     requires stand { CanStand lane places.now }
     ensures lane { IfOk result
@@ -25,5 +25,5 @@ pub fn placed_lane(
     ensures start { IfOk result (λ planned. planned.slot ≡ 0) }
 {
     let units = units_in(alloc, &lane.parts, places)?;
-    Ok(PlacedLane::of(units, lane.events))
+    Ok(PlacedField::of(units, lane.events))
 }

@@ -1,5 +1,5 @@
 ghost use Rattle.std.specs.Prelude.{IfErr, IfOk};
-ghost use Rattle.frame_scheduler.specs.LaneEvents.{event_at};
+ghost use Rattle.field_lanes.specs.LaneEvents.{event_at};
 ghost use Rattle.resumed_lanes.specs.FieldSlots.{first_slots, second_slots};
 ghost use Rattle.resumed_lanes.specs.Filled.{IsFault, IsFilled, slots_at};
 ghost use Rattle.resumed_lanes.specs.Spans.{in_spans};

@@ -11,7 +11,7 @@ use Rattle.cue_lists.specs.Listing.{Listing}
 use Rattle.line21_author.specs.CueEvents.{channel_events}
 use Rattle.line21_author.specs.declared.event.Event.{Event}
 use Rattle.placements.specs.LaneRoom.{AreOfCuesFrom}
-use Rattle.frame_scheduler.specs.LaneEvents.{event_at}
+use Rattle.field_lanes.specs.LaneEvents.{event_at}
 use Rattle.frame_scheduler.specs.Planned.{authored_channel}
 use Rattle.frame_scheduler.specs.SlotLists.{slot_cues}
 use Rattle.resumed_lanes.specs.FieldSlots.{holds}

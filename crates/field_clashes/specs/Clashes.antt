@@ -6,7 +6,7 @@ use Rattle.line21_codes.specs.declared.channels.Chan.{Chan}
 use Rattle.line21_codes.specs.declared.channels.FieldNumber.{FieldNumber}
 use Rattle.cue_lists.specs.Listing.{Listing}
 use Rattle.line21_author.specs.CueEvents.{channel_events}
-use Rattle.frame_scheduler.specs.LaneEvents.{event_at}
+use Rattle.field_lanes.specs.LaneEvents.{event_at}
 use Rattle.frame_scheduler.specs.Planned.{authored_channel}
 use Rattle.frame_scheduler.specs.SlotLists.{slot_cues}
 use Rattle.resumed_lanes.specs.FieldSlots.{holds}

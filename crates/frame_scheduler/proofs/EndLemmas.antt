@@ -26,77 +26,77 @@ use Rattle.line21_slots.specs.Cadences.{cadence_of, has_slot_in, slot_from}
 use Rattle.line21_slots.proofs.CadenceLemmas.{slots_rise}
 use Rattle.placements.specs.Placing.{IsPlaced}
 use Rattle.service_lanes.proofs.CaptionsKept.{captions_kept}
-use Rattle.service_lanes.specs.Chunks.{Chunk}
+use Rattle.service_lanes.specs.Chunks.{ServiceChunk}
 use Rattle.service_lanes.specs.ServiceBytes.{loads_at}
-use Rattle.service_lanes.specs.ServiceChunks.{chunk_of, chunks_from, chunks_with}
+use Rattle.service_lanes.specs.ServiceChunks.{chunk_of, chunks_with, service_chunks_from}
 use Rattle.service_lanes.specs.ServiceRoom.{caption_lane}
 use Rattle.frame_scheduler.specs.Blocks.{service_block}
-use Rattle.frame_scheduler.specs.ChannelLane.{IsChannelPlaced, channel_pieces}
+use Rattle.field_lanes.specs.ChannelLane.{IsChannelPlaced, channel_chunks}
 use Rattle.frame_scheduler.specs.End.{NothingBehindTheEnd, silent_pair}
-use Rattle.frame_scheduler.specs.FieldLane.{lane}
-use Rattle.frame_scheduler.specs.LaneDoubling.{AreEnded}
-use Rattle.frame_scheduler.specs.LaneEvents.{event_at}
-use Rattle.frame_scheduler.specs.LaneTimeline.{lane_timeline, stands}
+use Rattle.field_lanes.specs.FieldLane.{field_lane}
+use Rattle.field_lanes.specs.LaneDoubling.{AreEnded}
+use Rattle.field_lanes.specs.LaneEvents.{event_at}
+use Rattle.field_lanes.specs.LaneTimeline.{lane_timeline, stands}
 use Rattle.frame_scheduler.specs.Planned.{Placement, captions_in, channel_pair, chunks_in, frame_blocks, service_bytes, service_lane_of, services, share_in}
 use Rattle.frame_scheduler.specs.SlotLists.{slot_cues, slots_in_list}
-use Rattle.frame_scheduler.specs.Timeline.{first_of, repeat_at, slot}
+use Rattle.field_lanes.specs.Timeline.{first_of, repeat_at, slot}
 use Rattle.frame_scheduler.specs.declared.frames.FrameBytes.{FrameBytes}
-use Rattle.frame_scheduler.specs.declared.lane.piece.Piece.{Piece}
-use Rattle.frame_scheduler.proofs.DoublingLemmas.{free_none, lane_ended, over_cases, unit_begins}
-use Rattle.frame_scheduler.proofs.EventLemmas.{free_over, over_later, some_slot}
+use Rattle.field_lanes.specs.declared.chunk.FieldChunk.{FieldChunk}
+use Rattle.field_lanes.proofs.DoublingLemmas.{free_none, lane_ended, over_cases, unit_begins}
+use Rattle.field_lanes.proofs.EventLemmas.{free_over, over_later, some_slot}
 use Rattle.frame_scheduler.proofs.ListDoublingLemmas.{channel_ended}
 
 -- what has ended by a slot has ended by each later one
-ended_later : (events : List Event) (pieces : List Piece) (m n : ℕ) → m ≤ n → AreEnded events pieces m → AreEnded events pieces n
-ended_later events pieces m n most ended = record {
+ended_later : (events : List Event) (chunks : List FieldChunk) (m n : ℕ) → m ≤ n → AreEnded events chunks m → AreEnded events chunks n
+ended_later events chunks m n most ended = record {
   events_are = over_later m n events most ended.events_are;
-  pieces_are = All-weaker (λ (piece : Piece). piece.until ≤ m) (λ (piece : Piece). piece.until ≤ n) (λ piece until. omega (arith, until, most)) pieces ended.pieces_are;
+  chunks_are = All-weaker (λ (chunk : FieldChunk). chunk.until ≤ m) (λ (chunk : FieldChunk). chunk.until ≤ n) (λ chunk until. omega (arith, until, most)) chunks ended.chunks_are;
 }
 
 -- nothing begins at a slot by which all has ended
-nothing_begins : (events : List Event) (pieces : List Piece) (fs : List ℕ) (n : ℕ) → AreEnded events pieces n → IsPlaced (lane events) [] pieces fs
-    → lane_timeline events pieces fs n ≡ None
-nothing_begins events pieces fs n ended placed = go (lane_timeline events pieces fs n) refl
+nothing_begins : (events : List Event) (chunks : List FieldChunk) (fs : List ℕ) (n : ℕ) → AreEnded events chunks n → IsPlaced (field_lane events) [] chunks fs
+    → lane_timeline events chunks fs n ≡ None
+nothing_begins events chunks fs n ended placed = go (lane_timeline events chunks fs n) refl
   where
     no_event : event_at events n ≡ None
     no_event = free_none events n (free_over n n events ended.events_are (omega arith))
 
-    go : (begun : Option Unit) → lane_timeline events pieces fs n ≡ begun → lane_timeline events pieces fs n ≡ None
+    go : (begun : Option Unit) → lane_timeline events chunks fs n ≡ begun → lane_timeline events chunks fs n ≡ None
     go None is = is
     go (Some u) is =
         absurd (⊎_elim
         (λ (a : event_at events n ≡ Some u). let f : Some u ≡ None = sym a ∙ no_event in cc)
-        (λ (w : (event_at events n ≡ None) × (stands pieces fs n ≡ Some u)).
-        let b = (unit_begins events [] pieces fs n u placed w.1).0 in
-        let until : b.piece.until ≤ n = All-contains (λ piece. piece.until ≤ n) pieces b.piece ended.pieces_are b.among in
-        omega (arith, b.allowed.ended, until, some_slot n b.piece))
-        (over_cases events pieces fs n u is))
+        (λ (w : (event_at events n ≡ None) × (stands chunks fs n ≡ Some u)).
+        let b = (unit_begins events [] chunks fs n u placed w.1).0 in
+        let until : b.chunk.until ≤ n = All-contains (λ chunk. chunk.until ≤ n) chunks b.chunk ended.chunks_are b.among in
+        omega (arith, b.allowed.ended, until, some_slot n b.chunk))
+        (over_cases events chunks fs n u is))
 
 -- so it has the null pair
-slot_silent : (events : List Event) (pieces : List Piece) (fs : List ℕ) (n : ℕ) → AreEnded events pieces n → IsPlaced (lane events) [] pieces fs
-    → slot (lane_timeline events pieces fs) n ≡ null_pair
-slot_silent events pieces fs n ended placed =
-    ap (λ due. unwrap_or (first_of due (option_map (λ (unit : Unit). unit.pair) (lane_timeline events pieces fs n))) null_pair)
-    (lane_ended events pieces fs n ended placed)
-    ∙ ap (λ begun. unwrap_or (first_of None (option_map (λ (unit : Unit). unit.pair) begun)) null_pair) (nothing_begins events pieces fs n ended placed)
+slot_silent : (events : List Event) (chunks : List FieldChunk) (fs : List ℕ) (n : ℕ) → AreEnded events chunks n → IsPlaced (field_lane events) [] chunks fs
+    → slot (lane_timeline events chunks fs) n ≡ null_pair
+slot_silent events chunks fs n ended placed =
+    ap (λ due. unwrap_or (first_of due (option_map (λ (unit : Unit). unit.pair) (lane_timeline events chunks fs n))) null_pair)
+    (lane_ended events chunks fs n ended placed)
+    ∙ ap (λ begun. unwrap_or (first_of None (option_map (λ (unit : Unit). unit.pair) begun)) null_pair) (nothing_begins events chunks fs n ended placed)
 
 -- and so has each slot of a channel in the frames from the list's end on
 channel_silent : (list : Listing) (channel : Chan) (slots : List ℕ) (frame : ℕ) → IsFormed list → IsRuled list
     → IsChannelPlaced channel (slot_cues list channel) slots → list.frames ≤ frame → channel_pair list channel slots frame ≡ silent_pair list.rate channel frame
 channel_silent list channel slots frame formed ruled earliest past = at (has_slot_in (cadence_of list.rate channel) frame)
   where
-    silent : slot (lane_timeline (channel_events channel (slot_cues list channel)) (channel_pieces channel (slot_cues list channel)) slots)
+    silent : slot (lane_timeline (channel_events channel (slot_cues list channel)) (channel_chunks channel (slot_cues list channel)) slots)
         (slot_from (cadence_of list.rate channel) frame) ≡ null_pair
     silent =
         let events = channel_events channel (slot_cues list channel) in
-        let pieces = channel_pieces channel (slot_cues list channel) in
+        let chunks = channel_chunks channel (slot_cues list channel) in
         let n = slot_from (cadence_of list.rate channel) frame in
-        slot_silent events pieces slots n
-        (ended_later events pieces (slots_in_list list channel) n (slots_rise (cadence_of list.rate channel) list.frames frame past) (channel_ended list channel formed ruled))
+        slot_silent events chunks slots n
+        (ended_later events chunks (slots_in_list list channel) n (slots_rise (cadence_of list.rate channel) list.frames frame past) (channel_ended list channel formed ruled))
         earliest.placed
 
     at : (has : Bool)
-        → option_map (slot (lane_timeline (channel_events channel (slot_cues list channel)) (channel_pieces channel (slot_cues list channel)) slots))
+        → option_map (slot (lane_timeline (channel_events channel (slot_cues list channel)) (channel_chunks channel (slot_cues list channel)) slots))
         (if has then Some (slot_from (cadence_of list.rate channel) frame) else None) ≡ (if has then Some null_pair else None)
     at true = ap Some silent
     at false = refl
@@ -138,36 +138,36 @@ no_events rate end frame cs kept past =
 
 -- the units of a service have to stand before the end
 chunks_ended : (rate : Rate) (service end number : ℕ) (cues : List Cue) → AreKept rate end (service_captions rate service cues)
-    → All (λ (chunk : Chunk). chunk.until ≤ end) (chunks_from rate service number cues)
-chunks_ended rate service end number [] kept = All-nil (λ (chunk : Chunk). chunk.until ≤ end)
+    → All (λ (chunk : ServiceChunk). chunk.until ≤ end) (service_chunks_from rate service number cues)
+chunks_ended rate service end number [] kept = All-nil (λ (chunk : ServiceChunk). chunk.until ≤ end)
 chunks_ended rate service end number (cue ∷ cues) kept = at (caption_of rate service cue) (chunks_ended rate service end (suc number) cues) kept
   where
-    at : (found : Option Caption) → (AreKept rate end (service_captions rate service cues) → All (λ (chunk : Chunk). chunk.until ≤ end) (chunks_from rate service (suc number) cues))
+    at : (found : Option Caption) → (AreKept rate end (service_captions rate service cues) → All (λ (chunk : ServiceChunk). chunk.until ≤ end) (service_chunks_from rate service (suc number) cues))
         → AreKept rate end (cons_option found (service_captions rate service cues))
-        → All (λ (chunk : Chunk). chunk.until ≤ end) (chunks_with number found (window_cue_units cue) ++ chunks_from rate service (suc number) cues)
+        → All (λ (chunk : ServiceChunk). chunk.until ≤ end) (chunks_with number found (window_cue_units cue) ++ service_chunks_from rate service (suc number) cues)
     at None rest kept = rest kept
     at (Some c) rest kept =
         let sound = kept.0 in
         let until : c.starts ≤ end = omega (arith, sound.after, sound.hidden, sound.ended) in
-        All-append (λ (chunk : Chunk). chunk.until ≤ end) (map (chunk_of number c) (window_cue_units cue)) (chunks_from rate service (suc number) cues)
+        All-append (λ (chunk : ServiceChunk). chunk.until ≤ end) (map (chunk_of number c) (window_cue_units cue)) (service_chunks_from rate service (suc number) cues)
         (of_caption c until (window_cue_units cue)) (rest kept.2)
       where
-        of_caption : (c : Caption) → c.starts ≤ end → (units : List (List ℕ)) → All (λ (chunk : Chunk). chunk.until ≤ end) (map (chunk_of number c) units)
-        of_caption c until [] = All-nil (λ (chunk : Chunk). chunk.until ≤ end)
+        of_caption : (c : Caption) → c.starts ≤ end → (units : List (List ℕ)) → All (λ (chunk : ServiceChunk). chunk.until ≤ end) (map (chunk_of number c) units)
+        of_caption c until [] = All-nil (λ (chunk : ServiceChunk). chunk.until ≤ end)
         of_caption c until (unit ∷ units) =
-            All-cons (λ (chunk : Chunk). chunk.until ≤ end) (chunk_of number c unit) (map (chunk_of number c) units) until (of_caption c until units)
+            All-cons (λ (chunk : ServiceChunk). chunk.until ≤ end) (chunk_of number c unit) (map (chunk_of number c) units) until (of_caption c until units)
 
 -- so none stands in a frame from there on
-no_loads : (share : ℕ) (cs : List Caption) (before : List (Chunk × ℕ)) (chunks : List Chunk) (frames : List ℕ) (end frame : ℕ)
-    → All (λ (chunk : Chunk). chunk.until ≤ end) chunks → IsPlaced (caption_lane share cs) before chunks frames → end ≤ frame → loads_at (zip chunks frames) frame ≡ []
+no_loads : (share : ℕ) (cs : List Caption) (before : List (ServiceChunk × ℕ)) (chunks : List ServiceChunk) (frames : List ℕ) (end frame : ℕ)
+    → All (λ (chunk : ServiceChunk). chunk.until ≤ end) chunks → IsPlaced (caption_lane share cs) before chunks frames → end ≤ frame → loads_at (zip chunks frames) frame ≡ []
 no_loads share cs before [] [] end frame all placed past = refl
 no_loads share cs before [] (f ∷ fs) end frame all placed past = absurd placed
 no_loads share cs before (chunk ∷ chunks) [] end frame all placed past = absurd placed
 no_loads share cs before (chunk ∷ chunks) (f ∷ fs) end frame all placed past =
     let ended = placed.0.ended in
-    let until : chunk.until ≤ end = All-head (λ (chunk : Chunk). chunk.until ≤ end) chunk chunks all in
+    let until : chunk.until ≤ end = All-head (λ (chunk : ServiceChunk). chunk.until ≤ end) chunk chunks all in
     let other : (f == frame) ≡ false = grind (arith, nat_tests) in
-    rw other (no_loads share cs (before ++ (chunk, f) ∷ []) chunks fs end frame (All-tail (λ (chunk : Chunk). chunk.until ≤ end) chunk chunks all) placed.1 past)
+    rw other (no_loads share cs (before ++ (chunk, f) ∷ []) chunks fs end frame (All-tail (λ (chunk : ServiceChunk). chunk.until ≤ end) chunk chunks all) placed.1 past)
 
 -- a service is sent nothing there
 service_silent : (list : Listing) (service : ℕ) (frames : List ℕ) (frame : ℕ) → IsFormed list → IsRuled list

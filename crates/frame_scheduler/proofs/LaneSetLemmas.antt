@@ -5,8 +5,7 @@ use Rattle.cue_lists.specs.Listing.{Listing}
 use Rattle.cue_lists.specs.declared.lane.Lane.{Lane}
 use Rattle.placements.specs.declared.planning.PlanFault.{PlanFault}
 use Rattle.placements.specs.declared.planning.PlanFault.TheVariants.{Memory, NoRoom}
-use Rattle.frame_scheduler.specs.LanePlan.{earlier_fault}
-use Rattle.frame_scheduler.specs.LaneSets.{IsFaultIn, IsFirstIn}
+use Rattle.frame_scheduler.specs.LaneSets.{IsFaultIn, IsFirstIn, earlier_fault}
 use Rattle.frame_scheduler.specs.Planned.{LaneHasRoom}
 
 -- each cue has room on the lane

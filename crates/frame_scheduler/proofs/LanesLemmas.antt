@@ -24,25 +24,25 @@ use Rattle.line21_author.specs.CueEvents.{channel_events}
 use Rattle.line21_slots.proofs.CadenceLemmas.{slot_from_first}
 use Rattle.line21_author.proofs.CueSlotLemmas.{cues_formed_in_slots}
 use Rattle.line21_author.specs.declared.event.Event.{Event}
-use Rattle.frame_scheduler.specs.ChannelLane.{IsChannelPlaced, channel_pieces, channel_slot, pieces_from}
-use Rattle.frame_scheduler.specs.FieldLane.{lane}
-use Rattle.frame_scheduler.specs.LanePlan.{IsPlanOf, LaneFault, Planned, lane_pair, slot_pair, piece_cue, fault_beside}
-use Rattle.frame_scheduler.specs.LaneTimeline.{placed_timeline}
+use Rattle.field_lanes.specs.ChannelLane.{IsChannelPlaced, channel_chunks, channel_slot, channel_chunks_from}
+use Rattle.field_lanes.specs.FieldLane.{field_lane}
+use Rattle.field_lanes.specs.FieldPlan.{IsFieldPlan, IsFieldFault, PlannedField, lane_pair, slot_pair, field_chunk_cue}
+use Rattle.field_lanes.specs.LaneTimeline.{placed_timeline}
 use Rattle.placements.specs.Placing.{IsEarliest, IsPlaced}
 use Rattle.frame_scheduler.specs.SlotLists.{slot_cues}
-use Rattle.frame_scheduler.specs.LaneSets.{IsFaultIn, IsField, IsFirstIn}
+use Rattle.frame_scheduler.specs.LaneSets.{IsFaultIn, IsField, IsFirstIn, fault_beside}
 use Rattle.frame_scheduler.specs.Planned.{captions_in, channel_pair, chunks_in, LaneHasRoom, IsFirstWithoutRoom, IsLanePlaced, IsListPlaced, LaneLacksRoom, Placement, service_lane_of, share_in}
-use Rattle.service_lanes.specs.ServiceChunks.{chunk_cue}
-use Rattle.service_lanes.specs.ServicePlan.{IsLaneFault}
+use Rattle.service_lanes.specs.ServiceChunks.{service_chunk_cue}
+use Rattle.service_lanes.specs.ServicePlan.{IsServiceFault}
 use Rattle.service_lanes.proofs.ChunkOrderLemmas.{chunks_in_order}
 use Rattle.frame_scheduler.proofs.LaneSetLemmas.{IsRoomy, fault_of_both, fault_of_p, fault_of_q}
-use Rattle.frame_scheduler.specs.Timeline.{slot}
-use Rattle.frame_scheduler.specs.declared.lane.piece.Piece.{Piece}
-use Rattle.frame_scheduler.specs.declared.lane.placed_unit.PlacedUnit.{PlacedUnit}
+use Rattle.field_lanes.specs.Timeline.{slot}
+use Rattle.field_lanes.specs.declared.chunk.FieldChunk.{FieldChunk}
+use Rattle.field_lanes.specs.declared.placed_unit.PlacedUnit.{PlacedUnit}
 use Rattle.placements.specs.declared.planning.PlanFault.{PlanFault}
 use Rattle.placements.specs.declared.planning.PlanFault.TheVariants.{Memory, NoRoom}
-use Rattle.frame_scheduler.proofs.ChannelOrderLemmas.{channel_in_order}
-use Rattle.frame_scheduler.proofs.LanePlanLemmas.{timeline_is}
+use Rattle.field_lanes.proofs.ChannelOrderLemmas.{channel_in_order}
+use Rattle.field_lanes.proofs.LanePlanLemmas.{timeline_is}
 use Rattle.placements.proofs.LaneRoomLemmas.{room_all}
 use Rattle.placements.proofs.PlacingLemmas.{earliest_none, earliest_same}
 
@@ -66,25 +66,25 @@ off_channel channel other (kind.Roll own rows) hide runs formed = other_channel 
 off_channel channel other (kind.Win window) hide runs formed = refl
 
 -- so it has no units
-pub no_pieces : (channel : Chan) → (IsAuthoredChannel channel → ⊥) → (number : ℕ) (cues : List Cue) → All IsCueFormed cues → pieces_from channel number cues ≡ []
-no_pieces channel other number [] formed = refl
-no_pieces channel other number (cue ∷ cues) formed =
+pub no_chunks : (channel : Chan) → (IsAuthoredChannel channel → ⊥) → (number : ℕ) (cues : List Cue) → All IsCueFormed cues → channel_chunks_from channel number cues ≡ []
+no_chunks channel other number [] formed = refl
+no_chunks channel other number (cue ∷ cues) formed =
     let here : is_on channel cue.kind ≡ false = off_channel channel other cue.kind cue.hide cue.runs (All-head IsCueFormed cue cues formed).kind in
-    rw here (no_pieces channel other (suc number) cues (All-tail IsCueFormed cue cues formed))
+    rw here (no_chunks channel other (suc number) cues (All-tail IsCueFormed cue cues formed))
 
 -- units that have a placement up to each cue
 pub earliest_room : (channel : Chan) (l : Listing) (slots : List ℕ)
-    → IsPlaced (lane (channel_events channel (slot_cues l channel))) [] (channel_pieces channel (slot_cues l channel)) slots
+    → IsPlaced (field_lane (channel_events channel (slot_cues l channel))) [] (channel_chunks channel (slot_cues l channel)) slots
     → (cue : ℕ) → LaneHasRoom l (Channel channel) cue
 earliest_room channel l slots placed cue =
-    room_all piece_cue (lane (channel_events channel (slot_cues l channel))) (channel_pieces channel (slot_cues l channel))
+    room_all field_chunk_cue (field_lane (channel_events channel (slot_cues l channel))) (channel_chunks channel (slot_cues l channel))
     (channel_in_order channel (slot_cues l channel)) slots placed cue
 
 -- so do those of a service
 pub service_room : (service : ℕ) (l : Listing) (frames : List ℕ) → IsPlaced (service_lane_of l service) [] (chunks_in l service) frames
     → (cue : ℕ) → LaneHasRoom l (Service service) cue
 service_room service l frames placed cue =
-    room_all chunk_cue (service_lane_of l service) (chunks_in l service) (chunks_in_order l.rate service l.cues) frames placed cue
+    room_all service_chunk_cue (service_lane_of l service) (chunks_in l service) (chunks_in_order l.rate service l.cues) frames placed cue
 
 placed_room : (l : Listing) (placed : Placement) → IsListPlaced l placed → (on : Lane) (cue : ℕ) → LaneHasRoom l on cue
 placed_room l placed is (Channel channel) cue = earliest_room channel l (placed (Channel channel)) (is (Channel channel)).placed cue
@@ -115,7 +115,7 @@ pub one_placement : (l : Listing) (a b : Placement) → IsListPlaced l a → IsL
 one_placement l a b first second = fun_ext (λ on. same on (a on) (b on) (first on) (second on))
   where
     same : (on : Lane) (fs gs : List ℕ) → IsLanePlaced l on fs → IsLanePlaced l on gs → fs ≡ gs
-    same (Channel channel) fs gs one other = earliest_same (lane (channel_events channel (slot_cues l channel))) (channel_pieces channel (slot_cues l channel)) fs gs one other
+    same (Channel channel) fs gs one other = earliest_same (field_lane (channel_events channel (slot_cues l channel))) (channel_chunks channel (slot_cues l channel)) fs gs one other
     same (Service service) fs gs one other = earliest_same (service_lane_of l service) (chunks_in l service) fs gs one other
 
 -- the placement of the two channels that are authored, and of services
@@ -140,14 +140,14 @@ first_of_any l cue first = record { none = (first.none.0, first.none.2); first =
 
 -- the fault of one lane
 pub channel_fault : (l : Listing) (channel : Chan) (fault : PlanFault)
-    → LaneFault (channel_events channel (slot_cues l channel)) (channel_pieces channel (slot_cues l channel)) fault → IsFaultIn (IsOnly (Channel channel)) l fault
+    → IsFieldFault (channel_events channel (slot_cues l channel)) (channel_chunks channel (slot_cues l channel)) fault → IsFaultIn (IsOnly (Channel channel)) l fault
 channel_fault l channel (Memory error) is = tt
 channel_fault l channel (NoRoom cue) is = record {
   none = (Channel channel, refl, is.none);
   first = λ earlier below on same. subst (λ o. LaneHasRoom l o earlier) (sym same) (is.first earlier below);
 }
 
-pub service_fault : (l : Listing) (service : ℕ) (fault : PlanFault) → IsLaneFault (share_in l service) (captions_in l service) (chunks_in l service) fault
+pub service_fault : (l : Listing) (service : ℕ) (fault : PlanFault) → IsServiceFault (share_in l service) (captions_in l service) (chunks_in l service) fault
     → IsFaultIn (IsOnly (Service service)) l fault
 service_fault l service (Memory error) is = tt
 service_fault l service (NoRoom cue) is = record {
@@ -159,9 +159,9 @@ module _ (l : Listing) (formed : IsFormed l) where
   -- a channel that isn't authored is placed, and has room
   pub off_placed : (channel : Chan) → (IsAuthoredChannel channel → ⊥) → IsChannelPlaced channel (slot_cues l channel) []
   off_placed channel other =
-      subst (λ us. IsEarliest (lane (channel_events channel (slot_cues l channel))) us [])
-      (sym (no_pieces channel other 1 (slot_cues l channel) (cues_formed_in_slots (cadence_of l.rate channel) l.cues formed.cues)))
-      (earliest_none (lane (channel_events channel (slot_cues l channel))))
+      subst (λ us. IsEarliest (field_lane (channel_events channel (slot_cues l channel))) us [])
+      (sym (no_chunks channel other 1 (slot_cues l channel) (cues_formed_in_slots (cadence_of l.rate channel) l.cues formed.cues)))
+      (earliest_none (field_lane (channel_events channel (slot_cues l channel))))
 
   pub off_room : (channel : Chan) → (IsAuthoredChannel channel → ⊥) → IsRoomy l (Channel channel)
   off_room channel other cue = earliest_room channel l [] (off_placed channel other).placed cue
@@ -188,26 +188,26 @@ module _ (l : Listing) (formed : IsFormed l) where
   abbrev events : Chan → List Event
   events channel = channel_events channel (slot_cues l channel)
 
-  abbrev pieces : Chan → List Piece
-  pieces channel = channel_pieces channel (slot_cues l channel)
+  abbrev chunks : Chan → List FieldChunk
+  chunks channel = channel_chunks channel (slot_cues l channel)
 
   -- a channel that is planned has room
-  pub planned_room : (channel : Chan) (planned : Planned) → IsPlanOf (events channel) (pieces channel) planned → (on : Lane) → IsOnly (Channel channel) on → IsRoomy l on
+  pub planned_room : (channel : Chan) (planned : PlannedField) → IsFieldPlan (events channel) (chunks channel) planned → (on : Lane) → IsOnly (Channel channel) on → IsRoomy l on
   planned_room channel planned is on same = subst (IsRoomy l) (sym same) (λ cue. earliest_room channel l is.0.0 is.0.1.placed cue)
 
-  pub one_refused : (fault : PlanFault) (planned : Planned) → LaneFault (events Cc1) (pieces Cc1) fault → IsPlanOf (events Cc3) (pieces Cc3) planned → IsFaultIn IsField l fault
+  pub one_refused : (fault : PlanFault) (planned : PlannedField) → IsFieldFault (events Cc1) (chunks Cc1) fault → IsFieldPlan (events Cc3) (chunks Cc3) planned → IsFaultIn IsField l fault
   one_refused fault planned one two =
       fault_of_p l (IsOnly (Channel Cc1)) (IsOnly (Channel Cc3)) IsField cover_fields (in_fields Cc1) (in_fields Cc3) fault (channel_fault l Cc1 fault one)
       (planned_room Cc3 planned two)
 
-  pub two_refused : (fault : PlanFault) (planned : Planned) → IsPlanOf (events Cc1) (pieces Cc1) planned → LaneFault (events Cc3) (pieces Cc3) fault → IsFaultIn IsField l fault
+  pub two_refused : (fault : PlanFault) (planned : PlannedField) → IsFieldPlan (events Cc1) (chunks Cc1) planned → IsFieldFault (events Cc3) (chunks Cc3) fault → IsFaultIn IsField l fault
   two_refused fault planned one two =
       fault_of_q l (IsOnly (Channel Cc1)) (IsOnly (Channel Cc3)) IsField cover_fields (in_fields Cc1) (in_fields Cc3) fault (channel_fault l Cc3 fault two)
       (planned_room Cc1 planned one)
 
   -- what the lane of CC3 answers beside that of CC1, which isn't planned
-  pub refused_beside : (one : PlanFault) (two : Result Planned PlanFault) (other : Option PlanFault) → LaneFault (events Cc1) (pieces Cc1) one
-      → IfOk two (IsPlanOf (events Cc3) (pieces Cc3)) → IfErr two (LaneFault (events Cc3) (pieces Cc3)) → other ≡ result_err two
+  pub refused_beside : (one : PlanFault) (two : Result PlannedField PlanFault) (other : Option PlanFault) → IsFieldFault (events Cc1) (chunks Cc1) one
+      → IfOk two (IsFieldPlan (events Cc3) (chunks Cc3)) → IfErr two (IsFieldFault (events Cc3) (chunks Cc3)) → other ≡ result_err two
       → IsFaultIn IsField l (fault_beside one other)
   refused_beside one (Ok planned) other first placed refused is = subst (λ o. IsFaultIn IsField l (fault_beside one o)) (sym is) (one_refused one planned first placed)
   refused_beside one (Err two) other first placed refused is =
@@ -216,15 +216,15 @@ module _ (l : Listing) (formed : IsFormed l) where
       (channel_fault l Cc3 two refused))
 
   -- a planned lane has its channel's pairs
-  lane_gives : (channel : Chan) (planned : Planned) (is : IsPlanOf (events channel) (pieces channel) planned) (n : ℕ)
+  lane_gives : (channel : Chan) (planned : PlannedField) (is : IsFieldPlan (events channel) (chunks channel) planned) (n : ℕ)
       → channel_slot channel (slot_cues l channel) is.0.0 n ≡ slot_pair planned n
   lane_gives channel planned is n =
-      ap (λ t. slot t n) (sym (timeline_is (events channel) (pieces channel) is.0.0))
+      ap (λ t. slot t n) (sym (timeline_is (events channel) (chunks channel) is.0.0))
       ∙ ap (λ (us : List PlacedUnit). slot (placed_timeline (events channel) us) n) (sym is.0.2)
       ∙ ap (λ (es : List Event). slot (placed_timeline es planned.units) n) (sym is.1)
 
   -- in each frame that has a slot
-  pub frame_gives : (channel : Chan) (planned : Planned) (is : IsPlanOf (events channel) (pieces channel) planned) (n : ℕ)
+  pub frame_gives : (channel : Chan) (planned : PlannedField) (is : IsFieldPlan (events channel) (chunks channel) planned) (n : ℕ)
       → channel_pair l channel is.0.0 n ≡ lane_pair (cadence_of l.rate channel) planned n
   frame_gives channel planned is n = of_slot (slot_in (cadence_of l.rate channel) n)
     where
@@ -233,6 +233,6 @@ module _ (l : Listing) (formed : IsFormed l) where
       of_slot (Some k) = ap (λ (pair : Pair). Some pair) (lane_gives channel planned is k)
 
   -- a planned lane is at the first of all slots
-  pub at_first : (channel : Chan) (planned : Planned) → IsPlanOf (events channel) (pieces channel) planned
+  pub at_first : (channel : Chan) (planned : PlannedField) → IsFieldPlan (events channel) (chunks channel) planned
       → planned.slot ≡ slot_from (cadence_of l.rate channel) 0
   at_first channel planned is = is.2 ∙ sym (slot_from_first (cadence_of l.rate channel))

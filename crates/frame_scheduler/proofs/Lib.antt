@@ -1,17 +1,6 @@
-pub mod FieldLaneLemmas
-pub mod SlotPlacingLemmas
-pub mod EventLemmas
-pub mod NextLemmas
-pub mod CursorLemmas
-pub mod LaneFrontLemmas
-pub mod LanePlanLemmas
-pub mod ColumnLemmas
-pub mod DoublingLemmas
-pub mod OneCueLemmas
 pub mod SlotLemmas
 pub mod LanesLemmas
 pub mod NextFrameLemmas
-pub mod ChannelOrderLemmas
 pub mod EventsApartLemmas
 pub mod ListDoublingLemmas
 pub mod RoomDecided

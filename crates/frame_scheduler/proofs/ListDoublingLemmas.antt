@@ -28,44 +28,44 @@ use Rattle.line21_author.specs.declared.unit.Unit.{Unit}
 use Rattle.line21_author.proofs.CueEventsLemmas.{channel_events_control}
 use Rattle.line21_author.proofs.CueUnitsLemmas.{units_of_carried}
 use Rattle.line21_author.proofs.SlotSequenceLemmas.{IsSoundInSlots, all_sound_in_slots}
-use Rattle.frame_scheduler.specs.declared.lane.piece.Piece.{Piece}
-use Rattle.frame_scheduler.specs.ChannelLane.{IsChannelPlaced, channel_pieces, cue_pieces, pieces_from}
+use Rattle.field_lanes.specs.declared.chunk.FieldChunk.{FieldChunk}
+use Rattle.field_lanes.specs.ChannelLane.{IsChannelPlaced, channel_chunks, field_cue_chunks, channel_chunks_from}
 use Rattle.frame_scheduler.specs.Columns.{Columns, first_pairs, pair_in}
-use Rattle.frame_scheduler.specs.DoubledPairs.{IsDoubled}
-use Rattle.frame_scheduler.specs.LaneDoubling.{AreDoubledControls, AreEnded}
-use Rattle.frame_scheduler.specs.LaneEvents.{AreOver}
-use Rattle.frame_scheduler.specs.LaneTimeline.{lane_timeline}
+use Rattle.field_lanes.specs.DoubledPairs.{IsDoubled}
+use Rattle.field_lanes.specs.LaneDoubling.{AreDoubledControls, AreEnded}
+use Rattle.field_lanes.specs.LaneEvents.{AreOver}
+use Rattle.field_lanes.specs.LaneTimeline.{lane_timeline}
 use Rattle.frame_scheduler.specs.Planned.{IsListPlaced, Placement, columns_of}
 use Rattle.frame_scheduler.specs.SlotLists.{slot_cues, slots_in_list}
-use Rattle.frame_scheduler.specs.Timeline.{Timeline, column, slot}
-use Rattle.frame_scheduler.proofs.DoublingLemmas.{lane_doubled}
+use Rattle.field_lanes.specs.Timeline.{Timeline, column, slot}
+use Rattle.field_lanes.proofs.DoublingLemmas.{lane_doubled}
 use Rattle.frame_scheduler.proofs.EventsApartLemmas.{events_apart, events_within}
 use Rattle.frame_scheduler.proofs.SlotLemmas.{slot_cues_formed, slot_sequence}
 
 -- a unit's pair is a control pair where it is doubled, and its time has ended at the list's end
-record IsWithin (frames : ℕ) (piece : Piece) : Type 0 where
-  doubled : is_control piece.unit.pair ≡ piece.unit.doubled
-  ended : piece.until ≤ frames
+record IsWithin (frames : ℕ) (chunk : FieldChunk) : Type 0 where
+  doubled : is_control chunk.unit.pair ≡ chunk.unit.doubled
+  ended : chunk.until ≤ frames
 
 show_within : (show frames : ℕ) (hide : Option ℕ) → MatchOption hide (show < frames) (λ h. h + 2 ≤ frames) → IfSome hide (λ h. show < h) → show ≤ frames
 show_within show frames None ended hidden = omega arith
 show_within show frames (Some h) ended hidden = omega arith
 
-cue_within : (frames number : ℕ) (cue : Cue) → IsCueFormed cue → IsSoundInSlots frames cue → All (IsWithin frames) (cue_pieces number cue)
+cue_within : (frames number : ℕ) (cue : Cue) → IsCueFormed cue → IsSoundInSlots frames cue → All (IsWithin frames) (field_cue_chunks number cue)
 cue_within frames number cue formed sound =
     All-map (IsWithin frames) (λ (unit : Unit). record { unit = unit; load = cue.load; until = cue.show; cue = number }) (units_of cue)
     (All-weaker IsCarried (λ (unit : Unit). IsWithin frames (record { unit = unit; load = cue.load; until = cue.show; cue = number }))
     (λ unit carried. record { doubled = carried.doubled; ended = show_within cue.show frames cue.hide sound.ended sound.hidden })
     (units_of cue) (units_of_carried cue formed))
 
-pieces_within : (channel : Chan) (frames number : ℕ) (cues : List Cue) → All IsCueFormed cues → AllByRecursion (IsSoundInSlots frames) (cues_on channel cues)
-    → All (IsWithin frames) (pieces_from channel number cues)
-pieces_within channel frames number [] formed sound = All-nil (IsWithin frames)
-pieces_within channel frames number (cue ∷ cues) formed sound =
-    let behind = pieces_within channel frames (suc number) cues (All-tail IsCueFormed cue cues formed) in
+chunks_within : (channel : Chan) (frames number : ℕ) (cues : List Cue) → All IsCueFormed cues → AllByRecursion (IsSoundInSlots frames) (cues_on channel cues)
+    → All (IsWithin frames) (channel_chunks_from channel number cues)
+chunks_within channel frames number [] formed sound = All-nil (IsWithin frames)
+chunks_within channel frames number (cue ∷ cues) formed sound =
+    let behind = chunks_within channel frames (suc number) cues (All-tail IsCueFormed cue cues formed) in
     (elim (is_on channel cue.kind) as (λ on. AllByRecursion (IsSoundInSlots frames) (if on then cue ∷ cues_on channel cues else cues_on channel cues)
-    → All (IsWithin frames) ((if on then cue_pieces number cue else []) ++ pieces_from channel (suc number) cues)) [
-      | true ↦ λ all. All-append (IsWithin frames) (cue_pieces number cue) (pieces_from channel (suc number) cues)
+    → All (IsWithin frames) ((if on then field_cue_chunks number cue else []) ++ channel_chunks_from channel (suc number) cues)) [
+      | true ↦ λ all. All-append (IsWithin frames) (field_cue_chunks number cue) (channel_chunks_from channel (suc number) cues)
           (cue_within frames number cue (All-head IsCueFormed cue cues formed) all.0) (behind all.1)
       | false ↦ λ all. behind all
     ]) sound
@@ -77,36 +77,36 @@ events_over frames (event ∷ events) all =
 
 -- the units of a channel's cues are within the list, and doubled where their pairs are control pairs
 channel_within : (list : Listing) (channel : Chan) → IsFormed list → IsRuled list
-    → All (IsWithin (slots_in_list list channel)) (channel_pieces channel (slot_cues list channel))
+    → All (IsWithin (slots_in_list list channel)) (channel_chunks channel (slot_cues list channel))
 channel_within list channel formed ruled =
-    pieces_within channel (slots_in_list list channel) 1 (slot_cues list channel) (slot_cues_formed list formed channel)
+    chunks_within channel (slots_in_list list channel) 1 (slot_cues list channel) (slot_cues_formed list formed channel)
     (all_sound_in_slots (slots_in_list list channel) (cues_on channel (slot_cues list channel)) (slot_sequence list ruled channel))
 
 -- what begins on a channel is doubled exactly where it is a control pair
 pub channel_controls : (list : Listing) (channel : Chan) → IsFormed list → IsRuled list
-    → AreDoubledControls (channel_events channel (slot_cues list channel)) (channel_pieces channel (slot_cues list channel))
+    → AreDoubledControls (channel_events channel (slot_cues list channel)) (channel_chunks channel (slot_cues list channel))
 channel_controls list channel formed ruled =
     let events = channel_events channel (slot_cues list channel) in
-    let pieces = channel_pieces channel (slot_cues list channel) in
+    let chunks = channel_chunks channel (slot_cues list channel) in
     record {
       events_are = All-weaker IsControlEvent (λ event. IsTrue (is_control event.pair)) (λ event control. control.control) events
           (channel_events_control channel (slot_cues list channel) events refl);
-      pieces_are = All-weaker (IsWithin (slots_in_list list channel)) (λ piece. is_control piece.unit.pair ≡ piece.unit.doubled) (λ piece w. w.doubled) pieces
+      chunks_are = All-weaker (IsWithin (slots_in_list list channel)) (λ chunk. is_control chunk.unit.pair ≡ chunk.unit.doubled) (λ chunk w. w.doubled) chunks
           (channel_within list channel formed ruled);
     }
 
 -- what begins in the slots of a channel
 abbrev pub channel_timeline : Listing → Chan → List ℕ → Timeline
-channel_timeline list channel placed = lane_timeline (channel_events channel (slot_cues list channel)) (channel_pieces channel (slot_cues list channel)) placed
+channel_timeline list channel placed = lane_timeline (channel_events channel (slot_cues list channel)) (channel_chunks channel (slot_cues list channel)) placed
 
 -- all that a channel sends has ended when the list has
 pub channel_ended : (list : Listing) (channel : Chan) → IsFormed list → IsRuled list
-    → AreEnded (channel_events channel (slot_cues list channel)) (channel_pieces channel (slot_cues list channel)) (slots_in_list list channel)
+    → AreEnded (channel_events channel (slot_cues list channel)) (channel_chunks channel (slot_cues list channel)) (slots_in_list list channel)
 channel_ended list channel formed ruled =
     let slots = slots_in_list list channel in
     record {
       events_are = events_over slots (channel_events channel (slot_cues list channel)) (events_within list formed ruled channel);
-      pieces_are = All-weaker (IsWithin slots) (λ piece. piece.until ≤ slots) (λ piece w. w.ended) (channel_pieces channel (slot_cues list channel))
+      chunks_are = All-weaker (IsWithin slots) (λ chunk. chunk.until ≤ slots) (λ chunk w. w.ended) (channel_chunks channel (slot_cues list channel))
           (channel_within list channel formed ruled);
     }
 
@@ -114,7 +114,7 @@ channel_ended list channel formed ruled =
 channel_doubled : (list : Listing) (channel : Chan) (placed : List ℕ) → IsFormed list → IsRuled list → IsChannelPlaced channel (slot_cues list channel) placed
     → IsDoubled (column (channel_timeline list channel placed) (slots_in_list list channel))
 channel_doubled list channel placed formed ruled earliest =
-    lane_doubled (channel_events channel (slot_cues list channel)) (channel_pieces channel (slot_cues list channel)) placed (slots_in_list list channel)
+    lane_doubled (channel_events channel (slot_cues list channel)) (channel_chunks channel (slot_cues list channel)) placed (slots_in_list list channel)
     (events_apart list ruled channel) (channel_controls list channel formed ruled) (channel_ended list channel formed ruled) earliest.placed
 
 -- one more frame has one more pair where it has a slot

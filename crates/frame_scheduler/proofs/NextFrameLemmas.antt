@@ -15,17 +15,17 @@ use Rattle.frame_scheduler.specs.Blocks.{blocks_of, blocks_room, lane_block, mov
 use Rattle.frame_scheduler.specs.ServicesLeft.{HasLeft, IsNumbered}
 use Rattle.frame_scheduler.specs.Columns.{Columns}
 use Rattle.frame_scheduler.specs.Frames.{GivesFrom}
-use Rattle.frame_scheduler.specs.LanePlan.{Planned, behind_frame, given_in, lane_pair, slot_pair}
+use Rattle.field_lanes.specs.FieldPlan.{PlannedField, behind_frame, given_in, lane_pair, slot_pair}
 use Rattle.frame_scheduler.specs.declared.frames.FrameBytes.{FrameBytes}
 use Rattle.frame_scheduler.specs.declared.frames.Plan.{Plan}
 
 -- a step of one of the lanes in a frame
-abbrev Steps : Cadence → ℕ → List Planned → ℕ → Option Pair → List Planned → Type 0
-Steps cadence frame lanes index pair new = (lane : Planned) → slice_get lanes index ≡ Some lane
+abbrev Steps : Cadence → ℕ → List PlannedField → ℕ → Option Pair → List PlannedField → Type 0
+Steps cadence frame lanes index pair new = (lane : PlannedField) → slice_get lanes index ≡ Some lane
     → (pair ≡ given_in cadence frame lane) × (new ≡ slice_set lanes index (behind_frame cadence frame lane))
 
 -- a lane that is at the first slot that isn't before a frame gives the frame's pair
-given_is : (c : Cadence) (one : Planned) (f : ℕ) → one.slot ≡ slot_from c f → given_in c f one ≡ lane_pair c one f
+given_is : (c : Cadence) (one : PlannedField) (f : ℕ) → one.slot ≡ slot_from c f → given_in c f one ≡ lane_pair c one f
 given_is c one f at =
     subst (λ k. given_in c f one ≡ option_map (slot_pair one) (if has_slot_in c f then Some k else None)) at (by_test (has_slot_in c f))
   where
@@ -34,7 +34,7 @@ given_is c one f at =
     by_test false = refl
 
 -- behind the frame it is at the first slot that isn't before the next
-behind_at : (c : Cadence) (one : Planned) (f : ℕ) → one.slot ≡ slot_from c f → (behind_frame c f one).slot ≡ slot_from c (f + 1)
+behind_at : (c : Cadence) (one : PlannedField) (f : ℕ) → one.slot ≡ slot_from c f → (behind_frame c f one).slot ≡ slot_from c (f + 1)
 behind_at c one f at = by_test (has_slot_in c f) refl
   where
     next : suc f ≡ f + 1
@@ -48,13 +48,13 @@ behind_at c one f at = by_test (has_slot_in c f) refl
     by_test false test = rw test (at ∙ sym (slot_no_more c f test) ∙ ap (slot_from c) next)
 
 -- a lane that is put in its own place changes nothing
-set_own : (lanes : List Planned) (index : ℕ) (lane : Planned) → slice_get lanes index ≡ Some lane → slice_set lanes index lane ≡ lanes
+set_own : (lanes : List PlannedField) (index : ℕ) (lane : PlannedField) → slice_get lanes index ≡ Some lane → slice_set lanes index lane ≡ lanes
 set_own [] index lane is = refl
-set_own (one ∷ rest) zero lane is = let same : one ≡ lane = cc in ap (λ (l : Planned). l ∷ rest) (sym same)
-set_own (one ∷ rest) (suc index) lane is = ap (λ (l : List Planned). one ∷ l) (set_own rest index lane is)
+set_own (one ∷ rest) zero lane is = let same : one ≡ lane = cc in ap (λ (l : PlannedField). l ∷ rest) (sym same)
+set_own (one ∷ rest) (suc index) lane is = ap (λ (l : List PlannedField). one ∷ l) (set_own rest index lane is)
 
 -- so a frame without a slot leaves a lane as it is
-pub none_given : (c : Cadence) (f : ℕ) (lanes : List Planned) (index : ℕ) → has_slot_in c f ≡ false → (lane : Planned) → slice_get lanes index ≡ Some lane
+pub none_given : (c : Cadence) (f : ℕ) (lanes : List PlannedField) (index : ℕ) → has_slot_in c f ≡ false → (lane : PlannedField) → slice_get lanes index ≡ Some lane
     → (◌≡◌ {A = Option Pair} None (given_in c f lane)) × (lanes ≡ slice_set lanes index (behind_frame c f lane))
 none_given c f lanes index none lane is = rw none (refl, sym (set_own lanes index lane is))
 
@@ -114,7 +114,7 @@ moved_room (one ∷ rest) =
     let right = sum_by-cons (λ (p : PlannedService). p.share + 1) one rest in
     omega (arith, more, left, right)
 
-pub next_frame : (columns : Columns) (frame : ℕ) (old new : Plan) (a b : Option Pair) (mid : List Planned) (blocks : ArrayVec ℕ) (c d : Cadence)
+pub next_frame : (columns : Columns) (frame : ℕ) (old new : Plan) (a b : Option Pair) (mid : List PlannedField) (blocks : ArrayVec ℕ) (c d : Cadence)
     → c ≡ cadence_of old.rate Cc1 → d ≡ cadence_of old.rate Cc3 → GivesFrom columns frame old
     → Steps c old.frame old.lanes 0 a mid → Steps d old.frame mid 1 b new.lanes
     → new.rate ≡ old.rate → new.frame ≡ old.frame + 1 → blocks.items ≡ next_blocks old.services.items
@@ -163,57 +163,57 @@ next_frame columns frame old new a b mid blocks c d c_is d_is gives on_first on_
     )
 
 -- two lanes
-two_of : (lanes : List Planned) → length lanes ≡ 2 → (one : Planned) × (two : Planned) × (lanes ≡ one ∷ two ∷ [])
+two_of : (lanes : List PlannedField) → length lanes ≡ 2 → (one : PlannedField) × (two : PlannedField) × (lanes ≡ one ∷ two ∷ [])
 two_of [] long = absurd (omega arith)
 two_of (one ∷ []) long = absurd (omega arith)
 two_of (one ∷ (two ∷ [])) long = (one, two, refl)
 two_of (one ∷ (two ∷ (three ∷ rest))) long = absurd (omega arith)
 
 -- the slots that are left for a lane
-abbrev Within : ℕ → Planned → Type 0
+abbrev Within : ℕ → PlannedField → Type 0
 Within left lane = left + lane.slot < 2 ^ 32
 
 -- those of each
-both_within : (lanes : List Planned) (left : ℕ) → All (Within left) lanes → (one two : Planned) → lanes ≡ one ∷ two ∷ [] → Within left one × Within left two
+both_within : (lanes : List PlannedField) (left : ℕ) → All (Within left) lanes → (one two : PlannedField) → lanes ≡ one ∷ two ∷ [] → Within left one × Within left two
 both_within lanes left within one two is =
     let all : All (Within left) (one ∷ two ∷ []) = subst (All (Within left)) is within in
     (All-head (Within left) one (two ∷ []) all, All-head (Within left) two [] (All-tail (Within left) one (two ∷ []) all))
 
 -- before a step
-pub first_left : (lanes : List Planned) (left : ℕ) → length lanes ≡ 2 → 1 ≤ left → All (Within left) lanes
-    → (lane : Planned) → slice_get lanes 0 ≡ Some lane → lane.slot + 1 < 2 ^ 32
+pub first_left : (lanes : List PlannedField) (left : ℕ) → length lanes ≡ 2 → 1 ≤ left → All (Within left) lanes
+    → (lane : PlannedField) → slice_get lanes 0 ≡ Some lane → lane.slot + 1 < 2 ^ 32
 first_left lanes left long some within lane at =
     let two = two_of lanes long in
     let low : left + two.0.slot < 2 ^ 32 = (both_within lanes left within two.0 two.1 two.2).0 in
     let is : Some two.0 ≡ Some lane = sym (ap (λ l. slice_get l 0) two.2) ∙ at in
     let same : two.0 ≡ lane = cc in
-    subst (λ (p : Planned). p.slot + 1 < 2 ^ 32) same (omega arith)
+    subst (λ (p : PlannedField). p.slot + 1 < 2 ^ 32) same (omega arith)
 
 -- one step takes at most one slot
-behind_low : (c : Cadence) (f left : ℕ) (one : Planned) → 1 ≤ left → Within left one → Within (left - 1) (behind_frame c f one)
+behind_low : (c : Cadence) (f left : ℕ) (one : PlannedField) → 1 ≤ left → Within left one → Within (left - 1) (behind_frame c f one)
 behind_low c f left one some within = by_test (has_slot_in c f)
   where
     by_test : (b : Bool) → left - 1 + (if b then one.slot + 1 else one.slot) < 2 ^ 32
     by_test true = omega arith
     by_test false = omega arith
 
-module _ (c : Cadence) (f : ℕ) (lanes mid : List Planned) (left : ℕ) (a : Option Pair) (long : length lanes ≡ 2) (some : 1 ≤ left)
+module _ (c : Cadence) (f : ℕ) (lanes mid : List PlannedField) (left : ℕ) (a : Option Pair) (long : length lanes ≡ 2) (some : 1 ≤ left)
     (within : All (Within left) lanes) (first : Steps c f lanes 0 a mid) where
-  mid_is : (one two : Planned) → lanes ≡ one ∷ two ∷ [] → mid ≡ behind_frame c f one ∷ two ∷ []
+  mid_is : (one two : PlannedField) → lanes ≡ one ∷ two ∷ [] → mid ≡ behind_frame c f one ∷ two ∷ []
   mid_is one two is = (first one (ap (λ l. slice_get l 0) is)).1 ∙ ap (λ l. slice_set l 0 (behind_frame c f one)) is
 
   -- between both steps
-  pub second_left : (lane : Planned) → slice_get mid 1 ≡ Some lane → lane.slot + 1 < 2 ^ 32
+  pub second_left : (lane : PlannedField) → slice_get mid 1 ≡ Some lane → lane.slot + 1 < 2 ^ 32
   second_left lane at =
       let two = two_of lanes long in
       let w = both_within lanes left within two.0 two.1 two.2 in
       let is : Some two.1 ≡ Some lane = sym (ap (λ l. slice_get l 1) (mid_is two.0 two.1 two.2)) ∙ at in
       let same : two.1 ≡ lane = cc in
       let low : left + two.1.slot < 2 ^ 32 = w.1 in
-      subst (λ (p : Planned). p.slot + 1 < 2 ^ 32) same (omega arith)
+      subst (λ (p : PlannedField). p.slot + 1 < 2 ^ 32) same (omega arith)
 
   -- and behind them
-  pub both_left : (d : Cadence) (new : List Planned) (b : Option Pair) → Steps d f mid 1 b new → All (Within (left - 1)) new
+  pub both_left : (d : Cadence) (new : List PlannedField) (b : Option Pair) → Steps d f mid 1 b new → All (Within (left - 1)) new
   both_left d new b second =
       let two = two_of lanes long in
       let w = both_within lanes left within two.0 two.1 two.2 in

@@ -27,8 +27,8 @@ use Rattle.service_lanes.specs.ServiceBytes.{bytes_in}
 use Rattle.service_lanes.specs.ServicePlan.{PlannedService, lane_bytes}
 use Rattle.frame_scheduler.specs.Blocks.{blocks_of, blocks_room, lane_block, service_block}
 use Rattle.frame_scheduler.specs.Frames.{AreFieldsPlanned, PlanAnswer}
-use Rattle.frame_scheduler.specs.LanePlan.{Planned, earlier_fault, fault_beside, lane_pair}
-use Rattle.frame_scheduler.specs.LaneSets.{IsFaultIn, IsField, IsServiceBelow}
+use Rattle.field_lanes.specs.FieldPlan.{PlannedField, lane_pair}
+use Rattle.frame_scheduler.specs.LaneSets.{IsFaultIn, IsField, IsServiceBelow, earlier_fault, fault_beside}
 use Rattle.frame_scheduler.specs.Planned.{IsLanePlaced, Placement, captions_in, chunks_in, frame_blocks, service_bytes, service_lane_of, services}
 use Rattle.frame_scheduler.specs.ServicePlans.{AreServices, AreServicesPlanned, IsServicePlanned, shared_below}
 use Rattle.frame_scheduler.specs.ServicesLeft.{IsNumbered}
@@ -210,7 +210,7 @@ module _ (l : Listing) (formed : IsFormed l) (ruled : IsRuled l) where
   answer_of (NoRoom cue) is = first_of_any l cue is
 
   -- the fields that are planned have room
-  fields_roomy : (one two : Planned) → AreFieldsPlanned l one two → (on : Lane) → IsField on → IsRoomy l on
+  fields_roomy : (one two : PlannedField) → AreFieldsPlanned l one two → (on : Lane) → IsField on → IsRoomy l on
   fields_roomy one two are on field = at (cover_fields l formed on field)
     where
       at : IsOnly (Channel Cc1) on ⊎ (IsOnly (Channel Cc3) on ⊎ IsRoomy l on) → IsRoomy l on
@@ -218,7 +218,7 @@ module _ (l : Listing) (formed : IsFormed l) (ruled : IsRuled l) where
       at (inr (inl same)) = planned_room l formed Cc3 two are.1 on same
       at (inr (inr roomy)) = roomy
 
-  pub services_refused : (one two : Planned) (fault : PlanFault) → AreFieldsPlanned l one two → AreServices l 7 (Err fault) → PlanAnswer l (Err fault)
+  pub services_refused : (one two : PlannedField) (fault : PlanFault) → AreFieldsPlanned l one two → AreServices l 7 (Err fault) → PlanAnswer l (Err fault)
   services_refused one two fault are is =
       answer_of fault
       (fault_of_q l IsField (IsServiceBelow 7) IsAny cover (λ on field. tt) (λ on below. tt) fault is (fields_roomy one two are))
@@ -318,7 +318,7 @@ module _ (l : Listing) (formed : IsFormed l) (ruled : IsRuled l) where
   frame_same a b c d xs ys one two blocks = rw (one, two, blocks) refl
 
   -- all lanes are planned
-  pub all_planned : (one two : Planned) (plans : List PlannedService) (plan : Plan) → AreFieldsPlanned l one two → AreServicesPlanned l (shared_below l 7) plans
+  pub all_planned : (one two : PlannedField) (plans : List PlannedService) (plan : Plan) → AreFieldsPlanned l one two → AreServicesPlanned l (shared_below l 7) plans
       → plan.lanes ≡ one ∷ two ∷ [] → plan.services.items ≡ plans → plan.rate ≡ l.rate → plan.frame ≡ 0 → plan.left ≡ l.frames → PlanAnswer l (Ok plan)
   all_planned one two plans plan fields are lanes services_are rate frame left =
       let frames : ℕ → List ℕ = λ service. (frames_of plans are service).0 in

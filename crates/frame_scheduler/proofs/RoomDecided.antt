@@ -10,13 +10,13 @@ use Rattle.cue_lists.specs.Listing.{IsFormed, Listing}
 use Rattle.cue_lists.specs.declared.lane.Lane.TheVariants.{Channel, Service}
 use Rattle.line21_author.specs.CueEvents.{channel_events}
 use Rattle.line21_author.specs.declared.event.Event.{Event}
-use Rattle.frame_scheduler.specs.declared.lane.piece.Piece.{Piece}
-use Rattle.frame_scheduler.specs.ChannelLane.{channel_pieces}
-use Rattle.frame_scheduler.specs.FieldLane.{IsAllowedInField, end_of, lane, slots_of}
+use Rattle.field_lanes.specs.declared.chunk.FieldChunk.{FieldChunk}
+use Rattle.field_lanes.specs.ChannelLane.{channel_chunks}
+use Rattle.field_lanes.specs.FieldLane.{IsAllowedInField, end_of, field_lane, slots_of}
 use Rattle.placements.specs.FirstFit.{IsFirst}
-use Rattle.frame_scheduler.specs.LaneEvents.{IsFree}
-use Rattle.frame_scheduler.specs.LaneFront.{AreFree}
-use Rattle.frame_scheduler.specs.LanePlan.{piece_cue}
+use Rattle.field_lanes.specs.LaneEvents.{IsFree}
+use Rattle.field_lanes.specs.LaneFront.{AreFree}
+use Rattle.field_lanes.specs.FieldPlan.{field_chunk_cue}
 use Rattle.placements.specs.LaneRoom.{AreInCueOrder, IsFirstCrowded}
 use Rattle.placements.specs.OneMore.{FitsEarlier}
 use Rattle.placements.specs.Placing.{HasEarliest, IsEarliest}
@@ -24,10 +24,10 @@ use Rattle.cue_lists.specs.Rules.{IsRuled}
 use Rattle.cue_lists.specs.declared.lane.Lane.{Lane}
 use Rattle.dtvcc_author.specs.FrameEvents.{delay_end}
 use Rattle.placements.specs.declared.planning.PlanFault.TheVariants.{NoRoom}
-use Rattle.service_lanes.specs.ServiceChunks.{chunk_cue}
+use Rattle.service_lanes.specs.ServiceChunks.{service_chunk_cue}
 use Rattle.service_lanes.specs.ServiceLane.{AreUpTo, chunk_size, most_in_delay, service_lane, used}
 use Rattle.service_lanes.specs.ServiceRoom.{frame_room}
-use Rattle.service_lanes.specs.Chunks.{Chunk}
+use Rattle.service_lanes.specs.Chunks.{ServiceChunk}
 use Rattle.service_lanes.proofs.ChunkOrderLemmas.{chunks_in_order}
 use Rattle.service_lanes.proofs.ServiceLaneLemmas.{chunks_fit_earlier}
 use Rattle.frame_scheduler.specs.LaneSets.{IsField, IsFirstIn, IsServiceBelow}
@@ -37,8 +37,8 @@ use Rattle.frame_scheduler.proofs.PlanLemmas.{cover}
 use Rattle.frame_scheduler.proofs.ServicesLemmas.{below_more, cover_below, only_below, unshared, unshared_placed}
 use Rattle.frame_scheduler.specs.Planned as list
 use Rattle.frame_scheduler.specs.SlotLists.{slot_cues}
-use Rattle.frame_scheduler.proofs.ChannelOrderLemmas.{channel_in_order}
-use Rattle.frame_scheduler.proofs.FieldLaneLemmas.{fits_earlier}
+use Rattle.field_lanes.proofs.ChannelOrderLemmas.{channel_in_order}
+use Rattle.field_lanes.proofs.FieldLaneLemmas.{fits_earlier}
 use Rattle.placements.proofs.LaneRoomLemmas.{no_room_at}
 use Rattle.frame_scheduler.proofs.LanesLemmas.{IsAny, IsOnly, channel_fault, cover_fields, earliest_room, first_of_any, in_fields, placed_everywhere, placement, service_fault, service_room}
 use Rattle.placements.proofs.PlacingLemmas.{earliest_none, one_more}
@@ -83,15 +83,15 @@ all_free_decided events (suc slots) slot =
     ]
 
 -- whether the unit may begin at the slot
-allowed_decided : (events : List Event) (end : ℕ) (piece : Piece) (slot : ℕ) → Decided (IsAllowedInField events end piece slot)
-allowed_decided events end piece slot =
+allowed_decided : (events : List Event) (end : ℕ) (chunk : FieldChunk) (slot : ℕ) → Decided (IsAllowedInField events end chunk slot)
+allowed_decided events end chunk slot =
     elim (cases_lt slot end) [
       | inl before ↦ inr (λ allowed. let behind = allowed.behind in omega arith)
-      | inr behind ↦ elim (cases_lt slot piece.load) [
+      | inr behind ↦ elim (cases_lt slot chunk.load) [
         | inl before ↦ inr (λ allowed. let loaded = allowed.loaded in omega arith)
-        | inr loaded ↦ elim (cases_lt piece.until (slot + slots_of piece)) [
+        | inr loaded ↦ elim (cases_lt chunk.until (slot + slots_of chunk)) [
           | inl after ↦ inr (λ allowed. let ended = allowed.ended in omega arith)
-          | inr ended ↦ elim (all_free_decided events (slots_of piece) slot) [
+          | inr ended ↦ elim (all_free_decided events (slots_of chunk) slot) [
             | inl free ↦ inl (record { behind = behind; loaded = loaded; ended = ended; free = free })
             | inr held ↦ inr (λ allowed. held allowed.free)
           ]
@@ -121,9 +121,9 @@ first_from P decide (suc tries) n none_before late =
         ]
 
 -- the first slot in which a unit of a field's lane may begin
-first_decided : (events : List Event) (before : List (Piece × ℕ)) (piece : Piece) → HasFirst (lane events before piece)
-first_decided events before piece =
-    first_from (lane events before piece) (allowed_decided events (end_of before) piece) (suc piece.until) 0 (λ other allowed. omega arith)
+first_decided : (events : List Event) (before : List (FieldChunk × ℕ)) (chunk : FieldChunk) → HasFirst (field_lane events before chunk)
+first_decided events before chunk =
+    first_from (field_lane events before chunk) (allowed_decided events (end_of before) chunk) (suc chunk.until) 0 (λ other allowed. omega arith)
     (λ other allowed. let ended = allowed.ended in omega arith)
 
 -- whether the units of a lane have a placement
@@ -163,16 +163,16 @@ module _ {U : Type 0} (cue_of : U → ℕ) (allowed : List (U × ℕ) → U → 
 
 -- the channel's units have an earliest placement, or a first cue without room
 abbrev Decides : Listing → Chan → Type 0
-Decides l channel = HasEarliest (lane (channel_events channel (slot_cues l channel))) (channel_pieces channel (slot_cues l channel))
-    ⊎ ((cue : ℕ) × IsFirstCrowded (lane (channel_events channel (slot_cues l channel))) piece_cue (channel_pieces channel (slot_cues l channel)) cue)
+Decides l channel = HasEarliest (field_lane (channel_events channel (slot_cues l channel))) (channel_chunks channel (slot_cues l channel))
+    ⊎ ((cue : ℕ) × IsFirstCrowded (field_lane (channel_events channel (slot_cues l channel))) field_chunk_cue (channel_chunks channel (slot_cues l channel)) cue)
 
 channel_decided : (l : Listing) (channel : Chan) → Decides l channel
 channel_decided l channel =
-    room_decided piece_cue (lane (channel_events channel (slot_cues l channel))) (fits_earlier (channel_events channel (slot_cues l channel))) (first_decided (channel_events channel (slot_cues l channel)))
-    (channel_pieces channel (slot_cues l channel)) (channel_in_order channel (slot_cues l channel))
+    room_decided field_chunk_cue (field_lane (channel_events channel (slot_cues l channel))) (fits_earlier (channel_events channel (slot_cues l channel))) (first_decided (channel_events channel (slot_cues l channel)))
+    (channel_chunks channel (slot_cues l channel)) (channel_in_order channel (slot_cues l channel))
 
 -- whether no placed unit stands behind the frame
-up_to_decided : (frame : ℕ) (before : List (Chunk × ℕ)) → Decided (AreUpTo frame before)
+up_to_decided : (frame : ℕ) (before : List (ServiceChunk × ℕ)) → Decided (AreUpTo frame before)
 up_to_decided frame [] = inl tt
 up_to_decided frame (p ∷ ps) =
     elim (cases_lt frame p.1) [
@@ -184,11 +184,11 @@ up_to_decided frame (p ∷ ps) =
     ]
 
 -- what a delay asks of a unit in a frame, of those that start before a number
-abbrev DelaysAllow : (ℕ → Option ℕ) → List (Chunk × ℕ) → Chunk → ℕ → ℕ → Type 0
+abbrev DelaysAllow : (ℕ → Option ℕ) → List (ServiceChunk × ℕ) → ServiceChunk → ℕ → ℕ → Type 0
 DelaysAllow ends before chunk frame number =
     (start end : ℕ) → ends start ≡ Some end → start < number → frame < end → used start end before + chunk_size chunk ≤ most_in_delay
 
-delays_decided : (ends : ℕ → Option ℕ) (before : List (Chunk × ℕ)) (chunk : Chunk) (frame number : ℕ) → Decided (DelaysAllow ends before chunk frame number)
+delays_decided : (ends : ℕ → Option ℕ) (before : List (ServiceChunk × ℕ)) (chunk : ServiceChunk) (frame number : ℕ) → Decided (DelaysAllow ends before chunk frame number)
 delays_decided ends before chunk frame zero = inl (λ start end is low on. absurd (omega arith))
 delays_decided ends before chunk frame (suc n) = at (ends n) refl (delays_decided ends before chunk frame n)
   where
@@ -214,7 +214,7 @@ delays_decided ends before chunk frame (suc n) = at (ends n) refl (delays_decide
         ]
 
 -- whether a unit may stand in a frame of a service's lane
-chunk_decided : (room : ℕ → ℕ) (ends : ℕ → Option ℕ) (before : List (Chunk × ℕ)) (chunk : Chunk) (frame : ℕ)
+chunk_decided : (room : ℕ → ℕ) (ends : ℕ → Option ℕ) (before : List (ServiceChunk × ℕ)) (chunk : ServiceChunk) (frame : ℕ)
     → Decided (service_lane room ends before chunk frame)
 chunk_decided room ends before chunk frame =
     elim (up_to_decided frame before) [
@@ -240,16 +240,16 @@ chunk_decided room ends before chunk frame =
       ]
     ]
 
-chunk_first : (room : ℕ → ℕ) (ends : ℕ → Option ℕ) (before : List (Chunk × ℕ)) (chunk : Chunk) → HasFirst (service_lane room ends before chunk)
+chunk_first : (room : ℕ → ℕ) (ends : ℕ → Option ℕ) (before : List (ServiceChunk × ℕ)) (chunk : ServiceChunk) → HasFirst (service_lane room ends before chunk)
 chunk_first room ends before chunk =
     first_from (service_lane room ends before chunk) (chunk_decided room ends before chunk) (suc chunk.until) 0 (λ other allowed. omega arith)
     (λ other allowed. let ended = allowed.ended in omega arith)
 
 -- a service's units have an earliest placement, or a first cue without room
 service_decided : (l : Listing) (service : ℕ) → HasEarliest (service_lane_of l service) (chunks_in l service)
-    ⊎ ((cue : ℕ) × IsFirstCrowded (service_lane_of l service) chunk_cue (chunks_in l service) cue)
+    ⊎ ((cue : ℕ) × IsFirstCrowded (service_lane_of l service) service_chunk_cue (chunks_in l service) cue)
 service_decided l service =
-    room_decided chunk_cue (service_lane_of l service)
+    room_decided service_chunk_cue (service_lane_of l service)
     (chunks_fit_earlier (frame_room (share_in l service) (captions_in l service)) (delay_end (captions_in l service)))
     (chunk_first (frame_room (share_in l service) (captions_in l service)) (delay_end (captions_in l service)))
     (chunks_in l service) (chunks_in_order l.rate service l.cues)
@@ -285,7 +285,7 @@ lane_decided l (Channel channel) = at (channel_decided l channel)
 lane_decided l (Service service) = at (service_decided l service)
   where
     at : HasEarliest (service_lane_of l service) (chunks_in l service)
-        ⊎ ((cue : ℕ) × IsFirstCrowded (service_lane_of l service) chunk_cue (chunks_in l service) cue)
+        ⊎ ((cue : ℕ) × IsFirstCrowded (service_lane_of l service) service_chunk_cue (chunks_in l service) cue)
         → HasPlaced l (Service service) ⊎ ((cue : ℕ) × IsFirstIn (IsOnly (Service service)) l cue)
     at (inl placed) = inl placed
     at (inr crowded) = inr (crowded.0, service_fault l service (NoRoom crowded.0) crowded.1)

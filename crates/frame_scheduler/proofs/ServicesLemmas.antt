@@ -19,7 +19,7 @@ use Rattle.placements.specs.Placing.{IsEarliest}
 use Rattle.placements.specs.declared.planning.PlanFault.{PlanFault}
 use Rattle.placements.specs.declared.planning.PlanFault.TheVariants.{Memory, NoRoom}
 use Rattle.placements.proofs.PlacingLemmas.{earliest_none}
-use Rattle.service_lanes.specs.ServicePlan.{IsLaneFault, IsPlanOf, PlannedService}
+use Rattle.service_lanes.specs.ServicePlan.{IsServiceFault, IsServicePlan, PlannedService}
 use Rattle.service_lanes.proofs.ChunkOrderLemmas.{none_sent}
 use Rattle.frame_scheduler.specs.LaneSets.{IsFaultIn, IsServiceBelow}
 use Rattle.frame_scheduler.specs.Planned.{IsLanePlaced, captions_in, chunks_in, service_lane_of, share_in}
@@ -190,18 +190,18 @@ module _ (l : Listing) (formed : IsFormed l) (ruled : IsRuled l) where
   -- the lane that is placed is that of the list
   pub one_planned : (service share : ℕ) (rate : Rate) (cues : List Cue) (result : Result PlannedService PlanFault) → rate ≡ l.rate → cues ≡ l.cues
       → share_of l service ≡ Some share
-      → IfOk result (IsPlanOf service share (service_captions rate service cues) (service_chunks rate service cues)) → IfOk result (IsServicePlanned l service)
+      → IfOk result (IsServicePlan service share (service_captions rate service cues) (service_chunks rate service cues)) → IfOk result (IsServicePlanned l service)
   one_planned service share rate cues result rate_is cues_are some is =
-      subst (λ n. IfOk result (IsPlanOf service n (captions_in l service) (chunks_in l service))) (sym (ap (λ o. unwrap_or o 0) some))
-      (subst (λ cs. IfOk result (IsPlanOf service share (service_captions l.rate service cs) (service_chunks l.rate service cs))) cues_are
-      (subst (λ r. IfOk result (IsPlanOf service share (service_captions r service cues) (service_chunks r service cues))) rate_is is))
+      subst (λ n. IfOk result (IsServicePlan service n (captions_in l service) (chunks_in l service))) (sym (ap (λ o. unwrap_or o 0) some))
+      (subst (λ cs. IfOk result (IsServicePlan service share (service_captions l.rate service cs) (service_chunks l.rate service cs))) cues_are
+      (subst (λ r. IfOk result (IsServicePlan service share (service_captions r service cues) (service_chunks r service cues))) rate_is is))
 
   pub one_faulty : (service share : ℕ) (rate : Rate) (cues : List Cue) (result : Result PlannedService PlanFault) → rate ≡ l.rate → cues ≡ l.cues
       → share_of l service ≡ Some share
-      → IfErr result (IsLaneFault share (service_captions rate service cues) (service_chunks rate service cues)) → IfErr result (IsFaultIn (IsOnly (Service service)) l)
+      → IfErr result (IsServiceFault share (service_captions rate service cues) (service_chunks rate service cues)) → IfErr result (IsFaultIn (IsOnly (Service service)) l)
   one_faulty service share rate cues result rate_is cues_are some is =
-      IfErr-weaker result (IsLaneFault (share_in l service) (captions_in l service) (chunks_in l service)) (IsFaultIn (IsOnly (Service service)) l)
+      IfErr-weaker result (IsServiceFault (share_in l service) (captions_in l service) (chunks_in l service)) (IsFaultIn (IsOnly (Service service)) l)
       (λ fault lane. service_fault l service fault lane)
-      (subst (λ n. IfErr result (IsLaneFault n (captions_in l service) (chunks_in l service))) (sym (ap (λ o. unwrap_or o 0) some))
-      (subst (λ cs. IfErr result (IsLaneFault share (service_captions l.rate service cs) (service_chunks l.rate service cs))) cues_are
-      (subst (λ r. IfErr result (IsLaneFault share (service_captions r service cues) (service_chunks r service cues))) rate_is is)))
+      (subst (λ n. IfErr result (IsServiceFault n (captions_in l service) (chunks_in l service))) (sym (ap (λ o. unwrap_or o 0) some))
+      (subst (λ cs. IfErr result (IsServiceFault share (service_captions l.rate service cs) (service_chunks l.rate service cs))) cues_are
+      (subst (λ r. IfErr result (IsServiceFault share (service_captions r service cues) (service_chunks r service cues))) rate_is is)))

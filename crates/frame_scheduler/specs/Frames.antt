@@ -9,8 +9,8 @@ use Rattle.placements.specs.declared.planning.PlanFault.{PlanFault}
 use Rattle.placements.specs.declared.planning.PlanFault.TheVariants.{Memory, NoRoom}
 use Rattle.frame_scheduler.specs.Blocks.{blocks_of}
 use Rattle.frame_scheduler.specs.Columns.{Columns}
-use Rattle.frame_scheduler.specs.LanePlan.{IsPlanOf, Planned, lane_pair}
-use Rattle.frame_scheduler.specs.ChannelLane.{channel_pieces}
+use Rattle.field_lanes.specs.FieldPlan.{IsFieldPlan, PlannedField, lane_pair}
+use Rattle.field_lanes.specs.ChannelLane.{channel_chunks}
 use Rattle.frame_scheduler.specs.SlotLists.{slot_cues}
 use Rattle.line21_author.specs.CueEvents.{channel_events}
 use Rattle.frame_scheduler.specs.Planned.{IsFirstWithoutRoom, IsListPlaced, Placement, columns_of}
@@ -22,8 +22,8 @@ frames_left plan = plan.left
 -- the plan gives the columns, this frame next: each field's lane is at the first of its slots that isn't before the frame, and each
 -- service's at the frame
 pub record GivesFrom (columns : Columns) (frame : ℕ) (plan : Plan) : Type 0 where
-  pub one : Planned
-  pub two : Planned
+  pub one : PlannedField
+  pub two : PlannedField
   pub lanes : plan.lanes ≡ one ∷ two ∷ []
   pub frame_is : plan.frame ≡ frame
   pub one_at : one.slot ≡ slot_from (cadence_of plan.rate Cc1) frame
@@ -36,10 +36,10 @@ pub record GivesFrom (columns : Columns) (frame : ℕ) (plan : Plan) : Type 0 wh
   }
 
 -- the lanes of both fields are planned
-abbrev pub AreFieldsPlanned : Listing → Planned → Planned → Type 0
+abbrev pub AreFieldsPlanned : Listing → PlannedField → PlannedField → Type 0
 AreFieldsPlanned list one two =
-    IsPlanOf (channel_events Cc1 (slot_cues list Cc1)) (channel_pieces Cc1 (slot_cues list Cc1)) one
-    × IsPlanOf (channel_events Cc3 (slot_cues list Cc3)) (channel_pieces Cc3 (slot_cues list Cc3)) two
+    IsFieldPlan (channel_events Cc1 (slot_cues list Cc1)) (channel_chunks Cc1 (slot_cues list Cc1)) one
+    × IsFieldPlan (channel_events Cc3 (slot_cues list Cc3)) (channel_chunks Cc3 (slot_cues list Cc3)) two
 
 -- planning gives the frames of the list's earliest placement, or the first cue without one; want of memory may come in
 -- their place

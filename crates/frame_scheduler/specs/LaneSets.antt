@@ -1,6 +1,6 @@
 -- Between crates: the program's answer stands on none of these definitions.
 -- Some of the lanes of a list: the first cue without room among them.
-use Rattle.std.specs.Prelude.{ℕ, ◌<◌, ⊤}
+use Rattle.std.specs.Prelude.{ℕ, ◌<◌, min, ⊤, Option, Some, None}
 use Rattle.cue_lists.specs.Listing.{Listing}
 use Rattle.cue_lists.specs.declared.lane.Lane.{Lane}
 use Rattle.cue_lists.specs.declared.lane.Lane.TheVariants.{Channel, Service}
@@ -28,3 +28,14 @@ pub record IsFirstIn (IsOne : Lane → Type 0) (list : Listing) (cue : ℕ) : Ty
 abbrev pub IsFaultIn : (Lane → Type 0) → Listing → PlanFault → Type 0
 IsFaultIn IsOne list (Memory error) = ⊤
 IsFaultIn IsOne list (NoRoom cue) = IsFirstIn IsOne list cue
+
+-- of the faults of two lanes that of the earlier cue, or want of memory
+abbrev pub earlier_fault : PlanFault → PlanFault → PlanFault
+earlier_fault (NoRoom one) (NoRoom two) = NoRoom (min one two)
+earlier_fault (NoRoom one) (Memory error) = Memory error
+earlier_fault (Memory error) two = Memory error
+
+-- the fault of one lane, beside that of another, if it has one
+abbrev pub fault_beside : PlanFault → Option PlanFault → PlanFault
+fault_beside one None = one
+fault_beside one (Some two) = earlier_fault one two

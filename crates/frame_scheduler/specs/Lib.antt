@@ -1,15 +1,3 @@
-pub mod Timeline
-pub mod LaneEvents
-pub mod FieldLane
-pub mod LaneTimeline
-pub mod OneCue
-pub mod DoubledPairs
-pub mod SlotPlacing
-pub mod LaneCursor
-pub mod LaneFront
-pub mod LanePlan
-pub mod LaneDoubling
-pub mod ChannelLane
 pub mod SlotLists
 pub mod Columns
 pub mod EventsApart

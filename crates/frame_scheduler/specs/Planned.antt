@@ -15,16 +15,16 @@ use Rattle.line21_slots.specs.Cadences.{cadence_of, slot_in}
 use Rattle.line21_author.specs.CueEvents.{channel_events}
 use Rattle.dtvcc_author.specs.Captions.{service_captions}
 use Rattle.dtvcc_author.specs.declared.caption.Caption.{Caption}
-use Rattle.frame_scheduler.specs.ChannelLane.{IsChannelPlaced, channel_pieces, channel_slot}
+use Rattle.field_lanes.specs.ChannelLane.{IsChannelPlaced, channel_chunks, channel_slot}
 use Rattle.frame_scheduler.specs.Columns.{Columns}
-use Rattle.frame_scheduler.specs.FieldLane.{lane}
-use Rattle.frame_scheduler.specs.LanePlan.{piece_cue}
+use Rattle.field_lanes.specs.FieldLane.{field_lane}
+use Rattle.field_lanes.specs.FieldPlan.{field_chunk_cue}
 use Rattle.placements.specs.LaneRoom as room
 use Rattle.placements.specs.Placing.{IsEarliest}
 use Rattle.service_lanes.specs.ServiceBytes.{bytes_in}
-use Rattle.service_lanes.specs.ServiceChunks.{chunk_cue, service_chunks}
+use Rattle.service_lanes.specs.ServiceChunks.{service_chunk_cue, service_chunks}
 use Rattle.service_lanes.specs.ServiceRoom.{caption_lane}
-use Rattle.service_lanes.specs.Chunks.{Chunk}
+use Rattle.service_lanes.specs.Chunks.{ServiceChunk}
 use Rattle.frame_scheduler.specs.Blocks.{service_block}
 use Rattle.frame_scheduler.specs.SlotLists.{slot_cues}
 
@@ -40,11 +40,11 @@ share_in list service = unwrap_or (share_of list service) 0
 abbrev pub captions_in : Listing → ℕ → List Caption
 captions_in list service = service_captions list.rate service list.cues
 
-abbrev pub chunks_in : Listing → ℕ → List Chunk
+abbrev pub chunks_in : Listing → ℕ → List ServiceChunk
 chunks_in list service = service_chunks list.rate service list.cues
 
 -- what the lane of a service allows
-abbrev pub service_lane_of : Listing → ℕ → List (Chunk × ℕ) → Chunk → ℕ → Type 0
+abbrev pub service_lane_of : Listing → ℕ → List (ServiceChunk × ℕ) → ServiceChunk → ℕ → Type 0
 service_lane_of list service = caption_lane (share_in list service) (captions_in list service)
 
 -- the units of a lane begin in these slots or stand in these frames, in their earliest placement
@@ -59,14 +59,14 @@ IsListPlaced list placed = (on : Lane) → IsLanePlaced list on (placed on)
 -- the units of a lane up to the cue of this number have no placement
 abbrev pub LaneLacksRoom : Listing → Lane → ℕ → Type 0
 LaneLacksRoom list (Channel channel) cue =
-    room.HasNoRoom (lane (channel_events channel (slot_cues list channel))) piece_cue (channel_pieces channel (slot_cues list channel)) cue
-LaneLacksRoom list (Service service) cue = room.HasNoRoom (service_lane_of list service) chunk_cue (chunks_in list service) cue
+    room.HasNoRoom (field_lane (channel_events channel (slot_cues list channel))) field_chunk_cue (channel_chunks channel (slot_cues list channel)) cue
+LaneLacksRoom list (Service service) cue = room.HasNoRoom (service_lane_of list service) service_chunk_cue (chunks_in list service) cue
 
 -- the units of a lane up to the cue of this number have a placement
 abbrev pub LaneHasRoom : Listing → Lane → ℕ → Type 0
 LaneHasRoom list (Channel channel) cue =
-    room.HasRoom (lane (channel_events channel (slot_cues list channel))) piece_cue (channel_pieces channel (slot_cues list channel)) cue
-LaneHasRoom list (Service service) cue = room.HasRoom (service_lane_of list service) chunk_cue (chunks_in list service) cue
+    room.HasRoom (field_lane (channel_events channel (slot_cues list channel))) field_chunk_cue (channel_chunks channel (slot_cues list channel)) cue
+LaneHasRoom list (Service service) cue = room.HasRoom (service_lane_of list service) service_chunk_cue (chunks_in list service) cue
 
 -- the cue of this number is the first without a placement: its lane's units up to it have none, and up to each earlier cue
 -- those of every lane have one

@@ -5,9 +5,8 @@ use Rattle.std.specs.Global.{Global}
 use Rattle.cue_lists.specs.Listing.{Listing, share_of}
 use Rattle.placements.specs.declared.planning.PlanFault.{PlanFault}
 use Rattle.placements.specs.declared.planning.PlanFault.TheVariants.{Memory, NoRoom}
-use Rattle.service_lanes.specs.ServicePlan.{IsPlanOf, PlannedService}
-use Rattle.frame_scheduler.specs.LanePlan.{earlier_fault}
-use Rattle.frame_scheduler.specs.LaneSets.{IsFaultIn, IsServiceBelow}
+use Rattle.service_lanes.specs.ServicePlan.{IsServicePlan, PlannedService}
+use Rattle.frame_scheduler.specs.LaneSets.{IsFaultIn, IsServiceBelow, earlier_fault}
 use Rattle.frame_scheduler.specs.Planned.{captions_in, chunks_in, share_in}
 
 -- the services below a number of which the list has a share, in ascending order
@@ -17,7 +16,7 @@ shared_below list (suc n) = shared_below list n ++ (if is_some (share_of list n)
 
 -- the lane is planned, of this service of the list
 abbrev pub IsServicePlanned : Listing → ℕ → PlannedService → Type 0
-IsServicePlanned list service = IsPlanOf service (share_in list service) (captions_in list service) (chunks_in list service)
+IsServicePlanned list service = IsServicePlan service (share_in list service) (captions_in list service) (chunks_in list service)
 
 -- the lanes are those of these services
 abbrev pub AreServicesPlanned : Listing → List ℕ → List PlannedService → Type 0

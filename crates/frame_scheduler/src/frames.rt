@@ -1,12 +1,12 @@
 ghost use Rattle.std.specs.Prelude.{◌≡◌, ◌+◌, ◌^◌, ◌<◌, ◌≤◌, ℕ, All, IfNone, IfSome, MatchOption, Some, [], ◌∷◌, slice_get, slice_set};
 ghost use Rattle.frame_scheduler.specs.Blocks.{blocks_room};
 ghost use Rattle.frame_scheduler.specs.ServicesLeft.{HasLeft, IsNumbered};
-ghost use Rattle.frame_scheduler.specs.LanePlan.{Planned, behind_frame, given_in};
+ghost use Rattle.field_lanes.specs.FieldPlan.{PlannedField, behind_frame, given_in};
 
 use crate::blocks::next_blocks;
-use crate::lane::placed::PlacedLane;
 use arrayvec::ArrayVec;
 use cc_base::Rate;
+use field_lanes::PlacedField;
 use line21_codes::{Chan, Pair};
 use line21_slots::Cadence;
 use service_lanes::PlacedService;
@@ -47,7 +47,7 @@ pub trait Frames {
 /// The frames of a cue list in order, in which every unit stands in its earliest placement. No frame is stored.
 #[derive(Drop)]
 pub struct Plan {
-    lanes: [PlacedLane; 2],
+    lanes: [PlacedField; 2],
     services: Vec<PlacedService>,
     rate: Rate,
     frame: u32,
@@ -62,8 +62,8 @@ pub struct Plan {
 impl Plan {
     /// A plan of the lanes of field 1 and field 2 and of those of services, of so many frames at a rate.
     pub fn new(
-        one: PlacedLane,
-        two: PlacedLane,
+        one: PlacedField,
+        two: PlacedField,
         services: Vec<PlacedService>,
         rate: Rate,
         frames: u32,
@@ -115,15 +115,15 @@ impl Frames for Plan {
 
 /// The pair of a frame in one of the lanes, where the frame has a slot.
 fn next_pair(
-    lanes: &mut [PlacedLane; 2],
+    lanes: &mut [PlacedField; 2],
     index: usize,
     cadence: Cadence,
     frame: u32,
 ) -> Option<Pair>
     requires index { index < 2 }
-    requires within { (lane : Planned) → slice_get lanes.old index ≡ Some lane
+    requires within { (lane : PlannedField) → slice_get lanes.old index ≡ Some lane
         → lane.slot + 1 < 2 ^ 32 }
-    ensures { (lane : Planned) → slice_get lanes.old index ≡ Some lane
+    ensures { (lane : PlannedField) → slice_get lanes.old index ≡ Some lane
         → (result ≡ given_in cadence frame lane)
         × (lanes.new ≡ slice_set lanes.old index (behind_frame cadence frame lane)) }
 {

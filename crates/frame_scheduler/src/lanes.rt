@@ -5,28 +5,27 @@ ghost use Rattle.cue_lists.specs.Rules.{IsRuled};
 ghost use Rattle.dtvcc_author.specs.Captions.{service_captions};
 ghost use Rattle.dtvcc_author.specs.Kept.{AreKept};
 ghost use Rattle.service_lanes.specs.ServiceChunks.{service_chunks};
-ghost use Rattle.service_lanes.specs.ServicePlan.{IsLaneFault, IsPlanOf as IsServicePlan};
+ghost use Rattle.service_lanes.specs.ServicePlan.{IsServiceFault, IsServicePlan};
 ghost use Rattle.line21_slots.specs.Cadences.{cadence_of};
 ghost use Rattle.line21_author.specs.CueSlots.{cues_in_slots};
 ghost use Rattle.line21_author.specs.CueEvents.{channel_events};
 ghost use Rattle.line21_author.specs.EventOrder.{AreApart};
-ghost use Rattle.frame_scheduler.specs.ChannelLane.{channel_pieces};
+ghost use Rattle.field_lanes.specs.ChannelLane.{channel_chunks};
 ghost use Rattle.frame_scheduler.specs.Frames.{AreFieldsPlanned, PlanAnswer};
-ghost use Rattle.frame_scheduler.specs.LanePlan.{IsPlanOf, LaneFault, earlier_fault, fault_beside};
-ghost use Rattle.frame_scheduler.specs.LaneSets.{IsFaultIn, IsField};
+ghost use Rattle.field_lanes.specs.FieldPlan.{IsFieldFault, IsFieldPlan};
+ghost use Rattle.frame_scheduler.specs.LaneSets.{IsFaultIn, IsField, earlier_fault, fault_beside};
 ghost use Rattle.frame_scheduler.specs.ServicePlans.{AreServices, IsBeside};
 
-use crate::channel::pieces;
 use crate::frames::Plan;
-use crate::lane::placed::{FieldLane, PlacedLane};
 use cc_base::Rate;
 use cue_lists::{Cue, CueList, LAST_SERVICE};
 use dtvcc_author::captions;
+use field_lanes::{FieldLane, PlacedField, channel_chunks};
 use line21_author::events;
 use line21_codes::Chan;
 use line21_slots::Cadence;
 use placements::PlanFault;
-use service_lanes::{PlacedService, ServiceLane, chunks};
+use service_lanes::{PlacedService, ServiceLane, service_chunks};
 use std::alloc::Global;
 
 /// Places the units of a cue list that keeps the rules: each in the first slot or frame that its cue, the units before it in its
@@ -44,7 +43,7 @@ pub fn plan(alloc: Global, list: &CueList) -> Result<Plan, PlanFault>
 }
 
 /// Places the units of both fields.
-fn placed_fields(alloc: Global, list: &CueList) -> Result<(PlacedLane, PlacedLane), PlanFault>
+fn placed_fields(alloc: Global, list: &CueList) -> Result<(PlacedField, PlacedField), PlanFault>
     requires { IsRuled list.now }
     ensures placed { IfOk result (λ fields. AreFieldsPlanned list.now fields.0 fields.1) }
     ensures fault { IfErr result (IsFaultIn IsField list.now) }
@@ -91,14 +90,14 @@ fn placed_service(
         (IsServicePlan service share (service_captions rate service cues.now)
         (service_chunks rate service cues.now)) }
     ensures fault { IfErr result
-        (IsLaneFault share (service_captions rate service cues.now)
+        (IsServiceFault share (service_captions rate service cues.now)
         (service_chunks rate service cues.now)) }
 {
     let captions = match captions(alloc, rate, cues, service) {
         Ok(captions) => captions,
         Err(error) => return Err(PlanFault::Memory(error)),
     };
-    let chunks = match chunks(alloc, rate, cues, service) {
+    let chunks = match service_chunks(alloc, rate, cues, service) {
         Ok(chunks) => chunks,
         Err(error) => return Err(PlanFault::Memory(error)),
     };
@@ -156,26 +155,26 @@ fn placed_channel(
     cues: &[Cue],
     channel: Chan,
     rate: Rate,
-) -> Result<PlacedLane, PlanFault>
+) -> Result<PlacedField, PlanFault>
     requires formed { All IsCueFormed cues.now }
     requires few { length cues.now ≤ most_cues }
     requires apart { AreApart
         (channel_events channel (cues_in_slots (cadence_of rate channel) cues.now)) }
     ensures placed { IfOk result
-        (IsPlanOf (channel_events channel (cues_in_slots (cadence_of rate channel) cues.now))
-        (channel_pieces channel (cues_in_slots (cadence_of rate channel) cues.now))) }
+        (IsFieldPlan (channel_events channel (cues_in_slots (cadence_of rate channel) cues.now))
+        (channel_chunks channel (cues_in_slots (cadence_of rate channel) cues.now))) }
     ensures fault { IfErr result
-        (LaneFault (channel_events channel (cues_in_slots (cadence_of rate channel) cues.now))
-        (channel_pieces channel (cues_in_slots (cadence_of rate channel) cues.now))) }
+        (IsFieldFault (channel_events channel (cues_in_slots (cadence_of rate channel) cues.now))
+        (channel_chunks channel (cues_in_slots (cadence_of rate channel) cues.now))) }
 {
     let cadence = Cadence::of(rate, channel);
-    let pieces = match pieces(alloc, cues, channel, cadence) {
-        Ok(pieces) => pieces,
+    let chunks = match channel_chunks(alloc, cues, channel, cadence) {
+        Ok(chunks) => chunks,
         Err(error) => return Err(PlanFault::Memory(error)),
     };
     let events = match events(alloc, cues, channel, cadence) {
         Ok(events) => events,
         Err(error) => return Err(PlanFault::Memory(error)),
     };
-    (FieldLane { pieces, events }).place(alloc)
+    (FieldLane { chunks, events }).place(alloc)
 }

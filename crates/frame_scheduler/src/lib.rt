@@ -7,8 +7,6 @@ pub use crate::lanes::{fault_beside, placed_services, plan};
 pub use placements::PlanFault;
 
 mod blocks;
-mod channel;
 mod frames;
-pub mod lane;
 mod lanes;
 pub mod laws;

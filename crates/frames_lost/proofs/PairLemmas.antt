@@ -24,7 +24,7 @@ use Rattle.line21_slots.specs.Cadences.{cadence_of, slot_in}
 use Rattle.cdp_packets.specs.Packets.{Frame}
 use Rattle.cdp_packets.specs.PacketTriplets.{packet_triplets}
 use Rattle.words_files.specs.Received.{field_pairs, received_pairs}
-use Rattle.frame_scheduler.specs.ChannelLane.{channel_slot}
+use Rattle.field_lanes.specs.ChannelLane.{channel_slot}
 use Rattle.frame_scheduler.specs.Columns.{Columns, pair_in}
 use Rattle.frame_scheduler.specs.Planned.{Placement, channel_pair, columns_of}
 use Rattle.frame_scheduler.specs.SlotLists.{slot_cues}

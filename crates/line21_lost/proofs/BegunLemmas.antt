@@ -23,16 +23,16 @@ use Rattle.line21_author.specs.RunCodes.{run_codes}
 use Rattle.line21_author.specs.declared.event.Event.{Event}
 use Rattle.line21_author.specs.declared.unit.Unit.{Unit}
 use Rattle.line21_screen.specs.Channels.{ChannelState}
-use Rattle.frame_scheduler.specs.declared.lane.piece.Piece.{Piece}
-use Rattle.frame_scheduler.specs.ChannelLane.{cue_pieces}
-use Rattle.frame_scheduler.specs.LaneEvents.{IsFree, event_at}
-use Rattle.frame_scheduler.specs.LaneTimeline.{stands}
-use Rattle.frame_scheduler.specs.Timeline.{Timeline, first_of}
-use Rattle.frame_scheduler.proofs.DoublingLemmas.{free_none}
+use Rattle.field_lanes.specs.declared.chunk.FieldChunk.{FieldChunk}
+use Rattle.field_lanes.specs.ChannelLane.{field_cue_chunks}
+use Rattle.field_lanes.specs.LaneEvents.{IsFree, event_at}
+use Rattle.field_lanes.specs.LaneTimeline.{stands}
+use Rattle.field_lanes.specs.Timeline.{Timeline, first_of}
+use Rattle.field_lanes.proofs.DoublingLemmas.{free_none}
 use Rattle.line21_shown.specs.Reading.{acts, does_unit}
 use Rattle.line21_shown.proofs.HeadLemmas.{Continues, cue_codes_are, events_on}
-use Rattle.line21_shown.proofs.LoadingLemmas.{piece_codes}
-use Rattle.line21_shown.proofs.SuffixLemmas.{ArePieces, ArePlacedFrom, placed_behind, stands_low}
+use Rattle.line21_shown.proofs.LoadingLemmas.{chunk_codes}
+use Rattle.line21_shown.proofs.SuffixLemmas.{AreChunks, ArePlacedFrom, placed_behind, stands_low}
 
 -- a timeline that is another one before a slot
 abbrev pub joined : ℕ → Timeline → Timeline → Timeline
@@ -75,17 +75,17 @@ opening_doubled f (kind.Win window) line21 = cc
 
 -- the first unit of a cue
 pub record IsBegun (in_field : FieldNumber) (t : Timeline) (a : ℕ) (hide : Option ℕ) (cue : Cue) (later : List Cue) (on : Continues in_field t a hide (cue ∷ later)) : Type 0 where
-  pub piece : Piece
-  pub rest : List Piece
+  pub chunk : FieldChunk
+  pub rest : List FieldChunk
   pub slot : ℕ
   pub slots : List ℕ
-  pub pieces_are : on.pieces ≡ piece ∷ rest
+  pub chunks_are : on.chunks ≡ chunk ∷ rest
   pub slots_are : on.frames ≡ slot ∷ slots
-  pub placed : ArePlacedFrom (events_on in_field hide (cue ∷ later)) a (piece ∷ rest) (slot ∷ slots)
-  pub loads : piece.load ≡ cue.load
-  pub ends : piece.until ≡ cue.show
-  pub code : code_of piece.unit.pair ≡ opening_of cue.kind
-  pub twice : piece.unit.doubled ≡ true
+  pub placed : ArePlacedFrom (events_on in_field hide (cue ∷ later)) a (chunk ∷ rest) (slot ∷ slots)
+  pub loads : chunk.load ≡ cue.load
+  pub ends : chunk.until ≡ cue.show
+  pub code : code_of chunk.unit.pair ≡ opening_of cue.kind
+  pub twice : chunk.unit.doubled ≡ true
 
 head_code : (c d : Code) (cs ds : List Code) → c ∷ cs ≡ d ∷ ds → c ≡ d
 head_code c d cs ds is = cc
@@ -94,29 +94,29 @@ pub begun : (in_field : FieldNumber) (t : Timeline) (a : ℕ) (hide : Option ℕ
     → (on : Continues in_field t a hide (cue ∷ later)) → IsBegun in_field t a hide cue later on
 begun in_field t a hide cue later line21 formed on =
     let w = first_is cue.kind (flat_map run_codes cue.runs) line21 in
-    let piece_of : Unit → Piece = λ (unit : Unit). record { unit = unit; load = cue.load; until = cue.show; cue = on.are.0 } in
+    let chunk_of : Unit → FieldChunk = λ (unit : Unit). record { unit = unit; load = cue.load; until = cue.show; cue = on.are.0 } in
     let f : FieldNumber = field_of_kind cue.kind in
-    let own : cue_pieces on.are.0 cue ≡ piece_of (unit_of f (opening_of cue.kind)) ∷ map piece_of (map (unit_of f) w.0) =
-    ap (λ (codes : List Code). map piece_of (map (unit_of f) codes)) w.1 in
+    let own : field_cue_chunks on.are.0 cue ≡ chunk_of (unit_of f (opening_of cue.kind)) ∷ map chunk_of (map (unit_of f) w.0) =
+    ap (λ (codes : List Code). map chunk_of (map (unit_of f) codes)) w.1 in
     let code : code_of (unit_of f (opening_of cue.kind)).pair ≡ opening_of cue.kind =
-    head_code _ _ _ _ (sym (ap piece_codes own) ∙ cue_codes_are on.are.0 cue formed ∙ w.1) in
-    at on.frames refl (piece_of (unit_of f (opening_of cue.kind))) (map piece_of (map (unit_of f) w.0) ++ on.are.1)
-    (on.are.2 ∙ ap (λ (ps : List Piece). ps ++ on.are.1) own) refl refl code (opening_doubled f cue.kind line21)
+    head_code _ _ _ _ (sym (ap chunk_codes own) ∙ cue_codes_are on.are.0 cue formed ∙ w.1) in
+    at on.frames refl (chunk_of (unit_of f (opening_of cue.kind))) (map chunk_of (map (unit_of f) w.0) ++ on.are.1)
+    (on.are.2 ∙ ap (λ (ps : List FieldChunk). ps ++ on.are.1) own) refl refl code (opening_doubled f cue.kind line21)
   where
-    at : (frames : List ℕ) → on.frames ≡ frames → (piece : Piece) (rest : List Piece) → on.pieces ≡ piece ∷ rest → piece.load ≡ cue.load → piece.until ≡ cue.show
-        → code_of piece.unit.pair ≡ opening_of cue.kind → piece.unit.doubled ≡ true → IsBegun in_field t a hide cue later on
-    at [] none piece rest are loads ends code twice =
-        absurd (subst (λ (ps : List Piece). ArePlacedFrom (events_on in_field hide (cue ∷ later)) a ps []) are
-        (subst (λ (fs : List ℕ). ArePlacedFrom (events_on in_field hide (cue ∷ later)) a on.pieces fs) none on.placed))
-    at (slot ∷ slots) some piece rest are loads ends code twice = record {
-      piece = piece;
+    at : (frames : List ℕ) → on.frames ≡ frames → (chunk : FieldChunk) (rest : List FieldChunk) → on.chunks ≡ chunk ∷ rest → chunk.load ≡ cue.load → chunk.until ≡ cue.show
+        → code_of chunk.unit.pair ≡ opening_of cue.kind → chunk.unit.doubled ≡ true → IsBegun in_field t a hide cue later on
+    at [] none chunk rest are loads ends code twice =
+        absurd (subst (λ (ps : List FieldChunk). ArePlacedFrom (events_on in_field hide (cue ∷ later)) a ps []) are
+        (subst (λ (fs : List ℕ). ArePlacedFrom (events_on in_field hide (cue ∷ later)) a on.chunks fs) none on.placed))
+    at (slot ∷ slots) some chunk rest are loads ends code twice = record {
+      chunk = chunk;
       rest = rest;
       slot = slot;
       slots = slots;
-      pieces_are = are;
+      chunks_are = are;
       slots_are = some;
-      placed = subst (λ (ps : List Piece). ArePlacedFrom (events_on in_field hide (cue ∷ later)) a ps (slot ∷ slots)) are
-          (subst (λ (fs : List ℕ). ArePlacedFrom (events_on in_field hide (cue ∷ later)) a on.pieces fs) some on.placed);
+      placed = subst (λ (ps : List FieldChunk). ArePlacedFrom (events_on in_field hide (cue ∷ later)) a ps (slot ∷ slots)) are
+          (subst (λ (fs : List ℕ). ArePlacedFrom (events_on in_field hide (cue ∷ later)) a on.chunks fs) some on.placed);
       loads = loads;
       ends = ends;
       code = code;
@@ -132,30 +132,30 @@ module _ (in_field : FieldNumber) (t : Timeline) (a : ℕ) (hide : Option ℕ) (
   slot_from_a = is.placed.0
 
   pub slot_loaded : cue.load ≤ is.slot
-  slot_loaded = let low : is.piece.load ≤ is.slot = is.placed.1 in let loads = is.loads in omega arith
+  slot_loaded = let low : is.chunk.load ≤ is.slot = is.placed.1 in let loads = is.loads in omega arith
 
   pub slot_ended : is.slot < cue.show
-  slot_ended = let high : is.slot < is.piece.until = is.placed.2 in let ends = is.ends in omega arith
+  slot_ended = let high : is.slot < is.chunk.until = is.placed.2 in let ends = is.ends in omega arith
 
   pub slot_free : IsFree events is.slot
   slot_free = is.placed.3
 
   -- there it stands
-  same_stands : (n : ℕ) → stands on.pieces on.frames n ≡ stands (is.piece ∷ is.rest) (is.slot ∷ is.slots) n
-  same_stands n = ap (λ (ps : List Piece). stands ps on.frames n) is.pieces_are ∙ ap (λ (fs : List ℕ). stands (is.piece ∷ is.rest) fs n) is.slots_are
+  same_stands : (n : ℕ) → stands on.chunks on.frames n ≡ stands (is.chunk ∷ is.rest) (is.slot ∷ is.slots) n
+  same_stands n = ap (λ (ps : List FieldChunk). stands ps on.frames n) is.chunks_are ∙ ap (λ (fs : List ℕ). stands (is.chunk ∷ is.rest) fs n) is.slots_are
 
-  pub begins_there : t is.slot ≡ Some is.piece.unit
+  pub begins_there : t is.slot ≡ Some is.chunk.unit
   begins_there =
       let test : (is.slot == is.slot) ≡ true = grind (arith, nat_tests) in
-      let there : stands (is.piece ∷ is.rest) (is.slot ∷ is.slots) is.slot ≡ Some is.piece.unit = rw test refl in
-      on.same is.slot slot_from_a ∙ ap (λ u. first_of u (stands on.pieces on.frames is.slot)) (free_none events is.slot slot_free)
+      let there : stands (is.chunk ∷ is.rest) (is.slot ∷ is.slots) is.slot ≡ Some is.chunk.unit = rw test refl in
+      on.same is.slot slot_from_a ∙ ap (λ u. first_of u (stands on.chunks on.frames is.slot)) (free_none events is.slot slot_free)
       ∙ same_stands is.slot ∙ there
 
   -- and before it nothing but events
   pub before_it : (n : ℕ) → a ≤ n → n < is.slot → t n ≡ event_at events n
   before_it n from below =
-      let none : stands (is.piece ∷ is.rest) (is.slot ∷ is.slots) n ≡ None =
-      stands_low events is.slot n (is.piece ∷ is.rest) (is.slot ∷ is.slots) (omega arith, is.placed.1, is.placed.2, is.placed.3, is.placed.4) below in
+      let none : stands (is.chunk ∷ is.rest) (is.slot ∷ is.slots) n ≡ None =
+      stands_low events is.slot n (is.chunk ∷ is.rest) (is.slot ∷ is.slots) (omega arith, is.placed.1, is.placed.2, is.placed.3, is.placed.4) below in
       on.same n from ∙ ap (first_of (event_at events n)) (same_stands n ∙ none) ∙ alone (event_at events n)
     where
       alone : (u : Option Unit) → first_of u None ≡ u
@@ -165,9 +165,9 @@ module _ (in_field : FieldNumber) (t : Timeline) (a : ℕ) (hide : Option ℕ) (
   -- another timeline before it goes on with the cue too
   pub goes_on : (h : Timeline) → Continues in_field (joined is.slot h t) is.slot hide (cue ∷ later)
   goes_on h = record {
-    pieces = is.piece ∷ is.rest;
+    chunks = is.chunk ∷ is.rest;
     frames = is.slot ∷ is.slots;
-    are = subst (ArePieces (cue ∷ later)) is.pieces_are on.are;
+    are = subst (AreChunks (cue ∷ later)) is.chunks_are on.are;
     placed = (omega arith, is.placed.1, is.placed.2, is.placed.3, is.placed.4);
     same = λ n above. joined_high is.slot h t n above ∙ on.same n (let low = slot_from_a in omega arith) ∙ ap (first_of (event_at events n)) (same_stands n);
   }
@@ -181,13 +181,13 @@ module _ (in_field : FieldNumber) (t : Timeline) (a : ℕ) (hide : Option ℕ) (
   goes_on_shown h hidden some past =
       let all = goes_on h in
       record {
-        pieces = all.pieces;
+        chunks = all.chunks;
         frames = all.frames;
         are = all.are;
-        placed = placed_behind (hide_events in_field hide (cue ∷ later)) (cue_events in_field (cue ∷ later)) is.slot all.pieces all.frames all.placed;
+        placed = placed_behind (hide_events in_field hide (cue ∷ later)) (cue_events in_field (cue ∷ later)) is.slot all.chunks all.frames all.placed;
         same = λ n above.
             all.same n above
-            ∙ ap (λ u. first_of u (stands all.pieces all.frames n))
+            ∙ ap (λ u. first_of u (stands all.chunks all.frames n))
             (ap (λ (o : Option ℕ). event_at (hide_events in_field o (cue ∷ later) ++ cue_events in_field (cue ∷ later)) n) some
             ∙ no_event hidden n (is_replaced_at hidden (cue ∷ later)) (cue_events in_field (cue ∷ later)) (omega arith));
       }

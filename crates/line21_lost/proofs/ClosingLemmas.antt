@@ -22,10 +22,10 @@ use Rattle.line21_author.specs.FirstChannel.{first_channel}
 use Rattle.line21_author.specs.RunCodes.{run_codes}
 use Rattle.line21_author.specs.declared.event.Event.{Event}
 use Rattle.line21_author.specs.declared.unit.Unit.{Unit}
-use Rattle.frame_scheduler.specs.declared.lane.piece.Piece.{Piece}
-use Rattle.frame_scheduler.specs.LaneTimeline.{stands}
+use Rattle.field_lanes.specs.declared.chunk.FieldChunk.{FieldChunk}
+use Rattle.field_lanes.specs.LaneTimeline.{stands}
 use Rattle.line21_shown.proofs.BlindLemmas.{AreWriting, IsWriting, runs_writing, text, special_is, extended_is, preamble, tab, mid_row}
-use Rattle.line21_shown.proofs.LoadingLemmas.{piece_codes}
+use Rattle.line21_shown.proofs.LoadingLemmas.{chunk_codes}
 use Rattle.line21_shown.proofs.RollWritingLemmas.{run_begins}
 use Rattle.line21_shown.proofs.SuffixLemmas.{ArePlacedFrom}
 use Rattle.line21_lost.proofs.BegunLemmas.{opening_of}
@@ -117,27 +117,27 @@ pub cue_long : (cue : Cue) → is_pop cue.kind ≡ false → is_line21 cue.kind 
 cue_long cue plain line21 formed = plain_long cue.kind cue.runs plain line21 (lines_of cue.kind cue.hide cue.runs plain line21 formed.kind) formed.some
 
 -- what stands last of units whose last code closes is none that opens
-pub last_closes : (events : List Event) (a : ℕ) (pieces : List Piece) (fs : List ℕ) (n : ℕ) (u : Unit) → Closes (piece_codes pieces)
-    → ArePlacedFrom events a pieces fs → stands pieces fs n ≡ Some u → ((m : ℕ) → n < m → stands pieces fs m ≡ None) → IsOpening (code_of u.pair) → ⊥
+pub last_closes : (events : List Event) (a : ℕ) (chunks : List FieldChunk) (fs : List ℕ) (n : ℕ) (u : Unit) → Closes (chunk_codes chunks)
+    → ArePlacedFrom events a chunks fs → stands chunks fs n ≡ Some u → ((m : ℕ) → n < m → stands chunks fs m ≡ None) → IsOpening (code_of u.pair) → ⊥
 last_closes events a [] fs n u closes placed there none opens = cc
-last_closes events a (piece ∷ pieces) [] n u closes placed there none opens = absurd placed
-last_closes events a (piece ∷ []) (f ∷ fs) n u closes placed there none opens = at (n == f) refl
+last_closes events a (chunk ∷ chunks) [] n u closes placed there none opens = absurd placed
+last_closes events a (chunk ∷ []) (f ∷ fs) n u closes placed there none opens = at (n == f) refl
   where
     at : (b : Bool) → (n == f) ≡ b → ⊥
     at true test =
-        let same : Some piece.unit ≡ Some u = sym (rw test refl) ∙ there in
-        let it : piece.unit ≡ u = cc in
+        let same : Some chunk.unit ≡ Some u = sym (rw test refl) ∙ there in
+        let it : chunk.unit ≡ u = cc in
         closes (subst (λ (v : Unit). IsOpening (code_of v.pair)) (sym it) opens)
     at false test = let wrong : None ≡ Some u = sym (rw test refl) ∙ there in cc
-last_closes events a (piece ∷ (next ∷ pieces)) (f ∷ []) n u closes placed there none opens = absurd placed.4
-last_closes events a (piece ∷ (next ∷ pieces)) (f ∷ (g ∷ fs)) n u closes placed there none opens =
-    at (n == f) refl (λ is only. last_closes events (suc f) (next ∷ pieces) (g ∷ fs) n u closes placed.4 is only opens)
+last_closes events a (chunk ∷ (next ∷ chunks)) (f ∷ []) n u closes placed there none opens = absurd placed.4
+last_closes events a (chunk ∷ (next ∷ chunks)) (f ∷ (g ∷ fs)) n u closes placed there none opens =
+    at (n == f) refl (λ is only. last_closes events (suc f) (next ∷ chunks) (g ∷ fs) n u closes placed.4 is only opens)
   where
     behind : suc f ≤ g
     behind = placed.4.0
 
     at : (b : Bool) → (n == f) ≡ b
-        → (stands (next ∷ pieces) (g ∷ fs) n ≡ Some u → ((m : ℕ) → n < m → stands (next ∷ pieces) (g ∷ fs) m ≡ None) → ⊥) → ⊥
+        → (stands (next ∷ chunks) (g ∷ fs) n ≡ Some u → ((m : ℕ) → n < m → stands (next ∷ chunks) (g ∷ fs) m ≡ None) → ⊥) → ⊥
     at true test rest =
         let here : n ≡ f = grind (arith, nat_tests) in
         let other : (g == f) ≡ false = grind (arith, nat_tests) in
@@ -147,8 +147,8 @@ last_closes events a (piece ∷ (next ∷ pieces)) (f ∷ (g ∷ fs)) n u closes
         rest (sym (rw test refl) ∙ there)
         (λ m above. by_test m above (m == f) refl)
       where
-        by_test : (m : ℕ) → n < m → (b : Bool) → (m == f) ≡ b → stands (next ∷ pieces) (g ∷ fs) m ≡ None
+        by_test : (m : ℕ) → n < m → (b : Bool) → (m == f) ≡ b → stands (next ∷ chunks) (g ∷ fs) m ≡ None
         by_test m above true is =
             let here : m ≡ f = grind (arith, nat_tests) in
-            let wrong : Some piece.unit ≡ None = sym (rw is refl) ∙ none m above in cc
+            let wrong : Some chunk.unit ≡ None = sym (rw is refl) ∙ none m above in cc
         by_test m above false is = sym (rw is refl) ∙ none m above

@@ -22,14 +22,14 @@ use Rattle.line21_author.specs.declared.event.Event.{Event}
 use Rattle.line21_author.specs.declared.unit.Unit.{Unit}
 use Rattle.line21_author.proofs.CueEventsLemmas.{events_of_apart}
 use Rattle.line21_screen.specs.Grid.{Grid}
-use Rattle.frame_scheduler.specs.declared.lane.piece.Piece.{Piece}
-use Rattle.frame_scheduler.specs.LaneEvents.{event_at}
-use Rattle.frame_scheduler.specs.LaneTimeline.{stands}
-use Rattle.frame_scheduler.specs.Timeline.{Timeline, first_of, repeat_of}
-use Rattle.frame_scheduler.proofs.EventLemmas.{event_none}
+use Rattle.field_lanes.specs.declared.chunk.FieldChunk.{FieldChunk}
+use Rattle.field_lanes.specs.LaneEvents.{event_at}
+use Rattle.field_lanes.specs.LaneTimeline.{stands}
+use Rattle.field_lanes.specs.Timeline.{Timeline, first_of, repeat_of}
+use Rattle.field_lanes.proofs.EventLemmas.{event_none}
 use Rattle.line21_shown.specs.Reading.{acts, IsCaptioned}
 use Rattle.line21_shown.proofs.HeadLemmas.{Continues, Head, events_on, first_sound, head, or_nothing, rest_in_sequence, sequence_in_slots}
-use Rattle.line21_shown.proofs.LoadingLemmas.{erases, erasing, piece_codes}
+use Rattle.line21_shown.proofs.LoadingLemmas.{erases, erasing, chunk_codes}
 use Rattle.line21_shown.proofs.OnScreenLemmas.{screen_continues, screen_shown}
 use Rattle.line21_shown.proofs.PopOnLemmas.{pop_continues, pop_shown}
 use Rattle.line21_shown.proofs.ScreenLemmas.{AreBehind, IsOfNewest, IsShown, newest_first, hidden_by}
@@ -97,7 +97,7 @@ module _ (in_field : FieldNumber) (t : Timeline) (captioned : IsCaptioned t) (fr
       shows : t cue.show ≡ Some (showing_unit in_field)
       shows =
           on.same cue.show before
-          ∙ ap (λ v. first_of v (stands on.pieces on.frames cue.show))
+          ∙ ap (λ v. first_of v (stands on.chunks on.frames cue.show))
           (at_show in_field hide cue later pop (events_of_apart in_field frames (cue ∷ later) (sequence_in_slots frames (cue ∷ later) sequence)))
 
       at : (b : Bool) → (m == cue.show) ≡ b → ⊥
@@ -123,8 +123,8 @@ module _ (in_field : FieldNumber) (t : Timeline) (captioned : IsCaptioned t) (fr
       long : IsLong (cue_codes cue)
       long = cue_long cue plain line21 formed
 
-      two_long : (pieces : List Piece) (fs : List ℕ) (one two : Code) (more : List Code) → piece_codes pieces ≡ one ∷ two ∷ more → ArePlacedFrom events a pieces fs
-          → All (λ (piece : Piece). piece.until ≡ cue.show) pieces → a + 2 ≤ cue.show
+      two_long : (chunks : List FieldChunk) (fs : List ℕ) (one two : Code) (more : List Code) → chunk_codes chunks ≡ one ∷ two ∷ more → ArePlacedFrom events a chunks fs
+          → All (λ (chunk : FieldChunk). chunk.until ≡ cue.show) chunks → a + 2 ≤ cue.show
       two_long [] fs one two more are placed ends = cc
       two_long (p ∷ []) fs one two more are placed ends = cc
       two_long (p ∷ (q ∷ ps)) [] one two more are placed ends = absurd placed
@@ -133,7 +133,7 @@ module _ (in_field : FieldNumber) (t : Timeline) (captioned : IsCaptioned t) (fr
           let from : a ≤ f = placed.0 in
           let behind : suc f ≤ g = placed.4.0 in
           let ended : g < q.until = placed.4.2 in
-          let same : q.until ≡ cue.show = All-head (λ (piece : Piece). piece.until ≡ cue.show) q ps (All-tail (λ (piece : Piece). piece.until ≡ cue.show) p (q ∷ ps) ends) in
+          let same : q.until ≡ cue.show = All-head (λ (chunk : FieldChunk). chunk.until ≡ cue.show) q ps (All-tail (λ (chunk : FieldChunk). chunk.until ≡ cue.show) p (q ∷ ps) ends) in
           omega arith
 
       early : m < a → ⊥

@@ -12,7 +12,7 @@ use Rattle.line21_screen.specs.Channels.{new_channel}
 use Rattle.line21_screen.specs.Fields.{after_code}
 use Rattle.line21_screen.specs.Meaning.{after}
 use Rattle.line21_screen.proofs.MeaningLemmas.{after-none, after-acts, after-ignored}
-use Rattle.frame_scheduler.specs.Timeline.{Timeline}
+use Rattle.field_lanes.specs.Timeline.{Timeline}
 use Rattle.line21_shown.specs.Reading.{acts, does_unit, first_alone, IsForFirst}
 use Rattle.line21_shown.proofs.ReadingLemmas.{code_step}
 

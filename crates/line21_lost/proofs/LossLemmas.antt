@@ -30,11 +30,11 @@ use Rattle.line21_author.proofs.CueSlotLemmas.{cues_on_slots}
 use Rattle.line21_author.proofs.SlotSequenceLemmas.{in_sequence}
 use Rattle.line21_screen.specs.Grid.{empty_grid}
 use Rattle.line21_screen.specs.Meaning.{after}
-use Rattle.frame_scheduler.specs.ChannelLane.{IsChannelPlaced, channel_pieces}
+use Rattle.field_lanes.specs.ChannelLane.{IsChannelPlaced, channel_chunks}
 use Rattle.frame_scheduler.specs.Columns.{Columns, first_pairs, pair_in}
 use Rattle.frame_scheduler.specs.Planned.{columns_of}
 use Rattle.frame_scheduler.specs.SlotLists.{slot_cues, slots_in_list}
-use Rattle.frame_scheduler.specs.Timeline.{Timeline, column, slot}
+use Rattle.field_lanes.specs.Timeline.{Timeline, column, slot}
 use Rattle.frame_scheduler.proofs.ListDoublingLemmas.{channel_timeline, field_one_is, field_two_is}
 use Rattle.frame_scheduler.proofs.SlotLemmas.{slot_cues_formed, slot_sequence}
 use Rattle.line21_shown.specs.Reading.{IsForFirst}
@@ -46,7 +46,7 @@ use Rattle.line21_shown.proofs.ReadingLemmas.{null_code}
 use Rattle.line21_shown.proofs.ScreenLemmas.{AreBehind, newest_first, newest_first-reverse}
 use Rattle.line21_shown.proofs.SequenceLemmas.{IsCaption, any_begin, authored_is, begins, captions_are, empty_first, lines_are}
 use Rattle.line21_shown.proofs.SlotGridLemmas.{grid_in_slots, settled_in_slots, slot_has_come}
-use Rattle.line21_shown.proofs.SuffixLemmas.{pieces_are, placed_from}
+use Rattle.line21_shown.proofs.SuffixLemmas.{chunks_are, placed_from}
 use Rattle.line21_lost.specs.Loss.{AuthoredIsSeenAgain, Resynchronises, pairs_between, state_from}
 use Rattle.line21_lost.proofs.FoundLemmas.{IsFound, find}
 use Rattle.line21_lost.proofs.HeardLemmas.{heard_read, pairs_from}
@@ -163,10 +163,10 @@ module _ (list : Listing) (channel : Chan) (placed : List ℕ) (formed : IsForme
   sequence : AreInSequence 1 (slots_in_list list channel) (cues_on channel (slot_cues list channel))
   sequence =
       in_sequence (slots_in_list list channel) (cues_on channel (slot_cues list channel)) (slot_sequence list ruled channel)
-      (cues_loaded (cues_on channel (slot_cues list channel)) (channel_pieces channel (slot_cues list channel)) (lines_are (cues_on channel (slot_cues list channel)) captions)
-      (pieces_are channel 1 (slot_cues list channel))
-      (all_have_time (channel_events channel (slot_cues list channel)) 0 (channel_pieces channel (slot_cues list channel)) placed
-      (placed_from (channel_events channel (slot_cues list channel)) [] 0 (channel_pieces channel (slot_cues list channel)) placed (omega arith) earliest.placed)))
+      (cues_loaded (cues_on channel (slot_cues list channel)) (channel_chunks channel (slot_cues list channel)) (lines_are (cues_on channel (slot_cues list channel)) captions)
+      (chunks_are channel 1 (slot_cues list channel))
+      (all_have_time (channel_events channel (slot_cues list channel)) 0 (channel_chunks channel (slot_cues list channel)) placed
+      (placed_from (channel_events channel (slot_cues list channel)) [] 0 (channel_chunks channel (slot_cues list channel)) placed (omega arith) earliest.placed)))
 
   found : IsFound (field_of_channel channel) t (slots_in_list list channel) own later (newest_first front [])
   found =

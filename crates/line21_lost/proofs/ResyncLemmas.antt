@@ -25,10 +25,10 @@ use Rattle.line21_author.proofs.CueEventsLemmas.{events_of_apart}
 use Rattle.line21_screen.specs.Channels.{ChannelState}
 use Rattle.line21_screen.specs.Grid.{Grid}
 use Rattle.line21_screen.specs.Meaning.{after}
-use Rattle.frame_scheduler.specs.LaneEvents.{IsFree, event_at}
-use Rattle.frame_scheduler.specs.Timeline.{Timeline, first_of, repeat_at, repeat_of, slot}
-use Rattle.frame_scheduler.proofs.ColumnLemmas.{null_plain}
-use Rattle.frame_scheduler.proofs.EventLemmas.{event_none}
+use Rattle.field_lanes.specs.LaneEvents.{IsFree, event_at}
+use Rattle.field_lanes.specs.Timeline.{Timeline, first_of, repeat_at, repeat_of, slot}
+use Rattle.field_lanes.proofs.ColumnLemmas.{null_plain}
+use Rattle.field_lanes.proofs.EventLemmas.{event_none}
 use Rattle.line21_shown.specs.Doing.{does}
 use Rattle.line21_shown.specs.Reading.{acts, does_unit, IsCaptioned, IsForFirst}
 use Rattle.line21_shown.proofs.HeadLemmas.{Continues, events_on, or_nothing, rest_in_sequence, sequence_in_slots}
@@ -88,7 +88,7 @@ module _ (in_field : FieldNumber) (t : Timeline) (captioned : IsCaptioned t) (fi
   free : IsFree events e
   free = slot_free in_field t found.a hide cue later found.on b
 
-  there : t e ≡ Some b.piece.unit
+  there : t e ≡ Some b.chunk.unit
   there = begins_there in_field t found.a hide cue later found.on b
 
   -- before the first unit of the cue there is nothing but what hides the former one
@@ -143,7 +143,7 @@ module _ (in_field : FieldNumber) (t : Timeline) (captioned : IsCaptioned t) (fi
           by_doubled : (d : Bool) → u.doubled ≡ d → is_ignored (slot t m ∷ pairs_from (slot t) from k) (slot t e) ≡ false
           by_doubled true twice =
               let none : t (suc m) ≡ None = captioned.spaced m u.pair (due_behind (t m) u is twice) in
-              let wrong : None ≡ Some b.piece.unit = sym none ∙ ap t next ∙ there in cc
+              let wrong : None ≡ Some b.chunk.unit = sym none ∙ ap t next ∙ there in cc
           by_doubled false once =
               fresh_plain (pairs_from (slot t) from k) (slot t m) (slot t e) (ap is_control (pair_at m u is) ∙ captioned.marked m u is ∙ once)
       by_unit None is = by_due (repeat_at t m) refl
@@ -156,8 +156,8 @@ module _ (in_field : FieldNumber) (t : Timeline) (captioned : IsCaptioned t) (fi
             where
               opens : same_pair (slot t m) (slot t e) ≡ true → IsOpening (code_of p)
               opens same =
-                  let pair : p ≡ b.piece.unit.pair =
-                  sym (slot_is t m (Some p) None due is) ∙ same_pair-true (slot t m) (slot t e) same ∙ pair_at e b.piece.unit there in
+                  let pair : p ≡ b.chunk.unit.pair =
+                  sym (slot_is t m (Some p) None due is) ∙ same_pair-true (slot t m) (slot t e) same ∙ pair_at e b.chunk.unit there in
                   subst IsOpening (sym (ap code_of pair ∙ b.code)) (opening_is cue.kind line21)
 
               before : (i : ℕ) → i ≡ m → (o : Option Pair) → repeat_at t i ≡ o → o ≡ Some p → IsOpening (code_of p) → ⊥
@@ -196,7 +196,7 @@ module _ (in_field : FieldNumber) (t : Timeline) (captioned : IsCaptioned t) (fi
       let here : suc e ≡ suc e + 0 = omega arith in
       subst (λ m. InStep t from n m) here
       (subst (λ m. InStep t from m (suc e)) same
-      (into_step t captioned from k e is b.piece.unit there b.twice (pair_at e b.piece.unit there) (fresh_there k is)))
+      (into_step t captioned from k e is b.chunk.unit there b.twice (pair_at e b.chunk.unit there) (fresh_there k is)))
   in_step (suc i) k n is count =
       let same : suc (suc k + i) ≡ n = omega arith in
       let here : suc (suc e + i) ≡ suc e + suc i = omega arith in
@@ -220,7 +220,7 @@ module _ (in_field : FieldNumber) (t : Timeline) (captioned : IsCaptioned t) (fi
           subst (λ n. does_unit (t n) s ≡ does_unit (h n) s) here
           (ap (λ u. does_unit u s) there
           ∙ sym (ap (λ u. does_unit u s) (heard_at (slot t) from k e counts ∙ ap (λ c. heard_pair c (slot t e)) (fresh_there k counts))
-          ∙ ap (λ p. does (code_of p) s) (pair_at e b.piece.unit there)))
+          ∙ ap (λ p. does (code_of p) s) (pair_at e b.chunk.unit there)))
 
       now : e < m → does_unit (t m) s ≡ does_unit (h m) s
       now less =

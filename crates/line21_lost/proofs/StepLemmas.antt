@@ -13,8 +13,8 @@ use Rattle.line21_codes.specs.Repeats.{same_pair, number_behind, is_ignored, is_
 use Rattle.line21_codes.proofs.RepeatLemmas.{waits_first, waits_behind_control, waits_behind_other, waits_behind_repeat, waits_next}
 use Rattle.line21_author.specs.declared.unit.Unit.{Unit}
 use Rattle.line21_screen.specs.Channels.{ChannelState}
-use Rattle.frame_scheduler.specs.Timeline.{Timeline, repeat_at, repeat_of, slot}
-use Rattle.frame_scheduler.proofs.ColumnLemmas.{null_plain}
+use Rattle.field_lanes.specs.Timeline.{Timeline, repeat_at, repeat_of, slot}
+use Rattle.field_lanes.proofs.ColumnLemmas.{null_plain}
 use Rattle.line21_shown.specs.Doing.{does}
 use Rattle.line21_shown.specs.Reading.{does_unit, IsCaptioned}
 use Rattle.line21_shown.proofs.ReadingLemmas.{none_begins, null_code, slot_is}

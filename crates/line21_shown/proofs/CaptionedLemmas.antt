@@ -34,14 +34,14 @@ use Rattle.line21_author.specs.declared.event.Event.{Event}
 use Rattle.line21_author.specs.declared.unit.Unit.{Unit}
 use Rattle.line21_author.proofs.CueSlotLemmas.{cues_formed_in_slots}
 use Rattle.line21_author.proofs.CueCodesLemmas.{cue_codes_writable}
-use Rattle.frame_scheduler.specs.declared.lane.piece.Piece.{Piece}
-use Rattle.frame_scheduler.specs.ChannelLane.{IsChannelPlaced, channel_pieces, channel_slot, cue_pieces, pieces_from}
-use Rattle.frame_scheduler.specs.LaneEvents.{event_at}
-use Rattle.frame_scheduler.specs.LaneTimeline.{lane_timeline, stands}
+use Rattle.field_lanes.specs.declared.chunk.FieldChunk.{FieldChunk}
+use Rattle.field_lanes.specs.ChannelLane.{IsChannelPlaced, channel_chunks, channel_slot, field_cue_chunks, channel_chunks_from}
+use Rattle.field_lanes.specs.LaneEvents.{event_at}
+use Rattle.field_lanes.specs.LaneTimeline.{lane_timeline, stands}
 use Rattle.frame_scheduler.specs.Planned.{channel_pair}
 use Rattle.frame_scheduler.specs.SlotLists.{slot_cues}
-use Rattle.frame_scheduler.specs.Timeline.{Timeline, repeat_at, repeat_of, slot}
-use Rattle.frame_scheduler.proofs.DoublingLemmas.{at_event, at_unit, lane_marked, lane_spaced, over_cases}
+use Rattle.field_lanes.specs.Timeline.{Timeline, repeat_at, repeat_of, slot}
+use Rattle.field_lanes.proofs.DoublingLemmas.{at_event, at_unit, lane_marked, lane_spaced, over_cases}
 use Rattle.frame_scheduler.proofs.EventsApartLemmas.{events_apart}
 use Rattle.frame_scheduler.proofs.ListDoublingLemmas.{channel_controls, channel_timeline}
 use Rattle.frame_scheduler.proofs.SlotLemmas.{slot_cues_formed}
@@ -79,31 +79,31 @@ cue_codes_first cue =
 
 -- what holds of each pair that a code of data channel 1 is written as holds of all that begins on a channel
 module _ (P : Pair → Type 0) (written_is : (in_field : FieldNumber) (code : Code) → IsWritable code → IsForFirst code → P (pair_of_code in_field code)) where
-  abbrev OfPiece : Piece → Type 0
-  OfPiece piece = P piece.unit.pair
+  abbrev OfChunk : FieldChunk → Type 0
+  OfChunk chunk = P chunk.unit.pair
 
   abbrev OfEvent : Event → Type 0
   OfEvent event = P event.pair
 
   -- the units of a cue
   codes_all : (in_field : FieldNumber) (number : ℕ) (cue : Cue) (codes : List Code) → All IsWritable codes → All IsForFirst codes
-      → All OfPiece (map (λ (unit : Unit). record { unit = unit; load = cue.load; until = cue.show; cue = number }) (map (unit_of in_field) codes))
-  codes_all in_field number cue [] writable first = All-nil OfPiece
+      → All OfChunk (map (λ (unit : Unit). record { unit = unit; load = cue.load; until = cue.show; cue = number }) (map (unit_of in_field) codes))
+  codes_all in_field number cue [] writable first = All-nil OfChunk
   codes_all in_field number cue (code ∷ codes) writable first =
-      All-cons OfPiece (record { unit = unit_of in_field code; load = cue.load; until = cue.show; cue = number }) (map (λ (unit : Unit). record { unit = unit; load = cue.load; until = cue.show; cue = number }) (map (unit_of in_field) codes))
+      All-cons OfChunk (record { unit = unit_of in_field code; load = cue.load; until = cue.show; cue = number }) (map (λ (unit : Unit). record { unit = unit; load = cue.load; until = cue.show; cue = number }) (map (unit_of in_field) codes))
       (written_is in_field code (All-head IsWritable code codes writable) (All-head IsForFirst code codes first))
       (codes_all in_field number cue codes (All-tail IsWritable code codes writable) (All-tail IsForFirst code codes first))
 
-  pieces_all : (channel : Chan) (number : ℕ) (cues : List Cue) → All IsCueFormed cues → All OfPiece (pieces_from channel number cues)
-  pieces_all channel number [] formed = All-nil OfPiece
-  pieces_all channel number (cue ∷ cues) formed = by_test (is_on channel cue.kind) (pieces_all channel (suc number) cues (All-tail IsCueFormed cue cues formed))
+  chunks_all : (channel : Chan) (number : ℕ) (cues : List Cue) → All IsCueFormed cues → All OfChunk (channel_chunks_from channel number cues)
+  chunks_all channel number [] formed = All-nil OfChunk
+  chunks_all channel number (cue ∷ cues) formed = by_test (is_on channel cue.kind) (chunks_all channel (suc number) cues (All-tail IsCueFormed cue cues formed))
     where
-      own : All OfPiece (cue_pieces number cue)
+      own : All OfChunk (field_cue_chunks number cue)
       own = codes_all (field_of_kind cue.kind) number cue (cue_codes cue) (cue_codes_writable cue (All-head IsCueFormed cue cues formed)) (cue_codes_first cue)
 
-      by_test : (b : Bool) → All OfPiece (pieces_from channel (suc number) cues)
-          → All OfPiece ((if b then cue_pieces number cue else []) ++ pieces_from channel (suc number) cues)
-      by_test true rest = All-append OfPiece (cue_pieces number cue) (pieces_from channel (suc number) cues) own rest
+      by_test : (b : Bool) → All OfChunk (channel_chunks_from channel (suc number) cues)
+          → All OfChunk ((if b then field_cue_chunks number cue else []) ++ channel_chunks_from channel (suc number) cues)
+      by_test true rest = All-append OfChunk (field_cue_chunks number cue) (channel_chunks_from channel (suc number) cues) own rest
       by_test false rest = rest
 
   -- events
@@ -146,35 +146,35 @@ module _ (P : Pair → Type 0) (written_is : (in_field : FieldNumber) (code : Co
       go rest false b = rest (sym (at_event e es n false b) ∙ is)
 
   -- what begins where a unit stands
-  at_units : (ps : List Piece) (fs : List ℕ) (n : ℕ) (u : Unit) → All OfPiece ps → stands ps fs n ≡ Some u → P u.pair
+  at_units : (ps : List FieldChunk) (fs : List ℕ) (n : ℕ) (u : Unit) → All OfChunk ps → stands ps fs n ≡ Some u → P u.pair
   at_units [] fs n u all is = cc
   at_units (p ∷ ps) [] n u all is = cc
-  at_units (p ∷ ps) (f ∷ fs) n u all is = go (at_units ps fs n u (All-tail OfPiece p ps all)) (eqb n f) refl
+  at_units (p ∷ ps) (f ∷ fs) n u all is = go (at_units ps fs n u (All-tail OfChunk p ps all)) (eqb n f) refl
     where
       go : (stands ps fs n ≡ Some u → P u.pair) → (b : Bool) → eqb n f ≡ b → P u.pair
       go rest true b =
           let same : Some p.unit ≡ Some u = sym (at_unit p ps f fs n true b) ∙ is in
           let it : p.unit ≡ u = cc in
-          subst (λ (v : Unit). P v.pair) it (All-head OfPiece p ps all)
+          subst (λ (v : Unit). P v.pair) it (All-head OfChunk p ps all)
       go rest false b = rest (sym (at_unit p ps f fs n false b) ∙ is)
 
   -- what begins on a channel
   pub channel_all : (cues : List Cue) (channel : Chan) (placed : List ℕ) → All IsCueFormed cues → (n : ℕ) (u : Unit)
-      → lane_timeline (channel_events channel cues) (channel_pieces channel cues) placed n ≡ Some u → P u.pair
+      → lane_timeline (channel_events channel cues) (channel_chunks channel cues) placed n ≡ Some u → P u.pair
   channel_all cues channel placed formed n u is =
       let events = channel_events channel cues in
-      let pieces = channel_pieces channel cues in
+      let chunks = channel_chunks channel cues in
       ⊎_elim
       (λ (at : event_at events n ≡ Some u). at_events events n u (events_all (field_of_channel channel) (cues_on channel cues)) at)
-      (λ (at : (event_at events n ≡ None) × (stands pieces placed n ≡ Some u)). at_units pieces placed n u (pieces_all channel 1 cues formed) at.1)
-      (over_cases events pieces placed n u is)
+      (λ (at : (event_at events n ≡ None) × (stands chunks placed n ≡ Some u)). at_units chunks placed n u (chunks_all channel 1 cues formed) at.1)
+      (over_cases events chunks placed n u is)
 
   -- and so of the pairs of its slots, where it holds of the null pair
   pub slots_all : (cues : List Cue) (channel : Chan) (placed : List ℕ) → All IsCueFormed cues → P null_pair → (n : ℕ) → P (channel_slot channel cues placed n)
   slots_all cues channel placed formed null n = at_slot (repeat_at t n) refl (t n) refl
     where
       t : Timeline
-      t = lane_timeline (channel_events channel cues) (channel_pieces channel cues) placed
+      t = lane_timeline (channel_events channel cues) (channel_chunks channel cues) placed
 
       begun : (m : ℕ) (o : Option Unit) (p : Pair) → t m ≡ o → repeat_of o ≡ Some p → P p
       begun m None p is due = cc
@@ -209,10 +209,10 @@ pub channel_captioned : (list : Listing) (channel : Chan) (placed : List ℕ) �
     → IsCaptioned (channel_timeline list channel placed)
 channel_captioned list channel placed formed ruled earliest =
     let events = channel_events channel (slot_cues list channel) in
-    let pieces = channel_pieces channel (slot_cues list channel) in
+    let chunks = channel_chunks channel (slot_cues list channel) in
     record {
-      marked = lane_marked events pieces placed (channel_controls list channel formed ruled);
-      spaced = lane_spaced events pieces placed (events_apart list ruled channel) earliest.placed;
+      marked = lane_marked events chunks placed (channel_controls list channel formed ruled);
+      spaced = lane_spaced events chunks placed (events_apart list ruled channel) earliest.placed;
       first = channel_all IsFirstPair written_first (slot_cues list channel) channel placed (slot_cues_formed list formed channel);
     }
 

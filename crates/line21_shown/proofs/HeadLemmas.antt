@@ -17,15 +17,15 @@ use Rattle.line21_author.specs.declared.event.Event.{Event}
 use Rattle.line21_author.specs.declared.unit.Unit.{Unit}
 use Rattle.line21_author.proofs.CueCodesLemmas.{cue_codes_writable}
 use Rattle.line21_author.proofs.SlotSequenceLemmas.{AreInSlots, IsSoundInSlots}
-use Rattle.frame_scheduler.specs.declared.lane.piece.Piece.{Piece}
-use Rattle.frame_scheduler.specs.ChannelLane.{cue_pieces}
+use Rattle.field_lanes.specs.declared.chunk.FieldChunk.{FieldChunk}
+use Rattle.field_lanes.specs.ChannelLane.{field_cue_chunks}
 use Rattle.cue_lists.specs.Rules.Sentences.{AreInSequence}
-use Rattle.frame_scheduler.specs.LaneEvents.{IsFree, event_at}
-use Rattle.frame_scheduler.specs.LaneTimeline.{stands}
+use Rattle.field_lanes.specs.LaneEvents.{IsFree, event_at}
+use Rattle.field_lanes.specs.LaneTimeline.{stands}
 use Rattle.cue_lists.specs.Rules.Sentences.{IsSound}
-use Rattle.frame_scheduler.specs.Timeline.{Timeline, first_of, over}
-use Rattle.line21_shown.proofs.LoadingLemmas.{erases, piece_code, piece_codes}
-use Rattle.line21_shown.proofs.SuffixLemmas.{ArePieces, ArePlacedFrom, LoadFrom, cue_loads, cue_until, events_behind, loads_from, parts, placed_behind, raised, stands_high, stands_low, stands_parts}
+use Rattle.field_lanes.specs.Timeline.{Timeline, first_of, over}
+use Rattle.line21_shown.proofs.LoadingLemmas.{erases, chunk_code, chunk_codes}
+use Rattle.line21_shown.proofs.SuffixLemmas.{AreChunks, ArePlacedFrom, LoadFrom, cue_loads, cue_until, events_behind, loads_from, parts, placed_behind, raised, stands_high, stands_low, stands_parts}
 
 -- the first of cues in sequence is sound
 pub first_sound : (step frames : ℕ) (cue : Cue) (later : List Cue) → AreInSequence step frames (cue ∷ later) → IsSound step frames cue
@@ -80,14 +80,14 @@ rest_loads frames cue (next ∷ later) sequence = sequence.1.loaded
 
 -- the units of a cue are read as its codes
 codes_are : (in_field : FieldNumber) (number : ℕ) (cue : Cue) (codes : List Code) → All IsWritable codes
-    → map piece_code (map (λ (unit : Unit). record { unit = unit; load = cue.load; until = cue.show; cue = number }) (map (unit_of in_field) codes)) ≡ codes
+    → map chunk_code (map (λ (unit : Unit). record { unit = unit; load = cue.load; until = cue.show; cue = number }) (map (unit_of in_field) codes)) ≡ codes
 codes_are in_field number cue [] writable = refl
 codes_are in_field number cue (code ∷ codes) writable =
     let first : code_of (unit_of in_field code).pair ≡ code = written-code_of in_field code (All-head IsWritable code codes writable) in
     let rest = codes_are in_field number cue codes (All-tail IsWritable code codes writable) in
     rw (first, rest) refl
 
-pub cue_codes_are : (number : ℕ) (cue : Cue) → IsCueFormed cue → piece_codes (cue_pieces number cue) ≡ cue_codes cue
+pub cue_codes_are : (number : ℕ) (cue : Cue) → IsCueFormed cue → chunk_codes (field_cue_chunks number cue) ≡ cue_codes cue
 cue_codes_are number cue formed = codes_are (field_of_kind cue.kind) number cue (cue_codes cue) (cue_codes_writable cue formed)
 
 -- what hides the former cue, and the events of these cues
@@ -96,22 +96,22 @@ events_on in_field hide cues = hide_events in_field hide cues ++ cue_events in_f
 
 -- the timeline goes on, from frame a on, with what hides the former cue and with these cues
 pub record Continues (in_field : FieldNumber) (t : Timeline) (a : ℕ) (hide : Option ℕ) (cues : List Cue) : Type 0 where
-  pub pieces : List Piece
+  pub chunks : List FieldChunk
   pub frames : List ℕ
-  pub are : ArePieces cues pieces
-  pub placed : ArePlacedFrom (events_on in_field hide cues) a pieces frames
-  pub same : (n : ℕ) → a ≤ n → t n ≡ over (event_at (events_on in_field hide cues)) (stands pieces frames) n
+  pub are : AreChunks cues chunks
+  pub placed : ArePlacedFrom (events_on in_field hide cues) a chunks frames
+  pub same : (n : ℕ) → a ≤ n → t n ≡ over (event_at (events_on in_field hide cues)) (stands chunks frames) n
 
 -- the first of these cues with its units, where those behind it stand from frame z on
 pub record Head (in_field : FieldNumber) (t : Timeline) (a z : ℕ) (hide : Option ℕ) (cue : Cue) (later : List Cue) : Type 0 where
-  pub own : List Piece
-  pub behind : List Piece
+  pub own : List FieldChunk
+  pub behind : List FieldChunk
   pub front : List ℕ
   pub back : List ℕ
-  pub are : ArePieces later behind
-  pub codes : piece_codes own ≡ cue_codes cue
-  pub ends : All (λ (piece : Piece). piece.until ≡ cue.show) own
-  pub begins : All (λ (piece : Piece). cue.load ≤ piece.load) own
+  pub are : AreChunks later behind
+  pub codes : chunk_codes own ≡ cue_codes cue
+  pub ends : All (λ (chunk : FieldChunk). chunk.until ≡ cue.show) own
+  pub begins : All (λ (chunk : FieldChunk). cue.load ≤ chunk.load) own
   pub first : ArePlacedFrom (events_on in_field hide (cue ∷ later)) a own front
   pub rest : ArePlacedFrom (events_on in_field hide (cue ∷ later)) z behind back
   pub same : (n : ℕ) → a ≤ n
@@ -124,7 +124,7 @@ pub head : (in_field : FieldNumber) (t : Timeline) (frames a z : ℕ) (hide : Op
     → Head in_field t a z hide cue later
 head in_field t frames a z hide cue later formed sequence on from =
     let events = events_on in_field hide (cue ∷ later) in
-    let own = cue_pieces on.are.0 cue in
+    let own = field_cue_chunks on.are.0 cue in
     let behind = on.are.1 in
     let split = parts events a own behind on.frames (subst (λ ps. ArePlacedFrom events a ps on.frames) on.are.2 on.placed) in
     record {
@@ -137,8 +137,8 @@ head in_field t frames a z hide cue later formed sequence on from =
       ends = cue_until on.are.0 cue;
       begins = cue_loads cue.load on.are.0 cue (omega arith);
       first = split.first;
-      rest = raised events a z (λ (piece : Piece). cue.show ≤ piece.load) behind split.back
-          (λ piece f loads at free. from f (omega arith) free)
+      rest = raised events a z (λ (chunk : FieldChunk). cue.show ≤ chunk.load) behind split.back
+          (λ chunk f loads at free. from f (omega arith) free)
           (loads_from frames cue.show later behind (rest_in_sequence 1 frames cue later sequence) (rest_loads frames cue later sequence) on.are.3)
           split.rest;
       same = λ n above.
@@ -170,7 +170,7 @@ pub continues_behind : (in_field : FieldNumber) (t : Timeline) (a z : ℕ) (hide
 continues_behind in_field t a z hide cue later h up shown events_are =
     let events = events_on in_field hide (cue ∷ later) in
     record {
-      pieces = h.behind;
+      chunks = h.behind;
       frames = h.back;
       are = h.are;
       placed = placed_behind (hide_events in_field hide (cue ∷ later) ++ show_events in_field cue) (events_behind in_field cue later) z h.behind h.back

@@ -21,13 +21,13 @@ use Rattle.line21_author.specs.CueCodes.{cue_codes}
 use Rattle.line21_author.specs.CueEvents.{cue_events}
 use Rattle.line21_screen.specs.Channels.{ChannelState}
 use Rattle.line21_screen.specs.Grid.{Grid, empty_grid}
-use Rattle.frame_scheduler.specs.declared.lane.piece.Piece.{Piece}
+use Rattle.field_lanes.specs.declared.chunk.FieldChunk.{FieldChunk}
 use Rattle.cue_lists.specs.Rules.Sentences.{AreInSequence, IsContinued}
-use Rattle.frame_scheduler.specs.LaneEvents.{event_at}
-use Rattle.frame_scheduler.specs.LaneTimeline.{stands}
+use Rattle.field_lanes.specs.LaneEvents.{event_at}
+use Rattle.field_lanes.specs.LaneTimeline.{stands}
 use Rattle.cue_lists.specs.Rules.Sentences.{IsSound}
-use Rattle.frame_scheduler.specs.Timeline.{Timeline, first_of}
-use Rattle.frame_scheduler.proofs.EventLemmas.{event_none}
+use Rattle.field_lanes.specs.Timeline.{Timeline, first_of}
+use Rattle.field_lanes.proofs.EventLemmas.{event_none}
 use Rattle.line21_shown.specs.Doing.{does_all}
 use Rattle.line21_shown.specs.Reading.{acts}
 use Rattle.line21_shown.specs.Writing.{with_runs}
@@ -266,8 +266,8 @@ module _ (in_field : FieldNumber) (t : Timeline) (frames a from : ℕ) (hide : O
   -- its units stand from the first frame on in which it is written
   placed : ArePlacedFrom (events_on in_field hide (cue ∷ later)) start first.own first.front
   placed =
-      raised (events_on in_field hide (cue ∷ later)) a start (λ (piece : Piece). cue.load ≤ piece.load) first.own first.front
-      (λ piece f loads at free. plain_free in_field hide cue later (cue_events in_field (cue ∷ later)) f plain hidden (omega arith) free)
+      raised (events_on in_field hide (cue ∷ later)) a start (λ (chunk : FieldChunk). cue.load ≤ chunk.load) first.own first.front
+      (λ chunk f loads at free. plain_free in_field hide cue later (cue_events in_field (cue ∷ later)) f plain hidden (omega arith) free)
       first.begins first.first
 
   -- up to that frame the screen has what the earlier cues show

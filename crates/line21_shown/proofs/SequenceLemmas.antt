@@ -25,16 +25,16 @@ use Rattle.line21_author.proofs.SlotSequenceLemmas.{AreInSlots, in_sequence}
 use Rattle.line21_screen.specs.Channels.{ChannelState}
 use Rattle.line21_screen.specs.Grid.{Grid, empty_grid}
 use Rattle.line21_screen.specs.Meaning.{after}
-use Rattle.frame_scheduler.specs.ChannelLane.{IsChannelPlaced, channel_pieces}
+use Rattle.field_lanes.specs.ChannelLane.{IsChannelPlaced, channel_chunks}
 use Rattle.frame_scheduler.specs.Columns.{first_pairs}
 use Rattle.cue_lists.specs.Rules.Sentences.{AreInSequence}
-use Rattle.frame_scheduler.specs.FieldLane.{lane}
-use Rattle.frame_scheduler.specs.LaneEvents.{event_at}
+use Rattle.field_lanes.specs.FieldLane.{field_lane}
+use Rattle.field_lanes.specs.LaneEvents.{event_at}
 use Rattle.placements.specs.Placing.{IsPlaced}
-use Rattle.frame_scheduler.specs.LaneTimeline.{lane_timeline, stands}
+use Rattle.field_lanes.specs.LaneTimeline.{lane_timeline, stands}
 use Rattle.frame_scheduler.specs.Planned.{columns_of}
 use Rattle.frame_scheduler.specs.SlotLists.{slot_cues, slots_in_list}
-use Rattle.frame_scheduler.specs.Timeline.{Timeline, column, first_of, slot}
+use Rattle.field_lanes.specs.Timeline.{Timeline, column, first_of, slot}
 use Rattle.frame_scheduler.proofs.ListDoublingLemmas.{channel_timeline, field_one_is, field_two_is}
 use Rattle.frame_scheduler.proofs.SlotLemmas.{slot_cues_formed, slot_sequence}
 use Rattle.cue_lists.proofs.ChannelCues.{cues_on_are_on, cues_on_formed, hides_unless_roll, line21_on, pop_is_not_roll}
@@ -49,7 +49,7 @@ use Rattle.line21_shown.proofs.PopOnLemmas.{pop_before, pop_continues, pop_shown
 use Rattle.line21_shown.proofs.ReadingLemmas.{columns_read}
 use Rattle.line21_shown.proofs.ScreenLemmas.{AreBehind, IsShown, hidden_by, newest_first, newest_first-reverse}
 use Rattle.line21_shown.proofs.SlotGridLemmas.{grid_before_slots, grid_in_slots, settled_in_slots}
-use Rattle.line21_shown.proofs.SuffixLemmas.{pieces_are, placed_from}
+use Rattle.line21_shown.proofs.SuffixLemmas.{chunks_are, placed_from}
 
 -- a cue of line 21 in its ranges
 pub record IsCaption (cue : Cue) : Type 0 where
@@ -68,13 +68,13 @@ last_shown : (in_field : FieldNumber) (t : Timeline) (a from : ℕ) (hide : Opti
 last_shown in_field t a from hide g earlier on is low f above =
     ap (λ (s : ChannelState). s.displayed)
     (loads in_field t hide a (suc f) (suc f) (omega arith) [] [] g (acts t a)
-    (λ n up high. on.same n up ∙ ap (λ u. first_of u (stands on.pieces on.frames n)) (only_hides hide n) ∙ ap (first_of (erases in_field hide n)) (nothing on.pieces on.frames n on.are))
+    (λ n up high. on.same n up ∙ ap (λ u. first_of u (stands on.chunks on.frames n)) (only_hides hide n) ∙ ap (first_of (erases in_field hide n)) (nothing on.chunks on.frames n on.are))
     tt tt (showing_own (acts t a) (until hide a g) is.displayed))
     ∙ sym (is.on f above)
   where
-    nothing : (pieces : List _) (frames : List ℕ) (n : ℕ) → pieces ≡ [] → stands pieces frames n ≡ None
+    nothing : (chunks : List _) (frames : List ℕ) (n : ℕ) → chunks ≡ [] → stands chunks frames n ≡ None
     nothing [] frames n are = refl
-    nothing (piece ∷ pieces) frames n are = cc
+    nothing (chunk ∷ chunks) frames n are = cc
 
     only_hides : (h : Option ℕ) (n : ℕ) → event_at (hide_events in_field h [] ++ []) n ≡ erases in_field h n
     only_hides None n = refl
@@ -159,13 +159,13 @@ authored_is channel cues f =
     (newest_first-reverse (cues_on channel cues) [] ∙ append-nil (reverse (cues_on channel cues)))
 
 -- the timeline of a channel begins with its cues
-pub begins : (channel : Chan) (cues : List Cue) (placed : List ℕ) → IsPlaced (lane (channel_events channel cues)) [] (channel_pieces channel cues) placed
-    → Continues (field_of_channel channel) (lane_timeline (channel_events channel cues) (channel_pieces channel cues) placed) 0 None (cues_on channel cues)
+pub begins : (channel : Chan) (cues : List Cue) (placed : List ℕ) → IsPlaced (field_lane (channel_events channel cues)) [] (channel_chunks channel cues) placed
+    → Continues (field_of_channel channel) (lane_timeline (channel_events channel cues) (channel_chunks channel cues) placed) 0 None (cues_on channel cues)
 begins channel cues placed stand = record {
-  pieces = channel_pieces channel cues;
+  chunks = channel_chunks channel cues;
   frames = placed;
-  are = pieces_are channel 1 cues;
-  placed = placed_from (channel_events channel cues) [] 0 (channel_pieces channel cues) placed (omega arith) stand;
+  are = chunks_are channel 1 cues;
+  placed = placed_from (channel_events channel cues) [] 0 (channel_chunks channel cues) placed (omega arith) stand;
   same = λ n above. refl;
 }
 
@@ -185,14 +185,14 @@ lines_are (cue ∷ cues) captions = (captions.0.line21, lines_are cues captions.
 
 -- the cues of a channel that are in sequence and placed, at a slot that is settled
 pub channel_shown : (slots : ℕ) (channel : Chan) (cues : List Cue) (placed : List ℕ) → All IsCueFormed cues → AreInSlots slots (cues_on channel cues)
-    → IsPlaced (lane (channel_events channel cues)) [] (channel_pieces channel cues) placed → (k : ℕ) → AllByRecursion (IsSettledFor k) (cues_on channel cues)
-    → (acts (lane_timeline (channel_events channel cues) (channel_pieces channel cues) placed) (suc k)).displayed ≡ authored_grid channel cues k
+    → IsPlaced (field_lane (channel_events channel cues)) [] (channel_chunks channel cues) placed → (k : ℕ) → AllByRecursion (IsSettledFor k) (cues_on channel cues)
+    → (acts (lane_timeline (channel_events channel cues) (channel_chunks channel cues) placed) (suc k)).displayed ≡ authored_grid channel cues k
 channel_shown slots channel cues placed formed sequence stands_so k settled =
-    let t = lane_timeline (channel_events channel cues) (channel_pieces channel cues) placed in
+    let t = lane_timeline (channel_events channel cues) (channel_chunks channel cues) placed in
     let captions = recursion_from_All IsCaption (cues_on channel cues) (captions_are channel cues formed) in
-    let stand = placed_from (channel_events channel cues) [] 0 (channel_pieces channel cues) placed (omega arith) stands_so in
-    let loaded = cues_loaded (cues_on channel cues) (channel_pieces channel cues) (lines_are (cues_on channel cues) captions) (pieces_are channel 1 cues)
-    (all_have_time (channel_events channel cues) 0 (channel_pieces channel cues) placed stand) in
+    let stand = placed_from (channel_events channel cues) [] 0 (channel_chunks channel cues) placed (omega arith) stands_so in
+    let loaded = cues_loaded (cues_on channel cues) (channel_chunks channel cues) (lines_are (cues_on channel cues) captions) (chunks_are channel 1 cues)
+    (all_have_time (channel_events channel cues) 0 (channel_chunks channel cues) placed stand) in
     cues_shown (field_of_channel channel) t slots 0 0 None empty_grid (cues_on channel cues) []
     captions (in_sequence slots (cues_on channel cues) sequence loaded) (any_begin (cues_on channel cues)) tt
     (begins channel cues placed stands_so) (empty_first t) (omega arith) k (omega arith) settled

@@ -16,77 +16,77 @@ use Rattle.line21_author.specs.EventOrder.{AreApart, AreFrom}
 use Rattle.line21_author.specs.FirstChannel.{first_channel}
 use Rattle.line21_author.specs.declared.event.Event.{Event}
 use Rattle.line21_author.specs.declared.unit.Unit.{Unit}
-use Rattle.frame_scheduler.specs.declared.lane.piece.Piece.{Piece}
-use Rattle.frame_scheduler.specs.ChannelLane.{cue_pieces, pieces_from}
+use Rattle.field_lanes.specs.declared.chunk.FieldChunk.{FieldChunk}
+use Rattle.field_lanes.specs.ChannelLane.{field_cue_chunks, channel_chunks_from}
 use Rattle.cue_lists.specs.Rules.Sentences.{AreInSequence}
-use Rattle.frame_scheduler.specs.FieldLane.{end_of, lane}
-use Rattle.frame_scheduler.specs.LaneEvents.{IsFree, event_at}
-use Rattle.frame_scheduler.specs.LaneTimeline.{stands}
+use Rattle.field_lanes.specs.FieldLane.{end_of, field_lane}
+use Rattle.field_lanes.specs.LaneEvents.{IsFree, event_at}
+use Rattle.field_lanes.specs.LaneTimeline.{stands}
 use Rattle.placements.specs.Placing.{IsPlaced}
-use Rattle.frame_scheduler.specs.Timeline.{first_of}
-use Rattle.frame_scheduler.proofs.DoublingLemmas.{free_none}
-use Rattle.frame_scheduler.proofs.FieldLaneLemmas.{end_push}
-use Rattle.frame_scheduler.proofs.EventLemmas.{event_none, from_earlier, some_slot}
+use Rattle.field_lanes.specs.Timeline.{first_of}
+use Rattle.field_lanes.proofs.DoublingLemmas.{free_none}
+use Rattle.field_lanes.proofs.FieldLaneLemmas.{end_push}
+use Rattle.field_lanes.proofs.EventLemmas.{event_none, from_earlier, some_slot}
 use Rattle.line21_shown.proofs.LoadingLemmas.{StandBeside, erases}
 
--- the pieces are the units of the cues, in their order
-abbrev pub ArePieces : List Cue → List Piece → Type 0
-ArePieces [] pieces = pieces ≡ []
-ArePieces (cue ∷ later) pieces = (number : ℕ) × (rest : List Piece) × (pieces ≡ cue_pieces number cue ++ rest) × ArePieces later rest
+-- the chunks are the units of the cues, in their order
+abbrev pub AreChunks : List Cue → List FieldChunk → Type 0
+AreChunks [] chunks = chunks ≡ []
+AreChunks (cue ∷ later) chunks = (number : ℕ) × (rest : List FieldChunk) × (chunks ≡ field_cue_chunks number cue ++ rest) × AreChunks later rest
 
--- the pieces of a channel are those of its cues
-pub pieces_are : (channel : Chan) (number : ℕ) (cues : List Cue) → ArePieces (cues_on channel cues) (pieces_from channel number cues)
-pieces_are channel number [] = refl
-pieces_are channel number (cue ∷ cues) = by_test (is_on channel cue.kind) (pieces_are channel (suc number) cues)
+-- the chunks of a channel are those of its cues
+pub chunks_are : (channel : Chan) (number : ℕ) (cues : List Cue) → AreChunks (cues_on channel cues) (channel_chunks_from channel number cues)
+chunks_are channel number [] = refl
+chunks_are channel number (cue ∷ cues) = by_test (is_on channel cue.kind) (chunks_are channel (suc number) cues)
   where
-    by_test : (b : Bool) → ArePieces (cues_on channel cues) (pieces_from channel (suc number) cues)
-        → ArePieces (cond b (cue ∷ cues_on channel cues) (cues_on channel cues)) ((if b then cue_pieces number cue else []) ++ pieces_from channel (suc number) cues)
-    by_test true rest = (number, pieces_from channel (suc number) cues, refl, rest)
+    by_test : (b : Bool) → AreChunks (cues_on channel cues) (channel_chunks_from channel (suc number) cues)
+        → AreChunks (cond b (cue ∷ cues_on channel cues) (cues_on channel cues)) ((if b then field_cue_chunks number cue else []) ++ channel_chunks_from channel (suc number) cues)
+    by_test true rest = (number, channel_chunks_from channel (suc number) cues, refl, rest)
     by_test false rest = rest
 
--- the pieces stand one behind the other from frame a on, each within its time and in a free slot
-abbrev pub ArePlacedFrom : List Event → ℕ → List Piece → List ℕ → Type 0
+-- the chunks stand one behind the other from frame a on, each within its time and in a free slot
+abbrev pub ArePlacedFrom : List Event → ℕ → List FieldChunk → List ℕ → Type 0
 ArePlacedFrom events a [] [] = ⊤
 ArePlacedFrom events a [] (f ∷ fs) = ⊥
-ArePlacedFrom events a (piece ∷ pieces) [] = ⊥
-ArePlacedFrom events a (piece ∷ pieces) (f ∷ fs) =
-    (a ≤ f) × (piece.load ≤ f) × (f < piece.until) × IsFree events f × ArePlacedFrom events (suc f) pieces fs
+ArePlacedFrom events a (chunk ∷ chunks) [] = ⊥
+ArePlacedFrom events a (chunk ∷ chunks) (f ∷ fs) =
+    (a ≤ f) × (chunk.load ≤ f) × (f < chunk.until) × IsFree events f × ArePlacedFrom events (suc f) chunks fs
 
 -- in a placement they do
-pub placed_from : (events : List Event) (before : List (Piece × ℕ)) (a : ℕ) (pieces : List Piece) (fs : List ℕ) → a ≤ end_of before
-    → IsPlaced (lane events) before pieces fs → ArePlacedFrom events a pieces fs
+pub placed_from : (events : List Event) (before : List (FieldChunk × ℕ)) (a : ℕ) (chunks : List FieldChunk) (fs : List ℕ) → a ≤ end_of before
+    → IsPlaced (field_lane events) before chunks fs → ArePlacedFrom events a chunks fs
 placed_from events before a [] [] low placed = tt
 placed_from events before a [] (f ∷ fs) low placed = placed
-placed_from events before a (piece ∷ pieces) [] low placed = placed
-placed_from events before a (piece ∷ pieces) (f ∷ fs) low placed =
+placed_from events before a (chunk ∷ chunks) [] low placed = placed
+placed_from events before a (chunk ∷ chunks) (f ∷ fs) low placed =
     let behind : end_of before ≤ f = placed.0.behind in (
       omega arith,
       placed.0.loaded,
-      omega (arith, placed.0.ended, some_slot f piece),
-      placed.0.free f (omega arith) (some_slot f piece),
-      placed_from events (before ++ (piece, f) ∷ []) (suc f) pieces fs (omega (arith, end_push before piece f, some_slot f piece)) placed.1,
+      omega (arith, placed.0.ended, some_slot f chunk),
+      placed.0.free f (omega arith) (some_slot f chunk),
+      placed_from events (before ++ (chunk, f) ∷ []) (suc f) chunks fs (omega (arith, end_push before chunk f, some_slot f chunk)) placed.1,
     )
 
--- pieces and those behind them, each with their frames
-pub record Parts (events : List Event) (a : ℕ) (pieces more : List Piece) (fs : List ℕ) : Type 0 where
+-- chunks and those behind them, each with their frames
+pub record Parts (events : List Event) (a : ℕ) (chunks more : List FieldChunk) (fs : List ℕ) : Type 0 where
   pub front : List ℕ
   pub back : List ℕ
   pub is : fs ≡ front ++ back
-  pub first : ArePlacedFrom events a pieces front
+  pub first : ArePlacedFrom events a chunks front
   pub rest : ArePlacedFrom events a more back
 
--- pieces that stand from a frame on stand from an earlier one on
-lower : (events : List Event) (a b : ℕ) (pieces : List Piece) (fs : List ℕ) → b ≤ a → ArePlacedFrom events a pieces fs → ArePlacedFrom events b pieces fs
+-- chunks that stand from a frame on stand from an earlier one on
+lower : (events : List Event) (a b : ℕ) (chunks : List FieldChunk) (fs : List ℕ) → b ≤ a → ArePlacedFrom events a chunks fs → ArePlacedFrom events b chunks fs
 lower events a b [] [] below placed = tt
 lower events a b [] (f ∷ fs) below placed = placed
-lower events a b (piece ∷ pieces) [] below placed = placed
-lower events a b (piece ∷ pieces) (f ∷ fs) below placed = (let from : a ≤ f = placed.0 in omega arith, placed.1, placed.2, placed.3, placed.4)
+lower events a b (chunk ∷ chunks) [] below placed = placed
+lower events a b (chunk ∷ chunks) (f ∷ fs) below placed = (let from : a ≤ f = placed.0 in omega arith, placed.1, placed.2, placed.3, placed.4)
 
-pub parts : (events : List Event) (a : ℕ) (pieces more : List Piece) (fs : List ℕ) → ArePlacedFrom events a (pieces ++ more) fs → Parts events a pieces more fs
+pub parts : (events : List Event) (a : ℕ) (chunks more : List FieldChunk) (fs : List ℕ) → ArePlacedFrom events a (chunks ++ more) fs → Parts events a chunks more fs
 parts events a [] more fs placed = record { front = []; back = fs; is = refl; first = tt; rest = placed }
-parts events a (piece ∷ pieces) more [] placed = absurd placed
-parts events a (piece ∷ pieces) more (f ∷ fs) placed =
-    let w = parts events (suc f) pieces more fs placed.4 in
+parts events a (chunk ∷ chunks) more [] placed = absurd placed
+parts events a (chunk ∷ chunks) more (f ∷ fs) placed =
+    let w = parts events (suc f) chunks more fs placed.4 in
     let from : a ≤ f = placed.0 in
     record {
       front = f ∷ w.front;
@@ -96,95 +96,95 @@ parts events a (piece ∷ pieces) more (f ∷ fs) placed =
       rest = lower events (suc f) a more w.back (omega arith) w.rest;
     }
 
--- pieces whose frames are from b on, by what is known of a frame in which the first of them may stand
-pub raised : (events : List Event) (a b : ℕ) (P : Piece → Type 0) (pieces : List Piece) (fs : List ℕ)
-    → ((piece : Piece) (f : ℕ) → P piece → piece.load ≤ f → IsFree events f → b ≤ f)
-    → All P pieces → ArePlacedFrom events a pieces fs → ArePlacedFrom events b pieces fs
+-- chunks whose frames are from b on, by what is known of a frame in which the first of them may stand
+pub raised : (events : List Event) (a b : ℕ) (P : FieldChunk → Type 0) (chunks : List FieldChunk) (fs : List ℕ)
+    → ((chunk : FieldChunk) (f : ℕ) → P chunk → chunk.load ≤ f → IsFree events f → b ≤ f)
+    → All P chunks → ArePlacedFrom events a chunks fs → ArePlacedFrom events b chunks fs
 raised events a b P [] [] from all placed = tt
 raised events a b P [] (f ∷ fs) from all placed = placed
-raised events a b P (piece ∷ pieces) [] from all placed = placed
-raised events a b P (piece ∷ pieces) (f ∷ fs) from all placed =
-    (from piece f (All-head P piece pieces all) placed.1 placed.3, placed.1, placed.2, placed.3, placed.4)
+raised events a b P (chunk ∷ chunks) [] from all placed = placed
+raised events a b P (chunk ∷ chunks) (f ∷ fs) from all placed =
+    (from chunk f (All-head P chunk chunks all) placed.1 placed.3, placed.1, placed.2, placed.3, placed.4)
 
 -- what is free of events is free of those behind them
 free_behind : (events more : List Event) (n : ℕ) → IsFree (events ++ more) n → IsFree more n
 free_behind [] more n free = free
 free_behind (event ∷ events) more n free = free_behind events more n free.2
 
-pub placed_behind : (events more : List Event) (a : ℕ) (pieces : List Piece) (fs : List ℕ) → ArePlacedFrom (events ++ more) a pieces fs
-    → ArePlacedFrom more a pieces fs
+pub placed_behind : (events more : List Event) (a : ℕ) (chunks : List FieldChunk) (fs : List ℕ) → ArePlacedFrom (events ++ more) a chunks fs
+    → ArePlacedFrom more a chunks fs
 placed_behind events more a [] [] placed = tt
 placed_behind events more a [] (f ∷ fs) placed = placed
-placed_behind events more a (piece ∷ pieces) [] placed = placed
-placed_behind events more a (piece ∷ pieces) (f ∷ fs) placed =
-    (placed.0, placed.1, placed.2, free_behind events more f placed.3, placed_behind events more (suc f) pieces fs placed.4)
+placed_behind events more a (chunk ∷ chunks) [] placed = placed
+placed_behind events more a (chunk ∷ chunks) (f ∷ fs) placed =
+    (placed.0, placed.1, placed.2, free_behind events more f placed.3, placed_behind events more (suc f) chunks fs placed.4)
 
 -- what stands first, at its frame
-stands_at : (piece : Piece) (pieces : List Piece) (f : ℕ) (fs : List ℕ) (n : ℕ) (b : Bool) → (n == f) ≡ b
-    → stands (piece ∷ pieces) (f ∷ fs) n ≡ (if b then Some piece.unit else stands pieces fs n)
-stands_at piece pieces f fs n b test = rw test refl
+stands_at : (chunk : FieldChunk) (chunks : List FieldChunk) (f : ℕ) (fs : List ℕ) (n : ℕ) (b : Bool) → (n == f) ≡ b
+    → stands (chunk ∷ chunks) (f ∷ fs) n ≡ (if b then Some chunk.unit else stands chunks fs n)
+stands_at chunk chunks f fs n b test = rw test refl
 
 -- nothing stands before the first frame
-pub stands_low : (events : List Event) (a n : ℕ) (pieces : List Piece) (fs : List ℕ) → ArePlacedFrom events a pieces fs → n < a → stands pieces fs n ≡ None
+pub stands_low : (events : List Event) (a n : ℕ) (chunks : List FieldChunk) (fs : List ℕ) → ArePlacedFrom events a chunks fs → n < a → stands chunks fs n ≡ None
 stands_low events a n [] fs placed below = refl
-stands_low events a n (piece ∷ pieces) [] placed below = refl
-stands_low events a n (piece ∷ pieces) (f ∷ fs) placed below =
+stands_low events a n (chunk ∷ chunks) [] placed below = refl
+stands_low events a n (chunk ∷ chunks) (f ∷ fs) placed below =
     let from : a ≤ f = placed.0 in
     let test : (n == f) ≡ false = grind (arith, nat_tests) in
-    stands_at piece pieces f fs n false test ∙ stands_low events (suc f) n pieces fs placed.4 (omega arith)
+    stands_at chunk chunks f fs n false test ∙ stands_low events (suc f) n chunks fs placed.4 (omega arith)
 
--- nothing stands when the pieces' time is over
-pub stands_high : (events : List Event) (a z n : ℕ) (pieces : List Piece) (fs : List ℕ) → ArePlacedFrom events a pieces fs
-    → All (λ piece. piece.until ≡ z) pieces → z ≤ n → stands pieces fs n ≡ None
+-- nothing stands when the chunks' time is over
+pub stands_high : (events : List Event) (a z n : ℕ) (chunks : List FieldChunk) (fs : List ℕ) → ArePlacedFrom events a chunks fs
+    → All (λ chunk. chunk.until ≡ z) chunks → z ≤ n → stands chunks fs n ≡ None
 stands_high events a z n [] fs placed all above = refl
-stands_high events a z n (piece ∷ pieces) [] placed all above = refl
-stands_high events a z n (piece ∷ pieces) (f ∷ fs) placed all above =
-    let ends : piece.until ≡ z = All-head (λ (p : Piece). p.until ≡ z) piece pieces all in
-    let below : f < piece.until = placed.2 in
+stands_high events a z n (chunk ∷ chunks) [] placed all above = refl
+stands_high events a z n (chunk ∷ chunks) (f ∷ fs) placed all above =
+    let ends : chunk.until ≡ z = All-head (λ (p : FieldChunk). p.until ≡ z) chunk chunks all in
+    let below : f < chunk.until = placed.2 in
     let test : (n == f) ≡ false = grind (arith, nat_tests) in
-    stands_at piece pieces f fs n false test
-    ∙ stands_high events (suc f) z n pieces fs placed.4 (All-tail (λ (p : Piece). p.until ≡ z) piece pieces all) above
+    stands_at chunk chunks f fs n false test
+    ∙ stands_high events (suc f) z n chunks fs placed.4 (All-tail (λ (p : FieldChunk). p.until ≡ z) chunk chunks all) above
 
--- what stands of pieces and those behind them
-pub stands_parts : (events : List Event) (a n : ℕ) (pieces more : List Piece) (front back : List ℕ) → ArePlacedFrom events a pieces front
-    → stands (pieces ++ more) (front ++ back) n ≡ first_of (stands pieces front n) (stands more back n)
+-- what stands of chunks and those behind them
+pub stands_parts : (events : List Event) (a n : ℕ) (chunks more : List FieldChunk) (front back : List ℕ) → ArePlacedFrom events a chunks front
+    → stands (chunks ++ more) (front ++ back) n ≡ first_of (stands chunks front n) (stands more back n)
 stands_parts events a n [] more [] back placed = refl
 stands_parts events a n [] more (f ∷ front) back placed = absurd placed
-stands_parts events a n (piece ∷ pieces) more [] back placed = absurd placed
-stands_parts events a n (piece ∷ pieces) more (f ∷ front) back placed = go (n == f) refl (stands_parts events (suc f) n pieces more front back placed.4)
+stands_parts events a n (chunk ∷ chunks) more [] back placed = absurd placed
+stands_parts events a n (chunk ∷ chunks) more (f ∷ front) back placed = go (n == f) refl (stands_parts events (suc f) n chunks more front back placed.4)
   where
-    go : (b : Bool) → (n == f) ≡ b → stands (pieces ++ more) (front ++ back) n ≡ first_of (stands pieces front n) (stands more back n)
-        → stands (piece ∷ (pieces ++ more)) (f ∷ (front ++ back)) n ≡ first_of (stands (piece ∷ pieces) (f ∷ front) n) (stands more back n)
+    go : (b : Bool) → (n == f) ≡ b → stands (chunks ++ more) (front ++ back) n ≡ first_of (stands chunks front n) (stands more back n)
+        → stands (chunk ∷ (chunks ++ more)) (f ∷ (front ++ back)) n ≡ first_of (stands (chunk ∷ chunks) (f ∷ front) n) (stands more back n)
     go true test rest = rw test refl
     go false test rest = rw test rest
 
--- pieces that are placed stand beside what hides, where that is all there is of the events before their time is over
-pub beside : (in_field : FieldNumber) (hide : Option ℕ) (events : List Event) (a z : ℕ) (pieces : List Piece) (fs : List ℕ)
+-- chunks that are placed stand beside what hides, where that is all there is of the events before their time is over
+pub beside : (in_field : FieldNumber) (hide : Option ℕ) (events : List Event) (a z : ℕ) (chunks : List FieldChunk) (fs : List ℕ)
     → ((n : ℕ) → n < z → event_at events n ≡ erases in_field hide n)
-    → All (λ piece. piece.until ≡ z) pieces → ArePlacedFrom events a pieces fs → StandBeside (erases in_field hide) a z pieces fs
+    → All (λ chunk. chunk.until ≡ z) chunks → ArePlacedFrom events a chunks fs → StandBeside (erases in_field hide) a z chunks fs
 beside in_field hide events a z [] [] same all placed = tt
 beside in_field hide events a z [] (f ∷ fs) same all placed = placed
-beside in_field hide events a z (piece ∷ pieces) [] same all placed = placed
-beside in_field hide events a z (piece ∷ pieces) (f ∷ fs) same all placed =
-    let ends : piece.until ≡ z = All-head (λ (p : Piece). p.until ≡ z) piece pieces all in
-    let below : f < piece.until = placed.2 in
+beside in_field hide events a z (chunk ∷ chunks) [] same all placed = placed
+beside in_field hide events a z (chunk ∷ chunks) (f ∷ fs) same all placed =
+    let ends : chunk.until ≡ z = All-head (λ (p : FieldChunk). p.until ≡ z) chunk chunks all in
+    let below : f < chunk.until = placed.2 in
     let early : f < z = omega arith in (
       placed.0,
       early,
       sym (same f early) ∙ free_none events f placed.3,
-      beside in_field hide events (suc f) z pieces fs same (All-tail (λ (p : Piece). p.until ≡ z) piece pieces all) placed.4,
+      beside in_field hide events (suc f) z chunks fs same (All-tail (λ (p : FieldChunk). p.until ≡ z) chunk chunks all) placed.4,
     )
 
--- the pieces of a cue have its SHOW for their end
-pub cue_until : (number : ℕ) (cue : Cue) → All (λ piece. piece.until ≡ cue.show) (cue_pieces number cue)
+-- the chunks of a cue have its SHOW for their end
+pub cue_until : (number : ℕ) (cue : Cue) → All (λ chunk. chunk.until ≡ cue.show) (field_cue_chunks number cue)
 cue_until number cue =
-    All-map (λ (piece : Piece). piece.until ≡ cue.show) (λ (unit : Unit). record { unit = unit; load = cue.load; until = cue.show; cue = number }) (units_of cue)
+    All-map (λ (chunk : FieldChunk). chunk.until ≡ cue.show) (λ (unit : Unit). record { unit = unit; load = cue.load; until = cue.show; cue = number }) (units_of cue)
     (λ k d within. refl)
 
 -- and its LOAD for their beginning
-pub cue_loads : (b number : ℕ) (cue : Cue) → b ≤ cue.load → All (λ piece. b ≤ piece.load) (cue_pieces number cue)
+pub cue_loads : (b number : ℕ) (cue : Cue) → b ≤ cue.load → All (λ chunk. b ≤ chunk.load) (field_cue_chunks number cue)
 cue_loads b number cue from =
-    All-map (λ (piece : Piece). b ≤ piece.load) (λ (unit : Unit). record { unit = unit; load = cue.load; until = cue.show; cue = number }) (units_of cue)
+    All-map (λ (chunk : FieldChunk). b ≤ chunk.load) (λ (unit : Unit). record { unit = unit; load = cue.load; until = cue.show; cue = number }) (units_of cue)
     (λ k d within. from)
 
 -- the first of the cues begins to load at frame b or later
@@ -193,17 +193,17 @@ LoadFrom b [] = ⊤
 LoadFrom b (cue ∷ later) = b ≤ cue.load
 
 -- then all of them do
-pub loads_from : (frames b : ℕ) (cues : List Cue) (pieces : List Piece) → AreInSequence 1 frames cues → LoadFrom b cues → ArePieces cues pieces
-    → All (λ piece. b ≤ piece.load) pieces
-loads_from frames b [] pieces sequence from are = subst (All (λ (piece : Piece). b ≤ piece.load)) (sym are) (All-nil (λ (piece : Piece). b ≤ piece.load))
-loads_from frames b (cue ∷ []) pieces sequence from are =
-    subst (All (λ (piece : Piece). b ≤ piece.load)) (sym are.2)
-    (All-append (λ (piece : Piece). b ≤ piece.load) (cue_pieces are.0 cue) are.1 (cue_loads b are.0 cue from) (loads_from frames b [] are.1 tt tt are.3))
-loads_from frames b (cue ∷ (next ∷ later)) pieces sequence from are =
+pub loads_from : (frames b : ℕ) (cues : List Cue) (chunks : List FieldChunk) → AreInSequence 1 frames cues → LoadFrom b cues → AreChunks cues chunks
+    → All (λ chunk. b ≤ chunk.load) chunks
+loads_from frames b [] chunks sequence from are = subst (All (λ (chunk : FieldChunk). b ≤ chunk.load)) (sym are) (All-nil (λ (chunk : FieldChunk). b ≤ chunk.load))
+loads_from frames b (cue ∷ []) chunks sequence from are =
+    subst (All (λ (chunk : FieldChunk). b ≤ chunk.load)) (sym are.2)
+    (All-append (λ (chunk : FieldChunk). b ≤ chunk.load) (field_cue_chunks are.0 cue) are.1 (cue_loads b are.0 cue from) (loads_from frames b [] are.1 tt tt are.3))
+loads_from frames b (cue ∷ (next ∷ later)) chunks sequence from are =
     let shown : cue.load < cue.show = sequence.0.loaded in
     let behind : cue.show ≤ next.load = sequence.1.loaded in
-    subst (All (λ (piece : Piece). b ≤ piece.load)) (sym are.2)
-    (All-append (λ (piece : Piece). b ≤ piece.load) (cue_pieces are.0 cue) are.1 (cue_loads b are.0 cue from)
+    subst (All (λ (chunk : FieldChunk). b ≤ chunk.load)) (sym are.2)
+    (All-append (λ (chunk : FieldChunk). b ≤ chunk.load) (field_cue_chunks are.0 cue) are.1 (cue_loads b are.0 cue from)
     (loads_from frames b (next ∷ later) are.1 sequence.2 (omega arith) are.3))
 
 -- the unit that shows a pop-on cue

@@ -15,9 +15,9 @@ use Rattle.cue_lists.specs.declared.cue.Cue.{Cue}
 use Rattle.cue_lists.specs.declared.cue.Kind.TheVariants.{Pop, Roll}
 use Rattle.line21_screen.specs.Meaning.{after}
 use Rattle.line21_author.specs.CueEvents.{channel_events}
-use Rattle.frame_scheduler.specs.ChannelLane.{channel_pieces}
-use Rattle.frame_scheduler.specs.LaneTimeline.{lane_timeline}
-use Rattle.frame_scheduler.specs.Timeline.{column}
+use Rattle.field_lanes.specs.ChannelLane.{channel_chunks}
+use Rattle.field_lanes.specs.LaneTimeline.{lane_timeline}
+use Rattle.field_lanes.specs.Timeline.{column}
 
 -- a pair, of its two bytes with their parity bits
 abbrev pub pair : ℕ → ℕ → Pair
@@ -58,7 +58,7 @@ pub record Example : Type 0 where
 -- the pairs are those of the cues
 abbrev pub ArePairsSent : Example → Type 0
 ArePairsSent example =
-    column (lane_timeline (channel_events Cc1 example.cues) (channel_pieces Cc1 example.cues) example.placed) example.frames
+    column (lane_timeline (channel_events Cc1 example.cues) (channel_chunks Cc1 example.cues) example.placed) example.frames
     ≡ example.pairs
 
 -- the screen is authored for a frame, and the pairs display it at that frame

@@ -16,11 +16,11 @@ use Rattle.line21_author.specs.declared.event.Event.{Event}
 use Rattle.line21_author.specs.declared.unit.Unit.{Unit as CodeUnit}
 use Rattle.cue_lists.specs.Rules.Lane.{is_pop}
 use Rattle.cue_lists.specs.declared.cue.Cue.{Cue}
-use Rattle.frame_scheduler.specs.ChannelLane.{channel_pieces, cue_pieces, pieces_from}
-use Rattle.frame_scheduler.specs.FieldLane.{end_of}
-use Rattle.frame_scheduler.specs.LaneEvents.{IsFree}
+use Rattle.field_lanes.specs.ChannelLane.{channel_chunks, field_cue_chunks, channel_chunks_from}
+use Rattle.field_lanes.specs.FieldLane.{end_of}
+use Rattle.field_lanes.specs.LaneEvents.{IsFree}
 use Rattle.frame_scheduler.specs.SlotLists.{slot_cues}
-use Rattle.frame_scheduler.specs.declared.lane.piece.Piece.{Piece}
+use Rattle.field_lanes.specs.declared.chunk.FieldChunk.{FieldChunk}
 use Rattle.load_lists.specs.LoadList.{load_cue, load_list}
 use Rattle.load_lists.proofs.SlotRoomLemmas.{HasSlotsBehind, IsWithin, two_each}
 use Rattle.load_lists.proofs.UnitCountLemmas.{units_few}
@@ -80,39 +80,39 @@ on_beat channel a (suc n) = at (is_on channel (load_cue a).kind) refl (on_beat c
     at false is rest = rw is rest
 
 -- a unit of a caption
-abbrev piece_of : ℕ → ℕ → CodeUnit → Piece
-piece_of number a unit = record { unit = unit; load = 90 * a; until = 90 * a + 60; cue = number }
+abbrev chunk_of : ℕ → ℕ → CodeUnit → FieldChunk
+chunk_of number a unit = record { unit = unit; load = 90 * a; until = 90 * a + 60; cue = number }
 
 -- the units of a caption may stand from its LOAD on
-pieces_within : (number a : ℕ) (units : List CodeUnit)
-    → AllByRecursion (IsWithin (90 * a) (90 * a + 58)) (map (piece_of number a) units)
-pieces_within number a [] = tt
-pieces_within number a (unit ∷ units) = (record { load = omega arith; until = omega arith }, pieces_within number a units)
+chunks_within : (number a : ℕ) (units : List CodeUnit)
+    → AllByRecursion (IsWithin (90 * a) (90 * a + 58)) (map (chunk_of number a) units)
+chunks_within number a [] = tt
+chunks_within number a (unit ∷ units) = (record { load = omega arith; until = omega arith }, chunks_within number a units)
 
 -- the slots of a caption's units
 low_slot : (a n : ℕ) → 90 * a ≤ n → n < 90 * a + 58 → n % 90 < 58
 low_slot a n low high = omega arith
 
 module _ (channel : Chan) (events : List Event) (beat : AreOnBeat events) where
-  captions_placed : (number a n : ℕ) (before : List (Piece × ℕ)) → end_of before ≤ 90 * a → HasSlotsBehind events before (pieces_from channel number (captions a n))
+  captions_placed : (number a n : ℕ) (before : List (FieldChunk × ℕ)) → end_of before ≤ 90 * a → HasSlotsBehind events before (channel_chunks_from channel number (captions a n))
   captions_placed number a zero before behind = ([], tt)
   captions_placed number a (suc n) before behind =
       at (is_on channel (load_cue a).kind) refl (λ after end. captions_placed (suc number) (a + 1) n after end)
     where
       at : (b : Bool) → is_on channel (load_cue a).kind ≡ b
-          → ((after : List (Piece × ℕ)) → end_of after ≤ 90 * (a + 1) → HasSlotsBehind events after (pieces_from channel (suc number) (captions (a + 1) n)))
-          → HasSlotsBehind events before (pieces_from channel number (captions a (suc n)))
+          → ((after : List (FieldChunk × ℕ)) → end_of after ≤ 90 * (a + 1) → HasSlotsBehind events after (channel_chunks_from channel (suc number) (captions (a + 1) n)))
+          → HasSlotsBehind events before (channel_chunks_from channel number (captions a (suc n)))
       at false is rest = rw is (rest before (omega arith))
       at true is rest =
           let few = units_few a (a % 3) in
-          let same = length-map (units_of (load_cue a)) (piece_of number a) in
-          rw is (two_each events (90 * a) (90 * a + 58) (90 * a) (cue_pieces number (load_cue a)) (pieces_from channel (suc number) (captions (a + 1) n)) before
-          behind (omega arith) (omega (arith, few, same)) (pieces_within number a (units_of (load_cue a)))
+          let same = length-map (units_of (load_cue a)) (chunk_of number a) in
+          rw is (two_each events (90 * a) (90 * a + 58) (90 * a) (field_cue_chunks number (load_cue a)) (channel_chunks_from channel (suc number) (captions (a + 1) n)) before
+          behind (omega arith) (omega (arith, few, same)) (chunks_within number a (units_of (load_cue a)))
           (λ slot low high. beat_free events slot beat (low_slot a slot low high)) (λ after end. rest after (omega arith)))
 
 -- the lane of a channel
 pub channel_placed : (count : ℕ) (channel : Chan)
-    → HasSlotsBehind (channel_events channel (slot_cues (load_list count) channel)) [] (channel_pieces channel (slot_cues (load_list count) channel))
+    → HasSlotsBehind (channel_events channel (slot_cues (load_list count) channel)) [] (channel_chunks channel (slot_cues (load_list count) channel))
 channel_placed count channel =
     captions_placed channel (channel_events channel (slot_cues (load_list count) channel))
     (events_beat (field_of_channel channel) (cues_on channel (captions 0 count)) (on_beat channel 0 count)) 1 0 count [] (omega arith)

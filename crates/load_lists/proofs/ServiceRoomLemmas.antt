@@ -11,9 +11,9 @@ use Rattle.dtvcc_author.specs.FrameEvents.{delay_end}
 use Rattle.dtvcc_author.specs.declared.caption.Caption.{Caption}
 use Rattle.dtvcc_author.proofs.LatestLemmas.{all_has}
 use Rattle.placements.specs.Placing.{HasPlacement}
-use Rattle.service_lanes.specs.ServiceChunks.{chunk_of, chunks_from, cue_chunks}
+use Rattle.service_lanes.specs.ServiceChunks.{chunk_of, service_chunks_from, service_cue_chunks}
 use Rattle.service_lanes.specs.ServiceRoom.{frame_room}
-use Rattle.service_lanes.specs.Chunks.{Chunk}
+use Rattle.service_lanes.specs.Chunks.{ServiceChunk}
 use Rattle.service_lanes.proofs.DelayLemmas.{delay_is_of}
 use Rattle.service_lanes.proofs.PlaceLemmas.{events_few}
 use Rattle.frame_scheduler.specs.Planned.{captions_in, chunks_in, service_lane_of}
@@ -68,39 +68,39 @@ chunks_within number a (unit ∷ units) small =
     (record { load = omega arith; until = omega arith; size = small.0 }, chunks_within number a units small.1)
 
 module _ (cs : List Caption) (beat : AllByRecursion IsOnBeat cs) where
-  abbrev HasFrames : List (Chunk × ℕ) → List Chunk → Type 0
+  abbrev HasFrames : List (ServiceChunk × ℕ) → List ServiceChunk → Type 0
   HasFrames before chunks = HasFramesBehind (frame_room 31 cs) (delay_end cs) before chunks
 
   -- a caption of a load, and units behind its own
-  cue_placed : (number a turn : ℕ) (later : List Chunk) (before : List (Chunk × ℕ)) → AreBefore (90 * a) before
-      → ((after : List (Chunk × ℕ)) → AreBefore (90 * (a + 1)) after → HasFrames after later)
-      → HasFrames before (cue_chunks F2997 1 number (turned a turn) ++ later)
+  cue_placed : (number a turn : ℕ) (later : List ServiceChunk) (before : List (ServiceChunk × ℕ)) → AreBefore (90 * a) before
+      → ((after : List (ServiceChunk × ℕ)) → AreBefore (90 * (a + 1)) after → HasFrames after later)
+      → HasFrames before (service_cue_chunks F2997 1 number (turned a turn) ++ later)
   cue_placed number a zero later before behind rest = rest before (before_later (90 * a) (90 * (a + 1)) before (omega arith) behind)
   cue_placed number a (suc zero) later before behind rest =
       let units = window_cue_units (turned a 1) in
       let count = window_units_count a in
       let same = length-map units (chunk_of number (window_caption F2997 (load_window a) (turned a 1))) in
-      one_each (frame_room 31 cs) (delay_end cs) (90 * a) (90 * a + 30) (90 * a) (cue_chunks F2997 1 number (turned a 1)) later before behind (omega arith)
+      one_each (frame_room 31 cs) (delay_end cs) (90 * a) (90 * a + 30) (90 * a) (service_cue_chunks F2997 1 number (turned a 1)) later before behind (omega arith)
       (omega (arith, count, same)) (chunks_within number a units (window_units_small a)) (roomy cs)
       (λ frame low high. beat_undelayed cs frame beat (low_frame a frame low high))
       (λ after end. rest after (before_later (90 * a + 30) (90 * (a + 1)) after (omega arith) end))
   cue_placed number a (suc (suc turn)) later before behind rest = rest before (before_later (90 * a) (90 * (a + 1)) before (omega arith) behind)
 
-  cues_placed : (number a n : ℕ) (before : List (Chunk × ℕ)) → AreBefore (90 * a) before → HasFrames before (chunks_from F2997 1 number (cues a n))
+  cues_placed : (number a n : ℕ) (before : List (ServiceChunk × ℕ)) → AreBefore (90 * a) before → HasFrames before (service_chunks_from F2997 1 number (cues a n))
   cues_placed number a zero before behind = ([], tt)
   cues_placed number a (suc n) before behind =
-      cue_placed number a (a % 3) (chunks_from F2997 1 (suc number) (cues (a + 1) n)) before behind (λ after end. cues_placed (suc number) (a + 1) n after end)
+      cue_placed number a (a % 3) (service_chunks_from F2997 1 (suc number) (cues (a + 1) n)) before behind (λ after end. cues_placed (suc number) (a + 1) n after end)
 
 -- another service has no captions
-none_more : (service number k turn : ℕ) → (1 == service) ≡ false → cue_chunks F2997 service number (turned k turn) ≡ []
+none_more : (service number k turn : ℕ) → (1 == service) ≡ false → service_cue_chunks F2997 service number (turned k turn) ≡ []
 none_more service number k zero other = refl
 none_more service number k (suc zero) other = rw other refl
 none_more service number k (suc (suc turn)) other = refl
 
-no_chunks : (service number a n : ℕ) → (1 == service) ≡ false → chunks_from F2997 service number (cues a n) ≡ []
+no_chunks : (service number a n : ℕ) → (1 == service) ≡ false → service_chunks_from F2997 service number (cues a n) ≡ []
 no_chunks service number a zero other = refl
 no_chunks service number a (suc n) other =
-    ap (λ (first : List Chunk). first ++ chunks_from F2997 service (suc number) (cues (a + 1) n)) (none_more service number a (a % 3) other)
+    ap (λ (first : List ServiceChunk). first ++ service_chunks_from F2997 service (suc number) (cues (a + 1) n)) (none_more service number a (a % 3) other)
     ∙ no_chunks service (suc number) (a + 1) n other
 
 -- the lane of a service

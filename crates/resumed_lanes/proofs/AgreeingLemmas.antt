@@ -23,7 +23,7 @@ module _ (count : ℕ) (slots others : Slots) (agree : Agree count slots others)
     second = agree.free (two.at + 1) (omega (arith, two.before)) ∙ two.second;
   }
 
-  allowed_too : (end : ℕ) (part : Part) (slot : ℕ) → part.piece.until ≤ count → IsAllowedBeside slots end part slot → IsAllowedBeside others end part slot
+  allowed_too : (end : ℕ) (part : Part) (slot : ℕ) → part.chunk.until ≤ count → IsAllowedBeside slots end part slot → IsAllowedBeside others end part slot
   allowed_too end part slot ends is = record {
     behind = is.behind;
     loaded = is.loaded;
@@ -76,7 +76,7 @@ module _ (count : ℕ) (slots others : Slots) (agree : Agree count slots others)
   stand_too end (u ∷ us) [] rs ends is = absurd is
   stand_too end (u ∷ us) (f ∷ fs) [] ends is = absurd is
   stand_too end (u ∷ us) (f ∷ fs) (r ∷ rs) ends is =
-      let by : u.piece.until ≤ count = All-head (EndsBy count) u us ends in (
+      let by : u.chunk.until ≤ count = All-head (EndsBy count) u us ends in (
         allowed_too end u f by is.0,
         resumes_too end u f r (omega (arith, is.0.ended)) is.1,
         stand_too (f + part_slots u) us fs rs (All-tail (EndsBy count) u us ends) is.2,

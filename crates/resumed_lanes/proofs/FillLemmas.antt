@@ -99,13 +99,13 @@ module _ (slots : Slots) (sound : AreSound slots) where
 
   -- where no slot is allowed for the next unit, its cue is the first without room
   pub reaches_none : (us : List Part) (k : ℕ) (d : Part) (places : List Place) (end : ℕ) → All IsBegun us → AreInCueOrder part_cue us → k < length us
-      → Reaches slots (take k us) places end → ((f : ℕ) → IsAllowedBeside slots end (get_or us k d) f → ⊥) → IsFirstCrowded (resumed_lane slots) part_cue us (get_or us k d).piece.cue
+      → Reaches slots (take k us) places end → ((f : ℕ) → IsAllowedBeside slots end (get_or us k d) f → ⊥) → IsFirstCrowded (resumed_lane slots) part_cue us (get_or us k d).chunk.cue
   reaches_none us k d places end begun order h r nowhere =
       let alone = no_room_at part_cue (lane_alone slots) (fits_earlier slots) us k d (slots_at places) order h
       (earliest_alone slots sound (take k us) (All-take IsBegun k us begun) (slots_at places) r.earliest) (take_more us k d h)
       (λ f a. nowhere f (subst (λ e. IsAllowedBeside slots e (get_or us k d) f) (sym r.end_is) (from_lane_alone slots (zip (take k us) (slots_at places)) (get_or us k d) f a))) in
       record {
-        none = λ fs placed. alone.none fs ((lanes_one slots sound (up_to part_cue (get_or us k d).piece.cue us) (All-filter (λ u. nat_le (part_cue u) (get_or us k d).piece.cue) IsBegun us begun) fs).0 placed);
+        none = λ fs placed. alone.none fs ((lanes_one slots sound (up_to part_cue (get_or us k d).chunk.cue us) (All-filter (λ u. nat_le (part_cue u) (get_or us k d).chunk.cue) IsBegun us begun) fs).0 placed);
         first = λ earlier below.
             let w = alone.first earlier below in
             (w.0, (lanes_one slots sound (up_to part_cue earlier us) (All-filter (λ u. nat_le (part_cue u) earlier) IsBegun us begun) w.0).1 w.1);

@@ -76,7 +76,7 @@ module _ (slots : Slots) where
     }
 
     module _ (sound : AreSound slots) (begun : IsBegun u) (a : resumed_lane slots before u f) where
-      two_slots : u.piece.unit.doubled ≡ true → part_slots u ≡ 2
+      two_slots : u.chunk.unit.doubled ≡ true → part_slots u ≡ 2
       two_slots doubled = ap (λ b. cond b 2 1) doubled
 
       have_up_to : (m : ℕ) → m < f + part_slots u → slots.foreign m ≡ true → HasTwo slots m (f + part_slots u)

@@ -18,19 +18,19 @@ above a b test = grind (arith, nat_tests)
 
 module _ (slots : Slots) (end : ℕ) (part : Part) where
   start_low : end ≤ start_of end part
-  start_low = by_test (part.later || nat_le part.piece.load end) refl
+  start_low = by_test (part.later || nat_le part.chunk.load end) refl
     where
-      by_test : (t : Bool) → (part.later || nat_le part.piece.load end) ≡ t → end ≤ (if t then end else part.piece.load)
+      by_test : (t : Bool) → (part.later || nat_le part.chunk.load end) ≡ t → end ≤ (if t then end else part.chunk.load)
       by_test true is = omega arith
-      by_test false is = let less : end < part.piece.load = above part.piece.load end (or_false part.later (nat_le part.piece.load end) is) in omega arith
+      by_test false is = let less : end < part.chunk.load = above part.chunk.load end (or_false part.later (nat_le part.chunk.load end) is) in omega arith
 
   start_same : part.later ≡ true → start_of end part ≡ end
   start_same is = rw is refl
 
-  start_reached : (slot : ℕ) → end ≤ slot → part.piece.load ≤ slot → start_of end part ≤ slot
-  start_reached slot behind loaded = by_test (part.later || nat_le part.piece.load end)
+  start_reached : (slot : ℕ) → end ≤ slot → part.chunk.load ≤ slot → start_of end part ≤ slot
+  start_reached slot behind loaded = by_test (part.later || nat_le part.chunk.load end)
     where
-      by_test : (t : Bool) → (if t then end else part.piece.load) ≤ slot
+      by_test : (t : Bool) → (if t then end else part.chunk.load) ≤ slot
       by_test true = behind
       by_test false = loaded
 

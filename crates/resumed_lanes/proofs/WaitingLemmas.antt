@@ -223,20 +223,20 @@ le_is a b low = grind (arith, nat_tests)
 module _ (slots : Slots) (end slot : ℕ) (from : end ≤ slot) (resume : Resume) (part : Part) (describes : Describes slots end slot resume) where
   pub begins_allowed : may_begin slots resume slot part ≡ true → IsAllowedBeside slots end part slot
   begins_allowed is =
-      let one = and_parts (nat_le part.piece.load slot) _ is in
-      let two = and_parts (nat_le (slot + part_slots part) part.piece.until) _ one.1 in
+      let one = and_parts (nat_le part.chunk.load slot) _ is in
+      let two = and_parts (nat_le (slot + part_slots part) part.chunk.until) _ one.1 in
       let three = and_parts (slots.free slot && (part_slots part == 1 || slots.free (slot + 1))) _ two.1 in
       record {
         behind = from;
-        loaded = is_le part.piece.load slot one.0;
-        ended = is_le (slot + part_slots part) part.piece.until two.0;
-        free = size_free slots slot part.piece.unit.doubled three.0;
+        loaded = is_le part.chunk.load slot one.0;
+        ended = is_le (slot + part_slots part) part.chunk.until two.0;
+        free = size_free slots slot part.chunk.unit.doubled three.0;
         resumed = λ later. ready_two slots end slot from resume describes (or_later part.later (is_ready resume slot) three.1 later);
       }
 
   pub allowed_begins : IsAllowedBeside slots end part slot → may_begin slots resume slot part ≡ true
   allowed_begins a =
-      rw (le_is part.piece.load slot a.loaded, le_is (slot + part_slots part) part.piece.until a.ended, free_size slots slot part.piece.unit.doubled a.free)
+      rw (le_is part.chunk.load slot a.loaded, le_is (slot + part_slots part) part.chunk.until a.ended, free_size slots slot part.chunk.unit.doubled a.free)
       (later_or part.later (is_ready resume slot) (λ later. two_ready slots end slot from resume describes (a.resumed later)))
 
   -- where it doesn't, the unit isn't allowed at the slot
@@ -250,7 +250,7 @@ module _ (slots : Slots) (end slot : ℕ) (from : end ≤ slot) (resume : Resume
 
 -- a unit takes a slot
 pub some_slot : (part : Part) → 1 ≤ part_slots part
-some_slot part = by_doubled part.piece.unit.doubled
+some_slot part = by_doubled part.chunk.unit.doubled
   where
     by_doubled : (b : Bool) → 1 ≤ (if b then 2 else 1)
     by_doubled true = omega arith

@@ -15,7 +15,7 @@ pub record Agree (count : ℕ) (slots others : Slots) : Type 0 where
 
 -- the unit must have ended by then
 abbrev pub EndsBy : ℕ → Part → Type 0
-EndsBy count part = part.piece.until ≤ count
+EndsBy count part = part.chunk.until ≤ count
 
 -- these units have the same earliest placement, come again in the same slots, and have the same first cue without room
 pub record AreAsOne (slots others : Slots) (us : List Part) : Type 0 where

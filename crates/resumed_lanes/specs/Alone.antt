@@ -9,8 +9,8 @@ use Rattle.resumed_lanes.specs.declared.part.Part.{Part}
 
 pub record IsAllowedAlone (slots : Slots) (end : ℕ) (part : Part) (slot : ℕ) : Type 0 where
   pub behind : end ≤ slot
-  pub loaded : part.piece.load ≤ slot
-  pub ended : slot + part_slots part ≤ part.piece.until
+  pub loaded : part.chunk.load ≤ slot
+  pub ended : slot + part_slots part ≤ part.chunk.until
   pub free : (n : ℕ) → slot ≤ n → n < slot + part_slots part → slots.free n ≡ true
   pub resumed : part.later ≡ true → (m : ℕ) → m < slot → slots.foreign m ≡ true → HasTwo slots m slot
 

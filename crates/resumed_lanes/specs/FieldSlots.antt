@@ -1,7 +1,7 @@
 -- Believed in part: the program's answer stands on some of these definitions.
 -- The slots of a field that two lists share: for the lane of the first list, which is placed first, and for that of the second.
 use Rattle.std.specs.Prelude.{ℕ, zero, suc, ◌&&◌, ◌||◌, not, is_some, Bool}
-use Rattle.frame_scheduler.specs.Timeline.{Timeline}
+use Rattle.field_lanes.specs.Timeline.{Timeline}
 use Rattle.resumed_lanes.specs.Slots.{Slots}
 
 -- an event holds the slot in which it begins and the next one

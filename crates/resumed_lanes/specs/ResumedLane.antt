@@ -22,8 +22,8 @@ pub record HasTwo (slots : Slots) (m n : ℕ) : Type 0 where
 -- the unit of its cue before it, so do two neighbouring free ones, behind each such slot
 pub record IsAllowedBeside (slots : Slots) (end : ℕ) (part : Part) (slot : ℕ) : Type 0 where
   pub behind : end ≤ slot
-  pub loaded : part.piece.load ≤ slot
-  pub ended : slot + part_slots part ≤ part.piece.until
+  pub loaded : part.chunk.load ≤ slot
+  pub ended : slot + part_slots part ≤ part.chunk.until
   pub free : (n : ℕ) → slot ≤ n → n < slot + part_slots part → slots.free n ≡ true
   pub resumed : part.later ≡ true → (m : ℕ) → end ≤ m → m < slot → slots.foreign m ≡ true → HasTwo slots m slot
 

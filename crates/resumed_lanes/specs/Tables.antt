@@ -2,7 +2,7 @@
 -- A table of the slots of a field: the events of both lists hold theirs, each two from where it begins.
 use Rattle.std.specs.Prelude.{◌≡◌, ℕ, ◌<◌, Bool, if◌then◌else◌, List, Option, Some, length, slice_get}
 use Rattle.line21_author.specs.declared.event.Event.{Event}
-use Rattle.frame_scheduler.specs.LaneEvents.{event_at}
+use Rattle.field_lanes.specs.LaneEvents.{event_at}
 use Rattle.resumed_lanes.specs.Agreeing.{Agree}
 use Rattle.resumed_lanes.specs.FieldSlots.{first_slots, holds, second_slots}
 use Rattle.resumed_lanes.specs.Slots.{slots_in}

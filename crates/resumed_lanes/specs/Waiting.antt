@@ -10,7 +10,7 @@ use Rattle.resumed_lanes.specs.declared.place.Resume.TheVariants.{NotNeeded, Nee
 
 -- from which slot on a unit is looked for: what lies before its LOAD says nothing of a cue's first unit
 abbrev pub start_of : ℕ → Part → ℕ
-start_of end part = if part.later || nat_le part.piece.load end then end else part.piece.load
+start_of end part = if part.later || nat_le part.chunk.load end then end else part.chunk.load
 
 abbrev pub is_ready : Resume → ℕ → Bool
 is_ready NotNeeded slot = true
@@ -30,7 +30,7 @@ are_free slots slot size = slots.free slot && (size == 1 || slots.free (slot + 1
 
 abbrev pub may_begin : Slots → Resume → ℕ → Part → Bool
 may_begin slots resume slot part =
-    nat_le part.piece.load slot && (nat_le (slot + part_slots part) part.piece.until
+    nat_le part.chunk.load slot && (nat_le (slot + part_slots part) part.chunk.until
     && (are_free slots slot (part_slots part) && (not part.later || is_ready resume slot)))
 
 -- where two free slots begin at a slot, and the first unit has to come again

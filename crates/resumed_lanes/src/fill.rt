@@ -22,9 +22,9 @@ pub fn place_all(alloc: Global, uses: &[SlotUse], parts: &[Part]) -> Result<Vec<
     let mut end = 0u32;
     for part in parts {
         let Some(place) = first_place(uses, end, *part) else {
-            return Err(PlanFault::NoRoom(part.piece.cue));
+            return Err(PlanFault::NoRoom(part.chunk.cue));
         };
-        end = place.slot + part.piece.unit.slots();
+        end = place.slot + part.chunk.unit.slots();
         if let Err(error) = places.push(place) {
             return Err(PlanFault::Memory(error.into()));
         }

@@ -44,10 +44,10 @@ pub fn first_place(uses: &[SlotUse], end: u32, part: Part) -> Option<Place>
 fn start_of(end: u32, part: Part) -> u32
     ensures { result ≡ start_of end part }
 {
-    if part.later || part.piece.load <= end {
+    if part.later || part.chunk.load <= end {
         end
     } else {
-        part.piece.load
+        part.chunk.load
     }
 }
 
@@ -63,7 +63,7 @@ fn first_from(uses: &[SlotUse], end: u32, part: Part) -> Option<Place>
 {
     let mut slot = end;
     let mut resume = Resume::NotNeeded;
-    while slot < part.piece.until {
+    while slot < part.chunk.until {
         if may_begin(uses, resume, slot, part) {
             return Some(Place {
                 slot,
@@ -85,10 +85,10 @@ fn first_from(uses: &[SlotUse], end: u32, part: Part) -> Option<Place>
 fn may_begin(uses: &[SlotUse], resume: Resume, slot: u32, part: Part) -> bool
     ensures { result ≡ may_begin (slots_in uses.now) resume slot part }
 {
-    let piece = part.piece;
-    let size = piece.unit.slots();
-    piece.load <= slot
-        && u64::from(slot) + u64::from(size) <= u64::from(piece.until)
+    let chunk = part.chunk;
+    let size = chunk.unit.slots();
+    chunk.load <= slot
+        && u64::from(slot) + u64::from(size) <= u64::from(chunk.until)
         && are_free(uses, slot, size)
         && (!part.later || is_ready(resume, slot))
 }

@@ -57,7 +57,7 @@ fn mark_spans(uses: &mut Vec<SlotUse>, parts: &[Part], places: &[Place])
         let part = parts[index];
         let slot = places[index].slot as usize;
         let from = if part.later { end } else { slot };
-        end = slot + part.piece.unit.slots() as usize;
+        end = slot + part.chunk.unit.slots() as usize;
         fill(uses, from, end);
         index += 1;
     }

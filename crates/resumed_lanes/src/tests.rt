@@ -3,7 +3,7 @@ use crate::part::Part;
 use crate::place::{Place, first_place};
 use crate::slot_use::SlotUse;
 use crate::tables::{table, table_beside};
-use frame_scheduler::lane::piece::Piece;
+use field_lanes::FieldChunk;
 use line21_author::{Event, Unit};
 use line21_codes::Pair;
 use placements::PlanFault;
@@ -20,7 +20,7 @@ const EDM: Pair = Pair { a: 0x94, b: 0x2C };
 macro_rules! first {
     ($load:expr, $until:expr) => {
         Part {
-            piece: Piece {
+            chunk: FieldChunk {
                 unit: Unit {
                     pair: RCL,
                     doubled: true,
@@ -42,7 +42,7 @@ macro_rules! first {
 macro_rules! later {
     ($pair:expr, $doubled:expr, $load:expr, $until:expr) => {
         Part {
-            piece: Piece {
+            chunk: FieldChunk {
                 unit: Unit {
                     pair: $pair,
                     doubled: $doubled,

@@ -7,7 +7,7 @@ use Rattle.std.proofs.lemmas.List.Concat.{flat_map-append}
 use Rattle.service_lanes.specs.CueChunks.{chunk_bytes}
 use Rattle.service_lanes.specs.ServiceBytes.{AreFramesFrom}
 use Rattle.service_lanes.specs.Batches.{AreBatches, bytes_of_first, frames_from}
-use Rattle.service_lanes.specs.Chunks.{Chunk}
+use Rattle.service_lanes.specs.Chunks.{ServiceChunk}
 use Rattle.service_lanes.specs.declared.batch.Batch.{Batch}
 
 -- the units up to the last of the batches
@@ -27,17 +27,17 @@ frames_push before (x ∷ ss) s =
     ∙ sym (append_assoc (replicate (x.units - before) x.frame) (frames_from x.units ss) (replicate (s.units - units_behind x.units ss) s.frame))
 
 -- what is known of the last batch
-pub record IsLast (chunks : List Chunk) (before : ℕ) (ss : List Batch) (s : Batch) : Type 0 where
+pub record IsLast (chunks : List ServiceChunk) (before : ℕ) (ss : List Batch) (s : Batch) : Type 0 where
   pub behind : units_behind before ss ≤ s.units
   pub bytes : s.bytes ≡ bytes_of_first s.units chunks
 
-pub is_last : (chunks : List Chunk) (frame before : ℕ) (ss : List Batch) (s : Batch) → AreBatches chunks frame before (ss ++ s ∷ []) → IsLast chunks before ss s
+pub is_last : (chunks : List ServiceChunk) (frame before : ℕ) (ss : List Batch) (s : Batch) → AreBatches chunks frame before (ss ++ s ∷ []) → IsLast chunks before ss s
 is_last chunks frame before [] s are = record { behind = are.1; bytes = are.3 }
 is_last chunks frame before (x ∷ ss) s are =
     let rest = is_last chunks (x.frame + 1) x.units ss s are.4 in record { behind = rest.behind; bytes = rest.bytes }
 
 -- one more unit in the frame of the last batch
-pub frames_grow : (chunks : List Chunk) (ss : List Batch) (s t : Batch) → AreBatches chunks 0 0 (ss ++ s ∷ []) → t.frame ≡ s.frame → t.units ≡ s.units + 1
+pub frames_grow : (chunks : List ServiceChunk) (ss : List Batch) (s t : Batch) → AreBatches chunks 0 0 (ss ++ s ∷ []) → t.frame ≡ s.frame → t.units ≡ s.units + 1
     → frames_from 0 (ss ++ t ∷ []) ≡ frames_from 0 (ss ++ s ∷ []) ++ t.frame ∷ []
 frames_grow chunks ss s t are same more =
     let last = is_last chunks 0 0 ss s are in
@@ -49,7 +49,7 @@ frames_grow chunks ss s t are same more =
     ∙ ap (λ f. (frames_from 0 ss ++ replicate (s.units - units_behind 0 ss) f) ++ t.frame ∷ []) same
     ∙ ap (λ l. l ++ t.frame ∷ []) (sym (frames_push 0 ss s))
 
-pub batches_grow : (chunks : List Chunk) (frame before : ℕ) (ss : List Batch) (s t : Batch) → AreBatches chunks frame before (ss ++ s ∷ [])
+pub batches_grow : (chunks : List ServiceChunk) (frame before : ℕ) (ss : List Batch) (s t : Batch) → AreBatches chunks frame before (ss ++ s ∷ [])
     → t.frame ≡ s.frame → s.units ≤ t.units → t.units ≤ length chunks → t.bytes ≡ bytes_of_first t.units chunks
     → AreBatches chunks frame before (ss ++ t ∷ [])
 batches_grow chunks frame before [] s t are same more within bytes =
@@ -64,7 +64,7 @@ frames_more ss s t more =
     let one : t.units - units_behind 0 (ss ++ s ∷ []) ≡ 1 = omega (arith, behind_push 0 ss s, more) in
     frames_push 0 (ss ++ s ∷ []) t ∙ ap (λ n. frames_from 0 (ss ++ s ∷ []) ++ replicate n t.frame) one
 
-pub batches_more : (chunks : List Chunk) (frame before : ℕ) (ss : List Batch) (s t : Batch) → AreBatches chunks frame before (ss ++ s ∷ [])
+pub batches_more : (chunks : List ServiceChunk) (frame before : ℕ) (ss : List Batch) (s t : Batch) → AreBatches chunks frame before (ss ++ s ∷ [])
     → s.frame < t.frame → s.units ≤ t.units → t.units ≤ length chunks → t.bytes ≡ bytes_of_first t.units chunks
     → AreBatches chunks frame before ((ss ++ s ∷ []) ++ t ∷ [])
 batches_more chunks frame before [] s t are later more within bytes =
@@ -73,7 +73,7 @@ batches_more chunks frame before (x ∷ ss) s t are later more within bytes =
     (are.0, are.1, are.2, are.3, batches_more chunks (x.frame + 1) x.units ss s t are.4 later more within bytes)
 
 -- the bytes of one more unit
-pub bytes_of_more : (chunks : List Chunk) (count : ℕ) (d : Chunk) → count < length chunks
+pub bytes_of_more : (chunks : List ServiceChunk) (count : ℕ) (d : ServiceChunk) → count < length chunks
     → bytes_of_first (count + 1) chunks ≡ bytes_of_first count chunks + length (chunk_bytes (get_or chunks count d))
 bytes_of_more chunks count d within =
     ap (λ l. length (flat_map chunk_bytes l)) (take_more chunks count d within)
@@ -90,7 +90,7 @@ rise_repeated : (count from frame : ℕ) (fs : List ℕ) → from ≤ frame → 
 rise_repeated zero from frame fs low rise = rise_from from frame fs low rise
 rise_repeated (suc count) from frame fs low rise = (low, rise_repeated count frame frame fs (omega arith) rise)
 
-pub frames_ascend : (chunks : List Chunk) (frame before : ℕ) (ss : List Batch) → AreBatches chunks frame before ss → AreFramesFrom frame (frames_from before ss)
+pub frames_ascend : (chunks : List ServiceChunk) (frame before : ℕ) (ss : List Batch) → AreBatches chunks frame before ss → AreFramesFrom frame (frames_from before ss)
 frames_ascend chunks frame before [] are = tt
 frames_ascend chunks frame before (s ∷ ss) are =
     rise_repeated (s.units - before) frame s.frame (frames_from s.units ss) are.0

@@ -15,48 +15,48 @@ use Rattle.dtvcc_author.specs.Captions.{caption_of, caption_with, service_captio
 use Rattle.dtvcc_author.specs.CueUnits.{window_cue_units}
 use Rattle.dtvcc_author.specs.declared.caption.Caption.{Caption}
 use Rattle.placements.specs.LaneRoom.{AreInCueOrder, AreOfCuesFrom}
-use Rattle.service_lanes.specs.ServiceChunks.{chunk_cue, chunk_of, chunks_from, chunks_with, service_chunks}
-use Rattle.service_lanes.specs.Chunks.{Chunk}
+use Rattle.service_lanes.specs.ServiceChunks.{chunk_of, chunks_with, service_chunk_cue, service_chunks, service_chunks_from}
+use Rattle.service_lanes.specs.Chunks.{ServiceChunk}
 use Rattle.service_lanes.proofs.CaptionsKept.{eqb_turned}
 
 -- the units stand in the order of their cues, none of which is before the cue of this number
-record StartAt (number : ℕ) (chunks : List Chunk) : Type 0 where
-  from : AreOfCuesFrom chunk_cue number chunks
-  order : AreInCueOrder chunk_cue chunks
+record StartAt (number : ℕ) (chunks : List ServiceChunk) : Type 0 where
+  from : AreOfCuesFrom service_chunk_cue number chunks
+  order : AreInCueOrder service_chunk_cue chunks
 
 -- the units of a caption before those of later ones
-caption_start : (number : ℕ) (c : Caption) (units : List (List ℕ)) (rest : List Chunk) → StartAt number rest
+caption_start : (number : ℕ) (c : Caption) (units : List (List ℕ)) (rest : List ServiceChunk) → StartAt number rest
     → StartAt number (map (chunk_of number c) units ++ rest)
 caption_start number c [] rest start = start
 caption_start number c (unit ∷ units) rest start =
     let behind = caption_start number c units rest start in
     record { from = (omega arith, behind.from); order = (behind.from, behind.order) }
 
-cue_start : (number : ℕ) (c : Option Caption) (units : List (List ℕ)) (rest : List Chunk) → StartAt number rest → StartAt number (chunks_with number c units ++ rest)
+cue_start : (number : ℕ) (c : Option Caption) (units : List (List ℕ)) (rest : List ServiceChunk) → StartAt number rest → StartAt number (chunks_with number c units ++ rest)
 cue_start number None units rest start = start
 cue_start number (Some c) units rest start = caption_start number c units rest start
 
 -- units of cues from a later number on
-of_later_cues : (number : ℕ) (chunks : List Chunk) → AreOfCuesFrom chunk_cue (suc number) chunks → AreOfCuesFrom chunk_cue number chunks
+of_later_cues : (number : ℕ) (chunks : List ServiceChunk) → AreOfCuesFrom service_chunk_cue (suc number) chunks → AreOfCuesFrom service_chunk_cue number chunks
 of_later_cues number [] from = tt
 of_later_cues number (chunk ∷ chunks) from = (omega (arith, from.0), of_later_cues number chunks from.1)
 
-service_start : (rate : Rate) (service number : ℕ) (cues : List Cue) → StartAt number (chunks_from rate service number cues)
+service_start : (rate : Rate) (service number : ℕ) (cues : List Cue) → StartAt number (service_chunks_from rate service number cues)
 service_start rate service number [] = record { from = tt; order = tt }
 service_start rate service number (cue ∷ cues) =
     let behind = service_start rate service (suc number) cues in
-    let later : StartAt number (chunks_from rate service (suc number) cues) =
-    record { from = of_later_cues number (chunks_from rate service (suc number) cues) behind.from; order = behind.order } in
-    cue_start number (caption_of rate service cue) (window_cue_units cue) (chunks_from rate service (suc number) cues) later
+    let later : StartAt number (service_chunks_from rate service (suc number) cues) =
+    record { from = of_later_cues number (service_chunks_from rate service (suc number) cues) behind.from; order = behind.order } in
+    cue_start number (caption_of rate service cue) (window_cue_units cue) (service_chunks_from rate service (suc number) cues) later
 
 -- the units of a service stand in the order of their cues
-pub chunks_in_order : (rate : Rate) (service : ℕ) (cues : List Cue) → AreInCueOrder chunk_cue (service_chunks rate service cues)
+pub chunks_in_order : (rate : Rate) (service : ℕ) (cues : List Cue) → AreInCueOrder service_chunk_cue (service_chunks rate service cues)
 chunks_in_order rate service cues = (service_start rate service 1 cues).order
 
 -- a service that is sent nothing: none of its cues is a caption's
 record IsUnsent (rate : Rate) (service : ℕ) (cues : List Cue) : Type 0 where
   captions : service_captions rate service cues ≡ []
-  chunks : (number : ℕ) → chunks_from rate service number cues ≡ []
+  chunks : (number : ℕ) → service_chunks_from rate service number cues ≡ []
 
 not_some : (o : Option ℕ) → o ≡ None → IsSome o → ⊥
 not_some None none some = cc
@@ -70,7 +70,7 @@ all_unsent l service none (cue ∷ cues) ruled = at cue.kind refl ruled (all_uns
   where
     Sent : Option Caption → Type 0
     Sent c = (cons_option c (service_captions l.rate service cues) ≡ [])
-        × ((number : ℕ) → chunks_with number c (window_cue_units cue) ++ chunks_from l.rate service (suc number) cues ≡ [])
+        × ((number : ℕ) → chunks_with number c (window_cue_units cue) ++ service_chunks_from l.rate service (suc number) cues ≡ [])
 
     unsent : IsUnsent l.rate service cues → Sent None
     unsent rest = (rest.captions, λ number. rest.chunks (suc number))

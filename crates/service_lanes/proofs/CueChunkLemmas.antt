@@ -5,7 +5,7 @@ use Rattle.std.proofs.lemmas.List.{append-nil, drop_all, drop_at, drop_more, dro
 use Rattle.std.proofs.lemmas.List.Concat.{flat_map-append}
 use Rattle.service_lanes.specs.CueChunks.{AreCounted, chunk_bytes, chunk_in, chunks_of}
 use Rattle.service_lanes.specs.ServicePlacing.{AreOfCue, IsOfCue}
-use Rattle.service_lanes.specs.Chunks.{Chunk}
+use Rattle.service_lanes.specs.Chunks.{ServiceChunk}
 use Rattle.service_lanes.specs.declared.cue_load.CueLoad.{CueLoad}
 
 -- one more cue has the units behind those of the others
@@ -51,17 +51,17 @@ chunks_bytes (cue ∷ cues) units counted =
     ∙ ap concat (take-append-drop cue.count units)
 
 -- the units behind so many are those of the cues behind so many
-pub record AreLeft (cues : List CueLoad) (units : List (List ℕ)) (chunks : List Chunk) (index from : ℕ) : Type 0 where
+pub record AreLeft (cues : List CueLoad) (units : List (List ℕ)) (chunks : List ServiceChunk) (index from : ℕ) : Type 0 where
   pub are : drop from chunks ≡ chunks_of (drop index cues) (drop from units)
   pub counted : AreCounted (drop index cues) (drop from units)
 
 -- the next cue has the next units, and the cues behind it have the rest
-pub record TakesNext (cues : List CueLoad) (units : List (List ℕ)) (chunks : List Chunk) (index from : ℕ) (cue : CueLoad) : Type 0 where
+pub record TakesNext (cues : List CueLoad) (units : List (List ℕ)) (chunks : List ServiceChunk) (index from : ℕ) (cue : CueLoad) : Type 0 where
   pub within : from + cue.count ≤ length units
   pub of_it : AreOfCue cue units chunks from
   pub left : AreLeft cues units chunks (index + 1) (from + cue.count)
 
-pub takes_next : (cues : List CueLoad) (units : List (List ℕ)) (chunks : List Chunk) (index from : ℕ) (cue : CueLoad) → from ≤ length units
+pub takes_next : (cues : List CueLoad) (units : List (List ℕ)) (chunks : List ServiceChunk) (index from : ℕ) (cue : CueLoad) → from ≤ length units
     → index < length cues → cue ≡ get_or cues index cue → AreLeft cues units chunks index from → TakesNext cues units chunks index from cue
 takes_next cues units chunks index from cue low there is left = record {
   within = omega (arith, few, low, length-drop from units);
@@ -76,10 +76,10 @@ takes_next cues units chunks index from cue low there is left = record {
     front : List (List ℕ)
     front = take cue.count (drop from units)
 
-    mine : List Chunk
+    mine : List ServiceChunk
     mine = map (chunk_in cue) (take cue.count (drop from units))
 
-    rest : List Chunk
+    rest : List ServiceChunk
     rest = chunks_of (drop (index + 1) cues) (drop cue.count (drop from units))
 
     next : drop index cues ≡ cue ∷ drop (index + 1) cues
@@ -118,14 +118,14 @@ takes_next cues units chunks index from cue low there is left = record {
     }
 
 -- behind all cues no unit is left
-pub none_left : (cues : List CueLoad) (units : List (List ℕ)) (chunks : List Chunk) (index from : ℕ) → length cues ≤ index
+pub none_left : (cues : List CueLoad) (units : List (List ℕ)) (chunks : List ServiceChunk) (index from : ℕ) → length cues ≤ index
     → AreLeft cues units chunks index from → length chunks ≤ from
 none_left cues units chunks index from end left =
     let none : drop from chunks ≡ [] = left.are ∙ ap (λ l. chunks_of l (drop from units)) (drop_all index cues end) in
     omega (arith, length-drop from chunks, ap length none)
 
 -- so does the cue that is read
-pub takes_at : (cues : List CueLoad) (units : List (List ℕ)) (chunks : List Chunk) (index from : ℕ) (d : CueLoad) → from ≤ length units
+pub takes_at : (cues : List CueLoad) (units : List (List ℕ)) (chunks : List ServiceChunk) (index from : ℕ) (d : CueLoad) → from ≤ length units
     → index < length cues → AreLeft cues units chunks index from → TakesNext cues units chunks index from (get_or cues index d)
 takes_at cues units chunks index from d low there left =
     takes_next cues units chunks index from (get_or cues index d) low there (get_or_default cues index d (get_or cues index d) there) left

@@ -11,7 +11,7 @@ use Rattle.dtvcc_author.specs.declared.caption.Caption.{Caption}
 use Rattle.service_lanes.specs.CueChunks.{chunk_in}
 use Rattle.service_lanes.specs.ServicePlacing.{FillsFrame, IsPlacing}
 use Rattle.service_lanes.specs.ServiceRoom.{IsFront, behind_taking, has_left, spent_of, takes}
-use Rattle.service_lanes.specs.Chunks.{Chunk}
+use Rattle.service_lanes.specs.Chunks.{ServiceChunk}
 use Rattle.service_lanes.specs.declared.cue_load.CueLoad.{CueLoad}
 use Rattle.service_lanes.specs.declared.front.Front.{Front}
 use Rattle.service_lanes.specs.declared.placing.Placing.{Placing}
@@ -60,7 +60,7 @@ filled placing size units = record {
   front = behind_taking placing.front size;
 }
 
-pub filled_next : (share : ℕ) (cs : List Caption) (us : List Chunk) (cue : CueLoad) (units : List (List ℕ)) (old : Placing) (end size index : ℕ)
+pub filled_next : (share : ℕ) (cs : List Caption) (us : List ServiceChunk) (cue : CueLoad) (units : List (List ℕ)) (old : Placing) (end size index : ℕ)
     → FillsFrame cs cue units us old end → old.last.units ≤ index → index < end → takes old.front (size + length (get_or units index [])) ≡ true
     → IsPlacing share cs us (filled old size index)
     → IsPlacing share cs us (filled old (size + length (get_or units index [])) (index + 1))
@@ -88,7 +88,7 @@ filled_next share cs us cue units old end size index fills from to has is =
     (λ same. refl) (λ other. absurd (other refl))
 
 -- none more, to begin with
-pub filled_start : (share : ℕ) (cs : List Caption) (us : List Chunk) (old : Placing) → IsPlacing share cs us old → IsPlacing share cs us (filled old 0 old.last.units)
+pub filled_start : (share : ℕ) (cs : List Caption) (us : List ServiceChunk) (old : Placing) → IsPlacing share cs us old → IsPlacing share cs us (filled old 0 old.last.units)
 filled_start share cs us old is =
     let bytes : old.last.bytes ≡ old.last.bytes + 0 = omega arith in
     let room : old.front.room ≡ old.front.room - 0 = omega arith in

@@ -12,32 +12,32 @@ use Rattle.dtvcc_author.specs.Latest.{IsLatestAt}
 use Rattle.dtvcc_author.specs.declared.caption.Caption.{Caption}
 use Rattle.service_lanes.specs.ServiceLane.{AreUpTo, bytes_between, chunk_size, is_between, most_in_delay, used}
 use Rattle.service_lanes.specs.ServiceRoom.{IsBudgetAt, IsFirstBehind, IsFront, IsSpent, IsUndelayed, behind_taking, budget_in, caption_lane, frame_room, has_left, spent_of, takes}
-use Rattle.service_lanes.specs.Chunks.{Chunk}
+use Rattle.service_lanes.specs.Chunks.{ServiceChunk}
 use Rattle.service_lanes.specs.declared.front.Front.{Front}
 use Rattle.service_lanes.proofs.DelayLemmas.{delay_some, one_delay}
 
 -- units up to a frame are up to a later one
-up_to_later : (frame later : ℕ) (before : List (Chunk × ℕ)) → frame ≤ later → AreUpTo frame before → AreUpTo later before
+up_to_later : (frame later : ℕ) (before : List (ServiceChunk × ℕ)) → frame ≤ later → AreUpTo frame before → AreUpTo later before
 up_to_later frame later [] low all = tt
 up_to_later frame later (p ∷ ps) low all = (omega (arith, low, all.0), up_to_later frame later ps low all.1)
 
-up_to_push : (frame : ℕ) (before : List (Chunk × ℕ)) (u : Chunk) (f : ℕ) → AreUpTo frame before → f ≤ frame → AreUpTo frame (before ++ (u, f) ∷ [])
+up_to_push : (frame : ℕ) (before : List (ServiceChunk × ℕ)) (u : ServiceChunk) (f : ℕ) → AreUpTo frame before → f ≤ frame → AreUpTo frame (before ++ (u, f) ∷ [])
 up_to_push frame [] u f all low = (low, tt)
 up_to_push frame (p ∷ ps) u f all low = (all.0, up_to_push frame ps u f all.1 low)
 
-up_to_last : (frame : ℕ) (before : List (Chunk × ℕ)) (u : Chunk) (f : ℕ) → AreUpTo frame (before ++ (u, f) ∷ []) → f ≤ frame
+up_to_last : (frame : ℕ) (before : List (ServiceChunk × ℕ)) (u : ServiceChunk) (f : ℕ) → AreUpTo frame (before ++ (u, f) ∷ []) → f ≤ frame
 up_to_last frame [] u f all = all.0
 up_to_last frame (p ∷ ps) u f all = up_to_last frame ps u f all.1
 
 -- behind its last unit stands no frame before that unit's
-pub last_is_first : (before : List (Chunk × ℕ)) (u : Chunk) (f : ℕ) → IsFirstBehind (before ++ (u, f) ∷ []) f
+pub last_is_first : (before : List (ServiceChunk × ℕ)) (u : ServiceChunk) (f : ℕ) → IsFirstBehind (before ++ (u, f) ∷ []) f
 last_is_first before u f other all = up_to_last other before u f all
 
 -- units up to a frame have nothing behind it
 between_behind : (from to frame f : ℕ) → f ≤ frame → frame < from → is_between from to f ≡ false
 between_behind from to frame f low behind = grind (arith, nat_tests)
 
-none_behind : (from to frame : ℕ) (before : List (Chunk × ℕ)) → AreUpTo frame before → frame < from → used from to before ≡ 0
+none_behind : (from to frame : ℕ) (before : List (ServiceChunk × ℕ)) → AreUpTo frame before → frame < from → used from to before ≡ 0
 none_behind from to frame [] all behind = refl
 none_behind from to frame (p ∷ ps) all behind =
     let none : is_between from to p.1 ≡ false = between_behind from to frame p.1 all.0 behind in
@@ -47,7 +47,7 @@ none_behind from to frame (p ∷ ps) all behind =
     omega (arith, whole, here, rest)
 
 -- the budget of the next frame
-pub budget_next : (r : Rate) (frames : ℕ) (cs : List Caption) (before : List (Chunk × ℕ)) (frame : ℕ) (former : Option Budget) → AreKept r frames cs
+pub budget_next : (r : Rate) (frames : ℕ) (cs : List Caption) (before : List (ServiceChunk × ℕ)) (frame : ℕ) (former : Option Budget) → AreKept r frames cs
     → AreUpTo frame before → IsBudgetAt cs before frame former
     → IsBudgetAt cs before (frame + 1) (budget_in former (delay_end cs (frame + 1)) (frame + 1))
 budget_next r frames cs before frame former kept order is = at former (delay_end cs (frame + 1)) refl is
@@ -94,7 +94,7 @@ budget_next r frames cs before frame former kept order is = at former (delay_end
     at (Some budget) None none is = on budget (nat_lt (frame + 1) budget.end) refl is none
 
 -- what the next frame has left
-pub front_next : (r : Rate) (frames share : ℕ) (cs : List Caption) (before : List (Chunk × ℕ)) (old new : Front) → AreKept r frames cs → IsFront share cs before old
+pub front_next : (r : Rate) (frames share : ℕ) (cs : List Caption) (before : List (ServiceChunk × ℕ)) (old new : Front) → AreKept r frames cs → IsFront share cs before old
     → new.frame ≡ old.frame + 1 → IsLatestAt cs (old.frame + 1) new.latest → new.room + length (event_bytes (old.frame + 1) cs) ≡ share
     → new.budget ≡ budget_in old.budget (delay_end cs (old.frame + 1)) (old.frame + 1) → IsFront share cs before new
 front_next r frames share cs before old new kept front frame at room budget = record {
@@ -129,7 +129,7 @@ front_first r frames share cs new kept frame at room budget = record {
         absurd (let e : Some end ≡ None = sym delay ∙ ap (delay_end cs) now ∙ none in cc)
 
 -- what fits the room of the frame and what is left of its delay is allowed there
-pub allowed_now : (r : Rate) (frames share : ℕ) (cs : List Caption) (before : List (Chunk × ℕ)) (front : Front) (chunk : Chunk) → AreKept r frames cs
+pub allowed_now : (r : Rate) (frames share : ℕ) (cs : List Caption) (before : List (ServiceChunk × ℕ)) (front : Front) (chunk : ServiceChunk) → AreKept r frames cs
     → IsFront share cs before front → front.frame < chunk.until → (nat_le chunk.load front.frame && takes front (chunk_size chunk)) ≡ true
     → caption_lane share cs before chunk front.frame
 allowed_now r frames share cs before front chunk kept is until admitted =
@@ -162,7 +162,7 @@ both_hold true false p q = q
 both_hold false b p q = p
 
 -- and what is allowed there fits
-pub allowed_fits : (share : ℕ) (cs : List Caption) (before : List (Chunk × ℕ)) (front : Front) (chunk : Chunk)
+pub allowed_fits : (share : ℕ) (cs : List Caption) (before : List (ServiceChunk × ℕ)) (front : Front) (chunk : ServiceChunk)
     → IsFront share cs before front → caption_lane share cs before chunk front.frame
     → (nat_le chunk.load front.frame && takes front (chunk_size chunk)) ≡ true
 allowed_fits share cs before front chunk is allowed =
@@ -181,21 +181,21 @@ allowed_fits share cs before front chunk is allowed =
         grind (arith, nat_tests)
 
 -- one more placed unit has what it has
-used_push : (from to : ℕ) (before : List (Chunk × ℕ)) (u : Chunk) (f : ℕ)
+used_push : (from to : ℕ) (before : List (ServiceChunk × ℕ)) (u : ServiceChunk) (f : ℕ)
     → used from to (before ++ (u, f) ∷ []) ≡ used from to before + bytes_between from to (u, f)
 used_push from to before u f = sum_by_push (bytes_between from to) before (u, f)
 
 in_batch : (from to f : ℕ) → from ≤ f → f < to → is_between from to f ≡ true
 in_batch from to f low high = grind (arith, nat_tests)
 
-used_more : (from to : ℕ) (before : List (Chunk × ℕ)) (u : Chunk) (f : ℕ) → from ≤ f → f < to
+used_more : (from to : ℕ) (before : List (ServiceChunk × ℕ)) (u : ServiceChunk) (f : ℕ) → from ≤ f → f < to
     → used from to (before ++ (u, f) ∷ []) ≡ used from to before + chunk_size u
 used_more from to before u f low high =
     let here : bytes_between from to (u, f) ≡ chunk_size u = let is = in_batch from to f low high in rw is refl in
     used_push from to before u f ∙ ap (λ n. used from to before + n) here
 
 -- the front behind a unit that its frame takes
-pub front_push : (share : ℕ) (cs : List Caption) (before : List (Chunk × ℕ)) (front : Front) (chunk : Chunk) → IsFront share cs before front
+pub front_push : (share : ℕ) (cs : List Caption) (before : List (ServiceChunk × ℕ)) (front : Front) (chunk : ServiceChunk) → IsFront share cs before front
     → takes front (chunk_size chunk) ≡ true → IsFront share cs (before ++ (chunk, front.frame) ∷ []) (behind_taking front (chunk_size chunk))
 front_push share cs before front chunk is taken =
     let fits = and_parts (nat_le (chunk_size chunk) front.room) (has_left front.budget (chunk_size chunk)) taken in

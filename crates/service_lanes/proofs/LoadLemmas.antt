@@ -10,7 +10,7 @@ use Rattle.std.proofs.lemmas.List.Concat.{flat_map-append}
 use Rattle.service_lanes.specs.CueChunks.{chunk_bytes}
 use Rattle.service_lanes.specs.ServiceBytes.{AreFramesFrom, IsLoading, loads_at}
 use Rattle.service_lanes.specs.Batches.{AreBatches, bytes_of_first, frames_from, batch_frames}
-use Rattle.service_lanes.specs.Chunks.{Chunk}
+use Rattle.service_lanes.specs.Chunks.{ServiceChunk}
 use Rattle.service_lanes.specs.declared.cursor.Cursor.{Cursor}
 use Rattle.service_lanes.specs.declared.batch.Batch.{Batch}
 use Rattle.service_lanes.proofs.BatchLemmas.{frames_ascend}
@@ -19,7 +19,7 @@ later_frame : (f frame : ℕ) → frame < f → (f == frame) ≡ false
 later_frame f frame high = grind (arith, nat_tests)
 
 -- units that stand behind the frame have none in it
-loads_none : (us : List Chunk) (fs : List ℕ) (frame : ℕ) → AreFramesFrom (frame + 1) fs → loads_at (zip us fs) frame ≡ []
+loads_none : (us : List ServiceChunk) (fs : List ℕ) (frame : ℕ) → AreFramesFrom (frame + 1) fs → loads_at (zip us fs) frame ≡ []
 loads_none [] fs frame from = refl
 loads_none (u ∷ us) [] frame from = refl
 loads_none (u ∷ us) (f ∷ fs) frame from =
@@ -31,7 +31,7 @@ loads_none (u ∷ us) (f ∷ fs) frame from =
     later (g ∷ gs) rest = (omega (arith, from.0, rest.0), rest.1)
 
 -- the units of a batch have all of their bytes in its frame, and none in another
-loads_batch : (count f frame : ℕ) (us : List Chunk) (gs : List ℕ) → count ≤ length us
+loads_batch : (count f frame : ℕ) (us : List ServiceChunk) (gs : List ℕ) → count ≤ length us
     → loads_at (zip us (replicate count f ++ gs)) frame
     ≡ (if f == frame then flat_map chunk_bytes (take count us) else []) ++ loads_at (zip (drop count us) gs) frame
 loads_batch zero f frame us gs few = at (f == frame)
@@ -49,13 +49,13 @@ loads_batch (suc count) f frame (u ∷ us) gs few =
     join false = refl
 
 -- the bytes of the units from one place to another stand together
-record IsPart (chunks : List Chunk) (from to : ℕ) : Type 0 where
+record IsPart (chunks : List ServiceChunk) (from to : ℕ) : Type 0 where
   pub order : bytes_of_first from chunks ≤ bytes_of_first to chunks
   pub within : bytes_of_first to chunks ≤ length (flat_map chunk_bytes chunks)
   pub bytes : take (bytes_of_first to chunks - bytes_of_first from chunks) (drop (bytes_of_first from chunks) (flat_map chunk_bytes chunks))
       ≡ flat_map chunk_bytes (take (to - from) (drop from chunks))
 
-is_part : (chunks : List Chunk) (from to : ℕ) → from ≤ to → IsPart chunks from to
+is_part : (chunks : List ServiceChunk) (from to : ℕ) → from ≤ to → IsPart chunks from to
 is_part chunks from to low = record {
   order = omega (arith, longer);
   within = omega (arith, longer, ap length whole, length-append before (mine ++ behind), length-append mine behind);
@@ -102,13 +102,13 @@ is_part chunks from to low = record {
         (flat_map chunk_bytes (take (to - from) (drop from chunks)) ++ flat_map chunk_bytes (drop (to - from) (drop from chunks))) (bytes_of_first from chunks) refl
 
 -- the cursor's next batch is in its frame
-pub record IsLoaded (chunks : List Chunk) (batches : List Batch) (cursor : Cursor) (s : Batch) : Type 0 where
+pub record IsLoaded (chunks : List ServiceChunk) (batches : List Batch) (cursor : Cursor) (s : Batch) : Type 0 where
   pub order : cursor.start ≤ s.bytes
   pub within : s.bytes ≤ length (flat_map chunk_bytes chunks)
   pub bytes : take (s.bytes - cursor.start) (drop cursor.start (flat_map chunk_bytes chunks)) ≡ loads_at (zip chunks (batch_frames batches)) cursor.frame
   pub behind : IsLoading chunks batches (record cursor { frame = cursor.frame + 1; next = cursor.next + 1; start = s.bytes })
 
-pub is_loaded : (chunks : List Chunk) (batches : List Batch) (cursor : Cursor) (s : Batch) → IsLoading chunks batches cursor
+pub is_loaded : (chunks : List ServiceChunk) (batches : List Batch) (cursor : Cursor) (s : Batch) → IsLoading chunks batches cursor
     → cursor.next < length batches → s ≡ get_or batches cursor.next s → s.frame ≡ cursor.frame → IsLoaded chunks batches cursor s
 is_loaded chunks batches cursor s is there read here = record {
   order = omega (arith, part.order, is.start, bytes_are);
@@ -170,11 +170,11 @@ is_loaded chunks batches cursor s is there read here = record {
         ∙ rw (same, none) (append-nil (flat_map chunk_bytes (take (s.units - is.passed) (drop is.passed chunks))))
 
 -- no batch is left, or the next one is in a later frame
-pub record IsUnloaded (chunks : List Chunk) (batches : List Batch) (cursor : Cursor) : Type 0 where
+pub record IsUnloaded (chunks : List ServiceChunk) (batches : List Batch) (cursor : Cursor) : Type 0 where
   pub none : loads_at (zip chunks (batch_frames batches)) cursor.frame ≡ []
   pub behind : IsLoading chunks batches (record cursor { frame = cursor.frame + 1 })
 
-unloaded_by : (chunks : List Chunk) (batches : List Batch) (cursor : Cursor) (is : IsLoading chunks batches cursor)
+unloaded_by : (chunks : List ServiceChunk) (batches : List Batch) (cursor : Cursor) (is : IsLoading chunks batches cursor)
     → AreBatches chunks (cursor.frame + 1) is.passed (drop cursor.next batches) → IsUnloaded chunks batches cursor
 unloaded_by chunks batches cursor is ahead = record {
   none = is.same cursor.frame (omega arith)
@@ -188,12 +188,12 @@ unloaded_by chunks batches cursor is ahead = record {
   };
 }
 
-pub all_loaded : (chunks : List Chunk) (batches : List Batch) (cursor : Cursor) → IsLoading chunks batches cursor → length batches ≤ cursor.next
+pub all_loaded : (chunks : List ServiceChunk) (batches : List Batch) (cursor : Cursor) → IsLoading chunks batches cursor → length batches ≤ cursor.next
     → IsUnloaded chunks batches cursor
 all_loaded chunks batches cursor is end =
     unloaded_by chunks batches cursor is (subst (AreBatches chunks (cursor.frame + 1) is.passed) (sym (drop_all cursor.next batches end)) tt)
 
-pub not_yet : (chunks : List Chunk) (batches : List Batch) (cursor : Cursor) (s : Batch) → IsLoading chunks batches cursor
+pub not_yet : (chunks : List ServiceChunk) (batches : List Batch) (cursor : Cursor) (s : Batch) → IsLoading chunks batches cursor
     → cursor.next < length batches → s ≡ get_or batches cursor.next s → (s.frame ≡ cursor.frame → ⊥) → IsUnloaded chunks batches cursor
 not_yet chunks batches cursor s is there read other =
     let next : drop cursor.next batches ≡ s ∷ drop (cursor.next + 1) batches =
@@ -204,7 +204,7 @@ not_yet chunks batches cursor s is there read other =
     (subst (AreBatches chunks (cursor.frame + 1) is.passed) (sym next) (omega (arith, ahead.0, other), ahead.1, ahead.2, ahead.3, ahead.4))
 
 -- the cursor at the beginning
-pub loading_start : (chunks : List Chunk) (batches : List Batch) (cursor : Cursor) → AreBatches chunks 0 0 batches → cursor.frame ≡ 0 → cursor.next ≡ 0
+pub loading_start : (chunks : List ServiceChunk) (batches : List Batch) (cursor : Cursor) → AreBatches chunks 0 0 batches → cursor.frame ≡ 0 → cursor.next ≡ 0
     → cursor.start ≡ 0 → IsLoading chunks batches cursor
 loading_start chunks batches cursor are frame next start = record {
   passed = 0;

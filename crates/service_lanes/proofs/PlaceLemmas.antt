@@ -16,21 +16,21 @@ use Rattle.placements.specs.Placing.{IsEarliest, IsPlaced}
 use Rattle.placements.proofs.LaneRoomLemmas.{no_room_at}
 use Rattle.placements.proofs.PlacingLemmas.{zip_push}
 use Rattle.service_lanes.specs.ServiceBytes.{AreFramesFrom, loads_at}
-use Rattle.service_lanes.specs.ServiceChunks.{chunk_cue}
+use Rattle.service_lanes.specs.ServiceChunks.{service_chunk_cue}
 use Rattle.service_lanes.specs.ServiceLane.{AreUpTo, bytes_between, chunk_size, is_between, used}
 use Rattle.service_lanes.specs.ServicePlacing.{Reaches}
 use Rattle.service_lanes.specs.ServicePlan.{IsWithinShare}
 use Rattle.service_lanes.specs.ServiceRoom.{IsFirstBehind, IsFront, caption_lane, frame_room}
-use Rattle.service_lanes.specs.Chunks.{Chunk}
+use Rattle.service_lanes.specs.Chunks.{ServiceChunk}
 use Rattle.service_lanes.specs.declared.front.Front.{Front}
 use Rattle.service_lanes.proofs.FrontLemmas.{last_is_first}
 use Rattle.service_lanes.proofs.ServiceLaneLemmas.{chunks_fit_earlier, chunks_one_more, placed_within}
 
 -- one more of the lane's units is placed
-pub reaches_next : (share : ℕ) (cs : List Caption) (us : List Chunk) (k : ℕ) (d : Chunk) (frames : List ℕ) (old new : Front) (f : ℕ) → k < length us
+pub reaches_next : (share : ℕ) (cs : List Caption) (us : List ServiceChunk) (k : ℕ) (d : ServiceChunk) (frames : List ℕ) (old new : Front) (f : ℕ) → k < length us
     → Reaches share cs (take k us) frames old
-    → ((before : List (Chunk × ℕ)) → IsFront share cs before old → IsFirstBehind before old.frame → IsFirst (caption_lane share cs before (get_or us k d)) f)
-    → ((before : List (Chunk × ℕ)) → IsFront share cs before old → IsFront share cs (before ++ (get_or us k d, f) ∷ []) new)
+    → ((before : List (ServiceChunk × ℕ)) → IsFront share cs before old → IsFirstBehind before old.frame → IsFirst (caption_lane share cs before (get_or us k d)) f)
+    → ((before : List (ServiceChunk × ℕ)) → IsFront share cs before old → IsFront share cs (before ++ (get_or us k d, f) ∷ []) new)
     → new.frame ≡ f → Reaches share cs (take (k + 1) us) (frames ++ f ∷ []) new
 reaches_next share cs us k d frames old new f within r first front at =
     let u = get_or us k d in
@@ -47,16 +47,16 @@ reaches_next share cs us k d frames old new f within r first front at =
     subst (λ l. Reaches share cs l (frames ++ f ∷ []) new) (sym (take_more us k d within)) more
 
 -- where no frame is allowed for the next unit, its cue is the first without room
-pub reaches_none : (share : ℕ) (cs : List Caption) (us : List Chunk) (k : ℕ) (d : Chunk) (frames : List ℕ) (old : Front) → AreInCueOrder chunk_cue us → k < length us
+pub reaches_none : (share : ℕ) (cs : List Caption) (us : List ServiceChunk) (k : ℕ) (d : ServiceChunk) (frames : List ℕ) (old : Front) → AreInCueOrder service_chunk_cue us → k < length us
     → Reaches share cs (take k us) frames old
-    → ((before : List (Chunk × ℕ)) → IsFront share cs before old → IsFirstBehind before old.frame → (f : ℕ) → caption_lane share cs before (get_or us k d) f → ⊥)
-    → IsFirstCrowded (caption_lane share cs) chunk_cue us (get_or us k d).cue
+    → ((before : List (ServiceChunk × ℕ)) → IsFront share cs before old → IsFirstBehind before old.frame → (f : ℕ) → caption_lane share cs before (get_or us k d) f → ⊥)
+    → IsFirstCrowded (caption_lane share cs) service_chunk_cue us (get_or us k d).cue
 reaches_none share cs us k d frames old order within r nowhere =
-    no_room_at chunk_cue (caption_lane share cs) (chunks_fit_earlier (frame_room share cs) (delay_end cs)) us k d frames order within r.earliest
+    no_room_at service_chunk_cue (caption_lane share cs) (chunks_fit_earlier (frame_room share cs) (delay_end cs)) us k d frames order within r.earliest
     (take_more us k d within) (nowhere (zip (take k us) frames) r.front_is r.first)
 
 -- all of the lane's units are placed
-pub reaches_all : (share : ℕ) (cs : List Caption) (us : List Chunk) (k : ℕ) (frames : List ℕ) (front : Front) → length us ≤ k
+pub reaches_all : (share : ℕ) (cs : List Caption) (us : List ServiceChunk) (k : ℕ) (frames : List ℕ) (front : Front) → length us ≤ k
     → Reaches share cs (take k us) frames front → IsEarliest (caption_lane share cs) us frames
 reaches_all share cs us k frames front end r = subst (λ l. IsEarliest (caption_lane share cs) l frames) (take_all k us end) r.earliest
 
@@ -107,7 +107,7 @@ between_frame f frame = at (f == frame) refl
     at true is = grind (arith, nat_tests)
     at false is = grind (arith, nat_tests)
 
-loads_used : (placed : List (Chunk × ℕ)) (frame : ℕ) → length (loads_at placed frame) ≡ used frame (frame + 1) placed
+loads_used : (placed : List (ServiceChunk × ℕ)) (frame : ℕ) → length (loads_at placed frame) ≡ used frame (frame + 1) placed
 loads_used [] frame = refl
 loads_used ((u, f) ∷ placed) frame =
     let rest = loads_used placed frame in
@@ -122,7 +122,7 @@ loads_used ((u, f) ∷ placed) frame =
     size false = refl
 
 -- no frame has more bytes than the share
-pub within_share : (share : ℕ) (cs : List Caption) (us : List Chunk) (frames : List ℕ) → 8 ≤ share → IsPlaced (caption_lane share cs) [] us frames
+pub within_share : (share : ℕ) (cs : List Caption) (us : List ServiceChunk) (frames : List ℕ) → 8 ≤ share → IsPlaced (caption_lane share cs) [] us frames
     → IsWithinShare share cs us frames
 within_share share cs us frames least placed frame =
     let most = (placed_within (frame_room share cs) (delay_end cs) us frames placed).frames frame in
@@ -131,12 +131,12 @@ within_share share cs us frames least placed frame =
     let whole = length-append (event_bytes frame cs) (loads_at (zip us frames) frame) in
     omega (arith, most, few, loads, whole, least)
 
-up_to_last : (frame : ℕ) (before : List (Chunk × ℕ)) (u : Chunk) (f : ℕ) → AreUpTo frame (before ++ (u, f) ∷ []) → f ≤ frame
+up_to_last : (frame : ℕ) (before : List (ServiceChunk × ℕ)) (u : ServiceChunk) (f : ℕ) → AreUpTo frame (before ++ (u, f) ∷ []) → f ≤ frame
 up_to_last frame [] u f all = all.0
 up_to_last frame (p ∷ ps) u f all = up_to_last frame ps u f all.1
 
 -- the frames of a placement are in order
-pub frames_rise : (share : ℕ) (cs : List Caption) (before : List (Chunk × ℕ)) (us : List Chunk) (frames : List ℕ) (from : ℕ)
+pub frames_rise : (share : ℕ) (cs : List Caption) (before : List (ServiceChunk × ℕ)) (us : List ServiceChunk) (frames : List ℕ) (from : ℕ)
     → ((frame : ℕ) → AreUpTo frame before → from ≤ frame) → IsPlaced (caption_lane share cs) before us frames → AreFramesFrom from frames
 frames_rise share cs before [] [] from low placed = tt
 frames_rise share cs before [] (f ∷ fs) from low placed = absurd placed

@@ -7,11 +7,11 @@ use Rattle.placements.specs.FirstFit.{IsFirst}
 use Rattle.placements.specs.LaneRoom.{AreInCueOrder, IsFirstCrowded}
 use Rattle.placements.specs.Placing.{IsEarliest}
 use Rattle.service_lanes.specs.CueChunks.{chunk_in}
-use Rattle.service_lanes.specs.ServiceChunks.{chunk_cue}
+use Rattle.service_lanes.specs.ServiceChunks.{service_chunk_cue}
 use Rattle.service_lanes.specs.ServicePlacing.{IsOfCue, IsPlacing, Reaches, batches_of}
 use Rattle.service_lanes.specs.ServiceRoom.{IsFirstBehind, IsFront, caption_lane}
 use Rattle.service_lanes.specs.Batches.{AreBatches, bytes_of_first, batch_frames}
-use Rattle.service_lanes.specs.Chunks.{Chunk}
+use Rattle.service_lanes.specs.Chunks.{ServiceChunk}
 use Rattle.service_lanes.specs.declared.cue_load.CueLoad.{CueLoad}
 use Rattle.service_lanes.specs.declared.front.Front.{Front}
 use Rattle.service_lanes.specs.declared.placing.Placing.{Placing}
@@ -20,17 +20,17 @@ use Rattle.service_lanes.proofs.PlaceLemmas.{reaches_all, reaches_next, reaches_
 use Rattle.service_lanes.proofs.BatchLemmas.{bytes_of_more, frames_grow, frames_more, is_last, batches_grow, batches_more}
 
 -- what placing the next unit of a cue gave
-pub record IsPlaced (share : ℕ) (cs : List Caption) (chunk : Chunk) (old new : Front) (frame : ℕ) : Type 0 where
-  pub first : (before : List (Chunk × ℕ)) → IsFront share cs before old → IsFirstBehind before old.frame → IsFirst (caption_lane share cs before chunk) frame
-  pub front : (before : List (Chunk × ℕ)) → IsFront share cs before old → IsFront share cs (before ++ (chunk, frame) ∷ []) new
+pub record IsPlaced (share : ℕ) (cs : List Caption) (chunk : ServiceChunk) (old new : Front) (frame : ℕ) : Type 0 where
+  pub first : (before : List (ServiceChunk × ℕ)) → IsFront share cs before old → IsFirstBehind before old.frame → IsFirst (caption_lane share cs before chunk) frame
+  pub front : (before : List (ServiceChunk × ℕ)) → IsFront share cs before old → IsFront share cs (before ++ (chunk, frame) ∷ []) new
   pub at : new.frame ≡ frame
 
 -- the units so far and one more
-module _ (share : ℕ) (cs : List Caption) (us : List Chunk) (cue : CueLoad) (units : List (List ℕ)) (ss : List Batch) (s t : Batch) (old new : Front)
+module _ (share : ℕ) (cs : List Caption) (us : List ServiceChunk) (cue : CueLoad) (units : List (List ℕ)) (ss : List Batch) (s t : Batch) (old new : Front)
     (reaches : Reaches share cs (take s.units us) (batch_frames (ss ++ s ∷ [])) old) (are : AreBatches us 0 0 (ss ++ s ∷ [])) (same : s.frame ≡ old.frame)
     (of_cue : IsOfCue cue units us s.units) (placed : IsPlaced share cs (chunk_in cue (get_or units s.units [])) old new t.frame)
     (more : t.units ≡ s.units + 1) (bytes : t.bytes ≡ s.bytes + length (get_or units s.units [])) where
-  chunk : Chunk
+  chunk : ServiceChunk
   chunk = chunk_in cue (get_or units s.units [])
 
   -- the unit's frame isn't before that of the units before it
@@ -43,7 +43,7 @@ module _ (share : ℕ) (cs : List Caption) (us : List Chunk) (cue : CueLoad) (un
   sized : t.bytes ≡ bytes_of_first t.units us
   sized =
       let d = chunk_in cue (get_or units s.units []) in
-      let unit : length (get_or us s.units d).unit ≡ length (get_or units s.units []) = ap (λ (c : Chunk). length c.unit) (of_cue.is d) in
+      let unit : length (get_or us s.units d).unit ≡ length (get_or units s.units []) = ap (λ (c : ServiceChunk). length c.unit) (of_cue.is d) in
       let last = is_last us 0 0 ss s are in
       bytes ∙ ap (λ n. n + length (get_or units s.units [])) last.bytes
       ∙ ap (λ n. bytes_of_first s.units us + n) (sym unit) ∙ sym (bytes_of_more us s.units d of_cue.within) ∙ ap (λ n. bytes_of_first n us) (sym more)
@@ -52,9 +52,9 @@ module _ (share : ℕ) (cs : List Caption) (us : List Chunk) (cue : CueLoad) (un
   reached =
       let d = chunk_in cue (get_or units s.units []) in
       reaches_next share cs us s.units d (batch_frames (ss ++ s ∷ [])) old new t.frame of_cue.within reaches
-      (subst (λ u. (before : List (Chunk × ℕ)) → IsFront share cs before old → IsFirstBehind before old.frame → IsFirst (caption_lane share cs before u) t.frame)
+      (subst (λ u. (before : List (ServiceChunk × ℕ)) → IsFront share cs before old → IsFirstBehind before old.frame → IsFirst (caption_lane share cs before u) t.frame)
       (sym (of_cue.is d)) placed.first)
-      (subst (λ u. (before : List (Chunk × ℕ)) → IsFront share cs before old → IsFront share cs (before ++ (u, t.frame) ∷ []) new) (sym (of_cue.is d)) placed.front)
+      (subst (λ u. (before : List (ServiceChunk × ℕ)) → IsFront share cs before old → IsFront share cs (before ++ (u, t.frame) ∷ []) new) (sym (of_cue.is d)) placed.front)
       placed.at
 
   -- it stands in the frame of the last batch
@@ -78,21 +78,21 @@ module _ (share : ℕ) (cs : List Caption) (us : List Chunk) (cue : CueLoad) (un
   )
 
 -- where no frame is allowed for the next unit, its cue is the first without room
-pub placing_none : (share : ℕ) (cs : List Caption) (us : List Chunk) (cue : CueLoad) (units : List (List ℕ)) (index : ℕ) (frames : List ℕ) (old : Front)
-    → AreInCueOrder chunk_cue us → Reaches share cs (take index us) frames old → IsOfCue cue units us index
-    → ((before : List (Chunk × ℕ)) → IsFront share cs before old → IsFirstBehind before old.frame → (frame : ℕ)
+pub placing_none : (share : ℕ) (cs : List Caption) (us : List ServiceChunk) (cue : CueLoad) (units : List (List ℕ)) (index : ℕ) (frames : List ℕ) (old : Front)
+    → AreInCueOrder service_chunk_cue us → Reaches share cs (take index us) frames old → IsOfCue cue units us index
+    → ((before : List (ServiceChunk × ℕ)) → IsFront share cs before old → IsFirstBehind before old.frame → (frame : ℕ)
     → caption_lane share cs before (chunk_in cue (get_or units index [])) frame → ⊥)
-    → IsFirstCrowded (caption_lane share cs) chunk_cue us cue.cue
+    → IsFirstCrowded (caption_lane share cs) service_chunk_cue us cue.cue
 placing_none share cs us cue units index frames old order reaches of_cue nowhere =
     let d = chunk_in cue (get_or units index []) in
-    let named : (get_or us index d).cue ≡ cue.cue = ap chunk_cue (of_cue.is d) in
-    subst (IsFirstCrowded (caption_lane share cs) chunk_cue us) named
+    let named : (get_or us index d).cue ≡ cue.cue = ap service_chunk_cue (of_cue.is d) in
+    subst (IsFirstCrowded (caption_lane share cs) service_chunk_cue us) named
     (reaches_none share cs us index d frames old order of_cue.within reaches
-    (subst (λ u. (before : List (Chunk × ℕ)) → IsFront share cs before old → IsFirstBehind before old.frame → (f : ℕ) → caption_lane share cs before u f → ⊥)
+    (subst (λ u. (before : List (ServiceChunk × ℕ)) → IsFront share cs before old → IsFirstBehind before old.frame → (f : ℕ) → caption_lane share cs before u f → ⊥)
     (sym (of_cue.is d)) nowhere))
 
 -- the next unit is placed, and its batch is the last one
-pub placing_next : (share : ℕ) (cs : List Caption) (us : List Chunk) (cue : CueLoad) (units : List (List ℕ)) (old new : Placing) (t : Batch)
+pub placing_next : (share : ℕ) (cs : List Caption) (us : List ServiceChunk) (cue : CueLoad) (units : List (List ℕ)) (old new : Placing) (t : Batch)
     → IsPlacing share cs us old → IsOfCue cue units us old.last.units
     → IsPlaced share cs (chunk_in cue (get_or units old.last.units [])) old.front new.front t.frame → t.units ≡ old.last.units + 1
     → t.bytes ≡ old.last.bytes + length (get_or units old.last.units []) → new.last ≡ t
@@ -123,7 +123,7 @@ placing_next share cs us cue units old new t is of_cue placed more bytes last gr
     }
 
 -- all units are placed
-pub placing_all : (share : ℕ) (cs : List Caption) (us : List Chunk) (placing : Placing) (ss : List Batch) → IsPlacing share cs us placing
+pub placing_all : (share : ℕ) (cs : List Caption) (us : List ServiceChunk) (placing : Placing) (ss : List Batch) → IsPlacing share cs us placing
     → length us ≤ placing.last.units → ss ≡ batches_of placing → IsEarliest (caption_lane share cs) us (batch_frames ss) × AreBatches us 0 0 ss
 placing_all share cs us placing ss is end are = (
   subst (λ l. IsEarliest (caption_lane share cs) us (batch_frames l)) (sym are)

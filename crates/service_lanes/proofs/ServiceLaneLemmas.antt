@@ -4,7 +4,7 @@ use Rattle.std.specs.Prelude.{Option, Some, if◌then◌else◌}
 use Rattle.std.specs.List.{zip}
 use Rattle.std.proofs.lemmas.Bool.Decides.{nat_tests}
 use Rattle.std.proofs.lemmas.List.Sums.{sum_by-cons, sum_by_push}
-use Rattle.service_lanes.specs.Chunks.{Chunk}
+use Rattle.service_lanes.specs.Chunks.{ServiceChunk}
 use Rattle.placements.specs.FirstFit.{EarliestIsFirstFit}
 use Rattle.placements.specs.OneMore.{FitsEarlier, OneMore}
 use Rattle.placements.specs.Placing.{IsPlaced, IsEarliest, NoLater}
@@ -13,7 +13,7 @@ use Rattle.placements.proofs.FirstFitLemmas.{earliest_is_first_fit}
 use Rattle.placements.proofs.PlacingLemmas.{one_more}
 
 -- units that stand no later are up to a frame where the others are
-up_to_earlier : (g : ℕ) (us : List Chunk) (fs gs : List ℕ) → NoLater fs gs → AreUpTo g (zip us gs) → AreUpTo g (zip us fs)
+up_to_earlier : (g : ℕ) (us : List ServiceChunk) (fs gs : List ℕ) → NoLater fs gs → AreUpTo g (zip us gs) → AreUpTo g (zip us fs)
 up_to_earlier g [] fs gs low all = tt
 up_to_earlier g (u ∷ us) [] gs low all = tt
 up_to_earlier g (u ∷ us) (f ∷ fs) [] low all = absurd low
@@ -24,7 +24,7 @@ between_later : (from to f h g : ℕ) → f ≤ h → h ≤ g → g < to → is_
 between_later from to f h g low high below is = grind (arith, nat_tests)
 
 -- so a unit has in the batch what it has where it stands later
-bytes_earlier : (from to g : ℕ) (u : Chunk) (f h : ℕ) → f ≤ h → h ≤ g → g < to → bytes_between from to (u, f) ≤ bytes_between from to (u, h)
+bytes_earlier : (from to g : ℕ) (u : ServiceChunk) (f h : ℕ) → f ≤ h → h ≤ g → g < to → bytes_between from to (u, f) ≤ bytes_between from to (u, h)
 bytes_earlier from to g u f h low high below = at (is_between from to f) (is_between from to h) refl refl
   where
     at : (b c : Bool) → is_between from to f ≡ b → is_between from to h ≡ c
@@ -35,7 +35,7 @@ bytes_earlier from to g u f h low high below = at (is_between from to f) (is_bet
     at true false p q = let both = between_later from to f h g low high below p in cc
 
 -- and all together
-used_earlier : (from to g : ℕ) (us : List Chunk) (fs gs : List ℕ) → NoLater fs gs → AreUpTo g (zip us gs) → g < to
+used_earlier : (from to g : ℕ) (us : List ServiceChunk) (fs gs : List ℕ) → NoLater fs gs → AreUpTo g (zip us gs) → g < to
     → used from to (zip us fs) ≤ used from to (zip us gs)
 used_earlier from to g [] fs gs low all below = omega arith
 used_earlier from to g (u ∷ us) [] [] low all below = omega arith
@@ -63,7 +63,7 @@ chunks_fit_earlier room ends us fs gs u g p q low a = record {
 }
 
 -- the law of one more unit in a service's lane
-pub chunks_one_more : (room : ℕ → ℕ) (ends : ℕ → Option ℕ) (us : List Chunk) (fs : List ℕ) (u : Chunk)
+pub chunks_one_more : (room : ℕ → ℕ) (ends : ℕ → Option ℕ) (us : List ServiceChunk) (fs : List ℕ) (u : ServiceChunk)
     → IsEarliest (service_lane room ends) us fs → OneMore (service_lane room ends) us fs u
 chunks_one_more room ends us fs u e = one_more (service_lane room ends) (chunks_fit_earlier room ends) us fs u e
 
@@ -72,7 +72,7 @@ pub chunks_first_fit : (room : ℕ → ℕ) (ends : ℕ → Option ℕ) → Earl
 chunks_first_fit room ends = earliest_is_first_fit (service_lane room ends) (chunks_fit_earlier room ends)
 
 -- one more placed unit has what it has
-used_push : (from to : ℕ) (before : List (Chunk × ℕ)) (u : Chunk) (f : ℕ)
+used_push : (from to : ℕ) (before : List (ServiceChunk × ℕ)) (u : ServiceChunk) (f : ℕ)
     → used from to (before ++ (u, f) ∷ []) ≡ used from to before + bytes_between from to (u, f)
 used_push from to before u f = sum_by_push (bytes_between from to) before (u, f)
 
@@ -84,7 +84,7 @@ between_parts : (from to f : ℕ) → is_between from to f ≡ true → (from �
 between_parts from to f is = (grind (arith, nat_tests), grind (arith, nat_tests))
 
 -- one more unit where it is allowed keeps within the room
-within_push : (room : ℕ → ℕ) (ends : ℕ → Option ℕ) (before : List (Chunk × ℕ)) (u : Chunk) (f : ℕ) → IsWithinRoom room ends before
+within_push : (room : ℕ → ℕ) (ends : ℕ → Option ℕ) (before : List (ServiceChunk × ℕ)) (u : ServiceChunk) (f : ℕ) → IsWithinRoom room ends before
     → IsAllowedInService room ends before u f → IsWithinRoom room ends (before ++ (u, f) ∷ [])
 within_push room ends before u f within a = record {
   frames = λ frame. rw (used_push frame (frame + 1) before u f) (in_frame frame (is_between frame (frame + 1) f) refl);
@@ -103,7 +103,7 @@ within_push room ends before u f within a = record {
     in_delay start end is true p = let parts = between_parts start end f p in a.delayed start end is parts.0 parts.1
 
 -- so does each placement behind units that do
-within_behind : (room : ℕ → ℕ) (ends : ℕ → Option ℕ) (before : List (Chunk × ℕ)) (us : List Chunk) (fs : List ℕ) → IsWithinRoom room ends before
+within_behind : (room : ℕ → ℕ) (ends : ℕ → Option ℕ) (before : List (ServiceChunk × ℕ)) (us : List ServiceChunk) (fs : List ℕ) → IsWithinRoom room ends before
     → IsPlaced (service_lane room ends) before us fs → IsWithinRoom room ends (before ++ zip us fs)
 within_behind room ends before [] [] within p = subst (λ l. IsWithinRoom room ends l) (sym (append-nil before)) within
 within_behind room ends before [] (f ∷ fs) within p = absurd p

@@ -3,7 +3,7 @@
 use Rattle.std.specs.Prelude.{◌≡◌, ℕ, ◌+◌, ◌-◌, ◌≤◌, List, [], ◌∷◌, ◌++◌, ⊤, length, replicate, take}
 use Rattle.std.specs.List.{flat_map}
 use Rattle.service_lanes.specs.CueChunks.{chunk_bytes}
-use Rattle.service_lanes.specs.Chunks.{Chunk}
+use Rattle.service_lanes.specs.Chunks.{ServiceChunk}
 use Rattle.service_lanes.specs.declared.batch.Batch.{Batch}
 
 -- the frame of each unit, where so many units stand before
@@ -16,11 +16,11 @@ abbrev pub batch_frames : List Batch → List ℕ
 batch_frames batches = frames_from 0 batches
 
 -- the bytes of the first so many units
-abbrev pub bytes_of_first : ℕ → List Chunk → ℕ
+abbrev pub bytes_of_first : ℕ → List ServiceChunk → ℕ
 bytes_of_first count chunks = length (flat_map chunk_bytes (take count chunks))
 
 -- the batches stand in ascending frames, from one on, have units behind so many, and end with the bytes of their last unit
-abbrev pub AreBatches : List Chunk → ℕ → ℕ → List Batch → Type 0
+abbrev pub AreBatches : List ServiceChunk → ℕ → ℕ → List Batch → Type 0
 AreBatches chunks frame before [] = ⊤
 AreBatches chunks frame before (batch ∷ batches) =
     (frame ≤ batch.frame) × (before ≤ batch.units) × (batch.units ≤ length chunks)

@@ -8,16 +8,16 @@ use Rattle.dtvcc_author.specs.Kept.{AreKept}
 use Rattle.dtvcc_author.specs.Latest.{IsLatestAt}
 use Rattle.dtvcc_author.specs.declared.caption.Caption.{Caption}
 use Rattle.service_lanes.specs.Batches.{AreBatches, bytes_of_first, frames_from, batch_frames}
-use Rattle.service_lanes.specs.Chunks.{Chunk}
+use Rattle.service_lanes.specs.Chunks.{ServiceChunk}
 use Rattle.service_lanes.specs.declared.cursor.Cursor.{Cursor}
 use Rattle.service_lanes.specs.declared.batch.Batch.{Batch}
 
 -- the bytes of the units that stand in a frame
-abbrev pub loads_at : List (Chunk × ℕ) → ℕ → List ℕ
-loads_at placed frame = flat_map (λ (each : Chunk × ℕ). if each.1 == frame then each.0.unit else []) placed
+abbrev pub loads_at : List (ServiceChunk × ℕ) → ℕ → List ℕ
+loads_at placed frame = flat_map (λ (each : ServiceChunk × ℕ). if each.1 == frame then each.0.unit else []) placed
 
 -- the bytes of a frame
-abbrev pub bytes_in : List Caption → List (Chunk × ℕ) → ℕ → List ℕ
+abbrev pub bytes_in : List Caption → List (ServiceChunk × ℕ) → ℕ → List ℕ
 bytes_in cs placed frame = event_bytes frame cs ++ loads_at placed frame
 
 -- the frames are in order, from one on
@@ -26,7 +26,7 @@ AreFramesFrom frame [] = ⊤
 AreFramesFrom frame (f ∷ fs) = (frame ≤ f) × AreFramesFrom f fs
 
 -- the cursor is behind the units that stand before its frame: those of the frames from there on are the ones of its next batches
-pub record IsLoading (chunks : List Chunk) (batches : List Batch) (cursor : Cursor) : Type 0 where
+pub record IsLoading (chunks : List ServiceChunk) (batches : List Batch) (cursor : Cursor) : Type 0 where
   -- how many units are passed
   pub passed : ℕ
   pub start : cursor.start ≡ bytes_of_first passed chunks
@@ -35,7 +35,7 @@ pub record IsLoading (chunks : List Chunk) (batches : List Batch) (cursor : Curs
   pub ahead : AreBatches chunks cursor.frame passed (drop cursor.next batches)
 
 -- the cursor is ready to give the bytes of its frame
-pub record IsReadyForBytes (cs : List Caption) (chunks : List Chunk) (batches : List Batch) (cursor : Cursor) : Type 0 where
+pub record IsReadyForBytes (cs : List Caption) (chunks : List ServiceChunk) (batches : List Batch) (cursor : Cursor) : Type 0 where
   pub kept : (rate : Rate) × ((all : ℕ) × AreKept rate all cs)
   pub at : IsLatestAt cs cursor.frame cursor.latest
   pub loading : IsLoading chunks batches cursor

@@ -5,10 +5,10 @@
 use Rattle.std.specs.Prelude.{◌≡◌, ℕ, ◌+◌, ◌<◌, ◌≤◌, ◌&&◌, nat_le, nat_lt, Bool, if◌then◌else◌, List, [], Option, Some, length, sum_by}
 use Rattle.std.specs.List.{AllByRecursion, zip}
 use Rattle.placements.specs.Placing.{IsPlaced}
-use Rattle.service_lanes.specs.Chunks.{Chunk}
+use Rattle.service_lanes.specs.Chunks.{ServiceChunk}
 
 -- the bytes of a unit
-abbrev pub chunk_size : Chunk → ℕ
+abbrev pub chunk_size : ServiceChunk → ℕ
 chunk_size chunk = length chunk.unit
 
 -- the most bytes of units that may come in a delay; the two of DisplayWindows are held beside them
@@ -20,20 +20,20 @@ abbrev pub is_between : ℕ → ℕ → ℕ → Bool
 is_between from to frame = nat_le from frame && nat_lt frame to
 
 -- the bytes that a placed unit has in these frames
-abbrev pub bytes_between : ℕ → ℕ → Chunk × ℕ → ℕ
+abbrev pub bytes_between : ℕ → ℕ → ServiceChunk × ℕ → ℕ
 bytes_between from to placed = if is_between from to placed.1 then chunk_size placed.0 else 0
 
 -- the bytes that the placed units have in these frames
-abbrev pub used : ℕ → ℕ → List (Chunk × ℕ) → ℕ
+abbrev pub used : ℕ → ℕ → List (ServiceChunk × ℕ) → ℕ
 used from to placed = sum_by (bytes_between from to) placed
 
 -- no placed unit stands behind the frame
-abbrev pub AreUpTo : ℕ → List (Chunk × ℕ) → Type 0
-AreUpTo frame placed = AllByRecursion (λ (each : Chunk × ℕ). each.1 ≤ frame) placed
+abbrev pub AreUpTo : ℕ → List (ServiceChunk × ℕ) → Type 0
+AreUpTo frame placed = AllByRecursion (λ (each : ServiceChunk × ℕ). each.1 ≤ frame) placed
 
 -- the unit may stand in the frame behind those placed before it, where frames have this room, and a delay that starts in a
 -- frame ends in the frame that `ends` gives
-pub record IsAllowedInService (room : ℕ → ℕ) (ends : ℕ → Option ℕ) (before : List (Chunk × ℕ)) (chunk : Chunk) (frame : ℕ) : Type 0 where
+pub record IsAllowedInService (room : ℕ → ℕ) (ends : ℕ → Option ℕ) (before : List (ServiceChunk × ℕ)) (chunk : ServiceChunk) (frame : ℕ) : Type 0 where
   pub order : AreUpTo frame before
   pub loaded : chunk.load ≤ frame
   pub ended : frame < chunk.until
@@ -41,15 +41,15 @@ pub record IsAllowedInService (room : ℕ → ℕ) (ends : ℕ → Option ℕ) (
   pub delayed : (start end : ℕ) → ends start ≡ Some end → start ≤ frame → frame < end → used start end before + chunk_size chunk ≤ most_in_delay
 
 -- what the lane allows, for the placements of its units
-abbrev pub service_lane : (ℕ → ℕ) → (ℕ → Option ℕ) → List (Chunk × ℕ) → Chunk → ℕ → Type 0
+abbrev pub service_lane : (ℕ → ℕ) → (ℕ → Option ℕ) → List (ServiceChunk × ℕ) → ServiceChunk → ℕ → Type 0
 service_lane room ends before chunk frame = IsAllowedInService room ends before chunk frame
 
 -- the placed units have at most the room of each frame, and at most 125 bytes in each delay
-pub record IsWithinRoom (room : ℕ → ℕ) (ends : ℕ → Option ℕ) (placed : List (Chunk × ℕ)) : Type 0 where
+pub record IsWithinRoom (room : ℕ → ℕ) (ends : ℕ → Option ℕ) (placed : List (ServiceChunk × ℕ)) : Type 0 where
   pub frames : (frame : ℕ) → used frame (frame + 1) placed ≤ room frame
   pub delays : (start end : ℕ) → ends start ≡ Some end → used start end placed ≤ most_in_delay
 
 -- so do those of every placement
 abbrev pub KeepsRoom : (ℕ → ℕ) → (ℕ → Option ℕ) → Type 0
-KeepsRoom room ends = (chunks : List Chunk) (frames : List ℕ) → IsPlaced (service_lane room ends) [] chunks frames
+KeepsRoom room ends = (chunks : List ServiceChunk) (frames : List ℕ) → IsPlaced (service_lane room ends) [] chunks frames
     → IsWithinRoom room ends (zip chunks frames)

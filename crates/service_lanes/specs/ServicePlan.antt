@@ -8,16 +8,16 @@ use Rattle.placements.specs.Placing.{IsEarliest}
 use Rattle.placements.specs.declared.planning.PlanFault.{PlanFault}
 use Rattle.placements.specs.declared.planning.PlanFault.TheVariants.{Memory, NoRoom}
 use Rattle.service_lanes.specs.ServiceBytes.{bytes_in}
-use Rattle.service_lanes.specs.ServiceChunks.{chunk_cue}
+use Rattle.service_lanes.specs.ServiceChunks.{service_chunk_cue}
 use Rattle.service_lanes.specs.ServiceRoom.{caption_lane}
-use Rattle.service_lanes.specs.Chunks.{Chunk}
+use Rattle.service_lanes.specs.Chunks.{ServiceChunk}
 
 -- a placed lane: its service and the share of it, its captions, its units in their frames, and the frame whose bytes come next
 pub record PlannedService : Type 0 where
   pub service : ℕ
   pub share : ℕ
   pub captions : List Caption
-  pub chunks : List Chunk
+  pub chunks : List ServiceChunk
   pub frames : List ℕ
   pub frame : ℕ
 
@@ -26,12 +26,12 @@ abbrev pub lane_bytes : PlannedService → ℕ → List ℕ
 lane_bytes planned frame = bytes_in planned.captions (zip planned.chunks planned.frames) frame
 
 -- why a lane isn't planned: memory ran out, or this is the first cue without room
-abbrev pub IsLaneFault : ℕ → List Caption → List Chunk → PlanFault → Type 0
-IsLaneFault share cs chunks (Memory error) = ⊤
-IsLaneFault share cs chunks (NoRoom cue) = IsFirstCrowded (caption_lane share cs) chunk_cue chunks cue
+abbrev pub IsServiceFault : ℕ → List Caption → List ServiceChunk → PlanFault → Type 0
+IsServiceFault share cs chunks (Memory error) = ⊤
+IsServiceFault share cs chunks (NoRoom cue) = IsFirstCrowded (caption_lane share cs) service_chunk_cue chunks cue
 
 -- planning a lane gives it at frame 0, its units in their earliest placement
-pub record IsPlanOf (service share : ℕ) (cs : List Caption) (chunks : List Chunk) (planned : PlannedService) : Type 0 where
+pub record IsServicePlan (service share : ℕ) (cs : List Caption) (chunks : List ServiceChunk) (planned : PlannedService) : Type 0 where
   pub earliest : IsEarliest (caption_lane share cs) chunks planned.frames
   pub service_is : planned.service ≡ service
   pub share_is : planned.share ≡ share
@@ -40,5 +40,5 @@ pub record IsPlanOf (service share : ℕ) (cs : List Caption) (chunks : List Chu
   pub at_first : planned.frame ≡ 0
 
 -- the bytes of no frame pass the share
-abbrev pub IsWithinShare : ℕ → List Caption → List Chunk → List ℕ → Type 0
+abbrev pub IsWithinShare : ℕ → List Caption → List ServiceChunk → List ℕ → Type 0
 IsWithinShare share cs chunks frames = (frame : ℕ) → length (bytes_in cs (zip chunks frames) frame) ≤ share

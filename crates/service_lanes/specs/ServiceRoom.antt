@@ -6,7 +6,7 @@ use Rattle.dtvcc_author.specs.FrameEvents.{delay_end, event_bytes}
 use Rattle.dtvcc_author.specs.Latest.{IsLatestAt}
 use Rattle.dtvcc_author.specs.declared.caption.Caption.{Caption}
 use Rattle.service_lanes.specs.ServiceLane.{AreUpTo, most_in_delay, service_lane, used}
-use Rattle.service_lanes.specs.Chunks.{Chunk}
+use Rattle.service_lanes.specs.Chunks.{ServiceChunk}
 use Rattle.service_lanes.specs.declared.front.Front.{Front}
 
 -- the bytes of a frame for units: its share of the service, less its events
@@ -14,11 +14,11 @@ abbrev pub frame_room : ℕ → List Caption → ℕ → ℕ
 frame_room share cs frame = share - length (event_bytes frame cs)
 
 -- what the lane of a service allows, with this share of each frame and these captions
-abbrev pub caption_lane : ℕ → List Caption → List (Chunk × ℕ) → Chunk → ℕ → Type 0
+abbrev pub caption_lane : ℕ → List Caption → List (ServiceChunk × ℕ) → ServiceChunk → ℕ → Type 0
 caption_lane share cs = service_lane (frame_room share cs) (delay_end cs)
 
 -- the budget is that of the delay that is on in the frame, less the units in it
-pub record IsSpent (cs : List Caption) (before : List (Chunk × ℕ)) (frame : ℕ) (budget : Budget) : Type 0 where
+pub record IsSpent (cs : List Caption) (before : List (ServiceChunk × ℕ)) (frame : ℕ) (budget : Budget) : Type 0 where
   pub delay : delay_end cs budget.start ≡ Some budget.end
   pub from : budget.start ≤ frame
   pub to : frame < budget.end
@@ -28,19 +28,19 @@ pub record IsSpent (cs : List Caption) (before : List (Chunk × ℕ)) (frame : �
 abbrev pub IsUndelayed : List Caption → ℕ → Type 0
 IsUndelayed cs frame = (start end : ℕ) → delay_end cs start ≡ Some end → start ≤ frame → end ≤ frame
 
-abbrev pub IsBudgetAt : List Caption → List (Chunk × ℕ) → ℕ → Option Budget → Type 0
+abbrev pub IsBudgetAt : List Caption → List (ServiceChunk × ℕ) → ℕ → Option Budget → Type 0
 IsBudgetAt cs before frame None = IsUndelayed cs frame
 IsBudgetAt cs before frame (Some budget) = IsSpent cs before frame budget
 
 -- the front is at a frame behind which no unit stands, and knows what the units before leave of it and of its delay
-pub record IsFront (share : ℕ) (cs : List Caption) (before : List (Chunk × ℕ)) (front : Front) : Type 0 where
+pub record IsFront (share : ℕ) (cs : List Caption) (before : List (ServiceChunk × ℕ)) (front : Front) : Type 0 where
   pub at : IsLatestAt cs front.frame front.latest
   pub order : AreUpTo front.frame before
   pub room : used front.frame (front.frame + 1) before + front.room ≡ frame_room share cs front.frame
   pub budget : IsBudgetAt cs before front.frame front.budget
 
 -- no frame before is behind all units
-abbrev pub IsFirstBehind : List (Chunk × ℕ) → ℕ → Type 0
+abbrev pub IsFirstBehind : List (ServiceChunk × ℕ) → ℕ → Type 0
 IsFirstBehind before frame = (other : ℕ) → AreUpTo other before → frame ≤ other
 
 -- the budget in a frame: a new one where a delay starts there, else that of the delay before, until its end

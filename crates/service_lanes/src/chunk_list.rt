@@ -16,9 +16,9 @@ pub struct ChunkList {
 impl Model for ChunkList {
     ghost use Rattle.std.specs.Prelude.{List};
     ghost use Rattle.service_lanes.specs.CueChunks.{AreCounted, chunks_of};
-    ghost use Rattle.service_lanes.specs.Chunks.{Chunk};
+    ghost use Rattle.service_lanes.specs.Chunks.{ServiceChunk};
 
-    ghost Value = { List Chunk };
+    ghost Value = { List ServiceChunk };
 
     ghost view = { λ list. chunks_of list.cues.items list.units };
 

@@ -13,7 +13,12 @@ use dtvcc_author::{Caption, PackedUnits, caption_of, push_units};
 use std::alloc::{AllocError, Global};
 
 /// The units of the cues of a service, in the order of the cues. `AllocError` where there is no memory for them.
-pub fn chunks(alloc: Global, rate: Rate, cues: &[Cue], service: u8) -> Result<ChunkList, AllocError>
+pub fn service_chunks(
+    alloc: Global,
+    rate: Rate,
+    cues: &[Cue],
+    service: u8,
+) -> Result<ChunkList, AllocError>
     requires formed { All IsCueFormed cues.now }
     requires few { length cues.now ≤ most_cues }
     ensures { IfOk result (λ chunks. chunks ≡ service_chunks rate service cues.now) }

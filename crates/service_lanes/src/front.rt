@@ -6,7 +6,7 @@ ghost use Rattle.dtvcc_author.specs.Kept.{AreKept};
 ghost use Rattle.dtvcc_author.specs.Latest.{IsLatestAt};
 ghost use Rattle.placements.specs.FirstFit.{IsFirst};
 ghost use Rattle.service_lanes.specs.CueChunks.{chunk_in};
-ghost use Rattle.service_lanes.specs.Chunks.{Chunk};
+ghost use Rattle.service_lanes.specs.Chunks.{ServiceChunk};
 ghost use Rattle.service_lanes.specs.ServiceRoom.{IsFirstBehind, IsFront, behind_taking, budget_in, caption_lane, takes};
 
 use crate::cue_load::CueLoad;
@@ -54,16 +54,18 @@ impl Front {
         requires least { 8 ≤ share }
         requires small { length unit.now ≤ 7 }
         ensures some { IfSome result
-            (λ frame. (before : List (Chunk × ℕ)) → IsFront share captions.now before self.old
+            (λ frame. (before : List (ServiceChunk × ℕ))
+            → IsFront share captions.now before self.old
             → IsFirstBehind before self.old.frame
             → IsFirst (caption_lane share captions.now before (chunk_in cue.now unit.now)) frame) }
         ensures front { IfSome result
-            (λ frame. (before : List (Chunk × ℕ)) → IsFront share captions.now before self.old
+            (λ frame. (before : List (ServiceChunk × ℕ))
+            → IsFront share captions.now before self.old
             → IsFront share captions.now
             (before ++ (chunk_in cue.now unit.now, frame) ∷ []) self.new) }
         ensures at { IfSome result (λ frame. self.new.frame ≡ frame) }
         ensures none { IfNone result
-            ((before : List (Chunk × ℕ)) → IsFront share captions.now before self.old
+            ((before : List (ServiceChunk × ℕ)) → IsFront share captions.now before self.old
             → IsFirstBehind before self.old.frame → (frame : ℕ)
             → caption_lane share captions.now before (chunk_in cue.now unit.now) frame → ⊥) }
     {

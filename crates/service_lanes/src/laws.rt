@@ -1,6 +1,6 @@
 //! Laws of a service's lane: functions that do nothing, with the laws as their contracts.
 ghost use Rattle.std.specs.Prelude.{ℕ, List, Option};
-ghost use Rattle.service_lanes.specs.Chunks.{Chunk};
+ghost use Rattle.service_lanes.specs.Chunks.{ServiceChunk};
 ghost use Rattle.placements.specs.FirstFit.{EarliestIsFirstFit};
 ghost use Rattle.placements.specs.OneMore.{OneMore};
 ghost use Rattle.placements.specs.Placing.{IsEarliest};
@@ -12,16 +12,16 @@ ghost use Rattle.service_lanes.specs.ServiceLane.{KeepsRoom, service_lane};
 
 /// A service's units with one more, whatever room its frames have and whatever delays there are: there is a placement exactly
 /// where some frame is allowed for that unit behind the earliest placement of the others, which stays as it is.
-pub fn law_of_one_more_chunk()
-    ensures { (room : ℕ → ℕ) (ends : ℕ → Option ℕ) (chunks : List Chunk) (frames : List ℕ)
-        (chunk : Chunk)
+pub fn law_of_one_more()
+    ensures { (room : ℕ → ℕ) (ends : ℕ → Option ℕ) (chunks : List ServiceChunk) (frames : List ℕ)
+        (chunk : ServiceChunk)
         → IsEarliest (service_lane room ends) chunks frames
         → OneMore (service_lane room ends) chunks frames chunk }
 {}
 
 /// A service's earliest placement, if there is one, puts each unit in turn in the first frame that is allowed, and where each
 /// unit in turn stands so, the placement is the earliest.
-pub fn law_of_first_fit_of_chunks()
+pub fn law_of_first_fit()
     ensures { (room : ℕ → ℕ) (ends : ℕ → Option ℕ) → EarliestIsFirstFit (service_lane room ends) }
 {}
 

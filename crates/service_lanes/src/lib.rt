@@ -3,7 +3,7 @@
 #![tactic(auto)]
 
 pub use crate::chunk_list::ChunkList;
-pub use crate::cues::chunks;
+pub use crate::cues::service_chunks;
 pub use crate::placed::{PlacedService, ServiceLane};
 
 mod batch;

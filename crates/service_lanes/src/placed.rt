@@ -3,8 +3,8 @@ ghost use Rattle.cc_base.specs.declared.rate.Rate.{Rate};
 ghost use Rattle.dtvcc_author.specs.Kept.{AreKept};
 ghost use Rattle.placements.specs.LaneRoom.{AreInCueOrder};
 ghost use Rattle.placements.specs.Placing.{IsEarliest};
-ghost use Rattle.service_lanes.specs.ServiceChunks.{chunk_cue};
-ghost use Rattle.service_lanes.specs.ServicePlan.{IsLaneFault, IsPlanOf, lane_bytes};
+ghost use Rattle.service_lanes.specs.ServiceChunks.{service_chunk_cue};
+ghost use Rattle.service_lanes.specs.ServicePlan.{IsServiceFault, IsServicePlan, lane_bytes};
 ghost use Rattle.service_lanes.specs.ServiceRoom.{caption_lane};
 ghost use Rattle.service_lanes.specs.Batches.{AreBatches, batch_frames};
 
@@ -37,10 +37,10 @@ impl ServiceLane {
         requires kept { (rate : Rate) × ((frames : ℕ) × AreKept rate frames self.captions.items) }
         requires least { 8 ≤ self.share }
         requires most { self.share ≤ 31 }
-        requires order { AreInCueOrder chunk_cue self.chunks }
+        requires order { AreInCueOrder service_chunk_cue self.chunks }
         ensures planned { IfOk result
-            (IsPlanOf self.service self.share self.captions.items self.chunks) }
-        ensures fault { IfErr result (IsLaneFault self.share self.captions.items self.chunks) }
+            (IsServicePlan self.service self.share self.captions.items self.chunks) }
+        ensures fault { IfErr result (IsServiceFault self.share self.captions.items self.chunks) }
     {
         let batches = placed_batches(alloc, &self.chunks, &self.captions, self.share)?;
         Ok(PlacedService {
@@ -63,12 +63,12 @@ fn placed_batches(
 ) -> Result<Vec<Batch>, PlanFault>
     requires kept { (rate : Rate) × ((frames : ℕ) × AreKept rate frames captions.now) }
     requires least { 8 ≤ share }
-    requires order { AreInCueOrder chunk_cue chunks.now }
+    requires order { AreInCueOrder service_chunk_cue chunks.now }
     ensures frames { IfOk result
         (λ batches. IsEarliest (caption_lane share captions.now) chunks.now
         (batch_frames batches.items)) }
     ensures batches { IfOk result (λ batches. AreBatches chunks.now 0 0 batches.items) }
-    ensures fault { IfErr result (IsLaneFault share captions.now chunks.now) }
+    ensures fault { IfErr result (IsServiceFault share captions.now chunks.now) }
 {
     let (units, cues) = chunks.parts();
     let mut placing = Placing::start(alloc, captions, share);

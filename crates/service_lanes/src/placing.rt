@@ -5,9 +5,9 @@ ghost use Rattle.dtvcc_author.specs.Kept.{AreKept};
 ghost use Rattle.dtvcc_author.specs.Packed.{bytes_before};
 ghost use Rattle.dtvcc_author.specs.declared.caption.Caption.{Caption};
 ghost use Rattle.placements.specs.LaneRoom.{AreInCueOrder};
-ghost use Rattle.service_lanes.specs.ServiceChunks.{chunk_cue};
-ghost use Rattle.service_lanes.specs.ServicePlan.{IsLaneFault};
-ghost use Rattle.service_lanes.specs.Chunks.{Chunk};
+ghost use Rattle.service_lanes.specs.ServiceChunks.{service_chunk_cue};
+ghost use Rattle.service_lanes.specs.ServicePlan.{IsServiceFault};
+ghost use Rattle.service_lanes.specs.Chunks.{ServiceChunk};
 
 use crate::batch::Batch;
 use crate::cue_load::CueLoad;
@@ -32,7 +32,8 @@ impl Placing {
     pub fn start(alloc: Global, captions: &[Caption], share: u8) -> Placing
         requires kept { (rate : Rate) × ((frames : ℕ) × AreKept rate frames captions.now) }
         requires least { 8 ≤ share }
-        ensures placing { (chunks : List Chunk) → IsPlacing share captions.now chunks result }
+        ensures placing { (chunks : List ServiceChunk)
+            → IsPlacing share captions.now chunks result }
         ensures units { result.last.units ≡ 0 }
         ensures bytes { result.last.bytes ≡ 0 }
     {
@@ -59,16 +60,18 @@ impl Placing {
         requires least { 8 ≤ share }
         requires within { self.old.last.units + cue.count ≤ length units.now }
         requires bytes { self.old.last.bytes ≡ bytes_before self.old.last.units units.now }
-        ensures placed { (chunks : List Chunk) → AreOfCue cue units.now chunks self.old.last.units
+        ensures placed { (chunks : List ServiceChunk)
+            → AreOfCue cue units.now chunks self.old.last.units
             → IsPlacing share captions.now chunks self.old
             → OnOk result (IsPlacing share captions.now chunks self.new) }
         ensures units { OnOk result (self.new.last.units ≡ self.old.last.units + cue.count) }
         ensures bytes { OnOk result
             (self.new.last.bytes ≡ bytes_before self.new.last.units units.now) }
-        ensures fault { (chunks : List Chunk) → AreOfCue cue units.now chunks self.old.last.units
-            → AreInCueOrder chunk_cue chunks
+        ensures fault { (chunks : List ServiceChunk)
+            → AreOfCue cue units.now chunks self.old.last.units
+            → AreInCueOrder service_chunk_cue chunks
             → IsPlacing share captions.now chunks self.old
-            → IfErr result (IsLaneFault share captions.now chunks) }
+            → IfErr result (IsServiceFault share captions.now chunks) }
     {
         let lengths = units.lengths();
         let end = self.last.units + cue.count;
@@ -93,21 +96,22 @@ impl Placing {
         requires least { 8 ≤ share }
         requires within { self.old.last.units < length units.now }
         requires bytes { self.old.last.bytes ≡ bytes_before self.old.last.units units.now }
-        ensures placed { (chunks : List Chunk)
+        ensures placed { (chunks : List ServiceChunk)
             → IsOfCue cue.now units.now chunks self.old.last.units
             → IsPlacing share captions.now chunks self.old
             → OnOk result (IsPlacing share captions.now chunks self.new) }
-        ensures stands { (chunks : List Chunk)
+        ensures stands { (chunks : List ServiceChunk)
             → IsOfCue cue.now units.now chunks self.old.last.units
             → IsPlacing share captions.now chunks self.old
             → OnOk result (MayStand cue.now self.new.front) }
         ensures units { OnOk result (self.new.last.units ≡ self.old.last.units + 1) }
         ensures bytes { OnOk result
             (self.new.last.bytes ≡ bytes_before self.new.last.units units.now) }
-        ensures fault { (chunks : List Chunk) → IsOfCue cue.now units.now chunks self.old.last.units
-            → AreInCueOrder chunk_cue chunks
+        ensures fault { (chunks : List ServiceChunk)
+            → IsOfCue cue.now units.now chunks self.old.last.units
+            → AreInCueOrder service_chunk_cue chunks
             → IsPlacing share captions.now chunks self.old
-            → IfErr result (IsLaneFault share captions.now chunks) }
+            → IfErr result (IsServiceFault share captions.now chunks) }
     {
         let unit = units.unit(self.last.units, self.last.bytes);
         let Some(frame) = self.front.place(cue, unit, captions, share) else {
@@ -131,7 +135,7 @@ impl Placing {
             × ((lengths.now ≡ map length units) × (length (concat units) < 2 ^ 64)
             × (self.old.last.bytes ≡ bytes_before self.old.last.units units)) }
         requires within { self.old.last.units ≤ end }
-        ensures placed { (share : ℕ) (captions : List Caption) (chunks : List Chunk)
+        ensures placed { (share : ℕ) (captions : List Caption) (chunks : List ServiceChunk)
             (units : List (List ℕ)) (cue : CueLoad)
             → lengths.now ≡ map length units → FillsFrame captions cue units chunks self.old end
             → IsPlacing share captions chunks self.old
@@ -173,8 +177,8 @@ impl Placing {
     /// The batches of the units, when all are placed.
     pub fn finish(self) -> Result<Vec<Batch>, PlanFault>
         ensures batches { IfOk result (λ batches. batches.items ≡ batches_of self) }
-        ensures fault { (captions : List Caption) (chunks : List Chunk) (share : ℕ)
-            → IfErr result (IsLaneFault share captions chunks) }
+        ensures fault { (captions : List Caption) (chunks : List ServiceChunk) (share : ℕ)
+            → IfErr result (IsServiceFault share captions chunks) }
     {
         let mut batches = self.batches;
         match batches.push(self.last) {

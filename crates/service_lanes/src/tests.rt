@@ -1,7 +1,7 @@
 ghost use Rattle.std.specs.Prelude.{◌≡◌, ◌≤◌, IfOk, length};
 ghost use Rattle.cue_lists.specs.Rules.{IsRuled};
 
-use crate::cues::chunks;
+use crate::cues::service_chunks;
 use crate::placed::{PlacedService, ServiceLane};
 use cue_lists::{CueList, check, parse};
 use dtvcc_author::captions;
@@ -36,7 +36,7 @@ fn lane_of(alloc: Global, list: &CueList, share: u8) -> Result<PlacedService, Pl
         Ok(captions) => captions,
         Err(error) => return Err(PlanFault::Memory(error)),
     };
-    let chunks = match chunks(alloc, rate, cues, 1) {
+    let chunks = match service_chunks(alloc, rate, cues, 1) {
         Ok(chunks) => chunks,
         Err(error) => return Err(PlanFault::Memory(error)),
     };

@@ -22,8 +22,8 @@ use Rattle.dtvcc_author.specs.FrameEvents.{delay_commands, delayed_at, event_byt
 use Rattle.dtvcc_author.specs.declared.caption.Caption.{Caption}
 use Rattle.dtvcc_author.proofs.WritableLemmas.{commands_writable}
 use Rattle.service_lanes.specs.ServiceBytes.{bytes_in, loads_at}
-use Rattle.service_lanes.specs.ServiceChunks.{chunk_of, chunks_from, chunks_with, service_chunks}
-use Rattle.service_lanes.specs.Chunks.{Chunk}
+use Rattle.service_lanes.specs.ServiceChunks.{chunk_of, chunks_with, service_chunks, service_chunks_from}
+use Rattle.service_lanes.specs.Chunks.{ServiceChunk}
 use Rattle.frame_scheduler.specs.Blocks.{service_block}
 
 -- a byte
@@ -116,7 +116,7 @@ captions_short r service (cue ∷ cues) formed =
     at (Win w) is rest = more w (w.service == service) (omega (arith, is.0.delay)) rest
 
 -- the units of formed cues are bytes
-abbrev IsOfBytes : Chunk → Type 0
+abbrev IsOfBytes : ServiceChunk → Type 0
 IsOfBytes chunk = All IsByte chunk.unit
 
 units_are_bytes : (number : ℕ) (c : Caption) (commands : List Command) → All IsWritable commands → All IsOfBytes (map (chunk_of number c) (map bytes_of_command commands))
@@ -126,10 +126,10 @@ units_are_bytes number c (command ∷ commands) all =
     (written_are_bytes command (All-head IsWritable command commands all).spellable)
     (units_are_bytes number c commands (All-tail IsWritable command commands all))
 
-chunks_are_bytes : (r : Rate) (service number : ℕ) (cues : List Cue) → All IsCueFormed cues → All IsOfBytes (chunks_from r service number cues)
+chunks_are_bytes : (r : Rate) (service number : ℕ) (cues : List Cue) → All IsCueFormed cues → All IsOfBytes (service_chunks_from r service number cues)
 chunks_are_bytes r service number [] formed = All-nil IsOfBytes
 chunks_are_bytes r service number (cue ∷ cues) formed =
-    All-append IsOfBytes (chunks_with number (caption_of r service cue) (window_cue_units cue)) (chunks_from r service (suc number) cues)
+    All-append IsOfBytes (chunks_with number (caption_of r service cue) (window_cue_units cue)) (service_chunks_from r service (suc number) cues)
     (own (caption_of r service cue))
     (chunks_are_bytes r service (suc number) cues (All-tail IsCueFormed cue cues formed))
   where
@@ -137,7 +137,7 @@ chunks_are_bytes r service number (cue ∷ cues) formed =
     own None = All-nil IsOfBytes
     own (Some c) = units_are_bytes number c (commands_of cue) (commands_writable cue (All-head IsCueFormed cue cues formed))
 
-loads_are_bytes : (us : List Chunk) (frames : List ℕ) (frame : ℕ) → All IsOfBytes us → All IsByte (loads_at (zip us frames) frame)
+loads_are_bytes : (us : List ServiceChunk) (frames : List ℕ) (frame : ℕ) → All IsOfBytes us → All IsByte (loads_at (zip us frames) frame)
 loads_are_bytes [] frames frame all = All-nil IsByte
 loads_are_bytes (u ∷ us) [] frame all = All-nil IsByte
 loads_are_bytes (u ∷ us) (f ∷ fs) frame all =

@@ -26,7 +26,7 @@ use Rattle.services_carried.specs.PlacedServices.{AreServicesPlaced}
 use Rattle.frame_scheduler.proofs.PlanLemmas.{no_block, room_most, weight, weight_is, weights, weights_taken}
 use Rattle.frame_scheduler.proofs.ServicesLemmas.{share_is}
 use Rattle.line21_slots.specs.declared.cadence.Cadence.TheVariants.{EvenFrames, OddFrames}
-use Rattle.frame_scheduler.specs.ChannelLane.{channel_slot}
+use Rattle.field_lanes.specs.ChannelLane.{channel_slot}
 use Rattle.frame_scheduler.specs.SlotLists.{slot_cues}
 use Rattle.frame_carrier.specs.Carried.{AreRoomy}
 use Rattle.services_carried.proofs.ByteLemmas.{IsByte, block_are_bytes, service_are_bytes}

@@ -4,11 +4,11 @@ use Rattle.std.proofs.Math.Path.{fun_ext}
 use Rattle.line21_codes.specs.declared.pairs.Pair.{Pair}
 use Rattle.line21_slots.specs.Cadences.{slot_in}
 use Rattle.line21_author.specs.declared.event.Event.{Event}
-use Rattle.frame_scheduler.specs.LaneEvents.{event_at}
-use Rattle.frame_scheduler.specs.LanePlan.{Planned, slot_pair}
-use Rattle.frame_scheduler.specs.LaneTimeline.{placed_timeline}
-use Rattle.frame_scheduler.specs.Timeline.{Timeline, over, slot}
-use Rattle.frame_scheduler.proofs.LanePlanLemmas.{timeline_is}
+use Rattle.field_lanes.specs.LaneEvents.{event_at}
+use Rattle.field_lanes.specs.FieldPlan.{PlannedField, slot_pair}
+use Rattle.field_lanes.specs.LaneTimeline.{placed_timeline}
+use Rattle.field_lanes.specs.Timeline.{Timeline, over, slot}
+use Rattle.field_lanes.proofs.LanePlanLemmas.{timeline_is}
 use Rattle.resumed_lanes.specs.declared.part.Part.{Part}
 use Rattle.shared_field_shown.specs.Lanes.{whole}
 use Rattle.shared_field_shown.specs.Expanded.{expanded, spread}
@@ -18,7 +18,7 @@ use Rattle.shared_field_shown.proofs.OverlayLemmas.{together_overlaid}
 use Rattle.shared_field.specs.Beside.{beside}
 use Rattle.shared_field.specs.Joined.{IsLaneOf, LanesAreJoined}
 
-lane_slot : (events : List Event) (parts : List Part) (fs : List ℕ) (rs : List (Option ℕ)) (planned : Planned) → IsLaneOf events parts fs rs planned
+lane_slot : (events : List Event) (parts : List Part) (fs : List ℕ) (rs : List (Option ℕ)) (planned : PlannedField) → IsLaneOf events parts fs rs planned
     → (n : ℕ) → slot_pair planned n ≡ slot (whole (event_at events) parts fs rs) n
 lane_slot events parts fs rs planned is n =
     ap (λ es. slot (placed_timeline es planned.units) n) is.events_are ∙ ap (λ us. slot (placed_timeline events us) n) is.units_are

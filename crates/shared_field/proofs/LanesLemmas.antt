@@ -8,14 +8,14 @@ use Rattle.line21_slots.specs.Cadences.{cadence_of, has_slot_in, slot_from}
 use Rattle.line21_slots.specs.declared.cadence.Cadence.{Cadence}
 use Rattle.line21_slots.proofs.CadenceLemmas.{slot_more, slot_no_more}
 use Rattle.frame_scheduler.specs.Columns.{Columns}
-use Rattle.frame_scheduler.specs.LanePlan.{Planned, behind_frame, given_in, lane_pair, slot_pair}
+use Rattle.field_lanes.specs.FieldPlan.{PlannedField, behind_frame, given_in, lane_pair, slot_pair}
 use Rattle.frame_scheduler.specs.declared.frames.FrameBytes.{FrameBytes}
 use Rattle.shared_field.specs.Beside.{beside}
 use Rattle.shared_field.specs.SecondLanes.{LaysBoth}
 use Rattle.shared_field.specs.declared.second_lanes.SecondLanes.{SecondLanes}
 
 -- a lane that is at the first slot that isn't before a frame gives the frame's pair
-given_is : (c : Cadence) (one : Planned) (f : ℕ) → one.slot ≡ slot_from c f → given_in c f one ≡ lane_pair c one f
+given_is : (c : Cadence) (one : PlannedField) (f : ℕ) → one.slot ≡ slot_from c f → given_in c f one ≡ lane_pair c one f
 given_is c one f at =
     subst (λ k. given_in c f one ≡ option_map (slot_pair one) (if has_slot_in c f then Some k else None)) at (by_test (has_slot_in c f))
   where
@@ -23,7 +23,7 @@ given_is c one f at =
     by_test true = refl
     by_test false = refl
 
-behind_at : (c : Cadence) (one : Planned) (f : ℕ) → one.slot ≡ slot_from c f → (behind_frame c f one).slot ≡ slot_from c (f + 1)
+behind_at : (c : Cadence) (one : PlannedField) (f : ℕ) → one.slot ≡ slot_from c f → (behind_frame c f one).slot ≡ slot_from c (f + 1)
 behind_at c one f at = by_test (has_slot_in c f) refl
   where
     next : suc f ≡ f + 1
@@ -61,10 +61,10 @@ next_both firsts columns frame old new bytes one two c d makes bytes_are c_is d_
           ∙ sym (makes.column_is frame),
       record {
         frame_is = next ∙ ap (λ f. f + 1) makes.frame_is;
-        one_at = ap (λ (p : Planned). p.slot) new_one ∙ ap (λ x. (behind_frame x old.frame old.one).slot) c_is
+        one_at = ap (λ (p : PlannedField). p.slot) new_one ∙ ap (λ x. (behind_frame x old.frame old.one).slot) c_is
             ∙ ap (λ f. (behind_frame (cadence_of old.rate Cc1) f old.one).slot) makes.frame_is
             ∙ behind_at (cadence_of old.rate Cc1) old.one frame makes.one_at ∙ ap (λ r. slot_from (cadence_of r Cc1) (frame + 1)) (sym rate);
-        two_at = ap (λ (p : Planned). p.slot) new_two ∙ ap (λ x. (behind_frame x old.frame old.two).slot) d_is
+        two_at = ap (λ (p : PlannedField). p.slot) new_two ∙ ap (λ x. (behind_frame x old.frame old.two).slot) d_is
             ∙ ap (λ f. (behind_frame (cadence_of old.rate Cc3) f old.two).slot) makes.frame_is
             ∙ behind_at (cadence_of old.rate Cc3) old.two frame makes.two_at ∙ ap (λ r. slot_from (cadence_of r Cc3) (frame + 1)) (sym rate);
         column_is = λ n. makes.column_is n ∙ ap (λ (r : Rate). record {
@@ -86,5 +86,5 @@ next_both firsts columns frame old new bytes one two c d makes bytes_are c_is d_
     )
   where
     -- a lane's pairs are the same behind a frame
-    same_pair : (e c : Cadence) (f n : ℕ) (p q : Planned) → q ≡ behind_frame c f p → lane_pair e p n ≡ lane_pair e q n
-    same_pair e c f n p q is = sym (ap (λ (x : Planned). lane_pair e x n) is)
+    same_pair : (e c : Cadence) (f n : ℕ) (p q : PlannedField) → q ≡ behind_frame c f p → lane_pair e p n ≡ lane_pair e q n
+    same_pair e c f n p q is = sym (ap (λ (x : PlannedField). lane_pair e x n) is)

@@ -21,20 +21,20 @@ use Rattle.line21_author.specs.CueEvents.{control_event, cue_events, hide_events
 use Rattle.line21_author.specs.FirstChannel.{first_channel}
 use Rattle.line21_author.specs.declared.event.Event.{Event}
 use Rattle.line21_author.proofs.SlotSequenceLemmas.{AreInSlots}
-use Rattle.frame_scheduler.specs.LaneEvents.{event_at}
-use Rattle.frame_scheduler.specs.LanePlan.{piece_cue}
-use Rattle.frame_scheduler.specs.declared.lane.piece.Piece.{Piece}
+use Rattle.field_lanes.specs.LaneEvents.{event_at}
+use Rattle.field_lanes.specs.FieldPlan.{field_chunk_cue}
+use Rattle.field_lanes.specs.declared.chunk.FieldChunk.{FieldChunk}
 use Rattle.frame_scheduler.specs.SlotLists.{slot_cues, slots_in_list}
-use Rattle.frame_scheduler.proofs.ChannelOrderLemmas.{channel_in_order}
+use Rattle.field_lanes.proofs.ChannelOrderLemmas.{channel_in_order}
 use Rattle.frame_scheduler.proofs.SlotLemmas.{slot_cues_formed, slot_sequence}
 use Rattle.placements.specs.LaneRoom.{AreInCueOrder, AreOfCuesFrom}
 use Rattle.resumed_lanes.specs.Parts.{BeginWithFirst, IsBegun, part_cue}
 use Rattle.resumed_lanes.specs.declared.part.Part.{Part}
 use Rattle.shared_field_shown.specs.ChannelParts.{channel_parts}
-use Rattle.shared_field_shown.specs.Lanes.{AreCues, IsBehind, pieces_of}
+use Rattle.shared_field_shown.specs.Lanes.{AreCues, IsBehind, part_chunks}
 use Rattle.shared_field_shown.specs.Seen.{second_parts, second_timeline, second_unit}
 use Rattle.shared_field_shown.specs.Together.{AreOfChannel}
-use Rattle.shared_field_shown.proofs.ListedLemmas.{channel_listed, pieces_from_back}
+use Rattle.shared_field_shown.proofs.ListedLemmas.{channel_listed, channel_chunks_from_back}
 use Rattle.shared_field.specs.Placeable.{ChannelsAreReady, IsChannelReady, SecondEventsBegin}
 use Rattle.shared_field.specs.SecondChannel.{second_event, second_events}
 
@@ -44,7 +44,7 @@ begun_all former [] cues = All-nil IsBegun
 begun_all former (part ∷ parts) cues =
     All-cons IsBegun part parts (λ first. here part.later first cues.0) (begun_all (Some part) parts cues.1)
   where
-    here : (later : Bool) → later ≡ false → IsBehind later former part → part.piece.unit.doubled ≡ true
+    here : (later : Bool) → later ≡ false → IsBehind later former part → part.chunk.unit.doubled ≡ true
     here true first behind = cc
     here false first behind = behind.doubled
 
@@ -56,14 +56,14 @@ first_of_all (part ∷ parts) cues = here part.later refl cues.0
     here true is behind = absurd behind
     here false is behind = is
 
--- the cues are in the order of their pieces
-from_pieces : (cue : ℕ) (parts : List Part) → AreOfCuesFrom piece_cue cue (pieces_of parts) → AreOfCuesFrom part_cue cue parts
-from_pieces cue [] from = tt
-from_pieces cue (part ∷ parts) from = (from.0, from_pieces cue parts from.1)
+-- the cues are in the order of their chunks
+from_chunks : (cue : ℕ) (parts : List Part) → AreOfCuesFrom field_chunk_cue cue (part_chunks parts) → AreOfCuesFrom part_cue cue parts
+from_chunks cue [] from = tt
+from_chunks cue (part ∷ parts) from = (from.0, from_chunks cue parts from.1)
 
-in_order : (parts : List Part) → AreInCueOrder piece_cue (pieces_of parts) → AreInCueOrder part_cue parts
+in_order : (parts : List Part) → AreInCueOrder field_chunk_cue (part_chunks parts) → AreInCueOrder part_cue parts
 in_order [] order = tt
-in_order (part ∷ parts) order = (from_pieces part.piece.cue parts order.0, in_order parts order.1)
+in_order (part ∷ parts) order = (from_chunks part.chunk.cue parts order.0, in_order parts order.1)
 
 -- with other codes they are as before
 begun_second : (f : FieldNumber) (former : Option Part) (parts : List Part) → AreCues former parts → All IsBegun (second_parts f parts)
@@ -71,7 +71,7 @@ begun_second f former [] cues = All-nil IsBegun
 begun_second f former (part ∷ parts) cues =
     All-cons IsBegun _ (second_parts f parts) (λ first. here part.later first cues.0) (begun_second f (Some part) parts cues.1)
   where
-    here : (later : Bool) → later ≡ false → IsBehind later former part → part.piece.unit.doubled ≡ true
+    here : (later : Bool) → later ≡ false → IsBehind later former part → part.chunk.unit.doubled ≡ true
     here true first behind = cc
     here false first behind = behind.doubled
 
@@ -81,17 +81,17 @@ from_second f cue (part ∷ parts) from = (from.0, from_second f cue parts from.
 
 order_second : (f : FieldNumber) (parts : List Part) → AreInCueOrder part_cue parts → AreInCueOrder part_cue (second_parts f parts)
 order_second f [] order = tt
-order_second f (part ∷ parts) order = (from_second f part.piece.cue parts order.0, order_second f parts order.1)
+order_second f (part ∷ parts) order = (from_second f part.chunk.cue parts order.0, order_second f parts order.1)
 
 first_second : (f : FieldNumber) (parts : List Part) → BeginWithFirst parts → BeginWithFirst (second_parts f parts)
 first_second f [] first = tt
 first_second f (part ∷ parts) first = first
 
 -- the codes of a channel can be written
-units_writable : (c : DataChannel) (parts : List Part) → AreOfChannel c parts → All (λ (part : Part). IsWritable (code_of part.piece.unit.pair)) parts
-units_writable c [] own = All-nil (λ (part : Part). IsWritable (code_of part.piece.unit.pair))
+units_writable : (c : DataChannel) (parts : List Part) → AreOfChannel c parts → All (λ (part : Part). IsWritable (code_of part.chunk.unit.pair)) parts
+units_writable c [] own = All-nil (λ (part : Part). IsWritable (code_of part.chunk.unit.pair))
 units_writable c (part ∷ parts) own =
-    All-cons (λ (part : Part). IsWritable (code_of part.piece.unit.pair)) part parts own.0.writable (units_writable c parts own.2)
+    All-cons (λ (part : Part). IsWritable (code_of part.chunk.unit.pair)) part parts own.0.writable (units_writable c parts own.2)
 
 firsts_writable : (c : DataChannel) (parts : List Part) → AreOfChannel c parts → All (λ (part : Part). IsWritable (code_of part.first.pair)) parts
 firsts_writable c [] own = All-nil (λ (part : Part). IsWritable (code_of part.first.pair))
@@ -129,7 +129,7 @@ channel_ready f channel slots cues formed sequence =
     let listed = channel_listed channel slots cues formed sequence in
     let order : AreInCueOrder part_cue (channel_parts channel cues) =
     in_order (channel_parts channel cues)
-    (subst (λ (l : List Piece). AreInCueOrder piece_cue l) (sym (pieces_from_back channel 1 cues)) (channel_in_order channel cues)) in
+    (subst (λ (l : List FieldChunk). AreInCueOrder field_chunk_cue l) (sym (channel_chunks_from_back channel 1 cues)) (channel_in_order channel cues)) in
     let first = first_of_all (channel_parts channel cues) listed.cues in
     record {
       placeable = record { begun = begun_all None (channel_parts channel cues) listed.cues; order = order; first = first };

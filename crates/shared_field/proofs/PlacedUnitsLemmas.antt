@@ -1,7 +1,7 @@
 -- The units of a lane in their places.
 use Rattle.std.proofs.Common.{◌≡◌, ℕ, List, [], ◌∷◌, ◌++◌, Option, Some, None, append-nil, refl, sym, ap, ◌∙◌}
-use Rattle.frame_scheduler.specs.LaneTimeline.{in_slots}
-use Rattle.frame_scheduler.specs.declared.lane.placed_unit.PlacedUnit.{PlacedUnit}
+use Rattle.field_lanes.specs.LaneTimeline.{in_slots}
+use Rattle.field_lanes.specs.declared.placed_unit.PlacedUnit.{PlacedUnit}
 use Rattle.resumed_lanes.specs.Filled.{resumes_at, slots_at}
 use Rattle.resumed_lanes.specs.declared.part.Part.{Part}
 use Rattle.shared_field_shown.specs.Expanded.{expanded, spread}
@@ -25,6 +25,6 @@ units_of_one_lane (part ∷ parts) (place ∷ places) = by_resume place.resume (
     by_resume : (r : Option ℕ) → units_in parts places ≡ in_slots (expanded parts (resumes_at places)) (spread (slots_at places) (resumes_at places))
         → unit_in part place.slot r ++ units_in parts places
         ≡ in_slots (expanded (part ∷ parts) (r ∷ resumes_at places)) (spread (place.slot ∷ slots_at places) (r ∷ resumes_at places))
-    by_resume None rest = ap (λ (l : List PlacedUnit). record { unit = part.piece.unit; slot = place.slot } ∷ l) rest
+    by_resume None rest = ap (λ (l : List PlacedUnit). record { unit = part.chunk.unit; slot = place.slot } ∷ l) rest
     by_resume (Some at) rest =
-        ap (λ (l : List PlacedUnit). record { unit = part.first; slot = at } ∷ record { unit = part.piece.unit; slot = place.slot } ∷ l) rest
+        ap (λ (l : List PlacedUnit). record { unit = part.first; slot = at } ∷ record { unit = part.chunk.unit; slot = place.slot } ∷ l) rest

@@ -2,7 +2,7 @@
 -- The pair of a frame in a field that two lanes share, and how long lanes last.
 use Rattle.std.specs.Prelude.{ℕ, ◌-◌, ◌^◌, min, Option, Some, None}
 use Rattle.line21_codes.specs.declared.pairs.Pair.{Pair}
-use Rattle.frame_scheduler.specs.LanePlan.{Planned}
+use Rattle.field_lanes.specs.FieldPlan.{PlannedField}
 use Rattle.shared_field_shown.specs.Overlay.{overlay}
 
 -- the pair of the first, and where it is null that of the second; none where the frame has no slot of the field
@@ -12,5 +12,5 @@ beside (Some first) None = Some first
 beside (Some first) (Some second) = Some (overlay first second)
 
 -- slots and frames are counted below 2^32
-abbrev pub lanes_last : Planned → Planned → ℕ → ℕ
+abbrev pub lanes_last : PlannedField → PlannedField → ℕ → ℕ
 lanes_last one two frame = min (2 ^ 32 - 1 - frame) (min (2 ^ 32 - 1 - one.slot) (2 ^ 32 - 1 - two.slot))

@@ -4,10 +4,10 @@ use Rattle.std.specs.Prelude.{◌≡◌, ℕ, true, List, Option, option_map}
 use Rattle.line21_slots.specs.Cadences.{slot_in}
 use Rattle.line21_slots.specs.declared.cadence.Cadence.{Cadence}
 use Rattle.line21_author.specs.declared.event.Event.{Event}
-use Rattle.frame_scheduler.specs.LaneEvents.{IsFree, event_at}
-use Rattle.frame_scheduler.specs.LanePlan.{Planned, lane_pair}
-use Rattle.frame_scheduler.specs.LaneTimeline.{in_slots}
-use Rattle.frame_scheduler.specs.Timeline.{over, slot}
+use Rattle.field_lanes.specs.LaneEvents.{IsFree, event_at}
+use Rattle.field_lanes.specs.FieldPlan.{PlannedField, lane_pair}
+use Rattle.field_lanes.specs.LaneTimeline.{in_slots}
+use Rattle.field_lanes.specs.Timeline.{over, slot}
 use Rattle.shared_field_shown.specs.Lanes.{AreCues, whole}
 use Rattle.resumed_lanes.specs.ResumedLane.{Stand}
 use Rattle.resumed_lanes.specs.Slots.{Slots}
@@ -18,7 +18,7 @@ use Rattle.std.specs.Prelude.{None}
 use Rattle.shared_field.specs.Beside.{beside}
 
 -- a planned lane has these events and units, with those that come again
-pub record IsLaneOf (events : List Event) (parts : List Part) (fs : List ℕ) (rs : List (Option ℕ)) (planned : Planned) : Type 0 where
+pub record IsLaneOf (events : List Event) (parts : List Part) (fs : List ℕ) (rs : List (Option ℕ)) (planned : PlannedField) : Type 0 where
   pub units_are : planned.units ≡ in_slots (expanded parts rs) (spread fs rs)
   pub events_are : planned.events ≡ events
   pub slots : Slots
@@ -27,7 +27,7 @@ pub record IsLaneOf (events : List Event) (parts : List Part) (fs : List ℕ) (r
   pub stand : Stand slots 0 parts fs rs
 
 abbrev pub LanesAreJoined : Type 0
-LanesAreJoined = (cadence : Cadence) (events more : List Event) (parts others : List Part) (fs gs : List ℕ) (rs qs : List (Option ℕ)) (one two : Planned)
+LanesAreJoined = (cadence : Cadence) (events more : List Event) (parts others : List Part) (fs gs : List ℕ) (rs qs : List (Option ℕ)) (one two : PlannedField)
     → IsLaneOf events parts fs rs one → IsLaneOf more others gs qs two → AreTogether (event_at events) (event_at more) parts others fs gs rs qs
     → (frame : ℕ) → beside (lane_pair cadence one frame) (lane_pair cadence two frame)
     ≡ option_map (slot (over (whole (event_at events) parts fs rs) (whole (event_at more) others gs qs))) (slot_in cadence frame)

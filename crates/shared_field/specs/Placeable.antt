@@ -11,7 +11,7 @@ use Rattle.cue_lists.specs.Rules.{IsRuled}
 use Rattle.cue_lists.specs.declared.cue.Cue.{Cue}
 use Rattle.line21_author.specs.CueEvents.{channel_events}
 use Rattle.line21_author.specs.declared.event.Event.{Event}
-use Rattle.frame_scheduler.specs.LaneEvents.{event_at}
+use Rattle.field_lanes.specs.LaneEvents.{event_at}
 use Rattle.frame_scheduler.specs.SlotLists.{slot_cues}
 use Rattle.placements.specs.LaneRoom.{AreInCueOrder}
 use Rattle.resumed_lanes.specs.Parts.{BeginWithFirst, IsBegun, part_cue}
@@ -28,7 +28,7 @@ pub record ArePlaceable (parts : List Part) : Type 0 where
 
 -- their codes can be written
 pub record AreWritable (parts : List Part) : Type 0 where
-  pub units : All (λ part. IsWritable (code_of part.piece.unit.pair)) parts
+  pub units : All (λ part. IsWritable (code_of part.chunk.unit.pair)) parts
   pub firsts : All (λ part. IsWritable (code_of part.first.pair)) parts
 
 -- so they can on both channels of the field, and so can the events

@@ -1,8 +1,8 @@
 -- Between crates: the program's answer stands on none of these definitions.
 -- The units of a lane in their places, with the first units of cues where they come again.
 use Rattle.std.specs.Prelude.{◌≡◌, ℕ, List, [], ◌∷◌, ◌++◌, Option, Some, None}
-use Rattle.frame_scheduler.specs.LaneTimeline.{in_slots}
-use Rattle.frame_scheduler.specs.declared.lane.placed_unit.PlacedUnit.{PlacedUnit}
+use Rattle.field_lanes.specs.LaneTimeline.{in_slots}
+use Rattle.field_lanes.specs.declared.placed_unit.PlacedUnit.{PlacedUnit}
 use Rattle.resumed_lanes.specs.Filled.{resumes_at, slots_at}
 use Rattle.resumed_lanes.specs.declared.part.Part.{Part}
 use Rattle.resumed_lanes.specs.declared.place.Place.{Place}
@@ -10,8 +10,8 @@ use Rattle.shared_field_shown.specs.Expanded.{expanded, spread}
 
 -- a unit at its slot, and before it the first one of its cue where that comes again
 abbrev pub unit_in : Part → ℕ → Option ℕ → List PlacedUnit
-unit_in part slot None = record { unit = part.piece.unit; slot = slot } ∷ []
-unit_in part slot (Some at) = record { unit = part.first; slot = at } ∷ record { unit = part.piece.unit; slot = slot } ∷ []
+unit_in part slot None = record { unit = part.chunk.unit; slot = slot } ∷ []
+unit_in part slot (Some at) = record { unit = part.first; slot = at } ∷ record { unit = part.chunk.unit; slot = slot } ∷ []
 
 -- all of them, in order
 abbrev pub units_in : List Part → List Place → List PlacedUnit

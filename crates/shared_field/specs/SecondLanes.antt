@@ -5,12 +5,12 @@ use Rattle.cc_base.specs.declared.rate.Rate.{Rate}
 use Rattle.line21_codes.specs.declared.channels.Chan.TheVariants.{Cc1, Cc3}
 use Rattle.line21_slots.specs.Cadences.{cadence_of, slot_from}
 use Rattle.frame_scheduler.specs.Columns.{Columns}
-use Rattle.frame_scheduler.specs.LanePlan.{Planned, lane_pair}
+use Rattle.field_lanes.specs.FieldPlan.{PlannedField, lane_pair}
 use Rattle.shared_field.specs.Beside.{beside, lanes_last}
 use Rattle.shared_field.specs.declared.second_lanes.SecondLanes.{SecondLanes}
 
 -- the lanes of both fields, at frame 0
-abbrev pub lanes_at_first : Planned → Planned → Rate → SecondLanes
+abbrev pub lanes_at_first : PlannedField → PlannedField → Rate → SecondLanes
 lanes_at_first one two rate = record { one = one; two = two; rate = rate; frame = 0 }
 
 -- for how many frames more they last, at least

@@ -2,13 +2,13 @@ ghost use Rattle.std.specs.Prelude.{◌≡◌, ◌≤◌, ◌++◌, All, IfOk, O
 ghost use Rattle.cue_lists.specs.Cues.{IsCueFormed};
 ghost use Rattle.cue_lists.specs.Listing.{most_cues};
 ghost use Rattle.line21_author.specs.CueSlots.{cues_in_slots, timed_in_slots};
-ghost use Rattle.frame_scheduler.specs.ChannelLane.{cue_pieces};
+ghost use Rattle.field_lanes.specs.ChannelLane.{field_cue_chunks};
 ghost use Rattle.shared_field.specs.PartsBehind.{part_behind};
 ghost use Rattle.shared_field_shown.specs.ChannelParts.{channel_parts, parts_of};
 
 use cue_lists::Cue;
 use cue_lists::line21::is_on;
-use frame_scheduler::lane::piece::Piece;
+use field_lanes::FieldChunk;
 use line21_author::{Unit, units};
 use line21_codes::Chan;
 use line21_slots::Cadence;
@@ -47,19 +47,19 @@ fn push_cue(
 ) -> Result<(), AllocError>
     requires { IsCueFormed cue.now }
     ensures { OnOk result (parts.new.items
-        ≡ parts.old.items ++ parts_of (cue_pieces number (timed_in_slots cadence cue.now))) }
+        ≡ parts.old.items ++ parts_of (field_cue_chunks number (timed_in_slots cadence cue.now))) }
 {
     let load = cadence.slot_from(cue.load);
     let until = cadence.slot_from(cue.show);
     let mut first = None;
     for unit in units(alloc, cue)?.as_slice() {
-        let piece = Piece {
+        let chunk = FieldChunk {
             unit: *unit,
             load,
             until,
             cue: number,
         };
-        let part = part_behind(first, piece);
+        let part = part_behind(first, chunk);
         parts.push(part)?;
         first = Some(part.first);
     }
@@ -67,12 +67,12 @@ fn push_cue(
 }
 
 // A unit behind the first one of its cue, or that one itself.
-fn part_behind(first: Option<Unit>, piece: Piece) -> Part
-    ensures { result ≡ part_behind first piece }
+fn part_behind(first: Option<Unit>, chunk: FieldChunk) -> Part
+    ensures { result ≡ part_behind first chunk }
 {
     Part {
-        piece,
-        first: first.unwrap_or(piece.unit),
+        chunk,
+        first: first.unwrap_or(chunk.unit),
         later: first.is_some(),
     }
 }

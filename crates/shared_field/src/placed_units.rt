@@ -1,7 +1,7 @@
 ghost use Rattle.std.specs.Prelude.{◌≡◌, ◌++◌, IfOk, OnOk};
 ghost use Rattle.shared_field.specs.PlacedUnits.{unit_in, units_in};
 
-use frame_scheduler::lane::placed_unit::PlacedUnit;
+use field_lanes::PlacedUnit;
 use resumed_lanes::{Part, Place};
 use std::alloc::{AllocError, Global};
 
@@ -35,7 +35,7 @@ fn push_unit(units: &mut Vec<PlacedUnit>, part: Part, place: Place) -> Result<()
         })?;
     }
     units.push(PlacedUnit {
-        unit: part.piece.unit,
+        unit: part.chunk.unit,
         slot: place.slot,
     })?;
     Ok(())

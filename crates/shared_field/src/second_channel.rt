@@ -5,7 +5,7 @@ ghost use Rattle.line21_codes.specs.Writing.{pair_of_code};
 ghost use Rattle.shared_field.specs.SecondChannel.{second_event, second_events};
 ghost use Rattle.shared_field_shown.specs.Seen.{as_second, second_part, second_parts, second_unit};
 
-use frame_scheduler::lane::piece::Piece;
+use field_lanes::FieldChunk;
 use line21_author::{Event, Unit};
 use line21_codes::{Code, FieldNumber, Pair, read_pair, write_code};
 use resumed_lanes::Part;
@@ -17,7 +17,7 @@ pub fn second_parts(
     in_field: FieldNumber,
     parts: &[Part],
 ) -> Result<Vec<Part>, AllocError>
-    requires units { All (λ part. IsWritable (code_of part.piece.unit.pair)) parts.now }
+    requires units { All (λ part. IsWritable (code_of part.chunk.unit.pair)) parts.now }
     requires firsts { All (λ part. IsWritable (code_of part.first.pair)) parts.now }
     ensures { IfOk result (λ seconds. seconds.items ≡ second_parts in_field parts.now) }
 {
@@ -55,18 +55,18 @@ fn second_event(in_field: FieldNumber, event: Event) -> Event
 }
 
 fn second_part(in_field: FieldNumber, part: Part) -> Part
-    requires unit { IsWritable (code_of part.piece.unit.pair) }
+    requires unit { IsWritable (code_of part.chunk.unit.pair) }
     requires first { IsWritable (code_of part.first.pair) }
     ensures { result ≡ second_part in_field part }
 {
-    let piece = Piece {
-        unit: second_unit(in_field, part.piece.unit),
-        load: part.piece.load,
-        until: part.piece.until,
-        cue: part.piece.cue,
+    let chunk = FieldChunk {
+        unit: second_unit(in_field, part.chunk.unit),
+        load: part.chunk.load,
+        until: part.chunk.until,
+        cue: part.chunk.cue,
     };
     Part {
-        piece,
+        chunk,
         first: second_unit(in_field, part.first),
         later: part.later,
     }

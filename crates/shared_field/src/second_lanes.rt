@@ -1,10 +1,10 @@
 ghost use Rattle.std.specs.Prelude.{◌≡◌, ◌≤◌, ◌+◌, ◌^◌, ◌<◌};
-ghost use Rattle.frame_scheduler.specs.LanePlan.{behind_frame, given_in};
+ghost use Rattle.field_lanes.specs.FieldPlan.{behind_frame, given_in};
 ghost use Rattle.shared_field.specs.Beside.{beside};
 
 use cc_base::Rate;
+use field_lanes::PlacedField;
 use frame_scheduler::FrameBytes;
-use frame_scheduler::lane::placed::PlacedLane;
 use line21_codes::{Chan, Pair};
 use line21_slots::Cadence;
 use programmes::Overlay;
@@ -12,8 +12,8 @@ use programmes::Overlay;
 /// The second lanes of both fields, whose pairs go into null slots.
 #[derive(Drop)]
 pub struct SecondLanes {
-    one: PlacedLane,
-    two: PlacedLane,
+    one: PlacedField,
+    two: PlacedField,
     rate: Rate,
     frame: u32,
 }
@@ -22,7 +22,7 @@ impl SecondLanes {
     ghost use Rattle.shared_field.specs.SecondLanes.{lanes_at_first};
 
     /// The lanes of field 1 and of field 2, from frame 0 on.
-    pub fn new(one: PlacedLane, two: PlacedLane, rate: Rate) -> SecondLanes
+    pub fn new(one: PlacedField, two: PlacedField, rate: Rate) -> SecondLanes
         ensures { result ≡ lanes_at_first one two rate }
     {
         SecondLanes {
@@ -55,7 +55,7 @@ impl Overlay for SecondLanes {
 }
 
 // The pair of a frame, with that of the second lane where the first is null.
-fn beside(first: Option<Pair>, lane: &mut PlacedLane, cadence: Cadence, frame: u32) -> Option<Pair>
+fn beside(first: Option<Pair>, lane: &mut PlacedField, cadence: Cadence, frame: u32) -> Option<Pair>
     requires { lane.old.slot + 1 < 2 ^ 32 }
     ensures pair { result ≡ beside first (given_in cadence frame lane.old) }
     ensures lane { lane.new ≡ behind_frame cadence frame lane.old }

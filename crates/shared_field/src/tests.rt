@@ -1,14 +1,12 @@
 ghost use Rattle.std.specs.Prelude.{◌≡◌, IfOk};
-ghost use Rattle.frame_scheduler.specs.LanePlan.{piece_cue};
+ghost use Rattle.field_lanes.specs.FieldPlan.{field_chunk_cue};
 ghost use Rattle.line21_author.specs.EventOrder.{AreApart};
 ghost use Rattle.placements.specs.LaneRoom.{AreInCueOrder};
 
 use crate::{Dual, SecondLanes, channel_parts, dual, units_in};
 use cc_base::Rate;
 use cue_lists::parse;
-use frame_scheduler::lane::piece::Piece;
-use frame_scheduler::lane::placed::{FieldLane, PlacedLane};
-use frame_scheduler::lane::placed_unit::PlacedUnit;
+use field_lanes::{FieldChunk, FieldLane, PlacedField, PlacedUnit};
 use frame_scheduler::{Frames, Plan};
 use line21_author::{Event, Unit};
 use line21_codes::{Chan, Pair};
@@ -28,7 +26,7 @@ const OK: Pair = Pair { a: 0x4F, b: 0xCB };
 // A text pair of cue 1, from this slot on.
 macro_rules! text {
     ($pair:expr, $load:expr) => {
-        Piece {
+        FieldChunk {
             unit: Unit {
                 pair: $pair,
                 doubled: false,
@@ -41,12 +39,12 @@ macro_rules! text {
 }
 
 // The lane at its first slot.
-fn placed(alloc: Global, pieces: Vec<Piece>, events: Vec<Event>) -> Result<PlacedLane, Fail>
-    requires order { AreInCueOrder piece_cue pieces.items }
+fn placed(alloc: Global, chunks: Vec<FieldChunk>, events: Vec<Event>) -> Result<PlacedField, Fail>
+    requires order { AreInCueOrder field_chunk_cue chunks.items }
     requires apart { AreApart events.items }
     ensures { IfOk result (λ lane. lane.slot ≡ 0) }
 {
-    match (FieldLane { pieces, events }).place(alloc) {
+    match (FieldLane { chunks, events }).place(alloc) {
         Ok(lane) => Ok(lane),
         Err(_) => Err(Fail::from("there is room")),
     }
@@ -55,10 +53,10 @@ fn placed(alloc: Global, pieces: Vec<Piece>, events: Vec<Event>) -> Result<Place
 // Six frames of these lanes, of which each is at its first slot: the first of both fields, and the second of both.
 fn six_frames(
     alloc: Global,
-    one: PlacedLane,
-    two: PlacedLane,
-    second_one: PlacedLane,
-    second_two: PlacedLane,
+    one: PlacedField,
+    two: PlacedField,
+    second_one: PlacedField,
+    second_two: PlacedField,
 ) -> Dual
     requires one { one.slot ≡ 0 }
     requires two { two.slot ≡ 0 }
@@ -128,7 +126,7 @@ fn a_caption_goes_on_behind_its_first_unit(rt: HostRuntime) -> Result<(), Fail> 
     let parts = channel_parts(alloc, list.cues(), Chan::Cc1, cadence)?;
     let asked: Vec<(Unit, bool, u32)> = parts
         .iter()
-        .map(|part| (part.first, part.later, part.piece.until))
+        .map(|part| (part.first, part.later, part.chunk.until))
         .collect(alloc)?;
     assert!(rt;
         asked.as_slice()

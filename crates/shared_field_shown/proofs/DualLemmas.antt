@@ -13,7 +13,7 @@ use Rattle.line21_slots.specs.Cadences.{cadence_of, slot_from}
 use Rattle.line21_author.specs.Channels.{cues_on}
 use Rattle.line21_author.proofs.SlotSequenceLemmas.{AreInSlots}
 use Rattle.frame_scheduler.specs.SlotLists.{slot_cues, slots_in_list}
-use Rattle.frame_scheduler.specs.Timeline.{Timeline, slot}
+use Rattle.field_lanes.specs.Timeline.{Timeline, slot}
 use Rattle.frame_scheduler.proofs.ListDoublingLemmas.{pairs_column}
 use Rattle.frame_scheduler.proofs.SlotLemmas.{slot_cues_formed, slot_sequence}
 use Rattle.line21_shown.specs.Reading.{pairs_before}

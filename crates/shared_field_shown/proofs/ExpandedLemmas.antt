@@ -5,31 +5,31 @@ use Rattle.std.proofs.lemmas.Bool.{cases_lt}
 use Rattle.std.proofs.lemmas.Bool.Decides.{nat_tests}
 use Rattle.line21_author.specs.declared.event.Event.{Event}
 use Rattle.line21_author.specs.declared.unit.Unit.{Unit}
-use Rattle.frame_scheduler.specs.declared.lane.piece.Piece.{Piece}
-use Rattle.frame_scheduler.specs.FieldLane.{end_of, lane, slots_of}
-use Rattle.frame_scheduler.specs.LaneEvents.{IsFree, event_at}
-use Rattle.frame_scheduler.specs.LaneTimeline.{stands}
-use Rattle.frame_scheduler.specs.Timeline.{first_of}
-use Rattle.frame_scheduler.proofs.FieldLaneLemmas.{end_push}
+use Rattle.field_lanes.specs.declared.chunk.FieldChunk.{FieldChunk}
+use Rattle.field_lanes.specs.FieldLane.{end_of, field_lane, slots_of}
+use Rattle.field_lanes.specs.LaneEvents.{IsFree, event_at}
+use Rattle.field_lanes.specs.LaneTimeline.{stands}
+use Rattle.field_lanes.specs.Timeline.{first_of}
+use Rattle.field_lanes.proofs.FieldLaneLemmas.{end_push}
 use Rattle.placements.specs.Placing.{IsPlaced}
 use Rattle.resumed_lanes.specs.Parts.{part_slots}
 use Rattle.resumed_lanes.specs.ResumedLane.{Stand}
 use Rattle.resumed_lanes.specs.Slots.{Slots}
 use Rattle.resumed_lanes.specs.declared.part.Part.{Part}
-use Rattle.shared_field_shown.specs.Lanes.{AreCues, IsBehind, again, pieces_of}
+use Rattle.shared_field_shown.specs.Lanes.{AreCues, IsBehind, again, part_chunks}
 use Rattle.shared_field_shown.specs.Expanded.{ResumedIsOneLane, expanded, first_again, spread}
 use Rattle.shared_field_shown.proofs.LaneLemmas.{some_size, stands_none}
 
 -- the former unit is of a cue whose LOAD has come, and whose first unit is doubled
 record IsSecure (end : ℕ) (former : Part) : Type 0 where
-  loaded : former.piece.load ≤ end
+  loaded : former.chunk.load ≤ end
   doubled : former.first.doubled ≡ true
 
 abbrev Secure : ℕ → Option Part → Type 0
 Secure end None = ⊤
 Secure end (Some former) = IsSecure end former
 
-secure_next : (end : ℕ) (former : Option Part) (part : Part) (f : ℕ) (later : Bool) → IsBehind later former part → Secure end former → part.piece.load ≤ f
+secure_next : (end : ℕ) (former : Option Part) (part : Part) (f : ℕ) (later : Bool) → IsBehind later former part → Secure end former → part.chunk.load ≤ f
     → IsSecure (f + part_slots part) part
 secure_next end former part f false begins secure loaded =
     record { loaded = omega (arith, loaded); doubled = ap (λ (u : Unit). u.doubled) begins.first ∙ begins.doubled }
@@ -45,15 +45,15 @@ secure_here end (Some former) part true is behind secure =
     record { loaded = omega (arith, behind.load, secure.loaded); doubled = ap (λ (u : Unit). u.doubled) behind.first ∙ secure.doubled }
 
 module _ (events : List Event) (slots : Slots) (free : (n : ℕ) → slots.free n ≡ true → IsFree events n) where
-  placed_expanded : (before : List (Piece × ℕ)) (end : ℕ) (former : Option Part) (parts : List Part) (fs : List ℕ) (rs : List (Option ℕ)) → end_of before ≡ end
-      → AreCues former parts → Secure end former → Stand slots end parts fs rs → IsPlaced (lane events) before (expanded parts rs) (spread fs rs)
+  placed_expanded : (before : List (FieldChunk × ℕ)) (end : ℕ) (former : Option Part) (parts : List Part) (fs : List ℕ) (rs : List (Option ℕ)) → end_of before ≡ end
+      → AreCues former parts → Secure end former → Stand slots end parts fs rs → IsPlaced (field_lane events) before (expanded parts rs) (spread fs rs)
   placed_expanded before end former [] [] rs at cues secure stand = tt
   placed_expanded before end former [] (f ∷ fs) rs at cues secure stand = absurd stand
   placed_expanded before end former (part ∷ parts) [] rs at cues secure stand = absurd stand
   placed_expanded before end former (part ∷ parts) (f ∷ fs) [] at cues secure stand = absurd stand
   placed_expanded before end former (part ∷ parts) (f ∷ fs) (None ∷ rs) at cues secure stand = (
     record { behind = omega (arith, at, stand.0.behind); loaded = stand.0.loaded; ended = stand.0.ended; free = λ n high low. free n (stand.0.free n high low) },
-    placed_expanded (before ++ (part.piece, f) ∷ []) (f + part_slots part) (Some part) parts fs rs (end_push before part.piece f) cues.1
+    placed_expanded (before ++ (part.chunk, f) ∷ []) (f + part_slots part) (Some part) parts fs rs (end_push before part.chunk f) cues.1
         (secure_next end former part f part.later cues.0 secure stand.0.loaded) stand.2,
   )
   placed_expanded before end former (part ∷ parts) (f ∷ fs) (Some q ∷ rs) at cues secure stand =
@@ -78,8 +78,8 @@ module _ (events : List Event) (slots : Slots) (free : (n : ℕ) → slots.free 
             ended = stand.0.ended;
             free = λ n high low. free n (stand.0.free n high low);
           },
-          placed_expanded ((before ++ (first_again part, q) ∷ []) ++ (part.piece, f) ∷ []) (f + part_slots part) (Some part) parts fs rs
-              (end_push (before ++ (first_again part, q) ∷ []) part.piece f) cues.1 (secure_next end former part f part.later cues.0 secure stand.0.loaded) stand.2,
+          placed_expanded ((before ++ (first_again part, q) ∷ []) ++ (part.chunk, f) ∷ []) (f + part_slots part) (Some part) parts fs rs
+              (end_push (before ++ (first_again part, q) ∷ []) part.chunk f) cues.1 (secure_next end former part f part.later cues.0 secure stand.0.loaded) stand.2,
         ),
       )
 
@@ -89,32 +89,32 @@ or_nothing (Some unit) = refl
 
 -- what stands in the longer list stands in one or the other
 stands_expanded : (slots : Slots) (end : ℕ) (parts : List Part) (fs : List ℕ) (rs : List (Option ℕ)) (n : ℕ) → Stand slots end parts fs rs
-    → stands (expanded parts rs) (spread fs rs) n ≡ first_of (stands (pieces_of parts) fs n) (again parts rs n)
+    → stands (expanded parts rs) (spread fs rs) n ≡ first_of (stands (part_chunks parts) fs n) (again parts rs n)
 stands_expanded slots end [] [] rs n stand = refl
 stands_expanded slots end [] (f ∷ fs) rs n stand = absurd stand
 stands_expanded slots end (part ∷ parts) [] rs n stand = absurd stand
 stands_expanded slots end (part ∷ parts) (f ∷ fs) [] n stand = absurd stand
 stands_expanded slots end (part ∷ parts) (f ∷ fs) (None ∷ rs) n stand = by_slot (n == f) (stands_expanded slots (f + part_slots part) parts fs rs n stand.2)
   where
-    by_slot : (b : Bool) → stands (expanded parts rs) (spread fs rs) n ≡ first_of (stands (pieces_of parts) fs n) (again parts rs n)
-        → (if b then Some part.piece.unit else stands (expanded parts rs) (spread fs rs) n)
-        ≡ first_of (if b then Some part.piece.unit else stands (pieces_of parts) fs n) (again parts rs n)
+    by_slot : (b : Bool) → stands (expanded parts rs) (spread fs rs) n ≡ first_of (stands (part_chunks parts) fs n) (again parts rs n)
+        → (if b then Some part.chunk.unit else stands (expanded parts rs) (spread fs rs) n)
+        ≡ first_of (if b then Some part.chunk.unit else stands (part_chunks parts) fs n) (again parts rs n)
     by_slot true rest = refl
     by_slot false rest = rest
 stands_expanded slots end (part ∷ parts) (f ∷ fs) (Some q ∷ rs) n stand =
     by_resume (n == q) refl (stands_expanded slots (f + part_slots part) parts fs rs n stand.2)
   where
-    by_resume : (b : Bool) → (n == q) ≡ b → stands (expanded parts rs) (spread fs rs) n ≡ first_of (stands (pieces_of parts) fs n) (again parts rs n)
-        → (if b then Some part.first else (if n == f then Some part.piece.unit else stands (expanded parts rs) (spread fs rs) n))
-        ≡ first_of (if n == f then Some part.piece.unit else stands (pieces_of parts) fs n) (if b then Some part.first else again parts rs n)
+    by_resume : (b : Bool) → (n == q) ≡ b → stands (expanded parts rs) (spread fs rs) n ≡ first_of (stands (part_chunks parts) fs n) (again parts rs n)
+        → (if b then Some part.first else (if n == f then Some part.chunk.unit else stands (expanded parts rs) (spread fs rs) n))
+        ≡ first_of (if n == f then Some part.chunk.unit else stands (part_chunks parts) fs n) (if b then Some part.first else again parts rs n)
     by_resume true test rest =
         let low : n < f = let b = stand.1.1.at_is.before in grind (arith, nat_tests) in
         let not_f : (n == f) ≡ false = grind (arith, nat_tests) in
         rw (not_f, stands_none slots (f + part_slots part) parts fs rs n stand.2 (omega arith)) refl
     by_resume false test rest = by_slot (n == f)
       where
-        by_slot : (b : Bool) → (if b then Some part.piece.unit else stands (expanded parts rs) (spread fs rs) n)
-            ≡ first_of (if b then Some part.piece.unit else stands (pieces_of parts) fs n) (again parts rs n)
+        by_slot : (b : Bool) → (if b then Some part.chunk.unit else stands (expanded parts rs) (spread fs rs) n)
+            ≡ first_of (if b then Some part.chunk.unit else stands (part_chunks parts) fs n) (again parts rs n)
         by_slot true = refl
         by_slot false = rest
 
@@ -127,5 +127,5 @@ one_lane events slots parts fs rs free cues stand = record {
   placed = placed_expanded events slots free [] 0 None parts fs rs refl cues tt stand;
   timeline = λ n.
       ap (first_of (event_at events n)) (stands_expanded slots 0 parts fs rs n stand)
-      ∙ first_assoc (event_at events n) (stands (pieces_of parts) fs n) (again parts rs n);
+      ∙ first_assoc (event_at events n) (stands (part_chunks parts) fs n) (again parts rs n);
 }

@@ -6,36 +6,36 @@ use Rattle.std.proofs.lemmas.Bool.Decides.{nat_tests}
 use Rattle.line21_codes.specs.Reading.{code_of}
 use Rattle.line21_author.specs.declared.unit.Unit.{Unit}
 use Rattle.line21_screen.specs.declared.modes.Mode.{Mode}
-use Rattle.frame_scheduler.specs.LaneTimeline.{stands}
-use Rattle.frame_scheduler.specs.Timeline.{Timeline, first_of}
+use Rattle.field_lanes.specs.LaneTimeline.{stands}
+use Rattle.field_lanes.specs.Timeline.{Timeline, first_of}
 use Rattle.resumed_lanes.specs.Parts.{part_slots}
 use Rattle.resumed_lanes.specs.ResumedLane.{IsResume, Stand}
 use Rattle.resumed_lanes.specs.Slots.{Slots}
 use Rattle.resumed_lanes.specs.declared.part.Part.{Part}
-use Rattle.shared_field_shown.specs.Lanes.{AreCues, AreQuiet, Begins, Continues, IsBehind, IsLane, again, pieces_of, plain_timeline}
+use Rattle.shared_field_shown.specs.Lanes.{AreCues, AreQuiet, Begins, Continues, IsBehind, IsLane, again, part_chunks, plain_timeline}
 use Rattle.shared_field_shown.specs.Resuming.{AreResumed, IsResumed, keeps_mode, opens}
 
 -- a unit takes a slot, and two where it is doubled
 pub some_size : (part : Part) → 1 ≤ part_slots part
-some_size part = by_doubled part.piece.unit.doubled
+some_size part = by_doubled part.chunk.unit.doubled
   where
     by_doubled : (b : Bool) → 1 ≤ (if b then 2 else 1)
     by_doubled true = omega arith
     by_doubled false = omega arith
 
 pub few_size : (part : Part) → part_slots part ≤ 2
-few_size part = by_doubled part.piece.unit.doubled
+few_size part = by_doubled part.chunk.unit.doubled
   where
     by_doubled : (b : Bool) → (if b then 2 else 1) ≤ 2
     by_doubled true = omega arith
     by_doubled false = omega arith
 
-pub two_size : (part : Part) → part.piece.unit.doubled ≡ true → part_slots part ≡ 2
+pub two_size : (part : Part) → part.chunk.unit.doubled ≡ true → part_slots part ≡ 2
 two_size part doubled = ap (λ b. cond b 2 1) doubled
 
 -- what stands first stands at its slot
 pub stands_at : (part : Part) (parts : List Part) (f : ℕ) (fs : List ℕ) (n : ℕ) (b : Bool) → (n == f) ≡ b
-    → stands (pieces_of (part ∷ parts)) (f ∷ fs) n ≡ (if b then Some part.piece.unit else stands (pieces_of parts) fs n)
+    → stands (part_chunks (part ∷ parts)) (f ∷ fs) n ≡ (if b then Some part.chunk.unit else stands (part_chunks parts) fs n)
 stands_at part parts f fs n b test = rw test refl
 
 pub again_at : (part : Part) (parts : List Part) (at : ℕ) (rs : List (Option ℕ)) (n : ℕ) (b : Bool) → (n == at) ≡ b
@@ -44,7 +44,7 @@ again_at part parts at rs n b test = rw test refl
 
 -- no unit stands before the end of those before it
 pub stands_none : (slots : Slots) (end : ℕ) (parts : List Part) (fs : List ℕ) (rs : List (Option ℕ)) (n : ℕ) → Stand slots end parts fs rs
-    → n < end → stands (pieces_of parts) fs n ≡ None
+    → n < end → stands (part_chunks parts) fs n ≡ None
 stands_none slots end [] fs rs n stand low = refl
 stands_none slots end (part ∷ parts) [] rs n stand low = refl
 stands_none slots end (part ∷ parts) (f ∷ fs) [] n stand low = absurd stand
@@ -83,7 +83,7 @@ pub record IsUnderWay (t : Timeline) (end : ℕ) (former : Part) : Type 0 where
   pub mode : Mode
   pub opens_it : opens (code_of former.first.pair) ≡ Some mode
   pub kept : (n : ℕ) (other : Unit) → at < n → n < end → t n ≡ Some other → keeps_mode (code_of other.pair) ≡ true
-  pub loaded : former.piece.load ≤ at
+  pub loaded : former.chunk.load ≤ at
 
 abbrev pub UnderWay : Timeline → ℕ → Option Part → Type 0
 UnderWay t end None = ⊤
@@ -94,12 +94,12 @@ module _ (slots : Slots) (events t : Timeline)
   -- one unit, behind the units before it
   module _ (end : ℕ) (part : Part) (parts : List Part) (f : ℕ) (fs : List ℕ) (r : Option ℕ) (rs : List (Option ℕ))
       (stand : Stand slots end (part ∷ parts) (f ∷ fs) (r ∷ rs))
-      (same : (n : ℕ) → end ≤ n → t n ≡ first_of (events n) (stands (pieces_of (part ∷ parts)) (f ∷ fs) n)) where
+      (same : (n : ℕ) → end ≤ n → t n ≡ first_of (events n) (stands (part_chunks (part ∷ parts)) (f ∷ fs) n)) where
     -- in front of it the events are alone
     pub in_front : (n : ℕ) → end ≤ n → n < f → t n ≡ events n
     in_front n high low =
         let test : (n == f) ≡ false = grind (arith, nat_tests) in
-        let none : stands (pieces_of (part ∷ parts)) (f ∷ fs) n ≡ None =
+        let none : stands (part_chunks (part ∷ parts)) (f ∷ fs) n ≡ None =
         stands_at part parts f fs n false test ∙ stands_none slots (f + part_slots part) parts fs rs n stand.2 (omega arith) in
         same n high ∙ ap (first_of (events n)) none ∙ or_nothing (events n)
       where
@@ -108,22 +108,22 @@ module _ (slots : Slots) (events t : Timeline)
         or_nothing (Some unit) = refl
 
     -- at its slot it begins
-    pub at_slot : t f ≡ Some part.piece.unit
+    pub at_slot : t f ≡ Some part.chunk.unit
     at_slot =
         let none : events f ≡ None = free_none slots events held f (stand.0.free f (omega arith) (omega (arith, some_size part))) in
         let test : (f == f) ≡ true = grind (arith, nat_tests) in
-        same f stand.0.behind ∙ ap (λ u. first_of u (stands (pieces_of (part ∷ parts)) (f ∷ fs) f)) none ∙ stands_at part parts f fs f true test
+        same f stand.0.behind ∙ ap (λ u. first_of u (stands (part_chunks (part ∷ parts)) (f ∷ fs) f)) none ∙ stands_at part parts f fs f true test
 
     -- and in its second slot nothing does
     pub in_second : (n : ℕ) → f < n → n < f + part_slots part → t n ≡ None
     in_second n high low =
         let none : events n ≡ None = free_none slots events held n (stand.0.free n (omega arith) low) in
         let test : (n == f) ≡ false = grind (arith, nat_tests) in
-        same n (omega (arith, stand.0.behind)) ∙ ap (λ u. first_of u (stands (pieces_of (part ∷ parts)) (f ∷ fs) n)) none
+        same n (omega (arith, stand.0.behind)) ∙ ap (λ u. first_of u (stands (part_chunks (part ∷ parts)) (f ∷ fs) n)) none
         ∙ stands_at part parts f fs n false test ∙ stands_none slots (f + part_slots part) parts fs rs n stand.2 low
 
     -- behind it the rest goes on
-    pub same_behind : (n : ℕ) → f + part_slots part ≤ n → t n ≡ first_of (events n) (stands (pieces_of parts) fs n)
+    pub same_behind : (n : ℕ) → f + part_slots part ≤ n → t n ≡ first_of (events n) (stands (part_chunks parts) fs n)
     same_behind n high =
         let test : (n == f) ≡ false = let s = some_size part in grind (arith, nat_tests) in
         same n (omega (arith, stand.0.behind)) ∙ ap (first_of (events n)) (stands_at part parts f fs n false test)
@@ -141,7 +141,7 @@ module _ (slots : Slots) (events t : Timeline)
     }
 
     module _ (former : Part) (under : IsUnderWay t end former) (continues : Continues former part)
-        (quiet : (n : ℕ) (unit : Unit) → part.piece.load < n → n < part.piece.until → events n ≡ Some unit → keeps_mode (code_of unit.pair) ≡ true) where
+        (quiet : (n : ℕ) (unit : Unit) → part.chunk.load < n → n < part.chunk.until → events n ≡ Some unit → keeps_mode (code_of unit.pair) ≡ true) where
       pub kept_to : (n : ℕ) (other : Unit) → under.at < n → n < f → t n ≡ Some other → keeps_mode (code_of other.pair) ≡ true
       kept_to n other high low is =
           ⊎_elim
@@ -166,8 +166,8 @@ module _ (slots : Slots) (events t : Timeline)
             (λ (second : f < n). let none : t n ≡ None = in_second n second low in let wrong : Some other ≡ None = sym is ∙ none in absurd (cc))
             (λ (first : n ≤ f).
             let here : n ≡ f = omega arith in
-            let it : Some part.piece.unit ≡ Some other = sym at_slot ∙ ap t (sym here) ∙ is in
-            let unit : part.piece.unit ≡ other = cc in
+            let it : Some part.chunk.unit ≡ Some other = sym at_slot ∙ ap t (sym here) ∙ is in
+            let unit : part.chunk.unit ≡ other = cc in
             ap (λ (u : Unit). keeps_mode (code_of u.pair)) (sym unit) ∙ continues.keeps_it)
             (cases_lt f n))
             (cases_lt n f);
@@ -189,9 +189,9 @@ module _ (slots : Slots) (events t : Timeline)
   -- a unit behind the units before it puts its cue under way, or leaves it so
   under_next : (end : ℕ) (part : Part) (parts : List Part) (f : ℕ) (fs : List ℕ) (r : Option ℕ) (rs : List (Option ℕ))
       (stand : Stand slots end (part ∷ parts) (f ∷ fs) (r ∷ rs))
-      (same : (n : ℕ) → end ≤ n → t n ≡ first_of (events n) (stands (pieces_of (part ∷ parts)) (f ∷ fs) n))
+      (same : (n : ℕ) → end ≤ n → t n ≡ first_of (events n) (stands (part_chunks (part ∷ parts)) (f ∷ fs) n))
       (former : Option Part) (later : Bool) → IsBehind later former part → UnderWay t end former
-      → ((n : ℕ) (unit : Unit) → part.piece.load < n → n < part.piece.until → events n ≡ Some unit → keeps_mode (code_of unit.pair) ≡ true)
+      → ((n : ℕ) (unit : Unit) → part.chunk.load < n → n < part.chunk.until → events n ≡ Some unit → keeps_mode (code_of unit.pair) ≡ true)
       → IsUnderWay t (f + part_slots part) part
   under_next end part parts f fs r rs stand same former false behind under quiet = begun end part parts f fs r rs stand same behind
   under_next end part parts f fs r rs stand same None true behind under quiet = absurd behind
@@ -199,9 +199,9 @@ module _ (slots : Slots) (events t : Timeline)
 
   resumed_at : (end : ℕ) (part : Part) (parts : List Part) (f : ℕ) (fs : List ℕ) (r : Option ℕ) (rs : List (Option ℕ))
       (stand : Stand slots end (part ∷ parts) (f ∷ fs) (r ∷ rs))
-      (same : (n : ℕ) → end ≤ n → t n ≡ first_of (events n) (stands (pieces_of (part ∷ parts)) (f ∷ fs) n))
+      (same : (n : ℕ) → end ≤ n → t n ≡ first_of (events n) (stands (part_chunks (part ∷ parts)) (f ∷ fs) n))
       (former : Option Part) (later : Bool) → later ≡ true → IsBehind later former part → UnderWay t end former
-      → ((n : ℕ) (unit : Unit) → part.piece.load < n → n < part.piece.until → events n ≡ Some unit → keeps_mode (code_of unit.pair) ≡ true)
+      → ((n : ℕ) (unit : Unit) → part.chunk.load < n → n < part.chunk.until → events n ≡ Some unit → keeps_mode (code_of unit.pair) ≡ true)
       → (at : ℕ) → IsResume slots end f at → IsResumed t at part.first
   resumed_at end part parts f fs r rs stand same former false is behind under quiet at resume = cc
   resumed_at end part parts f fs r rs stand same None true is behind under quiet at resume = absurd behind
@@ -210,7 +210,7 @@ module _ (slots : Slots) (events t : Timeline)
 
   -- all that come again do so while their cue is under way
   resumed_all : (end : ℕ) (former : Option Part) (parts : List Part) (fs : List ℕ) (rs : List (Option ℕ)) → Stand slots end parts fs rs
-      → ((n : ℕ) → end ≤ n → t n ≡ first_of (events n) (stands (pieces_of parts) fs n)) → AreCues former parts → AreQuiet events parts → UnderWay t end former
+      → ((n : ℕ) → end ≤ n → t n ≡ first_of (events n) (stands (part_chunks parts) fs n)) → AreCues former parts → AreQuiet events parts → UnderWay t end former
       → (at : ℕ) (unit : Unit) → again parts rs at ≡ Some unit → IsResumed t at unit
   resumed_all end former [] fs rs stand same cues quiet under at unit is = cc
   resumed_all end former (part ∷ parts) fs [] stand same cues quiet under at unit is = cc

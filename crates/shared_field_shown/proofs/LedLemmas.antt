@@ -8,14 +8,14 @@ use Rattle.line21_codes.specs.declared.codes.Code.TheVariants.{Null, Text, Xds, 
 use Rattle.line21_codes.specs.Reading.{code_of}
 use Rattle.line21_author.specs.declared.unit.Unit.{Unit}
 use Rattle.line21_screen.specs.declared.modes.Mode.{Mode}
-use Rattle.frame_scheduler.specs.LaneTimeline.{stands}
-use Rattle.frame_scheduler.specs.Timeline.{Timeline, first_of}
+use Rattle.field_lanes.specs.LaneTimeline.{stands}
+use Rattle.field_lanes.specs.Timeline.{Timeline, first_of}
 use Rattle.resumed_lanes.specs.Parts.{part_slots}
 use Rattle.resumed_lanes.specs.ResumedLane.{ResumesAt, Stand}
 use Rattle.resumed_lanes.specs.Slots.{Slots}
 use Rattle.resumed_lanes.specs.Spans.{covers}
 use Rattle.resumed_lanes.specs.declared.part.Part.{Part}
-use Rattle.shared_field_shown.specs.Lanes.{AreCues, Begins, IsBehind, again, pieces_of}
+use Rattle.shared_field_shown.specs.Lanes.{AreCues, Begins, IsBehind, again, part_chunks}
 use Rattle.shared_field_shown.specs.Resuming.{opens}
 use Rattle.shared_field_shown.specs.Sharing.{IsLedTo, is_text}
 use Rattle.shared_field_shown.proofs.LaneLemmas.{again_at, at_slot, free_none, in_front, same_behind, some_size, stands_at}
@@ -80,7 +80,7 @@ module _ (slots : Slots) (events t own other : Timeline)
 
   module _ (end : ℕ) (part : Part) (parts : List Part) (f : ℕ) (fs : List ℕ) (r : Option ℕ) (rs : List (Option ℕ))
       (stand : Stand slots end (part ∷ parts) (f ∷ fs) (r ∷ rs))
-      (same : (n : ℕ) → end ≤ n → t n ≡ first_of (events n) (stands (pieces_of (part ∷ parts)) (f ∷ fs) n))
+      (same : (n : ℕ) → end ≤ n → t n ≡ first_of (events n) (stands (part_chunks (part ∷ parts)) (f ∷ fs) n))
       (mine : (n : ℕ) → end ≤ n → own n ≡ first_of (t n) (again (part ∷ parts) (r ∷ rs) n))
       (clear : (m : ℕ) → covers end (part ∷ parts) (f ∷ fs) m ≡ true → slots.foreign m ≡ false → other m ≡ None) where
     -- in its own slots the other lane has nothing
@@ -88,7 +88,7 @@ module _ (slots : Slots) (events t own other : Timeline)
     none_in m high low =
         clear m (covered_own end part parts f fs m stand.0.behind high low) (not_foreign m (stand.0.free m high low))
 
-    own_at : own f ≡ Some part.piece.unit
+    own_at : own f ≡ Some part.chunk.unit
     own_at = mine f stand.0.behind ∙ ap (λ u. first_of u (again (part ∷ parts) (r ∷ rs) f)) (at_slot slots events t held end part parts f fs r rs stand same)
 
     mine_behind : (n : ℕ) → f + part_slots part ≤ n → own n ≡ first_of (t n) (again parts rs n)
@@ -110,9 +110,9 @@ module _ (slots : Slots) (events t own other : Timeline)
     led_begun begins = record {
       at = f;
       before = omega (arith, some_size part);
-      unit = part.piece.unit;
+      unit = part.chunk.unit;
       begins = own_at;
-      control = opener_plain (code_of part.piece.unit.pair) begins.mode (ap (λ (u : Unit). opens (code_of u.pair)) (sym begins.first) ∙ begins.opens_it);
+      control = opener_plain (code_of part.chunk.unit.pair) begins.mode (ap (λ (u : Unit). opens (code_of u.pair)) (sym begins.first) ∙ begins.opens_it);
       alone = λ m high low. none_in m (omega arith) low;
     }
 
@@ -182,7 +182,7 @@ module _ (slots : Slots) (events t own other : Timeline)
 
   module _ (end : ℕ) (part : Part) (parts : List Part) (f : ℕ) (fs : List ℕ) (r : Option ℕ) (rs : List (Option ℕ))
       (stand : Stand slots end (part ∷ parts) (f ∷ fs) (r ∷ rs))
-      (same : (n : ℕ) → end ≤ n → t n ≡ first_of (events n) (stands (pieces_of (part ∷ parts)) (f ∷ fs) n))
+      (same : (n : ℕ) → end ≤ n → t n ≡ first_of (events n) (stands (part_chunks (part ∷ parts)) (f ∷ fs) n))
       (mine : (n : ℕ) → end ≤ n → own n ≡ first_of (t n) (again (part ∷ parts) (r ∷ rs) n))
       (clear : (m : ℕ) → covers end (part ∷ parts) (f ∷ fs) m ≡ true → slots.foreign m ≡ false → other m ≡ None) where
     behind_next : (former : Option Part) (later : Bool) → part.later ≡ later → IsBehind later former part → BehindUnit end former → IsBehindUnit (f + part_slots part) part
@@ -201,10 +201,10 @@ module _ (slots : Slots) (events t own other : Timeline)
         }
 
     led_here : (former : Option Part) (later : Bool) → part.later ≡ later → IsBehind later former part → BehindUnit end former
-        → is_text (code_of part.piece.unit.pair) ≡ true → IsLedTo own other f
+        → is_text (code_of part.chunk.unit.pair) ≡ true → IsLedTo own other f
     led_here former false is begins behind text =
-        let plain' : is_text (code_of part.piece.unit.pair) ≡ false =
-        opener_plain (code_of part.piece.unit.pair) begins.mode (ap (λ (u : Unit). opens (code_of u.pair)) (sym begins.first) ∙ begins.opens_it) in absurd (cc)
+        let plain' : is_text (code_of part.chunk.unit.pair) ≡ false =
+        opener_plain (code_of part.chunk.unit.pair) begins.mode (ap (λ (u : Unit). opens (code_of u.pair)) (sym begins.first) ∙ begins.opens_it) in absurd (cc)
     led_here None true is continues behind text = absurd continues
     led_here (Some former) true is continues behind text =
         let opens_it : opens (code_of part.first.pair) ≡ Some behind.mode = ap (λ (u : Unit). opens (code_of u.pair)) continues.first ∙ behind.opens_it in
@@ -213,9 +213,9 @@ module _ (slots : Slots) (events t own other : Timeline)
 
   -- each text unit is led to
   pub led_all : (end : ℕ) (former : Option Part) (parts : List Part) (fs : List ℕ) (rs : List (Option ℕ)) → Stand slots end parts fs rs
-      → ((n : ℕ) → end ≤ n → t n ≡ first_of (events n) (stands (pieces_of parts) fs n)) → ((n : ℕ) → end ≤ n → own n ≡ first_of (t n) (again parts rs n))
+      → ((n : ℕ) → end ≤ n → t n ≡ first_of (events n) (stands (part_chunks parts) fs n)) → ((n : ℕ) → end ≤ n → own n ≡ first_of (t n) (again parts rs n))
       → ((m : ℕ) → covers end parts fs m ≡ true → slots.foreign m ≡ false → other m ≡ None) → AreCues former parts → BehindUnit end former
-      → (n : ℕ) (unit : Unit) → stands (pieces_of parts) fs n ≡ Some unit → is_text (code_of unit.pair) ≡ true → IsLedTo own other n
+      → (n : ℕ) (unit : Unit) → stands (part_chunks parts) fs n ≡ Some unit → is_text (code_of unit.pair) ≡ true → IsLedTo own other n
   led_all end former [] fs rs stand same mine clear cues behind n unit is text = cc
   led_all end former (part ∷ parts) [] rs stand same mine clear cues behind n unit is text = cc
   led_all end former (part ∷ parts) (f ∷ fs) [] stand same mine clear cues behind n unit is text = absurd stand
@@ -225,11 +225,11 @@ module _ (slots : Slots) (events t own other : Timeline)
       (mine_behind end part parts f fs r rs stand same mine clear) (clear_behind end part parts f fs r rs stand same mine clear) cues.1
       (behind_next end part parts f fs r rs stand same mine clear former part.later refl cues.0 behind) n unit rest text)
     where
-      by_slot : (b : Bool) → (n == f) ≡ b → (stands (pieces_of parts) fs n ≡ Some unit → IsLedTo own other n) → IsLedTo own other n
+      by_slot : (b : Bool) → (n == f) ≡ b → (stands (part_chunks parts) fs n ≡ Some unit → IsLedTo own other n) → IsLedTo own other n
       by_slot true test rest =
           let here : f ≡ n = grind (arith, nat_tests) in
-          let it : Some part.piece.unit ≡ Some unit = sym (stands_at part parts f fs n true test) ∙ is in
-          let it' : part.piece.unit ≡ unit = cc in
+          let it : Some part.chunk.unit ≡ Some unit = sym (stands_at part parts f fs n true test) ∙ is in
+          let it' : part.chunk.unit ≡ unit = cc in
           subst (IsLedTo own other) here
           (led_here end part parts f fs r rs stand same mine clear former part.later refl cues.0 behind (ap (λ (u : Unit). is_text (code_of u.pair)) it' ∙ text))
       by_slot false test rest = rest (sym (stands_at part parts f fs n false test) ∙ is)

@@ -38,37 +38,37 @@ use Rattle.line21_author.proofs.CueCodesLemmas.{cue_codes_writable}
 use Rattle.line21_author.proofs.CueEventsLemmas.{events_of_apart}
 use Rattle.line21_author.proofs.CueUnitsLemmas.{unit_of_carried}
 use Rattle.line21_author.proofs.SlotSequenceLemmas.{AreInSlots}
-use Rattle.frame_scheduler.specs.declared.lane.piece.Piece.{Piece}
-use Rattle.frame_scheduler.specs.ChannelLane.{cue_pieces, pieces_from}
-use Rattle.frame_scheduler.specs.LaneEvents.{event_at}
-use Rattle.frame_scheduler.specs.Timeline.{first_of}
-use Rattle.frame_scheduler.proofs.EventLemmas.{event_none}
+use Rattle.field_lanes.specs.declared.chunk.FieldChunk.{FieldChunk}
+use Rattle.field_lanes.specs.ChannelLane.{field_cue_chunks, channel_chunks_from}
+use Rattle.field_lanes.specs.LaneEvents.{event_at}
+use Rattle.field_lanes.specs.Timeline.{first_of}
+use Rattle.field_lanes.proofs.EventLemmas.{event_none}
 use Rattle.line21_shown.proofs.BlindLemmas.{AreWriting, IsWriting, extended_is, mid_row, preamble, runs_writing, special_is, tab, text}
 use Rattle.resumed_lanes.specs.declared.part.Part.{Part}
-use Rattle.shared_field_shown.specs.Lanes.{AreCues, AreQuiet, pieces_of}
+use Rattle.shared_field_shown.specs.Lanes.{AreCues, AreQuiet, part_chunks}
 use Rattle.shared_field_shown.specs.ChannelParts.{channel_parts, later_part, parts_from, parts_of}
 use Rattle.shared_field_shown.specs.Resuming.{keeps_mode, opens}
 use Rattle.shared_field_shown.specs.Sharing.{IsFor, is_text}
 use Rattle.shared_field_shown.specs.Together.{AreOfChannel, IsListed, IsOfChannel}
 
 -- the units are those of the channel
-pieces_later : (first : Unit) (pieces : List Piece) → pieces_of (map (later_part first) pieces) ≡ pieces
-pieces_later first [] = refl
-pieces_later first (piece ∷ pieces) = ap (λ (l : List Piece). piece ∷ l) (pieces_later first pieces)
+chunks_later : (first : Unit) (chunks : List FieldChunk) → part_chunks (map (later_part first) chunks) ≡ chunks
+chunks_later first [] = refl
+chunks_later first (chunk ∷ chunks) = ap (λ (l : List FieldChunk). chunk ∷ l) (chunks_later first chunks)
 
-pieces_back : (pieces : List Piece) → pieces_of (parts_of pieces) ≡ pieces
-pieces_back [] = refl
-pieces_back (piece ∷ pieces) = ap (λ (l : List Piece). piece ∷ l) (pieces_later piece.unit pieces)
+chunks_back : (chunks : List FieldChunk) → part_chunks (parts_of chunks) ≡ chunks
+chunks_back [] = refl
+chunks_back (chunk ∷ chunks) = ap (λ (l : List FieldChunk). chunk ∷ l) (chunks_later chunk.unit chunks)
 
-pub pieces_from_back : (channel : Chan) (number : ℕ) (cues : List Cue) → pieces_of (parts_from channel number cues) ≡ pieces_from channel number cues
-pieces_from_back channel number [] = refl
-pieces_from_back channel number (cue ∷ cues) =
-    map-append (λ (part : Part). part.piece) (if is_on channel cue.kind then parts_of (cue_pieces number cue) else []) (parts_from channel (suc number) cues)
-    ∙ ap (λ (l : List Piece). pieces_of (if is_on channel cue.kind then parts_of (cue_pieces number cue) else []) ++ l) (pieces_from_back channel (suc number) cues)
-    ∙ ap (λ (l : List Piece). l ++ pieces_from channel (suc number) cues) (by_test (is_on channel cue.kind))
+pub channel_chunks_from_back : (channel : Chan) (number : ℕ) (cues : List Cue) → part_chunks (parts_from channel number cues) ≡ channel_chunks_from channel number cues
+channel_chunks_from_back channel number [] = refl
+channel_chunks_from_back channel number (cue ∷ cues) =
+    map-append (λ (part : Part). part.chunk) (if is_on channel cue.kind then parts_of (field_cue_chunks number cue) else []) (parts_from channel (suc number) cues)
+    ∙ ap (λ (l : List FieldChunk). part_chunks (if is_on channel cue.kind then parts_of (field_cue_chunks number cue) else []) ++ l) (channel_chunks_from_back channel (suc number) cues)
+    ∙ ap (λ (l : List FieldChunk). l ++ channel_chunks_from channel (suc number) cues) (by_test (is_on channel cue.kind))
   where
-    by_test : (b : Bool) → pieces_of (if b then parts_of (cue_pieces number cue) else []) ≡ (if b then cue_pieces number cue else [])
-    by_test true = pieces_back (cue_pieces number cue)
+    by_test : (b : Bool) → part_chunks (if b then parts_of (field_cue_chunks number cue) else []) ≡ (if b then field_cue_chunks number cue else [])
+    by_test true = chunks_back (field_cue_chunks number cue)
     by_test false = refl
 
 -- the codes of runs leave the mode, and are for data channel 1
@@ -148,16 +148,16 @@ opener_doubled f (Text first second) mode is = cc
 opener_doubled f (Xds first second) mode is = cc
 opener_doubled f (Control second control) mode is = refl
 
-abbrev piece_of : FieldNumber → ℕ → Cue → Code → Piece
-piece_of f number cue code = record { unit = unit_of f code; load = cue.load; until = cue.show; cue = number }
+abbrev chunk_of : FieldNumber → ℕ → Cue → Code → FieldChunk
+chunk_of f number cue code = record { unit = unit_of f code; load = cue.load; until = cue.show; cue = number }
 
-abbrev pieces_with : FieldNumber → ℕ → Cue → List Code → List Piece
-pieces_with f number cue codes = map (λ (unit : Unit). record { unit = unit; load = cue.load; until = cue.show; cue = number }) (map (unit_of f) codes)
+abbrev chunks_with : FieldNumber → ℕ → Cue → List Code → List FieldChunk
+chunks_with f number cue codes = map (λ (unit : Unit). record { unit = unit; load = cue.load; until = cue.show; cue = number }) (map (unit_of f) codes)
 
 -- the later units of a cue, before others
 later_cues : (f : FieldNumber) (number : ℕ) (cue : Cue) (first : Unit) (codes : List Code) (behind : List Part) (former : Part)
-    → former.first ≡ first → former.piece.load ≡ cue.load → All IsWritable codes → AllLater codes → ((p : Part) → AreCues (Some p) behind)
-    → AreCues (Some former) (map (later_part first) (pieces_with f number cue codes) ++ behind)
+    → former.first ≡ first → former.chunk.load ≡ cue.load → All IsWritable codes → AllLater codes → ((p : Part) → AreCues (Some p) behind)
+    → AreCues (Some former) (map (later_part first) (chunks_with f number cue codes) ++ behind)
 later_cues f number cue first [] behind former same load writable later rest = rest former
 later_cues f number cue first (code ∷ codes) behind former same load writable later rest = (
   record {
@@ -165,12 +165,12 @@ later_cues f number cue first (code ∷ codes) behind former same load writable 
     load = sym load;
     keeps_it = ap keeps_mode (written-code_of f code (All-head IsWritable code codes writable)) ∙ later.0;
   },
-  later_cues f number cue first codes behind (later_part first (piece_of f number cue code)) refl refl (All-tail IsWritable code codes writable) later.1.1 rest,
+  later_cues f number cue first codes behind (later_part first (chunk_of f number cue code)) refl refl (All-tail IsWritable code codes writable) later.1.1 rest,
 )
 
 later_own : (f : FieldNumber) (number : ℕ) (cue : Cue) (first : Unit) (codes : List Code) (behind : List Part)
     → IsOfChannel data_channels.One first → All IsWritable codes → AllLater codes → AreOfChannel data_channels.One behind
-    → AreOfChannel data_channels.One (map (later_part first) (pieces_with f number cue codes) ++ behind)
+    → AreOfChannel data_channels.One (map (later_part first) (chunks_with f number cue codes) ++ behind)
 later_own f number cue first [] behind own writable later rest = rest
 later_own f number cue first (code ∷ codes) behind own writable later rest = (
   unit_own f code (All-head IsWritable code codes writable) later.1.0,
@@ -181,7 +181,7 @@ later_own f number cue first (code ∷ codes) behind own writable later rest = (
 -- what holds of parts behind others
 later_quiet : (events : ℕ → Option Unit) (f : FieldNumber) (number : ℕ) (cue : Cue) (first : Unit) (codes : List Code) (behind : List Part)
     → ((n : ℕ) (unit : Unit) → cue.load < n → n < cue.show → events n ≡ Some unit → keeps_mode (code_of unit.pair) ≡ true)
-    → AreQuiet events behind → AreQuiet events (map (later_part first) (pieces_with f number cue codes) ++ behind)
+    → AreQuiet events behind → AreQuiet events (map (later_part first) (chunks_with f number cue codes) ++ behind)
 later_quiet events f number cue first [] behind quiet rest = rest
 later_quiet events f number cue first (code ∷ codes) behind quiet rest = (quiet, later_quiet events f number cue first codes behind quiet rest)
 
@@ -194,9 +194,9 @@ record AreParts (events : ℕ → Option Unit) (former : Option Part) (parts : L
 cue_parts_are : (events : ℕ → Option Unit) (f : FieldNumber) (number : ℕ) (cue : Cue) (codes : List Code) (behind : List Part) (former : Option Part)
     → AreOpened codes → All IsWritable codes
     → ((n : ℕ) (unit : Unit) → cue.load < n → n < cue.show → events n ≡ Some unit → keeps_mode (code_of unit.pair) ≡ true)
-    → ((p : Option Part) → AreParts events p behind) → AreParts events former (parts_of (pieces_with f number cue codes) ++ behind)
+    → ((p : Option Part) → AreParts events p behind) → AreParts events former (parts_of (chunks_with f number cue codes) ++ behind)
 cue_parts_are events f number cue codes behind former opened writable quiet rest =
-    subst (λ (l : List Code). AreParts events former (parts_of (pieces_with f number cue l) ++ behind)) (sym opened.is)
+    subst (λ (l : List Code). AreParts events former (parts_of (chunks_with f number cue l) ++ behind)) (sym opened.is)
     (record {
       cues = (
         record {
@@ -206,7 +206,7 @@ cue_parts_are events f number cue codes behind former opened writable quiet rest
           doubled = opener_doubled f opened.first opened.mode opened.opens_it;
         },
         later_cues f number cue (unit_of f opened.first) opened.rest behind
-            (record { piece = piece_of f number cue opened.first; first = unit_of f opened.first; later = false }) refl refl rest_writable opened.later (λ p. (rest (Some p)).cues),
+            (record { chunk = chunk_of f number cue opened.first; first = unit_of f opened.first; later = false }) refl refl rest_writable opened.later (λ p. (rest (Some p)).cues),
       );
       own = (
         unit_own f opened.first first_writable opened.own,
@@ -237,7 +237,7 @@ parts_are events channel number (cue ∷ cues) formed quiet former =
   where
     by_test : (b : Bool) → is_on channel cue.kind ≡ b → AllByRecursion (IsQuiet events) (if b then cue ∷ cues_on channel cues else cues_on channel cues)
         → (AllByRecursion (IsQuiet events) (cues_on channel cues) → (p : Option Part) → AreParts events p (parts_from channel (suc number) cues))
-        → AreParts events former ((if b then parts_of (cue_pieces number cue) else []) ++ parts_from channel (suc number) cues)
+        → AreParts events former ((if b then parts_of (field_cue_chunks number cue) else []) ++ parts_from channel (suc number) cues)
     by_test true on all rest =
         cue_parts_are events (field_of_kind cue.kind) number cue (cue_codes cue) (parts_from channel (suc number) cues) former
         (opened_codes cue.kind (flat_map run_codes cue.runs) (line21_on channel cue.kind on) (all_later_writing (flat_map run_codes cue.runs) (runs_writing cue.runs)))

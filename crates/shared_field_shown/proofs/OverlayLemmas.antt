@@ -3,7 +3,7 @@ use Rattle.std.proofs.Common.{◌≡◌, ◌==◌, ◌&&◌, List, arith, ℕ, z
 use Rattle.line21_codes.specs.declared.pairs.Pair.{Pair}
 use Rattle.line21_codes.specs.NullPairs.{is_null, null_pair}
 use Rattle.line21_author.specs.declared.unit.Unit.{Unit}
-use Rattle.frame_scheduler.specs.Timeline.{Timeline, first_of, over, repeat_of, slot}
+use Rattle.field_lanes.specs.Timeline.{Timeline, first_of, over, repeat_of, slot}
 use Rattle.std.proofs.lemmas.Bool.Decides.{nat_tests}
 use Rattle.line21_codes.specs.declared.channels.DataChannel.TheVariants as data_channels
 use Rattle.line21_codes.specs.Reading.{code_of}

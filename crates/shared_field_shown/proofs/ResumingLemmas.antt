@@ -23,7 +23,7 @@ use Rattle.line21_screen.specs.Grid.{Grid}
 use Rattle.line21_screen.specs.Pens.{PenState}
 use Rattle.line21_screen.specs.Windows.{IsWithin, in_window, moved}
 use Rattle.line21_screen.proofs.CodeLemmas.{code_of-possible}
-use Rattle.frame_scheduler.specs.Timeline.{Timeline, first_of, over}
+use Rattle.field_lanes.specs.Timeline.{Timeline, first_of, over}
 use Rattle.line21_author.specs.declared.unit.Unit.{Unit}
 use Rattle.line21_shown.specs.Doing.{does}
 use Rattle.line21_shown.specs.Reading.{acts, does_unit}

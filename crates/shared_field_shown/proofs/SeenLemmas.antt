@@ -23,13 +23,13 @@ use Rattle.line21_author.proofs.SlotSequenceLemmas.{AreInSlots}
 use Rattle.line21_screen.specs.Channels.{ChannelState}
 use Rattle.line21_screen.specs.Fields.{channel}
 use Rattle.line21_screen.specs.Meaning.{after}
-use Rattle.frame_scheduler.specs.declared.lane.piece.Piece.{Piece}
-use Rattle.frame_scheduler.specs.ChannelLane.{channel_pieces}
-use Rattle.frame_scheduler.specs.FieldLane.{end_of, lane}
-use Rattle.frame_scheduler.specs.LaneEvents.{IsFree, event_at}
-use Rattle.frame_scheduler.specs.LaneTimeline.{lane_timeline, stands}
-use Rattle.frame_scheduler.specs.Timeline.{Timeline, first_of, slot}
-use Rattle.frame_scheduler.proofs.FieldLaneLemmas.{end_push}
+use Rattle.field_lanes.specs.declared.chunk.FieldChunk.{FieldChunk}
+use Rattle.field_lanes.specs.ChannelLane.{channel_chunks}
+use Rattle.field_lanes.specs.FieldLane.{end_of, field_lane}
+use Rattle.field_lanes.specs.LaneEvents.{IsFree, event_at}
+use Rattle.field_lanes.specs.LaneTimeline.{lane_timeline, stands}
+use Rattle.field_lanes.specs.Timeline.{Timeline, first_of, slot}
+use Rattle.field_lanes.proofs.FieldLaneLemmas.{end_push}
 use Rattle.line21_shown.specs.Doing.{does}
 use Rattle.line21_shown.specs.Reading.{acts, does_unit, pairs_before}
 use Rattle.line21_shown.proofs.SequenceLemmas.{channel_shown}
@@ -39,14 +39,14 @@ use Rattle.resumed_lanes.specs.ResumedLane.{ResumesAt, Stand}
 use Rattle.resumed_lanes.specs.Slots.{Slots}
 use Rattle.resumed_lanes.specs.Spans.{in_spans}
 use Rattle.resumed_lanes.specs.declared.part.Part.{Part}
-use Rattle.shared_field_shown.specs.Lanes.{AreCues, AreQuiet, IsBehind, pieces_of, plain_timeline}
+use Rattle.shared_field_shown.specs.Lanes.{AreCues, AreQuiet, IsBehind, part_chunks, plain_timeline}
 use Rattle.shared_field_shown.specs.ChannelParts.{channel_parts}
 use Rattle.shared_field_shown.specs.Resuming.{keeps_mode, opens}
 use Rattle.shared_field_shown.specs.Seen.{field_timeline, as_second, first_events, second_events, second_part, second_parts, second_timeline, second_unit}
 use Rattle.shared_field_shown.specs.Sharing.{IsFor, is_text}
 use Rattle.resumed_lanes.specs.FieldSlots.{first_slots, holds, second_slots}
 use Rattle.shared_field_shown.specs.Together.{AreOfChannel, AreTogether, IsListed, IsOfChannel}
-use Rattle.shared_field_shown.proofs.ListedLemmas.{channel_listed, pieces_from_back}
+use Rattle.shared_field_shown.proofs.ListedLemmas.{channel_listed, channel_chunks_from_back}
 use Rattle.shared_field_shown.proofs.TogetherLemmas.{both_not, together_alone}
 
 -- the cues of both lists keep the rules, no slot is held by events of both, and the units are placed
@@ -145,14 +145,14 @@ module _ (f : FieldNumber) where
           (ap (λ code. does code (acts (second_timeline f t) n)) (read_second unit (own n unit is))
           ∙ second_does (code_of unit.pair) (acts (second_timeline f t) n) ∙ ap (does (code_of unit.pair)) before)
 
-  stands_second : (parts : List Part) (fs : List ℕ) (n : ℕ) → stands (pieces_of (second_parts f parts)) fs n ≡ option_map (second_unit f) (stands (pieces_of parts) fs n)
+  stands_second : (parts : List Part) (fs : List ℕ) (n : ℕ) → stands (part_chunks (second_parts f parts)) fs n ≡ option_map (second_unit f) (stands (part_chunks parts) fs n)
   stands_second [] fs n = refl
   stands_second (part ∷ parts) [] n = refl
   stands_second (part ∷ parts) (g ∷ fs) n = by_test (n == g) (stands_second parts fs n)
     where
-      by_test : (b : Bool) → stands (pieces_of (second_parts f parts)) fs n ≡ option_map (second_unit f) (stands (pieces_of parts) fs n)
-          → (if b then Some (second_unit f part.piece.unit) else stands (pieces_of (second_parts f parts)) fs n)
-          ≡ option_map (second_unit f) (if b then Some part.piece.unit else stands (pieces_of parts) fs n)
+      by_test : (b : Bool) → stands (part_chunks (second_parts f parts)) fs n ≡ option_map (second_unit f) (stands (part_chunks parts) fs n)
+          → (if b then Some (second_unit f part.chunk.unit) else stands (part_chunks (second_parts f parts)) fs n)
+          ≡ option_map (second_unit f) (if b then Some part.chunk.unit else stands (part_chunks parts) fs n)
       by_test true rest = refl
       by_test false rest = rest
 
@@ -162,10 +162,10 @@ module _ (f : FieldNumber) where
 
   plain_second : (events : Timeline) (parts : List Part) (fs : List ℕ) (n : ℕ) → plain_timeline (second_timeline f events) (second_parts f parts) fs n ≡ second_timeline f (plain_timeline events parts fs) n
   plain_second events parts fs n =
-      ap (first_of (second_timeline f events n)) (stands_second parts fs n) ∙ first_second (events n) (stands (pieces_of parts) fs n)
+      ap (first_of (second_timeline f events n)) (stands_second parts fs n) ∙ first_second (events n) (stands (part_chunks parts) fs n)
 
   -- the second list's lane
-  behind_second : (later : Bool) (former : Option Part) (part : Part) → IsOfChannel One part.piece.unit → IsOfChannel One part.first → IsBehind later former part
+  behind_second : (later : Bool) (former : Option Part) (part : Part) → IsOfChannel One part.chunk.unit → IsOfChannel One part.first → IsBehind later former part
       → IsBehind later (option_map (second_part f) former) (second_part f part)
   behind_second false former part own first is = record {
     first = ap (second_unit f) is.first;
@@ -177,7 +177,7 @@ module _ (f : FieldNumber) where
   behind_second true (Some former) part own first is = record {
     first = ap (second_unit f) is.first;
     load = is.load;
-    keeps_it = ap keeps_mode (read_second part.piece.unit own) ∙ second_keeps (code_of part.piece.unit.pair) ∙ is.keeps_it;
+    keeps_it = ap keeps_mode (read_second part.chunk.unit own) ∙ second_keeps (code_of part.chunk.unit.pair) ∙ is.keeps_it;
   }
 
   cues_second : (former : Option Part) (parts : List Part) → AreOfChannel One parts → AreCues former parts → AreCues (option_map (second_part f) former) (second_parts f parts)
@@ -186,7 +186,7 @@ module _ (f : FieldNumber) where
 
   parts_second : (parts : List Part) → AreOfChannel One parts → AreOfChannel Two (second_parts f parts)
   parts_second [] own = tt
-  parts_second (part ∷ parts) own = (second_own part.piece.unit own.0, second_own part.first own.1, parts_second parts own.2)
+  parts_second (part ∷ parts) own = (second_own part.chunk.unit own.0, second_own part.first own.1, parts_second parts own.2)
 
   module _ (events : Timeline) (parts : List Part) (listed : IsListed One events parts) where
     events_second : (n : ℕ) (unit : Unit) → second_timeline f events n ≡ Some unit → (w : Unit) × ((events n ≡ Some w) × (unit ≡ second_unit f w))
@@ -218,24 +218,24 @@ module _ (f : FieldNumber) where
     }
 
     -- what begins on the second list's plain lane is the channel's
-    stands_own : (ps : List Part) (fs : List ℕ) (n : ℕ) (unit : Unit) → AreOfChannel One ps → stands (pieces_of ps) fs n ≡ Some unit → IsOfChannel One unit
+    stands_own : (ps : List Part) (fs : List ℕ) (n : ℕ) (unit : Unit) → AreOfChannel One ps → stands (part_chunks ps) fs n ≡ Some unit → IsOfChannel One unit
     stands_own [] fs n unit own is = cc
     stands_own (part ∷ ps) [] n unit own is = cc
     stands_own (part ∷ ps) (g ∷ fs) n unit own is = by_test (n == g) refl (λ rest. stands_own ps fs n unit own.2 rest)
       where
-        by_test : (b : Bool) → (n == g) ≡ b → (stands (pieces_of ps) fs n ≡ Some unit → IsOfChannel One unit) → IsOfChannel One unit
+        by_test : (b : Bool) → (n == g) ≡ b → (stands (part_chunks ps) fs n ≡ Some unit → IsOfChannel One unit) → IsOfChannel One unit
         by_test true test rest =
-            let it : Some part.piece.unit ≡ Some unit = sym (rw test refl) ∙ is in
-            let same : part.piece.unit ≡ unit = cc in subst (IsOfChannel One) same own.0
-        by_test false test rest = let on : stands (pieces_of ps) fs n ≡ Some unit = sym (rw test refl) ∙ is in rest on
+            let it : Some part.chunk.unit ≡ Some unit = sym (rw test refl) ∙ is in
+            let same : part.chunk.unit ≡ unit = cc in subst (IsOfChannel One) same own.0
+        by_test false test rest = let on : stands (part_chunks ps) fs n ≡ Some unit = sym (rw test refl) ∙ is in rest on
 
     plain_own : (fs : List ℕ) (n : ℕ) (unit : Unit) → plain_timeline events parts fs n ≡ Some unit → IsOfChannel One unit
     plain_own fs n unit is = by_event (events n) refl
       where
         by_event : (u : Option Unit) → events n ≡ u → IsOfChannel One unit
-        by_event None at = stands_own parts fs n unit listed.parts_own (sym (ap (λ u. first_of u (stands (pieces_of parts) fs n)) at) ∙ is)
+        by_event None at = stands_own parts fs n unit listed.parts_own (sym (ap (λ u. first_of u (stands (part_chunks parts) fs n)) at) ∙ is)
         by_event (Some w) at =
-            let it : Some w ≡ Some unit = sym (ap (λ u. first_of u (stands (pieces_of parts) fs n)) at) ∙ is in
+            let it : Some w ≡ Some unit = sym (ap (λ u. first_of u (stands (part_chunks parts) fs n)) at) ∙ is in
             let same : w ≡ unit = cc in subst (IsOfChannel One) same (listed.events_own n w at)
 
   -- where units stand in the second lane, those of the first channel stand in a lane of their own
@@ -292,8 +292,8 @@ free_unless es (suc n) is =
     either_false true b is = cc
 
 -- where units stand, and come again, they are placed in a lane of their own events
-stand_placed : (events : List Event) (slots : Slots) → ((n : ℕ) → slots.free n ≡ true → IsFree events n) → (before : List (Piece × ℕ)) (end : ℕ) → end_of before ≡ end
-    → (parts : List Part) (fs : List ℕ) (rs : List (Option ℕ)) → Stand slots end parts fs rs → IsPlaced (lane events) before (pieces_of parts) fs
+stand_placed : (events : List Event) (slots : Slots) → ((n : ℕ) → slots.free n ≡ true → IsFree events n) → (before : List (FieldChunk × ℕ)) (end : ℕ) → end_of before ≡ end
+    → (parts : List Part) (fs : List ℕ) (rs : List (Option ℕ)) → Stand slots end parts fs rs → IsPlaced (field_lane events) before (part_chunks parts) fs
 stand_placed events slots free before end at [] [] rs stand = tt
 stand_placed events slots free before end at [] (g ∷ fs) rs stand = absurd stand
 stand_placed events slots free before end at (part ∷ parts) [] rs stand = absurd stand
@@ -305,7 +305,7 @@ stand_placed events slots free before end at (part ∷ parts) (g ∷ fs) (r ∷ 
     ended = stand.0.ended;
     free = λ n high low. free n (stand.0.free n high low);
   },
-  stand_placed events slots free (before ++ (part.piece, g) ∷ []) (g + part_slots part) (end_push before part.piece g) parts fs rs stand.2,
+  stand_placed events slots free (before ++ (part.chunk, g) ∷ []) (g + part_slots part) (end_push before part.chunk g) parts fs rs stand.2,
 )
 
 pub second_not : (a b c : Bool) → (not a && (not b && not c)) ≡ true → b ≡ false
@@ -339,16 +339,16 @@ module _ (of_list : Chan) (slots : ℕ) (cues others : List Cue) (fs gs : List �
     beside = are.beside;
   }
 
-  placed : IsPlaced (lane (channel_events of_list cues)) [] (channel_pieces of_list cues) fs
+  placed : IsPlaced (field_lane (channel_events of_list cues)) [] (channel_chunks of_list cues) fs
   placed =
-      subst (λ (l : List Piece). IsPlaced (lane (channel_events of_list cues)) [] l fs) (pieces_from_back of_list 1 cues)
+      subst (λ (l : List FieldChunk). IsPlaced (field_lane (channel_events of_list cues)) [] l fs) (channel_chunks_from_back of_list 1 cues)
       (stand_placed (channel_events of_list cues) (first_slots (first_events of_list cues) (second_events of_list others))
       (λ n free. free_unless (channel_events of_list cues) n (both_not (holds (first_events of_list cues) n) (holds (second_events of_list others) n) free).0)
       [] 0 refl (channel_parts of_list cues) fs rs are.stand)
 
-  others_placed : IsPlaced (lane (channel_events of_list others)) [] (channel_pieces of_list others) gs
+  others_placed : IsPlaced (field_lane (channel_events of_list others)) [] (channel_chunks of_list others) gs
   others_placed =
-      subst (λ (l : List Piece). IsPlaced (lane (channel_events of_list others)) [] l gs) (pieces_from_back of_list 1 others)
+      subst (λ (l : List FieldChunk). IsPlaced (field_lane (channel_events of_list others)) [] l gs) (channel_chunks_from_back of_list 1 others)
       (stand_placed (channel_events of_list others) (second_slots (first_events of_list cues) (second_events of_list others) (in_spans (channel_parts of_list cues) fs))
       (λ n free. free_unless (channel_events of_list others) n
       (sym (holds_second (field_of_channel of_list) (first_events of_list others) n)
@@ -356,8 +356,8 @@ module _ (of_list : Chan) (slots : ℕ) (cues others : List Cue) (fs gs : List �
       [] 0 refl (channel_parts of_list others) gs qs
       (back (field_of_channel of_list) (second_slots (first_events of_list cues) (second_events of_list others) (in_spans (channel_parts of_list cues) fs)) 0 (channel_parts of_list others) gs qs are.beside))
 
-  plain_is : (all : List Cue) (hs : List ℕ) (n : ℕ) → plain_timeline (first_events of_list all) (channel_parts of_list all) hs n ≡ lane_timeline (channel_events of_list all) (channel_pieces of_list all) hs n
-  plain_is all hs n = ap (λ (l : List Piece). first_of (event_at (channel_events of_list all) n) (stands l hs n)) (pieces_from_back of_list 1 all)
+  plain_is : (all : List Cue) (hs : List ℕ) (n : ℕ) → plain_timeline (first_events of_list all) (channel_parts of_list all) hs n ≡ lane_timeline (channel_events of_list all) (channel_chunks of_list all) hs n
+  plain_is all hs n = ap (λ (l : List FieldChunk). first_of (event_at (channel_events of_list all) n) (stands l hs n)) (channel_chunks_from_back of_list 1 all)
 
   acts_same : (t u : Timeline) → ((n : ℕ) → t n ≡ u n) → (n : ℕ) → acts t n ≡ acts u n
   acts_same t u same zero = refl
@@ -371,7 +371,7 @@ module _ (of_list : Chan) (slots : ℕ) (cues others : List Cue) (fs gs : List �
         first = λ settled.
             ap (λ (s : ChannelState). s.displayed) alone.first
             ∙ ap (λ (s : ChannelState). s.displayed) (acts_same (plain_timeline (first_events of_list cues) (channel_parts of_list cues) fs)
-            (lane_timeline (channel_events of_list cues) (channel_pieces of_list cues) fs) (plain_is cues fs) (suc k))
+            (lane_timeline (channel_events of_list cues) (channel_chunks of_list cues) fs) (plain_is cues fs) (suc k))
             ∙ channel_shown slots of_list cues fs are.formed are.sequence placed k settled;
         second = λ settled.
             ap (λ (s : ChannelState). s.displayed) alone.second
@@ -381,7 +381,7 @@ module _ (of_list : Chan) (slots : ℕ) (cues others : List Cue) (fs gs : List �
             ∙ ap (λ (s : ChannelState). s.displayed) (acts_second (field_of_channel of_list) (plain_timeline (first_events of_list others) (channel_parts of_list others) gs)
             (plain_own (field_of_channel of_list) (first_events of_list others) (channel_parts of_list others) others_listed gs) (suc k))
             ∙ ap (λ (s : ChannelState). s.displayed) (acts_same (plain_timeline (first_events of_list others) (channel_parts of_list others) gs)
-            (lane_timeline (channel_events of_list others) (channel_pieces of_list others) gs) (plain_is others gs) (suc k))
+            (lane_timeline (channel_events of_list others) (channel_chunks of_list others) gs) (plain_is others gs) (suc k))
             ∙ channel_shown slots of_list others gs are.others_formed are.others_sequence others_placed k settled;
       }
 

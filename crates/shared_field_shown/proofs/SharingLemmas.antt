@@ -10,7 +10,7 @@ use Rattle.line21_codes.specs.Reading.{code_of}
 use Rattle.line21_screen.specs.Channels.{ChannelState}
 use Rattle.line21_screen.specs.Fields.{FieldState, after_code, after_text, on_channel}
 use Rattle.shared_field_shown.specs.Own.{is_same, own_unit, reaches}
-use Rattle.frame_scheduler.specs.Timeline.{Timeline, first_of, over}
+use Rattle.field_lanes.specs.Timeline.{Timeline, first_of, over}
 use Rattle.line21_author.specs.declared.unit.Unit.{Unit}
 use Rattle.line21_shown.specs.Reading.{after_unit, field_acts}
 use Rattle.shared_field_shown.specs.Sharing.{AreFor, AreShared, EachGetsOwn, IsFor, SharedAreOwn, is_text}

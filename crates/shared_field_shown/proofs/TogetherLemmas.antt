@@ -10,10 +10,10 @@ use Rattle.line21_codes.specs.declared.pairs.Pair.{Pair}
 use Rattle.line21_codes.specs.Reading.{code_of}
 use Rattle.line21_author.specs.declared.unit.Unit.{Unit}
 use Rattle.line21_screen.specs.Fields.{channel}
-use Rattle.frame_scheduler.specs.LaneTimeline.{stands}
-use Rattle.frame_scheduler.specs.DoubledPairs.{IsDoubled}
-use Rattle.frame_scheduler.specs.Timeline.{Timeline, column, first_of, over, repeat_at, repeat_of}
-use Rattle.frame_scheduler.proofs.ColumnLemmas.{column_doubled}
+use Rattle.field_lanes.specs.LaneTimeline.{stands}
+use Rattle.field_lanes.specs.DoubledPairs.{IsDoubled}
+use Rattle.field_lanes.specs.Timeline.{Timeline, column, first_of, over, repeat_at, repeat_of}
+use Rattle.field_lanes.proofs.ColumnLemmas.{column_doubled}
 use Rattle.line21_shown.specs.Reading.{acts, does_unit, IsMarked}
 use Rattle.resumed_lanes.specs.Parts.{BeginWithFirst, part_slots}
 use Rattle.resumed_lanes.specs.ResumedLane.{Stand}
@@ -21,7 +21,7 @@ use Rattle.resumed_lanes.specs.Slots.{Slots}
 use Rattle.resumed_lanes.specs.Spans.{GoOn, covers, in_spans}
 use Rattle.resumed_lanes.proofs.SpansLemmas.{spans_covered}
 use Rattle.resumed_lanes.specs.declared.part.Part.{Part}
-use Rattle.shared_field_shown.specs.Lanes.{AreCues, IsBehind, IsLane, again, pieces_of, plain_timeline, whole}
+use Rattle.shared_field_shown.specs.Lanes.{AreCues, IsBehind, IsLane, again, part_chunks, plain_timeline, whole}
 use Rattle.shared_field_shown.specs.Own.{own_of}
 use Rattle.shared_field_shown.specs.Sharing.{AreFor, AreShared, IsLed, is_text}
 use Rattle.resumed_lanes.specs.FieldSlots.{first_slots, holds, second_slots}
@@ -42,7 +42,7 @@ record IsInside (slots : Slots) (spans : ℕ → Bool) (n : ℕ) : Type 0 where
 record Occupies (slots : Slots) (end : ℕ) (parts : List Part) (fs : List ℕ) (rs : List (Option ℕ)) (n : ℕ) (doubled : Bool) : Type 0 where
   here : IsInside slots (covers end parts fs) n
   next : doubled ≡ true → IsInside slots (covers end parts fs) (suc n)
-  no_unit : doubled ≡ true → stands (pieces_of parts) fs (suc n) ≡ None
+  no_unit : doubled ≡ true → stands (part_chunks parts) fs (suc n) ≡ None
   no_again : doubled ≡ true → again parts rs (suc n) ≡ None
 
 again_behind : (slots : Slots) (end : ℕ) (part : Part) (parts : List Part) (f : ℕ) (fs : List ℕ) (r : Option ℕ) (rs : List (Option ℕ)) (n : ℕ)
@@ -53,19 +53,19 @@ again_behind slots end part parts f fs (Some at) rs n stand high =
     again_at part parts at rs n false test
 
 unit_occupies : (slots : Slots) (end : ℕ) (parts : List Part) (fs : List ℕ) (rs : List (Option ℕ)) (n : ℕ) (unit : Unit) → Stand slots end parts fs rs
-    → stands (pieces_of parts) fs n ≡ Some unit → Occupies slots end parts fs rs n unit.doubled
+    → stands (part_chunks parts) fs n ≡ Some unit → Occupies slots end parts fs rs n unit.doubled
 unit_occupies slots end [] fs rs n unit stand is = cc
 unit_occupies slots end (part ∷ parts) [] rs n unit stand is = cc
 unit_occupies slots end (part ∷ parts) (f ∷ fs) [] n unit stand is = absurd stand
 unit_occupies slots end (part ∷ parts) (f ∷ fs) (r ∷ rs) n unit stand is =
     by_slot (n == f) refl (λ rest. unit_occupies slots (f + part_slots part) parts fs rs n unit stand.2 rest)
   where
-    by_slot : (b : Bool) → (n == f) ≡ b → (stands (pieces_of parts) fs n ≡ Some unit → Occupies slots (f + part_slots part) parts fs rs n unit.doubled)
+    by_slot : (b : Bool) → (n == f) ≡ b → (stands (part_chunks parts) fs n ≡ Some unit → Occupies slots (f + part_slots part) parts fs rs n unit.doubled)
         → Occupies slots end (part ∷ parts) (f ∷ fs) (r ∷ rs) n unit.doubled
     by_slot true test rest =
         let here : n ≡ f = grind (arith, nat_tests) in
-        let it : Some part.piece.unit ≡ Some unit = sym (stands_at part parts f fs n true test) ∙ is in
-        let same : part.piece.unit ≡ unit = cc in
+        let it : Some part.chunk.unit ≡ Some unit = sym (stands_at part parts f fs n true test) ∙ is in
+        let same : part.chunk.unit ≡ unit = cc in
         let two : unit.doubled ≡ true → part_slots part ≡ 2 = λ doubled. two_size part (ap (λ (u : Unit). u.doubled) same ∙ doubled) in
         record {
           here = record {
@@ -89,7 +89,7 @@ unit_occupies slots end (part ∷ parts) (f ∷ fs) (r ∷ rs) n unit stand is =
         let late : f + part_slots part ≤ n =
         ⊎_elim
         (λ (low : n < f + part_slots part).
-        let none : stands (pieces_of parts) fs n ≡ None = stands_none slots (f + part_slots part) parts fs rs n stand.2 low in
+        let none : stands (part_chunks parts) fs n ≡ None = stands_none slots (f + part_slots part) parts fs rs n stand.2 low in
         let wrong : Some unit ≡ None = sym is ∙ stands_at part parts f fs n false test ∙ none in absurd (cc))
         (λ (high : f + part_slots part ≤ n). high)
         (cases_lt n (f + part_slots part)) in
@@ -105,7 +105,7 @@ unit_occupies slots end (part ∷ parts) (f ∷ fs) (r ∷ rs) n unit stand is =
 record OccupiesAgain (slots : Slots) (end : ℕ) (parts : List Part) (fs : List ℕ) (rs : List (Option ℕ)) (n : ℕ) : Type 0 where
   here : IsInside slots (covers end parts fs) n
   next : IsInside slots (covers end parts fs) (suc n)
-  no_unit : stands (pieces_of parts) fs (suc n) ≡ None
+  no_unit : stands (part_chunks parts) fs (suc n) ≡ None
   no_again : again parts rs (suc n) ≡ None
 
 again_occupies : (slots : Slots) (end : ℕ) (parts : List Part) (fs : List ℕ) (rs : List (Option ℕ)) (n : ℕ) (unit : Unit) → Stand slots end parts fs rs
@@ -205,9 +205,9 @@ module _ (c : DataChannel) (slots : Slots) (events : Timeline) (parts : List Par
       (λ (at : plain_timeline events parts fs n ≡ Some unit).
       ⊎_elim
       (λ (event : events n ≡ Some unit). inl event)
-      (λ (w : (events n ≡ None) × (stands (pieces_of parts) fs n ≡ Some unit)).
+      (λ (w : (events n ≡ None) × (stands (part_chunks parts) fs n ≡ Some unit)).
       let o = unit_occupies slots 0 parts fs rs n unit stand w.1 in inr (o.here, o.next))
-      (or_else (events n) (stands (pieces_of parts) fs n) unit at))
+      (or_else (events n) (stands (part_chunks parts) fs n) unit at))
       (λ (w : (plain_timeline events parts fs n ≡ None) × (again parts rs n ≡ Some unit)).
       let o = again_occupies slots 0 parts fs rs n unit stand w.1 in inr (o.here, λ doubled. o.next))
       (or_else (plain_timeline events parts fs n) (again parts rs n) unit is)
@@ -217,9 +217,9 @@ module _ (c : DataChannel) (slots : Slots) (events : Timeline) (parts : List Par
   no_event n free = nothing_is (events n) (λ unit is. let wrong : slots.free n ≡ false = (held n unit is).0 in cc)
 
   -- no unit stands in the slot behind an event, and none comes again there
-  no_unit_behind : (n : ℕ) → slots.free n ≡ false → stands (pieces_of parts) fs n ≡ None
+  no_unit_behind : (n : ℕ) → slots.free n ≡ false → stands (part_chunks parts) fs n ≡ None
   no_unit_behind n taken =
-      nothing_is (stands (pieces_of parts) fs n)
+      nothing_is (stands (part_chunks parts) fs n)
       (λ unit is. let free : slots.free n ≡ true = (unit_occupies slots 0 parts fs rs n unit stand is).here.free in cc)
 
   no_again_behind : (n : ℕ) → slots.free n ≡ false → again parts rs n ≡ None
@@ -235,31 +235,31 @@ module _ (c : DataChannel) (slots : Slots) (events : Timeline) (parts : List Par
       (λ (event : events n ≡ Some unit).
       let taken = (held n unit event).1 in
       none_both (plain_timeline events parts fs (suc n)) (again parts rs (suc n))
-      (none_both (events (suc n)) (stands (pieces_of parts) fs (suc n)) (listed.apart n unit event) (no_unit_behind (suc n) taken))
+      (none_both (events (suc n)) (stands (part_chunks parts) fs (suc n)) (listed.apart n unit event) (no_unit_behind (suc n) taken))
       (no_again_behind (suc n) taken))
-      (λ (w : (events n ≡ None) × (stands (pieces_of parts) fs n ≡ Some unit)).
+      (λ (w : (events n ≡ None) × (stands (part_chunks parts) fs n ≡ Some unit)).
       let o = unit_occupies slots 0 parts fs rs n unit stand w.1 in
       none_both (plain_timeline events parts fs (suc n)) (again parts rs (suc n))
-      (none_both (events (suc n)) (stands (pieces_of parts) fs (suc n)) (no_event (suc n) (o.next doubled).free) (o.no_unit doubled))
+      (none_both (events (suc n)) (stands (part_chunks parts) fs (suc n)) (no_event (suc n) (o.next doubled).free) (o.no_unit doubled))
       (o.no_again doubled))
-      (or_else (events n) (stands (pieces_of parts) fs n) unit at))
+      (or_else (events n) (stands (part_chunks parts) fs n) unit at))
       (λ (w : (plain_timeline events parts fs n ≡ None) × (again parts rs n ≡ Some unit)).
       let o = again_occupies slots 0 parts fs rs n unit stand w.1 in
       none_both (plain_timeline events parts fs (suc n)) (again parts rs (suc n))
-      (none_both (events (suc n)) (stands (pieces_of parts) fs (suc n)) (no_event (suc n) o.next.free) o.no_unit)
+      (none_both (events (suc n)) (stands (part_chunks parts) fs (suc n)) (no_event (suc n) o.next.free) o.no_unit)
       o.no_again)
       (or_else (plain_timeline events parts fs n) (again parts rs n) unit is)
 
   -- what is said of each unit is so of one that begins
-  part_own : (ps : List Part) (gs : List ℕ) (n : ℕ) (unit : Unit) → AreOfChannel c ps → stands (pieces_of ps) gs n ≡ Some unit → IsOfChannel c unit
+  part_own : (ps : List Part) (gs : List ℕ) (n : ℕ) (unit : Unit) → AreOfChannel c ps → stands (part_chunks ps) gs n ≡ Some unit → IsOfChannel c unit
   part_own [] gs n unit own is = cc
   part_own (part ∷ ps) [] n unit own is = cc
   part_own (part ∷ ps) (g ∷ gs) n unit own is = by_slot (n == g) refl (λ rest. part_own ps gs n unit own.2 rest)
     where
-      by_slot : (b : Bool) → (n == g) ≡ b → (stands (pieces_of ps) gs n ≡ Some unit → IsOfChannel c unit) → IsOfChannel c unit
+      by_slot : (b : Bool) → (n == g) ≡ b → (stands (part_chunks ps) gs n ≡ Some unit → IsOfChannel c unit) → IsOfChannel c unit
       by_slot true test rest =
-          let it : Some part.piece.unit ≡ Some unit = sym (stands_at part ps g gs n true test) ∙ is in
-          let same : part.piece.unit ≡ unit = cc in subst (IsOfChannel c) same own.0
+          let it : Some part.chunk.unit ≡ Some unit = sym (stands_at part ps g gs n true test) ∙ is in
+          let same : part.chunk.unit ≡ unit = cc in subst (IsOfChannel c) same own.0
       by_slot false test rest = rest (sym (stands_at part ps g gs n false test) ∙ is)
 
   again_own : (ps : List Part) (qs : List (Option ℕ)) (n : ℕ) (unit : Unit) → AreOfChannel c ps → again ps qs n ≡ Some unit → IsOfChannel c unit
@@ -280,8 +280,8 @@ module _ (c : DataChannel) (slots : Slots) (events : Timeline) (parts : List Par
       (λ (at : plain_timeline events parts fs n ≡ Some unit).
       ⊎_elim
       (λ (event : events n ≡ Some unit). listed.events_own n unit event)
-      (λ (w : (events n ≡ None) × (stands (pieces_of parts) fs n ≡ Some unit)). part_own parts fs n unit listed.parts_own w.1)
-      (or_else (events n) (stands (pieces_of parts) fs n) unit at))
+      (λ (w : (events n ≡ None) × (stands (part_chunks parts) fs n ≡ Some unit)). part_own parts fs n unit listed.parts_own w.1)
+      (or_else (events n) (stands (part_chunks parts) fs n) unit at))
       (λ (w : (plain_timeline events parts fs n ≡ None) × (again parts rs n ≡ Some unit)). again_own parts rs n unit listed.parts_own w.1)
       (or_else (plain_timeline events parts fs n) (again parts rs n) unit is)
 
@@ -306,9 +306,9 @@ module _ (c : DataChannel) (slots : Slots) (events : Timeline) (parts : List Par
         (λ (at : plain_timeline events parts fs n ≡ Some unit).
         ⊎_elim
         (λ (event : events n ≡ Some unit). let wrong : is_text (code_of unit.pair) ≡ false = listed.controls n unit event in absurd (cc))
-        (λ (w : (events n ≡ None) × (stands (pieces_of parts) fs n ≡ Some unit)).
+        (λ (w : (events n ≡ None) × (stands (part_chunks parts) fs n ≡ Some unit)).
         led_all slots events (plain_timeline events parts fs) (whole events parts fs rs) other held_at sound 0 None parts fs rs stand (λ m from. refl) (λ m from. refl) clear listed.cues tt n unit w.1 text)
-        (or_else (events n) (stands (pieces_of parts) fs n) unit at))
+        (or_else (events n) (stands (part_chunks parts) fs n) unit at))
         (λ (w : (plain_timeline events parts fs n ≡ None) × (again parts rs n ≡ Some unit)).
         let resumed = lane_resumed slots events parts fs rs is_lane n unit w.1 in
         let wrong : is_text (code_of unit.pair) ≡ false = opener_plain (code_of unit.pair) resumed.mode resumed.opens_it in absurd (cc))

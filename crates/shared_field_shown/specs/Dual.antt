@@ -10,7 +10,7 @@ use Rattle.cue_lists.specs.Rules.{IsRuled}
 use Rattle.line21_slots.specs.Cadences.{cadence_of, slot_in}
 use Rattle.frame_scheduler.specs.Columns.{Columns, pair_in}
 use Rattle.frame_scheduler.specs.SlotLists.{slot_cues}
-use Rattle.frame_scheduler.specs.Timeline.{slot}
+use Rattle.field_lanes.specs.Timeline.{slot}
 use Rattle.line21_shown.specs.Shown.{state_at}
 use Rattle.resumed_lanes.specs.ResumedLane.{Stand}
 use Rattle.resumed_lanes.specs.Spans.{in_spans}

@@ -2,10 +2,10 @@
 -- The units of a lane with those that come again, as one list: a placement of the longer list in a lane of its own events.
 use Rattle.std.specs.Prelude.{◌≡◌, ℕ, true, List, [], ◌∷◌, Option, Some, None}
 use Rattle.line21_author.specs.declared.event.Event.{Event}
-use Rattle.frame_scheduler.specs.declared.lane.piece.Piece.{Piece}
-use Rattle.frame_scheduler.specs.FieldLane.{lane}
-use Rattle.frame_scheduler.specs.LaneEvents.{IsFree, event_at}
-use Rattle.frame_scheduler.specs.LaneTimeline.{lane_timeline}
+use Rattle.field_lanes.specs.declared.chunk.FieldChunk.{FieldChunk}
+use Rattle.field_lanes.specs.FieldLane.{field_lane}
+use Rattle.field_lanes.specs.LaneEvents.{IsFree, event_at}
+use Rattle.field_lanes.specs.LaneTimeline.{lane_timeline}
 use Rattle.placements.specs.Placing.{IsPlaced}
 use Rattle.resumed_lanes.specs.ResumedLane.{Stand}
 use Rattle.resumed_lanes.specs.Slots.{Slots}
@@ -13,15 +13,15 @@ use Rattle.resumed_lanes.specs.declared.part.Part.{Part}
 use Rattle.shared_field_shown.specs.Lanes.{AreCues, whole}
 
 -- the first unit of a unit's cue, once more before it
-abbrev pub first_again : Part → Piece
-first_again part = record { unit = part.first; load = part.piece.load; until = part.piece.until; cue = part.piece.cue }
+abbrev pub first_again : Part → FieldChunk
+first_again part = record { unit = part.first; load = part.chunk.load; until = part.chunk.until; cue = part.chunk.cue }
 
 -- the units in the order in which they stand, where first units come again in these slots
-abbrev pub expanded : List Part → List (Option ℕ) → List Piece
+abbrev pub expanded : List Part → List (Option ℕ) → List FieldChunk
 expanded [] rs = []
 expanded (part ∷ parts) [] = []
-expanded (part ∷ parts) (None ∷ rs) = part.piece ∷ expanded parts rs
-expanded (part ∷ parts) (Some at ∷ rs) = first_again part ∷ part.piece ∷ expanded parts rs
+expanded (part ∷ parts) (None ∷ rs) = part.chunk ∷ expanded parts rs
+expanded (part ∷ parts) (Some at ∷ rs) = first_again part ∷ part.chunk ∷ expanded parts rs
 
 -- the slots of all of them
 abbrev pub spread : List ℕ → List (Option ℕ) → List ℕ
@@ -32,7 +32,7 @@ spread (f ∷ fs) (Some at ∷ rs) = at ∷ f ∷ spread fs rs
 
 -- it is placed in the lane of the own events, and gives the same
 pub record IsOneLane (events : List Event) (parts : List Part) (fs : List ℕ) (rs : List (Option ℕ)) : Type 0 where
-  pub placed : IsPlaced (lane events) [] (expanded parts rs) (spread fs rs)
+  pub placed : IsPlaced (field_lane events) [] (expanded parts rs) (spread fs rs)
   pub timeline : (n : ℕ) → lane_timeline events (expanded parts rs) (spread fs rs) n ≡ whole (event_at events) parts fs rs n
 
 -- so a lane with units that come again is a lane of a longer list of units

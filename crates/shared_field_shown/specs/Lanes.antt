@@ -4,9 +4,9 @@ use Rattle.std.specs.Prelude.{◌≡◌, ⊤, ℕ, ◌+◌, ◌<◌, ◌==◌, B
 use Rattle.line21_codes.specs.Reading.{code_of}
 use Rattle.line21_author.specs.declared.unit.Unit.{Unit}
 use Rattle.line21_screen.specs.declared.modes.Mode.{Mode}
-use Rattle.frame_scheduler.specs.declared.lane.piece.Piece.{Piece}
-use Rattle.frame_scheduler.specs.LaneTimeline.{stands}
-use Rattle.frame_scheduler.specs.Timeline.{Timeline, over}
+use Rattle.field_lanes.specs.declared.chunk.FieldChunk.{FieldChunk}
+use Rattle.field_lanes.specs.LaneTimeline.{stands}
+use Rattle.field_lanes.specs.Timeline.{Timeline, over}
 use Rattle.resumed_lanes.specs.ResumedLane.{Stand}
 use Rattle.resumed_lanes.specs.Slots.{AreSound, Slots}
 use Rattle.resumed_lanes.specs.declared.part.Part.{Part}
@@ -21,12 +21,12 @@ again (part ∷ parts) (None ∷ rs) n = again parts rs n
 again (part ∷ parts) (Some at ∷ rs) n = if n == at then Some part.first else again parts rs n
 
 -- the units by themselves
-abbrev pub pieces_of : List Part → List Piece
-pieces_of parts = map (λ part. part.piece) parts
+abbrev pub part_chunks : List Part → List FieldChunk
+part_chunks parts = map (λ part. part.chunk) parts
 
 -- the lane's own timeline, without them
 abbrev pub plain_timeline : Timeline → List Part → List ℕ → Timeline
-plain_timeline events parts fs = over events (stands (pieces_of parts) fs)
+plain_timeline events parts fs = over events (stands (part_chunks parts) fs)
 
 -- with the first units that come again
 abbrev pub whole : Timeline → List Part → List ℕ → List (Option ℕ) → Timeline
@@ -34,16 +34,16 @@ whole events parts fs rs = over (plain_timeline events parts fs) (again parts rs
 
 -- a cue's first unit begins its mode, and is doubled
 pub record Begins (part : Part) : Type 0 where
-  pub first : part.first ≡ part.piece.unit
+  pub first : part.first ≡ part.chunk.unit
   pub mode : Mode
   pub opens_it : opens (code_of part.first.pair) ≡ Some mode
-  pub doubled : part.piece.unit.doubled ≡ true
+  pub doubled : part.chunk.unit.doubled ≡ true
 
 -- a later one belongs to the cue of the one before, and leaves the mode
 pub record Continues (former part : Part) : Type 0 where
   pub first : part.first ≡ former.first
-  pub load : part.piece.load ≡ former.piece.load
-  pub keeps_it : keeps_mode (code_of part.piece.unit.pair) ≡ true
+  pub load : part.chunk.load ≡ former.chunk.load
+  pub keeps_it : keeps_mode (code_of part.chunk.unit.pair) ≡ true
 
 -- a unit behind another, by whether it is its cue's first
 abbrev pub IsBehind : Bool → Option Part → Part → Type 0
@@ -60,7 +60,7 @@ AreCues former (part ∷ parts) = IsBehind part.later former part × AreCues (So
 abbrev pub AreQuiet : Timeline → List Part → Type 0
 AreQuiet events [] = ⊤
 AreQuiet events (part ∷ parts) =
-    ((n : ℕ) (unit : Unit) → part.piece.load < n → n < part.piece.until → events n ≡ Some unit → keeps_mode (code_of unit.pair) ≡ true)
+    ((n : ℕ) (unit : Unit) → part.chunk.load < n → n < part.chunk.until → events n ≡ Some unit → keeps_mode (code_of unit.pair) ≡ true)
     × AreQuiet events parts
 
 -- a lane in a field

@@ -11,7 +11,7 @@ use Rattle.line21_codes.specs.Channels.{numbered_channel}
 use Rattle.line21_codes.specs.Reading.{code_of}
 use Rattle.line21_screen.specs.Fields.{FieldState, channel}
 use Rattle.line21_shown.specs.Reading.{field_acts, acts}
-use Rattle.frame_scheduler.specs.Timeline.{Timeline}
+use Rattle.field_lanes.specs.Timeline.{Timeline}
 use Rattle.line21_author.specs.declared.unit.Unit.{Unit}
 
 -- both are one channel

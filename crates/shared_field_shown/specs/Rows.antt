@@ -6,7 +6,7 @@ use Rattle.line21_codes.specs.declared.styles.Colour.TheVariants.{White}
 use Rattle.cue_lists.specs.Rules.Examples.{example_cue, example_run}
 use Rattle.cue_lists.specs.declared.cue.Cue.{Cue}
 use Rattle.cue_lists.specs.declared.cue.Kind.TheVariants.{Pop}
-use Rattle.frame_scheduler.specs.Timeline.{column}
+use Rattle.field_lanes.specs.Timeline.{column}
 use Rattle.line21_shown.specs.Examples.{pair, twice}
 use Rattle.shared_field_shown.specs.Seen.{field_timeline}
 

@@ -11,8 +11,8 @@ use Rattle.line21_codes.specs.Writing.{pair_of_code}
 use Rattle.cue_lists.specs.declared.cue.Cue.{Cue}
 use Rattle.line21_author.specs.CueEvents.{channel_events}
 use Rattle.line21_author.specs.declared.unit.Unit.{Unit}
-use Rattle.frame_scheduler.specs.LaneEvents.{event_at}
-use Rattle.frame_scheduler.specs.Timeline.{Timeline, over}
+use Rattle.field_lanes.specs.LaneEvents.{event_at}
+use Rattle.field_lanes.specs.Timeline.{Timeline, over}
 use Rattle.resumed_lanes.specs.declared.part.Part.{Part}
 use Rattle.shared_field_shown.specs.Lanes.{whole}
 use Rattle.shared_field_shown.specs.ChannelParts.{channel_parts}
@@ -35,7 +35,7 @@ second_timeline in_field timeline n = option_map (second_unit in_field) (timelin
 -- a unit, and the first one of its cue, so
 abbrev pub second_part : FieldNumber → Part → Part
 second_part in_field part = record {
-  piece = record { unit = second_unit in_field part.piece.unit; load = part.piece.load; until = part.piece.until; cue = part.piece.cue };
+  chunk = record { unit = second_unit in_field part.chunk.unit; load = part.chunk.load; until = part.chunk.until; cue = part.chunk.cue };
   first = second_unit in_field part.first;
   later = part.later;
 }

@@ -9,7 +9,7 @@ use Rattle.line21_codes.specs.declared.codes.Code.TheVariants.{Null, Text, Xds, 
 use Rattle.line21_codes.specs.Channels.{numbered_channel}
 use Rattle.line21_codes.specs.Reading.{code_of}
 use Rattle.shared_field_shown.specs.Own.{own_of}
-use Rattle.frame_scheduler.specs.Timeline.{Timeline, over}
+use Rattle.field_lanes.specs.Timeline.{Timeline, over}
 use Rattle.line21_author.specs.declared.unit.Unit.{Unit}
 
 -- a code of captions on a data channel

@@ -10,7 +10,7 @@ use Rattle.line21_codes.specs.Writable.{IsWritable}
 use Rattle.line21_author.specs.declared.unit.Unit.{Unit}
 use Rattle.line21_screen.specs.Fields.{channel}
 use Rattle.line21_screen.specs.Meaning.{after}
-use Rattle.frame_scheduler.specs.Timeline.{Timeline, over, slot}
+use Rattle.field_lanes.specs.Timeline.{Timeline, over, slot}
 use Rattle.line21_shown.specs.Reading.{acts, pairs_before}
 use Rattle.resumed_lanes.specs.ResumedLane.{Stand}
 use Rattle.resumed_lanes.specs.FieldSlots.{first_slots, holds, second_slots}
@@ -29,7 +29,7 @@ pub record IsOfChannel (of_channel : DataChannel) (unit : Unit) : Type 0 where
 abbrev pub AreOfChannel : DataChannel → List Part → Type 0
 AreOfChannel of_channel [] = ⊤
 AreOfChannel of_channel (part ∷ parts) =
-    IsOfChannel of_channel part.piece.unit × IsOfChannel of_channel part.first × AreOfChannel of_channel parts
+    IsOfChannel of_channel part.chunk.unit × IsOfChannel of_channel part.first × AreOfChannel of_channel parts
 
 -- a lane as its list gives it: its events lie apart and are control codes, and its units are those of cues
 pub record IsListed (of_channel : DataChannel) (events : Timeline) (parts : List Part) : Type 0 where

@@ -10,7 +10,7 @@ use Rattle.dtvcc_screen.specs.Screens.{ScreenState}
 use Rattle.dtvcc_author.specs.declared.caption.Caption.{Caption}
 use Rattle.dtvcc_author.specs.FrameEvents.{delayed_at, is_hidden_at, is_shown_at, names, windows_byte}
 use Rattle.dtvcc_author.specs.Latest.{caption_delay}
-use Rattle.service_lanes.specs.Chunks.{Chunk}
+use Rattle.service_lanes.specs.Chunks.{ServiceChunk}
 use Rattle.service_lanes.specs.ServiceBytes.{loads_at}
 use Rattle.dtvcc_shown.specs.CaptionLanes.{lane_of, plain_events}
 use Rattle.dtvcc_shown.specs.Undelayed.{acted_on, shows_bytes, undelayed}
@@ -51,11 +51,11 @@ delay_acts None s = refl
 delay_acts (Some c) s = dsw_acts (windows_byte (λ id. c.id == id)) s
 
 -- the loads of every frame act as the commands of the captions
-abbrev pub AreLoads : List (Chunk × ℕ) → List CaptionLoad → Type 0
+abbrev pub AreLoads : List (ServiceChunk × ℕ) → List CaptionLoad → Type 0
 AreLoads placed gs = (frame : ℕ) (s : ScreenState) → acted_on (loads_at placed frame) s ≡ loads_act frame gs s
 
 -- so the screen of what is heard of the lane before a frame is that of the captions
-pub undelayed_is : (since : ℕ) (rate : Rate) (placed : List (Chunk × ℕ)) (gs : List CaptionLoad) → AreLoads placed gs → (frame : ℕ)
+pub undelayed_is : (since : ℕ) (rate : Rate) (placed : List (ServiceChunk × ℕ)) (gs : List CaptionLoad) → AreLoads placed gs → (frame : ℕ)
     → undelayed (heard_lane since (lane_of rate (captions gs) placed)) frame ≡ screen_from since gs frame
 undelayed_is since rate placed gs loads zero = refl
 undelayed_is since rate placed gs loads (suc frame) = at (nat_lt frame since) refl (undelayed_is since rate placed gs loads frame)

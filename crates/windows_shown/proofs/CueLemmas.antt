@@ -22,8 +22,8 @@ use Rattle.dtvcc_author.specs.CueUnits.{IsWritable}
 use Rattle.dtvcc_author.specs.WindowCommands.{commands_with, definition_of, window_commands}
 use Rattle.dtvcc_author.proofs.WritableLemmas.{commands_writable}
 use Rattle.placements.specs.Placing.{IsPlaced}
-use Rattle.service_lanes.specs.Chunks.{Chunk}
-use Rattle.service_lanes.specs.ServiceChunks.{chunk_of, chunks_from, chunks_with}
+use Rattle.service_lanes.specs.Chunks.{ServiceChunk}
+use Rattle.service_lanes.specs.ServiceChunks.{chunk_of, chunks_with, service_chunks_from}
 use Rattle.service_lanes.specs.ServiceRoom.{caption_lane}
 use Rattle.service_lanes.proofs.CaptionsKept.{eqb_turned}
 use Rattle.service_lanes.proofs.FrontLemmas.{last_is_first}
@@ -33,7 +33,7 @@ use Rattle.window_loading.proofs.LoadLemmas.{window_load}
 use Rattle.windows_shown.proofs.CueLoadLemmas.{AreTimely, Loads, one_more, shows}
 
 -- units that stand where their lane allows are timely
-pub placed_timely : (share : ℕ) (cs : List Caption) (before : List (Chunk × ℕ)) (us : List Chunk) (fs : List ℕ)
+pub placed_timely : (share : ℕ) (cs : List Caption) (before : List (ServiceChunk × ℕ)) (us : List ServiceChunk) (fs : List ℕ)
     → IsPlaced (caption_lane share cs) before us fs → AreTimely us fs
 placed_timely share cs before [] [] placed = tt
 placed_timely share cs before [] (f ∷ fs) placed = placed
@@ -46,7 +46,7 @@ placed_timely share cs before (u ∷ us) (f ∷ fs) placed = (
 )
 
 -- one caption more, with its commands
-more_commands : (number : ℕ) (c : Caption) (d : Definition) (commands : List Command) (rest : List Chunk) (cs : List Caption) (fs : List ℕ)
+more_commands : (number : ℕ) (c : Caption) (d : Definition) (commands : List Command) (rest : List ServiceChunk) (cs : List Caption) (fs : List ℕ)
     (authored : ℕ → ℕ → Option ShownWindow) (window : Option ShownWindow)
     → d.id ≡ c.id → IsLoad d commands → All IsWritable commands → seen_behind commands ≡ window
     → AreTimely (map (chunk_of number c) (map bytes_of_command commands) ++ rest) fs
@@ -73,12 +73,12 @@ found_first false of cue later = refl
 module _ (rate : Rate) (service : ℕ) where
   -- the captions of the later cues, wherever their units stand in time
   abbrev Others : ℕ → List Cue → Type 0
-  Others number cues = (left : List ℕ) → AreTimely (chunks_from rate service number cues) left
-      → Loads (service_captions rate service cues) (chunks_from rate service number cues) left (λ id frame. authored_windows service cues frame id)
+  Others number cues = (left : List ℕ) → AreTimely (service_chunks_from rate service number cues) left
+      → Loads (service_captions rate service cues) (service_chunks_from rate service number cues) left (λ id frame. authored_windows service cues frame id)
 
   -- the units of a cue, with this caption and these commands, before those of later cues
-  abbrev units : ℕ → Option Caption → List Command → List Cue → List Chunk
-  units number c commands cues = chunks_with number c (map bytes_of_command commands) ++ chunks_from rate service (suc number) cues
+  abbrev units : ℕ → Option Caption → List Command → List Cue → List ServiceChunk
+  units number c commands cues = chunks_with number c (map bytes_of_command commands) ++ service_chunks_from rate service (suc number) cues
 
   -- the captions with that of a cue before them, which uses these windows
   abbrev WithCue : ℕ → Cue → List Cue → List ℕ → Option Caption → List Command → (ℕ → Bool) → Type 0
@@ -89,8 +89,8 @@ module _ (rate : Rate) (service : ℕ) where
 
   -- the captions of cues, with what loads them
   pub loads_of : (number : ℕ) (cues : List Cue) (fs : List ℕ) → All IsCueFormed cues → AllByRecursion IsLoadedAsAuthored cues
-      → AreTimely (chunks_from rate service number cues) fs
-      → Loads (service_captions rate service cues) (chunks_from rate service number cues) fs (λ id frame. authored_windows service cues frame id)
+      → AreTimely (service_chunks_from rate service number cues) fs
+      → Loads (service_captions rate service cues) (service_chunks_from rate service number cues) fs (λ id frame. authored_windows service cues frame id)
   loads_of number [] [] formed loaded timely = record {
     loads = [];
     captions_are = refl;
@@ -127,7 +127,7 @@ module _ (rate : Rate) (service : ℕ) where
           let writable = subst (λ (k : Kind). All IsWritable (commands_with k cue.runs)) is (commands_writable cue own) in
           let seen = subst (λ (k : Kind). seen_behind (commands_with k cue.runs) ≡ cue_window cue.kind cue.runs) is loaded.0 in
           let hides = (subst (λ (k : Kind). IsOfKind k cue.hide cue.runs) is own.kind).1 in
-          let all = more_commands number c (definition_of w) (window_commands w cue.runs) (chunks_from rate service (suc number) cues)
+          let all = more_commands number c (definition_of w) (window_commands w cue.runs) (service_chunks_from rate service (suc number) cues)
           (service_captions rate service cues) fs (λ id frame. authored_windows service cues frame id) (cue_window cue.kind cue.runs) refl
           (window_load w cue.runs) writable seen in_time others in
           record {

@@ -18,7 +18,7 @@ use Rattle.dtvcc_screen.specs.Laws.{is_text}
 use Rattle.dtvcc_screen.specs.Screens.{ScreenState}
 use Rattle.dtvcc_author.specs.declared.caption.Caption.{Caption}
 use Rattle.dtvcc_author.specs.CueUnits.{IsWritable}
-use Rattle.service_lanes.specs.Chunks.{Chunk}
+use Rattle.service_lanes.specs.Chunks.{ServiceChunk}
 use Rattle.service_lanes.specs.ServiceBytes.{AreFramesFrom, loads_at}
 use Rattle.service_lanes.specs.ServiceChunks.{chunk_of}
 use Rattle.window_loading.specs.Loading.{edited_all, seen_behind}
@@ -32,7 +32,7 @@ use Rattle.windows_shown.proofs.SeenLemmas.{IsSeen}
 use Rattle.windows_shown.proofs.WindowLemmas.{shown_whole}
 
 -- each unit stands from its LOAD on, before what shows its caption, and in no later frame than those behind it
-abbrev pub AreTimely : List Chunk → List ℕ → Type 0
+abbrev pub AreTimely : List ServiceChunk → List ℕ → Type 0
 AreTimely [] [] = ⊤
 AreTimely [] (f ∷ fs) = ⊥
 AreTimely (u ∷ us) [] = ⊥
@@ -56,7 +56,7 @@ abbrev AreTexts : List Command → Type 0
 AreTexts commands = AllByRecursion (λ (command : Command). is_text command ≡ true) commands
 
 -- text of a caption from a frame on, with the frames that are left for the units behind it
-record PlacedText (number : ℕ) (c : Caption) (commands : List Command) (rest : List Chunk) (from : ℕ) (fs : List ℕ) : Type 0 where
+record PlacedText (number : ℕ) (c : Caption) (commands : List Command) (rest : List ServiceChunk) (from : ℕ) (fs : List ℕ) : Type 0 where
   text : List (Command × ℕ)
   left : List ℕ
   last : ℕ
@@ -76,7 +76,7 @@ at_least : (low high : ℕ) (us : List (Command × ℕ)) → low ≤ high → Al
 at_least low high [] less all = tt
 at_least low high (u ∷ us) less all = let first : high ≤ u.1 = all.0 in (omega arith, at_least low high us less all.1)
 
-placed_text : (number : ℕ) (c : Caption) (commands : List Command) (rest : List Chunk) (from : ℕ) (fs : List ℕ) → AreTexts commands
+placed_text : (number : ℕ) (c : Caption) (commands : List Command) (rest : List ServiceChunk) (from : ℕ) (fs : List ℕ) → AreTexts commands
     → All IsWritable commands → AreFramesFrom from fs → AreTimely (map (chunk_of number c) (map bytes_of_command commands) ++ rest) fs
     → PlacedText number c commands rest from fs
 placed_text number c [] rest from fs texts writable low timely = record {
@@ -117,7 +117,7 @@ placed_text number c (command ∷ commands) rest from (f ∷ fs) texts writable 
     }
 
 -- captions with what loads them, by their units, which stand in their frames, and by what is to be seen
-pub record Loads (cs : List Caption) (chunks : List Chunk) (fs : List ℕ) (authored : ℕ → ℕ → Option ShownWindow) : Type 0 where
+pub record Loads (cs : List Caption) (chunks : List ServiceChunk) (fs : List ℕ) (authored : ℕ → ℕ → Option ShownWindow) : Type 0 where
   pub loads : List CaptionLoad
   pub captions_are : captions loads ≡ cs
   pub order : AreInOrder loads
@@ -162,7 +162,7 @@ shows_holds : (id frame : ℕ) (c : Caption) → c.id ≡ id → c.show ≤ fram
 shows_holds id frame c is from to = grind (arith, nat_tests)
 
 -- one caption more, with its DefineWindow and text
-pub one_more : (number : ℕ) (c : Caption) (d : Definition) (text : List Command) (rest : List Chunk) (cs : List Caption) (fs : List ℕ)
+pub one_more : (number : ℕ) (c : Caption) (d : Definition) (text : List Command) (rest : List ServiceChunk) (cs : List Caption) (fs : List ℕ)
     (authored : ℕ → ℕ → Option ShownWindow) (window : Option ShownWindow)
     → d.id ≡ c.id → d.visible ≡ false → AreTexts text → All IsWritable (Df d ∷ text) → seen_behind (Df d ∷ text) ≡ window
     → AreTimely (map (chunk_of number c) (map bytes_of_command (Df d ∷ text)) ++ rest) fs

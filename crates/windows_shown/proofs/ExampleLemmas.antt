@@ -19,7 +19,7 @@ use Rattle.dtvcc_author.specs.FrameEvents.{delay_end}
 use Rattle.dtvcc_author.specs.declared.caption.Caption.{Caption}
 use Rattle.frame_scheduler.specs.Planned.{captions_in, chunks_in, share_in}
 use Rattle.placements.specs.Placing.{IsPlaced}
-use Rattle.service_lanes.specs.Chunks.{Chunk}
+use Rattle.service_lanes.specs.Chunks.{ServiceChunk}
 use Rattle.service_lanes.specs.ServiceLane.{AreUpTo, IsAllowedInService, bytes_between, chunk_size, is_between, most_in_delay, used}
 use Rattle.service_lanes.specs.ServiceRoom.{caption_lane, frame_room}
 use Rattle.windows_shown.specs.AuthoredShown.{IsServicePlaced}
@@ -89,15 +89,15 @@ unfolding verdicts
 list_ruled = faultless_ruled delayed_list (refl, (refl, (refl, (refl, tt))))
 
 -- the bytes of placed units, in whatever frames
-abbrev all_bytes : List (Chunk × ℕ) → ℕ
-all_bytes placed = sum_by (λ (each : Chunk × ℕ). chunk_size each.0) placed
+abbrev all_bytes : List (ServiceChunk × ℕ) → ℕ
+all_bytes placed = sum_by (λ (each : ServiceChunk × ℕ). chunk_size each.0) placed
 
-used_most : (from to : ℕ) (placed : List (Chunk × ℕ)) → used from to placed ≤ all_bytes placed
+used_most : (from to : ℕ) (placed : List (ServiceChunk × ℕ)) → used from to placed ≤ all_bytes placed
 used_most from to [] = omega arith
 used_most from to (each ∷ placed) =
     let rest = used_most from to placed in
     let some = sum_by-cons (bytes_between from to) each placed in
-    let most = sum_by-cons (λ (one : Chunk × ℕ). chunk_size one.0) each placed in
+    let most = sum_by-cons (λ (one : ServiceChunk × ℕ). chunk_size one.0) each placed in
     let own = at (is_between from to each.1) in
     rw (some, most) (omega (arith, rest, own))
   where
@@ -106,13 +106,13 @@ used_most from to (each ∷ placed) =
     at false = omega arith
 
 -- whether a unit may stand in a frame behind others, if all of them stood in one delay
-abbrev is_allowed : ℕ → List Caption → List (Chunk × ℕ) → Chunk → ℕ → Bool
+abbrev is_allowed : ℕ → List Caption → List (ServiceChunk × ℕ) → ServiceChunk → ℕ → Bool
 is_allowed share cs before u f =
-    list_all (λ (each : Chunk × ℕ). nat_le each.1 f) before
+    list_all (λ (each : ServiceChunk × ℕ). nat_le each.1 f) before
     && (nat_le u.load f && (nat_lt f u.until
     && (nat_le (used f (f + 1) before + chunk_size u) (frame_room share cs f) && nat_le (all_bytes before + chunk_size u) most_in_delay)))
 
-abbrev are_allowed : ℕ → List Caption → List (Chunk × ℕ) → List Chunk → List ℕ → Bool
+abbrev are_allowed : ℕ → List Caption → List (ServiceChunk × ℕ) → List ServiceChunk → List ℕ → Bool
 are_allowed share cs before [] [] = true
 are_allowed share cs before [] (f ∷ fs) = false
 are_allowed share cs before (u ∷ us) [] = false
@@ -121,16 +121,16 @@ are_allowed share cs before (u ∷ us) (f ∷ fs) = is_allowed share cs before u
 le_holds : (a b : ℕ) → nat_le a b ≡ true → a ≤ b
 le_holds a b test = grind (arith, nat_tests)
 
-up_to : (f : ℕ) (before : List (Chunk × ℕ)) → list_all (λ (each : Chunk × ℕ). nat_le each.1 f) before ≡ true → AreUpTo f before
+up_to : (f : ℕ) (before : List (ServiceChunk × ℕ)) → list_all (λ (each : ServiceChunk × ℕ). nat_le each.1 f) before ≡ true → AreUpTo f before
 up_to f [] test = tt
 up_to f (each ∷ before) test =
-    let parts = and_parts (nat_le each.1 f) (list_all (λ (one : Chunk × ℕ). nat_le one.1 f) before) test in
+    let parts = and_parts (nat_le each.1 f) (list_all (λ (one : ServiceChunk × ℕ). nat_le one.1 f) before) test in
     (le_holds each.1 f parts.0, up_to f before parts.1)
 
-allowed_by : (share : ℕ) (cs : List Caption) (before : List (Chunk × ℕ)) (u : Chunk) (f : ℕ) → is_allowed share cs before u f ≡ true
+allowed_by : (share : ℕ) (cs : List Caption) (before : List (ServiceChunk × ℕ)) (u : ServiceChunk) (f : ℕ) → is_allowed share cs before u f ≡ true
     → IsAllowedInService (frame_room share cs) (delay_end cs) before u f
 allowed_by share cs before u f test =
-    let first = and_parts (list_all (λ (each : Chunk × ℕ). nat_le each.1 f) before) _ test in
+    let first = and_parts (list_all (λ (each : ServiceChunk × ℕ). nat_le each.1 f) before) _ test in
     let second = and_parts (nat_le u.load f) _ first.1 in
     let third = and_parts (nat_lt f u.until) _ second.1 in
     let fourth = and_parts (nat_le (used f (f + 1) before + chunk_size u) (frame_room share cs f)) (nat_le (all_bytes before + chunk_size u) most_in_delay) third.1 in
@@ -143,7 +143,7 @@ allowed_by share cs before u f test =
       delayed = λ start end ends from to. let most = used_most start end before in omega (arith, most, few);
     }
 
-placed_by : (share : ℕ) (cs : List Caption) (before : List (Chunk × ℕ)) (us : List Chunk) (fs : List ℕ) → are_allowed share cs before us fs ≡ true
+placed_by : (share : ℕ) (cs : List Caption) (before : List (ServiceChunk × ℕ)) (us : List ServiceChunk) (fs : List ℕ) → are_allowed share cs before us fs ≡ true
     → IsPlaced (caption_lane share cs) before us fs
 placed_by share cs before [] [] test = tt
 placed_by share cs before [] (f ∷ fs) test = cc

@@ -20,7 +20,7 @@ use Rattle.dtvcc_author.specs.Kept.{AreKept}
 use Rattle.dtvcc_author.specs.Latest.{caption_delay}
 use Rattle.dtvcc_author.proofs.LatestLemmas.{Has}
 use Rattle.placements.specs.Placing.{IsPlaced}
-use Rattle.service_lanes.specs.Chunks.{Chunk}
+use Rattle.service_lanes.specs.Chunks.{ServiceChunk}
 use Rattle.service_lanes.specs.ServiceChunks.{service_chunks}
 use Rattle.service_lanes.specs.ServiceRoom.{caption_lane}
 use Rattle.service_lanes.proofs.CaptionsKept.{captions_kept}
@@ -45,7 +45,7 @@ load_of [] c has = absurd has
 load_of (g ∷ gs) c (inl same) = (g, inl refl, sym same)
 load_of (g ∷ gs) c (inr has) = let rest = load_of gs c has in (rest.0, inr rest.1, rest.2)
 
-module _ (since : ℕ) (rate : Rate) (frames : ℕ) (gs : List CaptionLoad) (placed : List (Chunk × ℕ)) (kept : AreKept rate frames (captions gs))
+module _ (since : ℕ) (rate : Rate) (frames : ℕ) (gs : List CaptionLoad) (placed : List (ServiceChunk × ℕ)) (kept : AreKept rate frames (captions gs))
     (order : AreInOrder gs) (loads : AreLoads placed gs) (sound : IsSoundLane (lane_of rate (captions gs) placed)) where
   abbrev whole_lane : Lane
   whole_lane = lane_of rate (captions gs) placed
@@ -122,7 +122,7 @@ pub windows_are_heard : (list : Listing) (share service since : ℕ) (placed : L
     ≡ authored_windows service list.cues frame id
 windows_are_heard list share service since placed formed ruled is frame id low small up =
     let cs : List Caption = service_captions list.rate service list.cues in
-    let chunks : List Chunk = service_chunks list.rate service list.cues in
+    let chunks : List ServiceChunk = service_chunks list.rate service list.cues in
     let kept = captions_kept list service formed ruled in
     let sound = lane_sound list.rate share service list.frames list.cues placed formed.cues kept is in
     let all = loads_of list.rate service 1 list.cues placed formed.cues (list_as_authored list formed ruled) (placed_timely share cs [] chunks placed is) in
@@ -143,6 +143,6 @@ pub windows_are_shown : (list : Listing) (share service : ℕ) (placed : List �
     ≡ authored_windows service list.cues frame id
 windows_are_shown list share service placed formed ruled is frame id small =
     let cs : List Caption = service_captions list.rate service list.cues in
-    let chunks : List Chunk = service_chunks list.rate service list.cues in
+    let chunks : List ServiceChunk = service_chunks list.rate service list.cues in
     ap (λ (s : Served). grids s.core.screen id) (sym (whole_served (lane_of list.rate cs (zip chunks placed)) (suc frame)))
     ∙ windows_are_heard list share service 0 placed formed ruled is frame id (omega arith) small (λ c has up. omega arith)

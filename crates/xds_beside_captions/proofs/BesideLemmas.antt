@@ -11,7 +11,7 @@ use Rattle.line21_codes.specs.declared.pairs.Pair.{Pair}
 use Rattle.line21_author.specs.declared.unit.Unit.{Unit}
 use Rattle.line21_shown.proofs.ReadingLemmas.{null_code}
 use Rattle.line21_shown.specs.Reading.{IsMarked}
-use Rattle.frame_scheduler.specs.Timeline.{Timeline, first_of, repeat_at, repeat_of, slot}
+use Rattle.field_lanes.specs.Timeline.{Timeline, first_of, repeat_at, repeat_of, slot}
 use Rattle.shared_field_shown.specs.Sharing.{IsFor, is_text}
 use Rattle.xds_beside_captions.specs.Beside.{CaptionsAreBeside, caption_codes}
 use Rattle.xds_beside_captions.specs.PacketTimeline.{LeaveFree}

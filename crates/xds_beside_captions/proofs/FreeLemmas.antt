@@ -18,16 +18,16 @@ use Rattle.line21_codes.specs.declared.pairs.Pair.{Pair}
 use Rattle.line21_slots.specs.Cadences.{cadence_of, slot_frame, slot_from}
 use Rattle.line21_slots.specs.declared.cadence.Cadence.{Cadence}
 use Rattle.line21_slots.proofs.CadenceLemmas.{frame_not_before, slot_not_before}
-use Rattle.frame_scheduler.specs.declared.lane.piece.Piece.{Piece}
-use Rattle.frame_scheduler.specs.ChannelLane.{channel_pieces, cue_pieces}
-use Rattle.frame_scheduler.specs.FieldLane.{IsAllowedInField, end_of, lane}
-use Rattle.frame_scheduler.specs.LaneEvents.{event_at}
-use Rattle.frame_scheduler.specs.LaneTimeline.{lane_timeline, stands}
+use Rattle.field_lanes.specs.declared.chunk.FieldChunk.{FieldChunk}
+use Rattle.field_lanes.specs.ChannelLane.{channel_chunks, field_cue_chunks}
+use Rattle.field_lanes.specs.FieldLane.{IsAllowedInField, end_of, field_lane}
+use Rattle.field_lanes.specs.LaneEvents.{event_at}
+use Rattle.field_lanes.specs.LaneTimeline.{lane_timeline, stands}
 use Rattle.frame_scheduler.specs.SlotLists.{slot_cues, slots_in_list}
-use Rattle.frame_scheduler.specs.Timeline.{Timeline, first_of, repeat_of, slot}
-use Rattle.frame_scheduler.proofs.DoublingLemmas.{at_unit, free_none, over_cases, unit_begins}
-use Rattle.frame_scheduler.proofs.EventLemmas.{some_slot}
-use Rattle.frame_scheduler.proofs.FieldLaneLemmas.{end_push}
+use Rattle.field_lanes.specs.Timeline.{Timeline, first_of, repeat_of, slot}
+use Rattle.field_lanes.proofs.DoublingLemmas.{at_unit, free_none, over_cases, unit_begins}
+use Rattle.field_lanes.proofs.EventLemmas.{some_slot}
+use Rattle.field_lanes.proofs.FieldLaneLemmas.{end_push}
 use Rattle.frame_scheduler.proofs.SlotLemmas.{slot_cues_formed, slot_sequence}
 use Rattle.line21_shown.proofs.CaptionedLemmas.{channel_captioned}
 use Rattle.line21_shown.proofs.ReadingLemmas.{null_code}
@@ -35,14 +35,14 @@ use Rattle.line21_shown.specs.Reading.{IsMarked}
 use Rattle.placements.specs.Placing.{IsPlaced}
 use Rattle.resumed_lanes.specs.declared.part.Part.{Part}
 use Rattle.shared_field_shown.specs.ChannelParts.{channel_parts, later_part, parts_from, parts_of}
-use Rattle.shared_field_shown.specs.Lanes.{AreCues, IsBehind, pieces_of}
+use Rattle.shared_field_shown.specs.Lanes.{AreCues, IsBehind, part_chunks}
 use Rattle.shared_field_shown.specs.Sharing.{IsFor, is_text}
 use Rattle.shared_field_shown.specs.Together.{AreOfChannel, IsListed, IsOfChannel}
 use Rattle.resumed_lanes.specs.Parts.{part_slots}
 use Rattle.shared_field_shown.specs.Resuming.{opens}
 use Rattle.shared_field_shown.proofs.LaneLemmas.{some_size}
 use Rattle.shared_field_shown.proofs.LedLemmas.{opener_plain}
-use Rattle.shared_field_shown.proofs.ListedLemmas.{channel_listed, pieces_from_back}
+use Rattle.shared_field_shown.proofs.ListedLemmas.{channel_listed, channel_chunks_from_back}
 use Rattle.xds_beside_captions.proofs.BesideLemmas.{due_unit, slot_of_repeat, slot_of_unit}
 use Rattle.xds_beside_captions.specs.FreeSlots.{CaptionsLeaveFree, captions_of, frame_of_slot, free_in, is_loading}
 use Rattle.xds_beside_captions.specs.PacketTimeline.{IsLedClosed, LeaveFree}
@@ -69,23 +69,23 @@ not_null pair own = by_null (is_null pair) refl
 -- no free slot lies in the time of a unit's cue
 abbrev AreClosed : (ℕ → Bool) → List Part → Type 0
 AreClosed free [] = ⊤
-AreClosed free (part ∷ parts) = ((m : ℕ) → part.piece.load ≤ m → m < part.piece.until → free m ≡ false) × AreClosed free parts
+AreClosed free (part ∷ parts) = ((m : ℕ) → part.chunk.load ≤ m → m < part.chunk.until → free m ≡ false) × AreClosed free parts
 
 -- a unit of the lane is of its channel
-part_own : (parts : List Part) (fs : List ℕ) (n : ℕ) (unit : Unit) → AreOfChannel One parts → stands (pieces_of parts) fs n ≡ Some unit → IsOfChannel One unit
+part_own : (parts : List Part) (fs : List ℕ) (n : ℕ) (unit : Unit) → AreOfChannel One parts → stands (part_chunks parts) fs n ≡ Some unit → IsOfChannel One unit
 part_own [] fs n unit own is = cc
 part_own (part ∷ parts) [] n unit own is = cc
 part_own (part ∷ parts) (f ∷ fs) n unit own is = by_slot (eqb n f) refl (λ rest. part_own parts fs n unit own.2 rest)
   where
-    by_slot : (b : Bool) → eqb n f ≡ b → (stands (pieces_of parts) fs n ≡ Some unit → IsOfChannel One unit) → IsOfChannel One unit
+    by_slot : (b : Bool) → eqb n f ≡ b → (stands (part_chunks parts) fs n ≡ Some unit → IsOfChannel One unit) → IsOfChannel One unit
     by_slot true test rest =
-        let it : Some part.piece.unit ≡ Some unit = sym (at_unit part.piece (pieces_of parts) f fs n true test) ∙ is in
-        let it' : part.piece.unit ≡ unit = cc in
+        let it : Some part.chunk.unit ≡ Some unit = sym (at_unit part.chunk (part_chunks parts) f fs n true test) ∙ is in
+        let it' : part.chunk.unit ≡ unit = cc in
         subst (IsOfChannel One) it' own.0
-    by_slot false test rest = rest (sym (at_unit part.piece (pieces_of parts) f fs n false test) ∙ is)
+    by_slot false test rest = rest (sym (at_unit part.chunk (part_chunks parts) f fs n false test) ∙ is)
 
 -- a unit stands behind those before it
-behind_end : (events : List Event) (ps : List Piece) (fs : List ℕ) (before : List (Piece × ℕ)) (n : ℕ) (u : Unit) → IsPlaced (lane events) before ps fs
+behind_end : (events : List Event) (ps : List FieldChunk) (fs : List ℕ) (before : List (FieldChunk × ℕ)) (n : ℕ) (u : Unit) → IsPlaced (field_lane events) before ps fs
     → stands ps fs n ≡ Some u → end_of before ≤ n
 behind_end events [] fs before n u placed is = cc
 behind_end events (p ∷ ps) [] before n u placed is = cc
@@ -104,14 +104,14 @@ module _ (events : List Event) (t : Timeline) (free : ℕ → Bool) where
     before : at < end
     there : t at ≡ Some former.first
     control : is_text (code_of former.first.pair) ≡ false
-    loaded : former.piece.load ≤ at
+    loaded : former.chunk.load ≤ at
 
   abbrev Up : Option Part → ℕ → Type 0
   Up None end = ⊤
   Up (Some former) end = IsUp former end
 
-  up_next : (former : Option Part) (part : Part) (end f : ℕ) (later : Bool) → IsBehind later former part → Up former end → end ≤ f → t f ≡ Some part.piece.unit
-      → part.piece.load ≤ f → IsUp part (f + part_slots part)
+  up_next : (former : Option Part) (part : Part) (end f : ℕ) (later : Bool) → IsBehind later former part → Up former end → end ≤ f → t f ≡ Some part.chunk.unit
+      → part.chunk.load ≤ f → IsUp part (f + part_slots part)
   up_next former part end f false begins up behind there loaded = record {
     at = f;
     before = let some = some_size part in omega arith;
@@ -129,11 +129,11 @@ module _ (events : List Event) (t : Timeline) (free : ℕ → Bool) where
   }
 
   -- a text unit is led to by the first unit of its cue
-  led_here : (former : Option Part) (part : Part) (end f : ℕ) (later : Bool) → IsBehind later former part → Up former end → IsAllowedInField events end part.piece f
-      → ((m : ℕ) → part.piece.load ≤ m → m < part.piece.until → free m ≡ false) → is_text (code_of part.piece.unit.pair) ≡ true → IsLedClosed t free f
+  led_here : (former : Option Part) (part : Part) (end f : ℕ) (later : Bool) → IsBehind later former part → Up former end → IsAllowedInField events end part.chunk f
+      → ((m : ℕ) → part.chunk.load ≤ m → m < part.chunk.until → free m ≡ false) → is_text (code_of part.chunk.unit.pair) ≡ true → IsLedClosed t free f
   led_here former part end f false begins up allowed closed text =
-      let plain : is_text (code_of part.piece.unit.pair) ≡ false =
-      opener_plain (code_of part.piece.unit.pair) begins.mode (ap (λ (u : Unit). opens (code_of u.pair)) (sym begins.first) ∙ begins.opens_it) in
+      let plain : is_text (code_of part.chunk.unit.pair) ≡ false =
+      opener_plain (code_of part.chunk.unit.pair) begins.mode (ap (λ (u : Unit). opens (code_of u.pair)) (sym begins.first) ∙ begins.opens_it) in
       absurd (cc)
   led_here None part end f true continues up allowed closed text = absurd continues
   led_here (Some former) part end f true continues up allowed closed text = record {
@@ -150,49 +150,49 @@ module _ (events : List Event) (t : Timeline) (free : ℕ → Bool) where
         closed m (omega arith) (omega arith);
   }
 
-  led_all : (former : Option Part) (parts : List Part) (fs : List ℕ) (before : List (Piece × ℕ)) → Up former (end_of before) → AreCues former parts → AreClosed free parts
-      → IsPlaced (lane events) before (pieces_of parts) fs → ((n : ℕ) (u : Unit) → stands (pieces_of parts) fs n ≡ Some u → t n ≡ Some u)
-      → (n : ℕ) (unit : Unit) → stands (pieces_of parts) fs n ≡ Some unit → is_text (code_of unit.pair) ≡ true → IsLedClosed t free n
+  led_all : (former : Option Part) (parts : List Part) (fs : List ℕ) (before : List (FieldChunk × ℕ)) → Up former (end_of before) → AreCues former parts → AreClosed free parts
+      → IsPlaced (field_lane events) before (part_chunks parts) fs → ((n : ℕ) (u : Unit) → stands (part_chunks parts) fs n ≡ Some u → t n ≡ Some u)
+      → (n : ℕ) (unit : Unit) → stands (part_chunks parts) fs n ≡ Some unit → is_text (code_of unit.pair) ≡ true → IsLedClosed t free n
   led_all former [] fs before up cues closed placed stood n unit is text = cc
   led_all former (part ∷ parts) [] before up cues closed placed stood n unit is text = cc
   led_all former (part ∷ parts) (f ∷ fs) before up cues closed placed stood n unit is text = by_slot (eqb n f) refl
-      (λ rest. led_all (Some part) parts fs (before ++ (part.piece, f) ∷ [])
-      (subst (IsUp part) (sym (end_push before part.piece f)) (up_next former part (end_of before) f part.later cues.0 up placed.0.behind here placed.0.loaded))
+      (λ rest. led_all (Some part) parts fs (before ++ (part.chunk, f) ∷ [])
+      (subst (IsUp part) (sym (end_push before part.chunk f)) (up_next former part (end_of before) f part.later cues.0 up placed.0.behind here placed.0.loaded))
       cues.1 closed.1 placed.1 stood_behind n unit rest text)
     where
-      here : t f ≡ Some part.piece.unit
-      here = let test : eqb f f ≡ true = grind (arith, nat_tests) in stood f part.piece.unit (at_unit part.piece (pieces_of parts) f fs f true test)
+      here : t f ≡ Some part.chunk.unit
+      here = let test : eqb f f ≡ true = grind (arith, nat_tests) in stood f part.chunk.unit (at_unit part.chunk (part_chunks parts) f fs f true test)
 
-      stood_behind : (m : ℕ) (u : Unit) → stands (pieces_of parts) fs m ≡ Some u → t m ≡ Some u
+      stood_behind : (m : ℕ) (u : Unit) → stands (part_chunks parts) fs m ≡ Some u → t m ≡ Some u
       stood_behind m u there =
-          let high = behind_end events (pieces_of parts) fs (before ++ (part.piece, f) ∷ []) m u placed.1 there in
+          let high = behind_end events (part_chunks parts) fs (before ++ (part.chunk, f) ∷ []) m u placed.1 there in
           let some = some_size part in
-          let end = end_push before part.piece f in
+          let end = end_push before part.chunk f in
           let test : eqb m f ≡ false = let later : f < m = omega arith in grind (arith, nat_tests) in
-          stood m u (at_unit part.piece (pieces_of parts) f fs m false test ∙ there)
+          stood m u (at_unit part.chunk (part_chunks parts) f fs m false test ∙ there)
 
-      by_slot : (b : Bool) → eqb n f ≡ b → (stands (pieces_of parts) fs n ≡ Some unit → IsLedClosed t free n) → IsLedClosed t free n
+      by_slot : (b : Bool) → eqb n f ≡ b → (stands (part_chunks parts) fs n ≡ Some unit → IsLedClosed t free n) → IsLedClosed t free n
       by_slot true test rest =
           let same : f ≡ n = grind (arith, nat_tests) in
-          let it : Some part.piece.unit ≡ Some unit = sym (at_unit part.piece (pieces_of parts) f fs n true test) ∙ is in
-          let it' : part.piece.unit ≡ unit = cc in
+          let it : Some part.chunk.unit ≡ Some unit = sym (at_unit part.chunk (part_chunks parts) f fs n true test) ∙ is in
+          let it' : part.chunk.unit ≡ unit = cc in
           subst (IsLedClosed t free) same
           (led_here former part (end_of before) f part.later cues.0 up placed.0 closed.0 (ap (λ (u : Unit). is_text (code_of u.pair)) it' ∙ text))
-      by_slot false test rest = rest (sym (at_unit part.piece (pieces_of parts) f fs n false test) ∙ is)
+      by_slot false test rest = rest (sym (at_unit part.chunk (part_chunks parts) f fs n false test) ∙ is)
 
 -- a lane whose free slots have null pairs, and lie in no time of its cues, leaves them free
 module _ (events : List Event) (parts : List Part) (fs : List ℕ) (free : ℕ → Bool)
-    (listed : IsListed One (event_at events) parts) (placed : IsPlaced (lane events) [] (pieces_of parts) fs) (marked : IsMarked (lane_timeline events (pieces_of parts) fs))
-    (null : (n : ℕ) → free n ≡ true → is_null (slot (lane_timeline events (pieces_of parts) fs) n) ≡ true) (closed : AreClosed free parts) where
+    (listed : IsListed One (event_at events) parts) (placed : IsPlaced (field_lane events) [] (part_chunks parts) fs) (marked : IsMarked (lane_timeline events (part_chunks parts) fs))
+    (null : (n : ℕ) → free n ≡ true → is_null (slot (lane_timeline events (part_chunks parts) fs) n) ≡ true) (closed : AreClosed free parts) where
   abbrev t : Timeline
-  t = lane_timeline events (pieces_of parts) fs
+  t = lane_timeline events (part_chunks parts) fs
 
   own : (n : ℕ) (unit : Unit) → t n ≡ Some unit → IsFor One (code_of unit.pair)
   own n unit is =
       ⊎_elim
       (λ (event : event_at events n ≡ Some unit). (listed.events_own n unit event).own)
-      (λ (stood : (event_at events n ≡ None) × (stands (pieces_of parts) fs n ≡ Some unit)). (part_own parts fs n unit listed.parts_own stood.1).own)
-      (over_cases events (pieces_of parts) fs n unit is)
+      (λ (stood : (event_at events n ≡ None) × (stands (part_chunks parts) fs n ≡ Some unit)). (part_own parts fs n unit listed.parts_own stood.1).own)
+      (over_cases events (part_chunks parts) fs n unit is)
 
   taken : (n : ℕ) (pair : Pair) → slot t n ≡ pair → IsFor One (code_of pair) → free n ≡ false
   taken n pair is for_one = by_free (free n) refl
@@ -213,11 +213,11 @@ module _ (events : List Event) (parts : List Part) (fs : List ℕ) (free : ℕ �
       let d = due_unit (t n) pair due in
       taken (suc n) pair (slot_of_repeat t (suc n) pair due) (subst (λ p. IsFor One (code_of p)) d.1.1.0 (own n d.0 d.1.0))
 
-  stood : (n : ℕ) (u : Unit) → stands (pieces_of parts) fs n ≡ Some u → t n ≡ Some u
+  stood : (n : ℕ) (u : Unit) → stands (part_chunks parts) fs n ≡ Some u → t n ≡ Some u
   stood n u is =
-      let b = (unit_begins events [] (pieces_of parts) fs n u placed is).0 in
-      let size = some_slot n b.piece in
-      ap (λ e. first_of e (stands (pieces_of parts) fs n)) (free_none events n (b.allowed.free n (omega arith) size)) ∙ is
+      let b = (unit_begins events [] (part_chunks parts) fs n u placed is).0 in
+      let size = some_slot n b.chunk in
+      ap (λ e. first_of e (stands (part_chunks parts) fs n)) (free_none events n (b.allowed.free n (omega arith) size)) ∙ is
 
   leaves_free : LeaveFree t free
   leaves_free = record {
@@ -228,9 +228,9 @@ module _ (events : List Event) (parts : List Part) (fs : List ℕ) (free : ℕ �
     led = λ n unit is text.
         ⊎_elim
         (λ (event : event_at events n ≡ Some unit). let plain = listed.controls n unit event in absurd (cc))
-        (λ (there : (event_at events n ≡ None) × (stands (pieces_of parts) fs n ≡ Some unit)).
+        (λ (there : (event_at events n ≡ None) × (stands (part_chunks parts) fs n ≡ Some unit)).
         led_all events t free None parts fs [] tt listed.cues closed placed stood n unit there.1 text)
-        (over_cases events (pieces_of parts) fs n unit is);
+        (over_cases events (part_chunks parts) fs n unit is);
   }
 
 -- a slot before a frame's first one lies in an earlier frame
@@ -266,7 +266,7 @@ closed_parts : (free : ℕ → Bool) (c : Cadence) (number : ℕ) (cues : List C
     → AreClosed free (parts_from Cc3 number (cues_in_slots c cues))
 closed_parts free c number [] closed = tt
 closed_parts free c number (cue ∷ cues) closed =
-    closed_both free (if is_on Cc3 cue.kind then parts_of (cue_pieces number (timed_in_slots c cue)) else []) (parts_from Cc3 (suc number) (cues_in_slots c cues))
+    closed_both free (if is_on Cc3 cue.kind then parts_of (field_cue_chunks number (timed_in_slots c cue)) else []) (parts_from Cc3 (suc number) (cues_in_slots c cues))
     (by_channel (is_on Cc3 cue.kind) refl)
     (closed_parts free c (suc number) cues (λ m is. closed m (or_second (is_on Cc3 cue.kind && (nat_le cue.load (slot_frame c m) && nat_lt (slot_frame c m) cue.show)) (is_loading Cc3 cues (slot_frame c m)) is)))
   where
@@ -276,7 +276,7 @@ closed_parts free c number (cue ∷ cues) closed =
         let below = lt-ltb (slot_frame c m) cue.show (shown_in c cue.show m low) in
         closed m (or_true (is_on Cc3 cue.kind && (nat_le cue.load (slot_frame c m) && nat_lt (slot_frame c m) cue.show)) (is_loading Cc3 cues (slot_frame c m)) (rw (on, above, below) refl))
 
-    by_channel : (b : Bool) → is_on Cc3 cue.kind ≡ b → AreClosed free (if b then parts_of (cue_pieces number (timed_in_slots c cue)) else [])
+    by_channel : (b : Bool) → is_on Cc3 cue.kind ≡ b → AreClosed free (if b then parts_of (field_cue_chunks number (timed_in_slots c cue)) else [])
     by_channel false on = tt
     by_channel true on = closed_cue free number (timed_in_slots c cue) (units_of (timed_in_slots c cue)) (loading on)
 
@@ -285,15 +285,15 @@ captions_leave_free list slots formed ruled earliest =
     let cues = slot_cues list Cc3 in
     let events = channel_events Cc3 (slot_cues list Cc3) in
     let free = free_in list slots in
-    let back = pieces_from_back Cc3 1 (slot_cues list Cc3) in
+    let back = channel_chunks_from_back Cc3 1 (slot_cues list Cc3) in
     let captioned = channel_captioned list Cc3 slots formed ruled earliest in
-    let marked : IsMarked (lane_timeline events (channel_pieces Cc3 cues) slots) = record { marked = captioned.marked; spaced = captioned.spaced } in
-    subst (λ (ps : List Piece). LeaveFree (lane_timeline (channel_events Cc3 (slot_cues list Cc3)) ps slots) (free_in list slots)) back
+    let marked : IsMarked (lane_timeline events (channel_chunks Cc3 cues) slots) = record { marked = captioned.marked; spaced = captioned.spaced } in
+    subst (λ (ps : List FieldChunk). LeaveFree (lane_timeline (channel_events Cc3 (slot_cues list Cc3)) ps slots) (free_in list slots)) back
     (leaves_free events (channel_parts Cc3 cues) slots free
     (channel_listed Cc3 (slots_in_list list Cc3) cues (slot_cues_formed list formed Cc3) (slot_sequence list ruled Cc3))
-    (subst (λ (ps : List Piece). IsPlaced (lane (channel_events Cc3 (slot_cues list Cc3))) [] ps slots) (sym back) earliest.placed)
-    (subst (λ (ps : List Piece). IsMarked (lane_timeline (channel_events Cc3 (slot_cues list Cc3)) ps slots)) (sym back) marked)
+    (subst (λ (ps : List FieldChunk). IsPlaced (field_lane (channel_events Cc3 (slot_cues list Cc3))) [] ps slots) (sym back) earliest.placed)
+    (subst (λ (ps : List FieldChunk). IsMarked (lane_timeline (channel_events Cc3 (slot_cues list Cc3)) ps slots)) (sym back) marked)
     (λ n here.
-    subst (λ (ps : List Piece). is_null (slot (lane_timeline (channel_events Cc3 (slot_cues list Cc3)) ps slots) n) ≡ true) (sym back)
+    subst (λ (ps : List FieldChunk). is_null (slot (lane_timeline (channel_events Cc3 (slot_cues list Cc3)) ps slots) n) ≡ true) (sym back)
     (and_parts (not (is_loading Cc3 list.cues (frame_of_slot list n))) (is_null (slot (captions_of list slots) n)) here).1)
     (closed_parts free (cadence_of list.rate Cc3) 1 list.cues (λ m is. rw is refl)))

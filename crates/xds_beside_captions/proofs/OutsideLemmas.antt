@@ -11,7 +11,7 @@ use Rattle.line21_author.specs.declared.unit.Unit.{Unit}
 use Rattle.line21_codes.specs.declared.channels.DataChannel.{DataChannel}
 use Rattle.line21_screen.specs.Channels.{new_channel}
 use Rattle.line21_screen.specs.Fields.{FieldState, after_code, channel}
-use Rattle.frame_scheduler.specs.Timeline.{Timeline, first_of, over, repeat_of}
+use Rattle.field_lanes.specs.Timeline.{Timeline, first_of, over, repeat_of}
 use Rattle.line21_shown.specs.Reading.{acts, does_unit}
 use Rattle.xds_beside_captions.specs.Outside.{AreOutside, DataChangeNothing, IsData, begins}
 use Rattle.shared_field_shown.specs.Own.{own_of, reaches}

@@ -11,7 +11,7 @@ use Rattle.line21_codes.specs.declared.channels.FieldNumber.TheVariants as field
 use Rattle.line21_codes.specs.declared.codes.Code.{Code}
 use Rattle.line21_codes.specs.declared.codes.Code.TheVariants.{Null, Text, Xds, Control}
 use Rattle.line21_author.specs.declared.unit.Unit.{Unit}
-use Rattle.frame_scheduler.specs.Timeline.{Timeline}
+use Rattle.field_lanes.specs.Timeline.{Timeline}
 use Rattle.shared_field_shown.specs.Sharing.{is_text}
 use Rattle.xds_beside_captions.specs.Outside.{AreOutside, IsData, IsWithinData, begins}
 use Rattle.xds_beside_captions.specs.PacketTimeline.{LeaveFree, PacketsAreOutside, packet_timeline, packet_unit}

@@ -27,14 +27,14 @@ use Rattle.line21_shown.proofs.SequenceLemmas.{newest_pairs}
 use Rattle.line21_shown.specs.Reading.{IsCaptioned, IsMarked, acts, first_alone, pairs_before}
 use Rattle.line21_shown.specs.Shown.{state_at}
 use Rattle.frame_carrier.specs.Carried.{AreBytePairs, IsBytePair}
-use Rattle.frame_scheduler.specs.ChannelLane.{channel_pieces, channel_slot}
+use Rattle.field_lanes.specs.ChannelLane.{channel_chunks, channel_slot}
 use Rattle.frame_scheduler.specs.Columns.{first_pairs, pair_in}
-use Rattle.frame_scheduler.specs.DoubledPairs.{IsDoubled}
+use Rattle.field_lanes.specs.DoubledPairs.{IsDoubled}
 use Rattle.frame_scheduler.specs.Planned.{Placement, columns_of}
 use Rattle.frame_scheduler.specs.SlotLists.{slot_cues, slots_in_list}
-use Rattle.frame_scheduler.specs.Timeline.{Timeline, column, first_of, over, repeat_at, repeat_of, slot}
-use Rattle.frame_scheduler.proofs.ColumnLemmas.{column_doubled}
-use Rattle.frame_scheduler.proofs.DoublingLemmas.{lane_ended}
+use Rattle.field_lanes.specs.Timeline.{Timeline, column, first_of, over, repeat_at, repeat_of, slot}
+use Rattle.field_lanes.proofs.ColumnLemmas.{column_doubled}
+use Rattle.field_lanes.proofs.DoublingLemmas.{lane_ended}
 use Rattle.frame_scheduler.proofs.ListDoublingLemmas.{channel_ended, columns_doubled, field_two_is, pairs_column}
 use Rattle.sound_frames.specs.OtherPairs.{AreFitAlike, HaveOtherPairs}
 use Rattle.sound_frames.proofs.OtherPairsLemmas.{other_pairs}
@@ -185,7 +185,7 @@ module _ (list : Listing) (placed : Placement) (listed : List Listed) (are : Are
   none_left : repeat_at t (slots_in_list list Cc3) ≡ None
   none_left =
       due_same (captions_of list (placed (Channel Cc3))) (free_in list (placed (Channel Cc3))) (frame_of_slot list) listed leave are.packets (slots_in_list list Cc3)
-      ∙ lane_ended (channel_events Cc3 (slot_cues list Cc3)) (channel_pieces Cc3 (slot_cues list Cc3)) (placed (Channel Cc3)) (slots_in_list list Cc3)
+      ∙ lane_ended (channel_events Cc3 (slot_cues list Cc3)) (channel_chunks Cc3 (slot_cues list Cc3)) (placed (Channel Cc3)) (slots_in_list list Cc3)
       (channel_ended list Cc3 are.formed are.ruled) (are.placed_is (Channel Cc3)).placed
 
   doubled : (in_field : FieldNumber) → IsDoubled (first_pairs in_field (xds_columns list placed listed) list.frames)

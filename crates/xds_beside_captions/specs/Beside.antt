@@ -3,7 +3,7 @@
 use Rattle.std.specs.Prelude.{ℕ, Bool}
 use Rattle.line21_codes.specs.Reading.{code_of}
 use Rattle.line21_codes.specs.declared.codes.Code.{Code}
-use Rattle.frame_scheduler.specs.Timeline.{Timeline, slot}
+use Rattle.field_lanes.specs.Timeline.{Timeline, slot}
 use Rattle.xds_beside_captions.specs.PacketTimeline.{LeaveFree}
 use Rattle.xds_packets.specs.Carried.{AreBeside}
 

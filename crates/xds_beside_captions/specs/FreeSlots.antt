@@ -11,10 +11,10 @@ use Rattle.line21_codes.specs.NullPairs.{is_null}
 use Rattle.line21_codes.specs.declared.channels.Chan.{Chan}
 use Rattle.line21_codes.specs.declared.channels.Chan.TheVariants.{Cc3}
 use Rattle.line21_slots.specs.Cadences.{cadence_of, slot_frame}
-use Rattle.frame_scheduler.specs.ChannelLane.{IsChannelPlaced, channel_pieces, channel_slot}
-use Rattle.frame_scheduler.specs.LaneTimeline.{lane_timeline}
+use Rattle.field_lanes.specs.ChannelLane.{IsChannelPlaced, channel_chunks, channel_slot}
+use Rattle.field_lanes.specs.LaneTimeline.{lane_timeline}
 use Rattle.frame_scheduler.specs.SlotLists.{slot_cues}
-use Rattle.frame_scheduler.specs.Timeline.{Timeline}
+use Rattle.field_lanes.specs.Timeline.{Timeline}
 use Rattle.xds_beside_captions.specs.PacketTimeline.{LeaveFree}
 
 -- the frame lies in the time from LOAD up to SHOW of a cue on the channel
@@ -27,7 +27,7 @@ frame_of_slot list n = slot_frame (cadence_of list.rate Cc3) n
 
 -- what begins in each slot of field 2, where the units of CC3 stand in these slots
 abbrev pub captions_of : Listing → List ℕ → Timeline
-captions_of list slots = lane_timeline (channel_events Cc3 (slot_cues list Cc3)) (channel_pieces Cc3 (slot_cues list Cc3)) slots
+captions_of list slots = lane_timeline (channel_events Cc3 (slot_cues list Cc3)) (channel_chunks Cc3 (slot_cues list Cc3)) slots
 
 -- a slot is free where its frame lies in no such time of a CC3 cue and its pair is null
 abbrev pub free_in : Listing → List ℕ → ℕ → Bool

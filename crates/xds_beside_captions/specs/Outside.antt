@@ -12,7 +12,7 @@ use Rattle.line21_author.specs.declared.unit.Unit.{Unit}
 use Rattle.line21_screen.specs.Channels.{new_channel}
 use Rattle.line21_screen.specs.Fields.{begins_xds, channel}
 use Rattle.line21_screen.specs.Meaning.{after}
-use Rattle.frame_scheduler.specs.Timeline.{Timeline, over, repeat_of, slot}
+use Rattle.field_lanes.specs.Timeline.{Timeline, over, repeat_of, slot}
 use Rattle.line21_shown.specs.Reading.{acts, pairs_before}
 use Rattle.shared_field_shown.specs.Sharing.{AreFor, IsLed, is_text}
 use Rattle.line21_shown.specs.Reading.{IsMarked}

@@ -9,7 +9,7 @@ use Rattle.line21_codes.specs.Reading.{code_of}
 use Rattle.line21_codes.specs.Writing.{pair_of_code}
 use Rattle.line21_author.specs.declared.unit.Unit.{Unit}
 use Rattle.line21_shown.specs.Reading.{IsMarked}
-use Rattle.frame_scheduler.specs.Timeline.{Timeline, repeat_of}
+use Rattle.field_lanes.specs.Timeline.{Timeline, repeat_of}
 use Rattle.shared_field_shown.specs.Sharing.{AreFor, is_text}
 use Rattle.xds_beside_captions.specs.Outside.{AreOutside}
 use Rattle.xds_packets.specs.PacketCodes.{IsXdsPacket}

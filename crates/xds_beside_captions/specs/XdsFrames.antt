@@ -11,7 +11,7 @@ use Rattle.line21_codes.specs.declared.channels.FieldNumber.TheVariants.{Two}
 use Rattle.line21_codes.specs.declared.codes.Code.{Code}
 use Rattle.line21_codes.specs.declared.pairs.Pair.{Pair}
 use Rattle.line21_slots.specs.Cadences.{cadence_of, slot_in}
-use Rattle.frame_scheduler.specs.ChannelLane.{channel_slot}
+use Rattle.field_lanes.specs.ChannelLane.{channel_slot}
 use Rattle.frame_scheduler.specs.Columns.{Columns, first_pairs}
 use Rattle.frame_scheduler.specs.Planned.{IsListPlaced, Placement, columns_of}
 use Rattle.frame_scheduler.specs.SlotLists.{slot_cues, slots_in_list}

@@ -1,8 +1,8 @@
 use crate::frames::Plan;
-use crate::lane::placed::PlacedLane;
 use crate::plan;
 use cc_base::Rate;
 use cue_lists::{check, parse};
+use field_lanes::PlacedField;
 use std::test::Fail;
 
 #[test]
@@ -26,7 +26,7 @@ fn a_plan_keeps_two_lanes_one_of_each_share_and_the_number_of_frames_left(
         frame,
         left,
     } = plan;
-    let _lanes: [PlacedLane; 2] = lanes;
+    let _lanes: [PlacedField; 2] = lanes;
     assert_eq!(rt; services.len(), 1);
     assert_eq!(rt; (rate, frame, left), (Rate::F2997, 0, 30));
     Ok(())

@@ -1,4 +1,4 @@
-use Rattle.frame_scheduler.specs.LaneEvents.{event_at}
+use Rattle.field_lanes.specs.LaneEvents.{event_at}
 use Rattle.resumed_lanes.specs.FieldSlots.{first_slots}
 use Rattle.dual_plans.proofs.PlacesLemmas.{fault_result, filled_result}
 use Rattle.dual_plans.proofs.places.first_places.Goals as goal

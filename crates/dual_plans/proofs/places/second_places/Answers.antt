@@ -1,4 +1,4 @@
-use Rattle.frame_scheduler.specs.LaneEvents.{event_at}
+use Rattle.field_lanes.specs.LaneEvents.{event_at}
 use Rattle.resumed_lanes.specs.FieldSlots.{first_slots, second_slots}
 use Rattle.resumed_lanes.specs.Filled.{resumes_at, slots_at}
 use Rattle.resumed_lanes.specs.Spans.{in_spans}

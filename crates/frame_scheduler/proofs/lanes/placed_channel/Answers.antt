@@ -1,5 +1,5 @@
 use Rattle.line21_author.specs.CueSlots.{cues_in_slots}
-use Rattle.frame_scheduler.proofs.ChannelOrderLemmas.{channel_in_order}
+use Rattle.field_lanes.proofs.ChannelOrderLemmas.{channel_in_order}
 use Rattle.frame_scheduler.proofs.lanes.placed_channel.Goals as goal
 
 pub place-requires-clause-order : goal.place-requires-clause-order

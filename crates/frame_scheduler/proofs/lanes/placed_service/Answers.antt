@@ -1,7 +1,7 @@
 use Rattle.std.proofs.Common.{sym, subst}
 use Rattle.dtvcc_author.specs.Kept.{AreKept}
 use Rattle.placements.specs.LaneRoom.{AreInCueOrder}
-use Rattle.service_lanes.specs.ServiceChunks.{chunk_cue}
+use Rattle.service_lanes.specs.ServiceChunks.{service_chunk_cue}
 use Rattle.service_lanes.proofs.ChunkOrderLemmas.{chunks_in_order}
 use Rattle.frame_scheduler.proofs.lanes.placed_service.Goals as goal
 
@@ -10,4 +10,4 @@ place-requires-clause-kept c =
     (c.args.rate, (c.requires.kept.0, subst (AreKept c.args.rate c.requires.kept.0) (sym c.in-Ok.ensures) c.requires.kept.1))
 
 pub place-requires-clause-order : goal.place-requires-clause-order
-place-requires-clause-order c = subst (AreInCueOrder chunk_cue) (sym c.in-Ok-chunks.ensures) (chunks_in_order c.args.rate c.args.service c.args.cues.now)
+place-requires-clause-order c = subst (AreInCueOrder service_chunk_cue) (sym c.in-Ok-service_chunks.ensures) (chunks_in_order c.args.rate c.args.service c.args.cues.now)

@@ -12,4 +12,4 @@ invariant-loop-slot l = record {
 }
 
 abbrev pub decreases-loop-slot : goal.decreases-loop-slot
-decreases-loop-slot l = l.part.piece.until - l.slot
+decreases-loop-slot l = l.part.chunk.until - l.slot

@@ -2,7 +2,7 @@ use Rattle.std.proofs.Common.{sym, subst}
 use Rattle.dtvcc_author.specs.Captions.{service_captions}
 use Rattle.dtvcc_author.specs.Kept.{AreKept}
 use Rattle.placements.specs.LaneRoom.{AreInCueOrder}
-use Rattle.service_lanes.specs.ServiceChunks.{chunk_cue}
+use Rattle.service_lanes.specs.ServiceChunks.{service_chunk_cue}
 use Rattle.service_lanes.proofs.CaptionsKept.{captions_kept}
 use Rattle.service_lanes.proofs.ChunkOrderLemmas.{chunks_in_order}
 use Rattle.service_lanes.proofs.tests.lane_of.Goals as goal
@@ -17,4 +17,4 @@ place-requires-clause-kept c =
 
 pub place-requires-clause-order : goal.place-requires-clause-order
 place-requires-clause-order c =
-    subst (AreInCueOrder chunk_cue) (sym c.in-Ok-chunks.ensures) (chunks_in_order c.rate-rate.result 1 c.cues-cues.result.now)
+    subst (AreInCueOrder service_chunk_cue) (sym c.in-Ok-service_chunks.ensures) (chunks_in_order c.rate-rate.result 1 c.cues-cues.result.now)

@@ -1,7 +1,7 @@
 use Rattle.std.proofs.Common.{◌≡◌, ◌++◌, drop, map}
 use Rattle.line21_author.specs.CueSlots.{timed_in_slots}
 use Rattle.line21_author.specs.declared.unit.Unit.{Unit}
-use Rattle.frame_scheduler.specs.ChannelLane.{cue_pieces}
+use Rattle.field_lanes.specs.ChannelLane.{field_cue_chunks}
 use Rattle.shared_field.specs.PartsBehind.{parts_behind}
 use Rattle.shared_field_shown.specs.ChannelParts.{parts_of}
 use Rattle.shared_field.proofs.parts.push_cue.Given as goal
@@ -10,4 +10,4 @@ use Rattle.shared_field.proofs.parts.push_cue.Given as goal
 abbrev pub invariant-loop-unit : goal.invariant-loop-unit
 invariant-loop-unit l =
     l.parts.items ++ parts_behind l.first (map (λ (unit : Unit). record { unit = unit; load = l.load; until = l.until; cue = l.number }) (drop l.unit-index l.unit-items))
-    ≡ l.initial.parts.items ++ parts_of (cue_pieces l.number (timed_in_slots l.fn.cadence l.cue))
+    ≡ l.initial.parts.items ++ parts_of (field_cue_chunks l.number (timed_in_slots l.fn.cadence l.cue))

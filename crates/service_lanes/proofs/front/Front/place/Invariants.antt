@@ -1,13 +1,13 @@
 use Rattle.std.proofs.Common.{◌-◌, ◌<◌, ℕ, List}
 use Rattle.service_lanes.specs.CueChunks.{chunk_in}
 use Rattle.service_lanes.specs.ServiceRoom.{IsFirstBehind, IsFront, caption_lane}
-use Rattle.service_lanes.specs.Chunks.{Chunk}
+use Rattle.service_lanes.specs.Chunks.{ServiceChunk}
 use Rattle.service_lanes.proofs.front.Front.place.Given as goal
 
 abbrev pub invariant-loop-self : goal.invariant-loop-self
 invariant-loop-self l = record {
-  front : (before : List (Chunk × ℕ)) → IsFront l.share l.captions before l.fn.self → IsFront l.share l.captions before l.self;
-  below : (before : List (Chunk × ℕ)) → IsFront l.share l.captions before l.fn.self → IsFirstBehind before l.fn.self.frame
+  front : (before : List (ServiceChunk × ℕ)) → IsFront l.share l.captions before l.fn.self → IsFront l.share l.captions before l.self;
+  below : (before : List (ServiceChunk × ℕ)) → IsFront l.share l.captions before l.fn.self → IsFirstBehind before l.fn.self.frame
       → (frame : ℕ) → frame < l.self.frame → caption_lane l.share l.captions before (chunk_in l.cue l.unit) frame → ⊥;
 }
 

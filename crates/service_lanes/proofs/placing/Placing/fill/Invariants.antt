@@ -2,7 +2,7 @@ use Rattle.std.proofs.Common.{◌≡◌, ◌+◌, ◌-◌, ◌≤◌, ℕ, List,
 use Rattle.dtvcc_author.specs.Packed.{bytes_before}
 use Rattle.dtvcc_author.specs.declared.caption.Caption.{Caption}
 use Rattle.service_lanes.specs.ServicePlacing.{FillsFrame, IsPlacing}
-use Rattle.service_lanes.specs.Chunks.{Chunk}
+use Rattle.service_lanes.specs.Chunks.{ServiceChunk}
 use Rattle.service_lanes.specs.declared.cue_load.CueLoad.{CueLoad}
 use Rattle.service_lanes.proofs.FillLemmas.{filled}
 use Rattle.service_lanes.proofs.placing.Placing.fill.Given as goal
@@ -15,7 +15,7 @@ invariant-loop-index l = record {
   most : l.size ≤ l.most;
   bytes : (units : List (List ℕ)) → l.lengths ≡ map length units → l.self.last.bytes ≡ bytes_before l.self.last.units units
       → l.self.last.bytes + l.size ≡ bytes_before l.index units;
-  placed : (share : ℕ) (captions : List Caption) (chunks : List Chunk) (units : List (List ℕ)) (cue : CueLoad) → l.lengths ≡ map length units
+  placed : (share : ℕ) (captions : List Caption) (chunks : List ServiceChunk) (units : List (List ℕ)) (cue : CueLoad) → l.lengths ≡ map length units
       → FillsFrame captions cue units chunks l.self l.end → IsPlacing share captions chunks l.self → IsPlacing share captions chunks (filled l.self l.size l.index);
 }
 

@@ -5,7 +5,7 @@ use Rattle.service_lanes.specs.CueChunks.{chunk_in}
 use Rattle.service_lanes.specs.ServiceRoom.{IsFirstBehind, IsFront, caption_lane}
 use Rattle.service_lanes.specs.ServicePlacing.{batches_of}
 use Rattle.service_lanes.specs.Batches.{batch_frames}
-use Rattle.service_lanes.specs.Chunks.{Chunk}
+use Rattle.service_lanes.specs.Chunks.{ServiceChunk}
 use Rattle.service_lanes.specs.declared.batch.Batch.{Batch}
 use Rattle.service_lanes.proofs.PlacingSteps.{IsPlaced, placing_next, placing_none}
 use Rattle.service_lanes.proofs.placing.Placing.place.Goals as goal
@@ -15,7 +15,7 @@ returns-in_default-clause-fault c chunks of_cue order is =
     placing_none c.args.share c.args.captions.now chunks c.args.cue.now c.args.units.now c.args.self.now.last.units
     (batch_frames (batches_of c.args.self.now)) c.args.self.now.front order
     is.reaches of_cue
-    (subst (λ u. (before : List (Chunk × ℕ)) → IsFront c.args.share c.args.captions.now before c.args.self.now.front
+    (subst (λ u. (before : List (ServiceChunk × ℕ)) → IsFront c.args.share c.args.captions.now before c.args.self.now.front
     → IsFirstBehind before c.args.self.now.front.frame → (frame : ℕ)
     → caption_lane c.args.share c.args.captions.now before (chunk_in c.args.cue.now u) frame → ⊥) c.unit-unit.ensures.unit c.in_default.ensures.none)
 

@@ -1,7 +1,7 @@
 use Rattle.std.proofs.Common.{◌≡◌, ◌+◌, ◌-◌, ◌≤◌, List}
 use Rattle.dtvcc_author.specs.Packed.{bytes_before}
 use Rattle.service_lanes.specs.ServicePlacing.{AreOfCue, IsPlacing}
-use Rattle.service_lanes.specs.Chunks.{Chunk}
+use Rattle.service_lanes.specs.Chunks.{ServiceChunk}
 use Rattle.service_lanes.proofs.placing.Placing.place_cue.Given as goal
 
 -- some units of the cue are placed
@@ -10,7 +10,7 @@ invariant-loop-self l = record {
   from : l.fn.self.last.units ≤ l.self.last.units;
   within : l.self.last.units ≤ l.fn.self.last.units + l.cue.count;
   bytes : l.self.last.bytes ≡ bytes_before l.self.last.units l.units;
-  placed : (chunks : List Chunk) → AreOfCue l.cue l.units chunks l.fn.self.last.units → IsPlacing l.share l.captions chunks l.fn.self
+  placed : (chunks : List ServiceChunk) → AreOfCue l.cue l.units chunks l.fn.self.last.units → IsPlacing l.share l.captions chunks l.fn.self
       → IsPlacing l.share l.captions chunks l.self;
 }
 

@@ -1,0 +1,11 @@
+pub mod FieldLaneLemmas
+pub mod SlotPlacingLemmas
+pub mod EventLemmas
+pub mod NextLemmas
+pub mod CursorLemmas
+pub mod LaneFrontLemmas
+pub mod LanePlanLemmas
+pub mod ColumnLemmas
+pub mod DoublingLemmas
+pub mod OneCueLemmas
+pub mod ChannelOrderLemmas

@@ -1,0 +1,12 @@
+pub mod Timeline
+pub mod LaneEvents
+pub mod FieldLane
+pub mod LaneTimeline
+pub mod OneCue
+pub mod DoubledPairs
+pub mod SlotPlacing
+pub mod LaneCursor
+pub mod LaneFront
+pub mod FieldPlan
+pub mod LaneDoubling
+pub mod ChannelLane
