@@ -19,7 +19,7 @@ ANSWER = ("Rattle.ccsuite_cli.specs.Answer", "Answer")
 #   notions of cues are own;
 # - the words in which frames are written (frame_carrier) are a written form, as SCC files and printed cue lists are;
 # - the lines that commands put are forms of text, as those of grids are;
-# - that control pairs are sent twice (frame_scheduler) is the standards' rule for pairs;
+# - that control pairs are sent twice (field_lanes) is the standards' rule for pairs;
 # - what a receiver holds behind pairs and bytes is a receiver's, though crates of laws say it;
 # - crates of commands join, all of them.
 KINDS = {
@@ -29,7 +29,7 @@ KINDS = {
     "grammars": "cc_data channel_packets service_blocks cdp_packets anc_words words_files services_files record_files cue_form scc_files"
     " mcc_payloads mcc_files time_codes xds_packets xds_lists cue_print window_texts grid_print cell_runs cue_types.Cues cue_types.Windows"
     " cue_types.Shares frame_carrier.FrameTriplets frame_carrier.CarriedBytes frame_carrier.Carrying"
-    " frame_scheduler.DoubledPairs cue_list_commands.Lines words_commands.Screens words_commands.PacketLines"
+    " field_lanes.DoubledPairs cue_list_commands.Lines words_commands.Screens words_commands.PacketLines"
     " words_commands.ConcealedScreens",
     "glue": "command_base side_files programmes programme_runs cue_list_commands words_reading words_commands verify_commands insert_commands"
     " inserted_words dual_commands xds_commands scc_commands mcc_export mcc_import convert_commands load_commands ccsuite_cli",

@@ -292,7 +292,7 @@ uint32_t ccsuite_receiver_window_cell(ccsuite_receiver *receiver, uint32_t servi
 
 /* Writes the text of what changed since the last call, or since the open, to the front of `out`, and its number of bytes to `*written`, which is
  * 0 elsewhere: called once a frame, all that `decode` prints of it, or the changes that `conceal` does. CLOSED, MEMORY; ROOM where `out` is too
- * small, and then these changes aren't told again: `_screens` tells all that is shown. */
+ * small, and then these changes aren't written again: `_screens` writes all that is shown. */
 uint32_t ccsuite_receiver_changes(ccsuite_receiver *receiver, uint8_t *out, size_t room, size_t *written);
 
 /* The same of all that is shown, as `show` prints it. CLOSED, ROOM, MEMORY. */

@@ -1,5 +1,5 @@
 -- Between crates: the program's answer stands on none of these definitions.
--- What a receiver is that keeps the screens that were told last.
+-- What a receiver is that keeps the screens that were put last.
 use Rattle.grid_print.specs.Screens.{Screens}
 use Rattle.grid_print.specs.Shown.{last_shown}
 use Rattle.caption_streams.specs.declared.receiving.Receiving.{Receiving}
@@ -9,6 +9,6 @@ use Rattle.caption_streams.specs.declared.reception.Reception.{Reception}
 abbrev pub reception_of : Receiving → Reception
 reception_of receiving = receiving.reception
 
--- the screens that were told last
-abbrev pub told_screens : Receiving → Screens
-told_screens receiving = last_shown receiving.shown
+-- the screens that were put last
+abbrev pub last_screens : Receiving → Screens
+last_screens receiving = last_shown receiving.shown

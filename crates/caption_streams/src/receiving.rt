@@ -12,7 +12,7 @@ use cc_receiver::{Fed, Receiver};
 use grid_print::{Shown, put_all_of};
 use std::alloc::{AllocError, Global};
 
-/// A receiver of words, and the screens that were told last.
+/// A receiver of words, and the screens that were put last.
 ///
 /// All memory that it ever takes is taken by `new` or `concealing`.
 #[derive(Drop)]
@@ -25,16 +25,16 @@ impl Receiving {
     ghost use Rattle.grid_print.specs.GridTexts.{all_text, changes_text};
     ghost use Rattle.grid_print.specs.Screens.{LookAlike};
     ghost use Rattle.line21_screen.specs.Grid.{empty_grid};
-    ghost use Rattle.caption_streams.specs.Receivings.{reception_of, told_screens};
+    ghost use Rattle.caption_streams.specs.Receivings.{last_screens, reception_of};
     ghost use Rattle.caption_streams.specs.Receptions.{AnswersFed, IsConcealing, IsPlain, StandsBehind, number_behind, screens_behind};
 
-    /// A receiver that was fed nothing, of words of which no frame is missing; nothing was told. The error comes where memory isn't found.
+    /// A receiver that was fed nothing, of words of which no frame is missing; nothing was put. The error comes where memory isn't found.
     pub fn new(alloc: Global) -> Result<Receiving, AllocError>
         ensures plain { IfOk result (λ made. IsPlain (reception_of made)) }
         ensures fed { IfOk result (λ made. HasFed [] (reception_of made)) }
-        ensures grids { IfOk result (λ made. (told_screens made).grids ≡ (λ chan. empty_grid)) }
+        ensures grids { IfOk result (λ made. (last_screens made).grids ≡ (λ chan. empty_grid)) }
         ensures windows { IfOk result
-            (λ made. (service id : ℕ) → (told_screens made).windows service id ≡ None) }
+            (λ made. (service id : ℕ) → (last_screens made).windows service id ≡ None) }
     {
         Ok(Receiving {
             reception: Reception::Plain(Receiver::new(alloc)?),
@@ -46,9 +46,9 @@ impl Receiving {
     pub fn concealing(alloc: Global) -> Result<Receiving, AllocError>
         ensures concealing { IfOk result (λ made. IsConcealing (reception_of made)) }
         ensures fed { IfOk result (λ made. HasFed [] (reception_of made)) }
-        ensures grids { IfOk result (λ made. (told_screens made).grids ≡ (λ chan. empty_grid)) }
+        ensures grids { IfOk result (λ made. (last_screens made).grids ≡ (λ chan. empty_grid)) }
         ensures windows { IfOk result
-            (λ made. (service id : ℕ) → (told_screens made).windows service id ≡ None) }
+            (λ made. (service id : ℕ) → (last_screens made).windows service id ≡ None) }
     {
         Ok(Receiving {
             reception: Reception::Concealing(Concealer::new(alloc)?),
@@ -71,7 +71,7 @@ impl Receiving {
             → AnswersFed before bytes.now (reception_of self.old) (reception_of self.new) result }
         ensures within { IfOk result (λ fed. fed.used ≤ length bytes.now) }
         ensures all { IfOk result (λ fed. fed.ended ≡ ended.No → fed.used ≡ length bytes.now) }
-        ensures told { told_screens self.new ≡ told_screens self.old }
+        ensures last { last_screens self.new ≡ last_screens self.old }
         ensures on { (after : List ℕ) × HasFed after (reception_of self.new) }
     {
         if self.reception.frames() == u32::MAX {
@@ -83,16 +83,16 @@ impl Receiving {
         }
     }
 
-    /// Puts the text of what changed from the screens that were told last to those behind the last whole frame, as `decode` prints it, or
-    /// `conceal`; it is empty where nothing changed. These screens are then the ones that were told last, where the put fails too.
+    /// Puts the text of what changed from the screens that were put last to those behind the last whole frame, as `decode` prints it, or
+    /// `conceal`; it is empty where nothing changed. These screens are then the ones that were put last, where the put fails too.
     pub fn put_changes<O: Sink>(&mut self, out: &mut O) -> Put
         ensures bytes { (frames : List Frame) → StandsBehind frames (reception_of self.old)
             → Puts (O.written out.old) (O.written out.new) result
-            (changes_text (number_behind (reception_of self.old) frames) (told_screens self.old)
+            (changes_text (number_behind (reception_of self.old) frames) (last_screens self.old)
             (screens_behind (reception_of self.old) frames)) }
         ensures cause { PutCause (O.faults out.old) (O.faults out.new) result }
-        ensures told { (frames : List Frame) → StandsBehind frames (reception_of self.old)
-            → LookAlike (told_screens self.new) (screens_behind (reception_of self.old) frames) }
+        ensures last { (frames : List Frame) → StandsBehind frames (reception_of self.old)
+            → LookAlike (last_screens self.new) (screens_behind (reception_of self.old) frames) }
         ensures reception { reception_of self.new ≡ reception_of self.old }
     {
         let number = self.last_number();

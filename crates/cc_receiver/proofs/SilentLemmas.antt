@@ -1,8 +1,6 @@
 -- Triplets none of which counts and is one of channel packets: nothing is heard of them.
-use Rattle.std.proofs.Common.{◌≡◌, ◌||◌, ◌<◌, if◌then◌else◌, not, Bool, true, false, List, [], ◌∷◌, ◌++◌, refl, ap, sym, subst, ◌∙◌, append-nil, append_assoc}
-use Rattle.std.proofs.lemmas.Bool.{and_parts}
+use Rattle.std.proofs.Common.{◌≡◌, ◌||◌, ◌<◌, if◌then◌else◌, Bool, true, false, List, [], ◌∷◌, ◌++◌, refl, ap, sym, subst, ◌∙◌, append-nil, append_assoc}
 use Rattle.std.proofs.lemmas.List.Elements.{filter-append}
-use Rattle.std.specs.List.{list_all}
 use Rattle.cc_base.specs.declared.rate.Rate.{Rate}
 use Rattle.cc_base.specs.Steps.{step_parts}
 use Rattle.cc_base.specs.Syntax.{open_behind, parts_from, parts_of}
@@ -26,16 +24,7 @@ use Rattle.cc_receiver.specs.declared.channel.Channel.{Channel}
 use Rattle.cc_receiver.specs.declared.services.Served.{Served}
 use Rattle.cc_receiver.proofs.ChannelLemmas.{passed_over}
 use Rattle.cc_receiver.proofs.CountingLemmas.{none_channel}
-use Rattle.cc_receiver.proofs.SaysLemmas.{not_is}
 use Rattle.cc_receiver.proofs.ServingLemmas.{leads_by}
-
--- none of them is one of channel packets
-pub none_of_channel : (triplets : List Triplet) → list_all (λ triplet. not (starts triplet || continues_packet triplet)) triplets ≡ true → channel_triplets triplets ≡ []
-none_of_channel [] none = refl
-none_of_channel (t ∷ triplets) none =
-    let own = channel_triplets triplets in
-    let (first, others) = and_parts (not (starts t || continues_packet t)) (list_all (λ triplet. not (starts triplet || continues_packet triplet)) triplets) none in
-    ap (λ (b : Bool). if b then t ∷ own else own) (not_is (starts t || continues_packet t) first) ∙ none_of_channel triplets others
 
 -- they make no pieces
 no_pieces_from : (front : Open) (triplets : List Triplet) → channel_triplets triplets ≡ [] → parts_from packet_syntax front triplets ≡ []
@@ -54,7 +43,7 @@ no_pieces_from front (triplet ∷ triplets) none =
     ] in cases _ refl
 
 -- readers behind them
-pub silent_heard : (before triplets : List Triplet) (channel : Channel) → channel_triplets triplets ≡ [] → HasHeard before channel
+silent_heard : (before triplets : List Triplet) (channel : Channel) → channel_triplets triplets ≡ [] → HasHeard before channel
     → HasHeard (before ++ triplets) channel
 silent_heard before triplets channel none heard =
     let same = filter-append (λ triplet. starts triplet || continues_packet triplet) before triplets
@@ -65,12 +54,6 @@ silent_heard before triplets channel none heard =
       packets_read = subst (λ ts. packets.HasRead ts channel.packets) (sym same) heard.packets_read;
       blocks_read = subst (λ ps. blocks.HasRead ps channel.blocks) (sym parts) heard.blocks_read;
     }
-
--- triplets are silent where a front is that they have
-pub silent_whole : (front triplets : List Triplet) → HasFront front triplets → channel_triplets front ≡ [] → channel_triplets triplets ≡ []
-silent_whole front triplets has none =
-    ap channel_triplets has.joined ∙ filter-append (λ triplet. starts triplet || continues_packet triplet) front has.others
-    ∙ ap (λ ts. ts ++ channel_triplets has.others) none ∙ none_channel has.others has.none
 
 -- readers behind triplets that end with some none of which counts
 pub heard_whole : (before front triplets : List Triplet) (channel : Channel) → HasFront front triplets → HasHeard (before ++ front) channel

@@ -1,7 +1,5 @@
 ghost use Rattle.std.specs.Prelude.{◌≡◌, ◌≤◌, ◌<◌, ◌%◌, ◌++◌, false, List, [], ◌∷◌, None, IfOk, IsTrue, length, reverse, sum as total};
 ghost use Rattle.cc_base.specs.Feeding.{hand};
-ghost use Rattle.channel_packets.specs.ChannelPackets.{channel_triplets};
-ghost use Rattle.cc_data.specs.declared.triplet.Triplet.{Triplet as TripletOf};
 ghost use Rattle.cdp_packets.specs.declared.parts.CdpPart.{CdpPart as Part};
 ghost use Rattle.cdp_packets.specs.PacketParts.{packet_parts};
 ghost use Rattle.cdp_packets.specs.Packets.{Frame as FrameOf, IsCdp};
@@ -16,7 +14,6 @@ ghost use Rattle.cc_receiver.specs.Channels.{HasTried, frames_parts};
 ghost use Rattle.cc_receiver.specs.Gatherers.{HasGathered};
 ghost use Rattle.cc_receiver.specs.Hearing.{heard};
 ghost use Rattle.cc_receiver.specs.Says.{AreOfSections};
-ghost use Rattle.cc_receiver.specs.TripletLists.{HasTriplets};
 
 use crate::channel::Channel;
 use crate::frame::Frame;
@@ -216,27 +213,7 @@ impl Captions {
         if !self.last.is_of(packet.sections) {
             return self.anew(packet);
         }
-        if self.last.is_silent() {
-            self.silently(packet);
-            return true;
-        }
         self.again(packet)
-    }
-
-    // Takes a whole packet whose sections are those of the last frame, none of whose triplets is one of channel packets: of these
-    // nothing can be refused.
-    fn silently(&mut self, packet: WholePacket<'_>)
-        requires few { length packet.sections.now ≤ 244 }
-        requires sections { self.old.last.sections.items ≡ packet.sections.now }
-        requires are { let last = self.old.last in AreOfSections packet.sections.now last.triplets last.pairs_one.items last.pairs_two.items }
-        requires silent { (triplets : List TripletOf) → HasTriplets triplets self.old.last.triplets
-            → channel_triplets triplets ≡ [] }
-        ensures { (caught : Caught) (frame : FrameOf) → Keeps caught self.old
-            → AreSections frame.sections → SaysPacket packet.entry frame
-            → Keeps (with_frame (packet_parts frame) caught) self.new }
-    {
-        self.last.head(packet);
-        self.act();
     }
 
     // Takes a whole packet whose sections are those of the last frame: what that says of them is not read again. Says whether

@@ -1,5 +1,4 @@
-ghost use Rattle.std.specs.Prelude.{◌≡◌, ◌++◌, ◌||◌, false, not, List, [], ◌∷◌, None, IsTrue};
-ghost use Rattle.std.specs.List.{list_all};
+ghost use Rattle.std.specs.Prelude.{◌≡◌, ◌++◌, ◌||◌, false, List, [], ◌∷◌, None, IsTrue};
 ghost use Rattle.cc_base.specs.Steps.{step_why};
 ghost use Rattle.cc_base.specs.Syntax.{open_behind};
 ghost use Rattle.cc_data.specs.declared.triplet.Triplet.{Triplet as TripletOf};
@@ -21,14 +20,6 @@ pub(crate) fn is_of_channel(triplet: Triplet) -> bool
     ensures { result ≡ (starts triplet || continues_packet triplet) }
 {
     triplet.valid && (triplet.kind == PACKET_START || triplet.kind == PACKET_DATA)
-}
-
-/// Whether none of the triplets counts and is one of channel packets.
-pub(crate) fn are_silent(triplets: &[Triplet]) -> bool
-    ensures { result ≡ list_all
-        (λ triplet. not (starts triplet || continues_packet triplet)) triplets.now }
-{
-    triplets.iter().all(|triplet| !is_of_channel(*triplet))
 }
 
 /// The readers of the caption channel: of its packets, and of the service blocks in them (CTA-708-E, sections 5 and 6). They judge

@@ -1,7 +1,5 @@
 ghost use Rattle.std.specs.Prelude.{◌≡◌, ◌≤◌, ℕ, true, List, [], IsTrue, length};
 ghost use Rattle.std.specs.List.{concat, flat_map, list_all};
-ghost use Rattle.cc_data.specs.declared.triplet.Triplet.{Triplet as TripletOf};
-ghost use Rattle.channel_packets.specs.ChannelPackets.{channel_triplets};
 ghost use Rattle.cdp_packets.specs.Packets.{Frame as FrameOf};
 ghost use Rattle.cdp_packets.specs.PacketParts.{packet_parts};
 ghost use Rattle.cdp_packets.specs.PacketTriplets.{section_triplets};
@@ -15,7 +13,6 @@ ghost use Rattle.cc_receiver.specs.Idle.{are_null};
 ghost use Rattle.cc_receiver.specs.Says.{AreOfSections};
 ghost use Rattle.cc_receiver.specs.TripletLists.{HasTriplets};
 
-use crate::channel::are_silent;
 use crate::triplets::Triplets;
 use arrayvec::ArrayVec;
 use cc_base::Rate;
@@ -114,14 +111,6 @@ impl Frame {
             × (self.now.sections.items ≡ sections.now) }
     {
         self.whole && self.sections.as_slice() == sections
-    }
-
-    /// Whether none of its triplets counts and is one of channel packets.
-    pub(crate) fn is_silent(&self) -> bool
-        ensures { (triplets : List TripletOf) → HasTriplets triplets self.now.triplets
-            → IsTrue result → channel_triplets triplets ≡ [] }
-    {
-        are_silent(self.triplets.front())
     }
 
     /// Says what a whole packet says, whose triplets these are.

@@ -1,7 +1,7 @@
 -- What is told of receivers that are made, of verifiers that are fed, and of words that end.
 use Rattle.std.proofs.Common.{◌≡◌, ℕ, List, [], inl, inr, refl}
 use Rattle.std.specs.Prelude.{Bool, true, false, None, Result, Ok, Err, IfErr, IfOk, IsOk}
-use Rattle.caption_streams.specs.Receivings.{reception_of, told_screens}
+use Rattle.caption_streams.specs.Receivings.{last_screens, reception_of}
 use Rattle.caption_streams.specs.Receptions.{HasFed}
 use Rattle.caption_streams.specs.declared.receiving.Receiving.{Receiving}
 use Rattle.caption_streams.specs.declared.fault.FeedFault.{FeedFault}
@@ -19,8 +19,8 @@ use Rattle.ccsuite_c.specs.declared.told.FedBytes.{FedBytes}
 -- what is said of each part of a receiver that was made
 pub begins : {E : Type 0} (conceals : Bool) (result : Result Receiving E)
     → IfOk result (λ made. IsOfKind conceals (reception_of made)) → IfOk result (λ made. HasFed [] (reception_of made))
-    → IfOk result (λ made. (told_screens made).grids ≡ (λ chan. empty_grid))
-    → IfOk result (λ made. (service id : ℕ) → (told_screens made).windows service id ≡ None) → IfOk result (BeginsReceiving conceals)
+    → IfOk result (λ made. (last_screens made).grids ≡ (λ chan. empty_grid))
+    → IfOk result (λ made. (service id : ℕ) → (last_screens made).windows service id ≡ None) → IfOk result (BeginsReceiving conceals)
 begins conceals (Ok made) kind fed grids windows = record { kind = kind; fed = fed; grids = grids; windows = windows }
 begins conceals (Err error) kind fed grids windows = tt
 

@@ -1,7 +1,7 @@
 -- Between crates: the program's answer stands on none of these definitions.
 -- Receivers, as C holds them.
 use Rattle.std.specs.Prelude.{◌≡◌, ◌⊎◌, ◌<◌, ◌++◌, ℕ, Bool, true, false, List, [], length, drop, Option, Some, None, Result}
-use Rattle.caption_streams.specs.Receivings.{reception_of, told_screens}
+use Rattle.caption_streams.specs.Receivings.{last_screens, reception_of}
 use Rattle.caption_streams.specs.Receptions.{AnswersFed, HasFed, IsConcealing, IsPlain, frame_total, grids_behind, missing_behind, number_behind, screens_behind}
 use Rattle.caption_streams.specs.declared.fault.FeedFault.{FeedFault}
 use Rattle.caption_streams.specs.declared.receiving.Receiving.{Receiving}
@@ -34,12 +34,12 @@ abbrev pub IsOfKind : Bool → Reception → Type 0
 IsOfKind true reception = IsConcealing reception
 IsOfKind false reception = IsPlain reception
 
--- it was fed nothing, and nothing was told
+-- it was fed nothing, and nothing was put
 pub record BeginsReceiving (conceals : Bool) (receiving : Receiving) : Type 0 where
   pub kind : IsOfKind conceals (reception_of receiving)
   pub fed : HasFed [] (reception_of receiving)
-  pub grids : (told_screens receiving).grids ≡ (λ chan. empty_grid)
-  pub windows : (service id : ℕ) → (told_screens receiving).windows service id ≡ None
+  pub grids : (last_screens receiving).grids ≡ (λ chan. empty_grid)
+  pub windows : (service id : ℕ) → (last_screens receiving).windows service id ≡ None
 
 -- how opening one ended
 abbrev pub OpenedReceiver : Bool → ℕ → Option State → Type 0
@@ -52,7 +52,7 @@ pub record ReceivesMore (before bytes : List ℕ) (old new : Receiving) (code : 
   pub answer : Result Fed FeedFault
   pub feeds : AnswersFed before bytes (reception_of old) (reception_of new) answer
   pub tells : TellsFed answer code told
-  pub same : told_screens new ≡ told_screens old
+  pub same : last_screens new ≡ last_screens old
 
 abbrev pub ReceivesAnswer : List ℕ → List ℕ → Receiving → ℕ → FedBytes → Option State → Type 0
 ReceivesAnswer before bytes old code told (Some (held.Receiving new)) = ReceivesMore before bytes old new code told
@@ -118,20 +118,20 @@ abbrev pub HandsOut : List ℕ → List ℕ → List ℕ → ℕ → ℕ → Typ
 HandsOut text before after code count =
     ((code ≡ 0) × TextStands text before after count) ⊎ ((code ≡ room_code) × IsUntouched before after count)
 
--- the screens behind frames were told, and nothing else changed
-pub record HasTold (frames : List Frame) (old new : Receiving) : Type 0 where
+-- the screens behind frames were put, and nothing else changed
+pub record HasPutScreens (frames : List Frame) (old new : Receiving) : Type 0 where
   pub reception : reception_of new ≡ reception_of old
-  pub told : LookAlike (told_screens new) (screens_behind (reception_of old) frames)
+  pub last : LookAlike (last_screens new) (screens_behind (reception_of old) frames)
 
--- what changed since the screens that were told last
+-- what changed since the screens that were put last
 abbrev pub changes_of : Receiving → List Frame → List ℕ
 changes_of receiving frames =
-    changes_text (number_behind (reception_of receiving) frames) (told_screens receiving) (screens_behind (reception_of receiving) frames)
+    changes_text (number_behind (reception_of receiving) frames) (last_screens receiving) (screens_behind (reception_of receiving) frames)
 
 -- it is handed out, or there is too little room, or memory wasn't found
 abbrev pub ChangesAnswer : Receiving → List Frame → List ℕ → List ℕ → ℕ → ℕ → Option State → Type 0
 ChangesAnswer old frames before after code count (Some (held.Receiving new)) =
-    (HasTold frames old new × HandsOut (changes_of old frames) before after code count)
+    (HasPutScreens frames old new × HandsOut (changes_of old frames) before after code count)
     ⊎ ((code ≡ memory_code) × (new ≡ old) × IsUntouched before after count)
 ChangesAnswer old frames before after code count _ = ⊥
 

@@ -453,7 +453,7 @@ fn tell_window_cell(
 
 /// Writes the text of what changed since the last call, or since the receiver was opened, to the front of `out`, as `decode` prints it, or
 /// `conceal`: 0. Where nothing is written: 32 where there is no open receiver, 3 where there is too little room, and then these changes
-/// aren't told again, 4 where memory isn't found.
+/// aren't written again, 4 where memory isn't found.
 #[unsafe(no_mangle)]
 pub extern "C" fn ccsuite_receiver_changes(
     alloc: Global,

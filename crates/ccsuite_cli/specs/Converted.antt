@@ -2,7 +2,7 @@
 -- From the words that `build` puts of a cue list at 29.97 to their conversion: they have no misfit.
 use Rattle.std.specs.Prelude.{◌≤◌, ℕ, List, length}
 use Rattle.cdp_packets.specs.Packets.{Frame}
-use Rattle.converted_lists.specs.ConvertedLists.{IsShort}
+use Rattle.converted_lists.specs.ConvertedLists.{HasShortDelays}
 use Rattle.cue_lists.specs.Listing.{Listing}
 use Rattle.frame_scheduler.specs.Planned.{Placement}
 use Rattle.rate_convert.specs.Misfits.{AreFit}
@@ -21,4 +21,4 @@ pub record AreFitWords (bytes : List ℕ) : Type 0 where
 
 -- so are the words that `build` puts of an accepted list at 29.97 whose delays have at most 166 tenths
 abbrev pub BuiltWordsAreFit : Type 0
-BuiltWordsAreFit = (bytes : List ℕ) (list : Listing) (placed : Placement) → IsAccepted bytes list placed → IsShort list → AreFitWords (build_output list placed)
+BuiltWordsAreFit = (bytes : List ℕ) (list : Listing) (placed : Placement) → IsAccepted bytes list placed → HasShortDelays list → AreFitWords (build_output list placed)

@@ -30,7 +30,7 @@ use Rattle.services_carried.specs.PlacedServices.{AreServicesPlaced}
 use Rattle.services_carried.specs.ServicesCarried.{AreWithin}
 use Rattle.services_shown.proofs.ToldLemmas.{packets_count}
 use Rattle.words_files.specs.Received.{field_pairs}
-use Rattle.converted_lists.specs.ConvertedLists.{IsShort, ListsAreFit}
+use Rattle.converted_lists.specs.ConvertedLists.{HasShortDelays, ListsAreFit}
 use Rattle.converted_lists.proofs.DelayLemmas.{halves_same}
 
 -- a field has as many triplets as pairs
@@ -80,7 +80,7 @@ one_of [] frame more all = All-head IsConvertible frame more all
 one_of (f ∷ frames) frame more all = one_of frames frame more (All-tail IsConvertible f (frames ++ frame ∷ more) all)
 
 -- what is seen behind some of them stays
-kept_behind : (list : Listing) (placed : Placement) → IsFormed list → IsRuled list → AreServicesPlaced list placed → IsShort list → (front more : List Frame)
+kept_behind : (list : Listing) (placed : Placement) → IsFormed list → IsRuled list → AreServicesPlaced list placed → HasShortDelays list → (front more : List Frame)
     → column_packets list.rate (columns_of list placed) 0 list.frames ≡ front ++ more → All IsConvertible front → KeepsGrids front
 kept_behind list placed formed ruled is short front more whole all =
     let packets = column_packets list.rate (columns_of list placed) 0 list.frames in
@@ -96,7 +96,7 @@ kept_behind list placed formed ruled is short front more whole all =
           ∙ ap (λ (fs : List Frame). received_windows fs service id) same;
     }
 
-fit_behind : (list : Listing) (placed : Placement) → IsFormed list → IsRuled list → AreServicesPlaced list placed → IsShort list → (earlier frames : List Frame)
+fit_behind : (list : Listing) (placed : Placement) → IsFormed list → IsRuled list → AreServicesPlaced list placed → HasShortDelays list → (earlier frames : List Frame)
     → column_packets list.rate (columns_of list placed) 0 list.frames ≡ earlier ++ frames → All IsConvertible (earlier ++ frames) → AreFitBehind earlier frames
 fit_behind list placed formed ruled is short earlier [] split all = tt
 fit_behind list placed formed ruled is short earlier (frame ∷ frames) split all =

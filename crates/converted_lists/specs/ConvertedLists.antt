@@ -19,11 +19,11 @@ abbrev pub HasShortDelay : Cue → Type 0
 HasShortDelay cue = (w : WinCue) → cue.kind ≡ Win w → w.delay ≤ 166
 
 -- a list at 29.97 whose delays are all so short
-pub record IsShort (list : Listing) : Type 0 where
+pub record HasShortDelays (list : Listing) : Type 0 where
   pub rate : list.rate ≡ F2997
   pub delays : All HasShortDelay list.cues
 
 -- no frame of such a list that is in form, keeps the rules and is placed has a misfit
 abbrev pub ListsAreFit : Type 0
-ListsAreFit = (list : Listing) (placed : Placement) → IsFormed list → IsRuled list → AreServicesPlaced list placed → IsShort list
+ListsAreFit = (list : Listing) (placed : Placement) → IsFormed list → IsRuled list → AreServicesPlaced list placed → HasShortDelays list
     → IsSoundFrames list.rate list.frames (columns_of list placed) → AreFit (column_packets list.rate (columns_of list placed) 0 list.frames)

@@ -5,11 +5,6 @@ returns-then-not-is_of-clause-frame c = λ caught keeps took.
     let (frame, is, says) = c.in-Some.ensures.packet in
     (frame, is, c.anew.ensures.frame caught frame keeps is.sections says took)
 
-pub returns-then-is_silent-clause-frame : goal.returns-then-is_silent-clause-frame
-returns-then-is_silent-clause-frame c = λ caught keeps _.
-    let (frame, is, says) = c.in-Some.ensures.packet in
-    (frame, is, c.silently.ensures caught frame keeps is.sections says)
-
 pub returns-clause-frame : goal.returns-clause-frame
 returns-clause-frame c = λ caught keeps took.
     let (frame, is, says) = c.in-Some.ensures.packet in
