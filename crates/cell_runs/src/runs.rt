@@ -1,5 +1,5 @@
 ghost use Rattle.std.specs.Prelude.{◌≡◌, ◌≤◌, ℕ, encode_utf8_all, length};
-ghost use Rattle.text_output.specs.Pages.{Writes, page};
+ghost use Rattle.text_output.specs.Pages.{Adds};
 ghost use Rattle.cell_runs.specs.Runs.{begun, front_text, is_alike, row_runs};
 
 use crate::cells::WrittenCell;
@@ -50,8 +50,7 @@ pub fn write_front<C: WrittenCell, O: Sink>(
     text: &mut Gathered,
     out: &mut O,
 )
-    ensures { Writes (page text.old (O.written out.old) (O.faults out.old))
-        (page text.new (O.written out.new) (O.faults out.new))
+    ensures { Adds O.written O.faults text.old out.old text.new out.new
         (encode_utf8_all (front_text C.writing first cells.now)) }
 {
     for cell in cells {

@@ -4,7 +4,7 @@ ghost use Rattle.dtvcc_windows.specs.Showing.{ShownWindow};
 ghost use Rattle.dtvcc_services.specs.Numbers.{IsService};
 ghost use Rattle.dtvcc_windows.specs.Objects.{is_live, state_of, window_of};
 ghost use Rattle.dtvcc_windows.specs.Showing.{as_shown, shown};
-ghost use Rattle.text_output.specs.Pages.{Writes, WritesSome, page};
+ghost use Rattle.text_output.specs.Pages.{Adds, WritesSome, page};
 ghost use Rattle.window_texts.specs.WindowTexts.{service_text, shown_ids, window_text};
 ghost use Rattle.grid_print.specs.GridTexts.{shown_service, shown_services};
 
@@ -82,8 +82,7 @@ pub(crate) fn write_service<G: Grids, O: Sink>(r: &G, service: u8, text: &mut Ga
     ensures some { WritesSome (page text.old (O.written out.old) (O.faults out.old))
         (page text.new (O.written out.new) (O.faults out.new)) }
     ensures text { (seen : ℕ → ℕ → Option ShownWindow) → G.shows r.now seen
-        → Writes (page text.old (O.written out.old) (O.faults out.old))
-        (page text.new (O.written out.new) (O.faults out.new))
+        → Adds O.written O.faults text.old out.old text.new out.new
         (service_text service (seen service)) }
 {
     text.write(b"S", out);
@@ -100,8 +99,7 @@ fn write_windows<G: Grids, O: Sink>(r: &G, service: u8, text: &mut Gathered, out
     ensures some { WritesSome (page text.old (O.written out.old) (O.faults out.old))
         (page text.new (O.written out.new) (O.faults out.new)) }
     ensures text { (seen : ℕ → ℕ → Option ShownWindow) → G.shows r.now seen
-        → Writes (page text.old (O.written out.old) (O.faults out.old))
-        (page text.new (O.written out.new) (O.faults out.new))
+        → Adds O.written O.faults text.old out.old text.new out.new
         (flat_map (λ one. window_text one.0 one.1) (shown_ids (seen service))) }
 {
     for id in 0..WINDOWS {
@@ -117,8 +115,7 @@ fn write_if_shown<G: Grids, O: Sink>(r: &G, service: u8, text: &mut Gathered, ou
     ensures some { WritesSome (page text.old (O.written out.old) (O.faults out.old))
         (page text.new (O.written out.new) (O.faults out.new)) }
     ensures text { (seen : ℕ → ℕ → Option ShownWindow) → G.shows r.now seen
-        → Writes (page text.old (O.written out.old) (O.faults out.old))
-        (page text.new (O.written out.new) (O.faults out.new)) (shown_service seen service) }
+        → Adds O.written O.faults text.old out.old text.new out.new (shown_service seen service) }
 {
     if seen_count(r, service) != 0 {
         write_service(r, service, text, out);
@@ -130,8 +127,7 @@ pub(crate) fn write_shown_services<G: Grids, O: Sink>(r: &G, text: &mut Gathered
     ensures some { WritesSome (page text.old (O.written out.old) (O.faults out.old))
         (page text.new (O.written out.new) (O.faults out.new)) }
     ensures text { (seen : ℕ → ℕ → Option ShownWindow) → G.shows r.now seen
-        → Writes (page text.old (O.written out.old) (O.faults out.old))
-        (page text.new (O.written out.new) (O.faults out.new)) (shown_services seen) }
+        → Adds O.written O.faults text.old out.old text.new out.new (shown_services seen) }
 {
     for place in 0..SERVICES {
         write_if_shown(r, service_at(place), text, out);

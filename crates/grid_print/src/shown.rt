@@ -6,7 +6,7 @@ ghost use Rattle.cc_receiver.specs.ReceivedServices.{received_windows};
 ghost use Rattle.cc_receiver.specs.Receivers.{frame_count};
 ghost use Rattle.line21_screen.specs.Differences.{grid_differs};
 ghost use Rattle.line21_screen.specs.Objects.{grid_in};
-ghost use Rattle.text_output.specs.Pages.{Writes, WritesSome, page};
+ghost use Rattle.text_output.specs.Pages.{Adds, WritesSome, page};
 ghost use Rattle.window_texts.specs.WindowTexts.{service_text};
 ghost use Rattle.grid_print.specs.GridTexts.{changed_channel, channels, grid_text};
 ghost use Rattle.dtvcc_services.specs.Numbers.{IsService};
@@ -76,8 +76,7 @@ impl Shown {
         ensures text { (was seen : ℕ → ℕ → Option ShownWindow) → G.turned r.now was seen
             → G.shows r.now seen
             → HaveSameWindows (last_shown self.old).windows was
-            → Writes (page text.old (O.written out.old) (O.faults out.old))
-            (page text.new (O.written out.new) (O.faults out.new))
+            → Adds O.written O.faults text.old out.old text.new out.new
             (changes_text frame (last_shown self.old) (screens_of (G.grids r.now) seen)) }
         ensures now { (was seen : ℕ → ℕ → Option ShownWindow) → G.turned r.now was seen
             → G.shows r.now seen
@@ -101,8 +100,7 @@ impl Shown {
             (page text.new (O.written out.new) (O.faults out.new)) }
         ensures text { (seen : ℕ → ℕ → Option ShownWindow) → G.shows r.now seen
             → (touched ≡ false → HaveSameWindows (last_shown self.old).windows seen)
-            → Writes (page text.old (O.written out.old) (O.faults out.old))
-            (page text.new (O.written out.new) (O.faults out.new))
+            → Adds O.written O.faults text.old out.old text.new out.new
             (changes_text frame (last_shown self.old) (screens_of (G.grids r.now) seen)) }
         ensures now { (seen : ℕ → ℕ → Option ShownWindow) → G.shows r.now seen
             → (touched ≡ false → HaveSameWindows (last_shown self.old).windows seen)
@@ -173,8 +171,7 @@ impl Shown {
         ensures some { WritesSome (page text.old (O.written out.old) (O.faults out.old))
             (page text.new (O.written out.new) (O.faults out.new)) }
         ensures text { (seen : ℕ → ℕ → Option ShownWindow) → G.shows r.now seen
-            → Writes (page text.old (O.written out.old) (O.faults out.old))
-            (page text.new (O.written out.new) (O.faults out.new))
+            → Adds O.written O.faults text.old out.old text.new out.new
             (frame_line frame ++ flat_map
             (changed_channel (last_grid self.old) (G.grids r.now)) channels
             ++ (if services then changed_places self.old.services.items seen else [])) }
@@ -202,8 +199,7 @@ impl Shown {
 
     // Writes the grid of each channel whose grid differs from the one that was shown last, and keeps it.
     fn write_channels<G: Grids, O: Sink>(&mut self, r: &G, text: &mut Gathered, out: &mut O)
-        ensures text { Writes (page text.old (O.written out.old) (O.faults out.old))
-            (page text.new (O.written out.new) (O.faults out.new))
+        ensures text { Adds O.written O.faults text.old out.old text.new out.new
             (flat_map (changed_channel (last_grid self.old) (G.grids r.now)) channels) }
         ensures now { last_grid self.new ≡ G.grids r.now }
         ensures services { self.new.services ≡ self.old.services }
@@ -260,8 +256,7 @@ impl Shown {
             (page text.new (O.written out.new) (O.faults out.new)) }
         ensures text { (earlier : List Frame) (last : Frame) → IsBehind (earlier ++ last ∷ []) r.now
             → HaveSameWindows (last_shown self.old).windows (received_windows earlier)
-            → Writes (page text.old (O.written out.old) (O.faults out.old))
-            (page text.new (O.written out.new) (O.faults out.new))
+            → Adds O.written O.faults text.old out.old text.new out.new
             (changes_text frame (last_shown self.old) (received_screens (earlier ++ last ∷ []))) }
         ensures now { (earlier : List Frame) (last : Frame) → IsBehind (earlier ++ last ∷ []) r.now
             → HaveSameWindows (last_shown self.old).windows (received_windows earlier)
@@ -302,8 +297,7 @@ fn write_channel<G: Grids, O: Sink>(
     text: &mut Gathered,
     out: &mut O,
 )
-    ensures text { Writes (page text.old (O.written out.old) (O.faults out.old))
-        (page text.new (O.written out.new) (O.faults out.new))
+    ensures text { Adds O.written O.faults text.old out.old text.new out.new
         (if grid_differs (grid_in kept.old) (G.grids r.now chan) then grid_text chan
         (G.grids r.now chan) else []) }
     ensures kept { grid_in kept.new ≡ G.grids r.now chan }
@@ -335,8 +329,7 @@ fn write_changed<G: Grids, O: Sink>(services: &[Kept], r: &G, text: &mut Gathere
     ensures some { WritesSome (page text.old (O.written out.old) (O.faults out.old))
         (page text.new (O.written out.new) (O.faults out.new)) }
     ensures text { (seen : ℕ → ℕ → Option ShownWindow) → G.shows r.now seen
-        → Writes (page text.old (O.written out.old) (O.faults out.old))
-        (page text.new (O.written out.new) (O.faults out.new))
+        → Adds O.written O.faults text.old out.old text.new out.new
         (changed_places services.now seen) }
 {
     for place in 0..services.len() {
@@ -356,8 +349,7 @@ fn write_if_changed<G: Grids, O: Sink>(
     ensures some { WritesSome (page text.old (O.written out.old) (O.faults out.old))
         (page text.new (O.written out.new) (O.faults out.new)) }
     ensures text { (seen : ℕ → ℕ → Option ShownWindow) → G.shows r.now seen
-        → Writes (page text.old (O.written out.old) (O.faults out.old))
-        (page text.new (O.written out.new) (O.faults out.new))
+        → Adds O.written O.faults text.old out.old text.new out.new
         (if kept.now.changed then service_text service (seen service) else []) }
 {
     if kept.has_changed() {

@@ -1,7 +1,7 @@
 ghost use Rattle.std.specs.Prelude.{◌≡◌, ◌≤◌, ◌==◌, if◌then◌else◌, List, [], encode_utf8_all, length};
 ghost use Rattle.std.specs.List.{flat_map};
 ghost use Rattle.line21_screen.specs.Objects.{grid_in};
-ghost use Rattle.text_output.specs.Pages.{Writes, page};
+ghost use Rattle.text_output.specs.Pages.{Adds};
 ghost use Rattle.grid_print.specs.GridTexts.{frame_line, grid_text, run_line};
 ghost use Rattle.cell_runs.specs.Runs.{front_text, row_runs};
 ghost use Rattle.cell_runs.specs.Writing.{in_styles};
@@ -18,8 +18,7 @@ use text_output::Gathered;
 
 /// Writes the line of a frame.
 pub(crate) fn write_frame<O: Sink>(frame: u64, text: &mut Gathered, out: &mut O)
-    ensures { Writes (page text.old (O.written out.old) (O.faults out.old))
-        (page text.new (O.written out.new) (O.faults out.new)) (frame_line frame) }
+    ensures { Adds O.written O.faults text.old out.old text.new out.new (frame_line frame) }
 {
     text.write(b"frame ", out);
     text.write_long(frame, out);
@@ -33,8 +32,7 @@ pub(crate) fn write_grid_unless_empty<O: Sink>(
     text: &mut Gathered,
     out: &mut O,
 )
-    ensures { Writes (page text.old (O.written out.old) (O.faults out.old))
-        (page text.new (O.written out.new) (O.faults out.new))
+    ensures { Adds O.written O.faults text.old out.old text.new out.new
         (if length (runs (grid_in memory.now)) == 0 then [] else grid_text chan
         (grid_in memory.now)) }
 {
@@ -45,8 +43,7 @@ pub(crate) fn write_grid_unless_empty<O: Sink>(
 
 /// Writes the text of a channel's grid.
 pub(crate) fn write_grid<O: Sink>(chan: Chan, memory: &Memory, text: &mut Gathered, out: &mut O)
-    ensures { Writes (page text.old (O.written out.old) (O.faults out.old))
-        (page text.new (O.written out.new) (O.faults out.new))
+    ensures { Adds O.written O.faults text.old out.old text.new out.new
         (grid_text chan (grid_in memory.now)) }
 {
     text.write_all(
@@ -67,8 +64,7 @@ pub(crate) fn write_grid<O: Sink>(chan: Chan, memory: &Memory, text: &mut Gather
 // Writes the lines of a row's runs.
 fn write_row<O: Sink>(row: u8, cells: &[Option<Cell>], text: &mut Gathered, out: &mut O)
     requires { length cells.now ≤ 32 }
-    ensures { Writes (page text.old (O.written out.old) (O.faults out.old))
-        (page text.new (O.written out.new) (O.faults out.new))
+    ensures { Adds O.written O.faults text.old out.old text.new out.new
         (flat_map run_line (row_runs in_styles row cells.now)) }
 {
     let mut left = None;
@@ -89,8 +85,7 @@ fn write_run<O: Sink>(
     text: &mut Gathered,
     out: &mut O,
 )
-    ensures { Writes (page text.old (O.written out.old) (O.faults out.old))
-        (page text.new (O.written out.new) (O.faults out.new))
+    ensures { Adds O.written O.faults text.old out.old text.new out.new
         (run_line (record { row = row; col = col; first = first; text = front_text in_styles first cells.now })) }
 {
     text.write_all(

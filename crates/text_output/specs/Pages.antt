@@ -27,6 +27,10 @@ abbrev pub Writes : Page → Page → List ℕ → Type 0
 Writes old new text = (start : Option (List ℕ)) (faults : ℕ) (before : List ℕ)
     → HasWrittenText start faults before old → HasWrittenText start faults (before ++ text) new
 
+-- a text was written to a sink that tells what was written, and the count of its faults
+abbrev pub Adds : {O : Type 0} → (O → Option (List ℕ)) → (O → ℕ) → Gathered → O → Gathered → O → List ℕ → Type 0
+Adds written faults old out_old new out_new text = Writes (page old (written out_old) (faults out_old)) (page new (written out_new) (faults out_new)) text
+
 -- a piece was added, or a put failed with a front of what was held and of the piece
 abbrev pub PutsPiece : Option (List ℕ) → Option (List ℕ) → List ℕ → List ℕ → Put → List ℕ → Type 0
 PutsPiece old new before after put.Done piece = Gathers old new before after put.Done piece

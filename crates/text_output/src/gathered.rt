@@ -23,7 +23,7 @@ pub struct Gathered {
 
 impl Gathered {
     ghost use Rattle.text_output.specs.Gathered.{Flushes, Gathers, answer_of, held_of};
-    ghost use Rattle.text_output.specs.Pages.{Finishes, PutsPiece, Writes, page};
+    ghost use Rattle.text_output.specs.Pages.{Adds, Finishes, PutsPiece, page};
 
     /// A text of which nothing is held.
     pub fn new() -> Gathered
@@ -101,8 +101,7 @@ impl Gathered {
 
     /// Writes a piece of any length, unless a put failed since the text was begun.
     pub fn write<O: Sink>(&mut self, piece: &[u8], out: &mut O)
-        ensures { Writes (page self.old (O.written out.old) (O.faults out.old))
-            (page self.new (O.written out.new) (O.faults out.new)) piece.now }
+        ensures { Adds O.written O.faults self.old out.old self.new out.new piece.now }
     {
         match self.answer {
             Put::Failed => {}
@@ -130,8 +129,7 @@ impl Gathered {
 
     /// Writes several pieces, one after another.
     pub fn write_all<O: Sink>(&mut self, pieces: &[&[u8]], out: &mut O)
-        ensures { Writes (page self.old (O.written out.old) (O.faults out.old))
-            (page self.new (O.written out.new) (O.faults out.new))
+        ensures { Adds O.written O.faults self.old out.old self.new out.new
             (flat_map (λ p. p.now) pieces.now) }
     {
         for piece in pieces {
@@ -141,24 +139,21 @@ impl Gathered {
 
     /// Writes a number.
     pub fn write_number<O: Sink>(&mut self, number: u32, out: &mut O)
-        ensures { Writes (page self.old (O.written out.old) (O.faults out.old))
-            (page self.new (O.written out.new) (O.faults out.new)) (decimal number) }
+        ensures { Adds O.written O.faults self.old out.old self.new out.new (decimal number) }
     {
         self.write(Buffer::new().format(number).as_bytes(), out);
     }
 
     /// Writes a number of 64 bits.
     pub fn write_long<O: Sink>(&mut self, long: u64, out: &mut O)
-        ensures { Writes (page self.old (O.written out.old) (O.faults out.old))
-            (page self.new (O.written out.new) (O.faults out.new)) (decimal long) }
+        ensures { Adds O.written O.faults self.old out.old self.new out.new (decimal long) }
     {
         self.write(Buffer::new().format(long).as_bytes(), out);
     }
 
     /// Writes a character in UTF-8.
     pub fn write_character<O: Sink>(&mut self, ch: char, out: &mut O)
-        ensures { Writes (page self.old (O.written out.old) (O.faults out.old))
-            (page self.new (O.written out.new) (O.faults out.new)) (encode_utf8 ch) }
+        ensures { Adds O.written O.faults self.old out.old self.new out.new (encode_utf8 ch) }
     {
         let mut bytes = [0; 4];
         self.write(ch.encode_utf8(&mut bytes).as_bytes(), out);

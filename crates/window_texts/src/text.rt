@@ -3,7 +3,7 @@ ghost use Rattle.std.specs.List.{flat_map};
 ghost use Rattle.dtvcc_windows.specs.Objects.{is_live, state_of};
 ghost use Rattle.dtvcc_windows.specs.Showing.{as_shown};
 ghost use Rattle.dtvcc_windows.specs.Windows.{WindowState};
-ghost use Rattle.text_output.specs.Pages.{Writes, page};
+ghost use Rattle.text_output.specs.Pages.{Adds};
 ghost use Rattle.cell_runs.specs.Runs.{front_text, row_runs};
 ghost use Rattle.cell_runs.specs.Writing.{in_pens};
 ghost use Rattle.window_texts.specs.WindowTexts.{all_joined, all_spaced, attributes_text, colors_text, flag, pen_attributes_text, place_text, spaced, window_line, window_run_line, window_text};
@@ -18,8 +18,7 @@ use text_output::Gathered;
 /// Writes the text of a window that is shown: what is shown of it, and its runs.
 pub fn write_window<O: Sink>(id: u8, window: &Window, text: &mut Gathered, out: &mut O)
     requires { IsTrue (is_live window.now) }
-    ensures { Writes (page text.old (O.written out.old) (O.faults out.old))
-        (page text.new (O.written out.new) (O.faults out.new))
+    ensures { Adds O.written O.faults text.old out.old text.new out.new
         (window_text id (as_shown (state_of window.now))) }
 {
     write_line(id, window, text, out);
@@ -32,8 +31,7 @@ pub fn write_window<O: Sink>(id: u8, window: &Window, text: &mut Gathered, out: 
 // Writes the line of a window.
 fn write_line<O: Sink>(id: u8, window: &Window, text: &mut Gathered, out: &mut O)
     requires { IsTrue (is_live window.now) }
-    ensures { Writes (page text.old (O.written out.old) (O.faults out.old))
-        (page text.new (O.written out.new) (O.faults out.new))
+    ensures { Adds O.written O.faults text.old out.old text.new out.new
         (window_line id (as_shown (state_of window.now))) }
 {
     text.write(b"W", out);
@@ -48,8 +46,7 @@ fn write_line<O: Sink>(id: u8, window: &Window, text: &mut Gathered, out: &mut O
 // Writes where a window stands and how large it is.
 fn write_place<O: Sink>(d: &Definition, text: &mut Gathered, out: &mut O)
     ensures { (w : WindowState) → w.definition ≡ d.now
-        → Writes (page text.old (O.written out.old) (O.faults out.old))
-        (page text.new (O.written out.new) (O.faults out.new)) (place_text (as_shown w)) }
+        → Adds O.written O.faults text.old out.old text.new out.new (place_text (as_shown w)) }
 {
     text.write(b" at", out);
     write_spaced(&[flag(d.relative), d.av, d.ah, d.anchor], text, out);
@@ -63,8 +60,7 @@ fn write_place<O: Sink>(d: &Definition, text: &mut Gathered, out: &mut O)
 
 // Writes the attributes of a window.
 fn write_attributes<O: Sink>(a: &WinAttr, text: &mut Gathered, out: &mut O)
-    ensures { Writes (page text.old (O.written out.old) (O.faults out.old))
-        (page text.new (O.written out.new) (O.faults out.new)) (attributes_text a.now) }
+    ensures { Adds O.written O.faults text.old out.old text.new out.new (attributes_text a.now) }
 {
     text.write(b" attr", out);
     let numbers = [
@@ -90,8 +86,7 @@ fn write_attributes<O: Sink>(a: &WinAttr, text: &mut Gathered, out: &mut O)
 // Writes the lines of a row's runs.
 fn write_row<O: Sink>(row: u8, cells: &[Option<DCell>], text: &mut Gathered, out: &mut O)
     requires { length cells.now ≤ 64 }
-    ensures { Writes (page text.old (O.written out.old) (O.faults out.old))
-        (page text.new (O.written out.new) (O.faults out.new))
+    ensures { Adds O.written O.faults text.old out.old text.new out.new
         (flat_map window_run_line (row_runs in_pens row cells.now)) }
 {
     let mut left = None;
@@ -112,9 +107,7 @@ fn write_run<O: Sink>(
     text: &mut Gathered,
     out: &mut O,
 )
-    ensures { Writes (page text.old (O.written out.old) (O.faults out.old))
-        (page text.new (O.written out.new) (O.faults out.new))
-        (window_run_line
+    ensures { Adds O.written O.faults text.old out.old text.new out.new (window_run_line
         (record { row = row; col = col; first = first; text = front_text in_pens first cells.now })) }
 {
     write_small(row, text, out);
@@ -127,8 +120,7 @@ fn write_run<O: Sink>(
 
 // Writes the attributes of a pen.
 fn write_pen<O: Sink>(p: PenAttr, text: &mut Gathered, out: &mut O)
-    ensures { Writes (page text.old (O.written out.old) (O.faults out.old))
-        (page text.new (O.written out.new) (O.faults out.new)) (pen_attributes_text p) }
+    ensures { Adds O.written O.faults text.old out.old text.new out.new (pen_attributes_text p) }
 {
     let numbers = [
         p.size,
@@ -144,8 +136,7 @@ fn write_pen<O: Sink>(p: PenAttr, text: &mut Gathered, out: &mut O)
 
 // Writes its colours.
 fn write_colors<O: Sink>(c: PenColors, text: &mut Gathered, out: &mut O)
-    ensures { Writes (page text.old (O.written out.old) (O.faults out.old))
-        (page text.new (O.written out.new) (O.faults out.new)) (colors_text c) }
+    ensures { Adds O.written O.faults text.old out.old text.new out.new (colors_text c) }
 {
     text.write(b" ", out);
     write_joined(&[c.fg.opacity, c.fg.r, c.fg.g, c.fg.b], text, out);
@@ -158,8 +149,7 @@ fn write_colors<O: Sink>(c: PenColors, text: &mut Gathered, out: &mut O)
 
 // Writes numbers, each behind a space.
 fn write_spaced<O: Sink>(numbers: &[u8], text: &mut Gathered, out: &mut O)
-    ensures { Writes (page text.old (O.written out.old) (O.faults out.old))
-        (page text.new (O.written out.new) (O.faults out.new)) (all_spaced numbers.now) }
+    ensures { Adds O.written O.faults text.old out.old text.new out.new (all_spaced numbers.now) }
 {
     for number in numbers {
         write_one_spaced(*number, text, out);
@@ -168,8 +158,7 @@ fn write_spaced<O: Sink>(numbers: &[u8], text: &mut Gathered, out: &mut O)
 
 // Writes a space and a number.
 fn write_one_spaced<O: Sink>(number: u8, text: &mut Gathered, out: &mut O)
-    ensures { Writes (page text.old (O.written out.old) (O.faults out.old))
-        (page text.new (O.written out.new) (O.faults out.new)) (spaced number) }
+    ensures { Adds O.written O.faults text.old out.old text.new out.new (spaced number) }
 {
     text.write(b" ", out);
     write_small(number, text, out);
@@ -177,8 +166,7 @@ fn write_one_spaced<O: Sink>(number: u8, text: &mut Gathered, out: &mut O)
 
 // Writes numbers without spaces.
 fn write_joined<O: Sink>(numbers: &[u8], text: &mut Gathered, out: &mut O)
-    ensures { Writes (page text.old (O.written out.old) (O.faults out.old))
-        (page text.new (O.written out.new) (O.faults out.new)) (all_joined numbers.now) }
+    ensures { Adds O.written O.faults text.old out.old text.new out.new (all_joined numbers.now) }
 {
     for number in numbers {
         write_small(*number, text, out);
@@ -187,16 +175,14 @@ fn write_joined<O: Sink>(numbers: &[u8], text: &mut Gathered, out: &mut O)
 
 // Writes a small number.
 fn write_small<O: Sink>(number: u8, text: &mut Gathered, out: &mut O)
-    ensures { Writes (page text.old (O.written out.old) (O.faults out.old))
-        (page text.new (O.written out.new) (O.faults out.new)) (decimal number) }
+    ensures { Adds O.written O.faults text.old out.old text.new out.new (decimal number) }
 {
     text.write_number(u32::from(number), out);
 }
 
 // Writes a count.
 fn write_count<O: Sink>(count: u16, text: &mut Gathered, out: &mut O)
-    ensures { Writes (page text.old (O.written out.old) (O.faults out.old))
-        (page text.new (O.written out.new) (O.faults out.new)) (decimal count) }
+    ensures { Adds O.written O.faults text.old out.old text.new out.new (decimal count) }
 {
     text.write_number(u32::from(count), out);
 }

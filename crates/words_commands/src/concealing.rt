@@ -3,7 +3,7 @@ ghost use Rattle.cc_conceal.specs.Concealers.{HasConcealed, concealed_frames};
 ghost use Rattle.cdp_packets.specs.Packets.{Frame};
 ghost use Rattle.services_files.specs.CaptionChannel.{caption_channel};
 ghost use Rattle.text_output.specs.Gathered.{IsGathered, held_of};
-ghost use Rattle.text_output.specs.Pages.{Writes, page};
+ghost use Rattle.text_output.specs.Pages.{Adds};
 ghost use Rattle.words_files.specs.FramesOf.{AreFramesOf};
 ghost use Rattle.words_reading.specs.FrameTexts.{FramesHalt, FramesSay, MakesFrame};
 ghost use Rattle.words_reading.specs.Judging.{StopCause};
@@ -58,8 +58,7 @@ impl Concealing {
 
 /// Writes the line of frames that are missing before one; nothing where none is.
 fn write_lost<O: Sink>(missing: u64, frame: u64, text: &mut Gathered, out: &mut O)
-    ensures { Writes (page text.old (O.written out.old) (O.faults out.old))
-        (page text.new (O.written out.new) (O.faults out.new)) (lost_line missing frame) }
+    ensures { Adds O.written O.faults text.old out.old text.new out.new (lost_line missing frame) }
 {
     if missing == 0 {
         return;

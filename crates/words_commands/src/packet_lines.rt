@@ -3,7 +3,7 @@ ghost use Rattle.std.specs.List.{flat_map};
 ghost use Rattle.cdp_packets.specs.Packets.{Frame};
 ghost use Rattle.line21_codes.specs.declared.channels.FieldNumber.TheVariants.{Two};
 ghost use Rattle.line21_codes.specs.declared.pairs.Pair.{Pair};
-ghost use Rattle.text_output.specs.Pages.{Writes, WritesSome, page};
+ghost use Rattle.text_output.specs.Pages.{Adds, WritesSome, page};
 ghost use Rattle.words_files.specs.Received.{received_pairs};
 ghost use Rattle.xds_packets.specs.Reader.{HasRead};
 ghost use Rattle.xds_packets.specs.Reading.{listed};
@@ -34,8 +34,7 @@ impl PacketLines {
         ensures reads { (before : List Pair) → HasRead before self.old.reader
             → HasRead (before ++ pairs.now) self.new.reader }
         ensures writes { (before : List Pair) → HasRead before self.old.reader
-            → Writes (page text.old (O.written out.old) (O.faults out.old))
-            (page text.new (O.written out.new) (O.faults out.new))
+            → Adds O.written O.faults text.old out.old text.new out.new
             (flat_map (packet_line frame) (ended_in before pairs.now)) }
         ensures some { WritesSome (page text.old (O.written out.old) (O.faults out.old))
             (page text.new (O.written out.new) (O.faults out.new)) }
@@ -49,8 +48,7 @@ impl PacketLines {
 
 /// Writes the line of a packet, if there is one.
 fn write_ended<O: Sink>(ended: &Option<XdsPacket>, frame: u32, text: &mut Gathered, out: &mut O)
-    ensures { Writes (page text.old (O.written out.old) (O.faults out.old))
-        (page text.new (O.written out.new) (O.faults out.new))
+    ensures { Adds O.written O.faults text.old out.old text.new out.new
         (flat_map (packet_line frame) (listed ended.now)) }
 {
     if let Some(packet) = ended {
@@ -60,8 +58,7 @@ fn write_ended<O: Sink>(ended: &Option<XdsPacket>, frame: u32, text: &mut Gather
 
 /// Writes the line of a packet that ended in a frame.
 fn write_packet<O: Sink>(packet: &XdsPacket, frame: u32, text: &mut Gathered, out: &mut O)
-    ensures { Writes (page text.old (O.written out.old) (O.faults out.old))
-        (page text.new (O.written out.new) (O.faults out.new)) (packet_line frame packet.now) }
+    ensures { Adds O.written O.faults text.old out.old text.new out.new (packet_line frame packet.now) }
 {
     text.write(b"frame ", out);
     text.write_number(frame, out);
