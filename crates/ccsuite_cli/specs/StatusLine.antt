@@ -18,8 +18,8 @@ use Rattle.findings.specs.declared.finding.Which.TheVariants as which
 use Rattle.findings.specs.declared.misfit.MisfitKind.{MisfitKind}
 use Rattle.findings.specs.declared.misfit.MisfitKind.TheVariants as misfit
 use Rattle.findings.specs.Misfits.{misfit_name}
+use Rattle.line21_codes.specs.Channels.{channel_name}
 use Rattle.line21_codes.specs.declared.channels.Chan.{Chan}
-use Rattle.line21_codes.specs.declared.channels.Chan.TheVariants as chan
 use Rattle.ccsuite_cli.specs.Command.{usage_line}
 use Rattle.command_base.specs.declared.status.Place.{Place}
 use Rattle.command_base.specs.declared.status.Place.TheVariants.{Byte, Field}
@@ -52,13 +52,6 @@ plain_line frame why = text (codes "differs at frame " ∷ decimal frame ∷ cod
 abbrev pub service_line : ℕ → Why → ℕ → List ℕ
 service_line frame why service =
     text (codes "differs at frame " ∷ decimal frame ∷ codes ": " ∷ name_of why ∷ codes " S" ∷ decimal service ∷ codes "\n" ∷ [])
-
--- the name of a channel, as grids are printed
-abbrev pub channel_name : Chan → List ℕ
-channel_name chan.Cc1 = codes "CC1"
-channel_name chan.Cc2 = codes "CC2"
-channel_name chan.Cc3 = codes "CC3"
-channel_name chan.Cc4 = codes "CC4"
 
 -- the line of a finding of a channel
 abbrev pub channel_line : ℕ → Why → Chan → List ℕ

@@ -1,6 +1,6 @@
 ghost use Rattle.std.specs.Prelude.{◌≡◌};
 ghost use Rattle.cc_base.specs.Streams.{PutCause, Puts};
-ghost use Rattle.ccsuite_cli.specs.StatusLine.{channel_line, channel_name, grid_line, line_of_kind, plain_line, seen_line, service_line};
+ghost use Rattle.ccsuite_cli.specs.StatusLine.{channel_line, grid_line, line_of_kind, plain_line, seen_line, service_line};
 
 use cc_base::{Put, Sink, Why, put_pieces};
 use findings::{Kind45, Which};
@@ -122,21 +122,9 @@ fn put_channel<E: Sink>(frame: u32, why: Why, chan: Chan, err: &mut E) -> Put
             b": ",
             why.name().as_bytes(),
             b" ",
-            channel_name(chan),
+            chan.name().as_bytes(),
             b"\n",
         ],
         err,
     )
-}
-
-/// The name of a channel, as grids are printed.
-pub fn channel_name(chan: Chan) -> &'static [u8]
-    ensures { result.now ≡ channel_name chan }
-{
-    match chan {
-        Chan::Cc1 => b"CC1",
-        Chan::Cc2 => b"CC2",
-        Chan::Cc3 => b"CC3",
-        Chan::Cc4 => b"CC4",
-    }
 }

@@ -1,9 +1,9 @@
 ghost use Rattle.std.specs.Prelude.{◌≡◌, ◌++◌, codes, decimal};
 ghost use Rattle.cc_base.specs.Streams.{PutCause, Puts};
 ghost use Rattle.findings.specs.declared.misfit.MisfitKind.TheVariants.{Changed};
-ghost use Rattle.ccsuite_cli.specs.StatusLine.{channel_name, line_of_misfit, misfit_text};
+ghost use Rattle.ccsuite_cli.specs.StatusLine.{line_of_misfit, misfit_text};
+ghost use Rattle.line21_codes.specs.Channels.{channel_name};
 
-use crate::finding_line::channel_name;
 use cc_base::{Put, Sink, put_pieces};
 use findings::{MisfitKind, Which};
 use itoa::Buffer;
@@ -71,7 +71,7 @@ fn put_channel<E: Sink>(frame: u32, kind: MisfitKind, chan: Chan, err: &mut E) -
             b": ",
             kind.name().as_bytes(),
             b" ",
-            channel_name(chan),
+            chan.name().as_bytes(),
             b"\n",
         ],
         err,

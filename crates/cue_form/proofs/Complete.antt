@@ -41,7 +41,7 @@ use Rattle.cue_form.proofs.CodedFacts.{coded_scalars, coded_tests, window_scalar
 use Rattle.cue_form.proofs.NumberFacts.{frame_field-decimal}
 use Rattle.record_files.proofs.NumberFacts.{number_field-decimal, number_within-decimal}
 use Rattle.cue_form.proofs.RecordFacts.{IsRunOf}
-use Rattle.cue_form.proofs.WordsRead.{channel_field-channel_word, frame_or_none_field-hide_word, pen_field-pen_word, rate_field-rate_word}
+use Rattle.cue_form.proofs.WordsRead.{channel_field-channel_name, frame_or_none_field-hide_word, pen_field-pen_word, rate_field-rate_word}
 
 -- these records lead from one begun list to another, whatever follows
 pub record LeadsTo (from : Begun) (records : List Record) (to : Begun) : Type 0 where
@@ -347,17 +347,17 @@ next_cue : (head : Head) (shares : List Share) (earlier : List Cue) (last : Opti
     → next (begun_of (Some head) shares earlier last) (cue_record k (record { load = load; show = show; hide = hide; kind = k; runs = runs }))
     ≡ Ok (begun_of (Some head) shares (earlier ++ option_to_list last) (Some (record { load = load; show = show; hide = hide; kind = bare k; runs = [] })))
 next_cue head shares earlier last cue load show (Some hide) (kind.Pop channel) runs begun full few =
-    rw (full, lt-ltb (length (earlier ++ option_to_list last)) 20000 few, channel_field-channel_word channel begun.kind.0, frame_field-decimal load begun.load, frame_field-decimal show begun.show, frame_field-decimal hide begun.hide) refl
+    rw (full, lt-ltb (length (earlier ++ option_to_list last)) 20000 few, channel_field-channel_name channel begun.kind.0, frame_field-decimal load begun.load, frame_field-decimal show begun.show, frame_field-decimal hide begun.hide) refl
 next_cue head shares earlier last cue load show None (kind.Pop channel) runs begun full few = let q = begun.kind.1 in cc
 next_cue head shares earlier last cue load show (Some hide) (kind.Paint channel) runs begun full few =
-    rw (full, lt-ltb (length (earlier ++ option_to_list last)) 20000 few, channel_field-channel_word channel begun.kind.0, frame_field-decimal load begun.load, frame_field-decimal show begun.show, frame_field-decimal hide begun.hide) refl
+    rw (full, lt-ltb (length (earlier ++ option_to_list last)) 20000 few, channel_field-channel_name channel begun.kind.0, frame_field-decimal load begun.load, frame_field-decimal show begun.show, frame_field-decimal hide begun.hide) refl
 next_cue head shares earlier last cue load show None (kind.Paint channel) runs begun full few = let q = begun.kind.1 in cc
 next_cue head shares earlier last cue load show hide (kind.Roll channel rows) runs begun full few =
     let number = begun.kind.1.number in
     rw (
       full,
       lt-ltb (length (earlier ++ option_to_list last)) 20000 few,
-      channel_field-channel_word channel begun.kind.0,
+      channel_field-channel_name channel begun.kind.0,
       number_within-decimal 2 4 rows number.0 number.1 (let most = number.1 in omega arith),
       frame_field-decimal load begun.load,
       frame_field-decimal show begun.show,

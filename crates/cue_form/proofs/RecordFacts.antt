@@ -14,6 +14,7 @@ use Rattle.dtvcc_codes.specs.declared.pens.Rgb.{Rgb}
 use Rattle.dtvcc_codes.specs.declared.windows.WinAttr.{WinAttr}
 use Rattle.line21_codes.specs.declared.channels.Chan.{Chan}
 use Rattle.line21_codes.specs.declared.channels.Chan.TheVariants as chan
+use Rattle.line21_codes.specs.Channels.{channel_name}
 use Rattle.cue_form.specs.Begun.{IsCueBegun, IsPlain}
 use Rattle.cue_types.specs.Listing.{IsListRate, most_frames}
 use Rattle.cue_types.specs.Cues.{IsFrameOrNone, IsOfKind}
@@ -25,7 +26,7 @@ use Rattle.cue_form.specs.Form.{cue_columns, first_row, frame_or_none_field, is_
 use Rattle.cue_form.specs.Judgements.{attribute_judgements, colour_judgements, head_judgements, rolled_judgements, run_judgements, share_judgements, shown_judgements, window_judgements}
 use Rattle.cue_form.specs.Reading.{attributes_of, colours_of, cue_of, head_of, number, record_fill, rgb, rolled_cue_of, run_of, share_record_of, shown_cue_of, window_cue_of}
 use Rattle.record_files.specs.Records.{Field, Record, field}
-use Rattle.cue_form.specs.Spelling.{attribute_record, channel_word, colour_record, cue_record, fill_word, head_record, hide_word, pen_word, rgb_word, run_record, share_record, wrap_number}
+use Rattle.cue_form.specs.Spelling.{attribute_record, colour_record, cue_record, fill_word, head_record, hide_word, pen_word, rgb_word, run_record, share_record, wrap_number}
 use Rattle.cue_types.specs.declared.cue.Cue.{Cue}
 use Rattle.cue_types.specs.declared.cue.Kind.{Kind}
 use Rattle.cue_types.specs.declared.cue.Kind.TheVariants as kind
@@ -51,7 +52,7 @@ frame_good text good = with_value _ (frame_field text) (λ none. let q = rw none
 
 -- a channel
 pub channel_good : (text : Field) → is_some (channel_field text) ≡ true
-    → IsAuthoredChannel (unwrap_or (channel_field text) chan.Cc1) × (text ≡ channel_word (unwrap_or (channel_field text) chan.Cc1))
+    → IsAuthoredChannel (unwrap_or (channel_field text) chan.Cc1) × (text ≡ channel_name (unwrap_or (channel_field text) chan.Cc1))
 channel_good text good = with_value _ (channel_field text) (λ none. let q = rw none at good in cc) (λ c is. rw is (channel_passed text c is))
 
 -- a digit from 0 to 3

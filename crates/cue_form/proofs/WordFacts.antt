@@ -9,11 +9,12 @@ use Rattle.line21_codes.specs.declared.styles.Colour.{Colour}
 use Rattle.line21_codes.specs.declared.styles.Colour.TheVariants as colour
 use Rattle.line21_codes.specs.declared.styles.Style.{Style}
 use Rattle.line21_codes.specs.PenWords.{colour_word, italic_mark}
+use Rattle.line21_codes.specs.Channels.{channel_name}
 use Rattle.cue_form.specs.Fields.{channel_field, channel_words, line21_words, named, pen_field, plain_pen_field, plain_words, rate_field, rate_words}
 use Rattle.cue_types.specs.Line21Cues.{IsAuthoredChannel, IsLine21Pen}
 use Rattle.cue_types.specs.Listing.{IsListRate}
 use Rattle.record_files.specs.Records.{Field}
-use Rattle.cue_form.specs.Spelling.{channel_word, pen_word, rate_word, version_word}
+use Rattle.cue_form.specs.Spelling.{pen_word, rate_word, version_word}
 use Rattle.cue_form.specs.Form.{kind_words, record_kind_of, version_words}
 use Rattle.cue_types.specs.Windows.{IsWindowPen}
 use Rattle.cue_types.specs.declared.cue.Pen.{Pen}
@@ -55,9 +56,9 @@ pub version_passed : (text : Field) (v : Version) → named version_words text �
 version_passed text v e = of_named (λ text v. text ≡ version_word v) version_words (refl, (refl, tt)) text v e
 
 -- a channel
-pub channel_passed : (text : Field) (c : Chan) → channel_field text ≡ Some c → IsAuthoredChannel c × (text ≡ channel_word c)
+pub channel_passed : (text : Field) (c : Chan) → channel_field text ≡ Some c → IsAuthoredChannel c × (text ≡ channel_name c)
 channel_passed text c e =
-    of_named (λ text c. IsAuthoredChannel c × (text ≡ channel_word c)) channel_words ((tt, refl), ((tt, refl), tt)) text c e
+    of_named (λ text c. IsAuthoredChannel c × (text ≡ channel_name c)) channel_words ((tt, refl), ((tt, refl), tt)) text c e
 
 -- the pen of a window's run
 pub window_pen_passed : (text : Field) (p : Pen) → named plain_words text ≡ Some p → IsWindowPen p × (text ≡ pen_word p)

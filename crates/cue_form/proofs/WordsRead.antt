@@ -7,12 +7,13 @@ use Rattle.line21_codes.specs.declared.channels.Chan.{Chan}
 use Rattle.line21_codes.specs.declared.channels.Chan.TheVariants as chan
 use Rattle.line21_codes.specs.declared.styles.Colour.{Colour}
 use Rattle.line21_codes.specs.declared.styles.Colour.TheVariants as colour
+use Rattle.line21_codes.specs.Channels.{channel_name}
 use Rattle.cue_types.specs.Cues.{IsFrameOrNone}
 use Rattle.cue_form.specs.Fields.{channel_field, pen_field, rate_field}
 use Rattle.cue_form.specs.Form.{frame_or_none_field}
 use Rattle.cue_types.specs.Line21Cues.{IsAuthoredChannel}
 use Rattle.cue_types.specs.Listing.{IsListRate}
-use Rattle.cue_form.specs.Spelling.{channel_word, hide_word, pen_word, rate_word}
+use Rattle.cue_form.specs.Spelling.{hide_word, pen_word, rate_word}
 use Rattle.cue_types.specs.declared.cue.Pen.TheVariants as pen
 use Rattle.cue_form.proofs.NumberFacts.{frame_field-decimal}
 
@@ -28,11 +29,11 @@ rate_field-rate_word rate.F5994 is = refl
 rate_field-rate_word rate.F60 is = refl
 
 -- a channel's word is read
-pub channel_field-channel_word : (c : Chan) → IsAuthoredChannel c → channel_field (channel_word c) ≡ Some c
-channel_field-channel_word chan.Cc1 is = refl
-channel_field-channel_word chan.Cc3 is = refl
-channel_field-channel_word chan.Cc2 is = absurd is
-channel_field-channel_word chan.Cc4 is = absurd is
+pub channel_field-channel_name : (c : Chan) → IsAuthoredChannel c → channel_field (channel_name c) ≡ Some c
+channel_field-channel_name chan.Cc1 is = refl
+channel_field-channel_name chan.Cc3 is = refl
+channel_field-channel_name chan.Cc2 is = absurd is
+channel_field-channel_name chan.Cc4 is = absurd is
 
 -- a pen's word is read
 pub pen_field-pen_word : (c : Colour) (i u : Bool) → (i ≡ true → c ≡ colour.White)

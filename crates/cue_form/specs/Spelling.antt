@@ -5,7 +5,7 @@ use Rattle.std.specs.Prelude.{◌≡◌, ℕ, Bool, if◌then◌else◌, List, [
 use Rattle.cc_base.specs.declared.rate.Rate.{Rate}
 use Rattle.cc_base.specs.declared.rate.Rate.TheVariants as rate
 use Rattle.line21_codes.specs.declared.channels.Chan.{Chan}
-use Rattle.line21_codes.specs.declared.channels.Chan.TheVariants as chan
+use Rattle.line21_codes.specs.Channels.{channel_name}
 use Rattle.line21_codes.specs.PenWords.{colour_word, italic_mark, underline_mark}
 use Rattle.dtvcc_codes.specs.declared.pens.Fill.{Fill}
 use Rattle.dtvcc_codes.specs.declared.pens.PenColors.{PenColors}
@@ -32,12 +32,6 @@ rate_word rate.F30 = codes "30"
 rate_word rate.F5994 = codes "59.94"
 rate_word rate.F60 = codes "60"
 rate_word _ = []
-
--- the word of a channel
-abbrev pub channel_word : Chan → Field
-channel_word chan.Cc1 = codes "CC1"
-channel_word chan.Cc3 = codes "CC3"
-channel_word _ = []
 
 -- the word of a pen
 abbrev pub pen_word : Pen → Field
@@ -68,11 +62,11 @@ share_record share = codes "share" ∷ decimal share.service ∷ decimal share.b
 -- win,SERVICE,ID,LOAD,SHOW,HIDE,DELAY,ANCHOR,AV,AH,ROWS,COLS,PRIORITY,WS,PS
 abbrev pub cue_record : Kind → Cue → Record
 cue_record (kind.Pop channel) cue =
-    codes "pop" ∷ channel_word channel ∷ decimal cue.load ∷ decimal cue.show ∷ hide_word cue.hide ∷ []
+    codes "pop" ∷ channel_name channel ∷ decimal cue.load ∷ decimal cue.show ∷ hide_word cue.hide ∷ []
 cue_record (kind.Paint channel) cue =
-    codes "paint" ∷ channel_word channel ∷ decimal cue.load ∷ decimal cue.show ∷ hide_word cue.hide ∷ []
+    codes "paint" ∷ channel_name channel ∷ decimal cue.load ∷ decimal cue.show ∷ hide_word cue.hide ∷ []
 cue_record (kind.Roll channel rows) cue =
-    codes "roll" ∷ channel_word channel ∷ decimal rows ∷ decimal cue.load ∷ decimal cue.show ∷ hide_word cue.hide ∷ []
+    codes "roll" ∷ channel_name channel ∷ decimal rows ∷ decimal cue.load ∷ decimal cue.show ∷ hide_word cue.hide ∷ []
 cue_record (kind.Win w) cue =
     codes "win" ∷ decimal w.service ∷ decimal w.id ∷ decimal cue.load ∷ decimal cue.show ∷ hide_word cue.hide
     ∷ decimal w.delay ∷ decimal w.anchor ∷ decimal w.av ∷ decimal w.ah ∷ decimal w.rows ∷ decimal w.cols

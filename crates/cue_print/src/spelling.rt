@@ -2,9 +2,10 @@
 
 ghost use Rattle.std.specs.Prelude.{◌≡◌, [], ◌∷◌, ◌++◌, decimal, encode_utf8_all, IfOk, OnOk, Some};
 ghost use Rattle.std.specs.String.{string_bytes};
+ghost use Rattle.line21_codes.specs.Channels.{channel_name};
 ghost use Rattle.line21_codes.specs.PenWords.{colour_word, italic_mark, underline_mark};
 ghost use Rattle.csv.specs.Records.{fields_of};
-ghost use Rattle.cue_form.specs.Spelling.{attribute_record, channel_word, colour_record, cue_record, fill_word, head_record, hide_word, pen_word, rate_word, rgb_word, run_record, share_record, version_word, wrap_number};
+ghost use Rattle.cue_form.specs.Spelling.{attribute_record, colour_record, cue_record, fill_word, head_record, hide_word, pen_word, rate_word, rgb_word, run_record, share_record, version_word, wrap_number};
 ghost use Rattle.cue_types.specs.declared.cue.Kind.TheVariants as kind;
 ghost use Rattle.cue_types.specs.declared.head.Head.{Head};
 
@@ -12,7 +13,7 @@ use cc_base::Rate;
 use csv::StringRecord;
 use cue_types::{Cue, Head, Kind, Pen, Run, Share, Text, Version, WinCue};
 use dtvcc_codes::{Fill, PenColors, Rgb, WinAttr};
-use line21_codes::{Chan, Colour};
+use line21_codes::{Chan, italic_mark, underline_mark};
 use std::alloc::{AllocError, Global};
 
 /// The head: `ccsuite,VERSION,RATE,FRAMES`.
@@ -147,12 +148,12 @@ fn shown_record(
     cue: &Cue,
 ) -> Result<StringRecord, AllocError>
     ensures { IfOk result (λ row. fields_of row
-        ≡ word.now ∷ channel_word channel ∷ decimal cue.now.load ∷ decimal cue.now.show
+        ≡ word.now ∷ channel_name channel ∷ decimal cue.now.load ∷ decimal cue.now.show
         ∷ hide_word cue.now.hide ∷ []) }
 {
     let mut row = StringRecord::new(alloc);
     row.push_field(word)?;
-    row.push_field(channel_word(channel))?;
+    row.push_field(channel.name())?;
     push_frames(alloc, &mut row, cue)?;
     Ok(row)
 }
@@ -168,7 +169,7 @@ fn rolled_record(
 {
     let mut row = StringRecord::new(alloc);
     row.push_field("roll")?;
-    row.push_field(channel_word(channel))?;
+    row.push_field(channel.name())?;
     push_number(alloc, &mut row, u32::from(rows))?;
     push_frames(alloc, &mut row, cue)?;
     Ok(row)
@@ -222,12 +223,7 @@ fn pen_word(alloc: Global, pen: Pen) -> Result<String, AllocError>
     ensures { IfOk result (λ word. string_bytes word ≡ pen_word pen) }
 {
     match pen {
-        Pen::Line21(style) => marked(
-            alloc,
-            colour_word(style.colour),
-            style.italic,
-            style.underline,
-        ),
+        Pen::Line21(style) => marked(alloc, style.colour.word(), style.italic, style.underline),
         Pen::Dtv { italic, underline } => marked(alloc, "plain", italic, underline),
     }
 }
@@ -270,40 +266,4 @@ fn rate_word(rate: Rate) -> &'static str
         Rate::F60 => "60",
         _ => "",
     }
-}
-
-fn channel_word(channel: Chan) -> &'static str
-    ensures { result.now ≡ channel_word channel }
-{
-    match channel {
-        Chan::Cc1 => "CC1",
-        Chan::Cc3 => "CC3",
-        _ => "",
-    }
-}
-
-fn colour_word(colour: Colour) -> &'static str
-    ensures { result.now ≡ colour_word colour }
-{
-    match colour {
-        Colour::White => "white",
-        Colour::Green => "green",
-        Colour::Blue => "blue",
-        Colour::Cyan => "cyan",
-        Colour::Red => "red",
-        Colour::Yellow => "yellow",
-        Colour::Magenta => "magenta",
-    }
-}
-
-fn italic_mark(italic: bool) -> &'static str
-    ensures { result.now ≡ italic_mark italic }
-{
-    if italic { "-i" } else { "" }
-}
-
-fn underline_mark(underline: bool) -> &'static str
-    ensures { result.now ≡ underline_mark underline }
-{
-    if underline { "-u" } else { "" }
 }

@@ -25,7 +25,7 @@ Steps cadence frame lanes index pair new = (lane : PlannedField) → slice_get l
     → (pair ≡ given_in cadence frame lane) × (new ≡ slice_set lanes index (behind_frame cadence frame lane))
 
 -- a lane that is at the first slot that isn't before a frame gives the frame's pair
-given_is : (c : Cadence) (one : PlannedField) (f : ℕ) → one.slot ≡ slot_from c f → given_in c f one ≡ lane_pair c one f
+pub given_is : (c : Cadence) (one : PlannedField) (f : ℕ) → one.slot ≡ slot_from c f → given_in c f one ≡ lane_pair c one f
 given_is c one f at =
     subst (λ k. given_in c f one ≡ option_map (slot_pair one) (if has_slot_in c f then Some k else None)) at (by_test (has_slot_in c f))
   where
@@ -34,7 +34,7 @@ given_is c one f at =
     by_test false = refl
 
 -- behind the frame it is at the first slot that isn't before the next
-behind_at : (c : Cadence) (one : PlannedField) (f : ℕ) → one.slot ≡ slot_from c f → (behind_frame c f one).slot ≡ slot_from c (f + 1)
+pub behind_at : (c : Cadence) (one : PlannedField) (f : ℕ) → one.slot ≡ slot_from c f → (behind_frame c f one).slot ≡ slot_from c (f + 1)
 behind_at c one f at = by_test (has_slot_in c f) refl
   where
     next : suc f ≡ f + 1

@@ -3,6 +3,7 @@
 use Rattle.std.specs.Prelude.{ℕ, ◌==◌, ◌++◌, ◌||◌, Bool, Option, if◌then◌else◌, List, [], ◌∷◌, codes, decimal, encode_utf8_all, length}
 use Rattle.std.specs.List.{flat_map, list_any, range_with_len}
 use Rattle.cc_base.specs.Texts.{text}
+use Rattle.line21_codes.specs.Channels.{channel_name}
 use Rattle.line21_codes.specs.declared.channels.Chan.{Chan}
 use Rattle.line21_codes.specs.declared.channels.Chan.TheVariants.{Cc1, Cc2, Cc3, Cc4}
 use Rattle.line21_codes.specs.declared.styles.Cell.{Cell}
@@ -17,13 +18,6 @@ use Rattle.cell_runs.specs.Runs.{Run}
 use Rattle.grid_print.specs.Runs.{runs}
 use Rattle.grid_print.specs.Screens.{Screens}
 
--- the name of a channel
-abbrev pub chan_name : Chan → List ℕ
-chan_name Cc1 = codes "CC1"
-chan_name Cc2 = codes "CC2"
-chan_name Cc3 = codes "CC3"
-chan_name Cc4 = codes "CC4"
-
 -- a pen
 abbrev pub pen_text : Style → List ℕ
 pen_text style = text (colour_word style.colour ∷ italic_mark style.italic ∷ underline_mark style.underline ∷ [])
@@ -35,7 +29,7 @@ run_line run = text (
 
 -- the text of a channel's grid: the channel and the number of its runs, and then their lines
 unfoldable pub grid_text : Chan → Grid → List ℕ
-grid_text chan grid = text (chan_name chan ∷ codes " " ∷ decimal (length (runs grid)) ∷ codes "\n" ∷ flat_map run_line (runs grid) ∷ [])
+grid_text chan grid = text (channel_name chan ∷ codes " " ∷ decimal (length (runs grid)) ∷ codes "\n" ∷ flat_map run_line (runs grid) ∷ [])
 
 -- the line of a frame
 abbrev pub frame_line : ℕ → List ℕ

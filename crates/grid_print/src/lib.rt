@@ -4,7 +4,6 @@
 
 mod kept;
 pub mod laws;
-mod names;
 mod print;
 mod runs;
 mod service;

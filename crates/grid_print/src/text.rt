@@ -7,12 +7,11 @@ ghost use Rattle.cell_runs.specs.Runs.{front_text, row_runs};
 ghost use Rattle.cell_runs.specs.Writing.{in_styles};
 ghost use Rattle.grid_print.specs.Runs.{runs};
 
-use crate::names::{chan_name, colour_name, italic_mark, underline_mark};
 use crate::runs::run_count;
 use cc_base::Sink;
 use cell_runs::{begun, write_front};
 use itoa::Buffer;
-use line21_codes::{Cell, Chan};
+use line21_codes::{Cell, Chan, italic_mark, underline_mark};
 use line21_screen::Memory;
 use text_output::Gathered;
 
@@ -48,7 +47,7 @@ pub(crate) fn write_grid<O: Sink>(chan: Chan, memory: &Memory, text: &mut Gather
 {
     text.write_all(
         &[
-            chan_name(chan),
+            chan.name().as_bytes(),
             b" ",
             Buffer::new().format(run_count(memory)).as_bytes(),
             b"\n",
@@ -94,9 +93,9 @@ fn write_run<O: Sink>(
             b" ",
             Buffer::new().format(col).as_bytes(),
             b" ",
-            colour_name(first.style.colour),
-            italic_mark(first.style.italic),
-            underline_mark(first.style.underline),
+            first.style.colour.word().as_bytes(),
+            italic_mark(first.style.italic).as_bytes(),
+            underline_mark(first.style.underline).as_bytes(),
             b" ",
         ],
         out,

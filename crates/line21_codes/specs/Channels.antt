@@ -1,7 +1,7 @@
 -- Believed in part: the program's answer stands on some of these definitions.
 -- The caption channels of line 21: CC1 and CC2 are data channels 1 and 2 of field 1, CC3 and CC4 those of field 2 (CTA-608-E;
 -- 47 CFR 79.101).
-use Rattle.std.specs.Prelude.{Bool, true, false}
+use Rattle.std.specs.Prelude.{ℕ, Bool, true, false, List, codes}
 use Rattle.line21_codes.specs.declared.channels.Chan.{Chan}
 use Rattle.line21_codes.specs.declared.channels.Chan.TheVariants.{Cc1, Cc2, Cc3, Cc4}
 use Rattle.line21_codes.specs.declared.channels.FieldNumber.{FieldNumber}
@@ -22,6 +22,13 @@ data_channel_of Cc1 = data_channels.One
 data_channel_of Cc2 = data_channels.Two
 data_channel_of Cc3 = data_channels.One
 data_channel_of Cc4 = data_channels.Two
+
+-- the channel's name
+abbrev pub channel_name : Chan → List ℕ
+channel_name Cc1 = codes "CC1"
+channel_name Cc2 = codes "CC2"
+channel_name Cc3 = codes "CC3"
+channel_name Cc4 = codes "CC4"
 
 -- field 2 where this says so, or else field 1
 abbrev pub numbered_field : Bool → FieldNumber

@@ -1,5 +1,5 @@
 ghost use Rattle.std.specs.Prelude.{◌≡◌};
-ghost use Rattle.line21_codes.specs.Channels.{field_of_channel, data_channel_of, numbered_field, numbered_channel};
+ghost use Rattle.line21_codes.specs.Channels.{channel_name, field_of_channel, data_channel_of, numbered_field, numbered_channel};
 
 /// A field of the picture: field 1 carries CC1 and CC2, and field 2 CC3 and CC4 (CTA-608-E; 47 CFR
 /// 79.101).
@@ -71,6 +71,18 @@ impl Chan {
         match self {
             Chan::Cc1 | Chan::Cc3 => DataChannel::One,
             Chan::Cc2 | Chan::Cc4 => DataChannel::Two,
+        }
+    }
+
+    /// The channel's name.
+    pub fn name(self) -> &'static str
+        ensures { result.now ≡ channel_name self }
+    {
+        match self {
+            Chan::Cc1 => "CC1",
+            Chan::Cc2 => "CC2",
+            Chan::Cc3 => "CC3",
+            Chan::Cc4 => "CC4",
         }
     }
 }

@@ -19,7 +19,7 @@ pub use codes::{Code, Control};
 pub use doubling::Doubler;
 pub use pairs::{BadParity, NULL_PAIR, Pair, parity};
 pub use reading::read_pair;
-pub use styles::{Cell, Colour, Style};
+pub use styles::{Cell, Colour, Style, italic_mark, underline_mark};
 pub use writing::write_code;
 
 #[cfg(test)]

@@ -1,40 +1,17 @@
 -- A frame with second lanes.
-use Rattle.std.proofs.Common.{◌≡◌, ℕ, suc, ◌+◌, Bool, true, false, Option, Some, None, option_map, refl, sym, ap, ◌∙◌, subst, arith}
-use Rattle.std.specs.Prelude.{if◌then◌else◌}
+use Rattle.std.proofs.Common.{◌≡◌, ℕ, ◌+◌, Option, sym, ap, ◌∙◌}
 use Rattle.cc_base.specs.declared.rate.Rate.{Rate}
 use Rattle.line21_codes.specs.declared.channels.Chan.TheVariants.{Cc1, Cc3}
 use Rattle.line21_codes.specs.declared.pairs.Pair.{Pair}
-use Rattle.line21_slots.specs.Cadences.{cadence_of, has_slot_in, slot_from}
+use Rattle.line21_slots.specs.Cadences.{cadence_of, slot_from}
 use Rattle.line21_slots.specs.declared.cadence.Cadence.{Cadence}
-use Rattle.line21_slots.proofs.CadenceLemmas.{slot_more, slot_no_more}
 use Rattle.frame_scheduler.specs.Columns.{Columns}
-use Rattle.field_lanes.specs.FieldPlan.{PlannedField, behind_frame, given_in, lane_pair, slot_pair}
+use Rattle.frame_scheduler.proofs.NextFrameLemmas.{behind_at, given_is}
+use Rattle.field_lanes.specs.FieldPlan.{PlannedField, behind_frame, given_in, lane_pair}
 use Rattle.frame_scheduler.specs.declared.frames.FrameBytes.{FrameBytes}
 use Rattle.shared_field.specs.Beside.{beside}
 use Rattle.shared_field.specs.SecondLanes.{LaysBoth}
 use Rattle.shared_field.specs.declared.second_lanes.SecondLanes.{SecondLanes}
-
--- a lane that is at the first slot that isn't before a frame gives the frame's pair
-given_is : (c : Cadence) (one : PlannedField) (f : ℕ) → one.slot ≡ slot_from c f → given_in c f one ≡ lane_pair c one f
-given_is c one f at =
-    subst (λ k. given_in c f one ≡ option_map (slot_pair one) (if has_slot_in c f then Some k else None)) at (by_test (has_slot_in c f))
-  where
-    by_test : (b : Bool) → (if b then Some (slot_pair one one.slot) else None) ≡ option_map (slot_pair one) (if b then Some one.slot else None)
-    by_test true = refl
-    by_test false = refl
-
-behind_at : (c : Cadence) (one : PlannedField) (f : ℕ) → one.slot ≡ slot_from c f → (behind_frame c f one).slot ≡ slot_from c (f + 1)
-behind_at c one f at = by_test (has_slot_in c f) refl
-  where
-    next : suc f ≡ f + 1
-    next = omega arith
-
-    by_test : (b : Bool) → has_slot_in c f ≡ b → (if has_slot_in c f then one.slot + 1 else one.slot) ≡ slot_from c (f + 1)
-    by_test true test =
-        let more : slot_from c (suc f) ≡ suc (slot_from c f) = slot_more c f test in
-        let one_more : one.slot + 1 ≡ suc (slot_from c f) = omega arith in
-        rw test (one_more ∙ sym more ∙ ap (slot_from c) next)
-    by_test false test = rw test (at ∙ sym (slot_no_more c f test) ∙ ap (slot_from c) next)
 
 -- one frame more: the parts of the object, before and behind
 pub next_both : (firsts columns : Columns) (frame : ℕ) (old new : SecondLanes) (bytes : FrameBytes) (one two : Option Pair) (c d : Cadence) → LaysBoth firsts columns frame old

@@ -7,5 +7,6 @@ returns-clause-bytes g c =
       c.format.ensures.text,
       c.as_bytes-2.ensures.value,
       c.name.ensures,
-      c.channel_name.ensures,
+      c.as_bytes-3.ensures.value,
+      c.name-2.ensures,
     ) at c.put_pieces.ensures.bytes

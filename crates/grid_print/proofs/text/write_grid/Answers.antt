@@ -35,6 +35,6 @@ returns g c start faults before has =
     ∙ nothing_behind (λ (rs : List (Run Cell)). flat_map run_line rs) (grid_in c.args.memory.now) c.rows-rows.result.end refl (omega arith) c.rows-rows.ensures.to c.rows-rows.ensures.below
     ∙ flat_map_twice run_line (runs_in (grid_in c.args.memory.now)) rows ∙ ap (flat_map run_line) (sym (runs_by_rows (grid_in c.args.memory.now))) in
     written_same start faults _ _ _
-    (grid_joined before c.chan_name.result.now c.as_bytes.result.now _ c.args.chan (grid_in c.args.memory.now) c.chan_name.ensures
-    (c.as_bytes.ensures.value ∙ c.format.ensures.text ∙ ap decimal c.run_count.ensures) lines)
+    (grid_joined before c.as_bytes.result.now c.as_bytes-2.result.now _ c.args.chan (grid_in c.args.memory.now) (c.as_bytes.ensures.value ∙ c.name.ensures)
+    (c.as_bytes-2.ensures.value ∙ c.format.ensures.text ∙ ap decimal c.run_count.ensures) lines)
     (c.loop-row.invariant start faults _ (c.write_all.ensures start faults before has))
