@@ -337,7 +337,7 @@ fn told(alloc: Global, came: &[(u32, u32)], sent: &[Sent]) -> Result<String, All
 fn lost_frames_are_told_and_what_came_before_is_forgotten(
     rt: HostRuntime,
 ) -> Result<(), AllocError> {
-    let cases: [Case; 28] = [
+    const CASES: &[Case] = &[
         (&[(0, 30)], POP, "7 /HI / .; 20 / / .; frames 30"),
         // in a load, behind its end, and with the next caption behind that
         (&[(0, 3), (4, 30)], POP, "lost 1 before 4; frames 29"),
@@ -483,7 +483,7 @@ fn lost_frames_are_told_and_what_came_before_is_forgotten(
             "0 / / [A_]; lost 1 before 2; 2 / / [B_]; frames 2",
         ),
     ];
-    for (came, sent, want) in cases {
+    for &(came, sent, want) in CASES {
         let text = told(rt.alloc(), came, sent)?;
         assert_eq!(rt; text.as_str(), want);
     }
@@ -492,7 +492,7 @@ fn lost_frames_are_told_and_what_came_before_is_forgotten(
 
 #[test]
 fn bad_parity_is_concealed_and_gaps_reset(rt: HostRuntime) -> Result<(), AllocError> {
-    let cases: [Case; 16] = [
+    const CASES: &[Case] = &[
         (&[(0, 30)], POP_BAD, "7 /H█ / .; 20 / / .; frames 30"),
         // in paint-on and roll-up captions, and in field 2
         (
@@ -586,7 +586,7 @@ fn bad_parity_is_concealed_and_gaps_reset(rt: HostRuntime) -> Result<(), AllocEr
             "0 / / [A_]; 1 / / .; frames 2",
         ),
     ];
-    for (came, sent, want) in cases {
+    for &(came, sent, want) in CASES {
         let text = told(rt.alloc(), came, sent)?;
         assert_eq!(rt; text.as_str(), want);
     }

@@ -92,38 +92,39 @@ fn more_than_a_million_frames_pass_the_limit(rt: HostRuntime) {
 
 #[test]
 fn csv_decides_what_a_field_is(rt: HostRuntime) {
-    for (text, row, col, chars) in [
+    const LISTS: &[(&str, u8, u8, &[char])] = &[
         (
             "\"ccsuite\",1,\"29.97\",300\npop,CC1,10,60,120\n\"run\",15,0,white,\"A \"\"B\"\", C\"\n",
             15,
             0,
-            ['A', ' ', '"', 'B', '"', ',', ' ', 'C'].as_slice(),
+            &['A', ' ', '"', 'B', '"', ',', ' ', 'C'],
         ),
         (
             "ccsuite,1,29.97,300\rpop,CC1,10,60,120\rrun,1,31,white,A",
             1,
             31,
-            ['A'].as_slice(),
+            &['A'],
         ),
         (
             "\r\nccsuite,1,29.97,300\r\n\r\npop,CC1,10,60,120\r\nrun,1,30,white, A\r\n\r\n",
             1,
             30,
-            [' ', 'A'].as_slice(),
+            &[' ', 'A'],
         ),
         (
             "\u{feff}ccsuite,1,29.97,300\npop,CC1,10,60,120\nrun,2,29,white,\u{e9}\u{2588}'\n",
             2,
             29,
-            ['\u{e9}', '\u{2588}', '\''].as_slice(),
+            &['\u{e9}', '\u{2588}', '\''],
         ),
         (
             "ccsuite,1,29.97,300\npop,CC1,10,60,120\nrun,15,4,white,\"HEL",
             15,
             4,
-            ['H', 'E', 'L'].as_slice(),
+            &['H', 'E', 'L'],
         ),
-    ] {
+    ];
+    for &(text, row, col, chars) in LISTS {
         shows(&rt, rt.alloc(), text.as_bytes(), row, col, chars);
     }
 }

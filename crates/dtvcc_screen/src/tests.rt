@@ -87,7 +87,7 @@ fn first_wrong(alloc: Global, cases: &[Case]) -> Result<Option<usize>, AllocErro
 
 #[test]
 fn windows_are_defined_and_changed(rt: HostRuntime) -> Result<(), AllocError> {
-    let cases: [Case; 10] = [
+    const CASES: &[Case] = &[
         (b"\x98\x20\0\0\x00\x03\x09AB", &[(0, true, &["AB.."])]),
         (
             b"\x98\x20\0\0\x00\x01\x09AB\x98\x20\0\0\x00\x01\x09C",
@@ -123,13 +123,13 @@ fn windows_are_defined_and_changed(rt: HostRuntime) -> Result<(), AllocError> {
             &[(0, true, &["AC."])],
         ),
     ];
-    assert_eq!(rt; first_wrong(rt.alloc(), &cases)?, None);
+    assert_eq!(rt; first_wrong(rt.alloc(), CASES)?, None);
     Ok(())
 }
 
 #[test]
 fn windows_are_chosen_cleared_shown_and_deleted(rt: HostRuntime) -> Result<(), AllocError> {
-    let cases: [Case; 14] = [
+    const CASES: &[Case] = &[
         (
             b"\x98\x20\0\0\x00\x03\x09A\x99\x20\0\0\x00\x03\x09B\x80C",
             &[(0, true, &["AC.."]), (1, true, &["B..."])],
@@ -181,13 +181,13 @@ fn windows_are_chosen_cleared_shown_and_deleted(rt: HostRuntime) -> Result<(), A
             &[(0, true, &["...."]), (1, true, &["...."])],
         ),
     ];
-    assert_eq!(rt; first_wrong(rt.alloc(), &cases)?, None);
+    assert_eq!(rt; first_wrong(rt.alloc(), CASES)?, None);
     Ok(())
 }
 
 #[test]
 fn without_a_current_window_text_is_dropped(rt: HostRuntime) -> Result<(), AllocError> {
-    let cases: [Case; 4] = [
+    const CASES: &[Case] = &[
         (b"AB", &[]),
         (
             b"\x08\x0c\x0d\x0e\x90\x05\x00\x91\0\0\0\x92\x01\x01\x97\0\0\0\0\x98\x20\0\0\x00\x03\x09A",
@@ -199,13 +199,13 @@ fn without_a_current_window_text_is_dropped(rt: HostRuntime) -> Result<(), Alloc
         ),
         (b"\x98\x20\0\0\x00\x03\x09A\x8c\x01B\x80C", &[]),
     ];
-    assert_eq!(rt; first_wrong(rt.alloc(), &cases)?, None);
+    assert_eq!(rt; first_wrong(rt.alloc(), CASES)?, None);
     Ok(())
 }
 
 #[test]
 fn text_stands_at_the_pen(rt: HostRuntime) -> Result<(), AllocError> {
-    let cases: [Case; 19] = [
+    const CASES: &[Case] = &[
         (b"\x98\x20\0\0\x00\x03\x09ABCDE", &[(0, true, &["ABCD"])]),
         (
             b"\x98\x20\0\0\x00\x03\x09AB\x92\x00\x00\x10\x20C",
@@ -271,13 +271,13 @@ fn text_stands_at_the_pen(rt: HostRuntime) -> Result<(), AllocError> {
             &[(0, true, &["C.", "D.", "E."])],
         ),
     ];
-    assert_eq!(rt; first_wrong(rt.alloc(), &cases)?, None);
+    assert_eq!(rt; first_wrong(rt.alloc(), CASES)?, None);
     Ok(())
 }
 
 #[test]
 fn delays_hold_and_end(rt: HostRuntime) -> Result<(), AllocError> {
-    let cases: [Case; 14] = [
+    const CASES: &[Case] = &[
         (
             b"\x98\x20\0\0\x00\x03\x09\x8d\x00A",
             &[(0, true, &["A..."])],
@@ -326,7 +326,7 @@ fn delays_hold_and_end(rt: HostRuntime) -> Result<(), AllocError> {
             &[(0, true, &["A..."])],
         ),
     ];
-    assert_eq!(rt; first_wrong(rt.alloc(), &cases)?, None);
+    assert_eq!(rt; first_wrong(rt.alloc(), CASES)?, None);
     Ok(())
 }
 

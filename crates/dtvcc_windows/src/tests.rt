@@ -117,7 +117,7 @@ fn first_wrong(alloc: Global, cases: &[Case]) -> Result<Option<usize>, AllocErro
 
 #[test]
 fn text_stands_at_the_pen(rt: HostRuntime) -> Result<(), AllocError> {
-    let cases: [Case; 4] = [
+    const CASES: &[Case] = &[
         (&[Size(2, 5), Text("AB")], &["AB...", "....."]),
         (&[Size(1, 4), Text(".A")], &[".A.."]),
         (
@@ -136,13 +136,13 @@ fn text_stands_at_the_pen(rt: HostRuntime) -> Result<(), AllocError> {
             &["C..", ".B."],
         ),
     ];
-    assert_eq!(rt; first_wrong(rt.alloc(), &cases)?, None);
+    assert_eq!(rt; first_wrong(rt.alloc(), CASES)?, None);
     Ok(())
 }
 
 #[test]
 fn text_behind_the_last_column_is_dropped(rt: HostRuntime) -> Result<(), AllocError> {
-    let cases: [Case; 5] = [
+    const CASES: &[Case] = &[
         (&[Size(1, 3), Text("ABCD")], &["ABC"]),
         (&[Size(2, 2), Text("ABCD")], &["AB", ".."]),
         (&[Size(1, 3), Text("ABC"), Text(".")], &["ABC"]),
@@ -152,13 +152,13 @@ fn text_behind_the_last_column_is_dropped(rt: HostRuntime) -> Result<(), AllocEr
             &["..............................................................YZ"],
         ),
     ];
-    assert_eq!(rt; first_wrong(rt.alloc(), &cases)?, None);
+    assert_eq!(rt; first_wrong(rt.alloc(), CASES)?, None);
     Ok(())
 }
 
 #[test]
 fn backspace_removes_the_cell_before_the_pen(rt: HostRuntime) -> Result<(), AllocError> {
-    let cases: [Case; 5] = [
+    const CASES: &[Case] = &[
         (&[Size(1, 3), Text("AB"), Back], &["A.."]),
         (&[Size(1, 3), Back, Text("A")], &["A.."]),
         (&[Size(1, 3), Text("ABC"), Back, Text("D")], &["ABD"]),
@@ -171,13 +171,13 @@ fn backspace_removes_the_cell_before_the_pen(rt: HostRuntime) -> Result<(), Allo
             &["AB.", "C.."],
         ),
     ];
-    assert_eq!(rt; first_wrong(rt.alloc(), &cases)?, None);
+    assert_eq!(rt; first_wrong(rt.alloc(), CASES)?, None);
     Ok(())
 }
 
 #[test]
 fn form_feed_clears_and_goes_to_the_beginning(rt: HostRuntime) -> Result<(), AllocError> {
-    let cases: [Case; 2] = [
+    const CASES: &[Case] = &[
         (
             &[Size(2, 3), Text("AB"), CarriageReturn, Text("C"), FormFeed],
             &["...", "..."],
@@ -194,13 +194,13 @@ fn form_feed_clears_and_goes_to_the_beginning(rt: HostRuntime) -> Result<(), All
             &["D..", "..."],
         ),
     ];
-    assert_eq!(rt; first_wrong(rt.alloc(), &cases)?, None);
+    assert_eq!(rt; first_wrong(rt.alloc(), CASES)?, None);
     Ok(())
 }
 
 #[test]
 fn clear_leaves_the_pen(rt: HostRuntime) -> Result<(), AllocError> {
-    let cases: [Case; 2] = [
+    const CASES: &[Case] = &[
         (&[Size(2, 3), Text("AB"), Clear, Text("C")], &["..C", "..."]),
         (
             &[
@@ -214,13 +214,13 @@ fn clear_leaves_the_pen(rt: HostRuntime) -> Result<(), AllocError> {
             &["...", ".C."],
         ),
     ];
-    assert_eq!(rt; first_wrong(rt.alloc(), &cases)?, None);
+    assert_eq!(rt; first_wrong(rt.alloc(), CASES)?, None);
     Ok(())
 }
 
 #[test]
 fn row_return_clears_the_row(rt: HostRuntime) -> Result<(), AllocError> {
-    let cases: [Case; 3] = [
+    const CASES: &[Case] = &[
         (
             &[
                 Size(2, 3),
@@ -245,13 +245,13 @@ fn row_return_clears_the_row(rt: HostRuntime) -> Result<(), AllocError> {
             &["...", "D.."],
         ),
     ];
-    assert_eq!(rt; first_wrong(rt.alloc(), &cases)?, None);
+    assert_eq!(rt; first_wrong(rt.alloc(), CASES)?, None);
     Ok(())
 }
 
 #[test]
 fn carriage_return_goes_to_the_next_row_or_rolls(rt: HostRuntime) -> Result<(), AllocError> {
-    let cases: [Case; 7] = [
+    const CASES: &[Case] = &[
         (
             &[
                 Size(3, 3),
@@ -318,25 +318,25 @@ fn carriage_return_goes_to_the_next_row_or_rolls(rt: HostRuntime) -> Result<(), 
             &["...", "..."],
         ),
     ];
-    assert_eq!(rt; first_wrong(rt.alloc(), &cases)?, None);
+    assert_eq!(rt; first_wrong(rt.alloc(), CASES)?, None);
     Ok(())
 }
 
 #[test]
 fn locate_stays_in_the_window(rt: HostRuntime) -> Result<(), AllocError> {
-    let cases: [Case; 4] = [
+    const CASES: &[Case] = &[
         (&[Size(2, 3), Locate(1, 1), Text("A")], &["...", ".A."]),
         (&[Size(2, 3), Locate(15, 63), Text("AB")], &["...", "..A"]),
         (&[Size(2, 3), Locate(2, 0), Text("A")], &["...", "A.."]),
         (&[Size(2, 3), Locate(0, 3), Text("A")], &["..A", "..."]),
     ];
-    assert_eq!(rt; first_wrong(rt.alloc(), &cases)?, None);
+    assert_eq!(rt; first_wrong(rt.alloc(), CASES)?, None);
     Ok(())
 }
 
 #[test]
 fn redefinition_keeps_what_lies_in_both_sizes(rt: HostRuntime) -> Result<(), AllocError> {
-    let cases: [Case; 8] = [
+    const CASES: &[Case] = &[
         (&[Size(1, 3), Text("AB"), Size(1, 3)], &["AB."]),
         (
             &[
@@ -401,13 +401,13 @@ fn redefinition_keeps_what_lies_in_both_sizes(rt: HostRuntime) -> Result<(), All
         ),
         (&[Size(1, 4), Text("ABCD"), Size(2, 2)], &["AB", ".."]),
     ];
-    assert_eq!(rt; first_wrong(rt.alloc(), &cases)?, None);
+    assert_eq!(rt; first_wrong(rt.alloc(), CASES)?, None);
     Ok(())
 }
 
 #[test]
 fn redefinition_brings_the_pen_into_the_size(rt: HostRuntime) -> Result<(), AllocError> {
-    let cases: [Case; 5] = [
+    const CASES: &[Case] = &[
         (&[Size(1, 2), Text("AB"), Size(1, 2), Text("C")], &["AC"]),
         (
             &[Size(1, 5), Text("ABCDE"), Size(1, 3), Text("X")],
@@ -439,7 +439,7 @@ fn redefinition_brings_the_pen_into_the_size(rt: HostRuntime) -> Result<(), Allo
             &["ABC", "D..", "..."],
         ),
     ];
-    assert_eq!(rt; first_wrong(rt.alloc(), &cases)?, None);
+    assert_eq!(rt; first_wrong(rt.alloc(), CASES)?, None);
     Ok(())
 }
 

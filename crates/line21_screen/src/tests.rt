@@ -107,8 +107,7 @@ fn first_wrong(
 
 #[test]
 fn roll_up_of_2_keeps_two_rows(rt: HostRuntime) -> Result<(), AllocError> {
-    let alloc = rt.alloc();
-    let cases: [Case; 2] = [
+    const CASES: &[Case] = &[
         (
             &[
                 0x9425, 0x9425, 0x94AD, 0x94AD, 0x9470, 0x9470, 0xC180, 0x94AD, 0x94AD, 0xC280,
@@ -121,14 +120,14 @@ fn roll_up_of_2_keeps_two_rows(rt: HostRuntime) -> Result<(), AllocError> {
             &[(14, 0, WHITE, "B"), (15, 0, WHITE, "C")],
         ),
     ];
-    assert_eq!(rt; first_wrong(alloc, false, false, &cases)?, None);
+    let alloc = rt.alloc();
+    assert_eq!(rt; first_wrong(alloc, false, false, CASES)?, None);
     Ok(())
 }
 
 #[test]
 fn third_end_of_caption_acts(rt: HostRuntime) -> Result<(), AllocError> {
-    let alloc = rt.alloc();
-    let cases: [Case; 2] = [
+    const CASES: &[Case] = &[
         (
             &[
                 0x9420, 0x9420, 0x94AE, 0x94AE, 0x9470, 0x9470, 0xC849, 0x942F, 0x942F, 0x942F,
@@ -142,14 +141,14 @@ fn third_end_of_caption_acts(rt: HostRuntime) -> Result<(), AllocError> {
             &[(15, 0, WHITE, "HI")],
         ),
     ];
-    assert_eq!(rt; first_wrong(alloc, false, false, &cases)?, None);
+    let alloc = rt.alloc();
+    assert_eq!(rt; first_wrong(alloc, false, false, CASES)?, None);
     Ok(())
 }
 
 #[test]
 fn extended_character_takes_back_its_fallback(rt: HostRuntime) -> Result<(), AllocError> {
-    let alloc = rt.alloc();
-    let cases: [Case; 6] = [
+    const CASES: &[Case] = &[
         (
             &[
                 0x9420, 0x9420, 0x94AE, 0x94AE, 0x9470, 0x9470, 0xC180, 0x9220, 0x9220, 0x942F,
@@ -175,19 +174,20 @@ fn extended_character_takes_back_its_fallback(rt: HostRuntime) -> Result<(), All
             &[(15, 28, WHITE, "ABCE")],
         ),
     ];
-    assert_eq!(rt; first_wrong(alloc, false, false, &cases)?, None);
+    let alloc = rt.alloc();
+    assert_eq!(rt; first_wrong(alloc, false, false, CASES)?, None);
     Ok(())
 }
 
 #[test]
 fn bad_parity_counts_as_null(rt: HostRuntime) -> Result<(), AllocError> {
-    let alloc = rt.alloc();
-    let cases: [Case; 3] = [
+    const CASES: &[Case] = &[
         (&[0x9429, 0x4180], &[]),
         (&[0x9429, 0xC180, 0xC142], &[(15, 0, WHITE, "A")]),
         (&[0x9429, 0xC1C2, 0x94A1, 0x4141, 0x94A1], &[]),
     ];
-    assert_eq!(rt; first_wrong(alloc, false, false, &cases)?, None);
+    let alloc = rt.alloc();
+    assert_eq!(rt; first_wrong(alloc, false, false, CASES)?, None);
     let in_field_2: [Case; 1] = [(&[0x9429, 0x81C1, 0xC1C2], &[(15, 0, WHITE, "AB")])];
     assert_eq!(rt; first_wrong(alloc, true, false, &in_field_2)?, None);
     Ok(())
@@ -195,8 +195,7 @@ fn bad_parity_counts_as_null(rt: HostRuntime) -> Result<(), AllocError> {
 
 #[test]
 fn repeat_of_a_control_pair_is_ignored(rt: HostRuntime) -> Result<(), AllocError> {
-    let alloc = rt.alloc();
-    let cases: [Case; 6] = [
+    const CASES: &[Case] = &[
         (&[0x9429, 0xC1C2, 0x94A1, 0x94A1], &[(15, 0, WHITE, "A")]),
         (&[0x9429, 0xC1C2, 0x94A1, 0x8080, 0x94A1], &[]),
         (
@@ -210,14 +209,14 @@ fn repeat_of_a_control_pair_is_ignored(rt: HostRuntime) -> Result<(), AllocError
             &[(15, 0, WHITE, "♪♪")],
         ),
     ];
-    assert_eq!(rt; first_wrong(alloc, false, false, &cases)?, None);
+    let alloc = rt.alloc();
+    assert_eq!(rt; first_wrong(alloc, false, false, CASES)?, None);
     Ok(())
 }
 
 #[test]
 fn control_pair_selects_its_data_channel(rt: HostRuntime) -> Result<(), AllocError> {
-    let alloc = rt.alloc();
-    let cases: [Case; 7] = [
+    const CASES: &[Case] = &[
         (&[0x9429, 0x1C29, 0xC180], &[]),
         (&[0x9429, 0x1CA2, 0xC180], &[]),
         (&[0x9429, 0x1CA2, 0x9429, 0xC180], &[(15, 0, WHITE, "A")]),
@@ -226,20 +225,20 @@ fn control_pair_selects_its_data_channel(rt: HostRuntime) -> Result<(), AllocErr
         (&[0x9429, 0xC180, 0x1C2C], &[(15, 0, WHITE, "A")]),
         (&[0x1C20, 0x194A, 0xC180, 0x1C2F], &[]),
     ];
-    assert_eq!(rt; first_wrong(alloc, false, false, &cases)?, None);
-    let in_channel_2: [Case; 3] = [
+    const IN_CHANNEL_2: &[Case] = &[
         (&[0x9429, 0x1C29, 0xC180], &[(15, 0, WHITE, "A")]),
         (&[0x1C20, 0x194A, 0xC180, 0x1C2F], &[(1, 0, YELLOW, "A")]),
         (&[0x1C29, 0xC180, 0x9429, 0xC280], &[(15, 0, WHITE, "A")]),
     ];
-    assert_eq!(rt; first_wrong(alloc, false, true, &in_channel_2)?, None);
+    let alloc = rt.alloc();
+    assert_eq!(rt; first_wrong(alloc, false, false, CASES)?, None);
+    assert_eq!(rt; first_wrong(alloc, false, true, IN_CHANNEL_2)?, None);
     Ok(())
 }
 
 #[test]
 fn extended_data_print_nothing(rt: HostRuntime) -> Result<(), AllocError> {
-    let alloc = rt.alloc();
-    let in_field_2: [Case; 6] = [
+    const IN_FIELD_2: &[Case] = &[
         (&[0x9429, 0x0183, 0xC1C2], &[]),
         (
             &[0x9429, 0x0183, 0xC1C2, 0x8F9D, 0x4380],
@@ -256,32 +255,32 @@ fn extended_data_print_nothing(rt: HostRuntime) -> Result<(), AllocError> {
         (&[0x9429, 0x0183, 0x9410, 0xC1C2], &[]),
         (&[0x9429, 0x0E83, 0xC1C2], &[]),
     ];
-    assert_eq!(rt; first_wrong(alloc, true, false, &in_field_2)?, None);
-    let cases: [Case; 2] = [
+    const CASES: &[Case] = &[
         (&[0x9429, 0x0183, 0xC1C2], &[(15, 0, WHITE, "AB")]),
         (&[0x9429, 0x8F83, 0xC1C2], &[(15, 0, WHITE, "AB")]),
     ];
-    assert_eq!(rt; first_wrong(alloc, false, false, &cases)?, None);
+    let alloc = rt.alloc();
+    assert_eq!(rt; first_wrong(alloc, true, false, IN_FIELD_2)?, None);
+    assert_eq!(rt; first_wrong(alloc, false, false, CASES)?, None);
     Ok(())
 }
 
 #[test]
 fn bytes_of_a_text_pair_are_characters(rt: HostRuntime) -> Result<(), AllocError> {
-    let alloc = rt.alloc();
-    let cases: [Case; 4] = [
+    const CASES: &[Case] = &[
         (&[0x9429, 0x80C2], &[(15, 0, WHITE, "B")]),
         (&[0x9429, 0xC185], &[(15, 0, WHITE, "A")]),
         (&[0x9429, 0x2A7F], &[(15, 0, WHITE, "á█")]),
         (&[0x9429, 0x9137], &[(15, 0, WHITE, "♪")]),
     ];
-    assert_eq!(rt; first_wrong(alloc, false, false, &cases)?, None);
+    let alloc = rt.alloc();
+    assert_eq!(rt; first_wrong(alloc, false, false, CASES)?, None);
     Ok(())
 }
 
 #[test]
 fn roll_up_code_changes_the_window(rt: HostRuntime) -> Result<(), AllocError> {
-    let alloc = rt.alloc();
-    let cases: [Case; 9] = [
+    const CASES: &[Case] = &[
         (&[0x9429, 0xC180, 0x9425], &[]),
         (&[0x9420, 0xC180, 0x9425, 0x942F], &[]),
         (&[0x9425, 0xC180, 0x9420, 0x9425], &[]),
@@ -316,14 +315,14 @@ fn roll_up_code_changes_the_window(rt: HostRuntime) -> Result<(), AllocError> {
             &[(15, 0, WHITE, "A"), (15, 1, RED, " B")],
         ),
     ];
-    assert_eq!(rt; first_wrong(alloc, false, false, &cases)?, None);
+    let alloc = rt.alloc();
+    assert_eq!(rt; first_wrong(alloc, false, false, CASES)?, None);
     Ok(())
 }
 
 #[test]
 fn text_mode_drops_captions(rt: HostRuntime) -> Result<(), AllocError> {
-    let alloc = rt.alloc();
-    let cases: [Case; 12] = [
+    const CASES: &[Case] = &[
         (&[0x9429, 0xC180, 0x942A, 0xC280], &[(15, 0, WHITE, "A")]),
         (&[0x9429, 0xC180, 0x94AB, 0xC280], &[(15, 0, WHITE, "A")]),
         (&[0x9429, 0xC1C2, 0x942A, 0x94A1], &[(15, 0, WHITE, "AB")]),
@@ -355,14 +354,14 @@ fn text_mode_drops_captions(rt: HostRuntime) -> Result<(), AllocError> {
         ),
         (&[0x9429, 0xC180, 0x942A, 0x1CA2, 0x942C, 0xC280], &[]),
     ];
-    assert_eq!(rt; first_wrong(alloc, false, false, &cases)?, None);
+    let alloc = rt.alloc();
+    assert_eq!(rt; first_wrong(alloc, false, false, CASES)?, None);
     Ok(())
 }
 
 #[test]
 fn memories_swap_and_are_erased(rt: HostRuntime) -> Result<(), AllocError> {
-    let alloc = rt.alloc();
-    let cases: [Case; 10] = [
+    const CASES: &[Case] = &[
         (&[0x9420, 0xC180], &[]),
         (&[0x9420, 0xC180, 0x942F], &[(15, 0, WHITE, "A")]),
         (&[0x9420, 0xC180, 0x942F, 0x8080, 0x942F], &[]),
@@ -380,14 +379,14 @@ fn memories_swap_and_are_erased(rt: HostRuntime) -> Result<(), AllocError> {
         (&[0x9429, 0xC180, 0x94AE], &[(15, 0, WHITE, "A")]),
         (&[0x9429, 0xC180, 0x942C, 0xC280], &[(15, 1, WHITE, "B")]),
     ];
-    assert_eq!(rt; first_wrong(alloc, false, false, &cases)?, None);
+    let alloc = rt.alloc();
+    assert_eq!(rt; first_wrong(alloc, false, false, CASES)?, None);
     Ok(())
 }
 
 #[test]
 fn without_a_mode_captions_are_dropped(rt: HostRuntime) -> Result<(), AllocError> {
-    let alloc = rt.alloc();
-    let cases: [Case; 6] = [
+    const CASES: &[Case] = &[
         (&[0xC180, 0x9429], &[]),
         (&[0x91D0, 0x9429, 0xC180], &[(15, 0, WHITE, "A")]),
         (&[0x91A8, 0x9429, 0xC180], &[(15, 0, WHITE, "A")]),
@@ -398,14 +397,14 @@ fn without_a_mode_captions_are_dropped(rt: HostRuntime) -> Result<(), AllocError
         ),
         (&[0x942F, 0xC180, 0x8080, 0x942F], &[(15, 0, WHITE, "A")]),
     ];
-    assert_eq!(rt; first_wrong(alloc, false, false, &cases)?, None);
+    let alloc = rt.alloc();
+    assert_eq!(rt; first_wrong(alloc, false, false, CASES)?, None);
     Ok(())
 }
 
 #[test]
 fn behind_the_last_column_the_last_cell_is_replaced(rt: HostRuntime) -> Result<(), AllocError> {
-    let alloc = rt.alloc();
-    let cases: [Case; 5] = [
+    const CASES: &[Case] = &[
         (
             &[0x9429, 0x94FE, 0xC1C2, 0x43C4],
             &[(15, 28, WHITE, "ABCD")],
@@ -427,14 +426,14 @@ fn behind_the_last_column_the_last_cell_is_replaced(rt: HostRuntime) -> Result<(
             &[(15, 28, WHITE, "ABC")],
         ),
     ];
-    assert_eq!(rt; first_wrong(alloc, false, false, &cases)?, None);
+    let alloc = rt.alloc();
+    assert_eq!(rt; first_wrong(alloc, false, false, CASES)?, None);
     Ok(())
 }
 
 #[test]
 fn transparent_space_removes_the_cell(rt: HostRuntime) -> Result<(), AllocError> {
-    let alloc = rt.alloc();
-    let cases: [Case; 3] = [
+    const CASES: &[Case] = &[
         (&[0x9429, 0xC1C2, 0x9470, 0x91B9], &[(15, 1, WHITE, "B")]),
         (
             &[0x9429, 0xC1C2, 0x9470, 0x91B9, 0x4380],
@@ -442,14 +441,14 @@ fn transparent_space_removes_the_cell(rt: HostRuntime) -> Result<(), AllocError>
         ),
         (&[0x9429, 0x91B9, 0xC180], &[(15, 1, WHITE, "A")]),
     ];
-    assert_eq!(rt; first_wrong(alloc, false, false, &cases)?, None);
+    let alloc = rt.alloc();
+    assert_eq!(rt; first_wrong(alloc, false, false, CASES)?, None);
     Ok(())
 }
 
 #[test]
 fn backspace_and_delete_to_end_of_row(rt: HostRuntime) -> Result<(), AllocError> {
-    let alloc = rt.alloc();
-    let cases: [Case; 8] = [
+    const CASES: &[Case] = &[
         (&[0x9429, 0x94A1, 0xC180], &[(15, 0, WHITE, "A")]),
         (&[0x9429, 0xC180, 0x94A1, 0xC280], &[(15, 0, WHITE, "B")]),
         (
@@ -477,14 +476,14 @@ fn backspace_and_delete_to_end_of_row(rt: HostRuntime) -> Result<(), AllocError>
             &[(15, 0, WHITE, "A")],
         ),
     ];
-    assert_eq!(rt; first_wrong(alloc, false, false, &cases)?, None);
+    let alloc = rt.alloc();
+    assert_eq!(rt; first_wrong(alloc, false, false, CASES)?, None);
     Ok(())
 }
 
 #[test]
 fn mid_row_codes_write_a_space(rt: HostRuntime) -> Result<(), AllocError> {
-    let alloc = rt.alloc();
-    let cases: [Case; 4] = [
+    const CASES: &[Case] = &[
         (
             &[0x9429, 0xC180, 0x91A8, 0xC280],
             &[(15, 0, WHITE, "A"), (15, 1, RED, " B")],
@@ -499,14 +498,14 @@ fn mid_row_codes_write_a_space(rt: HostRuntime) -> Result<(), AllocError> {
         ),
         (&[0x9429, 0x91A8, 0x94A8, 0xC180], &[(15, 0, RED, "  A")]),
     ];
-    assert_eq!(rt; first_wrong(alloc, false, false, &cases)?, None);
+    let alloc = rt.alloc();
+    assert_eq!(rt; first_wrong(alloc, false, false, CASES)?, None);
     Ok(())
 }
 
 #[test]
 fn tab_offsets_stay_in_the_row(rt: HostRuntime) -> Result<(), AllocError> {
-    let alloc = rt.alloc();
-    let cases: [Case; 4] = [
+    const CASES: &[Case] = &[
         (&[0x9429, 0x97A2, 0xC180], &[(15, 2, WHITE, "A")]),
         (&[0x9429, 0x94FE, 0x9723, 0xC180], &[(15, 31, WHITE, "A")]),
         (
@@ -518,14 +517,14 @@ fn tab_offsets_stay_in_the_row(rt: HostRuntime) -> Result<(), AllocError> {
             &[(15, 28, WHITE, "ABCE")],
         ),
     ];
-    assert_eq!(rt; first_wrong(alloc, false, false, &cases)?, None);
+    let alloc = rt.alloc();
+    assert_eq!(rt; first_wrong(alloc, false, false, CASES)?, None);
     Ok(())
 }
 
 #[test]
 fn preambles_set_the_pen(rt: HostRuntime) -> Result<(), AllocError> {
-    let alloc = rt.alloc();
-    let cases: [Case; 11] = [
+    const CASES: &[Case] = &[
         (&[0x9429, 0x914A, 0xC180], &[(1, 0, YELLOW, "A")]),
         (
             &[0x9429, 0x944F, 0xC180],
@@ -562,14 +561,14 @@ fn preambles_set_the_pen(rt: HostRuntime) -> Result<(), AllocError> {
             &[(15, 0, WHITE, "A"), (15, 16, WHITE, "B")],
         ),
     ];
-    assert_eq!(rt; first_wrong(alloc, false, false, &cases)?, None);
+    let alloc = rt.alloc();
+    assert_eq!(rt; first_wrong(alloc, false, false, CASES)?, None);
     Ok(())
 }
 
 #[test]
 fn carriage_return_rolls_up(rt: HostRuntime) -> Result<(), AllocError> {
-    let alloc = rt.alloc();
-    let cases: [Case; 7] = [
+    const CASES: &[Case] = &[
         (&[0x9429, 0xC180, 0x94AD, 0xC280], &[(15, 0, WHITE, "AB")]),
         (
             &[0x9420, 0xC180, 0x94AD, 0xC280, 0x942F],
@@ -600,7 +599,8 @@ fn carriage_return_rolls_up(rt: HostRuntime) -> Result<(), AllocError> {
             &[(4, 0, WHITE, "A"), (5, 0, WHITE, "B")],
         ),
     ];
-    assert_eq!(rt; first_wrong(alloc, false, false, &cases)?, None);
+    let alloc = rt.alloc();
+    assert_eq!(rt; first_wrong(alloc, false, false, CASES)?, None);
     Ok(())
 }
 

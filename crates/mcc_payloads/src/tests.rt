@@ -32,6 +32,15 @@ fn offence(text: &[u8]) -> Option<(usize, Why)> {
 
 #[test]
 fn letters_stand_for_bytes(rt: HostRuntime) {
+    const OTHERS: &[(u8, &[u8])] = &[
+        (b'P', &[0xFB, 0x80, 0x80]),
+        (b'Q', &[0xFC, 0x80, 0x80]),
+        (b'R', &[0xFD, 0x80, 0x80]),
+        (b'S', &[0x96, 0x69]),
+        (b'T', &[0x61, 0x01]),
+        (b'U', &[0xE1, 0x00, 0x00, 0x00]),
+        (b'Z', &[0x00]),
+    ];
     for (letter, size) in [
         (b'G', 3),
         (b'H', 6),
@@ -52,16 +61,7 @@ fn letters_stand_for_bytes(rt: HostRuntime) {
             assert_eq!(rt; *byte, expected);
         }
     }
-    let others: [(u8, &[u8]); 7] = [
-        (b'P', &[0xFB, 0x80, 0x80]),
-        (b'Q', &[0xFC, 0x80, 0x80]),
-        (b'R', &[0xFD, 0x80, 0x80]),
-        (b'S', &[0x96, 0x69]),
-        (b'T', &[0x61, 0x01]),
-        (b'U', &[0xE1, 0x00, 0x00, 0x00]),
-        (b'Z', &[0x00]),
-    ];
-    for (letter, bytes) in others {
+    for &(letter, bytes) in OTHERS {
         assert_eq!(rt; letter_bytes(letter), Some(bytes));
     }
     for other in b"AF0VWXYgoz /\n" {
@@ -71,7 +71,7 @@ fn letters_stand_for_bytes(rt: HostRuntime) {
 
 #[test]
 fn payloads_are_taken(rt: HostRuntime) {
-    let texts: [&[u8]; 14] = [
+    const TEXTS: &[&[u8]] = &[
         FRAME,
         b"6101499669494F43000072F4FC8080FD8080OO740000BFAB",
         b"T49S494f43zz72F4QROO74ZZBFAB",
@@ -87,7 +87,7 @@ fn payloads_are_taken(rt: HostRuntime) {
         b"GFA",
         b"T0062",
     ];
-    for (row, text) in texts.iter().enumerate() {
+    for (row, text) in TEXTS.iter().enumerate() {
         let expected = if row == 2 {
             // a lower-case letter is none
             Some((10, Why::MccSyntax))
@@ -106,7 +106,7 @@ fn payloads_are_taken(rt: HostRuntime) {
 // No item begins or goes on with the byte, the text ends too soon, or a byte is one too many.
 #[test]
 fn other_texts_offend_in_form(rt: HostRuntime) {
-    let rows: [(&[u8], usize); 31] = [
+    const TEXTS: &[(&[u8], usize)] = &[
         (b"", 0),
         (b"8", 1),
         (b"80", 2),
@@ -139,7 +139,7 @@ fn other_texts_offend_in_form(rt: HostRuntime) {
         (b"\r", 0),
         (b"\xFF", 0),
     ];
-    for (text, place) in rows {
+    for &(text, place) in TEXTS {
         assert_eq!(rt; offence(text), Some((place, Why::MccSyntax)), "at {place}");
     }
 }
@@ -147,7 +147,7 @@ fn other_texts_offend_in_form(rt: HostRuntime) {
 // An item brings another checksum byte, also where it brings a byte too many behind it.
 #[test]
 fn wrong_checksum_bytes_offend(rt: HostRuntime) {
-    let rows: [(&[u8], usize); 14] = [
+    const TEXTS: &[(&[u8], usize)] = &[
         (b"80010177F8", 8),
         (b"80010178F9", 8),
         (b"80010177G", 8),
@@ -163,14 +163,14 @@ fn wrong_checksum_bytes_offend(rt: HostRuntime) {
         (b"GZ", 1),
         (b"U", 0),
     ];
-    for (text, place) in rows {
+    for &(text, place) in TEXTS {
         assert_eq!(rt; offence(text), Some((place, Why::AncSum)), "at {place}");
     }
 }
 
 #[test]
 fn longest_letters_are_written(rt: HostRuntime) {
-    let rows: [(&[u8], &[u8]); 21] = [
+    const PACKETS: &[(&[u8], &[u8])] = &[
         (&FRAME_BYTES, FRAME),
         (&[], b""),
         (&[0x80, 0x01, 0x01, 0x77, 0xF9], b"80010177F9"),
@@ -193,7 +193,7 @@ fn longest_letters_are_written(rt: HostRuntime) {
         (&[0xE1, 0, 0, 0], b"E1ZZZ"),
         (&[0x0A], b"0A"),
     ];
-    for (row, (bytes, text)) in rows.iter().enumerate() {
+    for (row, (bytes, text)) in PACKETS.iter().enumerate() {
         let mut out: ArrayVec<u8, 518> = ArrayVec::new();
         write_bytes(bytes, &mut out);
         assert_eq!(rt; out.as_slice(), *text, "row {row}");
@@ -203,11 +203,11 @@ fn longest_letters_are_written(rt: HostRuntime) {
 // Nine triplets that don't count are one letter, and ten are two.
 #[test]
 fn fillers_are_written_by_nines(rt: HostRuntime) {
-    let texts: [&[u8]; 12] = [
+    const TEXTS: &[&[u8]] = &[
         b"", b"G", b"H", b"I", b"J", b"K", b"L", b"M", b"N", b"O", b"OG", b"OH",
     ];
     let mut bytes: ArrayVec<u8, 259> = ArrayVec::new();
-    for text in texts {
+    for &text in TEXTS {
         let mut out: ArrayVec<u8, 518> = ArrayVec::new();
         write_bytes(bytes.as_slice(), &mut out);
         assert_eq!(rt; out.as_slice(), text);

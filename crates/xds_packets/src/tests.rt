@@ -42,8 +42,7 @@ fn gives(pairs: &[[u16; 2]], packets: &[Awaited]) -> bool {
 
 #[test]
 fn packets_end(rt: HostRuntime) {
-    let none: &[Awaited] = &[];
-    let rows: [(&str, &[[u16; 2]], &[Awaited]); 14] = [
+    const CASES: &[(&str, &[[u16; 2]], &[Awaited])] = &[
         (
             "a text of four bytes",
             &[[0x01, 0x03], [0x4E, 0x45], [0x57, 0x53], [0x0F, 0x30]],
@@ -90,7 +89,7 @@ fn packets_end(rt: HostRuntime) {
                 [0x02, 0x01],
                 [0x0F, 0x2E],
             ],
-            none,
+            &[],
         ),
         (
             "a packet that doesn't end twice",
@@ -106,7 +105,7 @@ fn packets_end(rt: HostRuntime) {
         (
             "an end pair behind nothing, and behind a packet that didn't start",
             &[[0x0F, 0x6F], [0x02, 0x01], [0x41, 0], [0x0F, 0x2E]],
-            none,
+            &[],
         ),
         (
             "two packets one behind the other",
@@ -146,14 +145,14 @@ fn packets_end(rt: HostRuntime) {
             &[(6, 1, 1, b"AC")],
         ),
     ];
-    for (name, pairs, packets) in rows {
+    for &(name, pairs, packets) in CASES {
         assert!(rt; gives(pairs, packets), "{name}");
     }
 }
 
 #[test]
 fn packets_are_under_way_at_once(rt: HostRuntime) {
-    let rows: [(&str, &[[u16; 2]], &[Awaited]); 3] = [
+    const CASES: &[(&str, &[[u16; 2]], &[Awaited])] = &[
         (
             "of two classes",
             &[
@@ -196,19 +195,18 @@ fn packets_are_under_way_at_once(rt: HostRuntime) {
             &[(4, 1, 1, b"B")],
         ),
     ];
-    for (name, pairs, packets) in rows {
+    for &(name, pairs, packets) in CASES {
         assert!(rt; gives(pairs, packets), "{name}");
     }
 }
 
 #[test]
 fn segments_are_ended_by_control_codes(rt: HostRuntime) {
-    let none: &[Awaited] = &[];
-    let rows: [(&str, &[[u16; 2]], &[Awaited]); 6] = [
+    const CASES: &[(&str, &[[u16; 2]], &[Awaited])] = &[
         (
             "by EDM of field 2: the end pair closes nothing",
             &[[0x01, 0x01], [0x41, 0], [0x15, 0x2C], [0x0F, 0x2E]],
-            none,
+            &[],
         ),
         (
             "by EDM of field 2: text behind it is a caption's",
@@ -273,24 +271,23 @@ fn segments_are_ended_by_control_codes(rt: HostRuntime) {
             &[(5, 1, 1, b"AB")],
         ),
     ];
-    for (name, pairs, packets) in rows {
+    for &(name, pairs, packets) in CASES {
         assert!(rt; gives(pairs, packets), "{name}");
     }
 }
 
 #[test]
 fn bad_parity_counts_as_null(rt: HostRuntime) {
-    let none: &[Awaited] = &[];
-    let rows: [(&str, &[[u16; 2]], &[Awaited]); 7] = [
+    const CASES: &[(&str, &[[u16; 2]], &[Awaited])] = &[
         (
             "of a start pair's first byte",
             &[[BAD | 0x01, 0x01], [0x41, 0], [0x0F, 0x2E]],
-            none,
+            &[],
         ),
         (
             "of a start pair's second byte",
             &[[0x01, BAD | 0x01], [0x41, 0], [0x0F, 0x2E]],
-            none,
+            &[],
         ),
         (
             "of a text pair's first byte",
@@ -318,7 +315,7 @@ fn bad_parity_counts_as_null(rt: HostRuntime) {
             &[(3, 1, 1, b"A")],
         ),
     ];
-    for (name, pairs, packets) in rows {
+    for &(name, pairs, packets) in CASES {
         assert!(rt; gives(pairs, packets), "{name}");
     }
 }

@@ -48,7 +48,7 @@ fn refused_behind(
 
 #[test]
 fn a_list_begins_with_a_head_in_its_form(rt: HostRuntime) -> Result<(), Fail> {
-    let cases = [
+    const CASES: &[(&str, u32, u32)] = &[
         ("", 1, 1),
         ("\n\n", 1, 1),
         ("\r\n", 1, 1),
@@ -94,12 +94,12 @@ fn a_list_begins_with_a_head_in_its_form(rt: HostRuntime) -> Result<(), Fail> {
         ("ccsuite,1,30,12345678901\n", 1, 4),
         ("ccsuite,1,30,01000001\n", 1, 4),
     ];
-    refused_behind(&rt, rt.alloc(), "", Why::Field, cases.as_slice())
+    refused_behind(&rt, rt.alloc(), "", Why::Field, CASES)
 }
 
 #[test]
 fn each_field_of_a_cue_has_its_form(rt: HostRuntime) -> Result<(), Fail> {
-    let cases = [
+    const CASES: &[(&str, u32, u32)] = &[
         ("pop\n", 2, 2),
         ("pop,CC1\n", 2, 3),
         ("pop,CC9,10,60\n", 2, 5),
@@ -146,12 +146,12 @@ fn each_field_of_a_cue_has_its_form(rt: HostRuntime) -> Result<(), Fail> {
         ("paint,CC3,0,y,z\n", 2, 4),
         ("paint,CC1,10,60,\n", 2, 5),
     ];
-    refused_behind(&rt, rt.alloc(), HEAD, Why::Field, cases.as_slice())
+    refused_behind(&rt, rt.alloc(), HEAD, Why::Field, CASES)
 }
 
 #[test]
 fn a_cue_stands_above_a_run_and_below_the_head(rt: HostRuntime) -> Result<(), Fail> {
-    let cases = [
+    const CASES: &[(&str, u32, u32)] = &[
         ("pop,CC1,10,60,120\n", 3, 1),
         ("pop,CC1,10,60,120\npop,CC1,10,60,120\n", 3, 1),
         ("pop,CC1,10,60,120\nshare,1,8\n", 3, 1),
@@ -177,12 +177,12 @@ fn a_cue_stands_above_a_run_and_below_the_head(rt: HostRuntime) -> Result<(), Fa
         ),
         ("roll,CC1,2,10,60,\nwin\n", 3, 1),
     ];
-    refused_behind(&rt, rt.alloc(), HEAD, Why::Field, cases.as_slice())
+    refused_behind(&rt, rt.alloc(), HEAD, Why::Field, CASES)
 }
 
 #[test]
 fn each_field_of_a_run_has_its_form(rt: HostRuntime) -> Result<(), Fail> {
-    let cases = [
+    const CASES: &[(&str, u32, u32)] = &[
         ("run\n", 3, 2),
         ("run,0,32,grey\n", 3, 5),
         ("run,15,4,white,HELLO,\n", 3, 6),
@@ -209,12 +209,12 @@ fn each_field_of_a_run_has_its_form(rt: HostRuntime) -> Result<(), Fail> {
         ("run,15,28,white,\u{e9}\u{e9}\u{e9}\u{e9}\u{e9}\n", 3, 5),
         ("run,15,31,white,**\n", 3, 5),
     ];
-    refused_behind(&rt, rt.alloc(), CUE, Why::Field, cases.as_slice())
+    refused_behind(&rt, rt.alloc(), CUE, Why::Field, CASES)
 }
 
 #[test]
 fn the_runs_of_a_roll_up_cue_stand_on_its_base_row(rt: HostRuntime) -> Result<(), Fail> {
-    let cases = [
+    const CASES: &[(&str, u32, u32)] = &[
         ("roll,CC1,2,10,60,\nrun,1,0,white,A\n", 3, 2),
         ("roll,CC1,3,10,60,\nrun,2,0,white,A\n", 3, 2),
         ("roll,CC3,4,10,60,120\nrun,3,99,white,A\n", 3, 2),
@@ -240,12 +240,12 @@ fn the_runs_of_a_roll_up_cue_stand_on_its_base_row(rt: HostRuntime) -> Result<()
             3,
         ),
     ];
-    refused_behind(&rt, rt.alloc(), HEAD, Why::Field, cases.as_slice())
+    refused_behind(&rt, rt.alloc(), HEAD, Why::Field, CASES)
 }
 
 #[test]
 fn a_character_without_a_code_is_refused(rt: HostRuntime) -> Result<(), Fail> {
-    let cases = [
+    const CASES: &[(&str, u32, u32)] = &[
         ("run,15,4,white,\u{4e2d}\n", 3, 5),
         ("run,15,4,white,A\u{2019}\n", 3, 5),
         ("run,15,4,white,`\n", 3, 5),
@@ -253,12 +253,12 @@ fn a_character_without_a_code_is_refused(rt: HostRuntime) -> Result<(), Fail> {
         ("run,15,4,white,\"A\nB\"\n", 3, 5),
         ("run,15,31,white,\u{4e2d}\u{4e2d}\n", 3, 5),
     ];
-    refused_behind(&rt, rt.alloc(), CUE, Why::NoCode, cases.as_slice())
+    refused_behind(&rt, rt.alloc(), CUE, Why::NoCode, CASES)
 }
 
 #[test]
 fn each_field_of_a_share_has_its_form(rt: HostRuntime) -> Result<(), Fail> {
-    let cases = [
+    const CASES: &[(&str, u32, u32)] = &[
         ("share\n", 2, 2),
         ("share,9\n", 2, 3),
         ("share,1,8,\n", 2, 4),
@@ -280,17 +280,17 @@ fn each_field_of_a_share_has_its_form(rt: HostRuntime) -> Result<(), Fail> {
         ("share,1,8\nccsuite,1,30,300\n", 3, 1),
         ("share,1,8\nattr,0,0,0,0,0,0,0,0000,0,000\n", 3, 1),
     ];
-    refused_behind(&rt, rt.alloc(), HEAD, Why::Field, cases.as_slice())
+    refused_behind(&rt, rt.alloc(), HEAD, Why::Field, CASES)
 }
 
 #[test]
 fn shares_fit_in_the_packets_of_their_rate(rt: HostRuntime) -> Result<(), Fail> {
-    let cases = [
+    const CASES: &[(&str, u32, u32)] = &[
         ("ccsuite,1,59.94,60\nshare,1,17\n", 2, 3),
         ("ccsuite,2,60,60\nshare,1,17\n", 2, 3),
         ("ccsuite,1,60,60\nshare,2,8\nshare,1,8\n", 3, 3),
     ];
-    refused_behind(&rt, rt.alloc(), "", Why::Field, cases.as_slice())?;
+    refused_behind(&rt, rt.alloc(), "", Why::Field, CASES)?;
     for text in [
         "ccsuite,1,59.94,60\nshare,1,16\n",
         "ccsuite,2,29.97,60\nshare,3,16\nshare,1,17\n",
@@ -304,7 +304,7 @@ fn shares_fit_in_the_packets_of_their_rate(rt: HostRuntime) -> Result<(), Fail> 
 
 #[test]
 fn each_field_of_a_window_has_its_form(rt: HostRuntime) -> Result<(), Fail> {
-    let cases = [
+    const CASES: &[(&str, u32, u32)] = &[
         ("win\n", 2, 2),
         ("win,9\n", 2, 3),
         ("win,1,0,0,60,200,10,0,60,50,1,10,0,1\n", 2, 15),
@@ -345,13 +345,12 @@ fn each_field_of_a_window_has_its_form(rt: HostRuntime) -> Result<(), Fail> {
             1,
         ),
     ];
-    refused_behind(&rt, rt.alloc(), HEAD, Why::Field, cases.as_slice())
+    refused_behind(&rt, rt.alloc(), HEAD, Why::Field, CASES)
 }
 
 #[test]
 fn a_run_in_a_window_keeps_to_its_window(rt: HostRuntime) -> Result<(), Fail> {
-    let front = "ccsuite,1,29.97,300\nshare,1,8\nwin,1,0,0,60,200,10,0,60,50,2,10,0,1,1\n";
-    let cases = [
+    const CASES: &[(&str, u32, u32)] = &[
         ("run\n", 4, 2),
         ("run,2,10,white,A,\n", 4, 6),
         ("run,2,0,plain,A\n", 4, 2),
@@ -367,20 +366,20 @@ fn a_run_in_a_window_keeps_to_its_window(rt: HostRuntime) -> Result<(), Fail> {
         ("run,0,0,plain,A\nrun,2,0,plain,A\n", 5, 2),
         ("run,0,0,plain,A\nattr,0,0,0,0,0,0,0,0000,0,000\n", 5, 1),
     ];
-    refused_behind(&rt, rt.alloc(), front, Why::Field, cases.as_slice())?;
-    let without_code = [
+    const WITHOUT_CODE: &[(&str, u32, u32)] = &[
         ("run,0,0,plain,\u{4e2d}\n", 4, 5),
         ("run,0,0,plain,\u{7f}\n", 4, 5),
         ("run,0,0,plain,\u{e01}\n", 4, 5),
         ("run,0,9,plain,\u{4e2d}\u{4e2d}\n", 4, 5),
     ];
-    refused_behind(&rt, rt.alloc(), front, Why::NoCode, without_code.as_slice())
+    let front = "ccsuite,1,29.97,300\nshare,1,8\nwin,1,0,0,60,200,10,0,60,50,2,10,0,1,1\n";
+    refused_behind(&rt, rt.alloc(), front, Why::Field, CASES)?;
+    refused_behind(&rt, rt.alloc(), front, Why::NoCode, WITHOUT_CODE)
 }
 
 #[test]
 fn attributes_stand_directly_below_a_window_of_version_2(rt: HostRuntime) -> Result<(), Fail> {
-    let front = "ccsuite,2,29.97,300\nshare,1,8\nwin,1,0,0,60,200,10,0,60,50,2,10,0,1,1\n";
-    let cases = [
+    const CASES: &[(&str, u32, u32)] = &[
         ("attr\n", 4, 2),
         ("attr,9,9\n", 4, 4),
         ("attr,0,0,0,0,0,0,0,0000,0,000,\n", 4, 12),
@@ -417,28 +416,21 @@ fn attributes_stand_directly_below_a_window_of_version_2(rt: HostRuntime) -> Res
         ),
         ("run,0,0,plain,A\nattr,0,0,0,0,0,0,0,0000,0,000\n", 5, 1),
     ];
-    refused_behind(&rt, rt.alloc(), front, Why::Field, cases.as_slice())?;
-    let elsewhere = [
+    const ELSEWHERE: &[(&str, u32, u32)] = &[
         ("attr,0,0,0,0,0,0,0,0000,0,000\n", 2, 1),
         ("pop,CC1,10,60,120\nattr,0,0,0,0,0,0,0,0000,0,000\n", 3, 1),
         ("roll,CC1,2,10,60,\nattr,9\n", 3, 1),
     ];
-    refused_behind(
-        &rt,
-        rt.alloc(),
-        "ccsuite,2,30,300\n",
-        Why::Field,
-        elsewhere.as_slice(),
-    )
+    let front = "ccsuite,2,29.97,300\nshare,1,8\nwin,1,0,0,60,200,10,0,60,50,2,10,0,1,1\n";
+    refused_behind(&rt, rt.alloc(), front, Why::Field, CASES)?;
+    refused_behind(&rt, rt.alloc(), "ccsuite,2,30,300\n", Why::Field, ELSEWHERE)
 }
 
 #[test]
 fn colours_stand_directly_below_a_run_in_a_window_of_version_2(
     rt: HostRuntime,
 ) -> Result<(), Fail> {
-    let front =
-        "ccsuite,2,30,300\nshare,1,8\nwin,1,0,0,60,200,10,0,60,50,2,10,0,1,1\nrun,0,0,plain,A\n";
-    let cases = [
+    const CASES: &[(&str, u32, u32)] = &[
         ("colour\n", 5, 2),
         ("colour,0000,4000\n", 5, 4),
         ("colour,0000,0000,000,0\n", 5, 5),
@@ -466,8 +458,7 @@ fn colours_stand_directly_below_a_run_in_a_window_of_version_2(
             1,
         ),
     ];
-    refused_behind(&rt, rt.alloc(), front, Why::Field, cases.as_slice())?;
-    let elsewhere = [
+    const ELSEWHERE: &[(&str, u32, u32)] = &[
         ("ccsuite,2,30,300\ncolour,0000,0000,000\n", 2, 1),
         ("ccsuite,2,30,300\nshare,1,8\ncolour,0000,0000,000\n", 3, 1),
         (
@@ -476,12 +467,15 @@ fn colours_stand_directly_below_a_run_in_a_window_of_version_2(
             1,
         ),
     ];
-    refused_behind(&rt, rt.alloc(), "", Why::Field, elsewhere.as_slice())
+    let front =
+        "ccsuite,2,30,300\nshare,1,8\nwin,1,0,0,60,200,10,0,60,50,2,10,0,1,1\nrun,0,0,plain,A\n";
+    refused_behind(&rt, rt.alloc(), front, Why::Field, CASES)?;
+    refused_behind(&rt, rt.alloc(), "", Why::Field, ELSEWHERE)
 }
 
 #[test]
 fn records_are_counted_as_csv_finds_them(rt: HostRuntime) -> Result<(), Fail> {
-    let cases = [
+    const CASES: &[(&str, u32, u32)] = &[
         ("\n\nccsuite,1,29.97,300\n\r\n\npop,CC9,10,60,120\n", 2, 2),
         ("ccsuite,1,29.97,300\rpop,CC9,10,60,120", 2, 2),
         ("ccsuite,1,29.97,300\r\npop,CC1,10,60,120\r\n", 3, 1),
@@ -491,17 +485,18 @@ fn records_are_counted_as_csv_finds_them(rt: HostRuntime) -> Result<(), Fail> {
         ("ccsuite,1,29.97,300\n \n", 2, 1),
         ("ccsuite,1,29.97,\"300\npop,CC1,10,60,120\n", 1, 4),
     ];
-    refused_behind(&rt, rt.alloc(), "", Why::Field, cases.as_slice())
+    refused_behind(&rt, rt.alloc(), "", Why::Field, CASES)
 }
 
 #[test]
 fn a_text_is_utf_8(rt: HostRuntime) {
-    for text in [
-        b"ccsuite,1,29.97,300\npop,CC1,10,60,120\nrun,15,4,white,A\xFF\n".as_slice(),
-        b"ccsuite,1,29.97,300\npop,CC1,10,60,120\nrun,15,4,white,\xC3\n".as_slice(),
-        b"ccsuite,1,29.97,300\npop,CC1,10,60,120\nrun,15,4,white,\xED\xA0\x80\n".as_slice(),
-        b"ccsuite,1,29.97,300\npop,CC1,10,60,120\nrun,15,4,white,\xE4\xB8\xAD\xFF\n".as_slice(),
-    ] {
+    const TEXTS: &[&[u8]] = &[
+        b"ccsuite,1,29.97,300\npop,CC1,10,60,120\nrun,15,4,white,A\xFF\n",
+        b"ccsuite,1,29.97,300\npop,CC1,10,60,120\nrun,15,4,white,\xC3\n",
+        b"ccsuite,1,29.97,300\npop,CC1,10,60,120\nrun,15,4,white,\xED\xA0\x80\n",
+        b"ccsuite,1,29.97,300\npop,CC1,10,60,120\nrun,15,4,white,\xE4\xB8\xAD\xFF\n",
+    ];
+    for &text in TEXTS {
         refused(&rt, rt.alloc(), text, (3, 5), Why::Field);
     }
 }

@@ -12,7 +12,7 @@ const PACKET: &str = "xds,0,1,1,A\n";
 
 #[test]
 fn lists_have_their_packets_in_order(rt: HostRuntime) {
-    for (text, count) in [
+    const LISTS: &[(&str, usize)] = &[
         ("", 0),
         ("\n\n", 0),
         ("\u{feff}", 0),
@@ -23,7 +23,8 @@ fn lists_have_their_packets_in_order(rt: HostRuntime) {
         ("xds,0,1,1, \r\n\r\nxds,0,1,1,A\r\n", 2),
         ("\n\nxds,5,2,9,A\rxds,4,2,9,B\r\rxds,3,2,9,C", 3),
         ("\"xds\",\"0\",\"1\",\"1\",\"A,\"\"B\"\"\"\n", 1),
-    ] {
+    ];
+    for &(text, count) in LISTS {
         assert!(rt; text.len() <= 1000);
         match parse_xds(rt.alloc(), text.as_bytes()) {
             Ok(list) => assert_eq!(rt; list.len(), count, "{text:?}"),
@@ -70,7 +71,7 @@ fn are_refused(rt: &impl Abort, alloc: Global, cases: &[(&str, u32, u32)]) {
 
 #[test]
 fn a_record_is_one_of_a_packet_with_five_fields(rt: HostRuntime) {
-    let cases = [
+    const CASES: &[(&str, u32, u32)] = &[
         ("xd,0,1,1,A\n", 1, 1),
         ("XDS,0,1,1,A\n", 1, 1),
         (" xds,0,1,1,A\n", 1, 1),
@@ -84,12 +85,12 @@ fn a_record_is_one_of_a_packet_with_five_fields(rt: HostRuntime) {
         ("xds,0,1,1,A,B\n", 1, 6),
         ("xds,0,8,0,,\n", 1, 6),
     ];
-    are_refused(&rt, rt.alloc(), cases.as_slice());
+    are_refused(&rt, rt.alloc(), CASES);
 }
 
 #[test]
 fn each_field_is_in_its_range(rt: HostRuntime) {
-    let cases = [
+    const CASES: &[(&str, u32, u32)] = &[
         ("xds,,1,1,A\n", 1, 2),
         ("xds,-1,1,1,A\n", 1, 2),
         ("xds,00,1,1,A\n", 1, 2),
@@ -107,18 +108,18 @@ fn each_field_is_in_its_range(rt: HostRuntime) {
         ("xds,0,1,1,\u{e9}\n", 1, 5),
         ("xds,0,1,1,\"A\nB\"\n", 1, 5),
     ];
-    are_refused(&rt, rt.alloc(), cases.as_slice());
+    are_refused(&rt, rt.alloc(), CASES);
 }
 
 // The first fault comes, also of several in a record; blank lines are no records.
 #[test]
 fn the_first_fault_is_told(rt: HostRuntime) {
-    let cases = [
+    const CASES: &[(&str, u32, u32)] = &[
         ("xds,1000000,8,0,\n", 1, 2),
         ("xds,0,8,0,\n", 1, 3),
         ("xds,0,1,1,A\nxds,0,8,1,A\n", 2, 3),
         ("\n\nxds,0,1,1,A\n\n\nxds,0,1,0,A\nxd\n", 2, 4),
         ("\u{feff}xds,0,1,1,A\r\nxds,0,1,1,A\r\nxds,0,1,1,\r\n", 3, 5),
     ];
-    are_refused(&rt, rt.alloc(), cases.as_slice());
+    are_refused(&rt, rt.alloc(), CASES);
 }

@@ -33,7 +33,7 @@ fn sends(rt: &impl Abort, alloc: Global, case: Case) -> Result<(), Fail> {
 // all 0 modulo 128; each byte has odd parity.
 #[test]
 fn packets_of_each_class_are_sent(rt: HostRuntime) -> Result<(), Fail> {
-    let cases: [Case; 9] = [
+    const CASES: &[Case] = &[
         ("", "oo", "- -", None),
         ("xds,0,1,3,NEWS", "ooooo", "0183 ce45 57d3 8fb0 -", None),
         ("xds,0,2,4, ", "ooo", "8304 2080 8f4a", None),
@@ -45,7 +45,7 @@ fn packets_of_each_class_are_sent(rt: HostRuntime) -> Result<(), Fail> {
         // The bytes sum to 128 before the checksum, which is 0.
         ("xds,0,1,47,A", "ooo", "012f c180 8f80", None),
     ];
-    for case in cases {
+    for &case in CASES {
         sends(&rt, rt.alloc(), case)?;
     }
     Ok(())
@@ -72,14 +72,14 @@ fn texts_of_31_and_32_bytes_are_sent(rt: HostRuntime) -> Result<(), Fail> {
 // Behind a slot that isn't free the continue pair comes first, also behind a continue pair.
 #[test]
 fn a_packet_goes_on_behind_slots_that_are_not_free(rt: HostRuntime) -> Result<(), Fail> {
-    let news = "xds,0,1,3,NEWS";
-    let cases: [Case; 10] = [
-        (news, "ooxxoooo", "0183 ce45 - - 0283 57d3 8fb0 -", None),
-        (news, "ooxoxooo", "0183 ce45 - 0283 - 0283 57d3 8fb0", None),
-        (news, "oxooxooo", "0183 - 0283 ce45 - 0283 57d3 8fb0", None),
-        (news, "oxxoooo", "0183 - - 0283 ce45 57d3 8fb0", None),
-        (news, "oooxooo", "0183 ce45 57d3 - 0283 8fb0 -", None),
-        (news, "oooxoxoo", "0183 ce45 57d3 - 0283 - 0283 8fb0", None),
+    const NEWS: &str = "xds,0,1,3,NEWS";
+    const CASES: &[Case] = &[
+        (NEWS, "ooxxoooo", "0183 ce45 - - 0283 57d3 8fb0 -", None),
+        (NEWS, "ooxoxooo", "0183 ce45 - 0283 - 0283 57d3 8fb0", None),
+        (NEWS, "oxooxooo", "0183 - 0283 ce45 - 0283 57d3 8fb0", None),
+        (NEWS, "oxxoooo", "0183 - - 0283 ce45 57d3 8fb0", None),
+        (NEWS, "oooxooo", "0183 ce45 57d3 - 0283 8fb0 -", None),
+        (NEWS, "oooxoxoo", "0183 ce45 57d3 - 0283 - 0283 8fb0", None),
         ("xds,0,7,127,AB", "oxooo", "0d7f - 0e7f c1c2 8f62", None),
         ("xds,0,2,4, ", "ooxoo", "8304 2080 - 0404 8f4a", None),
         (
@@ -95,7 +95,7 @@ fn a_packet_goes_on_behind_slots_that_are_not_free(rt: HostRuntime) -> Result<()
             None,
         ),
     ];
-    for case in cases {
+    for &case in CASES {
         sends(&rt, rt.alloc(), case)?;
     }
     Ok(())
@@ -104,7 +104,7 @@ fn a_packet_goes_on_behind_slots_that_are_not_free(rt: HostRuntime) -> Result<()
 // A start pair needs no continue pair before it.
 #[test]
 fn a_packet_begins_in_the_first_free_slot_of_its_frames(rt: HostRuntime) -> Result<(), Fail> {
-    let cases: [Case; 6] = [
+    const CASES: &[Case] = &[
         ("xds,0,1,1,A", "xooo", "- 0101 c180 8fae", None),
         ("xds,2,1,1,A", "ooooo", "- - 0101 c180 8fae", None),
         ("xds,1,1,1,A", "oxxoooo", "- - - 0101 c180 8fae -", None),
@@ -112,7 +112,7 @@ fn a_packet_begins_in_the_first_free_slot_of_its_frames(rt: HostRuntime) -> Resu
         ("xds,3,1,1,A", "ooo", "- - -", Some(1)),
         ("xds,0,1,1,A", "oo", "0101 c180", Some(1)),
     ];
-    for case in cases {
+    for &case in CASES {
         sends(&rt, rt.alloc(), case)?;
     }
     Ok(())
@@ -121,8 +121,8 @@ fn a_packet_begins_in_the_first_free_slot_of_its_frames(rt: HostRuntime) -> Resu
 // Whole packet after whole packet in the list's order; a packet waits for its frame and for those before it.
 #[test]
 fn packets_follow_each_other(rt: HostRuntime) -> Result<(), Fail> {
-    let one = "xds,0,1,1,A\nxds,0,7,127,AB";
-    let cases: [Case; 10] = [
+    const TWO: &str = "xds,0,1,1,A\nxds,0,7,127,AB";
+    const CASES: &[Case] = &[
         (
             "xds,0,1,1,A\nxds,0,1,2,A",
             "ooooooo",
@@ -147,14 +147,14 @@ fn packets_follow_each_other(rt: HostRuntime) -> Result<(), Fail> {
             "0101 c180 8fae - - 0d7f c1c2 8f62",
             None,
         ),
-        (one, "oooxooo", "0101 c180 8fae - 0d7f c1c2 8f62", None),
-        (one, "ooooo", "0101 c180 8fae 0d7f c1c2", Some(2)),
-        (one, "oooo", "0101 c180 8fae 0d7f", Some(2)),
-        (one, "ooo", "0101 c180 8fae", Some(2)),
-        (one, "oo", "0101 c180", Some(1)),
-        (one, "", "", Some(1)),
+        (TWO, "oooxooo", "0101 c180 8fae - 0d7f c1c2 8f62", None),
+        (TWO, "ooooo", "0101 c180 8fae 0d7f c1c2", Some(2)),
+        (TWO, "oooo", "0101 c180 8fae 0d7f", Some(2)),
+        (TWO, "ooo", "0101 c180 8fae", Some(2)),
+        (TWO, "oo", "0101 c180", Some(1)),
+        (TWO, "", "", Some(1)),
     ];
-    for case in cases {
+    for &case in CASES {
         sends(&rt, rt.alloc(), case)?;
     }
     Ok(())
