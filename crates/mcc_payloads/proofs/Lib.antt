@@ -13,3 +13,4 @@ pub mod SumLemmas
 pub mod OneLemmas
 pub mod LowLemmas
 pub mod FittingLemmas
+pub mod AheadLemmas

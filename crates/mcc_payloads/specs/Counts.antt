@@ -3,6 +3,7 @@
 use Rattle.std.specs.Prelude.{◌≡◌, ℕ, ◌%◌, true, List, [], ◌∷◌, ◌++◌, length, Some, None, Result, Ok, Err}
 use Rattle.std.specs.List.{sum}
 use Rattle.cc_base.specs.declared.why.Why.{Why}
+use Rattle.mcc_payloads.specs.Payloads.{Payload, payload_bytes}
 use Rattle.mcc_payloads.specs.Reading.{why_of_byte}
 use Rattle.mcc_payloads.specs.declared.reader.Counted.{Counted}
 
@@ -21,3 +22,7 @@ pub record AreCounted (bytes : List ℕ) (counted : Counted) : Type 0 where
 abbrev pub TakesByte : List ℕ → ℕ → Counted → Counted → Result (Unit {0}) Why → Type 0
 TakesByte bytes byte old new (Ok _) = (why_of_byte true bytes byte ≡ None) × AreCounted (bytes ++ byte ∷ []) new
 TakesByte bytes byte old new (Err reason) = (why_of_byte true bytes byte ≡ Some reason) × (new ≡ old)
+
+-- the bytes are those of a packet with the right checksum byte
+abbrev pub IsPacket : List ℕ → Type 0
+IsPacket bytes = (payload : Payload) × (bytes ≡ payload_bytes payload)

@@ -1,5 +1,6 @@
 pub mod Letters
 pub mod Items
+pub mod Ahead
 pub mod Payloads
 pub mod Reading
 pub mod Counts

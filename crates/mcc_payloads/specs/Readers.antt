@@ -1,7 +1,8 @@
 -- Between crates: the program's answer stands on none of these definitions.
 -- What a reader of payloads makes of a byte of the text.
-use Rattle.std.specs.Prelude.{◌≡◌, ℕ, true, List, None, Result, Ok, Err}
+use Rattle.std.specs.Prelude.{◌≡◌, ℕ, true, List, ◌++◌, None, Result, Ok, Err}
 use Rattle.cc_base.specs.declared.why.Why.{Why}
+use Rattle.mcc_payloads.specs.Payloads.{IsPayload, Payload, payload_bytes}
 use Rattle.mcc_payloads.specs.Reading.{Open, joined}
 use Rattle.mcc_payloads.specs.declared.reader.Offence.{Offence}
 use Rattle.mcc_payloads.specs.declared.reader.PayloadReader.{PayloadReader}
@@ -20,3 +21,11 @@ open_of reader = record { digit = reader.digit; bytes = reader.bytes.items }
 abbrev pub StepsTo : Result Open Offence → PayloadReader → PayloadReader → Result (Unit {0}) Offence → Type 0
 StepsTo due old new (Ok _) = due ≡ Ok (open_of new)
 StepsTo due old new (Err offence) = (due ≡ Err offence) × (new ≡ old)
+
+-- the text begins with a payload, and a reader stands behind it
+pub record IsBehindPayload (text rest : List ℕ) (reader : PayloadReader) : Type 0 where
+  pub front : List ℕ
+  pub payload : Payload
+  pub is : IsPayload payload front
+  pub spelled : text ≡ front ++ rest
+  pub open_is : open_of reader ≡ record { digit = None; bytes = payload_bytes payload }

@@ -6,6 +6,7 @@ pub use crate::letters::letter_bytes;
 pub use crate::reader::{Item, Offence, PayloadReader};
 pub use crate::writer::{add_payload, write_payload};
 
+mod ahead;
 pub mod laws;
 mod letters;
 mod reader;

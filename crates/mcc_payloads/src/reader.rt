@@ -1,15 +1,17 @@
-ghost use Rattle.std.specs.Prelude.{◌≡◌, ◌≤◌, ◌+◌, ◌*◌, ◌%◌, ◌<◌, ◌∷◌, [], List, ℕ, None, true, length, IfOk};
+ghost use Rattle.std.specs.Prelude.{◌≡◌, ◌≤◌, ◌+◌, ◌*◌, ◌%◌, ◌<◌, ◌∷◌, [], List, ℕ, None, true, length, IfOk, IfSome, MatchOption};
 ghost use Rattle.std.specs.Option.{ForSome};
-ghost use Rattle.mcc_payloads.specs.Counts.{AreCounted, TakesByte};
+ghost use Rattle.mcc_payloads.specs.Counts.{AreCounted, IsPacket, TakesByte};
 ghost use Rattle.mcc_payloads.specs.Reading.{is_whole};
 
+use crate::ahead::add_items;
 use crate::letters::letter_bytes;
+use crate::writer::checksum_byte;
 use arrayvec::ArrayVec;
 use cc_base::Why;
 use hex_digits::hex_value;
 
 /// The most bytes of a packet in a payload: DID, SDID, count, 255 user bytes and the checksum byte.
-const ROOM: usize = 259;
+pub(crate) const ROOM: usize = 259;
 
 /// What offends: the byte so many bytes before the last one, and the reason.
 #[derive(Clone, Copy, Debug, PartialEq, Eq)]
@@ -66,6 +68,29 @@ impl Counted {
     }
 }
 
+/// How bytes are counted that are a packet's with the right checksum byte; None exactly where they aren't.
+fn counted_packet(bytes: &[u8]) -> Option<Counted>
+    ensures packet { MatchOption result (IsPacket bytes.now → ⊥) (λ _. IsPacket bytes.now) }
+    ensures counted { IfSome result (λ counted. AreCounted bytes.now counted) }
+{
+    let [did, sdid, count, rest @ ..] = bytes else {
+        return None;
+    };
+    let (last, user) = rest.split_last()?;
+    if user.len() != usize::from(*count) {
+        return None;
+    }
+    let sum = checksum_byte(*did, *sdid, user);
+    if *last != sum {
+        return None;
+    }
+    Some(Counted {
+        len: 4 + u16::from(*count),
+        count: *count,
+        sum: sum.wrapping_add(*last),
+    })
+}
+
 /// An item of a payload, as its last byte ends it.
 #[derive(Debug, Drop)]
 pub struct Item {
@@ -92,7 +117,7 @@ impl PayloadReader {
     ghost use Rattle.hex_digits.specs.HexDigits.{hex_value};
     ghost use Rattle.mcc_payloads.specs.Letters.{letter_bytes};
     ghost use Rattle.mcc_payloads.specs.Reading.{fitting, item_back, item_begins, item_bytes, may_end, nothing_open, second_digit, step};
-    ghost use Rattle.mcc_payloads.specs.Readers.{StepsTo, TakesItem, open_of};
+    ghost use Rattle.mcc_payloads.specs.Readers.{IsBehindPayload, StepsTo, TakesItem, open_of};
 
     /// A reader of no bytes.
     pub fn new() -> PayloadReader
@@ -107,6 +132,23 @@ impl PayloadReader {
                 sum: 0,
             },
         }
+    }
+
+    /// A reader behind the payload with which a text begins, and what follows it there. None where the items with which the text begins,
+    /// as many as there are and a packet has room for, don't stand for a whole packet with the right checksum byte: then a reader that takes
+    /// the text byte by byte tells what stands there.
+    pub fn behind_payload(text: &[u8]) -> Option<(PayloadReader, &[u8])>
+        ensures { IfSome result (λ behind. IsBehindPayload text.now behind.1.now behind.0) }
+    {
+        let mut bytes = ArrayVec::new();
+        let rest = add_items(text, &mut bytes);
+        let counted = counted_packet(&bytes)?;
+        let reader = PayloadReader {
+            digit: None,
+            bytes,
+            counted,
+        };
+        Some((reader, rest))
     }
 
     /// A reader that has read the same.

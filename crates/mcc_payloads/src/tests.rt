@@ -231,3 +231,144 @@ fn packets_are_written_with_their_checksum_byte(rt: HostRuntime) {
         assert_eq!(rt; out.as_slice(), text);
     }
 }
+
+// The bytes of the packet with which a text begins, and what follows it.
+fn behind(text: &[u8]) -> Option<(ArrayVec<u8, 259>, &[u8])> {
+    let (reader, rest) = PayloadReader::behind_payload(text)?;
+    let mut bytes = ArrayVec::new();
+    let _ = bytes.try_extend_from_slice(reader.bytes());
+    if reader.is_whole() {
+        Some((bytes, rest))
+    } else {
+        None
+    }
+}
+
+// The text begins with the payload of these bytes, and this follows.
+fn begins(rt: &impl Abort, text: &[u8], bytes: &[u8], rest: &[u8]) {
+    match behind(text) {
+        Some((found, after)) => {
+            assert_eq!(rt; found.as_slice(), bytes);
+            assert_eq!(rt; after, rest);
+        }
+        None => panic!(rt; "no payload"),
+    }
+}
+
+// Each letter, digits of either case at both places, and texts on which no item goes on.
+#[test]
+fn payloads_are_read_in_one_go(rt: HostRuntime) {
+    let rows: [(&[u8], &[u8], &[u8]); 15] = [
+        (FRAME, &FRAME_BYTES, b""),
+        (b"8001Z81", &[0x80, 0x01, 0, 0x81], b""),
+        (b"8001Z81\n", &[0x80, 0x01, 0, 0x81], b"\n"),
+        (b"8001Z81 \r\n80", &[0x80, 0x01, 0, 0x81], b" \r\n80"),
+        (b"8001Z818", &[0x80, 0x01, 0, 0x81], b"8"),
+        (b"8001Z818G", &[0x80, 0x01, 0, 0x81], b"8G"),
+        (b"800101Z82\t", &[0x80, 0x01, 1, 0, 0x82], b"\t"),
+        (b"800103P7F", &[0x80, 0x01, 3, 0xFB, 0x80, 0x80, 0x7F], b""),
+        (b"800103Q80", &[0x80, 0x01, 3, 0xFC, 0x80, 0x80, 0x80], b""),
+        (b"800103R81", &[0x80, 0x01, 3, 0xFD, 0x80, 0x80, 0x81], b""),
+        (b"800102S82", &[0x80, 0x01, 2, 0x96, 0x69, 0x82], b""),
+        (b"800102TE5", &[0x80, 0x01, 2, 0x61, 0x01, 0xE5], b""),
+        (b"800104U66x", &[0x80, 0x01, 4, 0xE1, 0, 0, 0, 0x66], b"x"),
+        (
+            b"80010B0123456789ABCDEFabcdefB3",
+            &[
+                0x80, 0x01, 11, 0x01, 0x23, 0x45, 0x67, 0x89, 0xAB, 0xCD, 0xEF, 0xAB, 0xCD, 0xEF,
+                0xB3,
+            ],
+            b"",
+        ),
+        (
+            b"80010B1032547698BADCFEbadcfe58",
+            &[
+                0x80, 0x01, 11, 0x10, 0x32, 0x54, 0x76, 0x98, 0xBA, 0xDC, 0xFE, 0xBA, 0xDC, 0xFE,
+                0x58,
+            ],
+            b"",
+        ),
+    ];
+    for (text, bytes, rest) in rows {
+        begins(&rt, text, bytes, rest);
+    }
+}
+
+// Nine letters stand for triplets that don't count, and a packet of the most bytes leaves no room for an item more.
+#[test]
+fn fillers_are_read_in_one_go(rt: HostRuntime) {
+    let rows: [(&[u8], u8, u8); 10] = [
+        (b"800103G7E", 3, 0x7E),
+        (b"800106H7B", 6, 0x7B),
+        (b"800109I78", 9, 0x78),
+        (b"80010CJ75", 12, 0x75),
+        (b"80010FK72", 15, 0x72),
+        (b"800112L6F", 18, 0x6F),
+        (b"800115M6C", 21, 0x6C),
+        (b"800118N69", 24, 0x69),
+        (b"80011BO66", 27, 0x66),
+        (b"8001FFOOOOOOOOOJ82", 255, 0x82),
+    ];
+    for (text, size, last) in rows {
+        let mut bytes: ArrayVec<u8, 259> = ArrayVec::new();
+        let _ = bytes.try_extend_from_slice(&[0x80, 0x01, size]);
+        for _ in 0..size / 3 {
+            let _ = bytes.try_extend_from_slice(&[0xFA, 0, 0]);
+        }
+        let _ = bytes.try_push(last);
+        begins(&rt, text, bytes.as_slice(), b"");
+    }
+    let behind_most: [(&[u8], &[u8]); 4] = [
+        (b"8001FFOOOOOOOOOJ82\n", b"\n"),
+        (b"8001FFOOOOOOOOOJ82Z", b"Z"),
+        (b"8001FFOOOOOOOOOJ82G\n", b"G\n"),
+        (b"8001FFOOOOOOOOOJ8200", b"00"),
+    ];
+    for (text, rest) in behind_most {
+        match behind(text) {
+            Some((bytes, after)) => {
+                assert_eq!(rt; bytes.len(), 259);
+                assert_eq!(rt; after, rest);
+            }
+            None => panic!(&rt; "no payload"),
+        }
+    }
+}
+
+// No whole packet, another checksum byte, a byte too many, or no item at the front.
+#[test]
+fn other_texts_are_not_read_in_one_go(rt: HostRuntime) {
+    let texts: [&[u8]; 28] = [
+        b"",
+        b"8",
+        b"80",
+        b"8001",
+        b"800101",
+        b"80010177",
+        b"80010177F",
+        b"80010177\n",
+        b"80010177F\n",
+        b"80010177G",
+        b"T49S494F43ZZ72F4QROO74ZZBFA",
+        b"T49S494f43zz72F4QROO74ZZBFAB",
+        b"80010177F8",
+        b"80010178F9",
+        b"80010080",
+        b"8001Z82",
+        b"800103G7D",
+        b"800102G7E",
+        b"800104G7E",
+        b"80010177F9Z",
+        b"80010177F980",
+        b"ZZZZZ",
+        b"ZZZ01",
+        b" 80010177F9",
+        b"\n80010177F9",
+        b"8001FFOOOOOOOOOJ",
+        b"8001FFOOOOOOOOOJG",
+        b"8001FFOOOOOOOOOO82",
+    ];
+    for (row, text) in texts.iter().enumerate() {
+        assert!(rt; behind(text).is_none(), "row {row}");
+    }
+}

@@ -110,7 +110,7 @@ pub fn add_payload<const ROOM: usize>(packet: &[u8], out: &mut ArrayVec<u8, ROOM
 }
 
 /// The low eight bits of the checksum word of a packet.
-fn checksum_byte(did: u8, sdid: u8, user: &[u8]) -> u8
+pub(crate) fn checksum_byte(did: u8, sdid: u8, user: &[u8]) -> u8
     requires { length user.now ≤ 255 }
     ensures { result ≡ checksum_byte (record { did = did; sdid = sdid; user = user.now }) }
 {
