@@ -12,3 +12,4 @@ pub mod Unoffending
 pub mod UnitReads
 pub mod Refused
 pub mod ReaderLemmas
+pub mod AheadReads

@@ -1,6 +1,7 @@
 -- Between crates: the program's answer stands on none of these definitions.
 -- What a reader of MCC files makes of a byte.
-use Rattle.std.specs.Prelude.{◌≡◌, ℕ, ◌-◌, Bool, true, false, List, [], ◌∷◌, ◌++◌, length, Some, Result, Ok, Err, unwrap_or}
+use Rattle.std.specs.Prelude.{◌≡◌, ℕ, ◌-◌, ◌≤◌, ◌==◌, not, Bool, true, false, List, [], ◌∷◌, ◌++◌, length, take, Some, Result, Ok, Err, unwrap_or}
+use Rattle.std.specs.List.{list_all}
 use Rattle.cc_base.specs.declared.why.Why.{Why}
 use Rattle.mcc_files.specs.MccFiles.{IsMccFile, TimedPackets}
 use Rattle.mcc_files.specs.Offences.{IsFirstOffence}
@@ -71,6 +72,16 @@ TakesOn before placed byte reader (Ok false) = HasRead (before ++ byte ∷ []) p
 TakesOn before placed byte reader (Ok true) =
     HasRead (before ++ byte ∷ []) (placed ++ packet_in reader ∷ []) reader × HasWholeBytes reader
 TakesOn before placed byte reader (Err offence) = OffendsBehind before byte offence
+
+-- behind a reader stands another, which took a packet's line more, that of so many bytes with which these begin
+pub record IsBehindLine (old : MccReader) (bytes : List ℕ) (count : ℕ) (new : MccReader) : Type 0 where
+  pub front : List ℕ
+  pub within : count ≤ length bytes
+  pub spelled : take count bytes ≡ front ++ 10 ∷ []
+  pub no_lf : list_all (λ byte. not (byte == 10)) front ≡ true
+  pub goes : (placed : TimedPackets) → run (state_of old placed) (take count bytes) ≡ Ok (state_of new (placed ++ packet_in new ∷ []))
+  pub whole : HasWholeBytes new
+  pub start : new.phase ≡ phase.Start
 
 -- the bytes of the item of an open payload that ends with a byte, if one does, down to one that offends
 abbrev pub item_in : Phase → Open → ℕ → List ℕ

@@ -1,4 +1,5 @@
-ghost use Rattle.std.specs.Prelude.{◌≡◌, ◌≤◌, ◌<◌, ◌++◌, ◌∷◌, ◌&&◌, [], length, Ok, Err, IfSome, MatchResult, is_some, nat_lt, ◌+◌};
+ghost use Rattle.std.specs.Prelude.{◌≡◌, ◌≤◌, ◌<◌, ◌++◌, ◌∷◌, ◌&&◌, [], length, List, ℕ, Ok, Err, IfSome, MatchOption, MatchResult, is_some, nat_lt, ◌+◌};
+ghost use Rattle.scc_files.specs.Lines.{IsLineEnd};
 ghost use Rattle.mcc_files.specs.Phases.{HasNumbersInRange, most_text};
 ghost use Rattle.mcc_files.specs.Reading.{begins_time, judged_frame};
 ghost use Rattle.time_codes.specs.Texts.{time_of_text};
@@ -48,6 +49,21 @@ fn judged_frame(count: Option<Counting>, last: Option<u32>, text: &[u8]) -> Resu
     Ok(frame)
 }
 
+/// What follows the line end, LF or CR LF, with which bytes begin; None exactly where they begin with none.
+fn behind_line_end(bytes: &[u8]) -> Option<&[u8]>
+    ensures { MatchOption result
+        ((end rest : List ℕ) → IsLineEnd end → bytes.now ≡ end ++ rest → ⊥)
+        (λ rest. (end : List ℕ) × IsLineEnd end × (bytes.now ≡ end ++ rest.now)) }
+{
+    if let [b'\n', rest @ ..] = bytes {
+        return Some(rest);
+    }
+    let [b'\r', b'\n', rest @ ..] = bytes else {
+        return None;
+    };
+    Some(rest)
+}
+
 /// A reader of an MCC file, byte by byte, that takes no memory: the packets at their frames, or the first offence.
 #[derive(Debug, Drop)]
 pub struct MccReader {
@@ -68,13 +84,12 @@ pub struct MccReader {
 }
 
 impl MccReader {
-    ghost use Rattle.std.specs.Prelude.{List, ℕ};
     ghost use Rattle.time_codes.specs.Texts.{is_digit};
     ghost use Rattle.mcc_files.specs.MccFiles.{TimedPackets};
     ghost use Rattle.mcc_files.specs.Phases.{rate_moved, why_in};
     ghost use Rattle.mcc_files.specs.declared.phase.Phase.TheVariants as phase;
     ghost use Rattle.mcc_files.specs.Reading.{awaits_payload, begun, ends, first_read, goes, in_phase, name_read, payload_read, rate_read, taken, time_read, within};
-    ghost use Rattle.mcc_files.specs.Readers.{Finishes, HasRead, StepsTo, TakesByte, TakesOn, back_in, is_at_start, item_in, packet_in, read_bytes, state_of};
+    ghost use Rattle.mcc_files.specs.Readers.{Finishes, HasRead, IsBehindLine, StepsTo, TakesByte, TakesOn, back_in, is_at_start, item_in, packet_in, read_bytes, state_of};
     ghost use Rattle.mcc_payloads.specs.Readers.{open_of};
 
     /// A reader of no bytes.
@@ -108,6 +123,39 @@ impl MccReader {
             text,
             payload: self.payload.copied(),
         }
+    }
+
+    /// A reader behind the packet's line with which bytes begin, and how many bytes it has: a time code's text, TAB, a payload, and LF or
+    /// CR LF, of which nothing offends. None where no line begins with the next byte, or the bytes begin with no such line: then a reader
+    /// that takes them one by one tells what stands there.
+    pub fn behind_line(&self, bytes: &[u8]) -> Option<(MccReader, usize)>
+        ensures { IfSome result (λ behind. IsBehindLine self.now bytes.now behind.1 behind.0) }
+    {
+        if !self.is_at_start() {
+            return None;
+        }
+        let (time, rest) = bytes.split_at_checked(11)?;
+        let [b'\t', rest @ ..] = rest else {
+            return None;
+        };
+        let Ok(frame) = judged_frame(self.count, self.last, time) else {
+            return None;
+        };
+        let (payload, rest) = PayloadReader::behind_payload(rest)?;
+        let rest = behind_line_end(rest)?;
+        let mut text = ArrayVec::new();
+        if text.try_extend_from_slice(time).is_err() {
+            unreachable!();
+        }
+        let reader = MccReader {
+            phase: Phase::Start,
+            two: self.two,
+            count: self.count,
+            last: Some(frame),
+            text,
+            payload,
+        };
+        Some((reader, bytes.len() - rest.len()))
     }
 
     /// Whether a line begins with the next byte, behind the first line.

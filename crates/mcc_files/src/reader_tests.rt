@@ -32,6 +32,39 @@ fn read(file: &[u8]) -> Result<Packets, (usize, Why)> {
     Ok(packets)
 }
 
+// The same, where each line that can be is read in one go.
+fn read_in_lines(file: &[u8]) -> Result<Packets, (usize, Why)> {
+    let mut reader = MccReader::new();
+    let mut packets = ArrayVec::new();
+    let mut rest = file;
+    for _ in file {
+        let at = file.len().saturating_sub(rest.len());
+        if let Some((ahead, count)) = reader.behind_line(rest) {
+            reader = ahead;
+            add(&reader, &mut packets);
+            rest = rest.get(count..).unwrap_or(b"");
+            continue;
+        }
+        let Some((byte, behind)) = rest.split_first() else {
+            break;
+        };
+        rest = behind;
+        match reader.take(*byte) {
+            Ok(false) => {}
+            Ok(true) => add(&reader, &mut packets),
+            Err(offence) => {
+                return Err((at.saturating_sub(usize::from(offence.back)), offence.why));
+            }
+        }
+    }
+    match reader.finish() {
+        Ok(false) => {}
+        Ok(true) => add(&reader, &mut packets),
+        Err(why) => return Err((file.len(), why)),
+    }
+    Ok(packets)
+}
+
 // A head of 50 bytes, which says 30 frames a second, with lines behind it.
 fn behind_head(lines: &[u8]) -> ArrayVec<u8, 256> {
     let mut file = ArrayVec::new();
@@ -42,17 +75,21 @@ fn behind_head(lines: &[u8]) -> ArrayVec<u8, 256> {
 
 // The file has these packets.
 fn has(rt: &impl Abort, file: &[u8], packets: &[(u32, usize)]) {
-    match read(file) {
-        Ok(found) => assert_eq!(rt; found.as_slice(), packets),
-        Err(_) => panic!(rt; "the file is refused"),
+    for found in [read(file), read_in_lines(file)] {
+        match found {
+            Ok(found) => assert_eq!(rt; found.as_slice(), packets),
+            Err(_) => panic!(rt; "the file is refused"),
+        }
     }
 }
 
 // The file's first offence is at this place.
 fn offends(rt: &impl Abort, file: &[u8], place: usize, why: Why) {
-    match read(file) {
-        Ok(_) => panic!(rt; "no offence"),
-        Err(found) => assert_eq!(rt; found, (place, why)),
+    for found in [read(file), read_in_lines(file)] {
+        match found {
+            Ok(_) => panic!(rt; "no offence"),
+            Err(found) => assert_eq!(rt; found, (place, why)),
+        }
     }
 }
 
@@ -338,4 +375,125 @@ fn packets_come_with_their_line_end(rt: HostRuntime) {
     assert_eq!(rt; reader.frame(), 8);
     let packet: &[u8] = &[0x80, 0x01, 0x01, 0x77, 0xF9];
     assert_eq!(rt; reader.bytes(), packet);
+}
+
+// A reader that took a file.
+fn reader_behind(rt: &impl Abort, file: &[u8]) -> MccReader {
+    let mut reader = MccReader::new();
+    for byte in file {
+        if reader.take(*byte).is_err() {
+            panic!(rt; "refused");
+        }
+    }
+    reader
+}
+
+// The frame, the number of bytes and the length of the packet's line that is read in one go behind a file.
+fn line_behind(rt: &impl Abort, file: &[u8], bytes: &[u8]) -> Option<(u32, usize, usize)> {
+    let (ahead, count) = reader_behind(rt, file).behind_line(bytes)?;
+    assert!(rt; ahead.is_at_start());
+    Some((ahead.frame(), ahead.bytes().len(), count))
+}
+
+#[test]
+fn lines_are_read_in_one_go(rt: HostRuntime) {
+    let rows: [(&[u8], &[u8], (u32, usize, usize)); 11] = [
+        (b"", b"00:00:00:00\t8001Z81\n", (0, 4, 20)),
+        (b"", b"00:00:00:00\t8001Z81\r\n", (0, 4, 21)),
+        (b"", b"00:00:00;05\t80010177f9\n", (5, 5, 23)),
+        (b"", b"00:00:00:29\tZZZZ\n00:00:00:28\t", (29, 4, 17)),
+        (b"", b"00:00:01:00\t8001Z81\n\n", (30, 4, 20)),
+        (b"", b"00:00:01:00\t8001Z81\r\n\n", (30, 4, 21)),
+        (b"", b"23:59:59:29\tFA00020000FC\nx", (2_591_999, 6, 25)),
+        (
+            b"",
+            b"01:00:00:00\tT49S494F43ZZ72F4QROO74ZZBFAB\n",
+            (108_000, 77, 41),
+        ),
+        (b"// x\n\n", b"00:00:00:07\t8001Z81\n", (7, 4, 20)),
+        (
+            b"00:00:00:29\t8001Z81 \n",
+            b"00:00:00:29\t80010178FA\n",
+            (29, 5, 23),
+        ),
+        (
+            b"00:00:00:29\t8001Z81\r\n",
+            b"00:00:01:00\t80010178FA\r\n",
+            (30, 5, 24),
+        ),
+    ];
+    for (before, bytes, line) in rows {
+        assert_eq!(rt; line_behind(&rt, &behind_head(before), bytes), Some(line));
+    }
+    let file = b"File Format=MacCaption_MCC V2.0\nTime Code Rate=60DF\n";
+    let found = line_behind(&rt, file, b"00:10:00:00\t8001Z81\n");
+    assert_eq!(rt; found, Some((35_964, 4, 20)));
+}
+
+// Lines that are blank, comments, attributes, cut or spelled otherwise, lines that offend, and lines that have begun.
+#[test]
+fn other_lines_are_not_read_in_one_go(rt: HostRuntime) {
+    let lines: [&[u8]; 32] = [
+        b"",
+        b"\n",
+        b"\r\n",
+        b" \t\n00:00:00:00\t8001Z81\n",
+        b"// 00:00:00:00\n",
+        b"UUID=1\n",
+        b"Creation Program=x\n",
+        b"00:00:00:0",
+        b"00:00:00:00",
+        b"00:00:00:00\t",
+        b"00:00:00:00\t\n",
+        b"00:00:00:00\t8001Z8",
+        b"00:00:00:00\t8001Z81",
+        b"00:00:00:00\t8001Z81\r",
+        b"00:00:00:00\t8001Z81\rx",
+        b"00:00:00:00\t8001Z81 \n",
+        b"00:00:00:00\t8001Z81 \r\n",
+        b"00:00:00:00 8001Z81\n",
+        b"00:00:00:008001Z81\n",
+        b"00:00:00:00.0\t8001Z81\n",
+        b"00:00:00.00\t8001Z81\n",
+        b"0:00:00:00\t8001Z81\n",
+        b" 00:00:00:00\t8001Z81\n",
+        b"24:00:00:00\t8001Z81\n",
+        b"00:00:00:30\t8001Z81\n",
+        b"00:00:00:00\t8\n",
+        b"00:00:00:00\t80010177\n",
+        b"00:00:00:00\t80010177F8\n",
+        b"00:00:00:00\t80010178G\n",
+        b"00:00:00:00\t80010177F94\n",
+        b"00:00:00:00\t80010177F9Z\n",
+        b"00:00:00:00\t80010177F9\t\n",
+    ];
+    for (row, bytes) in lines.iter().enumerate() {
+        assert_eq!(rt;
+            line_behind(&rt, &behind_head(b""), bytes),
+            None,
+            "row {row}"
+        );
+    }
+    let line = b"00:00:00:29\t8001Z81\n";
+    let fronts: [&[u8]; 6] = [
+        b"00:00:01:00\t8001Z81\n",
+        b"/",
+        b" ",
+        b"0",
+        b"00:00:00:29\t",
+        b"00:00:00:29\t8001Z81\r",
+    ];
+    for before in fronts {
+        assert_eq!(rt; line_behind(&rt, &behind_head(before), line), None);
+    }
+    let heads: [&[u8]; 3] = [
+        b"",
+        b"File Format=MacCaption_MCC V1.0\n",
+        b"File Format=MacCaption_MCC V2.0\nTime Code Rate=24",
+    ];
+    for file in heads {
+        assert_eq!(rt; line_behind(&rt, file, line), None);
+    }
+    let file = b"File Format=MacCaption_MCC V2.0\nTime Code Rate=24\n";
+    assert_eq!(rt; line_behind(&rt, file, b"00:00:00:01.0,1\t8001Z81\n"), None);
 }
