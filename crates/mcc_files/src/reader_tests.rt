@@ -497,3 +497,11 @@ fn other_lines_are_not_read_in_one_go(rt: HostRuntime) {
     let file = b"File Format=MacCaption_MCC V2.0\nTime Code Rate=24\n";
     assert_eq!(rt; line_behind(&rt, file, b"00:00:00:01.0,1\t8001Z81\n"), None);
 }
+
+// Lines that are read in one go, and others between them.
+#[test]
+fn lines_take_turns(rt: HostRuntime) {
+    let file =
+        b"File Format=MacCaption_MCC V2.0\nTime Code Rate=24\n00:00:00:01\t8001Z81\n00:00:00:02.1,12\t80010178FA\n00:00:00:03\t8001Z81\r\n// x\n \n00:00:00:03\t800101Z82  \r\n";
+    has(&rt, file, &[(1, 4), (2, 5), (3, 4), (3, 5)]);
+}
