@@ -1,16 +1,22 @@
 -- Where no frame is missing all packets are as they came.
-use Rattle.std.proofs.Common.{◌≡◌, ℕ, zero, ◌+◌, ◌-◌, ◌*◌, ◌%◌, ◌≤◌, ◌<◌, inl, inr, Bool, true, false, cond, List, [], ◌∷◌, ◌++◌, sum, Option, Some, None, refl, ap, sym, ◌∙◌, subst, arith}
+use Rattle.std.proofs.Common.{◌≡◌, ℕ, zero, ◌+◌, ◌-◌, ◌*◌, ◌%◌, ◌≤◌, ◌<◌, inl, inr, Bool, true, false, cond, nat_lt, List, [], ◌∷◌, ◌++◌, length, sum, Option, Some, None, refl, ap, sym, ◌∙◌, subst, arith}
+use Rattle.std.specs.Prelude.{IfSome}
+use Rattle.std.specs.List.{concat}
+use Rattle.std.proofs.lemmas.Bool.Decides.{nat_tests}
 use Rattle.anc_words.specs.Writing.{packet_bytes}
+use Rattle.cc_base.specs.Rate.{rate_code}
 use Rattle.cdp_packets.specs.Packets.{Frame, IsCdp}
 use Rattle.mcc_files.specs.MccFiles.{TimedPackets}
 use Rattle.mcc_payloads.specs.Payloads.{Payload}
 use Rattle.mcc_payloads.specs.PayloadWords.{payload_words}
 use Rattle.mcc_payloads.proofs.WrittenLemmas.{AreBytes, back_bytes, tail_bytes}
 use Rattle.mcc_words.specs.Close.{AreClose, HaveBytes, IsClose, words_as_they_came}
+use Rattle.mcc_words.specs.Makers.{raises, was_raised}
 use Rattle.mcc_words.specs.MccWords.{AreCaptionWords, AreMissing, AreMccWords, AreWordsBehind, IsCaptions, counts_missing, first_number, missing, raised_by}
 use Rattle.mcc_words.specs.Missing.{AreFramesWithout}
 use Rattle.mcc_words.specs.Raised.{IsRaised}
 use Rattle.mcc_words.specs.declared.maker.Before.{Before}
+use Rattle.mcc_words.specs.declared.maker.MccWords.{MccWords}
 use Rattle.mcc_words.proofs.RaiseLemmas.{sum_both, sum_first}
 
 -- a counter that isn't raised
@@ -39,18 +45,20 @@ sum_foot head middle high low last =
     let none : sum [] ≡ 0 = refl in
     omega (arith, all, one, two, both, three, four, five, six, none)
 
+-- the bytes of the counter and of the sum are bytes
+pub foot_bytes : (head middle : List ℕ) (high low last : ℕ) → AreBytes (head ++ (high ∷ low ∷ (middle ++ 0x74 ∷ high ∷ low ∷ last ∷ [])))
+    → (high < 256) × (low < 256) × (last < 256)
+foot_bytes head middle high low last bytes =
+    let foot = 0x74 ∷ high ∷ low ∷ last ∷ [] in
+    let back = back_bytes head (high ∷ low ∷ (middle ++ foot)) bytes in
+    let behind = tail_bytes high (low ∷ (middle ++ foot)) back in
+    let feet = back_bytes middle foot (tail_bytes low (middle ++ foot) behind) in
+    let lasts = tail_bytes low (last ∷ []) (tail_bytes high (low ∷ last ∷ []) (tail_bytes 0x74 (high ∷ low ∷ last ∷ []) feet)) in
+    (byte_first high (low ∷ (middle ++ foot)) back, byte_first low (middle ++ foot) behind, byte_first last [] lasts)
+
 pub not_raised : (packet : Frame) (user raised : List ℕ) → IsCdp packet user → AreBytes user → IsRaised 0 user raised → raised ≡ user
 not_raised packet user raised is bytes r =
-    let foot = 0x74 ∷ r.high ∷ r.low ∷ r.last ∷ [] in
-    let tail = r.high ∷ r.low ∷ (r.middle ++ foot) in
-    let all : AreBytes (r.head ++ tail) = subst (λ (b : List ℕ). AreBytes b) r.user_is bytes in
-    let back = back_bytes r.head tail all in
-    let high = byte_first r.high (r.low ∷ (r.middle ++ foot)) back in
-    let behind = tail_bytes r.high (r.low ∷ (r.middle ++ foot)) back in
-    let low = byte_first r.low (r.middle ++ foot) behind in
-    let feet = back_bytes r.middle foot (tail_bytes r.low (r.middle ++ foot) behind) in
-    let lasts = tail_bytes r.low (r.last ∷ []) (tail_bytes r.high (r.low ∷ r.last ∷ []) (tail_bytes 0x74 (r.high ∷ r.low ∷ r.last ∷ []) feet)) in
-    let last = byte_first r.last [] lasts in
+    let (high, low, last) = foot_bytes r.head r.middle r.high r.low r.last (subst (λ (b : List ℕ). AreBytes b) r.user_is bytes) in
     let (high_fits, low_fits, last_fits) = r.bytes in
     let (highs, lows) = same_two r.high_again r.low_again r.high r.low high_fits low_fits high low r.counter in
     let again : raised ≡ r.head ++ (r.high ∷ r.low ∷ (r.middle ++ 0x74 ∷ r.high ∷ r.low ∷ r.last_again ∷ [])) =
@@ -61,6 +69,46 @@ not_raised packet user raised is bytes r =
     let was : (rest + r.last) % 256 ≡ 0 = ap (λ n. n % 256) (sym (ap (λ b. sum b) r.user_is ∙ sum_foot r.head r.middle r.high r.low r.last)) ∙ is.total in
     let same = same_last rest r.last_again r.last last_fits last now was in
     again ∙ (ap (λ l. r.head ++ (r.high ∷ r.low ∷ (r.middle ++ 0x74 ∷ r.high ∷ r.low ∷ l ∷ []))) same ∙ sym r.user_is)
+
+same_counter : (high low : ℕ) → high < 256 → low < 256 → 256 * high + low ≡ (256 * high + low + 0) % 65536
+same_counter high low high_fits low_fits = omega (arith, high_fits, low_fits)
+
+-- a packet is itself with its counter raised by nothing
+pub none_raises : (packet : Frame) (user : List ℕ) → IsCdp packet user → AreBytes user → IsRaised 0 user user
+none_raises packet user is bytes =
+    let head = 0x96 ∷ 0x69 ∷ length user ∷ (16 * rate_code packet.rate + is.marker) ∷ packet.flags ∷ [] in
+    let middle = concat packet.sections in
+    let (high, low, last) = foot_bytes head middle is.high is.low is.last (subst (λ (b : List ℕ). AreBytes b) is.spelled bytes) in
+    record {
+      head = head;
+      middle = middle;
+      high = is.high;
+      low = is.low;
+      last = is.last;
+      high_again = is.high;
+      low_again = is.low;
+      last_again = is.last;
+      five = refl;
+      user_is = is.spelled;
+      raised_is = is.spelled;
+      counter = same_counter is.high is.low high low;
+      bytes = (high, low, last);
+      total = is.total;
+    }
+
+-- the words of a packet whose counter isn't raised are as they came
+none_by_test : (raised : ℕ) → nat_lt 0 raised ≡ false → raised ≡ 0
+none_by_test raised is = grind (arith, nat_tests)
+
+as_it_came : (before : Option Before) (packet : Frame) (user bytes : List ℕ) → was_raised before ≡ false → IsCdp packet user → AreBytes user → bytes ≡ packet_bytes 0x61 0x01 user
+    → IfSome before (λ now. (raised : List ℕ) × IsRaised now.raised user raised × (bytes ≡ packet_bytes 0x61 0x01 raised))
+as_it_came None packet user bytes none is fits are = tt
+as_it_came (Some now) packet user bytes none is fits are =
+    (user, subst (λ (by : ℕ). IsRaised by user user) (sym (none_by_test now.raised none)) (none_raises packet user is fits), are)
+
+pub unraised_words : (maker : MccWords) (packet : Frame) (user bytes : List ℕ) → raises maker ≡ false → IsCdp packet user → AreBytes user → bytes ≡ packet_bytes 0x61 0x01 user
+    → IfSome maker.before (λ now. (raised : List ℕ) × IsRaised now.raised user raised × (bytes ≡ packet_bytes 0x61 0x01 raised))
+unraised_words maker packet user bytes none is fits are = as_it_came maker.before packet user bytes none is fits are
 
 -- what is before close packets: nothing was raised
 abbrev pub Unraised : Option ℕ → Option Before → Type 0

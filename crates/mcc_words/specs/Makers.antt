@@ -1,6 +1,6 @@
 -- Between crates: the program's answer stands on none of these definitions.
 -- What a maker of words does at each call.
-use Rattle.std.specs.Prelude.{◌≡◌, ℕ, ◌+◌, ◌%◌, Bool, true, false, List, [], Option, Some, None}
+use Rattle.std.specs.Prelude.{◌≡◌, ℕ, ◌+◌, ◌%◌, Bool, true, false, nat_lt, List, [], Option, Some, None}
 use Rattle.cdp_packets.specs.Packets.{Frame, IsCdp}
 use Rattle.mcc_files.specs.MccFiles.{TimedPackets}
 use Rattle.mcc_words.specs.MccWords.{AreWordsBehind, first_number, missing, raised_by}
@@ -25,6 +25,15 @@ pub record BeginsCaptions (old : MccWords) (frame : ℕ) (user : List ℕ) (new 
   pub is : IsCdp packet user
   pub are : AreMissingFrames old.before frame frames
   pub after : new.before ≡ Some (record { frame = frame; rate = packet.rate; counter = packet.counter; raised = raised_by old.before frame packet.counter })
+
+-- whether the counter of the packet of captions before, if there is one, was raised
+abbrev pub was_raised : Option Before → Bool
+was_raised None = false
+was_raised (Some before) = nat_lt 0 before.raised
+
+-- whether the counter of the packet of captions that was begun is raised
+abbrev pub raises : MccWords → Bool
+raises maker = was_raised maker.before
 
 -- the next of missing frames was put, or there was none
 abbrev pub PutsNext : MissingFrames → MissingFrames → Bool → List ℕ → Type 0

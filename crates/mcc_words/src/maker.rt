@@ -49,7 +49,7 @@ fn modulo_65536(frames: u32) -> u16
 
 impl MccWords {
     ghost use Rattle.mcc_words.specs.MccWords.{raised_by};
-    ghost use Rattle.mcc_words.specs.Makers.{AreMissingFrames, BeginsCaptions, HasMade};
+    ghost use Rattle.mcc_words.specs.Makers.{AreMissingFrames, BeginsCaptions, HasMade, raises};
 
     /// A maker before all packets.
     pub fn new() -> MccWords
@@ -129,5 +129,15 @@ impl MccWords {
         let mut raised = ArrayVec::new();
         raise(user, by, &mut raised);
         write_packet(0x61, 0x01, &raised, out);
+    }
+    /// Whether the counter of the packet of captions that was begun is raised, never before all packets. Where it isn't, the packet's words
+    /// are as they came.
+    pub fn raises(&self) -> bool
+        ensures { result ≡ raises self.now }
+    {
+        match self.before {
+            Some(now) => now.raised > 0,
+            None => false,
+        }
     }
 }

@@ -49,6 +49,7 @@ fn takes(rt: &impl Abort, maker: &mut MccWords, at: u32, counter: u8, before: &[
         panic!(rt; "no packet");
     };
     are_missing(rt, missing, before);
+    assert_eq!(rt; maker.raises(), own != counter);
     let mut words = ArrayVec::new();
     maker.put_captions(&packet, &mut words);
     are_words(rt, &words, &frame(own));
@@ -57,6 +58,7 @@ fn takes(rt: &impl Abort, maker: &mut MccWords, at: u32, counter: u8, before: &[
 #[test]
 fn packets_go_on(rt: HostRuntime) {
     let mut maker = MccWords::new();
+    assert!(rt; !maker.raises());
     takes(&rt, &mut maker, 1_799, 0, &[], 0);
     takes(&rt, &mut maker, 1_800, 1, &[], 1);
     takes(&rt, &mut maker, 1_800, 2, &[], 2);
