@@ -21,7 +21,7 @@ use Rattle.text_output.specs.Gathered.{Gathers, IsGathered}
 use Rattle.text_output.proofs.PageLemmas.{gathered_more}
 use Rattle.mcc_import.specs.Imported.{PassesWith, frames_put}
 use Rattle.words_reading.specs.declared.judge.Stop.TheVariants as stopped
-use Rattle.mcc_import.specs.Importing.{AddsMissing, AddsPacket, Counts, IsMade, PassesBy, frame_size}
+use Rattle.mcc_import.specs.Importing.{AddsMissing, AddsPacket, AreBegunWords, Counts, HasBegun, IsMade, PassesBy, frame_size}
 use Rattle.mcc_import.specs.declared.made.Made.{Made}
 use Rattle.mcc_import.proofs.MadeLemmas.{captions_counted, frames_long, other_counted, some_without}
 use Rattle.mcc_import.proofs.ReadLemmas.{within_of}
@@ -179,19 +179,26 @@ captions_counted_in placed words old mid new frame user missing bytes without si
   bytes_are = counted ∙ (ap (λ n. n + size) bytes_same ∙ sym (captions_bytes placed words old missing bytes without 0 size made are size_is));
 }
 
--- what was begun, and put
-begun_at : (placed : TimedPackets) (words : List ℕ) (old : Made) (maker : MccWords) (frame : ℕ) (user : List ℕ) (missing : MissingFrames) (bytes items : List ℕ) (now : Before) → bytes ≡ items
-    → BeginsCaptions old.words frame user maker missing → maker.before ≡ Some now
-    → IfSome maker.before (λ now. (raised : List ℕ) × IsRaised now.raised user raised × (items ≡ packet_bytes 0x61 0x01 raised)) → Begun placed words old maker frame user missing bytes
-begun_at placed words old maker frame user missing bytes items now same begins is put =
-    let put : IfSome (Some now) (λ (n : Before). (raised : List ℕ) × IsRaised n.raised user raised × (items ≡ packet_bytes 0x61 0x01 raised)) =
-    subst (λ (b : Option Before). IfSome b (λ (n : Before). (raised : List ℕ) × IsRaised n.raised user raised × (items ≡ packet_bytes 0x61 0x01 raised))) is put in
-    record { begins = begins; now = now; now_is = is; raised = put.0; is_raised = put.1; are = same ∙ put.2 }
+-- what was begun, and these are its words
+begun_at : (placed : TimedPackets) (words : List ℕ) (old : Made) (maker : MccWords) (frame : ℕ) (user : List ℕ) (missing : MissingFrames) (bytes : List ℕ) (now : Before)
+    → BeginsCaptions old.words frame user maker missing → maker.before ≡ Some now → AreBegunWords maker user bytes → Begun placed words old maker frame user missing bytes
+begun_at placed words old maker frame user missing bytes now begins is put =
+    let put : IfSome (Some now) (λ (n : Before). (raised : List ℕ) × IsRaised n.raised user raised × (bytes ≡ packet_bytes 0x61 0x01 raised)) =
+    subst (λ (b : Option Before). IfSome b (λ (n : Before). (raised : List ℕ) × IsRaised n.raised user raised × (bytes ≡ packet_bytes 0x61 0x01 raised))) is put in
+    record { begins = begins; now = now; now_is = is; raised = put.0; is_raised = put.1; are = put.2 }
 
-pub begun : (placed : TimedPackets) (words : List ℕ) (old : Made) (maker : MccWords) (frame : ℕ) (user : List ℕ) (missing : MissingFrames) (bytes items : List ℕ) → bytes ≡ items
-    → BeginsCaptions old.words frame user maker missing
-    → IfSome maker.before (λ now. (raised : List ℕ) × IsRaised now.raised user raised × (items ≡ packet_bytes 0x61 0x01 raised)) → Begun placed words old maker frame user missing bytes
-begun placed words old maker frame user missing bytes items same begins put = begun_at placed words old maker frame user missing bytes items _ same begins begins.after put
+-- what was made before
+abbrev pub made_before : MccWords → Made → Made
+made_before before made = record made { words = before }
+
+pub was_made : (placed : TimedPackets) (words : List ℕ) (frame : ℕ) (user : List ℕ) (missing : MissingFrames) (made : Made) (b : HasBegun placed words frame user missing made)
+    → IsMade placed words (made_before b.before made)
+was_made placed words frame user missing made b = record { has = b.has; frames_are = b.frames_are; bytes_are = b.bytes_are }
+
+pub begun : (placed : TimedPackets) (words : List ℕ) (frame : ℕ) (user : List ℕ) (missing : MissingFrames) (made : Made) (bytes : List ℕ) (b : HasBegun placed words frame user missing made)
+    → AreBegunWords made.words user bytes → Begun placed words (made_before b.before made) made.words frame user missing bytes
+begun placed words frame user missing made bytes b put =
+    begun_at placed words (made_before b.before made) made.words frame user missing bytes _ b.begins b.begins.after put
 
 -- the words of the missing frames were added, and those of the packet
 pub captions_done : (placed : TimedPackets) (words : List ℕ) (old mid new : Made) (frame : ℕ) (user : List ℕ) (missing : MissingFrames) (bytes : List ℕ) (size : ℕ)

@@ -161,14 +161,3 @@ cut_short bytes s refusal reads none (inr e) = record { early = e; no_word = non
 pub byte_offends : (bytes : List ℕ) (byte : ℕ) (refusal : Refusal) (back : ℕ) → refusal.place ≡ length bytes - back → IsFirstOffence (bytes ++ byte ∷ []) refusal → MccByteOffends (bytes ++ byte ∷ []) refusal
 byte_offends bytes byte refusal back place (inl b) = b
 byte_offends bytes byte refusal back place (inr e) = let at = e.place_is in absurd (omega (arith, place, at, length-append bytes (byte ∷ [])))
-
--- a payload is what it says
-pub said_same : (p : Payload) (did sdid : ℕ) (user : List ℕ) → did ≡ p.did → sdid ≡ p.sdid → user ≡ p.user → record { did = did; sdid = sdid; user = user } ≡ p
-said_same p did sdid user did_is sdid_is user_is = subst3 p did sdid user did_is sdid_is user_is
-  where
-    payload : ℕ → ℕ → List ℕ → Payload
-    payload did sdid user = record { did = did; sdid = sdid; user = user }
-
-    subst3 : (p : Payload) (did sdid : ℕ) (user : List ℕ) → did ≡ p.did → sdid ≡ p.sdid → user ≡ p.user → payload did sdid user ≡ p
-    subst3 p did sdid user did_is sdid_is user_is =
-        ap (λ (d : ℕ). payload d sdid user) did_is ∙ (ap (λ (s : ℕ). payload p.did s user) sdid_is ∙ ap (λ (u : List ℕ). payload p.did p.sdid u) user_is)

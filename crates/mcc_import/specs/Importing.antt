@@ -1,6 +1,7 @@
 -- Between crates: the program's answer stands on none of these definitions.
 -- An import on its way: what was read of the file, which words were heard, and what was made of the packets.
-use Rattle.std.specs.Prelude.{◌≡◌, ◌≤◌, ◌<◌, ◌+◌, ◌*◌, ℕ, List, [], ◌∷◌, ◌++◌, length, take, Option, Result, Ok, Err}
+use Rattle.std.specs.Prelude.{◌≡◌, ◌≤◌, ◌<◌, ◌+◌, ◌*◌, ℕ, List, [], ◌∷◌, ◌++◌, length, take, Option, IfSome, Result, Ok, Err}
+use Rattle.anc_words.specs.Writing.{packet_bytes}
 use Rattle.cc_base.specs.Rate.{triplets_in_frame}
 use Rattle.std.specs.Io.KnownBytes.{Appends, Consumes}
 use Rattle.cc_base.specs.Streams.{Puts, Rose}
@@ -20,9 +21,12 @@ use Rattle.mcc_files.specs.declared.phase.Phase.TheVariants as phase
 use Rattle.mcc_files.specs.declared.reader.MccReader.{MccReader}
 use Rattle.mcc_payloads.specs.Payloads.{Payload}
 use Rattle.mcc_words.specs.Close.{words_as_they_came}
-use Rattle.mcc_words.specs.Makers.{HasMade}
+use Rattle.mcc_words.specs.Makers.{BeginsCaptions, HasMade}
 use Rattle.mcc_words.specs.MccWords.{AreMccWords}
 use Rattle.mcc_words.specs.Missing.{AreFramesWithout}
+use Rattle.mcc_words.specs.Raised.{IsRaised}
+use Rattle.mcc_words.specs.declared.maker.MccWords.{MccWords}
+use Rattle.mcc_words.specs.declared.missing.MissingFrames.{MissingFrames}
 use Rattle.scc_files.specs.Offences.{EndsLine}
 use Rattle.services_files.specs.CaptionChannel.{caption_channel}
 use Rattle.text_output.specs.Gathered.{GathersText, IsGathered}
@@ -73,6 +77,19 @@ AddsPacket placed words last start then after made (Err stopped.WriteFault) =
     (more : List ℕ) × AreWithinImport (placed ++ last ∷ []) (words ++ more) × Puts start then put.Failed (words ++ more)
 AddsPacket placed words last start then after made (Err (stopped.Own (stop.Passes which))) = PassesBy which placed last × IsGathered start then after words
 AddsPacket placed words last start then after made (Err _) = ⊥
+
+-- a packet of captions with these user bytes was begun at a frame behind packets of which these words were made, and before it these frames
+-- are missing
+pub record HasBegun (placed : TimedPackets) (words : List ℕ) (frame : ℕ) (user : List ℕ) (missing : MissingFrames) (made : Made) : Type 0 where
+  pub before : MccWords
+  pub has : HasMade placed words before
+  pub frames_are : made.frames ≡ frames_put placed
+  pub bytes_are : made.bytes ≡ length words
+  pub begins : BeginsCaptions before frame user made.words missing
+
+-- these are the words of the packet of captions with these user bytes that was begun: those of the packet with its counter raised
+abbrev pub AreBegunWords : MccWords → List ℕ → List ℕ → Type 0
+AreBegunWords maker user bytes = IfSome maker.before (λ now. (raised : List ℕ) × IsRaised now.raised user raised × (bytes ≡ packet_bytes 0x61 0x01 raised))
 
 -- the words of missing frames were added, or a put of them failed
 abbrev pub AddsMissing : Rate → ℕ → ℕ → List ℕ → Option (List ℕ) → Option (List ℕ) → List ℕ → Put → Type 0
@@ -224,6 +241,12 @@ pub record HasEnded (placed : TimedPackets) (importing : Importing) : Type 0 whe
 pub record SomeEnded (importing : Importing) : Type 0 where
   pub placed : TimedPackets
   pub ended : HasEnded placed importing
+
+-- nothing changed but the words that were made
+pub record KeepsAllElse (old new : Importing) : Type 0 where
+  pub reader : new.reader ≡ old.reader
+  pub hearer : new.hearer ≡ old.hearer
+  pub place : new.place ≡ old.place
 
 -- a reader took a line behind bytes, and it is a packet's
 pub record ReadsLine (before : List ℕ) (placed : TimedPackets) (line : List ℕ) (reader : MccReader) : Type 0 where

@@ -1,16 +1,18 @@
-ghost use Rattle.std.specs.Prelude.{◌≡◌, ◌≤◌, ◌^◌, ℕ, List, [], Option, length};
+ghost use Rattle.std.specs.Prelude.{◌≡◌, ◌≤◌, ◌<◌, ◌^◌, ℕ, List, [], Option, length};
+ghost use Rattle.std.specs.List.{All};
+ghost use Rattle.anc_words.specs.Writing.{packet_bytes};
 ghost use Rattle.cc_base.specs.Streams.{PutCause};
 ghost use Rattle.cdp_packets.specs.Packets.{Frame, IsCdp};
 ghost use Rattle.mcc_files.specs.MccFiles.{TimedPackets};
 ghost use Rattle.mcc_payloads.specs.Payloads.{Payload};
+ghost use Rattle.mcc_payloads.specs.PayloadWords.{payload_words};
 ghost use Rattle.mcc_words.specs.MccWords.{IsCaptions};
 ghost use Rattle.text_output.specs.Gathered.{GathersText, IsGathered, held_of};
 ghost use Rattle.words_reading.specs.Judging.{StopCause};
-ghost use Rattle.mcc_import.specs.Importing.{AddsMissing, AddsPacket, Counts, IsMade, frame_size};
+ghost use Rattle.mcc_import.specs.Importing.{AddsMissing, AddsPacket, AreBegunWords, Counts, HasBegun, IsMade, frame_size};
 
 use crate::made::Made;
 use crate::stop::MccStop;
-use anc_words::write_packet;
 use arrayvec::ArrayVec;
 use cc_base::{LimitOf, Put, Rate, Sink};
 use mcc_words::{MccWords, MissingFrames};
@@ -57,16 +59,20 @@ impl Made {
         Ok(())
     }
 
-    /// Adds the words of a packet of captions with these user bytes at a frame of the day, behind the frames that are missing before it.
+    /// Adds the words of a packet of captions with these user bytes at a frame of the day, behind the frames that are missing before it: as they
+    /// came, where its counter isn't raised.
     pub(crate) fn add_captions<O: Sink>(
         &mut self,
         frame: u32,
         user: &[u8],
+        packet: &[u8],
         text: &mut Gathered,
         out: &mut O,
     ) -> Result<(), Stop<MccStop>>
         requires few { length user.now ≤ 255 }
-        requires packet { (packet : Frame) × IsCdp packet user.now }
+        requires bytes { All (λ byte. byte < 256) user.now }
+        requires captions { (cdp : Frame) × IsCdp cdp user.now }
+        requires words { packet.now ≡ packet_bytes 0x61 0x01 user.now }
         ensures adds { (placed : TimedPackets) (words : List ℕ) (start : Option (List ℕ))
             → IsMade placed words self.old
             → IsGathered start (O.written out.old) (held_of text.old) words
@@ -78,10 +84,56 @@ impl Made {
         let Some(missing) = self.words.begin_captions(frame, user) else {
             unreachable!();
         };
+        if self.words.raises() {
+            return self.add_raised(missing, user, text, out);
+        }
+        self.add_words(missing, packet, text, out)
+    }
+
+    /// Adds the words of the packet of captions with these user bytes that was begun, whose counter is raised, behind the frames that are
+    /// missing before it.
+    #[cold]
+    fn add_raised<O: Sink>(
+        &mut self,
+        missing: MissingFrames,
+        user: &[u8],
+        text: &mut Gathered,
+        out: &mut O,
+    ) -> Result<(), Stop<MccStop>>
+        requires few { length user.now ≤ 255 }
+        requires captions { (cdp : Frame) × IsCdp cdp user.now }
+        ensures adds { (placed : TimedPackets) (words : List ℕ) (start : Option (List ℕ)) (frame : ℕ)
+            → HasBegun placed words frame user.now missing self.old
+            → IsGathered start (O.written out.old) (held_of text.old) words
+            → AddsPacket placed words
+            (frame, record { did = 0x61; sdid = 0x01; user = user.now }) start
+            (O.written out.new) (held_of text.new) self.new result }
+        ensures cause { StopCause (O.faults out.old) (O.faults out.new) result }
+    {
         let mut words = ArrayVec::new();
         self.words.put_captions(user, &mut words);
+        self.add_words(missing, &words, text, out)
+    }
+
+    /// Adds the words of the packet of captions that was begun, behind those of the frames that are missing before it.
+    fn add_words<O: Sink>(
+        &mut self,
+        missing: MissingFrames,
+        packet: &[u8],
+        text: &mut Gathered,
+        out: &mut O,
+    ) -> Result<(), Stop<MccStop>>
+        requires { length packet.now ≤ 524 }
+        ensures adds { (placed : TimedPackets) (words : List ℕ) (start : Option (List ℕ)) (frame : ℕ)
+            (user : List ℕ) → HasBegun placed words frame user missing self.old
+            → AreBegunWords self.old.words user packet.now
+            → IsGathered start (O.written out.old) (held_of text.old) words
+            → AddsPacket placed words (frame, record { did = 0x61; sdid = 0x01; user = user })
+            start (O.written out.new) (held_of text.new) self.new result }
+        ensures cause { StopCause (O.faults out.old) (O.faults out.new) result }
+    {
         let many = u64::from(missing.left);
-        let size = many * frame_size(missing.rate) + words.len() as u64;
+        let size = many * frame_size(missing.rate) + packet.len() as u64;
         if let Err(which) = self.count(many + 1, size) {
             return Err(Stop::Own(MccStop::Passes(which)));
         }
@@ -89,7 +141,7 @@ impl Made {
             Put::Done => {}
             Put::Failed => return Err(Stop::WriteFault),
         }
-        match text.add(&words, out) {
+        match text.add(packet, out) {
             Put::Done => Ok(()),
             Put::Failed => Err(Stop::WriteFault),
         }
@@ -98,27 +150,23 @@ impl Made {
     /// Adds the words of another packet.
     pub(crate) fn add_other<O: Sink>(
         &mut self,
-        did: u8,
-        sdid: u8,
-        user: &[u8],
+        packet: &[u8],
         text: &mut Gathered,
         out: &mut O,
     ) -> Result<(), Stop<MccStop>>
-        requires few { length user.now ≤ 255 }
-        ensures adds { (placed : TimedPackets) (words : List ℕ) (start : Option (List ℕ)) (frame : ℕ)
-            → IsMade placed words self.old
+        requires { length packet.now ≤ 524 }
+        ensures adds { (placed : TimedPackets) (words : List ℕ) (start : Option (List ℕ))
+            (frame : ℕ) (payload : Payload) → IsMade placed words self.old
             → IsGathered start (O.written out.old) (held_of text.old) words
-            → (IsCaptions (record { did = did; sdid = sdid; user = user.now }) → ⊥)
-            → AddsPacket placed words (frame, record { did = did; sdid = sdid; user = user.now })
-            start (O.written out.new) (held_of text.new) self.new result }
+            → (IsCaptions payload → ⊥) → packet.now ≡ payload_words payload
+            → AddsPacket placed words (frame, payload) start (O.written out.new)
+            (held_of text.new) self.new result }
         ensures cause { StopCause (O.faults out.old) (O.faults out.new) result }
     {
-        let mut words = ArrayVec::new();
-        write_packet(did, sdid, user, &mut words);
-        if let Err(which) = self.count(0, words.len() as u64) {
+        if let Err(which) = self.count(0, packet.len() as u64) {
             return Err(Stop::Own(MccStop::Passes(which)));
         }
-        match text.add(&words, out) {
+        match text.add(packet, out) {
             Put::Done => Ok(()),
             Put::Failed => Err(Stop::WriteFault),
         }

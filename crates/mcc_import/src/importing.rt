@@ -77,7 +77,8 @@ fn offence_in(reader: &MccReader, line: &[u8], place: u64, heard: u64, word: Ref
 
 impl Importing {
     ghost use Rattle.mcc_files.specs.Readers.{HasWholeBytes, packet_in};
-    ghost use Rattle.mcc_import.specs.Importing.{AddsPacket, AreFile, EndsFile, HasEnded, HasImported, IsMade, JudgesItem, MayTake, MayTakeAll, MayTakeLine, SomeEnded, TakesBytes, TakesNext};
+    ghost use Rattle.mcc_payloads.specs.PayloadWords.{payload_words};
+    ghost use Rattle.mcc_import.specs.Importing.{AddsPacket, AreFile, EndsFile, HasEnded, HasImported, IsMade, JudgesItem, KeepsAllElse, MayTake, MayTakeAll, MayTakeLine, SomeEnded, TakesBytes, TakesNext};
     ghost use Rattle.mcc_import.specs.declared.stop.MccStop.TheVariants as stop;
 
     /// An import that took nothing.
@@ -123,8 +124,15 @@ impl Importing {
         }
     }
 
-    /// Adds the words of the packet whose line has ended.
-    fn end_line<O: Sink>(&mut self, text: &mut Gathered, out: &mut O) -> Result<(), Stop<MccStop>>
+    /// Adds these words, of the packet whose line has ended.
+    fn end_line<O: Sink>(
+        &mut self,
+        packet: &[u8],
+        text: &mut Gathered,
+        out: &mut O,
+    ) -> Result<(), Stop<MccStop>>
+        requires room { length packet.now ≤ 524 }
+        requires words { packet.now ≡ payload_words (packet_in self.old.reader).1 }
         requires whole { HasWholeBytes self.old.reader }
         requires ended { SomeEnded self.old }
         ensures adds { (placed : TimedPackets) (words : List ℕ) (start : Option (List ℕ))
@@ -134,17 +142,39 @@ impl Importing {
             (held_of text.new) self.new.made result }
         ensures file { (placed : TimedPackets) → HasEnded placed self.old
             → AreFile (placed ++ packet_in self.old.reader ∷ []) }
-        ensures reader { self.new.reader ≡ self.old.reader }
-        ensures hearer { self.new.hearer ≡ self.old.hearer }
-        ensures place { self.new.place ≡ self.old.place }
+        ensures keeps { KeepsAllElse self.old self.new }
         ensures cause { StopCause (O.faults out.old) (O.faults out.new) result }
     {
         let (did, sdid, user) = said(self.reader.bytes());
         if did == CAPTION_DID && sdid == CAPTION_SDID {
-            self.made.add_captions(self.reader.frame(), user, text, out)
+            self.made
+                .add_captions(self.reader.frame(), user, packet, text, out)
         } else {
-            self.made.add_other(did, sdid, user, text, out)
+            self.made.add_other(packet, text, out)
         }
+    }
+
+    /// Adds the words of the packet whose line has ended, which are written first.
+    fn end_read_line<O: Sink>(
+        &mut self,
+        text: &mut Gathered,
+        out: &mut O,
+    ) -> Result<(), Stop<MccStop>>
+        requires whole { HasWholeBytes self.old.reader }
+        requires ended { SomeEnded self.old }
+        ensures adds { (placed : TimedPackets) (words : List ℕ) (start : Option (List ℕ))
+            → IsMade placed words self.old.made
+            → IsGathered start (O.written out.old) (held_of text.old) words
+            → AddsPacket placed words (packet_in self.old.reader) start (O.written out.new)
+            (held_of text.new) self.new.made result }
+        ensures file { (placed : TimedPackets) → HasEnded placed self.old
+            → AreFile (placed ++ packet_in self.old.reader ∷ []) }
+        ensures keeps { KeepsAllElse self.old self.new }
+        ensures cause { StopCause (O.faults out.old) (O.faults out.new) result }
+    {
+        let mut words = ArrayVec::new();
+        put_packet(self.reader.bytes(), &mut words);
+        self.end_line(&words, text, out)
     }
 
     /// Takes a byte of the file.
@@ -169,7 +199,7 @@ impl Importing {
             Ok(ended) => {
                 self.place += 1;
                 if ended {
-                    self.end_line(text, out)
+                    self.end_read_line(text, out)
                 } else {
                     Ok(())
                 }
@@ -203,7 +233,7 @@ impl Importing {
         }
         self.reader = ahead;
         self.place += line.len() as u64;
-        self.end_line(text, out)
+        self.end_line(&words, text, out)
     }
 
     /// Takes the next line, if it is a packet's and stands whole in the bytes, of which there are some, and else the next byte: how many bytes.
@@ -272,7 +302,7 @@ impl Importing {
         ensures cause { StopCause (O.faults out.old) (O.faults out.new) result }
     {
         match self.reader.finish() {
-            Ok(true) => self.end_line(text, out),
+            Ok(true) => self.end_read_line(text, out),
             Ok(false) => Ok(()),
             Err(why) => Err(Stop::Refused(Refusal {
                 place: self.place,

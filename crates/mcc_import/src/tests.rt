@@ -92,7 +92,7 @@ fn malformed(place: u64, why: Why) -> Status {
 
 #[test]
 fn files_are_imported(rt: HostRuntime) -> Result<(), AllocError> {
-    let rows: [(&[&str], &[u8]); 9] = [
+    let rows: [(&[&str], &[u8]); 11] = [
         (&["File Format=MacCaption_MCC V2.0"], &[]),
         (&[HEAD], &[]),
         (
@@ -140,6 +140,38 @@ fn files_are_imported(rt: HostRuntime) -> Result<(), AllocError> {
             ],
             &[0],
         ),
+        // a line of each other form between two of a time code, a tab, a payload and a line feed
+        (
+            &[
+                HEAD,
+                "00:00:10:00\t",
+                P0,
+                "\n// a comment\n00:00:10:01\t",
+                P1,
+                "\n\n00:00:10:02\t",
+                P0,
+                "\r\n00:00:10:03\t",
+                P1,
+                "\n00:00:10:04\t",
+                P0,
+                " \n00:00:10:05\t",
+                P3,
+                "\n",
+            ],
+            &[0, 1, 0, 1, 0, 3],
+        ),
+        (
+            &[
+                "File Format=MacCaption_MCC V2.0\nTime Code Rate=30\n00:00:00:00\t",
+                P0,
+                "\n00:00:00:01.0,1\t",
+                P1,
+                "\n00:00:00:02\t",
+                P0,
+                "\n",
+            ],
+            &[0, 1, 0],
+        ),
     ];
     for (parts, counters) in rows {
         ends(&rt, rt.alloc(), parts, Status::Ok, counters)?;
@@ -185,6 +217,51 @@ fn offences_are_told(rt: HostRuntime) -> Result<(), AllocError> {
     ];
     for (parts, place, why, counters) in rows {
         ends(&rt, rt.alloc(), parts, malformed(place, why), counters)?;
+    }
+    Ok(())
+}
+
+#[test]
+fn lines_offend_between_others(rt: HostRuntime) -> Result<(), AllocError> {
+    // the second line begins at 95, behind 12 bytes of a time code and a tab and 28 of a payload and a line feed, and its payload at 107
+    let rows: [(&str, &str, u64, Why); 8] = [
+        ("00:01:00;00\t", P0, 95, Why::NoSuchTime),
+        ("00:00:00:01 ", P0, 106, Why::MccSyntax),
+        ("00:00:00:01\t", "T49S4", 112, Why::MccSyntax),
+        ("00:00:00:01\t", "80010178G", 115, Why::MccSyntax),
+        (
+            "00:00:00:01\t",
+            "T49S494F43ZZ72F4QROO74ZZBFAC",
+            133,
+            Why::AncSum,
+        ),
+        (
+            "00:00:00:01\t",
+            "T49S494F43ZZ72F4QROO74ZZBFAB0",
+            135,
+            Why::MccSyntax,
+        ),
+        ("00:00:00:01\t", "T010063", 108, Why::Length),
+        (
+            "00:00:00:01\t",
+            "T49S494F43ZZ72F4QROO74ZZBEAA",
+            131,
+            Why::Sum,
+        ),
+    ];
+    for (time, payload, place, why) in rows {
+        let parts = [
+            HEAD,
+            "00:00:00:00\t",
+            P0,
+            "\n",
+            time,
+            payload,
+            "\n00:00:00:02\t",
+            P1,
+            "\n",
+        ];
+        ends(&rt, rt.alloc(), &parts, malformed(place, why), &[0])?;
     }
     Ok(())
 }

@@ -47,6 +47,10 @@ overflow_add-self g c =
     let was = may.had.place_is in
     omega (arith, within, was)
 
+pub end_line-requires-clause-words : goal.end_line-requires-clause-words
+end_line-requires-clause-words g c =
+    c.deref-2.ensures.0 ∙ c.put_packet.ensures (packet_in c.args.ahead).1 (c.bytes.ensures ∙ c.requires.reads.whole)
+
 pub end_line-requires-clause-whole : goal.end_line-requires-clause-whole
 end_line-requires-clause-whole g c = c.requires.reads.whole
 
@@ -69,4 +73,4 @@ returns-clause-takes g c before words start had reads way =
     subst (λ (b : List ℕ). TakesBytes start (g.O.Sink.written c.end_line.new.out) (held_of c.end_line.new.text) b c.end_line.new.self c.end_line.result)
     (append_assoc before reads.front (10 ∷ []) ∙ ap (λ (l : List ℕ). before ++ l) (sym reads.spelled))
     (line_result (before ++ reads.front) words 10 had.placed start (g.O.Sink.written c.end_line.new.out) (held_of c.end_line.new.text) now c.end_line.new.self c.end_line.result line
-    (c.end_line.ensures.file had.placed line.ended) (c.end_line.ensures.adds had.placed words start line.made way) c.end_line.ensures.reader c.end_line.ensures.hearer c.end_line.ensures.place)
+    (c.end_line.ensures.file had.placed line.ended) (c.end_line.ensures.adds had.placed words start line.made way) c.end_line.ensures.keeps.reader c.end_line.ensures.keeps.hearer c.end_line.ensures.keeps.place)
