@@ -1,16 +1,17 @@
 -- A packet's line is taken at once.
-use Rattle.std.proofs.Common.{◌≡◌, ℕ, ◌+◌, ◌-◌, ◌*◌, ◌<◌, ◌≤◌, inl, inr, Bool, true, false, List, [], ◌∷◌, ◌++◌, append_assoc, append-nil, drop, length, length-append, slice_index, take, Option, Result, Ok, Err, is_err, refl, ap, sym, ◌∙◌, subst, arith}
+use Rattle.std.proofs.Common.{◌≡◌, ℕ, ◌+◌, ◌-◌, ◌*◌, ◌<◌, ◌≤◌, ◌==◌, inl, inr, not, Bool, true, false, List, [], ◌∷◌, ◌++◌, append_assoc, append-nil, drop, length, length-append, slice_index, take, Option, Result, Ok, Err, is_err, refl, ap, sym, ◌∙◌, subst, arith}
 use Rattle.std.proofs.lemmas.Bool.{cases_Bool, cases_lt}
 use Rattle.std.proofs.lemmas.List.{length-take-le, take-append-drop, take_all}
+use Rattle.std.proofs.lemmas.List.Folds.{list_all-append}
 use Rattle.cc_base.specs.declared.refusal.Refusal.{Refusal}
 use Rattle.mcc_files.specs.MccFiles.{TimedPackets}
-use Rattle.mcc_files.specs.Readers.{HasRead, TakesOn, is_at_start, item_in, packet_in, state_of}
+use Rattle.mcc_files.specs.Readers.{HasRead, IsBehindLine, TakesOn, is_at_start, item_in, packet_in, state_of}
 use Rattle.mcc_files.specs.Offences.{IsFirstOffence}
 use Rattle.mcc_files.specs.Reading.{State, at_first, run, take_byte}
 use Rattle.mcc_files.specs.declared.phase.Phase.{Phase}
 use Rattle.mcc_files.specs.declared.phase.Phase.TheVariants as phase
 use Rattle.mcc_files.specs.declared.reader.MccReader.{MccReader}
-use Rattle.mcc_files.proofs.RunLemmas.{ok_one, run_more, run_on, went}
+use Rattle.mcc_files.proofs.RunLemmas.{ok_one, run_both, run_more, run_on, went}
 use Rattle.mcc_payloads.specs.Payloads.{checksum_byte}
 use Rattle.mcc_payloads.specs.PayloadWords.{payload_words}
 use Rattle.mcc_payloads.specs.Reading.{is_whole, joined}
@@ -21,6 +22,7 @@ use Rattle.text_output.specs.Gathered.{IsGathered}
 use Rattle.words_files.specs.Offences.{FirstOffendingWord}
 use Rattle.words_reading.specs.declared.judge.Stop.{Stop}
 use Rattle.words_reading.specs.declared.judge.Stop.TheVariants as stopped
+use Rattle.mcc_import.specs.Imported.{HaveNoLf}
 use Rattle.mcc_import.specs.Importing.{HasHalted, HasHeard, HasImported, HasLines, IsFirstLine, IsMade, LineOffends, ReadsLine, step_back, step_item}
 use Rattle.mcc_import.specs.Offences.{ItemWordOffends, NoWordOffends}
 use Rattle.mcc_import.specs.Words.{is_open, open_part, open_words, state_words, words_with}
@@ -36,7 +38,7 @@ use Rattle.mcc_import.proofs.OffenceLemmas.{no_front_offends}
 use Rattle.mcc_import.proofs.ReadLemmas.{within_of}
 use Rattle.mcc_import.proofs.StateLemmas.{came_more, none_with}
 use Rattle.mcc_import.proofs.StepLemmas.{LineTaken, halted_more, halts_at, longer_not, next_taken}
-use Rattle.mcc_import.proofs.TakeLemmas.{no_byte_offends, started_words, taken_lines, taken_step}
+use Rattle.mcc_import.proofs.TakeLemmas.{lines_by, no_byte_offends, started_words, taken_lines, taken_step}
 use Rattle.mcc_import.proofs.WordsLemmas.{eight_long, on_none, open_not_yet, whole_words, words_long}
 
 -- the words of bytes have two bytes each, and those of the flag
@@ -141,6 +143,42 @@ line_read before placed bytes i count old new below count_is was lines (read, wh
         whole = whole;
         start = start;
         lines = subst (λ (b : List ℕ). HasLines b later) all (taken_lines front byte placed later old new was read lines);
+      };
+    }
+
+-- bytes within a line more
+lines_on : (before front : List ℕ) (placed : TimedPackets) → HasLines before placed → HaveNoLf front → HasLines (before ++ front) placed
+lines_on before front placed was none = record {
+  lines = was.lines;
+  rest = was.rest ++ front;
+  spelled = ap (λ (b : List ℕ). b ++ front) was.spelled ∙ append_assoc was.lines was.rest front;
+  ended = was.ended;
+  open_line = list_all-append (λ byte. not (byte == 10)) was.rest front ∙ rw (was.open_line, none) refl;
+}
+
+-- a packet's line was read in one go
+pub line_behind : (before : List ℕ) (placed : TimedPackets) (bytes : List ℕ) (count : ℕ) (old new : MccReader) → HasRead before placed old → HasLines before placed
+    → IsBehindLine old bytes count new → IsFirstLine before placed bytes count new
+line_behind before placed bytes count old new was lines behind =
+    let later = placed ++ packet_in new ∷ [] in
+    let front = before ++ behind.front in
+    let spelled = behind.spelled in
+    let within = behind.within in
+    let all : front ++ 10 ∷ [] ≡ before ++ take count bytes = append_assoc before behind.front (10 ∷ []) ∙ ap (λ (l : List ℕ). before ++ l) (sym spelled) in
+    let read : HasRead (before ++ take count bytes) later new = run_both at_first before (take count bytes) (state_of old placed) (state_of new later) was (behind.goes placed) in
+    let open_lines = lines_on before behind.front placed lines behind.no_lf in
+    record {
+      within = within;
+      some = omega (arith, ap length spelled, length-append behind.front (10 ∷ []), length-take-le count bytes within);
+      line = record {
+        front = behind.front;
+        spelled = spelled;
+        open_lines = open_lines;
+        read = read;
+        whole = behind.whole;
+        start = behind.start;
+        lines = subst (λ (b : List ℕ). HasLines b later) all
+            (lines_by front 10 placed later new (subst (λ (b : List ℕ). HasRead b later new) (sym all) read) open_lines (inl (refl, behind.start)));
       };
     }
 

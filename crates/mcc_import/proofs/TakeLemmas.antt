@@ -52,7 +52,7 @@ started_file bytes placed reader read start =
     let s = state_of reader placed in
     ended_file bytes s false (origin bytes s read) (ap (λ (p : Phase). ends_in p s.payload.bytes) start)
 
-lines_by : (bytes : List ℕ) (byte : ℕ) (placed later : TimedPackets) (new : MccReader) → HasRead (bytes ++ byte ∷ []) later new → HasLines bytes placed
+pub lines_by : (bytes : List ℕ) (byte : ℕ) (placed later : TimedPackets) (new : MccReader) → HasRead (bytes ++ byte ∷ []) later new → HasLines bytes placed
     → ((byte ≡ 10) × ((state_of new later).phase ≡ phase.Start)) ⊎ (((byte == 10) ≡ false) × (later ≡ placed)) → HasLines (bytes ++ byte ∷ []) later
 lines_by bytes byte placed later new now was (inl (ten, start)) = record {
   lines = bytes ++ byte ∷ [];

@@ -48,6 +48,30 @@ fn read_line(reader: &mut MccReader, bytes: &[u8]) -> Option<usize>
     None
 }
 
+/// The same of bytes behind those that a reader took, byte by byte: a reader behind the line, and how many bytes it has.
+#[cold]
+fn read_copied(reader: &MccReader, bytes: &[u8]) -> Option<(MccReader, usize)>
+    ensures { (before : List ℕ) (placed : TimedPackets) → HasRead before placed reader.now
+        → HasLines before placed
+        → IfSome result (λ read. IsFirstLine before placed bytes.now read.1 read.0) }
+{
+    let mut ahead = reader.copied();
+    let count = read_line(&mut ahead, bytes)?;
+    Some((ahead, count))
+}
+
+/// The same, where the line has a time code, a tab and a payload and nothing else, in one go.
+fn read_ahead(reader: &MccReader, bytes: &[u8]) -> Option<(MccReader, usize)>
+    ensures { (before : List ℕ) (placed : TimedPackets) → HasRead before placed reader.now
+        → HasLines before placed
+        → IfSome result (λ read. IsFirstLine before placed bytes.now read.1 read.0) }
+{
+    if let Some(read) = reader.behind_line(bytes) {
+        return Some(read);
+    }
+    read_copied(reader, bytes)
+}
+
 /// Where a word of the packet in a line offends in the text: at its item. The line begins at such a place, behind so many bytes of words, and
 /// the word's place is counted with them.
 fn offence_in(reader: &MccReader, line: &[u8], place: u64, heard: u64, word: Refusal) -> Refusal
@@ -255,8 +279,7 @@ impl Importing {
         ensures cause { StopCause (O.faults out.old) (O.faults out.new) result }
     {
         if self.reader.is_at_start() {
-            let mut ahead = self.reader.copied();
-            if let Some(count) = read_line(&mut ahead, bytes) {
+            if let Some((ahead, count)) = read_ahead(&self.reader, bytes) {
                 self.take_line(&bytes[..count], ahead, text, out)?;
                 return Ok(count);
             }

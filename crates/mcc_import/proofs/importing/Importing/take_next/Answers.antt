@@ -9,13 +9,13 @@ use Rattle.mcc_import.proofs.importing.Importing.take_next.Goals as goal
 pub slice_bounds-take_line-end : goal.slice_bounds-take_line-end
 slice_bounds-take_line-end g c =
     let may = c.requires.may in
-    let first = c.in-Some.ensures may.bytes may.had.placed (c.copied-ahead.ensures may.bytes may.had.placed may.had.read) may.had.lines in
+    let first = c.in-Some.ensures may.bytes may.had.placed may.had.read may.had.lines in
     sym (length-take-le c.in-Some.count c.args.bytes.now first.within)
 
 pub take_line-requires : goal.take_line-requires
 take_line-requires g c =
     let may = c.requires.may in
-    let first = c.in-Some.ensures may.bytes may.had.placed (c.copied-ahead.ensures may.bytes may.had.placed may.had.read) may.had.lines in
+    let first = c.in-Some.ensures may.bytes may.had.placed may.had.read may.had.lines in
     let size = length-take-le c.in-Some.count c.args.bytes.now first.within in
     let less = first.within in
     let all = may.within in
@@ -27,26 +27,26 @@ take_line-requires g c =
 
 pub returns-in_err-take_line-clause-takes : goal.returns-in_err-take_line-clause-takes
 returns-in_err-take_line-clause-takes g c before words start had way =
-    let first = c.in-Some.ensures before had.placed (c.copied-ahead.ensures before had.placed had.read) had.lines in
+    let first = c.in-Some.ensures before had.placed had.read had.lines in
     let why = c.in_err-take_line.field-0.0 in
     let answer : c.from_residual.result ≡ Err why = search rules in
     rw answer (line_front start (g.O.Sink.written c.take_line.new.out) (held_of c.take_line.new.text) before c.args.bytes.now c.in-Some.count why (c.in_err-take_line.ensures.takes before words start had first.line way))
 
 pub returns-in-Some-clause-takes : goal.returns-in-Some-clause-takes
 returns-in-Some-clause-takes g c before words start had way =
-    let first = c.in-Some.ensures before had.placed (c.copied-ahead.ensures before had.placed had.read) had.lines in
+    let first = c.in-Some.ensures before had.placed had.read had.lines in
     c.in_ok-take_line.ensures.takes before words start had first.line way
 
 pub returns-in-Some-clause-some : goal.returns-in-Some-clause-some
 returns-in-Some-clause-some g c =
     let may = c.requires.may in
-    let first = c.in-Some.ensures may.bytes may.had.placed (c.copied-ahead.ensures may.bytes may.had.placed may.had.read) may.had.lines in
+    let first = c.in-Some.ensures may.bytes may.had.placed may.had.read may.had.lines in
     first.some
 
 pub returns-in-Some-clause-within : goal.returns-in-Some-clause-within
 returns-in-Some-clause-within g c =
     let may = c.requires.may in
-    let first = c.in-Some.ensures may.bytes may.had.placed (c.copied-ahead.ensures may.bytes may.had.placed may.had.read) may.had.lines in
+    let first = c.in-Some.ensures may.bytes may.had.placed may.had.read may.had.lines in
     first.within
 
 pub returns-in_err-take-clause-takes : goal.returns-in_err-take-clause-takes

@@ -1,6 +1,5 @@
 use Rattle.std.proofs.Common.{◌∙◌, ◌+◌, ◌*◌, ℕ, ap, length, refl}
 use Rattle.text_output.specs.Gathered.{held_of}
-use Rattle.mcc_import.specs.Importing.{frame_size}
 use Rattle.mcc_import.specs.declared.made.Made.{Made}
 use Rattle.mcc_import.proofs.AddLemmas.{begun, captions_done, captions_pass_with, captions_unwritten, made_before, missing_unwritten, was_made}
 use Rattle.mcc_import.proofs.made.Made.add_words.Goals as goal
