@@ -152,10 +152,10 @@ some_counted before bytes old new fed feeds caption =
 
 -- its words are gathered behind those of the frames before it
 words_gathered : (start now then : Option (List ℕ)) (held after words text : List ℕ) (frames : List Frame) (last : Frame) (r : Put)
-    → IsGathered start now held text → text ≡ conversion_bytes 0 frames → words ≡ converted_bytes (length frames) last → Gathers now then held after r words
-    → GathersText start then after (conversion_bytes 0 (frames ++ last ∷ [])) r
+    → IsGathered start now held text → text ≡ conversion_bytes frames → words ≡ converted_bytes (length frames) last → Gathers now then held after r words
+    → GathersText start then after (conversion_bytes (frames ++ last ∷ [])) r
 words_gathered start now then held after words text frames last r way text_is is gathers =
-    subst (λ (l : List ℕ). GathersText start then after l r) (ap (λ (t : List ℕ). t ++ words) text_is ∙ ap (λ (w : List ℕ). conversion_bytes 0 frames ++ w) is ∙ sym (bytes_more frames last))
+    subst (λ (l : List ℕ). GathersText start then after l r) (ap (λ (t : List ℕ). t ++ words) text_is ∙ ap (λ (w : List ℕ). conversion_bytes frames ++ w) is ∙ sym (bytes_more frames last))
     (gathered_more start now then r held after words text way (piece_added now then r held after words gathers))
 
 -- what the contract of the words that a frame becomes says
@@ -173,7 +173,7 @@ words_added start now then held after words before bytes old new fed had feeds c
     let next = next_frame before bytes says.frames old.converter new fed had.judged.underway says.frames_are feeds caption in
     let underway = goes_on before bytes old.converter new fed had.judged.underway feeds converted none within moves in
     record {
-      text = conversion_bytes 0 (says.frames ++ next.frame ∷ []);
+      text = conversion_bytes (says.frames ++ next.frame ∷ []);
       judged = record {
         underway = underway;
         says = record {
@@ -199,7 +199,7 @@ words_failed start now then held after words before bytes old new fed had feeds 
     record {
       judged = before ++ take fed.used bytes;
       unjudged = drop fed.used bytes;
-      text = conversion_bytes 0 (says.frames ++ next.frame ∷ []);
+      text = conversion_bytes (says.frames ++ next.frame ∷ []);
       spelled = front_spelled before bytes fed.used;
       cause = inl (record {
         frames = says.frames ++ next.frame ∷ [];
@@ -211,9 +211,9 @@ words_failed start now then held after words before bytes old new fed had feeds 
     }
 
 -- it has a misfit, the first of all
-last_unfit : (frames : List Frame) (next : Frame) (found : Misfit) (text bytes : List ℕ) → AreFit frames → text ≡ conversion_bytes 0 frames → AreFramesOf caption_channel (frames ++ next ∷ []) bytes
-    → (has : HasMisfit (frames ++ next ∷ []) found) → text ≡ conversion_bytes 0 has.earlier
-last_unfit frames next found text bytes fit text_is are has = text_is ∙ ap (conversion_bytes 0) (fronts_same frames has.earlier next has.last has.split)
+last_unfit : (frames : List Frame) (next : Frame) (found : Misfit) (text bytes : List ℕ) → AreFit frames → text ≡ conversion_bytes frames → AreFramesOf caption_channel (frames ++ next ∷ []) bytes
+    → (has : HasMisfit (frames ++ next ∷ []) found) → text ≡ conversion_bytes has.earlier
+last_unfit frames next found text bytes fit text_is are has = text_is ∙ ap conversion_bytes (fronts_same frames has.earlier next has.last has.split)
   where
     fronts_same : (one other : List Frame) (x y : Frame) → one ++ x ∷ [] ≡ other ++ y ∷ [] → one ≡ other
     fronts_same [] [] x y is = refl

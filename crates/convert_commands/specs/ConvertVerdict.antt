@@ -12,7 +12,7 @@ use Rattle.command_base.specs.declared.status.Place.TheVariants.{Byte}
 use Rattle.command_base.specs.declared.status.Status.{Status}
 use Rattle.command_base.specs.declared.status.Status.TheVariants as status
 use Rattle.findings.specs.declared.misfit.Misfit.{Misfit}
-use Rattle.halved_frames.specs.Conversion.{conversion_bytes, conversion}
+use Rattle.halved_frames.specs.Conversion.{conversion, conversion_bytes}
 use Rattle.rate_convert.specs.Laws.{KeepAllGrids}
 use Rattle.rate_convert.specs.Misfits.{AreFit, IsMisfitAt}
 use Rattle.services_files.specs.CaptionChannel.{caption_channel}
@@ -27,8 +27,8 @@ pub record IsConverted (bytes : List ℕ) (old new : Ends) : Type 0 where
   pub frames : List Frame
   pub file : IsFileUnder caption_channel frames bytes
   pub fit : AreFit frames
-  pub put : Appends old.written new.written (conversion_bytes 0 frames)
-  pub output : IsFileUnder caption_channel (conversion 0 frames) (conversion_bytes 0 frames)
+  pub put : Appends old.written new.written (conversion_bytes frames)
+  pub output : IsFileUnder caption_channel (conversion frames) (conversion_bytes frames)
   pub shows : (f : ℕ) → f < length frames → KeepAllGrids frames f
 
 abbrev pub OkIsConverted : Type 0

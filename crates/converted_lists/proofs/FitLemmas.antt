@@ -18,8 +18,7 @@ use Rattle.frame_carrier.specs.Carrying.{channel_packet_of, column_packets, fram
 use Rattle.frame_carrier.proofs.CarryingLemmas.{packet_few}
 use Rattle.frame_scheduler.specs.Columns.{Columns, pair_in}
 use Rattle.frame_scheduler.specs.Planned.{Placement, columns_of}
-use Rattle.halved_frames.proofs.CutLemmas.{is_of}
-use Rattle.halved_frames.specs.Conversion.{IsConvertible, conversion, of_field}
+use Rattle.halved_frames.specs.Conversion.{IsConvertible, conversion, is_of, of_field}
 use Rattle.halved_frames.specs.HalvedFrames.{AllHalves}
 use Rattle.halved_frames.proofs.ConvertedLemmas.{converted_halves}
 use Rattle.line21_codes.specs.declared.channels.FieldNumber.{FieldNumber}
@@ -27,8 +26,8 @@ use Rattle.line21_codes.specs.declared.pairs.Pair.{Pair}
 use Rattle.rate_convert.specs.Grids.{KeepsGrids}
 use Rattle.rate_convert.specs.Misfits.{AreFitBehind}
 use Rattle.rate_convert.proofs.FitLemmas.{channels_kept}
-use Rattle.services_carried.specs.ServicesCarried.{AreWithin}
 use Rattle.services_carried.specs.PlacedServices.{AreServicesPlaced}
+use Rattle.services_carried.specs.ServicesCarried.{AreWithin}
 use Rattle.services_shown.proofs.ToldLemmas.{packets_count}
 use Rattle.words_files.specs.Received.{field_pairs}
 use Rattle.converted_lists.specs.ConvertedLists.{HasShortDelays, ListsAreFit}
@@ -89,11 +88,11 @@ kept_behind list placed formed ruled is short front more whole all =
     ap (take (length front)) whole ∙ take-append-le (length front) front more (omega arith) ∙ take_all (length front) front (omega arith) in
     let count : length packets ≡ list.frames = packets_count list.rate (columns_of list placed) 0 list.frames in
     let size : length packets ≡ length front + length more = ap length whole ∙ length-append front more in
-    let halves = subst (λ (fs : List Frame). AllHalves fs (conversion 0 front)) (sym same) (converted_halves front all) in
+    let halves = subst (λ (fs : List Frame). AllHalves fs (conversion front)) (sym same) (converted_halves front all) in
     record {
       channels = channels_kept front all;
       services = λ service numbered id small.
-          halves_same list placed formed ruled is short.rate short.delays (length front) (omega arith) (conversion 0 front) halves service id
+          halves_same list placed formed ruled is short.rate short.delays (length front) (omega arith) (conversion front) halves service id
           ∙ ap (λ (fs : List Frame). received_windows fs service id) same;
     }
 

@@ -1,5 +1,5 @@
 -- The events of a channel with the numbers of their cues.
-use Rattle.std.proofs.Common.{◌≡◌, ℕ, suc, ◌+◌, Bool, true, false, List, [], ◌∷◌, ◌++◌, map, refl, sym, ap, subst, arith}
+use Rattle.std.proofs.Common.{◌≡◌, ℕ, suc, ◌+◌, Bool, true, false, List, [], ◌∷◌, ◌++◌, refl, sym, ap, subst, arith}
 use Rattle.std.specs.Prelude.{if◌then◌else◌, IfOk, Result, Ok, Err, Vec}
 use Rattle.std.specs.Global.{Global}
 use Rattle.line21_codes.specs.declared.channels.Chan.{Chan}
@@ -8,23 +8,15 @@ use Rattle.cue_lists.specs.declared.cue.Cue.{Cue}
 use Rattle.cue_lists.specs.Listing.{Listing}
 use Rattle.cue_lists.specs.Rules.{IsRuled}
 use Rattle.line21_author.specs.Channels.{cues_on, is_on}
-use Rattle.line21_author.specs.CueEvents.{channel_events, cue_events as events_of, hide_events, show_events}
+use Rattle.line21_author.specs.CueEvents.{channel_events, cue_events as events_of}
 use Rattle.line21_author.specs.EventOrder.{AreApart, AreFrom}
 use Rattle.line21_author.specs.declared.event.Event.{Event}
 use Rattle.placements.specs.LaneRoom.{AreInCueOrder, AreOfCuesFrom}
 use Rattle.frame_scheduler.specs.SlotLists.{slot_cues}
 use Rattle.frame_scheduler.proofs.EventsApartLemmas.{events_apart}
 use Rattle.field_clashes.specs.Clashes.{list_events}
-use Rattle.field_clashes.specs.CueEvents.{AreOrdered, BeginFrom, EventsAreThoseOfTheChannel, LieApart, event_cue, event_slots, events_from, own_events, slots_of}
+use Rattle.field_clashes.specs.CueEvents.{AreOrdered, BeginFrom, EventsAreThoseOfTheChannel, LieApart, event_cue, event_slots, events_from, numbered, own_events, slots_of}
 use Rattle.field_clashes.specs.declared.cue_event.CueEvent.{CueEvent}
-
--- events as those of the cue of this number
-abbrev numbered : ℕ → List Event → List CueEvent
-numbered number events = map (λ event. record { slot = event.slot; cue = number }) events
-
--- the events of a cue that later ones follow
-abbrev cue_events : Chan → Cue → List Cue → List Event
-cue_events channel cue later = show_events (field_of_channel channel) cue ++ hide_events (field_of_channel channel) cue.hide (cues_on channel later)
 
 -- events of a cue before others begin in their slots
 slots_before : (number : ℕ) (events more : List Event) (rest : List CueEvent) → slots_of rest ≡ event_slots more
@@ -37,10 +29,10 @@ slots_from channel number [] = refl
 slots_from channel number (cue ∷ later) = by_test (is_on channel cue.kind) (slots_from channel (suc number) later)
   where
     by_test : (on : Bool) → slots_of (events_from channel (suc number) later) ≡ event_slots (events_of (field_of_channel channel) (cues_on channel later))
-        → slots_of ((if on then own_events channel number cue later else []) ++ events_from channel (suc number) later)
+        → slots_of ((if on then numbered number (own_events channel cue later) else []) ++ events_from channel (suc number) later)
         ≡ event_slots (events_of (field_of_channel channel) (if on then cue ∷ cues_on channel later else cues_on channel later))
     by_test true rest =
-        slots_before number (cue_events channel cue later) (events_of (field_of_channel channel) (cues_on channel later)) (events_from channel (suc number) later) rest
+        slots_before number (own_events channel cue later) (events_of (field_of_channel channel) (cues_on channel later)) (events_from channel (suc number) later) rest
     by_test false rest = rest
 
 pub channel_slots : EventsAreThoseOfTheChannel
@@ -78,8 +70,8 @@ start_from channel number (cue ∷ later) = by_test (is_on channel cue.kind) (st
     start_later behind = record { from = of_later_cues number (events_from channel (suc number) later) behind.from; order = behind.order }
 
     by_test : (on : Bool) → StartAt number (events_from channel (suc number) later)
-        → StartAt number ((if on then own_events channel number cue later else []) ++ events_from channel (suc number) later)
-    by_test true rest = start_before number (cue_events channel cue later) (events_from channel (suc number) later) rest
+        → StartAt number ((if on then numbered number (own_events channel cue later) else []) ++ events_from channel (suc number) later)
+    by_test true rest = start_before number (own_events channel cue later) (events_from channel (suc number) later) rest
     by_test false rest = rest
 
 -- the events of a list that keeps the rules are in order

@@ -10,18 +10,24 @@ use Rattle.line21_author.specs.declared.event.Event.{Event}
 use Rattle.placements.specs.LaneRoom.{AreInCueOrder}
 use Rattle.field_clashes.specs.declared.cue_event.CueEvent.{CueEvent}
 
--- the events of the cue of this number, which later ones of its list follow: what shows it, and what hides it where no next cue takes its
--- place then
-abbrev pub own_events : Chan → ℕ → Cue → List Cue → List CueEvent
-own_events channel number cue later =
-    map (λ event. record { slot = event.slot; cue = number })
-    (show_events (field_of_channel channel) cue ++ hide_events (field_of_channel channel) cue.hide (cues_on channel later))
+-- the events of a cue that later ones of its list follow: what shows it, and what hides it where no next cue takes its place then
+abbrev pub own_events : Chan → Cue → List Cue → List Event
+own_events channel cue later =
+    show_events (field_of_channel channel) cue ++ hide_events (field_of_channel channel) cue.hide (cues_on channel later)
 
--- those of the cues on a channel in their order, where the first cue has this number
+-- events as those of the cue of this number
+abbrev pub numbered : ℕ → List Event → List CueEvent
+numbered number events = map (λ event. record { slot = event.slot; cue = number }) events
+
+-- the events of the cues on a channel, where the first cue has this number
 abbrev pub events_from : Chan → ℕ → List Cue → List CueEvent
 events_from channel number [] = []
 events_from channel number (cue ∷ later) =
-    (if is_on channel cue.kind then own_events channel number cue later else []) ++ events_from channel (suc number) later
+    (if is_on channel cue.kind then numbered number (own_events channel cue later) else []) ++ events_from channel (suc number) later
+
+-- in the order of the cues, which are numbered from 1
+abbrev pub numbered_events : Chan → List Cue → List CueEvent
+numbered_events channel cues = events_from channel 1 cues
 
 -- the slots in which events begin
 abbrev pub slots_of : List CueEvent → List ℕ
@@ -32,7 +38,7 @@ event_slots events = map (λ event. event.slot) events
 
 -- they are the channel's events
 abbrev pub EventsAreThoseOfTheChannel : Type 0
-EventsAreThoseOfTheChannel = (channel : Chan) (cues : List Cue) → slots_of (events_from channel 1 cues) ≡ event_slots (channel_events channel cues)
+EventsAreThoseOfTheChannel = (channel : Chan) (cues : List Cue) → slots_of (numbered_events channel cues) ≡ event_slots (channel_events channel cues)
 
 -- each slot is this one or a later one
 abbrev pub BeginFrom : ℕ → List ℕ → Type 0

@@ -3,7 +3,7 @@ ghost use Rattle.cue_lists.specs.Listing.{most_cues};
 ghost use Rattle.line21_author.specs.Channels.{cues_on};
 ghost use Rattle.line21_author.specs.CueEvents.{is_replaced_at};
 ghost use Rattle.line21_author.specs.CueSlots.{cues_in_slots, timed_in_slots};
-ghost use Rattle.field_clashes.specs.CueEvents.{events_from, own_events};
+ghost use Rattle.field_clashes.specs.CueEvents.{numbered, numbered_events, own_events};
 
 use cue_lists::Cue;
 use cue_lists::lane::is_pop;
@@ -38,7 +38,7 @@ pub fn cue_events(
 ) -> Result<Vec<CueEvent>, AllocError>
     requires { length cues.now ≤ most_cues }
     ensures { IfOk result (λ events. events.items
-        ≡ events_from channel 1 (cues_in_slots cadence cues.now)) }
+        ≡ numbered_events channel (cues_in_slots cadence cues.now)) }
 {
     let mut events = Vec::new(alloc);
     for (index, cue) in cues.iter().enumerate() {
@@ -60,8 +60,8 @@ fn push_cue(
     cadence: Cadence,
 ) -> Result<(), AllocError>
     ensures { OnOk result (events.new.items ≡ events.old.items
-        ++ own_events channel number (timed_in_slots cadence cue.now)
-        (cues_in_slots cadence later.now)) }
+        ++ numbered number (own_events channel (timed_in_slots cadence cue.now)
+        (cues_in_slots cadence later.now))) }
 {
     if is_pop(cue.kind) {
         let slot = cadence.slot_from(cue.show);

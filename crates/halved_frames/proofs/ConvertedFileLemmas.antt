@@ -23,10 +23,10 @@ use Rattle.words_files.specs.Frames.{CarryFrames, IsFileOf}
 use Rattle.words_files.specs.Frames.CarryFrames.{none, caption, foreign}
 use Rattle.words_files.proofs.FrameLemmas.{joined}
 use Rattle.words_files.proofs.WordLemmas.{All-split}
-use Rattle.halved_frames.specs.Conversion.{IsConvertible, conversion_bytes, conversion, converted_bytes, first_half, half_flags, half_packet, second_half, written_half}
+use Rattle.halved_frames.specs.Conversion.{IsConvertible, conversion, conversion_bytes_from, conversion_from, converted_bytes, first_half, first_half_of, half_bytes, half_flags, half_packet, second_half, second_half_of}
 use Rattle.halved_frames.specs.ConvertedFrames.{ConvertedAreFile}
 use Rattle.halved_frames.specs.HalvedFrames.{AllHalves}
-use Rattle.halved_frames.proofs.ConvertedLemmas.{converted_halves, first_half_all, first_half_of, first_ten, second_half_all, second_half_of, second_ten}
+use Rattle.halved_frames.proofs.ConvertedLemmas.{converted_halves, first_half_all, first_ten, second_half_all, second_ten}
 
 -- a byte
 abbrev IsByte : ℕ → Type 0
@@ -153,7 +153,7 @@ module _ (number : ℕ) (triplets : List Triplet) (ten : length triplets ≡ 10)
       subst (λ s. IsCdp (half_packet number triplets) (written_packet F5994 half_flags counter s)) (append-nil section)
       (written-is_packet F5994 half_flags counter (section ∷ []) (cc_data_section-is triplets (omega (arith, ten)), tt))
 
-  half_file : IsFileOf (half_packet number triplets ∷ []) (written_half (number % 65536) triplets)
+  half_file : IsFileOf (half_packet number triplets ∷ []) (half_bytes number triplets)
   half_file = record {
     packets = packet_of 0x61 0x01 bytes ∷ [];
     file = IsWordsFile-one (packet_of 0x61 0x01 bytes) (packet_bytes 0x61 0x01 bytes)
@@ -169,18 +169,18 @@ filler_bytes = record { kind = omega arith; a = omega arith; b = omega arith }
 both_file : (number : ℕ) (frame : Frame) → IsConvertible frame → IsOfBytes frame
     → IsFileOf (first_half_of number frame ∷ second_half_of number frame ∷ []) (converted_bytes number frame)
 both_file number frame is are =
-    joined (first_half_of number frame ∷ []) (second_half_of number frame ∷ []) (written_half ((2 * number) % 65536) (first_half (packet_triplets frame)))
-    (written_half ((2 * number + 1) % 65536) (second_half (packet_triplets frame)))
+    joined (first_half_of number frame ∷ []) (second_half_of number frame ∷ []) (half_bytes (2 * number) (first_half (packet_triplets frame)))
+    (half_bytes (2 * number + 1) (second_half (packet_triplets frame)))
     (half_file (2 * number) (first_half (packet_triplets frame)) (first_ten (packet_triplets frame)) (first_half_all IsByteTriplet filler_bytes (packet_triplets frame) are))
     (half_file (2 * number + 1) (second_half (packet_triplets frame)) (second_ten (packet_triplets frame) is.most)
     (second_half_all IsByteTriplet filler_bytes (packet_triplets frame) are))
 
 -- and of all
 conversion_file : (number : ℕ) (frames : List Frame) → All IsConvertible frames → All IsOfBytes frames
-    → IsFileOf (conversion number frames) (conversion_bytes number frames)
+    → IsFileOf (conversion_from number frames) (conversion_bytes_from number frames)
 conversion_file number [] all are = record { packets = []; file = IsWordsFile-nil; carried = none }
 conversion_file number (frame ∷ frames) all are =
-    joined (first_half_of number frame ∷ second_half_of number frame ∷ []) (conversion (suc number) frames) (converted_bytes number frame) (conversion_bytes (suc number) frames)
+    joined (first_half_of number frame ∷ second_half_of number frame ∷ []) (conversion_from (suc number) frames) (converted_bytes number frame) (conversion_bytes_from (suc number) frames)
     (both_file number frame (All-head IsConvertible frame frames all) (All-head IsOfBytes frame frames are))
     (conversion_file (suc number) frames (All-tail IsConvertible frame frames all) (All-tail IsOfBytes frame frames are))
 
@@ -223,5 +223,5 @@ carried_alike frames others all carried =
 pub converted_file : ConvertedAreFile
 converted_file frames bytes file all = record {
   file = conversion_file 0 frames all (carried_bytes_of file.file.packets frames file.file.carried);
-  accepted = carried_alike frames (conversion 0 frames) (converted_halves frames all) file.accepted;
+  accepted = carried_alike frames (conversion frames) (converted_halves frames all) file.accepted;
 }

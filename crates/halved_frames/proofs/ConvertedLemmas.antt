@@ -12,18 +12,11 @@ use Rattle.cdp_packets.proofs.SectionLemmas.{cc_data_section-triplets}
 use Rattle.channel_packets.specs.ChannelPackets.{channel_triplets, continues_packet, starts}
 use Rattle.line21_codes.specs.declared.channels.FieldNumber.TheVariants.{One, Two}
 use Rattle.words_files.specs.Received.{field_pairs}
-use Rattle.halved_frames.specs.Conversion.{IsConvertible, conversion, first_half, first_or_filler, half_packet, of_field, second_half, ten_triplets}
+use Rattle.halved_frames.specs.Conversion.{IsConvertible, conversion_from, first_half, first_half_of, first_or_filler, half_packet, is_of, of_field, second_half, second_half_of, ten_triplets}
 use Rattle.halved_frames.specs.ConvertedFrames.{ConvertedAreHalves, HalvesHaveTen}
 use Rattle.halved_frames.specs.HalvedFrames.{AllHalves, AreHalves}
-use Rattle.halved_frames.proofs.CutLemmas.{is_of, triplets_cut}
+use Rattle.halved_frames.proofs.CutLemmas.{triplets_cut}
 use Rattle.std.specs.Prelude.{◌||◌}
-
--- the halves of the frame of a number
-abbrev pub first_half_of : ℕ → Frame → Frame
-first_half_of number frame = half_packet (2 * number) (first_half (packet_triplets frame))
-
-abbrev pub second_half_of : ℕ → Frame → Frame
-second_half_of number frame = half_packet (2 * number + 1) (second_half (packet_triplets frame))
 
 -- a kind has two bits
 abbrev IsKind : Triplet → Type 0
@@ -122,7 +115,7 @@ are_halves number frame is =
           ∙ ap (λ (ts : List Triplet). field_pairs f (packet_triplets (first_half_of number frame)) ++ field_pairs f ts) (sym second);
     }
 
-pub halves_from : (number : ℕ) (frames : List Frame) → All IsConvertible frames → AllHalves frames (conversion number frames)
+pub halves_from : (number : ℕ) (frames : List Frame) → All IsConvertible frames → AllHalves frames (conversion_from number frames)
 halves_from number [] all = tt
 halves_from number (frame ∷ frames) all =
     (are_halves number frame (All-head IsConvertible frame frames all), halves_from (suc number) frames (All-tail IsConvertible frame frames all))

@@ -10,12 +10,8 @@ use Rattle.line21_codes.specs.declared.channels.FieldNumber.{FieldNumber}
 use Rattle.line21_codes.specs.declared.channels.FieldNumber.TheVariants.{One, Two}
 use Rattle.line21_codes.specs.declared.pairs.Pair.{Pair}
 use Rattle.words_files.specs.Received.{field_kind, field_pair, field_pairs}
-use Rattle.halved_frames.specs.Conversion.{first_or_filler, of_field}
+use Rattle.halved_frames.specs.Conversion.{first_or_filler, is_of, of_field}
 use Rattle.halved_frames.specs.ConvertedFrames.{TripletsAreCut}
-
--- a triplet counts and is of a field of line 21
-abbrev pub is_of : FieldNumber → Triplet → Bool
-is_of in_field triplet = triplet.valid && (triplet.kind == field_kind in_field)
 
 abbrev is_service : Triplet → Bool
 is_service triplet = starts triplet || continues_packet triplet

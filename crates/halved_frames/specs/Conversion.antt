@@ -1,7 +1,7 @@
 -- Believed in part: the program's answer stands on some of these definitions.
 -- What frames at 29.97 frames a second become at 59.94 (SMPTE ST 334-2; CTA-708-E, cc_data()): each becomes two, its halves, which carry
 -- what it carried. Other sections than cc_data, and other ancillary packets than those of captions, are left out.
-use Rattle.std.specs.Prelude.{◌≡◌, ℕ, suc, ◌+◌, ◌-◌, ◌*◌, ◌%◌, ◌≤◌, ◌==◌, ◌&&◌, List, [], ◌∷◌, ◌++◌, drop, filter, length, replicate, take}
+use Rattle.std.specs.Prelude.{◌≡◌, ℕ, suc, ◌+◌, ◌-◌, ◌*◌, ◌%◌, ◌≤◌, ◌==◌, ◌&&◌, Bool, List, [], ◌∷◌, ◌++◌, drop, filter, length, replicate, take}
 use Rattle.anc_words.specs.Writing.{packet_bytes}
 use Rattle.cc_base.specs.declared.rate.Rate.TheVariants.{F2997, F5994}
 use Rattle.cc_data.specs.Triplets.{filler}
@@ -14,9 +14,12 @@ use Rattle.line21_codes.specs.declared.channels.FieldNumber.{FieldNumber}
 use Rattle.line21_codes.specs.declared.channels.FieldNumber.TheVariants.{One, Two}
 use Rattle.words_files.specs.Received.{field_kind}
 
--- of triplets those that count and are of a field of line 21
+-- a triplet counts and is of a field of line 21
+abbrev pub is_of : FieldNumber → Triplet → Bool
+is_of in_field triplet = triplet.valid && (triplet.kind == field_kind in_field)
+
 abbrev pub of_field : FieldNumber → List Triplet → List Triplet
-of_field in_field triplets = filter (λ triplet. triplet.valid && (triplet.kind == field_kind in_field)) triplets
+of_field in_field triplets = filter (is_of in_field) triplets
 
 -- a frame can be converted: it is at 29.97 and has the twenty triplets of this rate; of those that count each field has one at most, and at
 -- most eighteen are of channel packets
@@ -56,23 +59,37 @@ half_packet number triplets = record {
   sections = cc_data_section triplets ∷ [];
 }
 
--- the packets of the halves of frames, of which the first has this number
-abbrev pub conversion : ℕ → List Frame → List Frame
-conversion number [] = []
-conversion number (frame ∷ frames) =
-    half_packet (2 * number) (first_half (packet_triplets frame)) ∷ half_packet (2 * number + 1) (second_half (packet_triplets frame))
-    ∷ conversion (suc number) frames
+-- the halves of the frame of a number
+abbrev pub first_half_of : ℕ → Frame → Frame
+first_half_of number frame = half_packet (2 * number) (first_half (packet_triplets frame))
+
+abbrev pub second_half_of : ℕ → Frame → Frame
+second_half_of number frame = half_packet (2 * number + 1) (second_half (packet_triplets frame))
+
+-- those of frames, of which the first has this number
+abbrev pub conversion_from : ℕ → List Frame → List Frame
+conversion_from number [] = []
+conversion_from number (frame ∷ frames) = first_half_of number frame ∷ second_half_of number frame ∷ conversion_from (suc number) frames
+
+-- and of the frames of a file
+abbrev pub conversion : List Frame → List Frame
+conversion frames = conversion_from 0 frames
 
 -- the bytes of the ancillary packet of a half with this counter (SMPTE ST 334-1); the marker bits of triplets are ones
 abbrev pub written_half : ℕ → List Triplet → List ℕ
 written_half counter triplets = packet_bytes 0x61 0x01 (written_packet F5994 half_flags counter (cc_data_section triplets))
 
+abbrev pub half_bytes : ℕ → List Triplet → List ℕ
+half_bytes number triplets = written_half (number % 65536) triplets
+
 -- of both halves of the frame of a number
 abbrev pub converted_bytes : ℕ → Frame → List ℕ
-converted_bytes number frame =
-    written_half ((2 * number) % 65536) (first_half (packet_triplets frame)) ++ written_half ((2 * number + 1) % 65536) (second_half (packet_triplets frame))
+converted_bytes number frame = half_bytes (2 * number) (first_half (packet_triplets frame)) ++ half_bytes (2 * number + 1) (second_half (packet_triplets frame))
 
--- and of those of frames, of which the first has this number
-abbrev pub conversion_bytes : ℕ → List Frame → List ℕ
-conversion_bytes number [] = []
-conversion_bytes number (frame ∷ frames) = converted_bytes number frame ++ conversion_bytes (suc number) frames
+-- and of all frames
+abbrev pub conversion_bytes_from : ℕ → List Frame → List ℕ
+conversion_bytes_from number [] = []
+conversion_bytes_from number (frame ∷ frames) = converted_bytes number frame ++ conversion_bytes_from (suc number) frames
+
+abbrev pub conversion_bytes : List Frame → List ℕ
+conversion_bytes frames = conversion_bytes_from 0 frames

@@ -13,8 +13,8 @@ use Rattle.cue_types.specs.Listing.{IsFormed}
 use Rattle.cue_types.specs.Shares.{IsShare}
 use Rattle.cue_types.specs.Windows.{IsWindow, IsWindowRun}
 use Rattle.cue_types.specs.declared.list.Share.{Share}
-use Rattle.load_lists.specs.LoadList.{line21_run, load_cue, load_kind, load_list, load_run, load_text, load_window, most_load}
-use Rattle.load_lists.proofs.LetterLemmas.{letter, letter_coded, letter_spelled}
+use Rattle.load_lists.specs.LoadList.{letter, line21_run, load_cue, load_kind, load_list, load_run, load_text, load_window, most_load}
+use Rattle.load_lists.proofs.LetterLemmas.{letter_coded, letter_spelled}
 
 -- what holds of each letter, holds of each of a text
 of_each : (P : ℕ → Type 0) → ((n : ℕ) → P n) → (xs : List ℕ) → All P xs

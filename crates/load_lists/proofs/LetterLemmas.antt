@@ -5,10 +5,7 @@ use Rattle.line21_codes.specs.declared.characters.Spelling.{Spelling}
 use Rattle.line21_codes.specs.declared.characters.Spelling.TheVariants.{Basic, Special, Extended}
 use Rattle.line21_codes.proofs.Tables.{all_below, at_each}
 use Rattle.dtvcc_codes.specs.CharacterSpellings.{dtvcc_spelling as dtv_spelling_of}
-
--- the capital letter of a number, as they follow one another for ever: A is that of 0, and of 26
-abbrev pub letter : ℕ → ℕ
-letter n = 65 + n % 26
+use Rattle.load_lists.specs.LoadList.{letter}
 
 -- a spelling by a basic character
 abbrev pub is_basic : Option Spelling → Bool

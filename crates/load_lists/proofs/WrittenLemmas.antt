@@ -16,8 +16,7 @@ use Rattle.cue_form.specs.Spelling.{cue_records}
 use Rattle.cue_print.specs.Printing.{flexible_writer, list_bytes, record_bytes}
 use Rattle.cue_print.proofs.PrintedFacts.{records_of-bytes}
 use Rattle.load_lists.specs.LoadLaws.{IsListWritten}
-use Rattle.load_lists.proofs.LetterLemmas.{letter}
-use Rattle.load_lists.specs.LoadList.{load_cue, load_kind, load_list, load_run, load_text, most_load}
+use Rattle.load_lists.specs.LoadList.{letter, load_cue, load_kind, load_list, load_run, load_text, most_load}
 use Rattle.load_lists.proofs.FormedLemmas.{list_formed, of_letters}
 
 -- a field in quotes has each byte twice, at most, and the quotes

@@ -19,9 +19,13 @@ use Rattle.cue_types.specs.declared.cue.WinCue.{WinCue}
 abbrev pub most_load : ℕ
 most_load = 10000
 
--- the text of the caption of number k, counted from 0: 20 capital letters, as they follow one another for ever, A being that of 0 and of 26
+-- the capital letter of a number, as they follow one another for ever: A is that of 0, and of 26
+abbrev pub letter : ℕ → ℕ
+letter n = 65 + n % 26
+
+-- the text of the caption of number k, counted from 0: 20 letters
 abbrev pub load_text : ℕ → List ℕ
-load_text k = map (λ j. 65 + (7 * k + 5 * j) % 26) (range_with_len 0 20)
+load_text k = map (λ j. letter (7 * k + 5 * j)) (range_with_len 0 20)
 
 -- a run of line 21 in a row, from a column on, in a colour
 abbrev pub line21_run : ℕ → ℕ → Colour → List ℕ → Run

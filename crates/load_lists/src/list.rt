@@ -1,5 +1,5 @@
 ghost use Rattle.std.specs.Prelude.{◌≡◌, ◌≤◌, ◌<◌, ◌+◌, ◌*◌, ◌%◌, IfOk};
-ghost use Rattle.load_lists.specs.LoadList.{line21_run, load_cue, load_kind, load_list, load_run, load_text, most_load};
+ghost use Rattle.load_lists.specs.LoadList.{letter, line21_run, load_cue, load_kind, load_list, load_run, load_text, most_load};
 
 use cc_base::Rate;
 use cue_types::{Cue, CueList, Head, Kind, Pen, Run, Runs, Share, Text, Version, WinCue};
@@ -142,7 +142,7 @@ fn load_text(alloc: Global, number: u32) -> Result<Text, AllocError>
 
 /// The capital letter of a number, as they follow one another for ever: A is that of 0, and of 26.
 fn letter(number: u32) -> char
-    ensures { result ≡ 65 + number % 26 }
+    ensures { result ≡ letter number }
 {
     char::from(b'A' + (number % 26) as u8)
 }

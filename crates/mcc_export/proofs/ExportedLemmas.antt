@@ -1,12 +1,10 @@
 -- Packets that an MCC file carries, and their MCC file.
 use Rattle.std.proofs.Common.{◌≡◌, ℕ, ◌+◌, ◌-◌, ◌%◌, ◌<◌, ◌≤◌, ◌++◌, true, List, [], ◌∷◌, length, refl, sym, subst, ◌∙◌, length-append, arith}
-use Rattle.std.specs.List.{All}
 use Rattle.std.proofs.lemmas.List.Elements.{All-append, All-cons, All-head, All-nil, All-weaker}
 use Rattle.anc_words.specs.EightBitWords.{IsEightBit}
 use Rattle.anc_words.specs.Packets.{AncillaryPacket, IsCaption, IsUserWord}
 use Rattle.anc_words.specs.WordsFiles.{IsPacketBytes, IsWordsFile}
 use Rattle.anc_words.proofs.WordsFileLemmas.{IsWordsFile-append, IsWordsFile-nil, IsWordsFile-one, IsWordsFile-unique}
-use Rattle.cc_base.specs.declared.rate.Rate.{Rate}
 use Rattle.cdp_packets.specs.Packets.{Frame}
 use Rattle.mcc_files.specs.Writing.{IsWrittenFile, IsWrittenLine, written_head}
 use Rattle.mcc_payloads.specs.PayloadWords.{payload_of}
@@ -17,7 +15,7 @@ use Rattle.time_codes.specs.declared.counting.Counting.TheVariants as counting
 use Rattle.words_files.specs.Offences.{IsFileUnder}
 use Rattle.mcc_export.proofs.PlacingLemmas.{head_written, placed_caption, placed_foreign, written_more}
 use Rattle.mcc_export.specs.ExportMcc.{IsMccOf}
-use Rattle.mcc_export.specs.Exported.{AreExportedAsMcc, HasRate, IsOfBytes, counts_rate, expected_rate}
+use Rattle.mcc_export.specs.Exported.{AreExportedAsMcc, HasRate, HaveOneRate, IsOfBytes, counts_rate, expected_rate}
 use Rattle.mcc_export.specs.Placing.{placed}
 use Rattle.mcc_export.specs.declared.start.Start.{Start}
 
@@ -36,16 +34,7 @@ pub caption_of_bytes : (packet : AncillaryPacket) (bytes : List ℕ) → IsPacke
 caption_of_bytes packet bytes is caption =
     All-weaker (IsUserWord packet) (λ word. IsEightBit (word % 256) word) (λ word has. has.caption caption) packet.user is.is_packet.has_user
 
--- frames have one rate, which the count can count
-record HaveOneRate (count : Counting) (frames : List Frame) : Type 0 where
-  one : Rate
-  counted : counts_rate count one ≡ true
-  all : All (λ frame. frame.rate ≡ one) frames
-
-exported_rates : (start : Start) (packets : List AncillaryPacket) (frames : List Frame) → AreExportedAsMcc start packets frames → HaveOneRate start.count frames
-exported_rates start packets frames fit = record { one = fit.one; counted = fit.counted; all = fit.rates }
-
--- and one more of a rate that is expected
+-- frames of one rate, and one more of a rate that is expected
 one_rate : (count : Counting) (frames : List Frame) (last : Frame) → HaveOneRate count frames → HasRate count frames last.rate → HaveOneRate count (frames ++ last ∷ [])
 one_rate count [] last have has =
     record { one = last.rate; counted = has; all = All-cons (λ f. f.rate ≡ last.rate) last [] refl (All-nil (λ f. f.rate ≡ last.rate)) }
@@ -58,9 +47,7 @@ one_rate count (first ∷ frames) last have (counted, same) =
 exported_more : (start : Start) (packets : List AncillaryPacket) (frames more : List Frame) (last : AncillaryPacket) → AreExportedAsMcc start packets frames → HaveOneRate start.count more
     → IsOfBytes last → start.first + length more ≤ day_frames_in start.count → AreExportedAsMcc start (packets ++ last ∷ []) more
 exported_more start packets frames more last fit rates of_bytes within = record {
-  one = rates.one;
-  counted = rates.counted;
-  rates = rates.all;
+  rates = rates;
   of_bytes = All-append IsOfBytes packets (last ∷ []) fit.of_bytes (All-cons IsOfBytes last [] of_bytes (All-nil IsOfBytes));
   within_day = within;
 }
@@ -84,9 +71,7 @@ pub mcc_nothing : (start : Start) (is_file : IsFileUnder caption_channel [] []) 
 mcc_nothing start is_file below =
     mcc_of start [] [] is_file [] (written_head start.count) IsWordsFile-nil
     (record {
-      one = expected_rate start.count;
-      counted = expected_counted start.count;
-      rates = All-nil (λ f. f.rate ≡ expected_rate start.count);
+      rates = record { one = expected_rate start.count; counted = expected_counted start.count; all = All-nil (λ f. f.rate ≡ expected_rate start.count) };
       of_bytes = All-nil IsOfBytes;
       within_day = omega (arith, below);
     })
@@ -106,7 +91,7 @@ pub mcc_foreign : (start : Start) (frames : List Frame) (file bytes text line : 
 mcc_foreign start frames file bytes text line is_file next packet mcc is isnt of_bytes written =
     let packets = is_file.file.packets in
     mcc_of start frames (file ++ bytes) next (packets ++ packet ∷ []) (text ++ line) (whole_file frames file bytes is_file packet is)
-    (exported_more start packets frames frames packet mcc.fit (exported_rates start packets frames mcc.fit) of_bytes mcc.fit.within_day)
+    (exported_more start packets frames frames packet mcc.fit mcc.fit.rates of_bytes mcc.fit.within_day)
     (subst (λ p. IsWrittenFile start.count p (text ++ line)) (sym (placed_foreign start.first packets frames packet is_file.file.carried isnt))
     (written_more start.count (placed start.first packets) (start.first + (length frames - 1)) (payload_of packet) text line mcc.written written))
 
@@ -119,7 +104,7 @@ mcc_caption start frames last file bytes text line is_file next packet mcc is ca
     let packets = is_file.file.packets in
     let long = length-append frames (last ∷ []) in
     mcc_of start (frames ++ last ∷ []) (file ++ bytes) next (packets ++ packet ∷ []) (text ++ line) (whole_file frames file bytes is_file packet is)
-    (exported_more start packets frames (frames ++ last ∷ []) packet mcc.fit (one_rate start.count frames last (exported_rates start packets frames mcc.fit) has_rate)
+    (exported_more start packets frames (frames ++ last ∷ []) packet mcc.fit (one_rate start.count frames last mcc.fit.rates has_rate)
     (caption_of_bytes packet bytes is caption) (omega (arith, below, long)))
     (subst (λ p. IsWrittenFile start.count p (text ++ line)) (sym (placed_caption start.first packets frames packet is_file.file.carried caption))
     (written_more start.count (placed start.first packets) (start.first + length frames) (payload_of packet) text line mcc.written written))

@@ -24,10 +24,10 @@ use Rattle.words_files.proofs.FramesOfLemmas.{empty_file}
 use Rattle.words_files.specs.Frames.{CarryFrames}
 use Rattle.words_files.specs.Frames.CarryFrames.{none, caption, foreign}
 use Rattle.words_files.specs.Offences.{IsFileUnder}
-use Rattle.mcc_export.proofs.PlacingLemmas.{captions_with, is_caption-false, is_caption-true}
+use Rattle.mcc_export.proofs.PlacingLemmas.{is_caption-false, is_caption-true}
 use Rattle.mcc_export.specs.ExportMcc.{IsMccOf}
 use Rattle.mcc_export.specs.Exported.{AreExportedAsMcc, IsOfBytes}
-use Rattle.mcc_export.specs.Placing.{packets_placed_from, placed}
+use Rattle.mcc_export.specs.Placing.{captions_with, packets_placed_from, placed}
 use Rattle.mcc_export.specs.declared.start.Start.{Start}
 
 -- packets of bytes, each at its frame, of which none is before the one before it

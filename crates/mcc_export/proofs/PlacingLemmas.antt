@@ -1,5 +1,5 @@
 -- Packets one behind another, each at its frame, and the lines that are written of them.
-use Rattle.std.proofs.Common.{◌≡◌, ℕ, ◌+◌, ◌-◌, ◌++◌, Bool, true, false, if◌then◌else◌, List, [], ◌∷◌, length, refl, ap, sym, ◌∙◌, append_assoc, append-nil, arith}
+use Rattle.std.proofs.Common.{◌≡◌, ℕ, ◌+◌, ◌-◌, ◌++◌, Bool, true, false, List, [], ◌∷◌, length, refl, ap, sym, ◌∙◌, append_assoc, append-nil, arith}
 use Rattle.std.proofs.lemmas.Bool.Decides.{nat_tests}
 use Rattle.anc_words.specs.Packets.{AncillaryPacket, IsCaption}
 use Rattle.cdp_packets.specs.Packets.{Frame}
@@ -10,19 +10,7 @@ use Rattle.mcc_payloads.specs.PayloadWords.{payload_of}
 use Rattle.time_codes.specs.declared.counting.Counting.{Counting}
 use Rattle.words_files.specs.Frames.{CarryFrames}
 use Rattle.words_files.specs.Frames.CarryFrames.{none, caption, foreign}
-use Rattle.mcc_words.specs.MccWords.{carries_captions}
-use Rattle.mcc_export.specs.Placing.{packets_placed_from, placed}
-
--- the packet is one of captions
-abbrev pub is_caption : AncillaryPacket → Bool
-is_caption packet = carries_captions (payload_of packet)
-
--- its frame, behind so many packets of captions, and how many there are with it
-abbrev frame_behind : ℕ → ℕ → AncillaryPacket → ℕ
-frame_behind first captions packet = if is_caption packet then first + captions else first + (captions - 1)
-
-abbrev pub captions_with : ℕ → AncillaryPacket → ℕ
-captions_with captions packet = if is_caption packet then captions + 1 else captions
+use Rattle.mcc_export.specs.Placing.{captions_with, frame_behind, is_caption, packets_placed_from, placed}
 
 -- the test says whether a packet is one of captions
 pub is_caption-true : (packet : AncillaryPacket) → IsCaption packet → is_caption packet ≡ true

@@ -83,9 +83,9 @@ found_none : (start : Start) (packets rest : List AncillaryPacket) (last : Ancil
     → CarryFrames (packets ++ last ∷ rest) all → AreExportedAsMcc start (packets ++ last ∷ rest) all → IsFoundAtPacket start.count frames last found → ⊥
 found_none start packets rest last frames all (kind.WrongRate expected seen) carried whole fit (frame, brings, seen_is, wrong) =
     let (more, is) = brought packets rest last frames all frame carried whole brings in
-    let P : Frame → Type 0 = λ f. f.rate ≡ fit.one in
-    let rates : All P (frames ++ frame ∷ more) = subst (All P) is fit.rates in
-    wrong_none start.count frames (frame ∷ more) fit.one expected seen fit.counted rates (seen_is ∙ all_at P frames frame more rates) wrong
+    let P : Frame → Type 0 = λ f. f.rate ≡ fit.rates.one in
+    let rates : All P (frames ++ frame ∷ more) = subst (All P) is fit.rates.all in
+    wrong_none start.count frames (frame ∷ more) fit.rates.one expected seen fit.rates.counted rates (seen_is ∙ all_at P frames frame more rates) wrong
 found_none start packets rest last frames all kind.EightBits carried whole fit (_, words) = words (all_at IsOfBytes packets last rest fit.of_bytes)
 found_none start packets rest last frames all _ carried whole fit found = absurd found
 

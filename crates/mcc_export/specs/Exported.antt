@@ -42,15 +42,19 @@ counts_rate counting.F60 rate.F60 = true
 counts_rate counting.F60Drop rate.F5994 = true
 counts_rate count other = false
 
+-- the frames have one rate, which the count can count
+pub record HaveOneRate (count : Counting) (frames : List Frame) : Type 0 where
+  pub one : Rate
+  pub counted : counts_rate count one ≡ true
+  pub all : All (λ frame. frame.rate ≡ one) frames
+
 -- the user words of a packet are 8-bit words
 abbrev pub IsOfBytes : AncillaryPacket → Type 0
 IsOfBytes packet = All (λ word. IsEightBit (word % 256) word) packet.user
 
--- packets that an MCC file carries, of which those of captions bring these frames: the frames have one rate, which the count can count
+-- packets that an MCC file carries, of which those of captions bring these frames
 pub record AreExportedAsMcc (start : Start) (packets : List AncillaryPacket) (frames : List Frame) : Type 0 where
-  pub one : Rate
-  pub counted : counts_rate start.count one ≡ true
-  pub rates : All (λ frame. frame.rate ≡ one) frames
+  pub rates : HaveOneRate start.count frames
   pub of_bytes : All IsOfBytes packets
   pub within_day : start.first + length frames ≤ day_frames_in start.count
 

@@ -1,5 +1,5 @@
 -- A frame that a halver takes.
-use Rattle.std.proofs.Common.{◌≡◌, ℕ, ◌+◌, ◌*◌, ◌≤◌, None, List, [], ◌∷◌, ◌++◌, All, length, length-append, refl, sym, ap, ◌∙◌, subst, arith, ◌%◌}
+use Rattle.std.proofs.Common.{◌≡◌, ℕ, ◌+◌, ◌*◌, ◌≤◌, None, List, [], ◌∷◌, ◌++◌, All, length, length-append, refl, sym, ap, ◌∙◌, subst, arith}
 use Rattle.std.proofs.lemmas.List.Elements.{All-append, All-cons, All-nil}
 use Rattle.cc_receiver.specs.ReceivedServices.{received_windows}
 use Rattle.cc_data.specs.declared.triplet.Triplet.{Triplet}
@@ -8,9 +8,9 @@ use Rattle.cdp_packets.specs.Packets.{Frame}
 use Rattle.dtvcc_services.specs.Objects.{all_ticks}
 use Rattle.findings.specs.declared.finding.Which.TheVariants as which
 use Rattle.findings.specs.declared.misfit.MisfitKind.TheVariants as misfit
-use Rattle.halved_frames.specs.Conversion.{IsConvertible, conversion, converted_bytes, first_half, second_half, written_half}
+use Rattle.halved_frames.specs.Conversion.{IsConvertible, conversion, converted_bytes, first_half, first_half_of, half_bytes, second_half, second_half_of}
 use Rattle.halved_frames.proofs.ConvertedFileLemmas.{carried_alike}
-use Rattle.halved_frames.proofs.ConvertedLemmas.{converted_halves, first_half_of, first_triplets, second_half_of, second_triplets}
+use Rattle.halved_frames.proofs.ConvertedLemmas.{converted_halves, first_triplets, second_triplets}
 use Rattle.service_blocks.specs.Channels.{IsHeard}
 use Rattle.service_blocks.proofs.ChannelLemmas.{channel_heard}
 use Rattle.services_files.specs.CaptionChannel.{caption_channel}
@@ -34,17 +34,17 @@ all_convertible earlier last fit is =
 
 -- what they become is heard
 output_heard : (bytes : List ℕ) (earlier : List Frame) (last : Frame) → AreFramesOf caption_channel (earlier ++ last ∷ []) bytes → All IsConvertible (earlier ++ last ∷ [])
-    → IsHeard (file_triplets (conversion 0 (earlier ++ last ∷ [])))
+    → IsHeard (file_triplets (conversion (earlier ++ last ∷ [])))
 output_heard bytes earlier last are all =
     let frames = earlier ++ last ∷ [] in
-    let carried : CarryChannel (conversion 0 frames) = carried_alike frames (conversion 0 frames) (converted_halves frames all) are.is_file.accepted in
-    (channel_heard carried.packets carried.blocks (file_triplets (conversion 0 frames)) carried.channel).is
+    let carried : CarryChannel (conversion frames) = carried_alike frames (conversion frames) (converted_halves frames all) are.is_file.accepted in
+    (channel_heard carried.packets carried.blocks (file_triplets (conversion frames)) carried.channel).is
 
 -- the halves of the last come next
 pub halves_next : (bytes : List ℕ) (earlier : List Frame) (last : Frame) (halver : Halver) (first second : List Triplet)
     → AreFramesOf caption_channel (earlier ++ last ∷ []) bytes → HasHalved earlier halver → IsConvertible last → length (earlier ++ last ∷ []) ≤ 2147483647
     → first ≡ first_half (packet_triplets last) → second ≡ second_half (packet_triplets last)
-    → AreNext (conversion 0 earlier) halver.served first second (first_half_of (length earlier) last) (second_half_of (length earlier) last)
+    → AreNext (conversion earlier) halver.served first second (first_half_of (length earlier) last) (second_half_of (length earlier) last)
 halves_next bytes earlier last halver first second are had is few first_is second_is =
     let all = all_convertible earlier last had.fit is in
     let long = length-append earlier (last ∷ []) in
@@ -61,7 +61,7 @@ halves_next bytes earlier last halver first second are had is few first_is secon
 
 -- where no service shows something else, the frame is fit
 last_keeps : (earlier : List Frame) (last : Frame) → AreFit earlier → IsConvertible last
-    → IsFirstDiffering (received_windows (earlier ++ last ∷ [])) (received_windows (conversion 0 (earlier ++ last ∷ []))) None → KeepsGrids (earlier ++ last ∷ [])
+    → IsFirstDiffering (received_windows (earlier ++ last ∷ [])) (received_windows (conversion (earlier ++ last ∷ []))) None → KeepsGrids (earlier ++ last ∷ [])
 last_keeps earlier last fit is none = record {
   channels = channels_kept (earlier ++ last ∷ []) (all_convertible earlier last fit is);
   services = none;
@@ -70,10 +70,10 @@ last_keeps earlier last fit is none = record {
 -- and the halver took it
 pub took_frame : (earlier : List Frame) (last : Frame) (old new : Halver) (first second : List Triplet) → HasHalved earlier old → IsConvertible last
     → first ≡ first_half (packet_triplets last) → second ≡ second_half (packet_triplets last)
-    → new.words.items ≡ written_half ((2 * length earlier) % 65536) first ++ written_half ((2 * length earlier + 1) % 65536) second
-    → AreServed ((conversion 0 earlier ++ first_half_of (length earlier) last ∷ []) ++ second_half_of (length earlier) last ∷ []) new.served
+    → new.words.items ≡ half_bytes (2 * length earlier) first ++ half_bytes (2 * length earlier + 1) second
+    → AreServed ((conversion earlier ++ first_half_of (length earlier) last ∷ []) ++ second_half_of (length earlier) last ∷ []) new.served
     → all_ticks new.served.services ≡ all_ticks old.served.services + 2
-    → IsFirstDiffering (received_windows (earlier ++ last ∷ [])) (received_windows (conversion 0 (earlier ++ last ∷ []))) None
+    → IsFirstDiffering (received_windows (earlier ++ last ∷ [])) (received_windows (conversion (earlier ++ last ∷ []))) None
     → HasHalved (earlier ++ last ∷ []) (record new { misfit = None })
 took_frame earlier last old new first second had is first_is second_is words served ticks none =
     let keeps = last_keeps earlier last had.fit is none in
@@ -88,14 +88,14 @@ took_frame earlier last old new first second had is first_is second_is words ser
       words = λ others other split.
           let w = lasts_are earlier others last other split in
           words
-          ∙ ap (λ (l : List Triplet). written_half ((2 * length earlier) % 65536) l ++ written_half ((2 * length earlier + 1) % 65536) second) first_is
-          ∙ ap (λ (l : List Triplet). written_half ((2 * length earlier) % 65536) (first_half (packet_triplets last)) ++ written_half ((2 * length earlier + 1) % 65536) l) second_is
+          ∙ ap (λ (l : List Triplet). half_bytes (2 * length earlier) l ++ half_bytes (2 * length earlier + 1) second) first_is
+          ∙ ap (λ (l : List Triplet). half_bytes (2 * length earlier) (first_half (packet_triplets last)) ++ half_bytes (2 * length earlier + 1) l) second_is
           ∙ ap (λ (fs : List Frame). converted_bytes (length fs) last) w.0 ∙ ap (λ (f : Frame). converted_bytes (length others) f) w.1;
     }
 
 -- where one shows something else, that is the misfit
 pub service_misfit : (earlier : List Frame) (last : Frame) (service : ℕ) → AreFit earlier → IsConvertible last
-    → IsFirstService (received_windows (earlier ++ last ∷ [])) (received_windows (conversion 0 (earlier ++ last ∷ []))) service
+    → IsFirstService (received_windows (earlier ++ last ∷ [])) (received_windows (conversion (earlier ++ last ∷ []))) service
     → IsMisfit earlier last (misfit.Changed (which.Service service))
 service_misfit earlier last service fit is first =
     changed_misfit earlier last (misfit.Changed (which.Service service)) refl is

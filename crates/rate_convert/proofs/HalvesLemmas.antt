@@ -14,8 +14,7 @@ use Rattle.cc_data.proofs.TripletLemmas.{length-all_written}
 use Rattle.cdp_packets.specs.Sections.{IsSectionList}
 use Rattle.cdp_packets.specs.Written.{cc_data_section, checksum_of, unsummed_packet, written_packet}
 use Rattle.channel_packets.specs.ChannelPackets.{channel_triplets, continues_packet, starts}
-use Rattle.halved_frames.proofs.CutLemmas.{is_of}
-use Rattle.halved_frames.specs.Conversion.{first_half, first_or_filler, half_flags, of_field, second_half, ten_triplets, written_half}
+use Rattle.halved_frames.specs.Conversion.{first_half, first_or_filler, half_bytes, half_flags, is_of, of_field, second_half, ten_triplets, written_half}
 use Rattle.line21_codes.specs.declared.channels.FieldNumber.{FieldNumber}
 use Rattle.line21_codes.specs.declared.channels.FieldNumber.TheVariants.{One, Two}
 
@@ -106,7 +105,7 @@ no_sections bytes none = subst IsSectionList (sym none) (record { cut = []; are 
 -- the bytes of one packet behind those of another
 pub words_are : (counter next frame : ℕ) (first second : List Triplet) (none one two : List ℕ) → counter ≡ (2 * frame) % 65536 → next ≡ (2 * frame + 1) % 65536
     → none ≡ [] → one ≡ none ++ written_half counter first → two ≡ one ++ written_half next second
-    → two ≡ written_half ((2 * frame) % 65536) first ++ written_half ((2 * frame + 1) % 65536) second
+    → two ≡ half_bytes (2 * frame) first ++ half_bytes (2 * frame + 1) second
 words_are counter next frame first second none one two low high empty first_is second_is =
     second_is ∙ ap (λ (l : List ℕ). l ++ written_half next second) (first_is ∙ ap (λ (l : List ℕ). l ++ written_half counter first) empty)
-    ∙ ap (λ n. written_half n first ++ written_half next second) low ∙ ap (λ n. written_half ((2 * frame) % 65536) first ++ written_half n second) high
+    ∙ ap (λ n. written_half n first ++ written_half next second) low ∙ ap (λ n. half_bytes (2 * frame) first ++ written_half n second) high

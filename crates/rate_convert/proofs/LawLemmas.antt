@@ -22,8 +22,8 @@ pub fit_keeps : FitKeepsGrids
 fit_keeps frames fit f below =
     let keeps = fit_at [] frames f below fit in
     let e : suc (2 * f + 1) ≡ 2 * suc f = omega arith in
-    let front : take (suc (2 * f + 1)) (conversion 0 frames) ≡ conversion 0 (take (suc f) frames) =
-    ap (λ n. take n (conversion 0 frames)) e ∙ take_conversion (suc f) frames in
+    let front : take (suc (2 * f + 1)) (conversion frames) ≡ conversion (take (suc f) frames) =
+    ap (λ n. take n (conversion frames)) e ∙ take_conversion (suc f) frames in
     record {
       channels = λ chan. ap (λ (fs : List Frame). received_grids fs chan) front ∙ keeps.channels chan;
       services = λ service id is small. ap (λ (fs : List Frame). received_windows fs service id) front ∙ keeps.services service is id small;
@@ -51,7 +51,7 @@ kept_without : (frames : List Frame) → All IsConvertible frames → AreWithout
 unfolding AreWithout
 kept_without frames all none = record {
   channels = channels_kept frames all;
-  services = λ service is id small. (show_the_same frames (conversion 0 frames) (converted_halves frames all)).windows service id (none service is);
+  services = λ service is id small. (show_the_same frames (conversion frames) (converted_halves frames all)).windows service id (none service is);
 }
 
 fit_without : (earlier frames : List Frame) → All IsConvertible earlier → All IsConvertible frames → AreWithout (earlier ++ frames) → AreFitBehind earlier frames

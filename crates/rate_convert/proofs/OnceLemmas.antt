@@ -1,14 +1,13 @@
 -- A frame has one misfit at most.
 use Rattle.std.proofs.Common.{◌≡◌, ℕ, ◌<◌, List, [], ◌∷◌, ◌++◌, append-nil, append_assoc, refl, subst, sym, ap, ◌∙◌, arith}
 use Rattle.cdp_packets.specs.Packets.{Frame}
-use Rattle.dtvcc_services.specs.Numbers.{IsService}
 use Rattle.findings.specs.declared.finding.Which.{Which}
 use Rattle.findings.specs.declared.finding.Which.TheVariants as which
 use Rattle.findings.specs.declared.misfit.Misfit.{Misfit}
 use Rattle.findings.specs.declared.misfit.MisfitKind.{MisfitKind}
 use Rattle.findings.specs.declared.misfit.MisfitKind.TheVariants as misfit
 use Rattle.line21_codes.specs.declared.channels.Chan.TheVariants.{Cc1, Cc2, Cc3, Cc4}
-use Rattle.rate_convert.specs.Grids.{IsChanged, IsFirstChanged, grid_place}
+use Rattle.rate_convert.specs.Grids.{HasGrid, IsFirstChanged, grid_place}
 use Rattle.rate_convert.specs.Laws.{MisfitIsOne}
 use Rattle.rate_convert.specs.Misfits.{AreFitBehind, IsFit, IsMisfit, rank}
 
@@ -16,16 +15,7 @@ use Rattle.rate_convert.specs.Misfits.{AreFitBehind, IsFit, IsMisfit, rank}
 ordered : (m n : ℕ) → (m < n → ⊥) → (n < m → ⊥) → m ≡ n
 ordered m n less more = omega arith
 
--- a channel, or one of the services S1 to S63
-abbrev HasGrid : Which → Type 0
-HasGrid (which.Chan chan) = Unit {0}
-HasGrid (which.Service service) = IsService service
-
-which_has : (frames : List Frame) (a : Which) → IsChanged frames a → HasGrid a
-which_has frames (which.Chan chan) changed = tt
-which_has frames (which.Service service) changed = changed.0
-
--- their places are their own
+-- the places of channels and services are their own
 which_once : (a b : Which) → HasGrid a → HasGrid b → grid_place a ≡ grid_place b → a ≡ b
 which_once (which.Chan Cc1) (which.Chan Cc1) has also same = refl
 which_once (which.Chan Cc1) (which.Chan Cc2) has also same = absurd (omega arith)
@@ -55,8 +45,8 @@ which_once (which.Service s) (which.Service t) has also same = let e : s ≡ t =
 
 first_once : (frames : List Frame) (a b : Which) → IsFirstChanged frames a → IsFirstChanged frames b → a ≡ b
 first_once frames a b one other =
-    which_once a b (which_has frames a one.changed) (which_has frames b other.changed)
-    (ordered (grid_place a) (grid_place b) (λ less. other.before a less one.changed) (λ more. one.before b more other.changed))
+    which_once a b one.has other.has
+    (ordered (grid_place a) (grid_place b) (λ less. other.before a one.has less one.changed) (λ more. one.before b other.has more other.changed))
 
 kind_once : (earlier : List Frame) (frame : Frame) (a b : MisfitKind) → IsMisfit earlier frame a → IsMisfit earlier frame b → rank a ≡ rank b → a ≡ b
 kind_once earlier frame (misfit.Rate m) (misfit.Rate n) is also same = ap misfit.Rate (is.holds.1 ∙ sym also.holds.1)

@@ -9,8 +9,7 @@ use Rattle.cdp_packets.specs.Packets.{Frame}
 use Rattle.channel_packets.specs.ChannelPackets.{channel_triplets, continues_packet, starts}
 use Rattle.findings.specs.declared.misfit.MisfitKind.{MisfitKind}
 use Rattle.findings.specs.declared.misfit.MisfitKind.TheVariants as misfit
-use Rattle.halved_frames.proofs.CutLemmas.{is_of}
-use Rattle.halved_frames.specs.Conversion.{IsConvertible, of_field}
+use Rattle.halved_frames.specs.Conversion.{IsConvertible, is_of, of_field}
 use Rattle.line21_codes.specs.declared.channels.FieldNumber.{FieldNumber}
 use Rattle.line21_codes.specs.declared.channels.FieldNumber.TheVariants.{One, Two}
 use Rattle.rate_convert.specs.Misfits.{Holds, IsMisfit, rank}

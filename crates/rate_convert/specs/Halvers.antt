@@ -19,7 +19,7 @@ misfit_of halver = halver.misfit
 pub record HasHalved (frames : List Frame) (halver : Halver) : Type 0 where
   pub fit : AreFit frames
   pub keeps : KeepsGrids frames
-  pub served : AreServed (conversion 0 frames) halver.served
+  pub served : AreServed (conversion frames) halver.served
   pub ticks : all_ticks halver.served.services ≡ 2 * length frames
   pub none : misfit_of halver ≡ None
   pub words : (earlier : List Frame) (last : Frame) → frames ≡ earlier ++ last ∷ [] → halver.words.items ≡ converted_bytes (length earlier) last

@@ -25,9 +25,9 @@ MisfitIsOne = (earlier : List Frame) (frame : Frame) (one other : Misfit) → Is
 
 -- where no frame has a misfit, what is seen at the output's frame 2 f + 1 is what is seen at the frame f
 pub record KeepAllGrids (frames : List Frame) (f : ℕ) : Type 0 where
-  pub channels : (chan : Chan) → received_grids (take (suc (2 * f + 1)) (conversion 0 frames)) chan ≡ received_grids (take (suc f) frames) chan
+  pub channels : (chan : Chan) → received_grids (take (suc (2 * f + 1)) (conversion frames)) chan ≡ received_grids (take (suc f) frames) chan
   pub services : (service id : ℕ) → IsService service → id < 8
-      → received_windows (take (suc (2 * f + 1)) (conversion 0 frames)) service id ≡ received_windows (take (suc f) frames) service id
+      → received_windows (take (suc (2 * f + 1)) (conversion frames)) service id ≡ received_windows (take (suc f) frames) service id
 
 abbrev pub FitKeepsGrids : Type 0
 FitKeepsGrids = (frames : List Frame) → AreFit frames → (f : ℕ) → f < length frames → KeepAllGrids frames f

@@ -1,11 +1,11 @@
-ghost use Rattle.std.specs.Prelude.{◌≡◌, ◌≤◌, ◌<◌, ◌+◌, ◌*◌, ◌++◌, ◌∷◌, [], ℕ, List, All, false, length, ◌%◌};
+ghost use Rattle.std.specs.Prelude.{◌≡◌, ◌≤◌, ◌<◌, ◌+◌, ◌*◌, ◌++◌, ◌∷◌, [], ℕ, List, All, false, length};
 ghost use Rattle.arrayvec.specs.ArrayVec.{array_vec_len};
 ghost use Rattle.cc_data.specs.declared.triplet.Triplet.{Triplet as TripletOf};
 ghost use Rattle.cc_receiver.specs.ReceivedServices.{received_windows};
 ghost use Rattle.cdp_packets.specs.Packets.{Frame};
 ghost use Rattle.dtvcc_services.specs.Numbers.{IsService};
 ghost use Rattle.dtvcc_services.specs.Objects.{all_ticks};
-ghost use Rattle.halved_frames.specs.Conversion.{first_half, first_or_filler, second_half, ten_triplets, written_half};
+ghost use Rattle.halved_frames.specs.Conversion.{first_half, first_or_filler, half_bytes, second_half, ten_triplets, written_half};
 ghost use Rattle.rate_convert.specs.ServedFrames.{AreNext, AreServed};
 ghost use Rattle.rate_convert.specs.SortedTriplets.{AreSorted, IsSorted};
 
@@ -46,8 +46,8 @@ impl Halves {
     /// one more (SMPTE ST 334-1 and ST 334-2).
     pub(crate) fn words(&self, frame: u32) -> ArrayVec<u8, 200>
         requires { All (λ t. t.kind < 4) self.now.first × All (λ t. t.kind < 4) self.now.second }
-        ensures { result.items ≡ written_half ((2 * frame) % 65536) self.now.first
-            ++ written_half ((2 * frame + 1) % 65536) self.now.second }
+        ensures { result.items ≡ half_bytes (2 * frame) self.now.first
+            ++ half_bytes (2 * frame + 1) self.now.second }
     {
         let counter = 2 * (frame % 32_768) as u16;
         let mut words = ArrayVec::new();

@@ -26,13 +26,12 @@ use Rattle.words_reading.specs.Statuses.{stop_status}
 use Rattle.words_reading.specs.declared.frames.Frames.{Frames}
 use Rattle.words_reading.specs.declared.judge.Stop.{Stop}
 use Rattle.words_reading.specs.declared.judge.Stop.TheVariants as stop
-use Rattle.scc_commands.specs.Export.{AreExported, ExportAnswer, export_file, export_front, exported, first_standing, stand_after}
+use Rattle.scc_commands.specs.Export.{AreExported, ExportAnswer, ExportHalts, IsExportOf, export_file, export_front, exported, first_standing, stand_after}
 use Rattle.scc_commands.specs.Exporting.{StandsBehind, reason_status}
 use Rattle.scc_commands.specs.declared.exporting.ExportStop.{ExportStop}
 use Rattle.scc_commands.specs.declared.exporting.ExportStop.TheVariants as reason
 use Rattle.scc_commands.specs.declared.exporting.Exporting.{Exporting}
-use Rattle.scc_commands.proofs.WrittenLemmas.{ExportHalts, file_ends}
-use Rattle.words_reading.specs.FrameTexts.{FramesSay}
+use Rattle.scc_commands.proofs.WrittenLemmas.{file_ends}
 
 -- no frame is exported
 none_exported : (time : TimeCode) → AreExported time []
@@ -66,16 +65,16 @@ head_failed time first start then reads writes still failed rose =
 
 -- a reading that stopped before the end of the file
 abbrev HasStopped : TimeCode → Ends → Ends → Stop ExportStop → Type 0
-HasStopped time old new why = Stopped (FramesSay (export_front time) (AreExported time)) (λ reason. ExportHalts time (reason_status reason)) old new why
+HasStopped time old new why = Stopped (IsExportOf time export_front) (λ reason. ExportHalts time (reason_status reason)) old new why
 
 is_own : (why : ExportStop) → IsOwn (reason_status why)
 is_own (reason.Found finding) = tt
 is_own reason.Day = tt
 
 stopped_early : (time : TimeCode) (old new : Ends) (why : Stop ExportStop) → HasStopped time old new why
-    → StopsEarlyAs (FramesSay (export_front time) (AreExported time)) (ExportHalts time) old new (stop_status reason_status why)
+    → StopsEarlyAs (IsExportOf time export_front) (ExportHalts time) old new (stop_status reason_status why)
 stopped_early time old new why stops =
-    stop_answered_as (FramesSay (export_front time) (AreExported time)) (λ reason. ExportHalts time (reason_status reason)) (ExportHalts time) reason_status is_own (λ reason bytes text halts. halts) old new why stops
+    stop_answered_as (IsExportOf time export_front) (λ reason. ExportHalts time (reason_status reason)) (ExportHalts time) reason_status is_own (λ reason bytes text halts. halts) old new why stops
 
 -- is answered so
 pub export_stopped : (time : TimeCode) (first left start now : Option (List ℕ)) (reads later writes began still : ℕ) (why : Stop ExportStop) (answer : Status) → began ≡ writes
@@ -84,7 +83,7 @@ pub export_stopped : (time : TimeCode) (first left start now : Option (List ℕ)
 export_stopped time first left start now reads later writes began still why answer same stops is =
     subst (λ n. ExportAnswer time (ends first reads start n) (ends left later now still) answer) same
     (subst (ExportAnswer time (ends first reads start began) (ends left later now still)) (sym is)
-    (early_answered (FramesSay (export_file time) (AreExported time)) (FramesSay (export_front time) (AreExported time)) (ExportHalts time) (ends first reads start began) (ends left later now still)
+    (early_answered (IsExportOf time export_file) (IsExportOf time export_front) (ExportHalts time) (ends first reads start began) (ends left later now still)
     (stop_status reason_status why)
     (stopped_early time (ends first reads start began) (ends left later now still) why stops)))
 
@@ -96,10 +95,10 @@ HasEnded time reading old new =
 -- and the end of the SCC file was put, or a front of it
 end_put : (time : TimeCode) (reading : Frames Exporting) (first left start now then : Option (List ℕ)) (reads later writes began still last : ℕ) (ending : List ℕ) (answer : Put)
     → HasEnded time reading (ends first reads start began) (ends left later now still) → ending ≡ end_text reading.maker.writer.behind → Puts now then answer ending
-    → Stops (FramesSay (export_file time) (AreExported time)) (IsWholeFile first) answer (ends first reads start writes) (ends left later then last)
+    → Stops (IsExportOf time export_file) (IsWholeFile first) answer (ends first reads start writes) (ends left later then last)
 end_put time reading first left start now then reads later writes began still last ending answer (steady, stops) is line =
     let had = stops.says in
-    let ends_so : ending ≡ end_text (stand_after (first_standing time) (exported 0 had.frames)).behind = is ∙ ap (λ w. end_text w.behind) had.stands.writer in
+    let ends_so : ending ≡ end_text (stand_after (first_standing time) (exported had.frames)).behind = is ∙ ap (λ w. end_text w.behind) had.stands.writer in
     record {
       judged = stops.judged;
       unjudged = stops.unjudged;

@@ -18,11 +18,10 @@ use Rattle.services_files.specs.CaptionChannel.{caption_channel}
 use Rattle.words_reading.proofs.EarlyLemmas.{file_answers, malformed_answers, unless}
 use Rattle.words_reading.proofs.KnownLemmas.{known_judged}
 use Rattle.words_reading.specs.Answers.{StopsOwn}
-use Rattle.scc_commands.specs.Export.{AreExported, HasFinding, HasNoFinding, StandsPastDay, StopsAtFrame, export_file, export_front, exported, first_standing, pairs_of}
-use Rattle.scc_commands.proofs.WrittenLemmas.{AreWithinDay, ExportHalts, HaveNoFinding, at_number}
+use Rattle.scc_commands.specs.Export.{AreExported, ExportHalts, HasFinding, HasNoFinding, IsExportOf, StandsPastDay, StopsAtFrame, export_file, export_front, exported_from, first_standing, pairs_of}
+use Rattle.scc_commands.proofs.WrittenLemmas.{AreWithinDay, HaveNoFinding, at_number}
 use Rattle.scc_commands.specs.ExportVerdict.{FileIsExported, MalformedIsNotExported}
 use Rattle.scc_commands.specs.Import.{PlacedPairs}
-use Rattle.words_reading.specs.FrameTexts.{FramesSay}
 
 -- within the day, in front and behind
 within_back : (time : TimeCode) (pairs more : PlacedPairs) → AreWithinDay time (pairs ++ more) → AreWithinDay time more
@@ -35,10 +34,10 @@ within_front time (placed ∷ pairs) more (fits, within) = (fits, within_front t
 
 -- so is one frame of them
 within_at : (time : TimeCode) (number : ℕ) (frames : List Frame) (last : Frame) (behind : List Frame)
-    → AreWithinDay time (exported number ((frames ++ last ∷ []) ++ behind)) → AreWithinDay time (at_number (number + length frames) (pairs_of last))
+    → AreWithinDay time (exported_from number ((frames ++ last ∷ []) ++ behind)) → AreWithinDay time (at_number (number + length frames) (pairs_of last))
 within_at time number [] last behind within =
     subst (λ n. AreWithinDay time (at_number n (pairs_of last))) (none number)
-    (within_front time (at_number number (pairs_of last)) (exported (suc number) behind) within)
+    (within_front time (at_number number (pairs_of last)) (exported_from (suc number) behind) within)
   where
     none : (n : ℕ) → n ≡ n + 0
     none n = omega arith
@@ -46,7 +45,7 @@ within_at time number (frame ∷ frames) last behind within =
     let count : suc number + length frames ≡ number + suc (length frames) = omega arith in
     subst (λ n. AreWithinDay time (at_number n (pairs_of last))) count
     (within_at time (suc number) frames last behind
-    (within_back time (at_number number (pairs_of frame)) (exported (suc number) ((frames ++ last ∷ []) ++ behind)) within))
+    (within_back time (at_number number (pairs_of frame)) (exported_from (suc number) ((frames ++ last ∷ []) ++ behind)) within))
 
 -- nothing is found at one frame of them
 no_finding_at : (frames : List Frame) (last : Frame) (behind : List Frame) → HaveNoFinding ((frames ++ last ∷ []) ++ behind) → HasNoFinding last
@@ -88,9 +87,9 @@ never_halts time bytes all old new answer are good read (own, steady, stops) =
 pub file_exported : FileIsExported
 file_exported time bytes frames old new answer file good within read answered =
     unless (never_halts time bytes frames old new answer (file_frames caption_channel frames bytes file) good read)
-    (file_answers (FramesSay (export_file time) (AreExported time)) (FramesSay (export_front time) (AreExported time)) (ExportHalts time) bytes frames old new answer file within read answered)
+    (file_answers (IsExportOf time export_file) (IsExportOf time export_front) (ExportHalts time) bytes frames old new answer file within read answered)
 
 pub malformed_not_exported : MalformedIsNotExported
 malformed_not_exported time bytes frames refusal old new answer are good malformed within read answered =
     unless (never_halts time bytes frames old new answer are good read)
-    (malformed_answers (FramesSay (export_file time) (AreExported time)) (FramesSay (export_front time) (AreExported time)) (ExportHalts time) bytes refusal old new answer malformed within read answered)
+    (malformed_answers (IsExportOf time export_file) (IsExportOf time export_front) (ExportHalts time) bytes refusal old new answer malformed within read answered)

@@ -16,7 +16,7 @@ use Rattle.time_codes.specs.declared.time_code.TimeCode.{TimeCode}
 use Rattle.words_files.specs.Frames.{CarryFrames, IsFileOf}
 use Rattle.words_files.specs.Received.{field_pair}
 use Rattle.scc_files.proofs.RoundTrip.{written_is_file}
-use Rattle.scc_commands.specs.Export.{AreExported, export_file, exported, pairs_of}
+use Rattle.scc_commands.specs.Export.{AreExported, export_file, exported, exported_from, pairs_of}
 use Rattle.scc_commands.proofs.WrittenLemmas.{AreWithinDay, HaveNoFinding, at_number}
 
 abbrev AreBytes : List ℕ → Type 0
@@ -116,15 +116,15 @@ next_writable time number (pair ∷ []) more few are within rest =
     (omega arith, are.0.0, are.0.1, within.0, subst (λ n. AreWritable (frame_number time) time.drop_frame n more) next (rest within.1))
 next_writable time number (pair ∷ (other ∷ pairs)) more few are within rest = absurd (omega (arith, few))
 
-exported_writable : (time : TimeCode) (number : ℕ) (frames : List Frame) → HaveBytes frames → HaveNoFinding frames → AreWithinDay time (exported number frames)
-    → AreWritable (frame_number time) time.drop_frame number (exported number frames)
+exported_writable : (time : TimeCode) (number : ℕ) (frames : List Frame) → HaveBytes frames → HaveNoFinding frames → AreWithinDay time (exported_from number frames)
+    → AreWritable (frame_number time) time.drop_frame number (exported_from number frames)
 exported_writable time number [] have none within = tt
 exported_writable time number (frame ∷ frames) (are, have) (one, none) within =
-    next_writable time number (pairs_of frame) (exported (suc number) frames) one.one (pairs_are frame are) within
+    next_writable time number (pairs_of frame) (exported_from (suc number) frames) one.one (pairs_are frame are) within
     (λ rest. exported_writable time (suc number) frames have none rest)
 
 pub exported_is_file : (time : TimeCode) (frames : List Frame) (bytes : List ℕ) → IsFileOf frames bytes → AreExported time frames
-    → IsSccFile (counted (pairs_not_null (exported 0 frames))) (export_file time frames)
+    → IsSccFile (counted (pairs_not_null (exported frames))) (export_file time frames)
 exported_is_file time frames bytes file good =
-    written_is_file (exported 0 frames) (frame_number time) time.drop_frame
+    written_is_file (exported frames) (frame_number time) time.drop_frame
     (exported_writable time 0 frames (carried_bytes file.packets frames file.carried) good.no_finding good.within_day)

@@ -26,19 +26,19 @@ frame_silent time start now held frames last export none is stands way = (
 
 -- what is written of its pair
 piece_is : (time : TimeCode) (frames : List Frame) (last : Frame) (pair : Pair) (w : Standing) (frame : ℕ) (piece : List ℕ) → pairs_of last ≡ pair ∷ []
-    → w ≡ stand_after (first_standing time) (exported 0 frames) → frame ≡ length frames → piece ≡ piece_of w frame pair
+    → w ≡ stand_after (first_standing time) (exported frames) → frame ≡ length frames → piece ≡ piece_of w frame pair
     → export_front time frames ++ piece ≡ export_front time (frames ++ last ∷ [])
 piece_is time frames last pair w frame piece is stands number given =
     ap (λ p. export_front time frames ++ p)
-    (given ∙ ap (λ v. piece_of v frame pair) stands ∙ ap (λ n. piece_of (stand_after (first_standing time) (exported 0 frames)) n pair) number
-    ∙ sym (append-nil (piece_of (stand_after (first_standing time) (exported 0 frames)) (length frames) pair)))
+    (given ∙ ap (λ v. piece_of v frame pair) stands ∙ ap (λ n. piece_of (stand_after (first_standing time) (exported frames)) n pair) number
+    ∙ sym (append-nil (piece_of (stand_after (first_standing time) (exported frames)) (length frames) pair)))
     ∙ sym (front_more time frames last (pair ∷ []) is)
 
 -- it stands within the day
-day_is : (time : TimeCode) (frames : List Frame) (pair : Pair) (w : Standing) (frame : ℕ) → w ≡ stand_after (first_standing time) (exported 0 frames)
+day_is : (time : TimeCode) (frames : List Frame) (pair : Pair) (w : Standing) (frame : ℕ) → w ≡ stand_after (first_standing time) (exported frames)
     → frame ≡ length frames → is_past_day (first_standing time) (length frames) pair ≡ is_past_day w frame pair
 day_is time frames pair w frame stands number =
-    sym (past_is time (exported 0 frames) (length frames) pair)
+    sym (past_is time (exported frames) (length frames) pair)
     ∙ ap (λ v. is_past_day v (length frames) pair) (sym stands) ∙ ap (λ n. is_past_day w n pair) (sym number)
 
 -- its pair was written
@@ -51,7 +51,7 @@ frame_written time start now then before after frames last old new pair frame pi
   record {
     are_exported = exported_more time frames last (pair ∷ []) is none (day_is time frames pair (standing_of old.writer) frame stands.writer number ∙ fits, tt) stands.are_exported;
     writer = moved ∙ ap (λ v. stand_behind v frame pair) stands.writer
-        ∙ ap (λ n. stand_behind (stand_after (first_standing time) (exported 0 frames)) n pair) number ∙ sym (stand_frame time frames last (pair ∷ []) is);
+        ∙ ap (λ n. stand_behind (stand_after (first_standing time) (exported frames)) n pair) number ∙ sym (stand_frame time frames last (pair ∷ []) is);
   },
   subst (IsGathered start then after) (piece_is time frames last pair (standing_of old.writer) frame piece is stands.writer number given)
       (gathered_more start now then before after piece (export_front time frames) way gathers),

@@ -14,7 +14,7 @@ use Rattle.line21_codes.specs.NullPairs.{null_pair}
 use Rattle.frame_scheduler.specs.declared.frames.FrameBytes.{FrameBytes}
 use Rattle.frame_carrier.proofs.CarriedLemmas.{frames_carried}
 use Rattle.frame_carrier.proofs.CarryingLemmas.{quiet_bytes, quiet_roomy}
-use Rattle.frame_carrier.specs.Carried.{AreBytePairs, AreCarried, IsBytePair}
+use Rattle.frame_carrier.specs.Carried.{AreBytePairs, IsBytePair}
 use Rattle.frame_carrier.specs.Carrying.{IsAt, channel_packet, column_bytes, frame_bytes, packet_count}
 use Rattle.frame_carrier.specs.declared.carrier.Carrier.{Carrier}
 use Rattle.scc_files.specs.Reading.{frames_of, frames_to}
@@ -29,13 +29,9 @@ use Rattle.command_base.specs.WholeInput.{JudgesInput}
 use Rattle.command_base.specs.declared.status.Status.{Status}
 use Rattle.command_base.specs.declared.status.Status.TheVariants as status
 use Rattle.scc_commands.specs.Cursors.{Passes}
-use Rattle.scc_commands.specs.Import.{IsImport, IsRefusedImport, PlacedPairs, import_columns, import_words, pair_at}
+use Rattle.scc_commands.specs.Import.{IsCarriedImport, IsImport, IsRefusedImport, PlacedPairs, import_columns, import_words, pair_at}
 use Rattle.scc_commands.specs.ImportSteps.{ArePlaced, fault_status, frame_with}
 use Rattle.scc_commands.proofs.WrittenLemmas.{gathered_failed, gathered_more}
-
--- the words of these pairs are a words file whose frames carry just the pairs
-abbrev pub IsCarriedImport : PlacedPairs → Type 0
-IsCarriedImport pairs = AreCarried rate.F2997 (import_columns pairs) (frames_of pairs)
 
 -- numbers that aren't equal
 pub other_number : (n m : ℕ) → n ≢ m → nat_eq n m ≡ false

@@ -14,7 +14,7 @@ use Rattle.scc_files.specs.Writing.{Standing, head_text, piece_of, stand_behind}
 use Rattle.scc_files.specs.Written.{text_from, written_file}
 use Rattle.time_codes.specs.Frames.{frame_number}
 use Rattle.time_codes.specs.declared.time_code.TimeCode.{TimeCode}
-use Rattle.scc_commands.specs.Export.{export_file, exported, first_standing}
+use Rattle.scc_commands.specs.Export.{export_file, exported_from, first_standing}
 use Rattle.scc_commands.proofs.WrittenLemmas.{at_number}
 use Rattle.scc_commands.specs.Import.{PlacedPairs, import_columns, import_packets, pair_at}
 use Rattle.scc_commands.proofs.ImportLemmas.{columns_bytes, none_before, other_number}
@@ -87,12 +87,12 @@ same_text (suc n) frame (placed ∷ left) w (from, rising) count =
 
 -- the packets of an import carry a pair a frame
 packets_filled : (pairs : PlacedPairs) (frame n : ℕ) → AreBytes pairs
-    → exported frame (column_packets rate.F2997 (import_columns pairs) frame n) ≡ filled pairs frame n
+    → exported_from frame (column_packets rate.F2997 (import_columns pairs) frame n) ≡ filled pairs frame n
 packets_filled pairs frame zero are = refl
 packets_filled pairs frame (suc n) are =
     let room = (frames_carried rate.F2997 (import_columns pairs) 0 (columns_bytes pairs are)
     (quiet_bytes (import_columns pairs) (λ frame. refl)) (quiet_roomy rate.F2997 (import_columns pairs) (λ frame. refl))).room frame in
-    ap (λ l. at_number frame l ++ exported (suc frame) (column_packets rate.F2997 (import_columns pairs) (suc frame) n)) (room.pairs One)
+    ap (λ l. at_number frame l ++ exported_from (suc frame) (column_packets rate.F2997 (import_columns pairs) (suc frame) n)) (room.pairs One)
     ∙ ap (λ l. (frame, pair_at pairs frame) ∷ l) (packets_filled pairs (suc frame) n are)
 
 pub exported_again : (time : TimeCode) (pairs : PlacedPairs) → AreRising 0 pairs → AreBytes pairs

@@ -14,11 +14,8 @@ use Rattle.scc_files.specs.Reading.{frames_of, read_file}
 use Rattle.scc_files.specs.SccFiles.{IsSccFile}
 use Rattle.time_codes.specs.declared.time_code.TimeCode.{TimeCode}
 use Rattle.words_reading.proofs.EarlyLemmas.{file_told}
-use Rattle.scc_commands.proofs.WrittenLemmas.{ExportHalts}
-use Rattle.scc_commands.specs.Export.{AreExported, ExportAnswer, export_file, export_front}
-use Rattle.scc_commands.proofs.ImportLemmas.{IsCarriedImport}
-use Rattle.scc_commands.specs.Import.{ImportAnswer, IsImport, IsRefusedImport, PlacedPairs, import_words}
-use Rattle.words_reading.specs.FrameTexts.{FramesSay}
+use Rattle.scc_commands.specs.Export.{ExportAnswer, ExportHalts, IsExportOf, export_file, export_front}
+use Rattle.scc_commands.specs.Import.{ImportAnswer, IsCarriedImport, IsImport, IsRefusedImport, PlacedPairs, import_words}
 
 -- a count of faults that is greater than before
 pub told_import : (old new : Ends) (answer : Status) → ImportAnswer old new answer → TellsFaults old new answer
@@ -26,7 +23,7 @@ told_import old new answer is = made_told IsImport import_words IsCarriedImport 
 
 pub told_export : (time : TimeCode) (old new : Ends) (answer : Status) → ExportAnswer time old new answer → TellsFaults old new answer
 told_export time old new answer answered =
-    file_told (FramesSay (export_file time) (AreExported time)) (FramesSay (export_front time) (AreExported time)) (ExportHalts time) old new answer answered
+    file_told (IsExportOf time export_file) (IsExportOf time export_front) (ExportHalts time) old new answer answered
 
 -- the bytes of a file are one of pairs alone
 same_ok : (one other : PlacedPairs) (r : Result PlacedPairs Refusal) → r ≡ Ok one → r ≡ Ok other → one ≡ other

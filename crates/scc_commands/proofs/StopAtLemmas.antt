@@ -22,10 +22,8 @@ use Rattle.words_reading.specs.Answers.{StopsEarlyAs}
 use Rattle.words_reading.specs.Causes.{IsRefusedWith, IsWholeFile, words_limit}
 use Rattle.words_reading.specs.Reading.{Stops}
 use Rattle.scc_commands.proofs.ExportVerdictLemmas.{not_exported, not_found}
-use Rattle.scc_commands.proofs.WrittenLemmas.{ExportHalts}
-use Rattle.scc_commands.specs.Export.{AreExported, HasFinding, StopsAtFrame, export_file, export_front}
+use Rattle.scc_commands.specs.Export.{AreExported, ExportHalts, HasFinding, IsExportOf, StopsAtFrame, export_file, export_front}
 use Rattle.scc_commands.specs.ExportVerdict.{StopIsAnswered}
-use Rattle.words_reading.specs.FrameTexts.{FramesSay}
 
 -- what is found at a frame is one
 found_once : (frame : Frame) (one other : Kind45) → HasFinding frame one → HasFinding frame other → one ≡ other
@@ -94,7 +92,7 @@ stops_same time bytes stop answer has frames last judged more is are good stops 
 
 -- a run that exported the frames of what it judged stops for no word
 never_refused : (time : TimeCode) (bytes : List ℕ) (stop : Status) (refusal : Refusal) (answer : Put) (old new : Ends) → StopsIn time bytes stop → IsReadOf bytes old new
-    → Stops (FramesSay (export_front time) (AreExported time)) (IsRefusedWith refusal old.left) answer old new → ⊥
+    → Stops (IsExportOf time export_front) (IsRefusedWith refusal old.left) answer old new → ⊥
 never_refused time bytes stop refusal answer old new has read stops =
     let said = stops.says in
     let (behind, grown) = refused_behind _ bytes ((has.frames ++ has.last ∷ []) ++ has.behind) said.frames refusal answer old new has.are read stops said.frames_are in
@@ -102,7 +100,7 @@ never_refused time bytes stop refusal answer old new has read stops =
 
 -- nor does it come to the end of a file
 never_whole : (time : TimeCode) (bytes : List ℕ) (stop : Status) (answer : Put) (old new : Ends) → StopsIn time bytes stop → IsReadOf bytes old new
-    → Stops (FramesSay (export_file time) (AreExported time)) (IsWholeFile old.left) answer old new → ⊥
+    → Stops (IsExportOf time export_file) (IsWholeFile old.left) answer old new → ⊥
 never_whole time bytes stop answer old new has read stops =
     let said = stops.says in
     let all = (has.frames ++ has.last ∷ []) ++ has.behind in
@@ -110,7 +108,7 @@ never_whole time bytes stop answer old new has read stops =
     not_all time bytes said.frames [] stop has (same ∙ sym (append-nil all)) said.fit
 
 stop_early : (time : TimeCode) (bytes : List ℕ) (stop answer : Status) (old new : Ends) → StopsIn time bytes stop → length bytes ≤ words_limit → IsReadOf bytes old new
-    → StopsEarlyAs (FramesSay (export_front time) (AreExported time)) (ExportHalts time) old new answer → answer ≡ stop
+    → StopsEarlyAs (IsExportOf time export_front) (ExportHalts time) old new answer → answer ≡ stop
 stop_early time bytes stop status.ReadFault old new has within read stops = absurd (read.reads stops.0)
 stop_early time bytes stop status.WriteFault old new has within read stops = absurd (read.writes stops.1)
 stop_early time bytes stop (status.Limit limit.Bytes) old new has within read stops = absurd (within_passes _ bytes _ old new within read stops.1)

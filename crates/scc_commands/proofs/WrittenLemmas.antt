@@ -20,15 +20,9 @@ use Rattle.scc_files.specs.Writing.{Standing, StandsFirst, end_text, head_text, 
 use Rattle.scc_files.specs.declared.writer.SccWriter.{SccWriter}
 use Rattle.scc_files.specs.Written.{text_from}
 use Rattle.time_codes.specs.declared.time_code.TimeCode.{TimeCode}
-use Rattle.command_base.specs.declared.status.Status.{Status}
 use Rattle.words_reading.proofs.WayLemmas.{way_unwritten}
-use Rattle.words_reading.specs.FrameTexts.{FramesHalt}
 use Rattle.scc_commands.specs.Import.{PlacedPairs}
-use Rattle.scc_commands.specs.Export.{AreExported, HasNoFinding, StopsAtFrame, export_file, export_front, exported, first_standing, pairs_of, pieces, stand_after}
-
--- bytes, none of whose words offends, end with the first frame at which an export stops, and this is the text of the frames before
-abbrev pub ExportHalts : TimeCode → Status → List ℕ → List ℕ → Type 0
-ExportHalts time answer = FramesHalt (export_front time) (AreExported time) (λ frames last. StopsAtFrame time (length frames) last answer)
+use Rattle.scc_commands.specs.Export.{AreExported, HasNoFinding, export_file, export_front, exported, exported_from, first_standing, pairs_of, pieces, stand_after}
 
 -- pairs at one frame
 abbrev pub at_number : ℕ → List Pair → PlacedPairs
@@ -43,7 +37,7 @@ AreWithinDay time pairs = AllByRecursion (λ (placed : ℕ × Pair). is_past_day
 
 -- the pairs of frames and of one more
 one_frame_more : (number : ℕ) (frames : List Frame) (last : Frame)
-    → exported number (frames ++ last ∷ []) ≡ exported number frames ++ at_number (number + length frames) (pairs_of last)
+    → exported_from number (frames ++ last ∷ []) ≡ exported_from number frames ++ at_number (number + length frames) (pairs_of last)
 one_frame_more number [] last = append-nil (at_number number (pairs_of last)) ∙ ap (λ n. at_number n (pairs_of last)) (none number)
   where
     none : (n : ℕ) → n ≡ n + 0
@@ -51,14 +45,14 @@ one_frame_more number [] last = append-nil (at_number number (pairs_of last)) �
 one_frame_more number (frame ∷ frames) last =
     let count : suc number + length frames ≡ number + suc (length frames) = omega arith in
     ap (λ l. at_number number (pairs_of frame) ++ l)
-    (one_frame_more (suc number) frames last ∙ ap (λ n. exported (suc number) frames ++ at_number n (pairs_of last)) count)
-    ∙ sym (append_assoc (at_number number (pairs_of frame)) (exported (suc number) frames) (at_number (number + suc (length frames)) (pairs_of last)))
+    (one_frame_more (suc number) frames last ∙ ap (λ n. exported_from (suc number) frames ++ at_number n (pairs_of last)) count)
+    ∙ sym (append_assoc (at_number number (pairs_of frame)) (exported_from (suc number) frames) (at_number (number + suc (length frames)) (pairs_of last)))
 
 plus_none : (n : ℕ) → 0 + n ≡ n
 plus_none n = omega arith
 
-one_more : (frames : List Frame) (last : Frame) → exported 0 (frames ++ last ∷ []) ≡ exported 0 frames ++ at_number (length frames) (pairs_of last)
-one_more frames last = one_frame_more 0 frames last ∙ ap (λ n. exported 0 frames ++ at_number n (pairs_of last)) (plus_none (length frames))
+one_more : (frames : List Frame) (last : Frame) → exported (frames ++ last ∷ []) ≡ exported frames ++ at_number (length frames) (pairs_of last)
+one_more frames last = one_frame_more 0 frames last ∙ ap (λ n. exported_from 0 frames ++ at_number n (pairs_of last)) (plus_none (length frames))
 
 -- what is written of pairs and of more
 pieces_more : (pairs more : PlacedPairs) (w : Standing) → pieces w (pairs ++ more) ≡ pieces w pairs ++ pieces (stand_after w pairs) more
@@ -86,29 +80,29 @@ pub exported_more : (time : TimeCode) (frames : List Frame) (last : Frame) (pair
 exported_more time frames last pairs is none within are = record {
   no_finding = no_finding_more frames last are.no_finding none;
   within_day = subst (AreWithinDay time) (sym (one_more frames last))
-      (within_more time (exported 0 frames) (at_number (length frames) (pairs_of last)) are.within_day
+      (within_more time (exported frames) (at_number (length frames) (pairs_of last)) are.within_day
       (subst (λ l. AreWithinDay time (at_number (length frames) l)) (sym is) within));
 }
 
 -- the text of a frame more
 pub front_more : (time : TimeCode) (frames : List Frame) (last : Frame) (pairs : List Pair) → pairs_of last ≡ pairs
     → export_front time (frames ++ last ∷ [])
-    ≡ export_front time frames ++ pieces (stand_after (first_standing time) (exported 0 frames)) (at_number (length frames) pairs)
+    ≡ export_front time frames ++ pieces (stand_after (first_standing time) (exported frames)) (at_number (length frames) pairs)
 front_more time frames last pairs is =
     ap (λ l. head_text ++ pieces (first_standing time) l) (one_more frames last)
-    ∙ ap (λ l. head_text ++ l) (pieces_more (exported 0 frames) (at_number (length frames) (pairs_of last)) (first_standing time))
-    ∙ sym (append_assoc head_text (pieces (first_standing time) (exported 0 frames))
-    (pieces (stand_after (first_standing time) (exported 0 frames)) (at_number (length frames) (pairs_of last))))
-    ∙ ap (λ l. export_front time frames ++ pieces (stand_after (first_standing time) (exported 0 frames)) (at_number (length frames) l)) is
+    ∙ ap (λ l. head_text ++ l) (pieces_more (exported frames) (at_number (length frames) (pairs_of last)) (first_standing time))
+    ∙ sym (append_assoc head_text (pieces (first_standing time) (exported frames))
+    (pieces (stand_after (first_standing time) (exported frames)) (at_number (length frames) (pairs_of last))))
+    ∙ ap (λ l. export_front time frames ++ pieces (stand_after (first_standing time) (exported frames)) (at_number (length frames) l)) is
 
 -- where a frame more leads
 pub stand_frame : (time : TimeCode) (frames : List Frame) (last : Frame) (pairs : List Pair) → pairs_of last ≡ pairs
-    → stand_after (first_standing time) (exported 0 (frames ++ last ∷ []))
-    ≡ stand_after (stand_after (first_standing time) (exported 0 frames)) (at_number (length frames) pairs)
+    → stand_after (first_standing time) (exported (frames ++ last ∷ []))
+    ≡ stand_after (stand_after (first_standing time) (exported frames)) (at_number (length frames) pairs)
 stand_frame time frames last pairs is =
     ap (stand_after (first_standing time)) (one_more frames last)
-    ∙ stand_more (exported 0 frames) (at_number (length frames) (pairs_of last)) (first_standing time)
-    ∙ ap (λ l. stand_after (stand_after (first_standing time) (exported 0 frames)) (at_number (length frames) l)) is
+    ∙ stand_more (exported frames) (at_number (length frames) (pairs_of last)) (first_standing time)
+    ∙ ap (λ l. stand_after (stand_after (first_standing time) (exported frames)) (at_number (length frames) l)) is
 
 -- the day of a writer stays
 pub record HasDay (w v : Standing) : Type 0 where
@@ -156,10 +150,10 @@ text_is (placed ∷ pairs) w =
     ∙ ap (λ l. piece_of w placed.0 placed.1 ++ l) (text_is pairs (stand_behind w placed.0 placed.1))
 
 pub file_ends : (time : TimeCode) (frames : List Frame)
-    → export_front time frames ++ end_text (stand_after (first_standing time) (exported 0 frames)).behind ≡ export_file time frames
+    → export_front time frames ++ end_text (stand_after (first_standing time) (exported frames)).behind ≡ export_file time frames
 file_ends time frames =
-    append_assoc head_text (pieces (first_standing time) (exported 0 frames)) (end_text (stand_after (first_standing time) (exported 0 frames)).behind)
-    ∙ ap (λ l. head_text ++ l) (text_is (exported 0 frames) (first_standing time))
+    append_assoc head_text (pieces (first_standing time) (exported frames)) (end_text (stand_after (first_standing time) (exported frames)).behind)
+    ∙ ap (λ l. head_text ++ l) (text_is (exported frames) (first_standing time))
 
 -- the one pair of a list that has no more
 pub one_pair : (pairs : List Pair) (pair : Pair) (rest : List Pair) → pairs ≡ pair ∷ rest → length pairs ≤ 1 → pairs ≡ pair ∷ []

@@ -28,13 +28,17 @@ abbrev pub pairs_of : Frame → List Pair
 pairs_of frame = field_pairs One (packet_triplets frame)
 
 -- the field 1 pairs of frames, each at its frame, where the first has this number
-abbrev pub exported : ℕ → List Frame → PlacedPairs
-exported number [] = []
-exported number (frame ∷ frames) = map (λ pair. (number, pair)) (pairs_of frame) ++ exported (suc number) frames
+abbrev pub exported_from : ℕ → List Frame → PlacedPairs
+exported_from number [] = []
+exported_from number (frame ∷ frames) = map (λ pair. (number, pair)) (pairs_of frame) ++ exported_from (suc number) frames
+
+-- the field 1 pairs of a file's frames
+abbrev pub exported : List Frame → PlacedPairs
+exported frames = exported_from 0 frames
 
 -- the SCC file of frames, in its written form
 abbrev pub export_file : TimeCode → List Frame → List ℕ
-export_file time frames = written_file (frame_number time) time.drop_frame (exported 0 frames)
+export_file time frames = written_file (frame_number time) time.drop_frame (exported frames)
 
 -- where a file begins whose frame 0 has this time code
 abbrev pub first_standing : TimeCode → Standing
@@ -51,7 +55,7 @@ stand_after w (placed ∷ pairs) = stand_after (stand_behind w placed.0 placed.1
 
 -- the SCC file of frames without what ends it, the two line ends behind its last stretch
 abbrev pub export_front : TimeCode → List Frame → List ℕ
-export_front time frames = head_text ++ pieces (first_standing time) (exported 0 frames)
+export_front time frames = head_text ++ pieces (first_standing time) (exported frames)
 
 -- nothing is found at a frame: it has the rate 29.97 and at most one pair of field 1
 pub record HasNoFinding (frame : Frame) : Type 0 where
@@ -67,7 +71,7 @@ HasFinding frame _ = ⊥
 -- frames that are exported: nothing is found at any, and no pair that isn't null stands at or past the end of the day of frame 0
 pub record AreExported (time : TimeCode) (frames : List Frame) : Type 0 where
   pub no_finding : AllByRecursion HasNoFinding frames
-  pub within_day : AllByRecursion (λ (placed : ℕ × Pair). is_past_day (first_standing time) placed.0 placed.1 ≡ false) (exported 0 frames)
+  pub within_day : AllByRecursion (λ (placed : ℕ × Pair). is_past_day (first_standing time) placed.0 placed.1 ≡ false) (exported frames)
 
 -- nothing is found at the frame of this number, and its pair isn't null and stands at or past the end of the day
 pub record StandsPastDay (time : TimeCode) (number : ℕ) (frame : Frame) : Type 0 where
@@ -82,9 +86,14 @@ StopsAtFrame time number frame (status.Differs finding) = (finding.frame ≡ num
 StopsAtFrame time number frame (status.Limit limit.Day) = StandsPastDay time number frame
 StopsAtFrame time number frame _ = ⊥
 
--- what `export` answers, where frame 0 has this time code: the text of exported frames is put, and the run stops at the first frame at which
--- an export stops
+-- this is the text of the frames that bytes bring, which are exported
+abbrev pub IsExportOf : TimeCode → (TimeCode → List Frame → List ℕ) → List ℕ → List ℕ → Type 0
+IsExportOf time text_of = FramesSay (text_of time) (AreExported time)
+
+-- bytes, none of whose words offends, end with the first frame at which an export stops, and this is the text of the frames before
+abbrev pub ExportHalts : TimeCode → Status → List ℕ → List ℕ → Type 0
+ExportHalts time answer = FramesHalt (export_front time) (AreExported time) (λ frames last. StopsAtFrame time (length frames) last answer)
+
+-- what `export` answers, where frame 0 has this time code
 abbrev pub ExportAnswer : TimeCode → Ends → Ends → Status → Type 0
-ExportAnswer time old new answer =
-    FileAnswer (FramesSay (export_file time) (AreExported time)) (FramesSay (export_front time) (AreExported time))
-    (λ stop. FramesHalt (export_front time) (AreExported time) (λ frames last. StopsAtFrame time (length frames) last stop)) old new answer
+ExportAnswer time old new answer = FileAnswer (IsExportOf time export_file) (IsExportOf time export_front) (ExportHalts time) old new answer

@@ -26,4 +26,4 @@ reason_status reason.Day = status.Limit limit.Day
 -- an export stands behind frames, which are exported
 pub record StandsBehind (time : TimeCode) (frames : List Frame) (export : Exporting) : Type 0 where
   pub are_exported : AreExported time frames
-  pub writer : standing_of export.writer ≡ stand_after (first_standing time) (exported 0 frames)
+  pub writer : standing_of export.writer ≡ stand_after (first_standing time) (exported frames)

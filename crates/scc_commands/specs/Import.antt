@@ -51,6 +51,10 @@ pub record IsImport (bytes : List ℕ) (pairs : PlacedPairs) : Type 0 where
   pub file : IsSccFile pairs bytes
   pub few : frames_of pairs ≤ most_import_frames
 
+-- the words of these pairs are a words file whose frames carry just the pairs
+abbrev pub IsCarriedImport : PlacedPairs → Type 0
+IsCarriedImport pairs = AreCarried rate.F2997 (import_columns pairs) (frames_of pairs)
+
 -- the bytes are refused with this status: they are too many, an SCC file of too many frames, or none
 abbrev pub IsRefusedImport : List ℕ → Status → Type 0
 IsRefusedImport bytes (status.Limit limit.Bytes) = whole_limit < length bytes
@@ -63,7 +67,6 @@ IsRefusedImport bytes _ = ⊥
 abbrev pub ReadsImport : Option (List ℕ) → Option (List ℕ) → ℕ → ℕ → Result PlacedPairs Status → Type 0
 ReadsImport old new before now result = ReadsInput IsImport IsRefusedImport old new before now result
 
--- what `import` answers: the words of a file's pairs are put, which are a words file whose frames carry just the pairs
+-- what `import` answers
 abbrev pub ImportAnswer : Ends → Ends → Status → Type 0
-ImportAnswer old new answer =
-    MakesAnswer IsImport import_words (λ pairs. AreCarried rate.F2997 (import_columns pairs) (frames_of pairs)) IsRefusedImport old new answer
+ImportAnswer old new answer = MakesAnswer IsImport import_words IsCarriedImport IsRefusedImport old new answer

@@ -15,7 +15,7 @@ ghost use Rattle.scc_commands.specs.Import.{PlacedPairs, import_packets};
 pub fn front_and_end_are_the_file()
     ensures { (time : Time) (frames : List Frame)
         → export_front time frames
-        ++ end_text (stand_after (first_standing time) (exported 0 frames)).behind
+        ++ end_text (stand_after (first_standing time) (exported frames)).behind
         ≡ export_file time frames }
 {}
 
@@ -32,5 +32,5 @@ pub fn import_is_exported_again()
 pub fn exported_words_are_an_scc_file()
     ensures { (time : Time) (frames : List Frame) (bytes : List ℕ) → IsFileOf frames bytes
         → AreExported time frames
-        → IsSccFile (counted (pairs_not_null (exported 0 frames))) (export_file time frames) }
+        → IsSccFile (counted (pairs_not_null (exported frames))) (export_file time frames) }
 {}

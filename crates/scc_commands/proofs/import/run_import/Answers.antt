@@ -1,8 +1,8 @@
 use Rattle.cc_base.specs.declared.streams.Put.TheVariants as put
 use Rattle.command_base.proofs.WholeInputLemmas.{read_refused}
 use Rattle.command_base.specs.MakesAnswer.{PutsMade}
-use Rattle.scc_commands.specs.Import.{IsImport, IsRefusedImport, import_words}
-use Rattle.scc_commands.proofs.ImportLemmas.{IsCarriedImport, import_put}
+use Rattle.scc_commands.specs.Import.{IsCarriedImport, IsImport, IsRefusedImport, import_words}
+use Rattle.scc_commands.proofs.ImportLemmas.{import_put}
 use Rattle.scc_commands.proofs.import.run_import.Goals as goal
 
 pub returns-in-Done : goal.returns-in-Done

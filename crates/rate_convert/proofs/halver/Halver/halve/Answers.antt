@@ -1,10 +1,9 @@
-use Rattle.std.proofs.Common.{◌≡◌, ◌≤◌, ◌∙◌, ◌++◌, ◌+◌, ◌*◌, ◌∷◌, [], Err, List, ap, arith, length, rules, subst, sym, ◌%◌}
+use Rattle.std.proofs.Common.{◌≡◌, ◌≤◌, ◌∙◌, ◌++◌, ◌+◌, ◌*◌, ◌∷◌, [], Err, List, ap, arith, length, rules, subst, sym}
 use Rattle.cc_receiver.specs.ReceivedServices.{received_windows}
 use Rattle.cc_receiver.proofs.TakenLemmas.{frames_count}
 use Rattle.cdp_packets.specs.PacketTriplets.{packet_triplets}
 use Rattle.cdp_packets.specs.Packets.{Frame}
-use Rattle.halved_frames.proofs.ConvertedLemmas.{first_half_of, second_half_of}
-use Rattle.halved_frames.specs.Conversion.{conversion, written_half}
+use Rattle.halved_frames.specs.Conversion.{conversion, first_half_of, half_bytes, second_half_of}
 use Rattle.rate_convert.specs.ServedFrames.{AreServed}
 use Rattle.rate_convert.proofs.ConversionLemmas.{conversion_more}
 use Rattle.rate_convert.proofs.ConverterLemmas.{last_number}
@@ -27,14 +26,14 @@ returns-in-None c = λ bytes earlier last had are halved.
     let one = first_half_of (length earlier) last in
     let two = second_half_of (length earlier) last in
     let next = halves_next bytes earlier last c.args.self.now c.of-halves.result.first c.of-halves.result.second are halved full.convertible few h.0 h.1 in
-    let served = c.serve-touched.ensures.served (conversion 0 earlier) one two next in
+    let served = c.serve-touched.ensures.served (conversion earlier) one two next in
     let output = subst (λ (fs : List Frame). AreServed fs c.serve-touched.new.served) (sym (conversion_more earlier last)) served in
     let room = next.few in
     took_frame earlier last c.args.self.now (record { served = c.serve-touched.new.served; misfit = c.args.self.now.misfit; words = c.words-self.result }) c.of-halves.result.first c.of-halves.result.second halved full.convertible h.0 h.1
-    (subst (λ n. c.words-self.result.items ≡ written_half ((2 * n) % 65536) c.of-halves.result.first ++ written_half ((2 * n + 1) % 65536) c.of-halves.result.second) place c.words-self.ensures)
+    (subst (λ n. c.words-self.result.items ≡ half_bytes (2 * n) c.of-halves.result.first ++ half_bytes (2 * n + 1) c.of-halves.result.second) place c.words-self.ensures)
     served (c.serve-touched.ensures.ticks room)
-    (c.in-None.ensures bytes earlier (conversion 0 earlier) (conversion 0 (earlier ++ last ∷ [])) last had are output halved.keeps.services
-    (λ none service id is. ap (λ (fs : List Frame). received_windows fs service id) (conversion_more earlier last) ∙ c.serve-touched.ensures.same (conversion 0 earlier) one two next none service id is))
+    (c.in-None.ensures bytes earlier (conversion earlier) (conversion (earlier ++ last ∷ [])) last had are output halved.keeps.services
+    (λ none service id is. ap (λ (fs : List Frame). received_windows fs service id) (conversion_more earlier last) ∙ c.serve-touched.ensures.same (conversion earlier) one two next none service id is))
 
 pub returns-in-Some : goal.returns-in-Some
 returns-in-Some c = λ bytes earlier last had are halved.
@@ -47,7 +46,7 @@ returns-in-Some c = λ bytes earlier last had are halved.
     let two = second_half_of (length earlier) last in
     let next = halves_next bytes earlier last c.args.self.now c.of-halves.result.first c.of-halves.result.second are halved full.convertible few h.0 h.1 in
     let output = subst (λ (fs : List Frame). AreServed fs c.serve-touched.new.served) (sym (conversion_more earlier last))
-    (c.serve-touched.ensures.served (conversion 0 earlier) one two next) in
+    (c.serve-touched.ensures.served (conversion earlier) one two next) in
     service_misfit earlier last c.in-Some.service halved.fit full.convertible
-    (c.in-Some.ensures bytes earlier (conversion 0 earlier) (conversion 0 (earlier ++ last ∷ [])) last had are output halved.keeps.services
-    (λ none service id is. ap (λ (fs : List Frame). received_windows fs service id) (conversion_more earlier last) ∙ c.serve-touched.ensures.same (conversion 0 earlier) one two next none service id is))
+    (c.in-Some.ensures bytes earlier (conversion earlier) (conversion (earlier ++ last ∷ [])) last had are output halved.keeps.services
+    (λ none service id is. ap (λ (fs : List Frame). received_windows fs service id) (conversion_more earlier last) ∙ c.serve-touched.ensures.same (conversion earlier) one two next none service id is))
