@@ -1,4 +1,4 @@
--- Words eight at a time, a lane each: which are 8-bit words, and their sum.
+-- Words eight at a time, a lane each: which are 8-bit words, those of bytes, their bytes, and their sum.
 use Rattle.std.proofs.Common.{◌≡◌, ◌+◌, ◌*◌, ◌/◌, ◌%◌, ◌^◌, ◌-◌, ◌<◌, ◌≤◌, ◌==◌, ℕ, zero, suc, Bool, true, false, not, ◌&&◌, if◌then◌else◌, cond, eqb, nat_eq, nat_lt, List, [], ◌∷◌, ◌++◌, Option, None, Some, length, map, take, drop, get_or, replicate, count_ones, bit_and, bit_xor, refl, arith, ap, sym, subst, ◌∙◌, ◌↔◌, inl, inr, Fits, lit<, lit≤, append-nil, append_assoc}
 use mir.Syntax.{w8, w16}
 use Rattle.std.proofs.lemmas.Bool.{agree_below_at, cases_eq}
@@ -10,14 +10,14 @@ use Rattle.std.proofs.lemmas.List.Folds.{list_all-append}
 use Rattle.std.proofs.lemmas.List.Sums.{sum_by-append, sum_by-cons}
 use Rattle.std.proofs.lemmas.Grind.{take_at_read}
 use Rattle.std.proofs.lemmas.Nat.{and_mask}
-use Rattle.std.proofs.lemmas.Simd.{SwzOk, SwzOk-from_below, bitmask_splat, splat_is_map, swz_l, zip2_of_maps, zip2_splat, map-map, length-zip2, Each1-weaker}
+use Rattle.std.proofs.lemmas.Simd.{SwzOk, SwzOk-from_below, bitmask_splat, splat_is_map, swz_l, zip2_of_maps, zip2_splat, map-map, length-zip2, Each1-get_or, Each1-weaker}
 use Rattle.std.specs.List.{All, AllByRecursion, flat_map, list_all, sum}
 use Rattle.std.specs.Simd.{first_chunks}
 use lib.Dec.{leb}
 use lib.Lanes.{Each1, digits_l, number_l, zip2, fold_l, mask_l, sum_l, top}
 use Rattle.anc_words.specs.CaptionWords.{AreRight, word_of}
 use Rattle.anc_words.specs.Reading.{is_eight_bit}
-use Rattle.anc_words.specs.Writing.{nine_bit_word}
+use Rattle.anc_words.specs.Writing.{eight_bit_word, nine_bit_word, word_bytes}
 
 -- numbers that are tested to be the same
 test-same : (a b : ℕ) → (a == b) ≡ true → a ≡ b
@@ -211,6 +211,72 @@ low-bytes v long =
     subst (All (λ byte. byte < 256)) (sym (zip2_splat bit_and v 8 255 long))
     (All-map (λ byte. byte < 256) (λ x. bit_and x 255) v (λ k d below. omega (arith, and_mask (get_or v k d) 8)))
 
+-- a lane from another one, and a lane moved up
+abbrev wrapped_sub : ℕ → ℕ → ℕ
+wrapped_sub a b = (a + (2 ^ 16 - b)) % 2 ^ 16
+
+abbrev shifted_up : ℕ → ℕ → ℕ
+shifted_up a b = a * 2 ^ b % 2 ^ 16
+
+-- a byte's 8-bit word, made in its lane
+abbrev made_word : ℕ → ℕ
+made_word byte = wrapped_add byte (shifted_up (wrapped_sub 2 (count_ones byte % 2)) 8)
+
+made-word : (byte : ℕ) → byte < 256 → made_word byte ≡ eight_bit_word byte
+made-word byte below = elim (cases_eq (count_ones byte % 2) 1) [
+  | inl odd ↦ rw (odd) (omega arith)
+  | inr other ↦
+      let even : count_ones byte % 2 ≡ 0 = omega arith in
+      rw (even) (omega arith)
+]
+
+made-each : (v : List ℕ) → Each1 (λ byte. byte < 256) v → map made_word v ≡ map eight_bit_word v
+made-each [] each = refl
+made-each (byte ∷ v) (below, each) =
+    let first = made-word byte below in
+    let others = made-each v each in
+    cc
+
+-- a lane of a byte is one
+pub widened-below : (v : List ℕ) → Each1 (λ byte. byte < 256) v → All (λ byte. byte < 256) (map (λ x. x) v)
+widened-below v each = All-map (λ byte. byte < 256) (λ x. x) v (λ k d below. Each1-get_or (λ byte. byte < 256) v k d below each)
+
+-- the 8-bit words of bytes
+pub eight_bit_words-lanes : (v odd : List ℕ) → length v ≡ 8 → Each1 (λ byte. byte < 256) v → odd ≡ map (λ byte. count_ones byte % 2) (map (λ x. x) v)
+    → zip2 wrapped_add (map (λ x. x) v) (zip2 shifted_up (zip2 wrapped_sub (replicate 8 2) odd) (replicate 8 8)) ≡ map eight_bit_word v
+eight_bit_words-lanes v odd long each is =
+    let odds : odd ≡ map (λ x. count_ones x % 2) v = is ∙ map-map (λ byte. count_ones byte % 2) (λ x. x) v in
+    let high : zip2 wrapped_sub (replicate 8 2) odd ≡ map (λ x. wrapped_sub 2 (count_ones x % 2)) v =
+    zip2_of_maps wrapped_sub (λ _. 2) (λ x. count_ones x % 2) v (splat_is_map v 8 2 long) odds in
+    let up : zip2 shifted_up (zip2 wrapped_sub (replicate 8 2) odd) (replicate 8 8) ≡ map (λ x. shifted_up (wrapped_sub 2 (count_ones x % 2)) 8) v =
+    zip2_of_maps shifted_up (λ x. wrapped_sub 2 (count_ones x % 2)) (λ _. 8) v high (splat_is_map v 8 8 long) in
+    zip2_of_maps wrapped_add (λ x. x) (λ x. shifted_up (wrapped_sub 2 (count_ones x % 2)) 8) v refl up ∙ made-each v each
+
+-- a word whose two bytes have changed places
+abbrev swapped : ℕ → ℕ
+swapped word = wrapped_add (shifted word 8) (shifted_up word 8)
+
+cut-swapped : (v : List ℕ) → Each1 (Fits w16) v → digits_l 256 (twice v) (number_l 65536 (map swapped v)) ≡ flat_map word_bytes v
+cut-swapped [] each = refl
+cut-swapped (word ∷ v) (fits, each) =
+    let below : word < 65536 = fits.fits in
+    let rest = number_l 65536 (map swapped v) in
+    let low : (swapped word + 65536 * rest) % 256 ≡ word / 256 = omega arith in
+    let high : (swapped word + 65536 * rest) / 256 % 256 ≡ word % 256 = omega arith in
+    let behind : (swapped word + 65536 * rest) / 256 / 256 ≡ rest = omega arith in
+    let others = cut-swapped v each in
+    rw (low, high, behind, others) refl
+
+-- the bytes of words, the high one of each first
+pub high_first-lanes : (v : List ℕ) → length v ≡ 8 → Each1 (Fits w16) v
+    → digits_l 256 16 (number_l 65536 (zip2 wrapped_add (zip2 shifted v (replicate 8 8)) (zip2 shifted_up v (replicate 8 8)))) ≡ flat_map word_bytes v
+high_first-lanes v long each =
+    let lanes : zip2 wrapped_add (zip2 shifted v (replicate 8 8)) (zip2 shifted_up v (replicate 8 8)) ≡ map swapped v =
+    zip2_of_maps wrapped_add (λ x. shifted x 8) (λ x. shifted_up x 8) v (zip2_splat shifted v 8 8 long) (zip2_splat shifted_up v 8 8 long) in
+    let many : twice v ≡ 16 = omega (arith, twice-length v) in
+    ap (λ ws. digits_l 256 16 (number_l 65536 ws)) lanes
+    ∙ subst (λ n. digits_l 256 n (number_l 65536 (map swapped v)) ≡ flat_map word_bytes v) many (cut-swapped v each)
+
 -- words, a lane each, added to sums
 sum-wrapped : (sums words : List ℕ) → length words ≡ length sums → sum_l (zip2 wrapped_add sums words) % 2 ^ 16 ≡ (sum_l sums + sum_l words) % 2 ^ 16
 sum-wrapped [] [] long = refl
@@ -278,32 +344,49 @@ sum-both front back first second some other =
     let total : sum (front ++ back) ≡ sum front + sum back = sum_by-append (λ x. x) front back in
     has_sum (front ++ back) ((first + second) % 2 ^ 16) all (omega (arith, is, other_is, total))
 
--- the words of the eights so far are 8-bit words, and the lanes have their sum, modulo 2^16
-pub record HaveSum (words sums : List ℕ) : Type 0 where
-  pub are : list_all is_eight_bit words ≡ true
+-- the lanes have the sum of words, modulo 2^16
+pub record HaveTotal (words sums : List ℕ) : Type 0 where
   pub total : sum_l sums % 2 ^ 16 ≡ sum words % 2 ^ 16
   pub eight : length sums ≡ 8
 
+pub total-next : (front words sums : List ℕ) → length words ≡ 8 → HaveTotal front sums → HaveTotal (front ++ words) (zip2 wrapped_add sums words)
+total-next front words sums long have =
+    let first = have.total in
+    let eight = have.eight in record {
+      total = omega (arith, first, sum-wrapped sums words (long ∙ sym eight), sum_l-sum words, sum_by-append (λ x. x) front words);
+      eight = length-zip2 wrapped_add sums words (eight ∙ sym long) ∙ eight;
+    }
+
+pub total-folded : (words sums : List ℕ) → HaveTotal words sums → fold_l wrapped_add 0 sums ≡ sum words % 2 ^ 16
+total-folded words sums have =
+    let total = have.total in
+    omega (arith, total, sum-folded 0 sums, fold-below 0 sums (lit< tt))
+
+-- the words of the eights so far are 8-bit words, and the lanes have their sum
+pub record HaveSum (words sums : List ℕ) : Type 0 where
+  pub are : list_all is_eight_bit words ≡ true
+  pub lanes : HaveTotal words sums
+
 -- one eight more
-words-next : (eights : List (List (List ℕ))) (i : ℕ) → i < length eights → words_in (take (i + 1) eights) ≡ words_in (take i eights) ++ map word_of (get_or eights i [])
-words-next eights i within =
+pub joined-next : {X : Type 0} (eights : List (List X)) (i : ℕ) → i < length eights
+    → flat_map (λ eight. eight) (take (i + 1) eights) ≡ flat_map (λ eight. eight) (take i eights) ++ get_or eights i []
+joined-next eights i within =
     let front = take i eights in
     let one = get_or eights i [] in
-    let flat : flat_map (λ eight. eight) (take (i + 1) eights) ≡ flat_map (λ eight. eight) front ++ one =
-    ap (flat_map (λ eight. eight)) (take_at_read eights i [] within).1 ∙ flat_map-append (λ eight. eight) front (one ∷ []) ∙ ap (λ pairs. flat_map (λ eight. eight) front ++ pairs) (append-nil one) in
-    ap (map word_of) flat ∙ map-append word_of (flat_map (λ eight. eight) front) one
+    ap (flat_map (λ eight. eight)) (take_at_read eights i [] within).1 ∙ flat_map-append (λ eight. eight) front (one ∷ []) ∙ ap (λ back. flat_map (λ eight. eight) front ++ back) (append-nil one)
+
+words-next : (eights : List (List (List ℕ))) (i : ℕ) → i < length eights → words_in (take (i + 1) eights) ≡ words_in (take i eights) ++ map word_of (get_or eights i [])
+words-next eights i within =
+    ap (map word_of) (joined-next eights i within) ∙ map-append word_of (flat_map (λ eight. eight) (take i eights)) (get_or eights i [])
 
 pub sums-next : (eights : List (List (List ℕ))) (i : ℕ) (sums words : List ℕ) → i < length eights → words ≡ map word_of (get_or eights i []) → list_all is_eight_bit words ≡ true
     → length words ≡ 8 → HaveSum (words_in (take i eights)) sums → HaveSum (words_in (take (i + 1) eights)) (zip2 wrapped_add sums words)
 sums-next eights i sums words within is are long have =
     let front = words_in (take i eights) in
     let more : words_in (take (i + 1) eights) ≡ front ++ words = words-next eights i within ∙ ap (λ ws. front ++ ws) (sym is) in
-    let first = have.total in
-    let eight = have.eight in
     subst (λ ws. HaveSum ws (zip2 wrapped_add sums words)) (sym more) (record {
       are = list_all-append is_eight_bit front words ∙ rw (have.are, are) refl;
-      total = omega (arith, first, sum-wrapped sums words (long ∙ sym eight), sum_l-sum words, sum_by-append (λ x. x) front words);
-      eight = length-zip2 wrapped_add sums words (eight ∙ sym long) ∙ eight;
+      lanes = total-next front words sums long have.lanes;
     })
 
 -- an eight that has a wrong word
@@ -323,10 +406,9 @@ pub sums-all : (eights : List (List (List ℕ))) (i : ℕ) (sums : List ℕ) →
 sums-all eights i sums end have =
     let whole : take i eights ≡ eights = take_all i eights end in
     let all = subst (λ es. HaveSum (words_in es) sums) whole have in
-    let total = all.total in
-    has_sum (words_in eights) (fold_l wrapped_add 0 sums) all.are (omega (arith, total, sum-folded 0 sums, fold-below 0 sums (lit< tt)))
+    has_sum (words_in eights) (fold_l wrapped_add 0 sums) all.are (total-folded (words_in eights) sums all.lanes)
 
--- chunks and what is left of words
+-- chunks and what is left
 chunks-joined : {X : Type 0} (many : ℕ) (xs : List X) → flat_map (λ x. x) (first_chunks 8 many xs) ++ drop (many * 8) xs ≡ xs
 chunks-joined zero xs = refl
 chunks-joined (suc many) xs =
@@ -335,10 +417,10 @@ chunks-joined (suc many) xs =
     ∙ append_assoc (take 8 xs) (flat_map (λ x. x) (first_chunks 8 many (drop 8 xs))) (drop (many * 8) (drop 8 xs))
     ∙ ap (λ back. take 8 xs ++ back) (chunks-joined many (drop 8 xs)) ∙ take-append-drop 8 xs
 
-pub words-split : (words rest : List (List ℕ)) (eights : List (List (List ℕ))) (many : ℕ) → eights ≡ first_chunks 8 many words → rest ≡ drop (many * 8) words
-    → map word_of words ≡ words_in eights ++ map word_of rest
-words-split words rest eights many are left =
-    ap (map word_of) (sym (chunks-joined many words) ∙ rw (← are, ← left) refl) ∙ map-append word_of (flat_map (λ x. x) eights) rest
+pub chunks-split : {X : Type 0} (f : X → ℕ) (xs rest : List X) (eights : List (List X)) (many : ℕ) → eights ≡ first_chunks 8 many xs → rest ≡ drop (many * 8) xs
+    → map f xs ≡ map f (flat_map (λ eight. eight) eights) ++ map f rest
+chunks-split f xs rest eights many are left =
+    ap (map f) (sym (chunks-joined many xs) ∙ rw (← are, ← left) refl) ∙ map-append f (flat_map (λ eight. eight) eights) rest
 
 -- the words are right where they have a sum, and the checksum word is that of all
 pub right-words : (count checksum total : ℕ) (user : List ℕ) → Some total ≡ checked_sum user

@@ -1,12 +1,14 @@
-ghost use Rattle.std.specs.Prelude.{◌≡◌, ◌≤◌, ◌<◌, ◌+◌, ◌*◌, ◌++◌, [], length, map};
+ghost use Rattle.std.specs.Prelude.{◌≡◌, ◌≤◌, ◌+◌, ◌*◌, ◌%◌, ◌^◌, ◌++◌, [], ◌∷◌, length, map};
 ghost use Rattle.std.specs.List.{flat_map, sum};
 ghost use Rattle.arrayvec.specs.ArrayVec.{array_vec_len};
 ghost use Rattle.anc_words.specs.Packets.{user_bytes};
 ghost use Rattle.anc_words.specs.WordsFiles.{IsPacketBytes};
 ghost use Rattle.anc_words.specs.Writing.{eight_bit_word, word_bytes, packet_bytes, packet_of};
 
+use crate::word_lanes::{eight_bit_words, high_first};
 use crate::words::Word;
 use arrayvec::ArrayVec;
+use std::simd::prelude::*;
 
 /// The DID of ancillary packets of closed captions (SMPTE ST 334-1).
 pub const CAPTION_DID: u8 = 0x61;
@@ -28,45 +30,86 @@ pub fn write_packet(did: u8, sdid: u8, user: &[u8], out: &mut ArrayVec<u8, 524>)
     ensures packet { IsPacketBytes (packet_of did sdid user.now) out.new.items }
     ensures carried { user_bytes (packet_of did sdid user.now) ≡ user.now }
 {
-    let [zeros, ones, more_ones] = Word::FLAG;
-    put_word(zeros, out);
-    put_word(ones, out);
-    put_word(more_ones, out);
-    let head = put_summed(Word::eight_bit(did), out)
-        + put_summed(Word::eight_bit(sdid), out)
-        + put_summed(Word::eight_bit(user.len() as u8), out);
-    let sum = head + put_user(user, out);
+    let head = put_head(did, sdid, user.len() as u8, out);
+    let sum = u32::from(head) + u32::from(put_user(user, out));
     put_word(Word::checksum(sum), out);
 }
 
-// Appends the 8-bit words of bytes, and gives the sum of these words.
-fn put_user(user: &[u8], out: &mut ArrayVec<u8, ROOM>) -> u32
-    requires few { length user.now ≤ 255 }
-    requires room { array_vec_len out.old + 2 * length user.now ≤ ROOM }
+// Appends the words before the user words: the flag, DID, SDID and the count. Gives the sum of the last three, which the
+// checksum goes over.
+#[inline]
+fn put_head(did: u8, sdid: u8, count: u8, out: &mut ArrayVec<u8, ROOM>) -> u16
+    requires { array_vec_len out.old + 12 ≤ ROOM }
+    ensures items { out.new.items ≡ out.old.items ++ flat_map word_bytes
+        (0x000 ∷ 0x3FF ∷ 0x3FF ∷ map eight_bit_word (did ∷ sdid ∷ count ∷ [])) }
+    ensures len { array_vec_len out.new ≡ array_vec_len out.old + 12 }
+    ensures sum { result ≡ sum (map eight_bit_word (did ∷ sdid ∷ count ∷ [])) }
+{
+    let [zeros, ones, more_ones] = Word::FLAG;
+    let did = Word::eight_bit(did);
+    let sdid = Word::eight_bit(sdid);
+    let count = Word::eight_bit(count);
+    let words = [
+        zeros.bytes(),
+        ones.bytes(),
+        more_ones.bytes(),
+        did.bytes(),
+        sdid.bytes(),
+        count.bytes(),
+    ];
+    put_bytes(words.as_flattened(), out);
+    did.value + sdid.value + count.value
+}
+
+// Appends the 8-bit words of bytes, and gives the sum of these words, modulo 2^16.
+#[inline]
+fn put_user(user: &[u8], out: &mut ArrayVec<u8, ROOM>) -> u16
+    requires { array_vec_len out.old + 2 * length user.now ≤ ROOM }
     ensures items { out.new.items
         ≡ out.old.items ++ flat_map word_bytes (map eight_bit_word user.now) }
     ensures len { array_vec_len out.new ≡ array_vec_len out.old + 2 * length user.now }
-    ensures sum { result ≡ sum (map eight_bit_word user.now) }
-    ensures small { result ≤ 1023 * length user.now }
+    ensures sum { result ≡ sum (map eight_bit_word user.now) % 2 ^ 16 }
 {
-    let mut sum = 0;
-    for byte in user {
-        sum += put_summed(Word::eight_bit(*byte), out);
-    }
-    sum
+    let (eights, rest) = user.as_chunks::<8>();
+    let sum = put_eights(eights, out);
+    sum.wrapping_add(put_rest(rest, out))
 }
 
-// Appends a word that the checksum goes over, and gives its value.
+// The same of bytes in eights.
 #[inline]
-fn put_summed(word: Word, out: &mut ArrayVec<u8, ROOM>) -> u32
-    requires { array_vec_len out.old + 2 ≤ ROOM }
-    ensures items { out.new.items ≡ out.old.items ++ word_bytes word.value }
-    ensures len { array_vec_len out.new ≡ array_vec_len out.old + 2 }
-    ensures value { result ≡ word.value }
-    ensures small { result < 1024 }
+fn put_eights(eights: &[[u8; 8]], out: &mut ArrayVec<u8, ROOM>) -> u16
+    requires { array_vec_len out.old + 16 * length eights.now ≤ ROOM }
+    ensures items { out.new.items ≡ out.old.items
+        ++ flat_map word_bytes (map eight_bit_word (flat_map (λ eight. eight) eights.now)) }
+    ensures len { array_vec_len out.new ≡ array_vec_len out.old + 16 * length eights.now }
+    ensures sum { result
+        ≡ sum (map eight_bit_word (flat_map (λ eight. eight) eights.now)) % 2 ^ 16 }
 {
-    put_word(word, out);
-    u32::from(word.value)
+    let mut sums = u16x8::splat(0);
+    for eight in eights {
+        let words = eight_bit_words(eight);
+        put_bytes(&high_first(words), out);
+        sums += words;
+    }
+    sums.reduce_sum()
+}
+
+// The same of bytes one by one.
+#[inline]
+fn put_rest(bytes: &[u8], out: &mut ArrayVec<u8, ROOM>) -> u16
+    requires { array_vec_len out.old + 2 * length bytes.now ≤ ROOM }
+    ensures items { out.new.items
+        ≡ out.old.items ++ flat_map word_bytes (map eight_bit_word bytes.now) }
+    ensures len { array_vec_len out.new ≡ array_vec_len out.old + 2 * length bytes.now }
+    ensures sum { result ≡ sum (map eight_bit_word bytes.now) % 2 ^ 16 }
+{
+    let mut sum = 0u16;
+    for byte in bytes {
+        let word = Word::eight_bit(*byte);
+        put_word(word, out);
+        sum = sum.wrapping_add(word.value);
+    }
+    sum
 }
 
 // Appends a word.
@@ -79,4 +122,16 @@ fn put_word(word: Word, out: &mut ArrayVec<u8, ROOM>)
     let [high, low] = word.bytes();
     out.push(high);
     out.push(low);
+}
+
+// Appends bytes.
+#[inline]
+fn put_bytes(bytes: &[u8], out: &mut ArrayVec<u8, ROOM>)
+    requires { array_vec_len out.old + length bytes.now ≤ ROOM }
+    ensures items { out.new.items ≡ out.old.items ++ bytes.now }
+    ensures len { array_vec_len out.new ≡ array_vec_len out.old + length bytes.now }
+{
+    if out.try_extend_from_slice(bytes).is_err() {
+        unreachable!();
+    }
 }

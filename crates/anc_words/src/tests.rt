@@ -106,3 +106,51 @@ fn a_packet_of_255_user_words_is_full(rt: HostRuntime) {
     assert!(rt; out.is_full());
     assert_eq!(rt; out.as_slice(), bytes_of(&words).as_slice());
 }
+
+// The bytes 1 to 16 and their 8-bit words: bit 8 where a byte has an odd number of ones, else bit 9.
+const BYTES: [u8; 16] = [1, 2, 3, 4, 5, 6, 7, 8, 9, 10, 11, 12, 13, 14, 15, 16];
+
+const WORDS: [u16; 16] = [
+    0x101, 0x102, 0x203, 0x104, 0x205, 0x206, 0x107, 0x108, 0x209, 0x20A, 0x10B, 0x20C, 0x10D,
+    0x10E, 0x20F, 0x110,
+];
+
+#[test]
+fn user_words_are_written_around_each_eight(rt: HostRuntime) {
+    // The checksum words modulo 0x200, of DID and SDID, the count, the bytes 1, 2 .. and 0x100 for each odd one:
+    // 0: 0x062 + 0x000 + 0 + 0 * 0x100 = 0x062
+    // 7: 0x062 + 0x107 + 28 + 4 * 0x100 = 0x185 (1, 2, 4 and 7 are odd)
+    // 8: 0x062 + 0x108 + 36 + 5 * 0x100 = 0x08E (and 8)
+    // 9: 0x062 + 0x009 + 45 + 5 * 0x100 = 0x198
+    // 15: 0x062 + 0x00F + 120 + 8 * 0x100 = 0x0E9 (and 11, 13 and 14)
+    // 16: 0x062 + 0x110 + 136 + 9 * 0x100 = 0x0FA (and 16)
+    let rows = [
+        (0usize, 0x200, 0x262),
+        (7, 0x107, 0x185),
+        (8, 0x108, 0x28E),
+        (9, 0x209, 0x198),
+        (15, 0x20F, 0x2E9),
+        (16, 0x110, 0x2FA),
+    ];
+    for (many, count, checksum) in rows {
+        let mut out = ArrayVec::new();
+        write_packet(0x61, 0x01, &BYTES[..many.min(16)], &mut out);
+        let front = [0x000, 0x3FF, 0x3FF, 0x161, 0x101, count];
+        let want = bytes_of(&[&front[..], &WORDS[..many.min(16)], &[checksum]]);
+        assert_eq!(rt; out.as_slice(), want.as_slice(), "{many} bytes");
+    }
+}
+
+#[test]
+fn the_last_words_stand_behind_all_eights(rt: HostRuntime) {
+    let mut user = ArrayVec::<u8, 255>::new();
+    for byte in 1..=0xFFu8 {
+        let _ = user.try_push(byte);
+    }
+    let mut out = ArrayVec::new();
+    write_packet(0x61, 0x01, user.as_slice(), &mut out);
+    // The words of FC to FF, and 0x062 + 0x0FF + 255 * 256 / 2 + 128 * 0x100, which is 0x0E1 modulo 0x200
+    let last = bytes_of(&[&[0x2FC, 0x1FD, 0x1FE, 0x2FF, 0x2E1][..]]);
+    assert_eq!(rt; out.len(), 524);
+    assert!(rt; out.as_slice().ends_with(last.as_slice()));
+}

@@ -1,8 +1,9 @@
 //! Words of ancillary data (SMPTE ST 291-1) eight at a time, a lane each.
 ghost use Rattle.std.specs.Prelude.{◌≡◌, ◌%◌, ◌<◌, count_ones, map};
-ghost use Rattle.std.specs.List.{All, list_all};
+ghost use Rattle.std.specs.List.{All, flat_map, list_all};
 ghost use Rattle.anc_words.specs.CaptionWords.{word_of};
 ghost use Rattle.anc_words.specs.Reading.{is_eight_bit};
+ghost use Rattle.anc_words.specs.Writing.{eight_bit_word, word_bytes};
 
 use crate::words::value;
 use std::simd::prelude::*;
@@ -23,6 +24,25 @@ pub(crate) fn are_eight_bit(words: u16x8) -> bool
     let high = words >> u16x8::splat(8);
     let odd = odd_ones(words & u16x8::splat(0xFF));
     high + odd == u16x8::splat(2)
+}
+
+/// The 8-bit words of eight bytes.
+#[inline]
+pub(crate) fn eight_bit_words(bytes: &[u8; 8]) -> u16x8
+    ensures { result ≡ map eight_bit_word bytes.now }
+{
+    let bytes = u8x8::from_array(*bytes).cast::<u16>();
+    let high = u16x8::splat(2) - odd_ones(bytes);
+    bytes + (high << u16x8::splat(8))
+}
+
+/// The bytes of words, the high one of each first.
+#[inline]
+pub(crate) fn high_first(words: u16x8) -> [u8; 16]
+    ensures { result ≡ flat_map word_bytes words }
+{
+    let swapped = (words >> u16x8::splat(8)) + (words << u16x8::splat(8));
+    swapped.to_le_bytes().to_array()
 }
 
 // Which numbers of four bits have an odd number of ones: 1 for these, and 0 for the others.

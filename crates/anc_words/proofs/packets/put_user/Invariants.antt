@@ -1,7 +1,0 @@
-use Rattle.std.proofs.Common.{take}
-use Rattle.anc_words.proofs.PutWords.{ArePut}
-use Rattle.anc_words.proofs.packets.put_user.Given as goal
-
--- the words of the user bytes so far were put
-abbrev pub invariant-loop-byte : goal.invariant-loop-byte
-invariant-loop-byte l = ArePut l.fn.out.items l.out.items (take l.byte-index l.user) l.sum
