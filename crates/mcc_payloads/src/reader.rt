@@ -36,6 +36,13 @@ pub(crate) struct Counted {
     pub(crate) sum: u8,
 }
 
+/// No bytes.
+const NOTHING: Counted = Counted {
+    len: 0,
+    count: 0,
+    sum: 0,
+};
+
 impl Counted {
     /// Whether the bytes are a whole packet's.
     fn is_whole(self) -> bool
@@ -126,29 +133,34 @@ impl PayloadReader {
         PayloadReader {
             digit: None,
             bytes: ArrayVec::new(),
-            counted: Counted {
-                len: 0,
-                count: 0,
-                sum: 0,
-            },
+            counted: NOTHING,
         }
     }
 
-    /// A reader behind the payload with which a text begins, and what follows it there. None where the items with which the text begins,
-    /// as many as there are and a packet has room for, don't stand for a whole packet with the right checksum byte: then a reader that takes
-    /// the text byte by byte tells what stands there.
-    pub fn behind_payload(text: &[u8]) -> Option<(PayloadReader, &[u8])>
-        ensures { IfSome result (λ behind. IsBehindPayload text.now behind.1.now behind.0) }
+    // Makes it a reader of no bytes.
+    fn clear(&mut self)
+        ensures { open_of self.new ≡ nothing_open }
     {
-        let mut bytes = ArrayVec::new();
-        let rest = add_items(text, &mut bytes);
-        let counted = counted_packet(&bytes)?;
-        let reader = PayloadReader {
-            digit: None,
-            bytes,
-            counted,
+        self.digit = None;
+        self.bytes.clear();
+        self.counted = NOTHING;
+    }
+
+    /// Reads the payload with which a text begins, in place of all that was read before, and gives what follows it there. None where the items
+    /// with which the text begins, as many as there are and a packet has room for, don't stand for a whole packet with the right checksum
+    /// byte: then nothing is read, and a reader that takes the text byte by byte tells what stands there.
+    pub fn read_payload<'a>(&mut self, text: &'a [u8]) -> Option<&'a [u8]>
+        ensures { MatchOption result (open_of self.new ≡ nothing_open)
+            (λ rest. IsBehindPayload text.now rest.now self.new) }
+    {
+        self.clear();
+        let rest = add_items(text, &mut self.bytes);
+        let Some(counted) = counted_packet(&self.bytes) else {
+            self.bytes.clear();
+            return None;
         };
-        Some((reader, rest))
+        self.counted = counted;
+        Some(rest)
     }
 
     /// A reader that has read the same.

@@ -232,9 +232,11 @@ fn packets_are_written_with_their_checksum_byte(rt: HostRuntime) {
     }
 }
 
-// The bytes of the packet with which a text begins, and what follows it.
+// The bytes of the packet with which a text begins, and what follows it, where a reader has read the packet of FRAME before.
 fn behind(text: &[u8]) -> Option<(ArrayVec<u8, 259>, &[u8])> {
-    let (reader, rest) = PayloadReader::behind_payload(text)?;
+    let mut reader = PayloadReader::new();
+    reader.read_payload(FRAME)?;
+    let rest = reader.read_payload(text)?;
     let mut bytes = ArrayVec::new();
     let _ = bytes.try_extend_from_slice(reader.bytes());
     if reader.is_whole() {
@@ -370,5 +372,29 @@ fn other_texts_are_not_read_in_one_go(rt: HostRuntime) {
     ];
     for (row, text) in texts.iter().enumerate() {
         assert!(rt; behind(text).is_none(), "row {row}");
+    }
+}
+
+// A payload is read in place of what was read before: nothing, items, an open digit, or a whole packet, of which a reader may have taken the
+// first byte too many; and where none is read, nothing is.
+#[test]
+fn payloads_are_read_in_place(rt: HostRuntime) {
+    let fronts: [&[u8]; 6] = [b"", b"8001", b"T4", b"Z8", FRAME, b"8001Z81G"];
+    for front in fronts {
+        let mut reader = PayloadReader::new();
+        for byte in front {
+            let _ = reader.take(*byte);
+        }
+        assert_eq!(rt;
+            reader.read_payload(b"80010177F9\n"),
+            Some(b"\n".as_slice())
+        );
+        let packet: &[u8] = &[0x80, 0x01, 0x01, 0x77, 0xF9];
+        assert_eq!(rt; reader.bytes(), packet);
+        assert!(rt; reader.is_whole());
+        assert!(rt; reader.take(b'0').is_err());
+        assert!(rt; reader.read_payload(b"80010177F8").is_none());
+        assert!(rt; reader.bytes().is_empty());
+        assert!(rt; reader.take(b'0').is_ok());
     }
 }
