@@ -5,6 +5,7 @@ pub mod CaughtLemmas
 pub mod EndingLemmas
 pub mod FinishLemmas
 pub mod FrameLemmas
+pub mod CarriedWordsLemmas
 pub mod FramesOfLemmas
 pub mod GotLemmas
 pub mod LastPacketLemmas

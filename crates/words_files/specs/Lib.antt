@@ -1,5 +1,6 @@
 pub mod Examples
 pub mod Frames
+pub mod CarriedWords
 pub mod Received
 pub mod Catching
 pub mod Offences
