@@ -4,7 +4,7 @@ use Rattle.converted_lists.proofs.FitLemmas.{lists_fit}
 use Rattle.cue_lists.specs.Listing.{IsFormed}
 use Rattle.cue_lists.specs.declared.lane.Lane.TheVariants.{Service}
 use Rattle.frame_scheduler.specs.Planned.{columns_of}
-use Rattle.services_carried.proofs.RoomLemmas.{frames_roomy}
+use Rattle.services_shown.proofs.RoomLemmas.{frames_roomy}
 use Rattle.cue_list_commands.specs.Output.{PlacedList, build_output, built_packets}
 use Rattle.cue_list_commands.proofs.Outputs.{sound_words}
 use Rattle.ccsuite_cli.specs.Converted.{BuiltWordsAreFit}

@@ -9,7 +9,7 @@ use Rattle.frame_scheduler.specs.Planned.{columns_of}
 use Rattle.line21_codes.specs.declared.channels.Chan.TheVariants.{Cc1, Cc2, Cc3, Cc4}
 use Rattle.line21_codes.specs.declared.channels.FieldNumber.TheVariants.{One, Two}
 use Rattle.line21_shown.specs.Shown.{ShowsList}
-use Rattle.services_carried.proofs.RoomLemmas.{frames_roomy}
+use Rattle.services_shown.proofs.RoomLemmas.{frames_roomy}
 use Rattle.services_shown.proofs.ToldLemmas.{packets_count}
 use Rattle.sound_frames.specs.Showing.{ShowsFrames}
 use Rattle.sound_frames.specs.Sound.{IsSoundFrames}

@@ -23,9 +23,9 @@ use Rattle.dtvcc_shown.proofs.CaptionLanesLemmas.{starting}
 use Rattle.frame_carrier.specs.Carrying.{column_packets}
 use Rattle.frame_scheduler.specs.Planned.{Placement, columns_of}
 use Rattle.halved_frames.specs.HalvedFrames.{AllHalves}
-use Rattle.services_carried.specs.PlacedServices.{AreServicesPlaced}
-use Rattle.services_carried.specs.Told.{told}
-use Rattle.services_shown.proofs.ToldLemmas.{front_told, lane_is_sound, told_fills}
+use Rattle.services_shown.specs.PlacedServices.{AreServicesPlaced}
+use Rattle.services_shown.specs.Told.{told}
+use Rattle.services_shown.proofs.LeadingLemmas.{front_told, lane_is_sound, told_fills}
 use Rattle.windows_shown.specs.AuthoredShown.{list_lane}
 use Rattle.converted_lists.specs.SoundLanes.{lane_events}
 use Rattle.halved_frames.specs.GoodStreams.{IsGoodStream}

@@ -26,8 +26,8 @@ use Rattle.line21_codes.specs.declared.pairs.Pair.{Pair}
 use Rattle.rate_convert.specs.Grids.{KeepsGrids}
 use Rattle.rate_convert.specs.Misfits.{AreFitBehind}
 use Rattle.rate_convert.proofs.FitLemmas.{channels_kept}
-use Rattle.services_carried.specs.PlacedServices.{AreServicesPlaced}
-use Rattle.services_carried.specs.ServicesCarried.{AreWithin}
+use Rattle.services_shown.specs.PlacedServices.{AreServicesPlaced}
+use Rattle.services_shown.specs.ServicesCarried.{AreWithin}
 use Rattle.services_shown.proofs.ToldLemmas.{packets_count}
 use Rattle.words_files.specs.Received.{field_pairs}
 use Rattle.converted_lists.specs.ConvertedLists.{HasShortDelays, ListsAreFit}

@@ -16,7 +16,7 @@ use Rattle.cue_lists.specs.declared.lane.Lane.TheVariants.{Channel, Service}
 use Rattle.frame_scheduler.specs.Planned.{IsListPlaced, Placement, channel_pair, columns_of}
 use Rattle.frame_scheduler.proofs.ListDoublingLemmas.{columns_doubled}
 use Rattle.frame_carrier.specs.Carried.{AreBytePairs, IsBytePair}
-use Rattle.services_carried.specs.PlacedServices.{AreServicesPlaced}
+use Rattle.services_shown.specs.PlacedServices.{AreServicesPlaced}
 use Rattle.services_shown.proofs.DelayLemmas.{delays_sent}
 use Rattle.services_shown.proofs.SeenLemmas.{authored_windows_seen}
 use Rattle.line21_shown.proofs.CaptionedLemmas.{AreBytes, frame_bytes}

@@ -8,7 +8,7 @@ use Rattle.cc_base.specs.declared.rate.Rate.{Rate}
 use Rattle.cdp_packets.specs.Packets.{Frame}
 use Rattle.frame_scheduler.specs.Columns.{Columns}
 use Rattle.frame_carrier.specs.Carrying.{column_packets}
-use Rattle.services_carried.proofs.ToldLemmas.{packets_more}
+use Rattle.services_shown.proofs.ToldLemmas.{packets_more}
 use Rattle.cc_conceal.specs.Concealed.{heard_back, heard_of}
 use Rattle.frames_lost.specs.Delivered.{AreDelivered, IsLastLost, packet_of}
 

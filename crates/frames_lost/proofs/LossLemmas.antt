@@ -18,12 +18,12 @@ use Rattle.authored_grids.specs.AuthoredServiceGrid.{authored_windows}
 use Rattle.frame_scheduler.specs.Columns.{Columns, first_pairs, pair_in}
 use Rattle.frame_scheduler.specs.Planned.{IsListPlaced, Placement, authored_channel, captions_in, chunks_in, columns_of, share_in}
 use Rattle.frame_carrier.specs.Carrying.{column_packets}
-use Rattle.services_carried.specs.PlacedServices.{AreServicesPlaced}
-use Rattle.services_carried.specs.Told.{sent_to, told, told_since}
-use Rattle.services_carried.proofs.LaneLemmas.{lane_sent}
-use Rattle.services_carried.proofs.RoomLemmas.{has_blocks}
-use Rattle.services_carried.proofs.ToldLemmas.{since_told}
-use Rattle.services_shown.proofs.ToldLemmas.{told_leads}
+use Rattle.services_shown.specs.PlacedServices.{AreServicesPlaced}
+use Rattle.services_shown.specs.Told.{sent_to, told, told_since}
+use Rattle.services_shown.proofs.LaneLemmas.{lane_sent}
+use Rattle.services_shown.proofs.RoomLemmas.{has_blocks}
+use Rattle.services_shown.proofs.ToldLemmas.{since_told}
+use Rattle.services_shown.proofs.LeadingLemmas.{told_leads}
 use Rattle.dtvcc_shown.specs.ServiceLanes.{Lane, lane_frame_bytes, lane_frame_events}
 use Rattle.dtvcc_shown.proofs.CaptionLanesLemmas.{lane_bytes_are}
 use Rattle.windows_shown.specs.AuthoredShown.{list_lane}

@@ -31,7 +31,7 @@ use Rattle.frame_scheduler.specs.SlotLists.{slot_cues}
 use Rattle.frame_scheduler.proofs.SlotLemmas.{slot_cues_formed}
 use Rattle.frame_carrier.specs.Carried.{AreCarried}
 use Rattle.frame_carrier.specs.Carrying.{channel_packet_of, column_packets, frame_packet}
-use Rattle.services_carried.proofs.ToldLemmas.{packets_more}
+use Rattle.services_shown.proofs.ToldLemmas.{packets_more}
 use Rattle.line21_shown.specs.Reading.{IsForFirst}
 use Rattle.line21_shown.proofs.CaptionedLemmas.{slots_all}
 use Rattle.line21_lost.specs.Loss.{pairs_between}

@@ -27,13 +27,13 @@ use Rattle.cue_lists.specs.Rules.{IsRuled}
 use Rattle.cue_lists.specs.declared.lane.Lane.TheVariants.{Channel, Service}
 use Rattle.frame_scheduler.specs.Columns.{Columns}
 use Rattle.frame_scheduler.specs.Planned.{IsListPlaced, Placement, channel_pair, columns_of}
-use Rattle.services_carried.proofs.RoomLemmas.{blocks_bytes, frames_roomy, has_blocks}
+use Rattle.services_shown.proofs.RoomLemmas.{blocks_bytes, frames_roomy, has_blocks}
 use Rattle.frame_carrier.specs.Carried.{AreByteBlocks, AreBytePairs, AreCarried, AreRoomy, IsBytePair}
 use Rattle.frame_carrier.specs.Carrying.{channel_packet, channel_packet_of, frame_bytes, packets_before}
 use Rattle.frame_carrier.proofs.CarriedLemmas.{columns_file, frames_carried, packet_channel_is}
-use Rattle.services_carried.specs.PlacedServices.{AreServicesPlaced}
-use Rattle.services_carried.specs.ServicesCarried.{HasBlocks, IsSent, Sent, sent_bytes}
-use Rattle.services_carried.proofs.ChannelLemmas.{channel_twice, with_packet}
+use Rattle.services_shown.specs.PlacedServices.{AreServicesPlaced}
+use Rattle.services_shown.specs.ServicesCarried.{HasBlocks, IsSent, Sent, sent_bytes}
+use Rattle.services_shown.proofs.ChannelLemmas.{channel_twice, with_packet}
 use Rattle.cc_conceal.specs.Concealers.{Conceals}
 use Rattle.frames_lost.specs.Delivered.{delivered_bytes, delivered_packets, packet_of}
 use Rattle.frames_lost.specs.Recovered.{DeliveredAreConcealed}

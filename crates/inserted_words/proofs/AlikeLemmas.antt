@@ -14,7 +14,7 @@ use Rattle.frame_carrier.specs.Carrying.{channel_packet_of, column_packets, fram
 use Rattle.frame_carrier.proofs.CarryingLemmas.{frame_kinds, frame_number, packet_kinds, triplets_many}
 use Rattle.packet_inserter.specs.Insertion.{IsInserted}
 use Rattle.packet_inserter.proofs.OneWayLemmas.{inserted-triplets}
-use Rattle.services_carried.specs.Told.{CarryTheSame}
+use Rattle.services_shown.specs.Told.{CarryTheSame}
 use Rattle.words_files.specs.Frames.{CarryFrames}
 use Rattle.words_files.specs.Frames.CarryFrames.{none, caption, foreign}
 use Rattle.programmes.specs.Framing.{Framing}

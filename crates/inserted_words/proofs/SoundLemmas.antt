@@ -28,15 +28,15 @@ use Rattle.line21_codes.specs.declared.pairs.Pair.{Pair}
 use Rattle.line21_screen.specs.Fields.{channel}
 use Rattle.line21_screen.specs.Meaning.{after as after_pairs}
 use Rattle.service_blocks.specs.Channels.{AreChannel}
-use Rattle.services_carried.proofs.ChannelLemmas.{programmes_whole}
-use Rattle.services_carried.proofs.LaneLemmas.{lane_sent}
-use Rattle.services_carried.proofs.RoomLemmas.{blocks_bytes, frames_roomy, has_blocks}
-use Rattle.services_carried.proofs.ToldLemmas.{columns_told, like_frames, take_packets, told_same}
-use Rattle.services_carried.specs.PlacedServices.{AreServicesPlaced}
-use Rattle.services_carried.specs.Told.{CarryTheSame, SayAlike, sent_to, told}
+use Rattle.services_shown.proofs.ChannelLemmas.{programmes_whole}
+use Rattle.services_shown.proofs.LaneLemmas.{lane_sent}
+use Rattle.services_shown.proofs.RoomLemmas.{blocks_bytes, frames_roomy, has_blocks}
+use Rattle.services_shown.proofs.ToldLemmas.{columns_told, like_frames, packets_count, take_packets, told_same}
+use Rattle.services_shown.specs.PlacedServices.{AreServicesPlaced}
+use Rattle.services_shown.specs.Told.{CarryTheSame, SayAlike, sent_to, told}
 use Rattle.services_files.specs.CarriedChannel.{CarryChannel, file_triplets}
 use Rattle.services_files.specs.Events.{service_events}
-use Rattle.services_shown.proofs.ToldLemmas.{lane_is_sound, lane_told, packets_count, told_fills, told_leads}
+use Rattle.services_shown.proofs.LeadingLemmas.{lane_is_sound, lane_told, told_fills, told_leads}
 use Rattle.services_shown.specs.Buffers.{BuffersNeverFill}
 use Rattle.services_shown.specs.SeenWindows.{ShowAuthoredWindows}
 use Rattle.sound_frames.proofs.PlacedBlocksLemmas.{shares_kept}

@@ -10,7 +10,7 @@ use Rattle.cue_list_commands.specs.Output.{built_packets, list_framing, list_gri
 use Rattle.cue_lists.specs.Listing.{Listing}
 use Rattle.frame_scheduler.specs.Planned.{Placement, share_in}
 use Rattle.packet_inserter.specs.Insertion.{IsInserted}
-use Rattle.services_carried.specs.Told.{CarryTheSame}
+use Rattle.services_shown.specs.Told.{CarryTheSame}
 use Rattle.services_shown.specs.Buffers.{BuffersNeverFill}
 use Rattle.sound_frames.specs.Shares.{AreSharesKept}
 use Rattle.sound_frames.specs.Showing.{ShowsFrames}

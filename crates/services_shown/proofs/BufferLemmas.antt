@@ -7,10 +7,10 @@ use Rattle.cue_lists.specs.declared.lane.Lane.TheVariants.{Service}
 use Rattle.dtvcc_shown.specs.Filling.{AllFill}
 use Rattle.frame_carrier.specs.Carrying.{column_packets}
 use Rattle.frame_scheduler.specs.Planned.{Placement, columns_of}
-use Rattle.services_carried.specs.PlacedServices.{AreServicesPlaced}
+use Rattle.services_shown.specs.PlacedServices.{AreServicesPlaced}
 use Rattle.windows_shown.specs.AuthoredShown.{list_lane}
 use Rattle.services_shown.specs.Buffers.{BuffersNeverFill}
-use Rattle.services_shown.proofs.ToldLemmas.{lane_is_sound, told_fills, whole_told}
+use Rattle.services_shown.proofs.LeadingLemmas.{lane_is_sound, told_fills, whole_told}
 
 pub buffers_never_fill : (list : Listing) (placed : Placement) → IsFormed list → IsRuled list → AreServicesPlaced list placed
     → BuffersNeverFill (column_packets list.rate (columns_of list placed) 0 list.frames)

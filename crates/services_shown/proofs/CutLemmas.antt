@@ -17,7 +17,7 @@ use Rattle.dtvcc_shown.proofs.UnitLemmas.{is_loading, units_hold}
 use Rattle.dtvcc_shown.proofs.WrittenLemmas.{spelled_by}
 use Rattle.service_lanes.specs.ServiceBytes.{bytes_in, loads_at}
 use Rattle.service_lanes.specs.ServiceChunks.{service_chunks}
-use Rattle.services_carried.proofs.ByteLemmas.{captions_short, events_writable}
+use Rattle.services_shown.proofs.ByteLemmas.{captions_short, events_writable}
 
 -- no bytes are cut into no commands
 nothing_cut : IsCut [] [] []

@@ -1,4 +1,9 @@
+pub mod RoomLemmas
+pub mod ByteLemmas
+pub mod ChannelLemmas
 pub mod ToldLemmas
+pub mod LaneLemmas
+pub mod LeadingLemmas
 pub mod BufferLemmas
 pub mod SeenLemmas
 pub mod CutLemmas

@@ -7,11 +7,11 @@ use Rattle.dtvcc_screen.specs.Meaning.{Served, served_after, start}
 use Rattle.dtvcc_screen.specs.Shown.{grids}
 use Rattle.frame_carrier.specs.Carrying.{column_packets}
 use Rattle.frame_scheduler.specs.Planned.{Placement, columns_of, share_in}
-use Rattle.services_carried.specs.PlacedServices.{AreServicesPlaced}
+use Rattle.services_shown.specs.PlacedServices.{AreServicesPlaced}
 use Rattle.windows_shown.specs.AuthoredShown.{list_lane}
 use Rattle.windows_shown.proofs.ShownLemmas.{windows_are_shown}
 use Rattle.services_shown.specs.SeenWindows.{ShowAuthoredWindows}
-use Rattle.services_shown.proofs.ToldLemmas.{front_told, told_leads}
+use Rattle.services_shown.proofs.LeadingLemmas.{front_told, told_leads}
 
 pub authored_windows_seen : (list : Listing) (placed : Placement) → IsFormed list → IsRuled list → AreServicesPlaced list placed → (frame : ℕ) → frame < list.frames
     → ShowAuthoredWindows list.cues (column_packets list.rate (columns_of list placed) 0 list.frames) frame

@@ -13,8 +13,8 @@ use Rattle.dtvcc_screen.specs.Shown.{grids}
 use Rattle.dtvcc_shown.specs.Filling.{AllFill}
 use Rattle.services_files.specs.Events.{service_events}
 use Rattle.frame_carrier.specs.FrameTriplets.{field_triplets, front_triplets}
-use Rattle.services_carried.specs.ServicesCarried.{HasBlocks}
-use Rattle.services_carried.proofs.ToldLemmas.{columns_told}
+use Rattle.services_shown.specs.ServicesCarried.{HasBlocks}
+use Rattle.services_shown.proofs.ToldLemmas.{columns_told}
 use Rattle.sound_frames.specs.OtherPairs.{HaveOtherPairs, OtherPairsAreFit}
 use Rattle.sound_frames.specs.Shares.{IsToldAtMost}
 

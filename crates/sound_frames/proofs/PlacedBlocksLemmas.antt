@@ -9,9 +9,9 @@ use Rattle.frame_carrier.specs.Carrying.{column_packets}
 use Rattle.frame_scheduler.proofs.ServicesLemmas.{share_is}
 use Rattle.frame_scheduler.specs.Planned.{Placement, captions_in, chunks_in, columns_of, service_bytes, share_in}
 use Rattle.service_lanes.proofs.PlaceLemmas.{within_share}
-use Rattle.services_carried.proofs.RoomLemmas.{blocks_bytes, blocks_within, frames_roomy, has_blocks, unshared_silent}
-use Rattle.services_carried.proofs.LaneLemmas.{services_told}
-use Rattle.services_carried.specs.PlacedServices.{AreServicesPlaced}
+use Rattle.services_shown.proofs.RoomLemmas.{blocks_bytes, blocks_within, frames_roomy, has_blocks, unshared_silent}
+use Rattle.services_shown.proofs.LaneLemmas.{services_told}
+use Rattle.services_shown.specs.PlacedServices.{AreServicesPlaced}
 use Rattle.services_shown.proofs.BufferLemmas.{buffers_never_fill}
 use Rattle.sound_frames.specs.PlacedBlocks.{PlacedBlocksAreFit}
 use Rattle.sound_frames.specs.Shares.{AreSharesKept}

@@ -7,8 +7,8 @@ use Rattle.frame_scheduler.proofs.ListDoublingLemmas.{columns_doubled}
 use Rattle.frame_scheduler.specs.Planned.{Placement, columns_of, share_in}
 use Rattle.cue_lists.specs.declared.lane.Lane.TheVariants.{Service}
 use Rattle.line21_codes.specs.declared.channels.FieldNumber.TheVariants.{Two}
-use Rattle.services_carried.proofs.ToldLemmas.{take_packets}
-use Rattle.services_carried.specs.PlacedServices.{AreServicesPlaced}
+use Rattle.services_shown.proofs.ToldLemmas.{take_packets}
+use Rattle.services_shown.specs.PlacedServices.{AreServicesPlaced}
 use Rattle.services_shown.proofs.DelayLemmas.{delays_sent}
 use Rattle.services_shown.proofs.SeenLemmas.{authored_windows_seen}
 use Rattle.sound_frames.proofs.PlacedBlocksLemmas.{fit_blocks, shares_kept}

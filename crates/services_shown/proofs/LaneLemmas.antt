@@ -7,12 +7,12 @@ use Rattle.cue_lists.specs.Listing.{IsFormed, Listing, share_of}
 use Rattle.cue_lists.specs.Rules.{IsRuled}
 use Rattle.cue_lists.specs.declared.lane.Lane.TheVariants.{Service}
 use Rattle.frame_scheduler.specs.Planned.{Placement, columns_of, service_bytes, services}
-use Rattle.services_carried.specs.PlacedServices.{AreServicesPlaced}
+use Rattle.services_shown.specs.PlacedServices.{AreServicesPlaced}
 use Rattle.frame_scheduler.proofs.ServicesLemmas.{share_is, unshared}
-use Rattle.services_carried.specs.ServicesCarried.{Sent}
-use Rattle.services_carried.specs.Told.{HighAreUnshared, ServicesAreTold, sent_to}
-use Rattle.services_carried.proofs.RoomLemmas.{blocks_sent, has_blocks, sent_of, unshared_silent}
-use Rattle.services_carried.proofs.ToldLemmas.{columns_told, told_same}
+use Rattle.services_shown.specs.ServicesCarried.{Sent}
+use Rattle.services_shown.specs.Told.{HighAreUnshared, ServicesAreTold, sent_to}
+use Rattle.services_shown.proofs.RoomLemmas.{blocks_sent, has_blocks, sent_of, unshared_silent}
+use Rattle.services_shown.proofs.ToldLemmas.{columns_told, told_same}
 
 pub high_unshared : HighAreUnshared
 high_unshared l formed ruled service high = unshared l formed ruled service (λ least most. omega (arith, high, most))

@@ -19,7 +19,7 @@ use Rattle.service_blocks.specs.Written.{block_for, block_written}
 use Rattle.services_files.specs.CarriedChannel.{file_triplets}
 use Rattle.frame_scheduler.specs.Columns.{Columns}
 use Rattle.frame_carrier.specs.Carrying.{channel_packet, channel_packet_of, column_packets, frame_packet, packet_count, packets_before}
-use Rattle.services_carried.specs.ServicesCarried.{HasBlocks, IsSent, ProgrammesAreWhole, Sent, sent_bytes}
+use Rattle.services_shown.specs.ServicesCarried.{HasBlocks, IsSent, ProgrammesAreWhole, Sent, sent_bytes}
 
 -- the blocks of what is sent
 abbrev blocks_for : List Sent → List Block

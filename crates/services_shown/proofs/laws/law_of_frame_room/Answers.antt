@@ -1,5 +1,5 @@
-use Rattle.services_carried.proofs.RoomLemmas.{blocks_bytes, blocks_within, frames_roomy, has_blocks}
-use Rattle.services_carried.proofs.laws.law_of_frame_room.Goals as goal
+use Rattle.services_shown.proofs.RoomLemmas.{blocks_bytes, blocks_within, frames_roomy, has_blocks}
+use Rattle.services_shown.proofs.laws.law_of_frame_room.Goals as goal
 
 pub returns : goal.returns
 returns c list placed formed ruled all = record {

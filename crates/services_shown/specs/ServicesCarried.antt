@@ -9,7 +9,7 @@ use Rattle.service_blocks.specs.Written.{block_written}
 use Rattle.services_files.specs.CarriedChannel.{CarryChannel}
 use Rattle.frame_scheduler.specs.Columns.{Columns}
 use Rattle.frame_scheduler.specs.Planned.{Placement, columns_of}
-use Rattle.services_carried.specs.PlacedServices.{AreServicesPlaced}
+use Rattle.services_shown.specs.PlacedServices.{AreServicesPlaced}
 use Rattle.frame_carrier.specs.Carried.{AreByteBlocks, AreCarried, AreRoomy}
 use Rattle.frame_carrier.specs.Carrying.{column_packets}
 

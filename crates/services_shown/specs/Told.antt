@@ -15,9 +15,9 @@ use Rattle.words_files.specs.Received.{received_pairs}
 use Rattle.services_files.specs.Events.{service_events}
 use Rattle.frame_scheduler.specs.Columns.{Columns}
 use Rattle.frame_scheduler.specs.Planned.{Placement, captions_in, chunks_in, columns_of, service_bytes}
-use Rattle.services_carried.specs.PlacedServices.{AreServicesPlaced}
+use Rattle.services_shown.specs.PlacedServices.{AreServicesPlaced}
 use Rattle.frame_carrier.specs.Carrying.{column_packets}
-use Rattle.services_carried.specs.ServicesCarried.{HasBlocks, Sent}
+use Rattle.services_shown.specs.ServicesCarried.{HasBlocks, Sent}
 
 -- what a service is told in the first frames: in each a tick of the rate, and the bytes that it is sent there
 abbrev pub told : Rate → (ℕ → List ℕ) → ℕ → List Event

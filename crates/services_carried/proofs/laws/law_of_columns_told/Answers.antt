@@ -1,5 +1,0 @@
-use Rattle.services_carried.proofs.ToldLemmas.{columns_told}
-use Rattle.services_carried.proofs.laws.law_of_columns_told.Goals as goal
-
-pub returns : goal.returns
-returns c = columns_told

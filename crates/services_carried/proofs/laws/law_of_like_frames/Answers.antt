@@ -1,5 +1,0 @@
-use Rattle.services_carried.proofs.ToldLemmas.{like_frames}
-use Rattle.services_carried.proofs.laws.law_of_like_frames.Goals as goal
-
-pub returns : goal.returns
-returns c = like_frames

@@ -1,5 +1,0 @@
-use Rattle.services_carried.proofs.LaneLemmas.{services_told}
-use Rattle.services_carried.proofs.laws.law_of_services_told.Goals as goal
-
-pub returns : goal.returns
-returns c = services_told

@@ -1,9 +1,0 @@
-use Rattle.services_carried.proofs.LaneLemmas.{high_unshared}
-use Rattle.services_carried.proofs.RoomLemmas.{unshared_silent}
-use Rattle.services_carried.proofs.laws.law_of_silent_services.Goals as goal
-
-pub returns-clause-silent : goal.returns-clause-silent
-returns-clause-silent c = unshared_silent
-
-pub returns-clause-unshared : goal.returns-clause-unshared
-returns-clause-unshared c = high_unshared

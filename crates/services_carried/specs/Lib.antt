@@ -1,3 +1,0 @@
-pub mod PlacedServices
-pub mod ServicesCarried
-pub mod Told
