@@ -1,3 +1,7 @@
-pub mod NewestLemmas
-pub mod CursorLemmas
-pub mod LineLemmas
+pub mod ChannelNewestLemmas
+pub mod ChannelCursorLemmas
+pub mod ChannelLineLemmas
+pub mod WindowPlaceLemmas
+pub mod WindowCursorLemmas
+pub mod WindowSeenLemmas
+pub mod WindowTurnLemmas

@@ -1,4 +1,8 @@
-pub mod Newest
-pub mod Lines
-pub mod Timed
-pub mod Cursors
+pub mod ChannelNewest
+pub mod ChannelLines
+pub mod ChannelTimes
+pub mod ChannelCursors
+pub mod WindowTurns
+pub mod WindowPlaces
+pub mod WindowCursors
+pub mod WindowSeen

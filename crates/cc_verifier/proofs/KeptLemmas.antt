@@ -1,7 +1,7 @@
 -- The cues of each channel of a list that keeps the rules are timed.
 use Rattle.std.proofs.Common.{ℕ, ◌≤◌, List, [], ◌∷◌, arith}
 use Rattle.std.specs.Prelude.{⊤}
-use Rattle.authored_places.specs.Timed.{AreCuesTimed}
+use Rattle.authored_places.specs.ChannelTimes.{AreCuesTimed}
 use Rattle.cue_rules.specs.Rules.{IsRuled}
 use Rattle.cue_rules.specs.Rules.Sentences.{AreInSequence}
 use Rattle.cue_types.specs.Channels.{cues_on}

@@ -15,7 +15,7 @@ use Rattle.line21_screen.specs.Grid.{Grid}
 use Rattle.screen_checks.specs.Channels.{AreReady, KnowAll}
 use Rattle.screen_checks.specs.Differing.{AllSeenWindows}
 use Rattle.screen_checks.specs.Services.{KnowServices, StandAt}
-use Rattle.window_places.specs.Turns.{AreAllInTurn}
+use Rattle.authored_places.specs.WindowTurns.{AreAllInTurn}
 use Rattle.words_files.specs.FramesOf.{AreFramesOf}
 use Rattle.words_files.specs.Offences.{IsFileUnder, IsMalformed}
 use Rattle.words_files.specs.Received.{received_grids}

@@ -20,8 +20,8 @@ use Rattle.dtvcc_windows.specs.declared.window.Window.{Window}
 use Rattle.dtvcc_services.specs.Numbers.{IsService}
 use Rattle.screen_checks.specs.Differing.{AllSeenWindows, ShowsItsWindows}
 use Rattle.screen_checks.specs.Services.{IsFirstOtherService}
-use Rattle.window_places.specs.Places.{SameWindows}
-use Rattle.window_places.specs.Seen.{seen_window}
+use Rattle.authored_places.specs.WindowPlaces.{SameWindows}
+use Rattle.authored_places.specs.WindowSeen.{seen_window}
 
 -- a service past the sixth has no cue
 other_service : (service id : ℕ) (kind : Kind) (hide : Option ℕ) (runs : List Run) → 6 < service → IsOfKind kind hide runs → uses_window service id kind ≡ false

@@ -4,7 +4,7 @@ use Rattle.std.specs.Prelude.{◌≤◌, ℕ, Bool, List, Option, Some, None}
 use Rattle.line21_codes.specs.declared.channels.Chan.{Chan}
 use Rattle.line21_codes.specs.declared.channels.Chan.TheVariants as chan
 use Rattle.line21_screen.specs.Grid.{Grid}
-use Rattle.authored_places.specs.Timed.{AreCuesTimed}
+use Rattle.authored_places.specs.ChannelTimes.{AreCuesTimed}
 use Rattle.cue_types.specs.Channels.{cues_on}
 use Rattle.cue_types.specs.Lane.{channel_number}
 use Rattle.cue_types.specs.declared.cue.Cue.{Cue}

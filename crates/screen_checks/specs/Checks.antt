@@ -6,8 +6,8 @@ use Rattle.line21_screen.specs.Differences.{HasOther}
 use Rattle.line21_screen.specs.Grid.{Grid}
 use Rattle.line21_screen.specs.Objects.{grid_in}
 use Rattle.authored_grids.specs.AuthoredGrid.{authored_grid}
-use Rattle.authored_places.specs.Cursors.{StandsAtFrame, cursor_channel}
-use Rattle.authored_places.specs.Timed.{AreCuesTimed}
+use Rattle.authored_places.specs.ChannelCursors.{StandsAtFrame, cursor_channel}
+use Rattle.authored_places.specs.ChannelTimes.{AreCuesTimed}
 use Rattle.cue_types.specs.Channels.{cues_on}
 use Rattle.cue_types.specs.declared.cue.Cue.{Cue}
 use Rattle.screen_checks.specs.declared.channel_check.ChannelCheck.{ChannelCheck}

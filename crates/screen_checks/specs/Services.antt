@@ -3,7 +3,7 @@
 use Rattle.std.specs.Prelude.{◌≡◌, ◌<◌, ◌≤◌, ℕ, true, List, Option, Some, None}
 use Rattle.cue_types.specs.declared.cue.Cue.{Cue}
 use Rattle.dtvcc_services.specs.Numbers.{IsService}
-use Rattle.window_places.specs.Cursors.{AreAt}
+use Rattle.authored_places.specs.WindowCursors.{AreAt}
 use Rattle.screen_checks.specs.Differing.{AllSeenWindows, ShowsItsWindows, ShowsOtherWindow}
 use Rattle.screen_checks.specs.declared.service_checks.ServiceChecks.{ServiceChecks}
 

@@ -1,8 +1,8 @@
 ghost use Rattle.std.specs.Prelude.{◌≡◌, ◌≢◌, ◌<◌, ◌≤◌, false, true, ℕ};
 ghost use Rattle.authored_grids.specs.AuthoredGrid.{authored_grid};
-ghost use Rattle.authored_places.specs.Cursors.{StandsAtFrame, cursor_channel};
-ghost use Rattle.authored_places.specs.Lines.{line_cell};
-ghost use Rattle.authored_places.specs.Timed.{AreCuesTimed};
+ghost use Rattle.authored_places.specs.ChannelCursors.{StandsAtFrame, cursor_channel};
+ghost use Rattle.authored_places.specs.ChannelLines.{line_cell};
+ghost use Rattle.authored_places.specs.ChannelTimes.{AreCuesTimed};
 ghost use Rattle.cc_receiver.specs.Receivers.{displayed_grid};
 ghost use Rattle.cue_types.specs.Channels.{cues_on};
 ghost use Rattle.line21_screen.specs.Differences.{HasOther};

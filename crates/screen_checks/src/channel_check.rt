@@ -1,6 +1,6 @@
 ghost use Rattle.std.specs.Prelude.{◌≡◌, ◌<◌, ◌+◌, false, true, IfOk, ℕ};
 ghost use Rattle.authored_grids.specs.AuthoredGrid.{IsSettled, authored_grid};
-ghost use Rattle.authored_places.specs.Timed.{AreCuesTimed};
+ghost use Rattle.authored_places.specs.ChannelTimes.{AreCuesTimed};
 ghost use Rattle.cc_receiver.specs.Receivers.{displayed_grid};
 ghost use Rattle.screen_checks.specs.Checks.{IsReadyToCheck, Knows, LeavesGrid};
 ghost use Rattle.cue_types.specs.Channels.{cues_on};

@@ -5,18 +5,18 @@ ghost use Rattle.cc_receiver.specs.Receivers.{HasReceived, frame_count};
 ghost use Rattle.cdp_packets.specs.Packets.{Frame};
 ghost use Rattle.cue_types.specs.Cues.{IsCueFormed};
 ghost use Rattle.dtvcc_services.specs.Numbers.{IsService};
-ghost use Rattle.window_places.specs.Cursors.{AreAt};
-ghost use Rattle.window_places.specs.Places.{IsAuthoredBy};
-ghost use Rattle.window_places.specs.Seen.{IsFormedCue};
-ghost use Rattle.window_places.specs.Turns.{AreAllInTurn};
+ghost use Rattle.authored_places.specs.WindowCursors.{AreAt};
+ghost use Rattle.authored_places.specs.WindowPlaces.{IsAuthoredBy};
+ghost use Rattle.authored_places.specs.WindowSeen.{IsFormedCue};
+ghost use Rattle.authored_places.specs.WindowTurns.{AreAllInTurn};
 ghost use Rattle.words_files.specs.FramesOf.{AreFramesOf};
 ghost use Rattle.services_files.specs.CaptionChannel.{caption_channel};
 ghost use Rattle.screen_checks.specs.Differing.{AllSeenWindows, ShowsItsWindows, ShowsOtherWindow};
 ghost use Rattle.screen_checks.specs.Services.{IsFirstOtherService, KnowServices, StandAt};
 
+use authored_places::{WindowCursors, window_differs};
 use cc_receiver::Receiver;
 use cue_types::{Cue, LAST_SERVICE};
-use window_places::{WindowCursors, differs};
 
 /// The check of the 63 services of DTVCC, frame by frame: what their windows are to show, and whether all were last seen to show
 /// that (CTA-708-E).
@@ -141,7 +141,7 @@ fn has_other_window(
     }
     for id in 0..8u8 {
         let cue = cue_of(cursors, cues, frame, service, id);
-        if differs(receiver.window(service, id), cue) {
+        if window_differs(receiver.window(service, id), cue) {
             return true;
         }
     }

@@ -4,9 +4,9 @@
 ghost use Rattle.std.specs.Prelude.{◌≤◌, ℕ, List};
 ghost use Rattle.cc_conceal.specs.Concealers.{HasConcealed};
 ghost use Rattle.dtvcc_services.specs.Numbers.{IsService};
-ghost use Rattle.window_places.specs.Seen.{IsFormedCue};
+ghost use Rattle.authored_places.specs.WindowSeen.{IsFormedCue};
 
-use authored_places::{Line, cell_at};
+use authored_places::{Line, cell_at, window_differs};
 use cc_conceal::Concealer;
 use ccsuite_cli::Status;
 use cue_lists::lane::is_pop;
@@ -17,7 +17,6 @@ use memory_runs::{build_of, run_to_end};
 use std::alloc::Global;
 use std::process::Abort;
 use std::test::Fail;
-use window_places::differs;
 
 /// The number of the last cue of a channel among so many that stand first, counted from 0.
 fn last_on(cues: &[Cue], channel: Chan, count: usize) -> Option<usize> {
@@ -191,7 +190,7 @@ fn shows_windows(concealer: &Concealer, list: &CueList, service: u8, frame: u32)
     requires { IsService service }
 {
     for id in 0..8u8 {
-        if differs(
+        if window_differs(
             concealer.window(service, id),
             cue_in(list, service, id, frame),
         ) {

@@ -1,6 +1,6 @@
 use Rattle.std.proofs.Common.{◌≡◌, ◌<◌, ℕ}
 use Rattle.cc_receiver.specs.Receivers.{displayed_grid}
-use Rattle.authored_places.specs.Lines.{line_cell}
+use Rattle.authored_places.specs.ChannelLines.{line_cell}
 use Rattle.screen_checks.proofs.area.row_shows_other.Given as goal
 
 abbrev pub invariant-loop-column : goal.invariant-loop-column

@@ -2,8 +2,8 @@ use Rattle.std.proofs.Common.{◌≢◌, ◌∙◌, ◌<◌, ◌≤◌, ℕ, ap,
 use Rattle.line21_codes.specs.declared.channels.Chan.{Chan}
 use Rattle.cc_receiver.specs.Receivers.{displayed_grid}
 use Rattle.authored_grids.specs.AuthoredGrid.{authored_grid}
-use Rattle.authored_places.specs.Cursors.{cursor_channel}
-use Rattle.authored_places.specs.Lines.{line_cell}
+use Rattle.authored_places.specs.ChannelCursors.{cursor_channel}
+use Rattle.authored_places.specs.ChannelLines.{line_cell}
 use Rattle.screen_checks.proofs.AreaLemmas.{none_in_rows, other_in_row}
 use Rattle.screen_checks.proofs.area.shows_other.Goals as goal
 

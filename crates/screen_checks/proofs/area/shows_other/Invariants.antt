@@ -1,7 +1,7 @@
 use Rattle.std.proofs.Common.{◌≡◌, ◌<◌, ◌≤◌, ℕ}
 use Rattle.cc_receiver.specs.Receivers.{displayed_grid}
 use Rattle.authored_grids.specs.AuthoredGrid.{authored_grid}
-use Rattle.authored_places.specs.Cursors.{cursor_channel}
+use Rattle.authored_places.specs.ChannelCursors.{cursor_channel}
 use Rattle.screen_checks.proofs.area.shows_other.Given as goal
 
 abbrev pub invariant-loop-row : goal.invariant-loop-row

@@ -3,7 +3,7 @@ use Rattle.cc_receiver.specs.ReceivedServices.{received_windows}
 use Rattle.cue_types.specs.declared.cue.Cue.{Cue}
 use Rattle.screen_checks.specs.Channels.{AreReady, AreTimedAll, KnowAll}
 use Rattle.screen_checks.specs.Services.{KnowServices, StandAt}
-use Rattle.window_places.proofs.TurnLemmas.{ruled_in_turn}
+use Rattle.authored_places.proofs.WindowTurnLemmas.{ruled_in_turn}
 use Rattle.words_files.proofs.FramesOfLemmas.{file_frames}
 use Rattle.words_files.specs.Received.{received_grids}
 use Rattle.services_files.specs.CaptionChannel.{caption_channel}

@@ -1,4 +1,0 @@
-pub mod PlaceLemmas
-pub mod CursorLemmas
-pub mod SeenLemmas
-pub mod TurnLemmas

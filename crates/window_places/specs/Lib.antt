@@ -1,4 +1,0 @@
-pub mod Turns
-pub mod Places
-pub mod Cursors
-pub mod Seen
