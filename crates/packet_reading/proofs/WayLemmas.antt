@@ -7,11 +7,9 @@ use Rattle.cc_receiver.specs.declared.receiver.Ended.TheVariants as ended
 use Rattle.cc_receiver.specs.declared.receiver.Fed.{Fed}
 use Rattle.cc_receiver.specs.declared.receiver.Receiver.{Receiver}
 use Rattle.cdp_packets.specs.Packets.{Frame}
-use Rattle.words_files.specs.FramesOf.{AreFramesOf}
 use Rattle.words_files.specs.Offences.{IsFileUnder, IsUnoffending}
 use Rattle.services_files.specs.CaptionChannel.{caption_channel}
 use Rattle.words_reading.specs.Causes.{words_limit}
-use Rattle.packet_reading.proofs.EndLemmas.{frames_here}
 use Rattle.packet_reading.specs.OpenPackets.{EndsCaption, EndsForeign, HasRead, HasReadPackets, IsEndedAs, MayFollow, NoPacketEnds, ReadsFront, open_bytes}
 use Rattle.packet_reading.specs.declared.packets.Packets.{Packets}
 
@@ -63,10 +61,6 @@ pub may_follow : (packets : Packets) (bytes : List ℕ) (more : ℕ) → HasRead
 may_follow packets bytes more had within =
     let long = ap length had.spelled in
     record { frames = had.frames; file = had.file; read = had.read; within = omega (arith, within, long) }
-
--- the frames that were read are those of the bytes
-pub frames_read : (packets : Packets) (bytes : List ℕ) (had : HasReadPackets bytes packets) → AreFramesOf caption_channel had.frames (had.file ++ open_bytes packets)
-frames_read packets bytes had = frames_here had.frames had.file (open_bytes packets) had.read.under had.read.none
 
 -- bytes are read behind others
 module _ (before bytes : List ℕ) (old : Packets) (had : HasReadPackets before old) (mid : Packets) (fed : Fed)
