@@ -10,13 +10,13 @@ use Rattle.cc_receiver.specs.declared.receiver.Ended.TheVariants as ended
 use Rattle.cc_receiver.specs.declared.receiver.Fed.{Fed}
 use Rattle.cdp_packets.specs.Packets.{Frame}
 use Rattle.findings.specs.declared.misfit.Misfit.{Misfit}
-use Rattle.halved_frames.specs.Conversion.{conversion_bytes, converted_bytes}
+use Rattle.halved_frames.specs.Conversion.{conversion_bytes}
 use Rattle.rate_convert.proofs.ConversionLemmas.{bytes_more}
 use Rattle.rate_convert.proofs.ConverterLemmas.{stands_behind}
 use Rattle.rate_convert.proofs.FitLemmas.{fit_none}
 use Rattle.rate_convert.proofs.OnceLemmas.{fit_among}
 use Rattle.rate_convert.specs.Converters.{HasConverted, StandsBehind, converter_misfit, input_of}
-use Rattle.rate_convert.specs.Halvers.{misfit_of}
+use Rattle.rate_convert.specs.Halvers.{halves_words, misfit_of}
 use Rattle.rate_convert.specs.Misfits.{AreFit, HasMisfit}
 use Rattle.rate_convert.specs.declared.converter.Converter.{Converter}
 use Rattle.rate_convert.specs.declared.halver.Halver.{Halver}
@@ -152,7 +152,7 @@ some_counted before bytes old new fed feeds caption =
 
 -- its words are gathered behind those of the frames before it
 words_gathered : (start now then : Option (List ℕ)) (held after words text : List ℕ) (frames : List Frame) (last : Frame) (r : Put)
-    → IsGathered start now held text → text ≡ conversion_bytes frames → words ≡ converted_bytes (length frames) last → Gathers now then held after r words
+    → IsGathered start now held text → text ≡ conversion_bytes frames → words ≡ halves_words (length frames) last → Gathers now then held after r words
     → GathersText start then after (conversion_bytes (frames ++ last ∷ [])) r
 words_gathered start now then held after words text frames last r way text_is is gathers =
     subst (λ (l : List ℕ). GathersText start then after l r) (ap (λ (t : List ℕ). t ++ words) text_is ∙ ap (λ (w : List ℕ). conversion_bytes frames ++ w) is ∙ sym (bytes_more frames last))
@@ -160,7 +160,7 @@ words_gathered start now then held after words text frames last r way text_is is
 
 -- what the contract of the words that a frame becomes says
 abbrev pub AreWords : Converter → List ℕ → List ℕ → Type 0
-AreWords converter bytes words = (earlier : List Frame) (last : Frame) → AreFramesOf caption_channel (earlier ++ last ∷ []) bytes → words ≡ converted_bytes (length earlier) last
+AreWords converter bytes words = (earlier : List Frame) (last : Frame) → AreFramesOf caption_channel (earlier ++ last ∷ []) bytes → words ≡ halves_words (length earlier) last
 
 -- its words were added
 pub words_added : (start now then : Option (List ℕ)) (held after words before bytes : List ℕ) (old : Converting) (new : Converter) (fed : Fed)

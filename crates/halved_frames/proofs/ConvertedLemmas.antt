@@ -4,6 +4,7 @@ use Rattle.std.specs.Prelude.{if◌then◌else◌}
 use Rattle.std.specs.List.{flat_map}
 use Rattle.std.proofs.lemmas.List.{length-replicate, length-take}
 use Rattle.std.proofs.lemmas.List.Elements.{All-append, All-cons, All-drop, All-filter, All-head, All-nil, All-replicate, All-tail, All-take}
+use Rattle.cc_base.specs.declared.rate.Rate.TheVariants.{F5994}
 use Rattle.cc_data.specs.Triplets.{filler, triplet_of, triplets_of}
 use Rattle.cc_data.specs.declared.triplet.Triplet.{Triplet}
 use Rattle.cdp_packets.specs.PacketTriplets.{packet_triplets, section_triplets}
@@ -11,8 +12,9 @@ use Rattle.cdp_packets.specs.Packets.{Frame}
 use Rattle.cdp_packets.proofs.SectionLemmas.{cc_data_section-triplets}
 use Rattle.channel_packets.specs.ChannelPackets.{channel_triplets, continues_packet, starts}
 use Rattle.line21_codes.specs.declared.channels.FieldNumber.TheVariants.{One, Two}
+use Rattle.words_files.specs.CarriedWords.{triplets_packet}
 use Rattle.words_files.specs.Received.{field_pairs}
-use Rattle.halved_frames.specs.Conversion.{IsConvertible, conversion_from, first_half, first_half_of, first_or_filler, half_packet, is_of, of_field, second_half, second_half_of, ten_triplets}
+use Rattle.halved_frames.specs.Conversion.{IsConvertible, conversion_from, first_half, first_half_of, first_or_filler, is_of, of_field, second_half, second_half_of, ten_triplets}
 use Rattle.halved_frames.specs.ConvertedFrames.{ConvertedAreHalves, HalvesHaveTen}
 use Rattle.halved_frames.specs.HalvedFrames.{AllHalves, AreHalves}
 use Rattle.halved_frames.proofs.CutLemmas.{triplets_cut}
@@ -64,7 +66,7 @@ second_half_all P fill ts all =
     ten_all P fill (of_field Two ts) (drop 9 (channel_triplets ts)) (All-filter (is_of Two) P ts all) (All-drop P 9 (channel_triplets ts) (channel_all P ts all))
 
 -- the triplets of the halves' packets
-half_triplets : (number : ℕ) (ts : List Triplet) → All IsKind ts → packet_triplets (half_packet number ts) ≡ ts
+half_triplets : (number : ℕ) (ts : List Triplet) → All IsKind ts → packet_triplets (triplets_packet F5994 number ts) ≡ ts
 half_triplets number ts kinds = append-nil _ ∙ cc_data_section-triplets ts kinds
 
 pub first_triplets : (number : ℕ) (frame : Frame) → packet_triplets (first_half_of number frame) ≡ first_half (packet_triplets frame)

@@ -1,17 +1,17 @@
--- Believed in part: the program's answer stands on some of these definitions.
+-- Believed: the program's answer stands on these definitions.
 -- What frames at 29.97 frames a second become at 59.94 (SMPTE ST 334-2; CTA-708-E, cc_data()): each becomes two, its halves, which carry
 -- what it carried. Other sections than cc_data, and other ancillary packets than those of captions, are left out.
-use Rattle.std.specs.Prelude.{◌≡◌, ℕ, suc, ◌+◌, ◌-◌, ◌*◌, ◌%◌, ◌≤◌, ◌==◌, ◌&&◌, Bool, List, [], ◌∷◌, ◌++◌, drop, filter, length, replicate, take}
-use Rattle.anc_words.specs.Writing.{packet_bytes}
+use Rattle.std.specs.Prelude.{◌≡◌, ℕ, suc, ◌+◌, ◌-◌, ◌*◌, ◌≤◌, ◌==◌, ◌&&◌, Bool, List, [], ◌∷◌, ◌++◌, drop, filter, length, replicate, take}
+use Rattle.std.specs.List.{flat_map}
 use Rattle.cc_base.specs.declared.rate.Rate.TheVariants.{F2997, F5994}
 use Rattle.cc_data.specs.Triplets.{filler}
 use Rattle.cc_data.specs.declared.triplet.Triplet.{Triplet}
 use Rattle.cdp_packets.specs.PacketTriplets.{packet_triplets}
 use Rattle.cdp_packets.specs.Packets.{Frame}
-use Rattle.cdp_packets.specs.Written.{cc_data_section, written_packet}
 use Rattle.channel_packets.specs.ChannelPackets.{channel_triplets}
 use Rattle.line21_codes.specs.declared.channels.FieldNumber.{FieldNumber}
 use Rattle.line21_codes.specs.declared.channels.FieldNumber.TheVariants.{One, Two}
+use Rattle.words_files.specs.CarriedWords.{carried_words, triplets_packet}
 use Rattle.words_files.specs.Received.{field_kind}
 
 -- a triplet counts and is of a field of line 21
@@ -46,25 +46,12 @@ first_half triplets = ten_triplets (of_field One triplets) (take 9 (channel_trip
 abbrev pub second_half : List Triplet → List Triplet
 second_half triplets = ten_triplets (of_field Two triplets) (drop 9 (channel_triplets triplets))
 
--- the flags of a packet with cc_data and nothing else, of an active service: 0100 0011
-abbrev pub half_flags : ℕ
-half_flags = 0x43
-
--- the packet of a half, by its frame number: the rate 59.94, one section of cc_data, and the number as the counter
-abbrev pub half_packet : ℕ → List Triplet → Frame
-half_packet number triplets = record {
-  rate = F5994;
-  flags = half_flags;
-  counter = number % 65536;
-  sections = cc_data_section triplets ∷ [];
-}
-
--- the halves of the frame of a number
+-- the halves of the frame of a number, each the packet of its triplets, by its own number: twice that, and one more
 abbrev pub first_half_of : ℕ → Frame → Frame
-first_half_of number frame = half_packet (2 * number) (first_half (packet_triplets frame))
+first_half_of number frame = triplets_packet F5994 (2 * number) (first_half (packet_triplets frame))
 
 abbrev pub second_half_of : ℕ → Frame → Frame
-second_half_of number frame = half_packet (2 * number + 1) (second_half (packet_triplets frame))
+second_half_of number frame = triplets_packet F5994 (2 * number + 1) (second_half (packet_triplets frame))
 
 -- those of frames, of which the first has this number
 abbrev pub conversion_from : ℕ → List Frame → List Frame
@@ -75,21 +62,6 @@ conversion_from number (frame ∷ frames) = first_half_of number frame ∷ secon
 abbrev pub conversion : List Frame → List Frame
 conversion frames = conversion_from 0 frames
 
--- the bytes of the ancillary packet of a half with this counter (SMPTE ST 334-1); the marker bits of triplets are ones
-abbrev pub written_half : ℕ → List Triplet → List ℕ
-written_half counter triplets = packet_bytes 0x61 0x01 (written_packet F5994 half_flags counter (cc_data_section triplets))
-
-abbrev pub half_bytes : ℕ → List Triplet → List ℕ
-half_bytes number triplets = written_half (number % 65536) triplets
-
--- of both halves of the frame of a number
-abbrev pub converted_bytes : ℕ → Frame → List ℕ
-converted_bytes number frame = half_bytes (2 * number) (first_half (packet_triplets frame)) ++ half_bytes (2 * number + 1) (second_half (packet_triplets frame))
-
--- and of all frames
-abbrev pub conversion_bytes_from : ℕ → List Frame → List ℕ
-conversion_bytes_from number [] = []
-conversion_bytes_from number (frame ∷ frames) = converted_bytes number frame ++ conversion_bytes_from (suc number) frames
-
+-- and the words that carry these
 abbrev pub conversion_bytes : List Frame → List ℕ
-conversion_bytes frames = conversion_bytes_from 0 frames
+conversion_bytes frames = flat_map carried_words (conversion frames)

@@ -1,7 +1,11 @@
 -- What one frame more becomes stands behind what the frames before it become.
-use Rattle.std.proofs.Common.{◌≡◌, ℕ, zero, suc, ◌+◌, ◌*◌, List, [], ◌∷◌, ◌++◌, append-nil, append_assoc, length, take, refl, sym, ap, ◌∙◌, arith}
+use Rattle.std.proofs.Common.{◌≡◌, ℕ, zero, suc, ◌+◌, ◌*◌, List, [], ◌∷◌, ◌++◌, append-nil, append_assoc, length, take, refl, ap, ◌∙◌, arith}
+use Rattle.std.specs.List.{flat_map}
+use Rattle.std.proofs.lemmas.List.Concat.{flat_map-append}
 use Rattle.cdp_packets.specs.Packets.{Frame}
-use Rattle.halved_frames.specs.Conversion.{conversion, conversion_bytes, conversion_bytes_from, conversion_from, converted_bytes, first_half_of, second_half_of}
+use Rattle.halved_frames.specs.Conversion.{conversion, conversion_bytes, conversion_from, first_half_of, second_half_of}
+use Rattle.words_files.specs.CarriedWords.{carried_words}
+use Rattle.rate_convert.specs.Halvers.{halves_words}
 
 more_from : (number : ℕ) (frames : List Frame) (last : Frame)
     → conversion_from number (frames ++ last ∷ []) ≡ (conversion_from number frames ++ first_half_of (number + length frames) last ∷ []) ++ second_half_of (number + length frames) last ∷ []
@@ -18,20 +22,14 @@ conversion_more frames last =
     let e : 0 + length frames ≡ length frames = omega arith in
     more_from 0 frames last ∙ ap (λ n. (conversion frames ++ first_half_of n last ∷ []) ++ second_half_of n last ∷ []) e
 
-bytes_from : (number : ℕ) (frames : List Frame) (last : Frame)
-    → conversion_bytes_from number (frames ++ last ∷ []) ≡ conversion_bytes_from number frames ++ converted_bytes (number + length frames) last
-bytes_from number [] last =
-    let e : number ≡ number + 0 = omega arith in append-nil (converted_bytes number last) ∙ ap (λ n. converted_bytes n last) e
-bytes_from number (frame ∷ frames) last =
-    let e : suc number + length frames ≡ number + suc (length frames) = omega arith in
-    ap (λ (l : List ℕ). converted_bytes number frame ++ l) (bytes_from (suc number) frames last)
-    ∙ sym (append_assoc (converted_bytes number frame) (conversion_bytes_from (suc number) frames) (converted_bytes (suc number + length frames) last))
-    ∙ ap (λ n. (converted_bytes number frame ++ conversion_bytes_from (suc number) frames) ++ converted_bytes n last) e
-
-pub bytes_more : (frames : List Frame) (last : Frame) → conversion_bytes (frames ++ last ∷ []) ≡ conversion_bytes frames ++ converted_bytes (length frames) last
+-- and so stand their words
+pub bytes_more : (frames : List Frame) (last : Frame) → conversion_bytes (frames ++ last ∷ []) ≡ conversion_bytes frames ++ halves_words (length frames) last
 bytes_more frames last =
-    let e : 0 + length frames ≡ length frames = omega arith in
-    bytes_from 0 frames last ∙ ap (λ n. conversion_bytes frames ++ converted_bytes n last) e
+    let one = first_half_of (length frames) last in
+    let two = second_half_of (length frames) last in
+    ap (flat_map carried_words) (conversion_more frames last ∙ append_assoc (conversion frames) (one ∷ []) (two ∷ []))
+    ∙ flat_map-append carried_words (conversion frames) (one ∷ two ∷ [])
+    ∙ ap (λ (l : List ℕ). conversion_bytes frames ++ (carried_words one ++ l)) (append-nil (carried_words two))
 
 -- the first frames become the first of what all become, twice as many
 take_from : (number k j : ℕ) (frames : List Frame) → j ≡ 2 * k → take j (conversion_from number frames) ≡ conversion_from number (take k frames)

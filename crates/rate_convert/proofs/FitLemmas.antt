@@ -13,7 +13,7 @@ use Rattle.line21_codes.specs.declared.channels.Chan.{Chan}
 use Rattle.line21_codes.specs.declared.channels.FieldNumber.TheVariants.{One, Two}
 use Rattle.words_files.specs.Received.{received_grids}
 use Rattle.rate_convert.specs.Differing.{IsFirstService}
-use Rattle.rate_convert.specs.Grids.{HasGrid, IsChanged, IsFirstChanged, KeepsGrids, grid_place}
+use Rattle.rate_convert.specs.Grids.{IsChanged, IsFirstChanged, KeepsGrids, grid_place}
 use Rattle.rate_convert.specs.Laws.{FitHasNone}
 use Rattle.rate_convert.specs.Misfits.{AreFitBehind, IsFit}
 
@@ -40,9 +40,10 @@ pub channels_kept : (frames : List Frame) → All IsConvertible frames → (chan
 channels_kept frames all chan = (show_the_same frames (conversion frames) (converted_halves frames all)).grids chan
 
 -- a frame that is fit has no misfit
-not_changed : (frames : List Frame) (first : Which) → HasGrid first → KeepsGrids frames → IsChanged frames first → ⊥
-not_changed frames (which.Chan chan) has keeps changed = changed (keeps.channels chan)
-not_changed frames (which.Service service) has keeps changed = changed.2 (keeps.services service has changed.0 changed.1)
+not_changed : (frames : List Frame) (first : Which) → KeepsGrids frames → IsChanged frames first → ⊥
+not_changed frames (which.Chan chan) keeps changed = changed (keeps.channels chan)
+not_changed frames (which.Service service) keeps changed =
+    let (is, (id, below, differs)) = changed in differs (keeps.services service is id below)
 
 pub fit_none : FitHasNone
 fit_none earlier frame (misfit.Rate code) fit holds = holds.0 fit.convertible.rate
@@ -50,7 +51,7 @@ fit_none earlier frame (misfit.Count seen) fit holds = holds.0 (holds.1 ∙ fit.
 fit_none earlier frame (misfit.One seen) fit holds = let few = fit.convertible.few One in let more = holds.0 in let is = holds.1 in omega arith
 fit_none earlier frame (misfit.Two seen) fit holds = let few = fit.convertible.few Two in let more = holds.0 in let is = holds.1 in omega arith
 fit_none earlier frame (misfit.Many seen) fit holds = let most = fit.convertible.most in let more = holds.0 in let is = holds.1 in omega arith
-fit_none earlier frame (misfit.Changed first) fit holds = not_changed (earlier ++ frame ∷ []) first holds.has fit.keeps holds.changed
+fit_none earlier frame (misfit.Changed first) fit holds = not_changed (earlier ++ frame ∷ []) first fit.keeps holds.changed
 
 -- nothing is seen behind no frame, and so nothing changes
 pub nothing_kept : KeepsGrids []
@@ -60,11 +61,11 @@ nothing_kept = record { channels = λ chan. refl; services = λ service is id sm
 pub first_service : (frames : List Frame) (service : ℕ) → All IsConvertible frames → IsFirstService (received_windows frames) (received_windows (conversion frames)) service
     → IsFirstChanged frames (which.Service service)
 first_service frames service all first = record {
-  has = first.numbered;
-  changed = first.differs;
+  changed = (first.numbered, first.differs);
   before = none;
 }
   where
-    none : (other : Which) → HasGrid other → grid_place other < 3 + service → IsChanged frames other → ⊥
-    none (which.Chan chan) has below changed = changed (channels_kept frames all chan)
-    none (which.Service other) has below changed = changed.2 (first.before other has.from (omega arith) changed.0 changed.1)
+    none : (other : Which) → grid_place other < 3 + service → IsChanged frames other → ⊥
+    none (which.Chan chan) below changed = changed (channels_kept frames all chan)
+    none (which.Service other) below changed =
+        let (is, (id, small, differs)) = changed in differs (first.before other is.from (omega (arith, below)) id small)

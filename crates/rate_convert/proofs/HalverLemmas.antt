@@ -2,23 +2,25 @@
 use Rattle.std.proofs.Common.{◌≡◌, ℕ, ◌+◌, ◌*◌, ◌≤◌, None, List, [], ◌∷◌, ◌++◌, All, length, length-append, refl, sym, ap, ◌∙◌, subst, arith}
 use Rattle.std.proofs.lemmas.List.Elements.{All-append, All-cons, All-nil}
 use Rattle.cc_receiver.specs.ReceivedServices.{received_windows}
+use Rattle.cc_base.specs.declared.rate.Rate.TheVariants.{F5994}
 use Rattle.cc_data.specs.declared.triplet.Triplet.{Triplet}
 use Rattle.cdp_packets.specs.PacketTriplets.{packet_triplets}
 use Rattle.cdp_packets.specs.Packets.{Frame}
 use Rattle.dtvcc_services.specs.Objects.{all_ticks}
 use Rattle.findings.specs.declared.finding.Which.TheVariants as which
 use Rattle.findings.specs.declared.misfit.MisfitKind.TheVariants as misfit
-use Rattle.halved_frames.specs.Conversion.{IsConvertible, conversion, converted_bytes, first_half, first_half_of, half_bytes, second_half, second_half_of}
+use Rattle.halved_frames.specs.Conversion.{IsConvertible, conversion, first_half, first_half_of, second_half, second_half_of}
 use Rattle.halved_frames.proofs.ConvertedFileLemmas.{carried_alike}
 use Rattle.halved_frames.proofs.ConvertedLemmas.{converted_halves, first_triplets, second_triplets}
 use Rattle.service_blocks.specs.Channels.{IsHeard}
 use Rattle.service_blocks.proofs.ChannelLemmas.{channel_heard}
 use Rattle.services_files.specs.CaptionChannel.{caption_channel}
 use Rattle.services_files.specs.CarriedChannel.{CarryChannel, file_triplets}
+use Rattle.words_files.specs.CarriedWords.{carried_words, triplets_packet}
 use Rattle.words_files.specs.FramesOf.{AreFramesOf}
 use Rattle.rate_convert.specs.Differing.{IsFirstDiffering, IsFirstService}
 use Rattle.rate_convert.specs.Grids.{KeepsGrids}
-use Rattle.rate_convert.specs.Halvers.{HasHalved}
+use Rattle.rate_convert.specs.Halvers.{HasHalved, halves_words}
 use Rattle.rate_convert.specs.Misfits.{AreFit, IsMisfit}
 use Rattle.rate_convert.specs.ServedFrames.{AreNext, AreServed}
 use Rattle.rate_convert.specs.declared.halver.Halver.{Halver}
@@ -70,7 +72,7 @@ last_keeps earlier last fit is none = record {
 -- and the halver took it
 pub took_frame : (earlier : List Frame) (last : Frame) (old new : Halver) (first second : List Triplet) → HasHalved earlier old → IsConvertible last
     → first ≡ first_half (packet_triplets last) → second ≡ second_half (packet_triplets last)
-    → new.words.items ≡ half_bytes (2 * length earlier) first ++ half_bytes (2 * length earlier + 1) second
+    → new.words.items ≡ carried_words (triplets_packet F5994 (2 * length earlier) first) ++ carried_words (triplets_packet F5994 (2 * length earlier + 1) second)
     → AreServed ((conversion earlier ++ first_half_of (length earlier) last ∷ []) ++ second_half_of (length earlier) last ∷ []) new.served
     → all_ticks new.served.services ≡ all_ticks old.served.services + 2
     → IsFirstDiffering (received_windows (earlier ++ last ∷ [])) (received_windows (conversion (earlier ++ last ∷ []))) None
@@ -88,9 +90,9 @@ took_frame earlier last old new first second had is first_is second_is words ser
       words = λ others other split.
           let w = lasts_are earlier others last other split in
           words
-          ∙ ap (λ (l : List Triplet). half_bytes (2 * length earlier) l ++ half_bytes (2 * length earlier + 1) second) first_is
-          ∙ ap (λ (l : List Triplet). half_bytes (2 * length earlier) (first_half (packet_triplets last)) ++ half_bytes (2 * length earlier + 1) l) second_is
-          ∙ ap (λ (fs : List Frame). converted_bytes (length fs) last) w.0 ∙ ap (λ (f : Frame). converted_bytes (length others) f) w.1;
+          ∙ ap (λ (l : List Triplet). carried_words (triplets_packet F5994 (2 * length earlier) l) ++ carried_words (triplets_packet F5994 (2 * length earlier + 1) second)) first_is
+          ∙ ap (λ (l : List Triplet). carried_words (first_half_of (length earlier) last) ++ carried_words (triplets_packet F5994 (2 * length earlier + 1) l)) second_is
+          ∙ ap (λ (fs : List Frame). halves_words (length fs) last) w.0 ∙ ap (λ (f : Frame). halves_words (length others) f) w.1;
     }
 
 -- where one shows something else, that is the misfit

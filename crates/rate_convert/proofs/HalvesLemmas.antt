@@ -1,43 +1,26 @@
 -- The halves of a frame's sorted triplets, and their bytes.
-use Rattle.std.proofs.Common.{◌≡◌, ℕ, zero, suc, ◌+◌, ◌-◌, ◌*◌, ◌/◌, ◌%◌, ◌<◌, ◌&&◌, ◌||◌, ◌==◌, Bool, true, false, List, [], ◌∷◌, ◌++◌, All, drop, length, length-append, replicate, take, refl, sym, ap, ◌∙◌, subst, arith}
+use Rattle.std.proofs.Common.{◌≡◌, ℕ, zero, suc, ◌+◌, ◌-◌, ◌*◌, ◌%◌, ◌<◌, ◌&&◌, ◌||◌, ◌==◌, Bool, true, false, List, [], ◌∷◌, ◌++◌, All, drop, length, replicate, take, refl, sym, ap, ◌∙◌, subst, arith}
 use Rattle.std.specs.Prelude.{if◌then◌else◌, filter}
-use Rattle.std.specs.List.{flat_map}
+use Rattle.std.specs.List.{concat}
 use Rattle.std.proofs.lemmas.Bool.{true≢false}
 use Rattle.std.proofs.lemmas.Bool.Decides.{Decides-eqb}
-use Rattle.std.proofs.lemmas.List.{length-map}
 use Rattle.std.proofs.lemmas.List.Elements.{All-append, All-cons, All-drop, All-head, All-nil, All-replicate, All-take}
-use Rattle.anc_words.specs.Writing.{checksum_word, eight_bit_word, packet_words, summed_words, word_bytes}
+use Rattle.anc_words.specs.Writing.{packet_bytes}
 use Rattle.cc_base.specs.declared.rate.Rate.TheVariants.{F5994}
-use Rattle.cc_data.specs.Triplets.{all_written, filler}
+use Rattle.cc_data.specs.Triplets.{filler}
 use Rattle.cc_data.specs.declared.triplet.Triplet.{Triplet}
-use Rattle.cc_data.proofs.TripletLemmas.{length-all_written}
 use Rattle.cdp_packets.specs.Sections.{IsSectionList}
-use Rattle.cdp_packets.specs.Written.{cc_data_section, checksum_of, unsummed_packet, written_packet}
+use Rattle.cdp_packets.specs.Written.{cc_data_section, written_packet}
 use Rattle.channel_packets.specs.ChannelPackets.{channel_triplets, continues_packet, starts}
-use Rattle.halved_frames.specs.Conversion.{first_half, first_or_filler, half_bytes, half_flags, is_of, of_field, second_half, ten_triplets, written_half}
+use Rattle.halved_frames.specs.Conversion.{first_half, first_or_filler, is_of, of_field, second_half, ten_triplets}
 use Rattle.line21_codes.specs.declared.channels.FieldNumber.{FieldNumber}
 use Rattle.line21_codes.specs.declared.channels.FieldNumber.TheVariants.{One, Two}
+use Rattle.words_files.specs.CarriedWords.{caption_flags, carried_words, triplets_packet}
+use Rattle.words_files.proofs.CarriedWordsLemmas.{length-carried_triplets}
 
--- a word has two bytes
-words_twice : (words : List ℕ) → length (flat_map word_bytes words) ≡ length words + length words
-words_twice [] = refl
-words_twice (word ∷ words) = let rest = words_twice words in omega (arith, rest)
-
--- the ancillary packet of ten triplets has a hundred
-pub half_size : (counter : ℕ) (triplets : List Triplet) → length triplets ≡ 10 → length (written_half counter triplets) ≡ 100
-half_size counter triplets ten =
-    let section = cc_data_section triplets in
-    let footer = 0x74 ∷ (counter / 256) ∷ (counter % 256) ∷ [] in
-    let unsummed = unsummed_packet F5994 half_flags counter section in
-    let user = written_packet F5994 half_flags counter section in
-    let summed = summed_words 0x61 0x01 user in
-    let long : length (all_written triplets) ≡ 3 * length triplets = length-all_written triplets in
-    let body : length (section ++ footer) ≡ length section + 3 = length-append section footer in
-    let all : length user ≡ length unsummed + 1 = length-append unsummed (checksum_of unsummed ∷ []) in
-    let each : length summed ≡ length user + 3 = let same = length-map user eight_bit_word in omega (arith, same) in
-    let words : length (summed ++ checksum_word summed ∷ []) ≡ length summed + 1 = length-append summed (checksum_word summed ∷ []) in
-    let twice = words_twice (packet_words 0x61 0x01 user) in
-    omega (arith, ten, long, body, all, each, words, twice)
+-- the words that carry ten triplets have a hundred bytes
+pub half_size : (number : ℕ) (triplets : List Triplet) → length triplets ≡ 10 → length (carried_words (triplets_packet F5994 number triplets)) ≡ 100
+half_size number triplets ten = let all = length-carried_triplets F5994 number triplets in omega (arith, all, ten)
 
 -- fillers behind some
 pub drop_fillers : (n k : ℕ) → drop n (replicate k filler) ≡ replicate (k - n) filler
@@ -102,10 +85,19 @@ ten_are field channel copied behind first one same rest =
 pub no_sections : (bytes : List ℕ) → bytes ≡ [] → IsSectionList bytes
 no_sections bytes none = subst IsSectionList (sym none) (record { cut = []; are = tt; joined = refl })
 
--- the bytes of one packet behind those of another
+-- a counter has the low 16 bits of a number
+same_counter : (number counter : ℕ) (triplets : List Triplet) → counter ≡ number % 65536
+    → carried_words (triplets_packet F5994 counter triplets) ≡ carried_words (triplets_packet F5994 number triplets)
+same_counter number counter triplets is =
+    let same : counter % 65536 ≡ number % 65536 = omega arith in
+    ap (λ n. packet_bytes 0x61 0x01 (written_packet F5994 caption_flags n (concat (cc_data_section triplets ∷ [])))) same
+
+-- the words of one packet behind those of another
 pub words_are : (counter next frame : ℕ) (first second : List Triplet) (none one two : List ℕ) → counter ≡ (2 * frame) % 65536 → next ≡ (2 * frame + 1) % 65536
-    → none ≡ [] → one ≡ none ++ written_half counter first → two ≡ one ++ written_half next second
-    → two ≡ half_bytes (2 * frame) first ++ half_bytes (2 * frame + 1) second
+    → none ≡ [] → one ≡ none ++ carried_words (triplets_packet F5994 counter first) → two ≡ one ++ carried_words (triplets_packet F5994 next second)
+    → two ≡ carried_words (triplets_packet F5994 (2 * frame) first) ++ carried_words (triplets_packet F5994 (2 * frame + 1) second)
 words_are counter next frame first second none one two low high empty first_is second_is =
-    second_is ∙ ap (λ (l : List ℕ). l ++ written_half next second) (first_is ∙ ap (λ (l : List ℕ). l ++ written_half counter first) empty)
-    ∙ ap (λ n. written_half n first ++ written_half next second) low ∙ ap (λ n. half_bytes (2 * frame) first ++ written_half n second) high
+    let behind = carried_words (triplets_packet F5994 next second) in
+    second_is ∙ ap (λ (l : List ℕ). l ++ behind) (first_is ∙ ap (λ (l : List ℕ). l ++ carried_words (triplets_packet F5994 counter first)) empty)
+    ∙ ap (λ (l : List ℕ). l ++ behind) (same_counter (2 * frame) counter first low)
+    ∙ ap (λ (l : List ℕ). carried_words (triplets_packet F5994 (2 * frame) first) ++ l) (same_counter (2 * frame + 1) next second high)

@@ -7,7 +7,7 @@ use Rattle.findings.specs.declared.misfit.Misfit.{Misfit}
 use Rattle.findings.specs.declared.misfit.MisfitKind.{MisfitKind}
 use Rattle.findings.specs.declared.misfit.MisfitKind.TheVariants as misfit
 use Rattle.line21_codes.specs.declared.channels.Chan.TheVariants.{Cc1, Cc2, Cc3, Cc4}
-use Rattle.rate_convert.specs.Grids.{HasGrid, IsFirstChanged, grid_place}
+use Rattle.rate_convert.specs.Grids.{IsChanged, IsFirstChanged, grid_place}
 use Rattle.rate_convert.specs.Laws.{MisfitIsOne}
 use Rattle.rate_convert.specs.Misfits.{AreFitBehind, IsFit, IsMisfit, rank}
 
@@ -16,37 +16,37 @@ ordered : (m n : ℕ) → (m < n → ⊥) → (n < m → ⊥) → m ≡ n
 ordered m n less more = omega arith
 
 -- the places of channels and services are their own
-which_once : (a b : Which) → HasGrid a → HasGrid b → grid_place a ≡ grid_place b → a ≡ b
-which_once (which.Chan Cc1) (which.Chan Cc1) has also same = refl
-which_once (which.Chan Cc1) (which.Chan Cc2) has also same = absurd (omega arith)
-which_once (which.Chan Cc1) (which.Chan Cc3) has also same = absurd (omega arith)
-which_once (which.Chan Cc1) (which.Chan Cc4) has also same = absurd (omega arith)
-which_once (which.Chan Cc2) (which.Chan Cc1) has also same = absurd (omega arith)
-which_once (which.Chan Cc2) (which.Chan Cc2) has also same = refl
-which_once (which.Chan Cc2) (which.Chan Cc3) has also same = absurd (omega arith)
-which_once (which.Chan Cc2) (which.Chan Cc4) has also same = absurd (omega arith)
-which_once (which.Chan Cc3) (which.Chan Cc1) has also same = absurd (omega arith)
-which_once (which.Chan Cc3) (which.Chan Cc2) has also same = absurd (omega arith)
-which_once (which.Chan Cc3) (which.Chan Cc3) has also same = refl
-which_once (which.Chan Cc3) (which.Chan Cc4) has also same = absurd (omega arith)
-which_once (which.Chan Cc4) (which.Chan Cc1) has also same = absurd (omega arith)
-which_once (which.Chan Cc4) (which.Chan Cc2) has also same = absurd (omega arith)
-which_once (which.Chan Cc4) (which.Chan Cc3) has also same = absurd (omega arith)
-which_once (which.Chan Cc4) (which.Chan Cc4) has also same = refl
-which_once (which.Chan Cc1) (which.Service s) has also same = let one = also.from in absurd (omega arith)
-which_once (which.Chan Cc2) (which.Service s) has also same = let one = also.from in absurd (omega arith)
-which_once (which.Chan Cc3) (which.Service s) has also same = let one = also.from in absurd (omega arith)
-which_once (which.Chan Cc4) (which.Service s) has also same = let one = also.from in absurd (omega arith)
-which_once (which.Service s) (which.Chan Cc1) has also same = let one = has.from in absurd (omega arith)
-which_once (which.Service s) (which.Chan Cc2) has also same = let one = has.from in absurd (omega arith)
-which_once (which.Service s) (which.Chan Cc3) has also same = let one = has.from in absurd (omega arith)
-which_once (which.Service s) (which.Chan Cc4) has also same = let one = has.from in absurd (omega arith)
-which_once (which.Service s) (which.Service t) has also same = let e : s ≡ t = omega arith in ap which.Service e
+which_once : (frames : List Frame) (a b : Which) → IsChanged frames a → IsChanged frames b → grid_place a ≡ grid_place b → a ≡ b
+which_once frames (which.Chan Cc1) (which.Chan Cc1) _ _ same = refl
+which_once frames (which.Chan Cc1) (which.Chan Cc2) _ _ same = absurd (omega arith)
+which_once frames (which.Chan Cc1) (which.Chan Cc3) _ _ same = absurd (omega arith)
+which_once frames (which.Chan Cc1) (which.Chan Cc4) _ _ same = absurd (omega arith)
+which_once frames (which.Chan Cc2) (which.Chan Cc1) _ _ same = absurd (omega arith)
+which_once frames (which.Chan Cc2) (which.Chan Cc2) _ _ same = refl
+which_once frames (which.Chan Cc2) (which.Chan Cc3) _ _ same = absurd (omega arith)
+which_once frames (which.Chan Cc2) (which.Chan Cc4) _ _ same = absurd (omega arith)
+which_once frames (which.Chan Cc3) (which.Chan Cc1) _ _ same = absurd (omega arith)
+which_once frames (which.Chan Cc3) (which.Chan Cc2) _ _ same = absurd (omega arith)
+which_once frames (which.Chan Cc3) (which.Chan Cc3) _ _ same = refl
+which_once frames (which.Chan Cc3) (which.Chan Cc4) _ _ same = absurd (omega arith)
+which_once frames (which.Chan Cc4) (which.Chan Cc1) _ _ same = absurd (omega arith)
+which_once frames (which.Chan Cc4) (which.Chan Cc2) _ _ same = absurd (omega arith)
+which_once frames (which.Chan Cc4) (which.Chan Cc3) _ _ same = absurd (omega arith)
+which_once frames (which.Chan Cc4) (which.Chan Cc4) _ _ same = refl
+which_once frames (which.Chan Cc1) (which.Service s) _ (also, _) same = let one = also.from in absurd (omega (arith, one, same))
+which_once frames (which.Chan Cc2) (which.Service s) _ (also, _) same = let one = also.from in absurd (omega (arith, one, same))
+which_once frames (which.Chan Cc3) (which.Service s) _ (also, _) same = let one = also.from in absurd (omega (arith, one, same))
+which_once frames (which.Chan Cc4) (which.Service s) _ (also, _) same = let one = also.from in absurd (omega (arith, one, same))
+which_once frames (which.Service s) (which.Chan Cc1) (is, _) _ same = let one = is.from in absurd (omega (arith, one, same))
+which_once frames (which.Service s) (which.Chan Cc2) (is, _) _ same = let one = is.from in absurd (omega (arith, one, same))
+which_once frames (which.Service s) (which.Chan Cc3) (is, _) _ same = let one = is.from in absurd (omega (arith, one, same))
+which_once frames (which.Service s) (which.Chan Cc4) (is, _) _ same = let one = is.from in absurd (omega (arith, one, same))
+which_once frames (which.Service s) (which.Service t) _ _ same = let e : s ≡ t = omega arith in ap which.Service e
 
 first_once : (frames : List Frame) (a b : Which) → IsFirstChanged frames a → IsFirstChanged frames b → a ≡ b
 first_once frames a b one other =
-    which_once a b one.has other.has
-    (ordered (grid_place a) (grid_place b) (λ less. other.before a one.has less one.changed) (λ more. one.before b other.has more other.changed))
+    which_once frames a b one.changed other.changed
+    (ordered (grid_place a) (grid_place b) (λ less. other.before a less one.changed) (λ more. one.before b more other.changed))
 
 kind_once : (earlier : List Frame) (frame : Frame) (a b : MisfitKind) → IsMisfit earlier frame a → IsMisfit earlier frame b → rank a ≡ rank b → a ≡ b
 kind_once earlier frame (misfit.Rate m) (misfit.Rate n) is also same = ap misfit.Rate (is.holds.1 ∙ sym also.holds.1)

@@ -16,10 +16,11 @@ pub record KeepsGrids (frames : List Frame) : Type 0 where
   pub channels : (chan : Chan) → received_grids (conversion frames) chan ≡ received_grids frames chan
   pub services : (service : ℕ) → IsService service → (id : ℕ) → id < 8 → received_windows (conversion frames) service id ≡ received_windows frames service id
 
--- the channel or service shows something else
+-- the channel, or the service of 1 to 63, shows something else
 abbrev pub IsChanged : List Frame → Which → Type 0
 IsChanged frames (which.Chan chan) = received_grids (conversion frames) chan ≢ received_grids frames chan
-IsChanged frames (which.Service service) = (id : ℕ) × (id < 8) × (received_windows (conversion frames) service id ≢ received_windows frames service id)
+IsChanged frames (which.Service service) =
+    IsService service × ((id : ℕ) × (id < 8) × (received_windows (conversion frames) service id ≢ received_windows frames service id))
 
 -- the order of CC1 to CC4 and S1 to S63
 abbrev pub grid_place : Which → ℕ
@@ -29,13 +30,7 @@ grid_place (which.Chan Cc3) = 2
 grid_place (which.Chan Cc4) = 3
 grid_place (which.Service service) = 3 + service
 
--- it is one of these
-abbrev pub HasGrid : Which → Type 0
-HasGrid (which.Chan chan) = Unit {0}
-HasGrid (which.Service service) = IsService service
-
--- it is the first of them that shows something else
+-- it is the first of these that shows something else
 pub record IsFirstChanged (frames : List Frame) (first : Which) : Type 0 where
-  pub has : HasGrid first
   pub changed : IsChanged frames first
-  pub before : (other : Which) → HasGrid other → grid_place other < grid_place first → IsChanged frames other → ⊥
+  pub before : (other : Which) → grid_place other < grid_place first → IsChanged frames other → ⊥

@@ -4,7 +4,6 @@ ghost use Rattle.cc_receiver.specs.Feeds.{Feeds};
 ghost use Rattle.cc_receiver.specs.Receivers.{receiver_refusal};
 ghost use Rattle.cc_receiver.specs.declared.receiver.Ended.TheVariants as ended;
 ghost use Rattle.cdp_packets.specs.Packets.{Frame};
-ghost use Rattle.halved_frames.specs.Conversion.{converted_bytes};
 ghost use Rattle.services_files.specs.CaptionChannel.{caption_channel};
 ghost use Rattle.words_files.specs.FramesOf.{AreFramesOf};
 ghost use Rattle.words_files.specs.Offences.{IsFileUnder, IsMalformed};
@@ -30,6 +29,7 @@ pub struct Converter {
 
 impl Converter {
     ghost use Rattle.rate_convert.specs.Converters.{ConvertsOn, HasConverted, converted_frames, converter_misfit, input_of};
+    ghost use Rattle.rate_convert.specs.Halvers.{halves_words};
     ghost use Rattle.rate_convert.specs.Misfits.{AreFit, HasMisfit};
 
     /// A converter that was fed nothing. The error comes where memory for its screens and services isn't found.
@@ -110,7 +110,7 @@ impl Converter {
         ensures { (bytes : List ℕ) (earlier : List Frame) (last : Frame)
             → HasConverted bytes self.now
             → AreFramesOf caption_channel (earlier ++ last ∷ []) bytes
-            → result.items ≡ converted_bytes (length earlier) last }
+            → result.items ≡ halves_words (length earlier) last }
     {
         self.halver.words()
     }

@@ -2,7 +2,6 @@ ghost use Rattle.std.specs.Prelude.{◌≡◌, ◌<◌, ◌≤◌, ◌+◌, ◌+
 ghost use Rattle.cc_base.specs.declared.rate.Rate.TheVariants as rate;
 ghost use Rattle.cc_receiver.specs.Receivers.{HasReceived, frame_count};
 ghost use Rattle.cdp_packets.specs.Packets.{Frame};
-ghost use Rattle.halved_frames.specs.Conversion.{converted_bytes};
 ghost use Rattle.rate_convert.specs.Misfits.{IsMisfit};
 ghost use Rattle.rate_convert.specs.SortedTriplets.{IsSorted, IsSortedFrame};
 ghost use Rattle.services_files.specs.CaptionChannel.{caption_channel};
@@ -30,7 +29,7 @@ pub struct Halver {
 }
 
 impl Halver {
-    ghost use Rattle.rate_convert.specs.Halvers.{HasHalved, Took, misfit_of};
+    ghost use Rattle.rate_convert.specs.Halvers.{HasHalved, Took, halves_words, misfit_of};
 
     /// Before the first frame. The error comes where memory for its services isn't found.
     pub fn new(alloc: Global) -> Result<Halver, AllocError>
@@ -89,7 +88,7 @@ impl Halver {
     /// The bytes of the two ancillary packets that the frame became that it took last, which has no misfit (SMPTE ST 334-1).
     pub fn words(&self) -> ArrayVec<u8, 200>
         ensures { (earlier : List Frame) (last : Frame) → HasHalved (earlier ++ last ∷ []) self.now
-            → result.items ≡ converted_bytes (length earlier) last }
+            → result.items ≡ halves_words (length earlier) last }
     {
         let mut words = ArrayVec::new();
         if words.try_extend_from_slice(&self.words).is_err() {

@@ -1,13 +1,15 @@
 ghost use Rattle.std.specs.Prelude.{◌≡◌, ◌≤◌, ◌<◌, ◌+◌, ◌*◌, ◌++◌, ◌∷◌, [], ℕ, List, All, false, length};
 ghost use Rattle.arrayvec.specs.ArrayVec.{array_vec_len};
+ghost use Rattle.cc_base.specs.declared.rate.Rate.TheVariants as rate;
 ghost use Rattle.cc_data.specs.declared.triplet.Triplet.{Triplet as TripletOf};
 ghost use Rattle.cc_receiver.specs.ReceivedServices.{received_windows};
 ghost use Rattle.cdp_packets.specs.Packets.{Frame};
 ghost use Rattle.dtvcc_services.specs.Numbers.{IsService};
 ghost use Rattle.dtvcc_services.specs.Objects.{all_ticks};
-ghost use Rattle.halved_frames.specs.Conversion.{first_half, first_or_filler, half_bytes, second_half, ten_triplets, written_half};
+ghost use Rattle.halved_frames.specs.Conversion.{first_half, first_or_filler, second_half, ten_triplets};
 ghost use Rattle.rate_convert.specs.ServedFrames.{AreNext, AreServed};
 ghost use Rattle.rate_convert.specs.SortedTriplets.{AreSorted, IsSorted};
+ghost use Rattle.words_files.specs.CarriedWords.{carried_words, triplets_packet};
 
 use crate::sorted::Sorted;
 use anc_words::{CAPTION_DID, CAPTION_SDID, write_packet};
@@ -46,8 +48,8 @@ impl Halves {
     /// one more (SMPTE ST 334-1 and ST 334-2).
     pub(crate) fn words(&self, frame: u32) -> ArrayVec<u8, 200>
         requires { All (λ t. t.kind < 4) self.now.first × All (λ t. t.kind < 4) self.now.second }
-        ensures { result.items ≡ half_bytes (2 * frame) self.now.first
-            ++ half_bytes (2 * frame + 1) self.now.second }
+        ensures { result.items ≡ carried_words (triplets_packet rate.F5994 (2 * frame) self.now.first)
+            ++ carried_words (triplets_packet rate.F5994 (2 * frame + 1) self.now.second) }
     {
         let counter = 2 * (frame % 32_768) as u16;
         let mut words = ArrayVec::new();
@@ -124,7 +126,8 @@ fn first_or_filler(triplets: &[Triplet]) -> Triplet
 fn put_half(counter: u16, triplets: &[Triplet; 10], out: &mut ArrayVec<u8, 200>)
     requires kinds { All (λ t. t.kind < 4) triplets.now }
     requires room { array_vec_len out.old ≤ 100 }
-    ensures bytes { out.new.items ≡ out.old.items ++ written_half counter triplets.now }
+    ensures bytes { out.new.items ≡ out.old.items
+        ++ carried_words (triplets_packet rate.F5994 counter triplets.now) }
     ensures len { array_vec_len out.new ≡ array_vec_len out.old + 100 }
 {
     let mut words = ArrayVec::new();
@@ -137,7 +140,7 @@ fn put_half(counter: u16, triplets: &[Triplet; 10], out: &mut ArrayVec<u8, 200>)
 fn write_half(counter: u16, triplets: &[Triplet; 10], out: &mut ArrayVec<u8, 524>)
     requires kinds { All (λ t. t.kind < 4) triplets.now }
     requires empty { out.old.items ≡ [] }
-    ensures { out.new.items ≡ written_half counter triplets.now }
+    ensures { out.new.items ≡ carried_words (triplets_packet rate.F5994 counter triplets.now) }
 {
     let mut section = ArrayVec::new();
     cc_section(triplets, &mut section);

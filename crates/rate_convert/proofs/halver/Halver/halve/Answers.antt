@@ -1,9 +1,11 @@
 use Rattle.std.proofs.Common.{◌≡◌, ◌≤◌, ◌∙◌, ◌++◌, ◌+◌, ◌*◌, ◌∷◌, [], Err, List, ap, arith, length, rules, subst, sym}
+use Rattle.cc_base.specs.declared.rate.Rate.TheVariants.{F5994}
 use Rattle.cc_receiver.specs.ReceivedServices.{received_windows}
 use Rattle.cc_receiver.proofs.TakenLemmas.{frames_count}
 use Rattle.cdp_packets.specs.PacketTriplets.{packet_triplets}
 use Rattle.cdp_packets.specs.Packets.{Frame}
-use Rattle.halved_frames.specs.Conversion.{conversion, first_half_of, half_bytes, second_half_of}
+use Rattle.halved_frames.specs.Conversion.{conversion, first_half_of, second_half_of}
+use Rattle.words_files.specs.CarriedWords.{carried_words, triplets_packet}
 use Rattle.rate_convert.specs.ServedFrames.{AreServed}
 use Rattle.rate_convert.proofs.ConversionLemmas.{conversion_more}
 use Rattle.rate_convert.proofs.ConverterLemmas.{last_number}
@@ -30,7 +32,7 @@ returns-in-None c = λ bytes earlier last had are halved.
     let output = subst (λ (fs : List Frame). AreServed fs c.serve-touched.new.served) (sym (conversion_more earlier last)) served in
     let room = next.few in
     took_frame earlier last c.args.self.now (record { served = c.serve-touched.new.served; misfit = c.args.self.now.misfit; words = c.words-self.result }) c.of-halves.result.first c.of-halves.result.second halved full.convertible h.0 h.1
-    (subst (λ n. c.words-self.result.items ≡ half_bytes (2 * n) c.of-halves.result.first ++ half_bytes (2 * n + 1) c.of-halves.result.second) place c.words-self.ensures)
+    (subst (λ n. c.words-self.result.items ≡ carried_words (triplets_packet F5994 (2 * n) c.of-halves.result.first) ++ carried_words (triplets_packet F5994 (2 * n + 1) c.of-halves.result.second)) place c.words-self.ensures)
     served (c.serve-touched.ensures.ticks room)
     (c.in-None.ensures bytes earlier (conversion earlier) (conversion (earlier ++ last ∷ [])) last had are output halved.keeps.services
     (λ none service id is. ap (λ (fs : List Frame). received_windows fs service id) (conversion_more earlier last) ∙ c.serve-touched.ensures.same (conversion earlier) one two next none service id is))

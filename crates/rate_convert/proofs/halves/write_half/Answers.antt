@@ -1,0 +1,12 @@
+use Rattle.std.proofs.Common.{◌≡◌, ◌∙◌, arith, rules}
+use Rattle.anc_words.specs.Writing.{packet_bytes}
+use Rattle.cc_base.specs.declared.rate.Rate.TheVariants.{F5994}
+use Rattle.cdp_packets.specs.Written.{cc_data_section, written_packet}
+use Rattle.words_files.specs.CarriedWords.{caption_flags}
+use Rattle.words_files.proofs.CarriedWordsLemmas.{section_words}
+use Rattle.rate_convert.proofs.halves.write_half.Goals as goal
+
+pub returns : goal.returns
+returns c =
+    let written : c.write_packet.new.out.items ≡ packet_bytes 0x61 0x01 (written_packet F5994 caption_flags c.args.counter (cc_data_section c.args.triplets.now)) = search rules in
+    written ∙ section_words F5994 c.args.counter c.args.triplets.now (omega arith)
