@@ -125,37 +125,34 @@ impl MccReader {
         }
     }
 
-    /// A reader behind the packet's line with which bytes begin, and how many bytes it has: a time code's text, TAB, a payload, and LF or
-    /// CR LF, of which nothing offends. None where no line begins with the next byte, or the bytes begin with no such line: then a reader
-    /// that takes them one by one tells what stands there.
-    pub fn behind_line(&self, bytes: &[u8]) -> Option<(MccReader, usize)>
-        ensures { IfSome result (λ behind. IsBehindLine self.now bytes.now behind.1 behind.0) }
+    /// Reads the packet's line with which bytes begin, behind what `before` has read, in place of all that was read here: how many bytes the
+    /// line has. It has a time code's text, TAB, a payload, and LF or CR LF, of which nothing offends. None where no line begins with the next
+    /// byte, or the bytes begin with no such line: then a reader that takes them one by one tells what stands there, and this one is of no
+    /// use until it reads such a line.
+    pub fn read_line_behind(&mut self, before: &MccReader, bytes: &[u8]) -> Option<usize>
+        ensures { IfSome result (λ count. IsBehindLine before.now bytes.now count self.new) }
     {
-        if !self.is_at_start() {
+        if !before.is_at_start() {
             return None;
         }
         let (time, rest) = bytes.split_at_checked(11)?;
         let [b'\t', rest @ ..] = rest else {
             return None;
         };
-        let Ok(frame) = judged_frame(self.count, self.last, time) else {
+        let Ok(frame) = judged_frame(before.count, before.last, time) else {
             return None;
         };
-        let (payload, rest) = PayloadReader::behind_payload(rest)?;
-        let rest = behind_line_end(rest)?;
-        let mut text = ArrayVec::new();
-        if text.try_extend_from_slice(time).is_err() {
+        let behind = self.payload.read_payload(rest)?;
+        let after = behind_line_end(behind)?;
+        self.phase = Phase::Start;
+        self.two = before.two;
+        self.count = before.count;
+        self.last = Some(frame);
+        self.text.clear();
+        if self.text.try_extend_from_slice(time).is_err() {
             unreachable!();
         }
-        let reader = MccReader {
-            phase: Phase::Start,
-            two: self.two,
-            count: self.count,
-            last: Some(frame),
-            text,
-            payload,
-        };
-        Some((reader, bytes.len() - rest.len()))
+        Some(bytes.len() - after.len())
     }
 
     /// Whether a line begins with the next byte, behind the first line.

@@ -1,6 +1,7 @@
 use crate::reader::MccReader;
 use arrayvec::ArrayVec;
 use cc_base::Why;
+use std::mem;
 use std::process::Abort;
 
 // The frames and the numbers of bytes of at most four packets.
@@ -35,12 +36,13 @@ fn read(file: &[u8]) -> Result<Packets, (usize, Why)> {
 // The same, where each line that can be is read in one go.
 fn read_in_lines(file: &[u8]) -> Result<Packets, (usize, Why)> {
     let mut reader = MccReader::new();
+    let mut ahead = MccReader::new();
     let mut packets = ArrayVec::new();
     let mut rest = file;
     for _ in file {
         let at = file.len().saturating_sub(rest.len());
-        if let Some((ahead, count)) = reader.behind_line(rest) {
-            reader = ahead;
+        if let Some(count) = ahead.read_line_behind(&reader, rest) {
+            mem::swap(&mut reader, &mut ahead);
             add(&reader, &mut packets);
             rest = rest.get(count..).unwrap_or(b"");
             continue;
@@ -388,9 +390,11 @@ fn reader_behind(rt: &impl Abort, file: &[u8]) -> MccReader {
     reader
 }
 
-// The frame, the number of bytes and the length of the packet's line that is read in one go behind a file.
+// The frame, the number of bytes and the length of the packet's line that is read in one go behind a file, where another was read before.
 fn line_behind(rt: &impl Abort, file: &[u8], bytes: &[u8]) -> Option<(u32, usize, usize)> {
-    let (ahead, count) = reader_behind(rt, file).behind_line(bytes)?;
+    let another = b"File Format=MacCaption_MCC V2.0\nTime Code Rate=24\n00:00:00:23.1,5\t80010277";
+    let mut ahead = reader_behind(rt, another);
+    let count = ahead.read_line_behind(&reader_behind(rt, file), bytes)?;
     assert!(rt; ahead.is_at_start());
     Some((ahead.frame(), ahead.bytes().len(), count))
 }
