@@ -182,6 +182,19 @@ line_behind before placed bytes count old new was lines behind =
       };
     }
 
+-- with another reader ahead the same was taken
+abbrev pub with_ahead : (bytes words : List ℕ) (importing : Importing) (ahead : MccReader) → HasImported bytes words importing → HasImported bytes words (record importing { ahead = ahead })
+with_ahead bytes words importing ahead had = record {
+  placed = had.placed;
+  read = had.read;
+  lines = had.lines;
+  no_word = had.no_word;
+  heard = had.heard;
+  file = had.file;
+  made = had.made;
+  place_is = had.place_is;
+}
+
 -- the words before a line are few
 pub line_few : (bytes words : List ℕ) (importing : Importing) (more : ℕ) (had : HasImported bytes words importing) → importing.reader.phase ≡ phase.Start → more ≤ 524
     → importing.hearer.heard + more < 4294967295
@@ -279,6 +292,16 @@ line_heard bytes words line out old now had start reads out_is heard made place 
       made = subst (λ (m : Made). IsMade had.placed words m) (sym made) had.made;
       place_is = omega (arith, place, was, length-append bytes line) ∙ ap length all;
     }
+
+-- by the reader that was ahead
+pub line_taken : (bytes words line out : List ℕ) (old now : Importing) (had : HasImported bytes words old) → old.reader.phase ≡ phase.Start
+    → ReadsLine bytes had.placed line old.ahead → out ≡ payload_words (packet_in old.ahead).1 → now.reader ≡ old.ahead
+    → HasHeard (state_words (state_of old.reader had.placed) ++ out) now.hearer → now.made ≡ old.made → now.place ≡ old.place + length line
+    → (front : List ℕ) × (line ≡ front ++ 10 ∷ []) × LineTaken (bytes ++ front) words 10 had.placed now
+line_taken bytes words line out old now had start reads out_is same heard made place =
+    let ahead : ReadsLine bytes had.placed line now.reader = subst (λ (r : MccReader). ReadsLine bytes had.placed line r) (sym same) reads in
+    let words_are : out ≡ payload_words (packet_in now.reader).1 = subst (λ (r : MccReader). out ≡ payload_words (packet_in r).1) (sym same) out_is in
+    (ahead.front, ahead.spelled, line_heard bytes words line out old now had start ahead words_are heard made place)
 
 -- a line is read on to the item that has an offending word
 pub record ReadsOn (reader : MccReader) (line : List ℕ) (place heard : ℕ) (word : Refusal) (had : LineOffends reader line place heard word) (i : ℕ) (ahead : MccReader) (now : ℕ) : Type 0 where

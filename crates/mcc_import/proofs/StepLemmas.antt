@@ -66,7 +66,7 @@ pub record LineTaken (bytes words : List ℕ) (byte : ℕ) (placed : TimedPacket
   pub ends : EndsLine (bytes ++ byte ∷ [])
   pub lines : HasLines (bytes ++ byte ∷ []) (placed ++ packet_in now.reader ∷ [])
   pub no_word : NoWordOffends (bytes ++ byte ∷ [])
-  pub ended : HasEnded placed now
+  pub ended : HasEnded placed now.reader now.hearer
   pub made : IsMade placed words now.made
   pub place_is : now.place ≡ length (bytes ++ byte ∷ [])
 
@@ -206,7 +206,7 @@ cut_ends bytes words importing start then after refusal had first way =
     (words, says_lines bytes words importing had, cut_short bytes (state_of importing.reader had.placed) refusal had.read had.no_word first, way)
 
 pub line_ended : (bytes words : List ℕ) (importing : Importing) (had : HasImported bytes words importing) → IsMccFile (had.placed ++ packet_in importing.reader ∷ []) bytes
-    → HasWholeBytes importing.reader → HasEnded had.placed importing
+    → HasWholeBytes importing.reader → HasEnded had.placed importing.reader importing.hearer
 line_ended bytes words importing had file whole = record {
   file = had.file;
   heard = subst (λ (w : List ℕ). HasHeard w importing.hearer) (line_words bytes had.placed importing.reader had.read file whole) had.heard;

@@ -233,16 +233,17 @@ PutsRest now before then after held (Err stopped.WriteFault) result = (result �
 PutsRest now before then after held read result = PutsHeld now before then after held read result
 
 -- a packet's line has ended behind those of these packets, and the words with it were heard
-pub record HasEnded (placed : TimedPackets) (importing : Importing) : Type 0 where
+pub record HasEnded (placed : TimedPackets) (reader : MccReader) (hearer : Hearer) : Type 0 where
   pub file : AreFile placed
-  pub heard : HasHeard (words_as_they_came (placed ++ packet_in importing.reader ∷ [])) importing.hearer
+  pub heard : HasHeard (words_as_they_came (placed ++ packet_in reader ∷ [])) hearer
 
 -- one has
-pub record SomeEnded (importing : Importing) : Type 0 where
+pub record SomeEnded (reader : MccReader) : Type 0 where
   pub placed : TimedPackets
-  pub ended : HasEnded placed importing
+  pub hearer : Hearer
+  pub ended : HasEnded placed reader hearer
 
--- nothing changed but the words that were made
+-- nothing changed but the words that were made, and the room
 pub record KeepsAllElse (old new : Importing) : Type 0 where
   pub reader : new.reader ≡ old.reader
   pub hearer : new.hearer ≡ old.hearer
@@ -265,10 +266,10 @@ pub record IsFirstLine (before : List ℕ) (placed : TimedPackets) (bytes : List
   pub line : ReadsLine before placed (take count bytes) reader
 
 -- such a line may be taken
-pub record MayTakeLine (importing : Importing) (line : List ℕ) (ahead : MccReader) : Type 0 where
+pub record MayTakeLine (importing : Importing) (line : List ℕ) : Type 0 where
   pub may : MayTake importing (length line)
   pub start : importing.reader.phase ≡ phase.Start
-  pub reads : ReadsLine may.bytes may.had.placed line ahead
+  pub reads : ReadsLine may.bytes may.had.placed line importing.ahead
 
 -- a word of what a reader reads of a line offends, which begins at a place, behind so many bytes of words
 pub record LineOffends (reader : MccReader) (line : List ℕ) (place heard : ℕ) (word : Refusal) : Type 0 where

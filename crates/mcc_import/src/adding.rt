@@ -1,20 +1,25 @@
-ghost use Rattle.std.specs.Prelude.{◌≡◌, ◌≤◌, ◌<◌, ◌^◌, ℕ, List, [], Option, length};
+ghost use Rattle.std.specs.Prelude.{◌≡◌, ◌≤◌, ◌<◌, ◌^◌, ◌∷◌, ◌++◌, ℕ, List, [], Option, length};
 ghost use Rattle.std.specs.List.{All};
 ghost use Rattle.anc_words.specs.Writing.{packet_bytes};
 ghost use Rattle.cc_base.specs.Streams.{PutCause};
 ghost use Rattle.cdp_packets.specs.Packets.{Frame, IsCdp};
 ghost use Rattle.mcc_files.specs.MccFiles.{TimedPackets};
+ghost use Rattle.mcc_files.specs.Readers.{HasWholeBytes, packet_in};
 ghost use Rattle.mcc_payloads.specs.Payloads.{Payload};
 ghost use Rattle.mcc_payloads.specs.PayloadWords.{payload_words};
 ghost use Rattle.mcc_words.specs.MccWords.{IsCaptions};
 ghost use Rattle.text_output.specs.Gathered.{GathersText, IsGathered, held_of};
 ghost use Rattle.words_reading.specs.Judging.{StopCause};
-ghost use Rattle.mcc_import.specs.Importing.{AddsMissing, AddsPacket, AreBegunWords, Counts, HasBegun, IsMade, frame_size};
+ghost use Rattle.mcc_import.specs.Importing.{AddsMissing, AddsPacket, AreBegunWords, AreFile, Counts, HasBegun, HasEnded, IsMade, SomeEnded, frame_size};
+ghost use Rattle.mcc_import.specs.declared.hearing.Hearer.{Hearer};
 
+use crate::item_words::said;
 use crate::made::Made;
 use crate::stop::MccStop;
+use anc_words::{CAPTION_DID, CAPTION_SDID};
 use arrayvec::ArrayVec;
 use cc_base::{LimitOf, Put, Rate, Sink};
+use mcc_files::MccReader;
 use mcc_words::{MccWords, MissingFrames};
 use text_output::Gathered;
 use words_reading::{Stop, WORDS_LIMIT};
@@ -59,9 +64,38 @@ impl Made {
         Ok(())
     }
 
+    /// Adds these words, of the packet whose line a reader has read.
+    pub(crate) fn add_packet<O: Sink>(
+        &mut self,
+        reader: &MccReader,
+        packet: &[u8],
+        text: &mut Gathered,
+        out: &mut O,
+    ) -> Result<(), Stop<MccStop>>
+        requires room { length packet.now ≤ 524 }
+        requires words { packet.now ≡ payload_words (packet_in reader.now).1 }
+        requires whole { HasWholeBytes reader.now }
+        requires ended { SomeEnded reader.now }
+        ensures adds { (placed : TimedPackets) (words : List ℕ) (start : Option (List ℕ))
+            → IsMade placed words self.old
+            → IsGathered start (O.written out.old) (held_of text.old) words
+            → AddsPacket placed words (packet_in reader.now) start (O.written out.new)
+            (held_of text.new) self.new result }
+        ensures file { (placed : TimedPackets) (hearer : Hearer)
+            → HasEnded placed reader.now hearer → AreFile (placed ++ packet_in reader.now ∷ []) }
+        ensures cause { StopCause (O.faults out.old) (O.faults out.new) result }
+    {
+        let (did, sdid, user) = said(reader.bytes());
+        if did == CAPTION_DID && sdid == CAPTION_SDID {
+            self.add_captions(reader.frame(), user, packet, text, out)
+        } else {
+            self.add_other(packet, text, out)
+        }
+    }
+
     /// Adds the words of a packet of captions with these user bytes at a frame of the day, behind the frames that are missing before it: as they
     /// came, where its counter isn't raised.
-    pub(crate) fn add_captions<O: Sink>(
+    fn add_captions<O: Sink>(
         &mut self,
         frame: u32,
         user: &[u8],
@@ -148,7 +182,7 @@ impl Made {
     }
 
     /// Adds the words of another packet.
-    pub(crate) fn add_other<O: Sink>(
+    fn add_other<O: Sink>(
         &mut self,
         packet: &[u8],
         text: &mut Gathered,
@@ -173,8 +207,23 @@ impl Made {
     }
 }
 
-/// Adds the words of missing frames.
+/// Adds the words of missing frames, if there are some.
 fn add_missing<O: Sink>(missing: MissingFrames, text: &mut Gathered, out: &mut O) -> Put
+    ensures adds { (words : List ℕ) (start : Option (List ℕ))
+        → IsGathered start (O.written out.old) (held_of text.old) words
+        → AddsMissing missing.rate missing.number missing.left words start (O.written out.new)
+        (held_of text.new) result }
+    ensures cause { PutCause (O.faults out.old) (O.faults out.new) result }
+{
+    if missing.left == 0 {
+        return Put::Done;
+    }
+    add_frames(missing, text, out)
+}
+
+/// The same, frame by frame.
+#[cold]
+fn add_frames<O: Sink>(missing: MissingFrames, text: &mut Gathered, out: &mut O) -> Put
     ensures adds { (words : List ℕ) (start : Option (List ℕ))
         → IsGathered start (O.written out.old) (held_of text.old) words
         → AddsMissing missing.rate missing.number missing.left words start (O.written out.new)

@@ -1,20 +1,20 @@
-ghost use Rattle.std.specs.Prelude.{◌≡◌, ◌<◌, ◌≤◌, ◌+◌, ◌-◌, ◌∷◌, ◌++◌, ℕ, List, [], Option, IfOk, IfSome, length};
+ghost use Rattle.std.specs.Prelude.{◌≡◌, ◌<◌, ◌≤◌, ◌+◌, ◌-◌, ◌∷◌, ◌++◌, ℕ, List, [], true, Option, IfOk, IfSome, length};
 ghost use Rattle.mcc_files.specs.MccFiles.{TimedPackets};
-ghost use Rattle.mcc_files.specs.Readers.{HasRead};
+ghost use Rattle.mcc_files.specs.Readers.{HasRead, is_at_start};
 ghost use Rattle.text_output.specs.Gathered.{IsGathered, held_of};
 ghost use Rattle.words_reading.specs.Judging.{StopCause};
 ghost use Rattle.mcc_import.specs.Importing.{HasLines, IsFirstLine, LineOffends, ReadsLine};
 ghost use Rattle.mcc_import.specs.Offences.{ItemWordOffends};
 
 use crate::hearing::Hearer;
-use crate::item_words::{PAYLOAD, add, put_packet, put_words, said, words_more};
+use crate::item_words::{PAYLOAD, ROOM, add, put_packet, put_words, words_more};
 use crate::made::Made;
 use crate::stop::MccStop;
-use anc_words::{CAPTION_DID, CAPTION_SDID};
 use arrayvec::ArrayVec;
 use cc_base::{Refusal, Sink, Why};
 use mcc_files::MccReader;
 use std::alloc::{AllocError, Global};
+use std::mem;
 use text_output::Gathered;
 use words_reading::Stop;
 
@@ -27,6 +27,9 @@ pub struct Importing {
     made: Made,
     // How many bytes of the file were taken.
     place: u64,
+    // Room for the reader behind a line, and for the words of a packet.
+    ahead: MccReader,
+    words: ArrayVec<u8, ROOM>,
 }
 
 /// Reads a packet's line: how many bytes it has. None where the first line is none, doesn't end within the bytes, or offends; then the reader
@@ -48,28 +51,31 @@ fn read_line(reader: &mut MccReader, bytes: &[u8]) -> Option<usize>
     None
 }
 
-/// The same of bytes behind those that a reader took, byte by byte: a reader behind the line, and how many bytes it has.
+/// The same of bytes behind those that a reader took, byte by byte, with `ahead`, whatever it read.
 #[cold]
-fn read_copied(reader: &MccReader, bytes: &[u8]) -> Option<(MccReader, usize)>
+fn read_copied(reader: &MccReader, bytes: &[u8], ahead: &mut MccReader) -> Option<usize>
     ensures { (before : List ℕ) (placed : TimedPackets) → HasRead before placed reader.now
         → HasLines before placed
-        → IfSome result (λ read. IsFirstLine before placed bytes.now read.1 read.0) }
+        → IfSome result (λ count. IsFirstLine before placed bytes.now count ahead.new) }
 {
-    let mut ahead = reader.copied();
-    let count = read_line(&mut ahead, bytes)?;
-    Some((ahead, count))
+    *ahead = reader.copied();
+    read_line(ahead, bytes)
 }
 
-/// The same, where the line has a time code, a tab and a payload and nothing else, in one go.
-fn read_ahead(reader: &MccReader, bytes: &[u8]) -> Option<(MccReader, usize)>
-    ensures { (before : List ℕ) (placed : TimedPackets) → HasRead before placed reader.now
+/// The same, if a line begins behind them, and in one go where it has a time code, a tab and a payload and nothing else.
+fn read_ahead(reader: &MccReader, bytes: &[u8], ahead: &mut MccReader) -> Option<usize>
+    ensures start { IfSome result (λ _. is_at_start reader.now.phase ≡ true) }
+    ensures line { (before : List ℕ) (placed : TimedPackets) → HasRead before placed reader.now
         → HasLines before placed
-        → IfSome result (λ read. IsFirstLine before placed bytes.now read.1 read.0) }
+        → IfSome result (λ count. IsFirstLine before placed bytes.now count ahead.new) }
 {
-    if let Some(read) = reader.behind_line(bytes) {
-        return Some(read);
+    if !reader.is_at_start() {
+        return None;
     }
-    read_copied(reader, bytes)
+    if let Some(count) = ahead.read_line_behind(reader, bytes) {
+        return Some(count);
+    }
+    read_copied(reader, bytes, ahead)
 }
 
 /// Where a word of the packet in a line offends in the text: at its item. The line begins at such a place, behind so many bytes of words, and
@@ -101,7 +107,6 @@ fn offence_in(reader: &MccReader, line: &[u8], place: u64, heard: u64, word: Ref
 
 impl Importing {
     ghost use Rattle.mcc_files.specs.Readers.{HasWholeBytes, packet_in};
-    ghost use Rattle.mcc_payloads.specs.PayloadWords.{payload_words};
     ghost use Rattle.mcc_import.specs.Importing.{AddsPacket, AreFile, EndsFile, HasEnded, HasImported, IsMade, JudgesItem, KeepsAllElse, MayTake, MayTakeAll, MayTakeLine, SomeEnded, TakesBytes, TakesNext};
     ghost use Rattle.mcc_import.specs.declared.stop.MccStop.TheVariants as stop;
 
@@ -114,6 +119,8 @@ impl Importing {
             hearer: Hearer::new(alloc)?,
             made: Made::new(),
             place: 0,
+            ahead: MccReader::new(),
+            words: ArrayVec::new(),
         })
     }
 
@@ -148,57 +155,23 @@ impl Importing {
         }
     }
 
-    /// Adds these words, of the packet whose line has ended.
-    fn end_line<O: Sink>(
-        &mut self,
-        packet: &[u8],
-        text: &mut Gathered,
-        out: &mut O,
-    ) -> Result<(), Stop<MccStop>>
-        requires room { length packet.now ≤ 524 }
-        requires words { packet.now ≡ payload_words (packet_in self.old.reader).1 }
-        requires whole { HasWholeBytes self.old.reader }
-        requires ended { SomeEnded self.old }
-        ensures adds { (placed : TimedPackets) (words : List ℕ) (start : Option (List ℕ))
-            → IsMade placed words self.old.made
-            → IsGathered start (O.written out.old) (held_of text.old) words
-            → AddsPacket placed words (packet_in self.old.reader) start (O.written out.new)
-            (held_of text.new) self.new.made result }
-        ensures file { (placed : TimedPackets) → HasEnded placed self.old
-            → AreFile (placed ++ packet_in self.old.reader ∷ []) }
-        ensures keeps { KeepsAllElse self.old self.new }
-        ensures cause { StopCause (O.faults out.old) (O.faults out.new) result }
-    {
-        let (did, sdid, user) = said(self.reader.bytes());
-        if did == CAPTION_DID && sdid == CAPTION_SDID {
-            self.made
-                .add_captions(self.reader.frame(), user, packet, text, out)
-        } else {
-            self.made.add_other(packet, text, out)
-        }
-    }
-
     /// Adds the words of the packet whose line has ended, which are written first.
-    fn end_read_line<O: Sink>(
-        &mut self,
-        text: &mut Gathered,
-        out: &mut O,
-    ) -> Result<(), Stop<MccStop>>
+    fn end_line<O: Sink>(&mut self, text: &mut Gathered, out: &mut O) -> Result<(), Stop<MccStop>>
         requires whole { HasWholeBytes self.old.reader }
-        requires ended { SomeEnded self.old }
+        requires ended { SomeEnded self.old.reader }
         ensures adds { (placed : TimedPackets) (words : List ℕ) (start : Option (List ℕ))
             → IsMade placed words self.old.made
             → IsGathered start (O.written out.old) (held_of text.old) words
             → AddsPacket placed words (packet_in self.old.reader) start (O.written out.new)
             (held_of text.new) self.new.made result }
-        ensures file { (placed : TimedPackets) → HasEnded placed self.old
+        ensures file { (placed : TimedPackets) → HasEnded placed self.old.reader self.old.hearer
             → AreFile (placed ++ packet_in self.old.reader ∷ []) }
         ensures keeps { KeepsAllElse self.old self.new }
         ensures cause { StopCause (O.faults out.old) (O.faults out.new) result }
     {
-        let mut words = ArrayVec::new();
-        put_packet(self.reader.bytes(), &mut words);
-        self.end_line(&words, text, out)
+        self.words.clear();
+        put_packet(self.reader.bytes(), &mut self.words);
+        self.made.add_packet(&self.reader, &self.words, text, out)
     }
 
     /// Takes a byte of the file.
@@ -223,7 +196,7 @@ impl Importing {
             Ok(ended) => {
                 self.place += 1;
                 if ended {
-                    self.end_read_line(text, out)
+                    self.end_line(text, out)
                 } else {
                     Ok(())
                 }
@@ -236,28 +209,28 @@ impl Importing {
     fn take_line<O: Sink>(
         &mut self,
         line: &[u8],
-        ahead: MccReader,
         text: &mut Gathered,
         out: &mut O,
     ) -> Result<(), Stop<MccStop>>
-        requires { MayTakeLine self.old line.now ahead }
+        requires { MayTakeLine self.old line.now }
         ensures takes { (before words : List ℕ) (start : Option (List ℕ))
-            (had : HasImported before words self.old) → ReadsLine before had.placed line.now ahead
+            (had : HasImported before words self.old)
+            → ReadsLine before had.placed line.now self.old.ahead
             → IsGathered start (O.written out.old) (held_of text.old) words
             → TakesBytes start (O.written out.new) (held_of text.new) (before ++ line.now) self.new
             result }
         ensures cause { StopCause (O.faults out.old) (O.faults out.new) result }
     {
+        self.words.clear();
+        put_packet(self.ahead.bytes(), &mut self.words);
         let heard = self.hearer.heard;
-        let mut words = ArrayVec::new();
-        put_packet(ahead.bytes(), &mut words);
-        if let Err(word) = self.hearer.hear(&words) {
+        if let Err(word) = self.hearer.hear(&self.words) {
             let refusal = offence_in(&self.reader, line, self.place, heard, word);
             return Err(Stop::Own(MccStop::Offends(refusal)));
         }
-        self.reader = ahead;
+        mem::swap(&mut self.reader, &mut self.ahead);
         self.place += line.len() as u64;
-        self.end_line(&words, text, out)
+        self.made.add_packet(&self.reader, &self.words, text, out)
     }
 
     /// Takes the next line, if it is a packet's and stands whole in the bytes, of which there are some, and else the next byte: how many bytes.
@@ -278,11 +251,9 @@ impl Importing {
         ensures within { IfOk result (λ count. count ≤ length bytes.now) }
         ensures cause { StopCause (O.faults out.old) (O.faults out.new) result }
     {
-        if self.reader.is_at_start() {
-            if let Some((ahead, count)) = read_ahead(&self.reader, bytes) {
-                self.take_line(&bytes[..count], ahead, text, out)?;
-                return Ok(count);
-            }
+        if let Some(count) = read_ahead(&self.reader, bytes, &mut self.ahead) {
+            self.take_line(&bytes[..count], text, out)?;
+            return Ok(count);
         }
         self.take(bytes[0], text, out)?;
         Ok(1)
@@ -325,7 +296,7 @@ impl Importing {
         ensures cause { StopCause (O.faults out.old) (O.faults out.new) result }
     {
         match self.reader.finish() {
-            Ok(true) => self.end_read_line(text, out),
+            Ok(true) => self.end_line(text, out),
             Ok(false) => Ok(()),
             Err(why) => Err(Stop::Refused(Refusal {
                 place: self.place,

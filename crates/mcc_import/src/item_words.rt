@@ -12,7 +12,7 @@ use arrayvec::ArrayVec;
 pub(crate) const PAYLOAD: usize = 259;
 
 /// The most bytes of its words.
-const ROOM: usize = 524;
+pub(crate) const ROOM: usize = 524;
 
 /// The bytes of the ancillary data flag 000 3FF 3FF.
 const FLAG: [u8; 6] = [0x00, 0x00, 0x03, 0xFF, 0x03, 0xFF];

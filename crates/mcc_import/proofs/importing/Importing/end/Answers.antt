@@ -5,18 +5,18 @@ use Rattle.mcc_files.specs.Readers.{Finishes}
 use Rattle.mcc_import.proofs.StepLemmas.{cut_ends, line_ended, none_ends, packet_ends}
 use Rattle.mcc_import.proofs.importing.Importing.end.Goals as goal
 
-pub end_read_line-requires-clause-ended : goal.end_read_line-requires-clause-ended
-end_read_line-requires-clause-ended g c =
+pub end_line-requires-clause-ended : goal.end_line-requires-clause-ended
+end_line-requires-clause-ended g c =
     let had = c.requires.had in
     let f = subst (λ (b : Bool). Finishes c.requires.bytes had.placed c.args.self.now.reader (Ok b)) c.in-Ok-true.field-0-test (c.in-Ok-true.ensures c.requires.bytes had.placed had.read) in
-    record { placed = had.placed; ended = line_ended c.requires.bytes c.requires.words c.args.self.now had f.0 f.1 }
+    record { placed = had.placed; hearer = c.args.self.now.hearer; ended = line_ended c.requires.bytes c.requires.words c.args.self.now had f.0 f.1 }
 
 pub returns-in-Ok-true-clause-ends : goal.returns-in-Ok-true-clause-ends
 returns-in-Ok-true-clause-ends g c bytes words start had way =
     let f = subst (λ (b : Bool). Finishes bytes had.placed c.args.self.now.reader (Ok b)) c.in-Ok-true.field-0-test (c.in-Ok-true.ensures bytes had.placed had.read) in
     let ended = line_ended bytes words c.args.self.now had f.0 f.1 in
-    packet_ends bytes words c.args.self.now c.end_read_line.new.self start (g.O.Sink.written c.end_read_line.new.out) (held_of c.end_read_line.new.text) c.end_read_line.result had f.0
-    (c.end_read_line.ensures.file had.placed ended) (c.end_read_line.ensures.adds had.placed words start had.made way)
+    packet_ends bytes words c.args.self.now c.end_line.new.self start (g.O.Sink.written c.end_line.new.out) (held_of c.end_line.new.text) c.end_line.result had f.0
+    (c.end_line.ensures.file had.placed ended) (c.end_line.ensures.adds had.placed words start had.made way)
 
 pub returns-in-Ok-false-clause-ends : goal.returns-in-Ok-false-clause-ends
 returns-in-Ok-false-clause-ends g c bytes words start had way =

@@ -22,23 +22,23 @@ overflow_add-self g c =
     let within = c.requires.within in
     omega (arith, at, same, within)
 
-pub end_read_line-requires-clause-whole : goal.end_read_line-requires-clause-whole
-end_read_line-requires-clause-whole g c =
+pub end_line-requires-clause-whole : goal.end_line-requires-clause-whole
+end_line-requires-clause-whole g c =
     let had = c.requires.had in
     let judged = c.in_default.ensures c.requires.bytes c.requires.words had in
     let read = subst (λ (r : MccReader). HasRead c.requires.bytes had.placed r) (sym judged.0) had.read in
     let on = subst (λ (b : Bool). TakesOn c.requires.bytes had.placed c.args.byte c.take.new.self (Ok b)) c.if-ended.true (c.in-Ok.ensures c.requires.bytes had.placed read) in
     on.1
 
-pub end_read_line-requires-clause-ended : goal.end_read_line-requires-clause-ended
-end_read_line-requires-clause-ended g c =
+pub end_line-requires-clause-ended : goal.end_line-requires-clause-ended
+end_line-requires-clause-ended g c =
     let had = c.requires.had in
     let judged = c.in_default.ensures c.requires.bytes c.requires.words had in
     let read = subst (λ (r : MccReader). HasRead c.requires.bytes had.placed r) (sym judged.0) had.read in
     let on = subst (λ (b : Bool). TakesOn c.requires.bytes had.placed c.args.byte c.take.new.self (Ok b)) c.if-ended.true (c.in-Ok.ensures c.requires.bytes had.placed read) in
     let now : Importing = record c.judge.new.self { reader = c.take.new.self; place = c.judge.new.self.place + 1 } in
     let line = line_taken c.requires.bytes c.requires.words c.args.byte c.args.self.now c.judge.new.self now had judged on.0 refl refl refl in
-    record { placed = had.placed; ended = line.ended }
+    record { placed = had.placed; hearer = c.judge.new.self.hearer; ended = line.ended }
 
 pub returns-then-ended-clause-takes : goal.returns-then-ended-clause-takes
 returns-then-ended-clause-takes g c bytes words start had way =
@@ -47,8 +47,8 @@ returns-then-ended-clause-takes g c bytes words start had way =
     let on = subst (λ (b : Bool). TakesOn bytes had.placed c.args.byte c.take.new.self (Ok b)) c.if-ended.true (c.in-Ok.ensures bytes had.placed read) in
     let now : Importing = record c.judge.new.self { reader = c.take.new.self; place = c.judge.new.self.place + 1 } in
     let line = line_taken bytes words c.args.byte c.args.self.now c.judge.new.self now had judged on.0 refl refl refl in
-    line_result bytes words c.args.byte had.placed start (g.O.Sink.written c.end_read_line.new.out) (held_of c.end_read_line.new.text) now c.end_read_line.new.self c.end_read_line.result line
-    (c.end_read_line.ensures.file had.placed line.ended) (c.end_read_line.ensures.adds had.placed words start line.made way) c.end_read_line.ensures.keeps.reader c.end_read_line.ensures.keeps.hearer c.end_read_line.ensures.keeps.place
+    line_result bytes words c.args.byte had.placed start (g.O.Sink.written c.end_line.new.out) (held_of c.end_line.new.text) now c.end_line.new.self c.end_line.result line
+    (c.end_line.ensures.file had.placed line.ended) (c.end_line.ensures.adds had.placed words start line.made way) c.end_line.ensures.keeps.reader c.end_line.ensures.keeps.hearer c.end_line.ensures.keeps.place
 
 pub returns-else-ended-clause-takes : goal.returns-else-ended-clause-takes
 returns-else-ended-clause-takes g c bytes words start had way =

@@ -1,7 +1,7 @@
 use Rattle.std.proofs.Common.{◌≡◌, []}
 use Rattle.text_output.specs.Gathered.{held_of}
 use Rattle.mcc_import.proofs.AddLemmas.{MissingFront}
-use Rattle.mcc_import.proofs.adding.add_missing.Given as goal
+use Rattle.mcc_import.proofs.adding.add_frames.Given as goal
 
 abbrev pub invariant-loop-left : goal.invariant-loop-left
 invariant-loop-left g l = record {

@@ -2,7 +2,7 @@ use Rattle.std.proofs.Common.{◌∙◌, true, List, ℕ, sym, subst}
 use Rattle.text_output.specs.Gathered.{held_of}
 use Rattle.mcc_words.specs.Makers.{PutsNext}
 use Rattle.mcc_import.proofs.AddLemmas.{all_missing, missing_fails, one_missing}
-use Rattle.mcc_import.proofs.adding.add_missing.Goals as goal
+use Rattle.mcc_import.proofs.adding.add_frames.Goals as goal
 
 pub loop-left-preserved : goal.loop-left-preserved
 loop-left-preserved g c =
