@@ -13,7 +13,7 @@ use Rattle.packet_inserter.specs.Insertion.{IsInserted, packet_length}
 use Rattle.words_files.specs.FramesOf.{AreFramesOf}
 use Rattle.words_files.specs.Offences.{IsUnoffending}
 use Rattle.services_files.specs.CaptionChannel.{caption_channel}
-use Rattle.inserted_words.specs.InsertedFile.{carried_words}
+use Rattle.words_files.specs.CarriedWords.{carried_words}
 use Rattle.programmes.specs.Framing.{Framing}
 use Rattle.inserted_words.specs.Captions.{captions_of}
 use Rattle.insert_commands.specs.InsertAnswer.{IsHalt, SaysInserted}

@@ -1,9 +1,8 @@
 -- Frames with captions in place of their own say what the frames of the programme say.
 use Rattle.std.proofs.Common.{◌≡◌, ℕ, zero, suc, ◌+◌, ◌<◌, List, [], ◌∷◌, ◌++◌, All, length, map, refl, ap, sym, subst, ◌∙◌, append-nil, length-append, arith, add-one}
-use Rattle.std.specs.List.{concat}
 use Rattle.std.proofs.lemmas.List.{map-append}
 use Rattle.std.proofs.lemmas.List.Elements.{All-cons, All-head, All-nil, All-tail}
-use Rattle.anc_words.specs.Packets.{AncillaryPacket, user_bytes}
+use Rattle.anc_words.proofs.ByteLemmas.{IsByte}
 use Rattle.cc_data.specs.declared.triplet.Triplet.{Triplet}
 use Rattle.cdp_packets.specs.Packets.{Frame}
 use Rattle.cdp_packets.specs.PacketTriplets.{packet_triplets}
@@ -15,13 +14,12 @@ use Rattle.frame_carrier.proofs.CarryingLemmas.{frame_kinds, frame_number, packe
 use Rattle.packet_inserter.specs.Insertion.{IsInserted}
 use Rattle.packet_inserter.proofs.OneWayLemmas.{inserted-triplets}
 use Rattle.services_shown.specs.Told.{CarryTheSame}
-use Rattle.words_files.specs.Frames.{CarryFrames}
-use Rattle.words_files.specs.Frames.CarryFrames.{none, caption, foreign}
+use Rattle.words_files.proofs.CarriedWordsLemmas.{IsOfBytes, all_of_bytes}
 use Rattle.programmes.specs.Framing.{Framing}
 use Rattle.inserted_words.specs.Captions.{captions_of, padded}
 use Rattle.inserted_words.specs.Soundness.{HaveCaptions, HaveRate}
 use Rattle.inserted_words.specs.Soundness.HaveCaptions.{none as no_frame, more as one_more}
-use Rattle.inserted_words.proofs.FileLemmas.{CanBeCarried, IsByte, low_bytes, of_bytes}
+use Rattle.inserted_words.proofs.FileLemmas.{CanBeCarried}
 
 -- the packet of a frame of a programme
 abbrev packet_at : Framing → ℕ → Frame
@@ -52,14 +50,6 @@ captions_kinds list frame =
 packet_captions : (list : Framing) (frame : ℕ) → packet_triplets (packet_at list frame) ≡ captions_of list frame
 packet_captions list frame = append-nil _ ∙ cc_data_section-triplets (captions_of list frame) (captions_kinds list frame)
 
--- the sections of frames that packets carry are of bytes
-carried_bytes : (packets : List AncillaryPacket) (frames : List Frame) → CarryFrames packets frames → All (λ (f : Frame). All IsByte (concat f.sections)) frames
-carried_bytes _ _ none = All-nil (λ (f : Frame). All IsByte (concat f.sections))
-carried_bytes _ _ (caption packet packets frame frames is cdp rest) =
-    All-cons (λ (f : Frame). All IsByte (concat f.sections)) frame frames (of_bytes frame (user_bytes packet) cdp (low_bytes packet.user)).sections
-    (carried_bytes packets frames rest)
-carried_bytes _ _ (foreign packet packets frames isnt rest) = carried_bytes packets frames rest
-
 -- the last of frames
 last_is : (P : Frame → Type 0) (front : List Frame) (frame : Frame) → All P (front ++ frame ∷ []) → P frame
 last_is P [] frame all = All-head P frame [] all
@@ -77,13 +67,12 @@ can_be_carried list roomy carried frame =
     let number = frame_number list.rate (padded list frame) (channel_packet_of (padded list) frame) (roomy frame) in
     let many = (triplets_many list.rate).1 in
     let file = (carried (suc frame)).file in
-    let all = carried_bytes file.packets (column_packets list.rate (padded list) 0 (suc frame)) file.carried in
-    let own = last_is (λ (f : Frame). All IsByte (concat f.sections)) (column_packets list.rate (padded list) 0 frame) (packet_at list frame)
-    (subst (All (λ (f : Frame). All IsByte (concat f.sections))) (packets_first list frame) all) in
+    let all = all_of_bytes file.packets (column_packets list.rate (padded list) 0 (suc frame)) file.carried in
+    let own = last_is IsOfBytes (column_packets list.rate (padded list) 0 frame) (packet_at list frame) (subst (All IsOfBytes) (packets_first list frame) all) in
     record {
       few = omega (arith, number, many);
       kinds = captions_kinds list frame;
-      bytes = subst (All IsByte) (append-nil (cc_data_section (captions_of list frame))) own;
+      bytes = subst (All IsByte) (append-nil (cc_data_section (captions_of list frame))) own.sections;
     }
 
 -- one more of frames that say the same says the same

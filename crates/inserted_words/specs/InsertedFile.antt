@@ -2,18 +2,12 @@
 -- A words file with new captions (SMPTE ST 291-1, ST 334-1 and ST 334-2): packets that aren't of captions stay byte for byte and in
 -- place, and each other one carries its distribution packet with the triplets of its frame in place of its own.
 use Rattle.std.specs.Prelude.{◌≡◌, ◌≤◌, ℕ, List, [], ◌∷◌, ◌++◌, length}
-use Rattle.std.specs.List.{concat}
 use Rattle.anc_words.specs.Packets.{AncillaryPacket, IsCaption, user_bytes}
 use Rattle.anc_words.specs.WordsFiles.{IsPacketBytes}
-use Rattle.anc_words.specs.Writing.{packet_bytes}
 use Rattle.cc_data.specs.declared.triplet.Triplet.{Triplet}
 use Rattle.cdp_packets.specs.Packets.{Frame, IsCdp}
-use Rattle.cdp_packets.specs.Written.{written_packet}
 use Rattle.packet_inserter.specs.Insertion.{IsInserted, packet_length}
-
--- the bytes of the ancillary packet that carries a distribution packet
-abbrev pub carried_words : Frame → List ℕ
-carried_words frame = packet_bytes 0x61 0x01 (written_packet frame.rate frame.flags frame.counter (concat frame.sections))
+use Rattle.words_files.specs.CarriedWords.{carried_words}
 
 -- a packet behind a file is one of captions that carries this frame
 pub record BringsFrame (frame : Frame) (bytes : List ℕ) : Type 0 where
