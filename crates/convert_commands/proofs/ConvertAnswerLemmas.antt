@@ -11,7 +11,6 @@ use Rattle.words_reading.specs.Causes.{IsWholeFile}
 use Rattle.words_reading.specs.Reading.{Stops, StopsEarly as Stopped}
 use Rattle.words_reading.specs.Statuses.{stop_status}
 use Rattle.words_reading.specs.declared.judge.Stop.{Stop}
-use Rattle.words_reading.specs.declared.judge.Stop.TheVariants as stop
 use Rattle.convert_commands.specs.ConvertAnswer.{AreConverted, ConvertAnswer, ConvertHalts}
 use Rattle.convert_commands.specs.Converting.{HasMade, unfit_status}
 use Rattle.convert_commands.specs.declared.converting.Converting.{Converting}

@@ -1,5 +1,5 @@
 -- The verdict of a conversion.
-use Rattle.std.proofs.Common.{◌≡◌, ◌∙◌, ◌≤◌, ◌++◌, ◌⊎◌, ap, append-nil, append_assoc, inl, inr, length, refl, subst, sym, take, ℕ, List, [], ◌∷◌}
+use Rattle.std.proofs.Common.{◌≡◌, ◌∙◌, ◌≤◌, ◌++◌, ap, append-nil, append_assoc, inl, inr, length, refl, subst, sym, take, ℕ, List, [], ◌∷◌}
 use Rattle.cc_base.specs.declared.limit_of.LimitOf.TheVariants as limit
 use Rattle.cc_base.specs.declared.refusal.Refusal.{Refusal}
 use Rattle.cc_base.specs.declared.streams.Put.{Put}
@@ -23,7 +23,7 @@ use Rattle.std.specs.Io.KnownBytes.{Appends}
 use Rattle.words_reading.proofs.EarlyLemmas.{file_answers, file_told, long_answers, malformed_answers, unless}
 use Rattle.words_reading.proofs.FrontLemmas.{TwoFronts, behind_it, before_it, same, two_fronts}
 use Rattle.words_reading.proofs.KnownLemmas.{file_of, known_frames, known_judged, known_whole, long_front, refused_behind, within_passes}
-use Rattle.words_reading.specs.Answers.{IsPastLimit, StopsEarlyAs, StopsOwn}
+use Rattle.words_reading.specs.Answers.{StopsEarlyAs, StopsOwn}
 use Rattle.words_reading.specs.Causes.{IsRefusedWith, IsWholeFile, words_limit}
 use Rattle.words_reading.specs.Reading.{Stops}
 use Rattle.convert_commands.specs.ConvertAnswer.{AreConverted, ConvertAnswer, ConvertHalts}

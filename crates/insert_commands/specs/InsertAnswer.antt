@@ -2,7 +2,7 @@
 -- What `insert` answers: each status has its cause, and what was put, in one place. The side file's cue list is read to its end and
 -- judged first, and so is its room; then the bytes of a words file are judged in order, up to the limit, and what stands for each
 -- packet is put before more are taken.
-use Rattle.std.specs.Prelude.{◌≡◌, ◌≢◌, ◌<◌, ◌≤◌, ◌⊎◌, ℕ, List, [], ◌∷◌, ◌++◌, length, Option, IfSome}
+use Rattle.std.specs.Prelude.{◌≡◌, ◌≢◌, ◌<◌, ◌⊎◌, ℕ, List, [], ◌∷◌, ◌++◌, length, IfSome}
 use Rattle.std.specs.List.{All}
 use Rattle.cc_base.specs.Streams.{Rose, TakesWithin, whole_limit}
 use Rattle.cc_base.specs.declared.limit_of.LimitOf.TheVariants as limit
