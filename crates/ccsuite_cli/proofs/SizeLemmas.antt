@@ -10,11 +10,12 @@ use Rattle.cc_data.specs.declared.triplet.Triplet.{Triplet}
 use Rattle.cc_data.proofs.TripletLemmas.{length-all_written}
 use Rattle.cdp_packets.specs.Written.{cc_data_section, checksum_of, unsummed_packet, written_packet}
 use Rattle.frame_carrier.specs.Carried.{AreRoomy}
-use Rattle.frame_carrier.specs.CarriedBytes.{caption_flags, carried_bytes}
+use Rattle.frame_carrier.specs.CarriedBytes.{carried_bytes}
 use Rattle.frame_carrier.specs.Carrying.{channel_packet_of, column_bytes, counter_of, frame_bytes}
 use Rattle.frame_carrier.specs.FrameTriplets.{frame_triplets}
 use Rattle.frame_carrier.proofs.CarryingLemmas.{frame_number, triplets_many}
 use Rattle.frame_scheduler.specs.Columns.{Columns}
+use Rattle.words_files.specs.CarriedWords.{caption_flags}
 
 -- a word has two bytes
 words_twice : (words : List ℕ) → length (flat_map word_bytes words) ≡ length words + length words

@@ -1,75 +1,37 @@
 -- The frames of a programme are carried: each packet is one by the definitions of its layers, and a receiver gets its pairs.
-use Rattle.std.proofs.Common.{◌≡◌, ℕ, zero, suc, ◌+◌, ◌-◌, ◌*◌, ◌/◌, ◌%◌, ◌<◌, ◌≤◌, Bool, true, false, Option, Some, None, List, [], ◌∷◌, ◌++◌, All, length, replicate, take, refl, sym, ap, ◌∙◌, subst, arith, append-nil, append_assoc}
-use Rattle.std.specs.Prelude.{if◌then◌else◌, IfSome, option_to_list, ◌&&◌, ◌||◌, ◌==◌}
+use Rattle.std.proofs.Common.{◌≡◌, ℕ, zero, suc, ◌+◌, ◌-◌, ◌%◌, ◌<◌, ◌≤◌, Bool, true, false, Option, Some, None, List, [], ◌∷◌, ◌++◌, All, length, replicate, take, refl, sym, ap, ◌∙◌, subst, arith, append-nil, append_assoc}
+use Rattle.std.specs.List.{concat}
+use Rattle.std.specs.Prelude.{IfSome, option_to_list, ◌&&◌, ◌||◌, ◌==◌}
 use Rattle.std.proofs.lemmas.List.{length-append}
 use Rattle.std.proofs.lemmas.Bool.Decides.{nat_tests}
 use Rattle.std.proofs.lemmas.List.Concat.{flat_map-append}
-use Rattle.std.proofs.lemmas.List.Elements.{All-append, All-cons, All-from_recursion, All-head, All-nil, All-tail, All-weaker, filter-append}
-use Rattle.cc_base.specs.Rate.{rate_code, triplets_in_frame}
+use Rattle.std.proofs.lemmas.List.Elements.{All-append, All-cons, All-head, All-nil, All-tail, filter-append}
+use Rattle.cc_base.specs.Rate.{triplets_in_frame}
 use Rattle.cc_base.specs.declared.rate.Rate.{Rate}
-use Rattle.cc_base.specs.declared.rate.Rate.TheVariants as rates
 use Rattle.line21_codes.specs.declared.channels.FieldNumber.{FieldNumber}
 use Rattle.line21_codes.specs.declared.channels.FieldNumber.TheVariants.{One, Two}
 use Rattle.line21_codes.specs.declared.pairs.Pair.{Pair}
 use Rattle.cc_data.specs.declared.triplet.Triplet.{Triplet}
-use Rattle.cc_data.specs.Triplets.{all_written, bytes_of_triplet, filler}
-use Rattle.cc_data.proofs.TripletLemmas.{length-all_written}
-use Rattle.cdp_packets.specs.Packets.{IsCdp}
+use Rattle.cc_data.specs.Triplets.{filler}
 use Rattle.cdp_packets.specs.PacketTriplets.{packet_triplets}
-use Rattle.cdp_packets.specs.Written.{cc_data_section, checksum_of, unsummed_packet, written_packet}
-use Rattle.cdp_packets.proofs.PacketLemmas.{written-is_packet}
-use Rattle.cdp_packets.proofs.SectionLemmas.{cc_data_section-is, cc_data_section-triplets}
-use Rattle.anc_words.specs.Writing.{packet_bytes, packet_of}
-use Rattle.anc_words.proofs.PacketLemmas.{packet_bytes-is, user_bytes-packet_of}
-use Rattle.anc_words.proofs.WordsFileLemmas.{IsWordsFile-nil, IsWordsFile-one}
-use Rattle.words_files.specs.Frames.{IsFileOf, none, caption}
+use Rattle.cdp_packets.specs.Written.{cc_data_section, written_packet}
+use Rattle.cdp_packets.proofs.SectionLemmas.{cc_data_section-triplets}
+use Rattle.anc_words.specs.Writing.{packet_bytes}
+use Rattle.anc_words.proofs.ByteLemmas.{IsByte}
+use Rattle.anc_words.proofs.WordsFileLemmas.{IsWordsFile-nil}
+use Rattle.words_files.specs.Frames.{IsFileOf, none}
 use Rattle.words_files.specs.Received.{field_kind, field_pair, field_pairs, received_pairs}
+use Rattle.words_files.specs.CarriedWords.{caption_flags, carried_words}
+use Rattle.words_files.proofs.CarriedWordsLemmas.{IsByteTriplet, section_words, triplets_file}
 use Rattle.words_files.proofs.FrameLemmas.{joined}
 use Rattle.frame_scheduler.specs.Columns.{Columns, first_pairs, pair_in}
 use Rattle.frame_scheduler.specs.declared.frames.FrameBytes.{FrameBytes}
 use Rattle.channel_packets.specs.ChannelPackets.{channel_triplets, continues_packet, starts}
 use Rattle.channel_packets.specs.Written.{bytes_written, continuing, header_for, starting}
 use Rattle.frame_carrier.specs.Carried.{AreByteBlocks, AreBytePairs, AreRoomy, FramesAreCarried, IsBytePair, IsCarriedInRoom}
-use Rattle.frame_carrier.specs.CarriedBytes.{caption_flags}
 use Rattle.frame_carrier.specs.Carrying.{channel_packet_of, channel_packet, packets_before, column_bytes, column_packets, counter_of, frame_bytes, frame_packet}
 use Rattle.frame_carrier.specs.FrameTriplets.{field_triplets, frame_triplets, front_triplets, pair_triplet}
 use Rattle.frame_carrier.proofs.CarryingLemmas.{IsKind, frame_kinds, frame_number, packet_kinds, packet_many, triplets_many}
-
--- a byte
-abbrev IsByte : ℕ → Type 0
-IsByte byte = byte < 256
-
--- codes of rates have four bits
-four_bits : (rate : Rate) → rate_code rate < 16
-four_bits rates.F23976 = omega arith
-four_bits rates.F24 = omega arith
-four_bits rates.F25 = omega arith
-four_bits rates.F2997 = omega arith
-four_bits rates.F30 = omega arith
-four_bits rates.F50 = omega arith
-four_bits rates.F5994 = omega arith
-four_bits rates.F60 = omega arith
-
--- a triplet of bytes
-record IsByteTriplet (t : Triplet) : Type 0 where
-  kind : t.kind < 4
-  a : t.a < 256
-  b : t.b < 256
-
--- its bytes
-marked : (valid : Bool) → (if valid then 0xFC else 0xF8) ≤ 0xFC
-marked true = omega arith
-marked false = omega arith
-
-written_bytes : (t : Triplet) → IsByteTriplet t → All IsByte (bytes_of_triplet t)
-written_bytes t is =
-    All-cons IsByte ((if t.valid then 0xFC else 0xF8) + t.kind) (t.a ∷ t.b ∷ []) (omega (arith, marked t.valid, is.kind))
-    (All-cons IsByte t.a (t.b ∷ []) is.a (All-cons IsByte t.b [] is.b (All-nil IsByte)))
-
-all_written_bytes : (ts : List Triplet) → All IsByteTriplet ts → All IsByte (all_written ts)
-all_written_bytes [] all = All-nil IsByte
-all_written_bytes (t ∷ ts) all =
-    All-append IsByte (bytes_of_triplet t) (all_written ts) (written_bytes t (All-head IsByteTriplet t ts all)) (all_written_bytes ts (All-tail IsByteTriplet t ts all))
 
 -- the triplets of a frame are of bytes
 fillers_bytes : (n : ℕ) → All IsByteTriplet (replicate n filler)
@@ -106,84 +68,25 @@ packet_bytes_are count (byte ∷ blocks) few all =
     (record { kind = omega arith; a = omega (arith, few); b = All-head IsByte byte blocks all })
     (further_bytes blocks (All-tail IsByte byte blocks all))
 
-module _ (rate : Rate) (frame : ℕ) (carried : FrameBytes) (packet : List Triplet) (one : IfSome carried.one IsBytePair) (two : IfSome carried.two IsBytePair)
-    (channel : All IsByteTriplet packet) (roomy : length (front_triplets carried packet) ≤ triplets_in_frame rate) where
-  abbrev triplets : List Triplet
-  triplets = frame_triplets rate carried packet
+-- the bytes of a frame's ancillary packet are those that carry its packet
+frame_words : (rate : Rate) (frame : ℕ) (carried : FrameBytes) (packet : List Triplet)
+    → frame_bytes rate frame carried packet ≡ carried_words (frame_packet rate frame carried packet)
+frame_words rate frame carried packet =
+    let triplets = frame_triplets rate carried packet in
+    let once : counter_of (counter_of frame) ≡ counter_of frame = omega arith in
+    section_words rate (counter_of frame) triplets (omega arith)
+    ∙ ap (λ n. packet_bytes 0x61 0x01 (written_packet rate caption_flags n (concat (cc_data_section triplets ∷ [])))) once
 
-  abbrev section : List ℕ
-  section = cc_data_section triplets
-
-  abbrev bytes : List ℕ
-  bytes = written_packet rate caption_flags (counter_of frame) section
-
-  -- from ten to twenty-five
-  many : (10 ≤ length triplets) × (length triplets ≤ 25)
-  many =
-      let is : length triplets ≡ triplets_in_frame rate = frame_number rate carried packet roomy in
-      let few = triplets_many rate in
-      (omega (arith, is, few.0), omega (arith, is, few.1))
-
-  kinds : All IsKind triplets
-  kinds = frame_kinds rate carried packet (All-weaker IsByteTriplet IsKind (λ t is. is.kind) packet channel)
-
-  -- the section has two bytes and three a triplet
-  section_length : length section ≡ 2 + 3 * length triplets
-  section_length = let long : length (all_written triplets) ≡ 3 * length triplets = length-all_written triplets in omega (arith, long)
-
-  section_bytes : All IsByte section
-  section_bytes =
-      All-cons IsByte 0x72 ((0xE0 + length triplets) ∷ all_written triplets) (omega arith)
-      (All-cons IsByte (0xE0 + length triplets) (all_written triplets) (omega (arith, many.1)) (all_written_bytes triplets (frame_triplets_bytes rate carried packet one two channel)))
-
-  counter_bytes : (counter_of frame / 256 < 256) × (counter_of frame % 256 < 256)
-  counter_bytes = (omega arith, omega arith)
-
-  footer_bytes : All IsByte (0x74 ∷ (counter_of frame / 256) ∷ (counter_of frame % 256) ∷ [])
-  footer_bytes =
-      All-cons IsByte 0x74 ((counter_of frame / 256) ∷ (counter_of frame % 256) ∷ []) (omega arith)
-      (All-cons IsByte (counter_of frame / 256) ((counter_of frame % 256) ∷ []) counter_bytes.0 (All-cons IsByte (counter_of frame % 256) [] counter_bytes.1 (All-nil IsByte)))
-
-  abbrev front : List ℕ
-  front = 0x96 ∷ 0x69 ∷ (length section + 11) ∷ (16 * rate_code rate + 15) ∷ caption_flags ∷ (counter_of frame / 256) ∷ (counter_of frame % 256) ∷ []
-
-  front_bytes : All IsByte front
-  front_bytes =
-      All-from_recursion IsByte front
-      (omega arith, (omega arith, (omega (arith, section_length, many.1), (omega (arith, four_bits rate), (omega arith, (counter_bytes.0, (counter_bytes.1, tt)))))))
-
-  unsummed_bytes : All IsByte (unsummed_packet rate caption_flags (counter_of frame) section)
-  unsummed_bytes =
-      All-append IsByte front (section ++ 0x74 ∷ (counter_of frame / 256) ∷ (counter_of frame % 256) ∷ []) front_bytes
-      (All-append IsByte section (0x74 ∷ (counter_of frame / 256) ∷ (counter_of frame % 256) ∷ []) section_bytes footer_bytes)
-
-  -- a distribution packet of at most 255 bytes
-  packet_is_bytes : All IsByte bytes
-  packet_is_bytes =
-      All-append IsByte (unsummed_packet rate caption_flags (counter_of frame) section) (checksum_of (unsummed_packet rate caption_flags (counter_of frame) section) ∷ []) unsummed_bytes
-      (All-cons IsByte (checksum_of (unsummed_packet rate caption_flags (counter_of frame) section)) [] (omega arith) (All-nil IsByte))
-
-  packet_length : length bytes ≤ 255
-  packet_length =
-      let all = length-append (unsummed_packet rate caption_flags (counter_of frame) section) (checksum_of (unsummed_packet rate caption_flags (counter_of frame) section) ∷ []) in
-      let body : length (section ++ 0x74 ∷ (counter_of frame / 256) ∷ (counter_of frame % 256) ∷ []) ≡ length section + 3 = length-append section (0x74 ∷ (counter_of frame / 256) ∷ (counter_of frame % 256) ∷ []) in
-      omega (arith, all, body, section_length, many.1)
-
-  -- it is the frame's packet
-  is_packet : IsCdp (frame_packet rate frame carried packet) bytes
-  is_packet =
-      subst (λ s. IsCdp (frame_packet rate frame carried packet) (written_packet rate caption_flags (counter_of frame) s)) (append-nil section)
-      (written-is_packet rate caption_flags (counter_of frame) (section ∷ []) (cc_data_section-is triplets (omega (arith, many.1)), tt))
-
-  -- the bytes of its ancillary packet are a file of it alone
-  frame_file : IsFileOf (frame_packet rate frame carried packet ∷ []) (frame_bytes rate frame carried packet)
-  frame_file = record {
-    packets = packet_of 0x61 0x01 bytes ∷ [];
-    file = IsWordsFile-one (packet_of 0x61 0x01 bytes) (packet_bytes 0x61 0x01 bytes)
-        (packet_bytes-is 0x61 0x01 bytes (omega arith) (omega arith) (omega (arith, packet_length)) packet_is_bytes);
-    carried = caption (packet_of 0x61 0x01 bytes) [] (frame_packet rate frame carried packet) [] (refl, refl)
-        (subst (IsCdp (frame_packet rate frame carried packet)) (sym (user_bytes-packet_of 0x61 0x01 bytes packet_is_bytes)) is_packet) none;
-  }
+-- so they are a file of it alone
+frame_file : (rate : Rate) (frame : ℕ) (carried : FrameBytes) (packet : List Triplet) → IfSome carried.one IsBytePair → IfSome carried.two IsBytePair
+    → All IsByteTriplet packet → length (front_triplets carried packet) ≤ triplets_in_frame rate
+    → IsFileOf (frame_packet rate frame carried packet ∷ []) (frame_bytes rate frame carried packet)
+frame_file rate frame carried packet one two channel roomy =
+    let triplets = frame_triplets rate carried packet in
+    let number = frame_number rate carried packet roomy in
+    let many = (triplets_many rate).1 in
+    subst (IsFileOf (frame_packet rate frame carried packet ∷ [])) (sym (frame_words rate frame carried packet))
+    (triplets_file rate frame triplets (omega (arith, number, many)) (frame_triplets_bytes rate carried packet one two channel))
 
 -- the triplets of a frame's packet are those of the frame
 packet_triplets_are : (rate : Rate) (frame : ℕ) (carried : FrameBytes) (packet : List Triplet) → All IsKind packet

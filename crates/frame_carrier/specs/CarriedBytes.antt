@@ -5,10 +5,7 @@ use Rattle.cc_base.specs.declared.rate.Rate.{Rate}
 use Rattle.cc_data.specs.declared.triplet.Triplet.{Triplet}
 use Rattle.cdp_packets.specs.Written.{cc_data_section, written_packet}
 use Rattle.anc_words.specs.Writing.{packet_bytes}
-
--- the flags of a packet with cc_data and nothing else, of an active service: 0100 0011
-abbrev pub caption_flags : ℕ
-caption_flags = 0x43
+use Rattle.words_files.specs.CarriedWords.{caption_flags}
 
 -- the bytes of the ancillary packet of a distribution packet with this counter and these triplets
 abbrev pub carried_bytes : Rate → ℕ → List Triplet → List ℕ

@@ -6,12 +6,12 @@ use Rattle.std.specs.Prelude.{◌≡◌, ℕ, zero, suc, ◌+◌, ◌%◌, List,
 use Rattle.cc_base.specs.declared.rate.Rate.{Rate}
 use Rattle.cc_data.specs.declared.triplet.Triplet.{Triplet}
 use Rattle.cdp_packets.specs.Packets.{Frame}
-use Rattle.cdp_packets.specs.Written.{cc_data_section}
 use Rattle.channel_packets.specs.Writers.{HasWritten}
 use Rattle.channel_packets.specs.Written.{packet_written}
+use Rattle.words_files.specs.CarriedWords.{triplets_packet}
 use Rattle.frame_scheduler.specs.Columns.{Columns}
 use Rattle.frame_scheduler.specs.declared.frames.FrameBytes.{FrameBytes}
-use Rattle.frame_carrier.specs.CarriedBytes.{caption_flags, carried_bytes}
+use Rattle.frame_carrier.specs.CarriedBytes.{carried_bytes}
 use Rattle.frame_carrier.specs.FrameTriplets.{frame_triplets}
 use Rattle.frame_carrier.specs.declared.carrier.Carrier.{Carrier}
 
@@ -21,12 +21,7 @@ counter_of frame = frame % 65536
 
 -- the distribution packet of a frame with what it carries, and with the triplets of its channel packet
 abbrev pub frame_packet : Rate → ℕ → FrameBytes → List Triplet → Frame
-frame_packet rate frame bytes packet = record {
-  rate = rate;
-  flags = caption_flags;
-  counter = counter_of frame;
-  sections = cc_data_section (frame_triplets rate bytes packet) ∷ [];
-}
+frame_packet rate frame bytes packet = triplets_packet rate frame (frame_triplets rate bytes packet)
 
 -- the bytes of the ancillary packet of a frame
 abbrev pub frame_bytes : Rate → ℕ → FrameBytes → List Triplet → List ℕ

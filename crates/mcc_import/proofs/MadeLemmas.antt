@@ -7,7 +7,7 @@ use Rattle.cc_base.specs.declared.rate.Rate.{Rate}
 use Rattle.cc_data.specs.Triplets.{all_written, filler}
 use Rattle.cc_data.proofs.TripletLemmas.{length-all_written}
 use Rattle.cdp_packets.specs.Written.{cc_data_section, checksum_of, unsummed_packet, written_packet}
-use Rattle.frame_carrier.specs.CarriedBytes.{caption_flags}
+use Rattle.words_files.specs.CarriedWords.{caption_flags}
 use Rattle.frame_carrier.specs.Carrying.{frame_bytes}
 use Rattle.frame_carrier.specs.FrameTriplets.{field_triplets, frame_triplets, front_triplets}
 use Rattle.frame_carrier.proofs.CarryingLemmas.{triplets_many}
