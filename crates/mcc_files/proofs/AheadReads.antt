@@ -1,6 +1,5 @@
 -- A packet's line is read in one go.
 use Rattle.std.proofs.Common.{◌≡◌, ℕ, ◌-◌, ◌≤◌, inl, inr, ◌==◌, not, Bool, true, false, List, [], ◌∷◌, ◌++◌, append_assoc, drop, get_or, length, length-append, take, Option, Some, Ok, unwrap_or, refl, ap, sym, ◌∙◌, subst, arith}
-use Rattle.std.specs.List.{list_all}
 use Rattle.std.proofs.Math.Seq.{take-append_seam}
 use Rattle.std.proofs.lemmas.List.{take-append-drop}
 use Rattle.std.proofs.lemmas.List.Folds.{list_all-append}
@@ -17,6 +16,7 @@ use Rattle.mcc_payloads.proofs.PacketLemmas.{packet_whole}
 use Rattle.mcc_payloads.proofs.ReadLemmas.{under_leads}
 use Rattle.mcc_payloads.proofs.StepLemmas.{at_bytes, leads}
 use Rattle.mcc_payloads.proofs.WriteLemmas.{all_left, one_first}
+use Rattle.mcc_files.specs.Lines.{HaveNoLf}
 use Rattle.mcc_files.specs.MccFiles.{TimedPackets}
 use Rattle.mcc_files.specs.Reading.{State, in_phase, judged_frame, payload_begins, payload_in, run, started}
 use Rattle.mcc_files.specs.Readers.{IsBehindLine, is_at_start, packet_in, state_of}
@@ -35,17 +35,14 @@ at_start phase.Start is = refl
 at_start p is = absurd (cc)
 
 -- bytes without an LF
-abbrev pub has_no_lf : List ℕ → Bool
-has_no_lf bytes = list_all (λ byte. not (byte == 10)) bytes
-
-both_no_lf : (xs ys : List ℕ) → has_no_lf xs ≡ true → has_no_lf ys ≡ true → has_no_lf (xs ++ ys) ≡ true
+both_no_lf : (xs ys : List ℕ) → HaveNoLf xs → HaveNoLf ys → HaveNoLf (xs ++ ys)
 both_no_lf xs ys one other = list_all-append (λ byte. not (byte == 10)) xs ys ∙ rw (one, other) refl
 
 mark_no_lf : (semi : Bool) → (mark semi == 10) ≡ false
 mark_no_lf true = refl
 mark_no_lf false = refl
 
-time_no_lf : (time : TimeCode) (text : List ℕ) → IsTimeText time text → has_no_lf text ≡ true
+time_no_lf : (time : TimeCode) (text : List ℕ) → IsTimeText time text → HaveNoLf text
 time_no_lf t text is =
     let a = (digit_byte (tens t.h) (tens_digit t.h is.digits.h)).lf in
     let b = (digit_byte (ones t.h) (ones_digit t.h)).lf in
@@ -55,9 +52,9 @@ time_no_lf t text is =
     let f = (digit_byte (ones t.s) (ones_digit t.s)).lf in
     let g = (digit_byte (tens t.f) (tens_digit t.f is.digits.f)).lf in
     let h = (digit_byte (ones t.f) (ones_digit t.f)).lf in
-    subst (λ (x : List ℕ). has_no_lf x ≡ true) (sym is.spelled) (rw (a, b, c, d, e, f, mark_no_lf t.drop_frame, g, h) refl)
+    subst HaveNoLf (sym is.spelled) (rw (a, b, c, d, e, f, mark_no_lf t.drop_frame, g, h) refl)
 
-leads_no_lf : (text : List ℕ) (front to : Open) → leads true front text to → has_no_lf text ≡ true
+leads_no_lf : (text : List ℕ) (front to : Open) → leads true front text to → HaveNoLf text
 leads_no_lf [] front to is = refl
 leads_no_lf (byte ∷ text) front to (next, one, more) = let low = not_lf front next byte one in rw (low) (leads_no_lf text next to more)
 
@@ -65,9 +62,9 @@ leads_no_lf (byte ∷ text) front to (next, one, more) = let low = not_lf front 
 record LineText (time text end : List ℕ) : Type 0 where
   front : List ℕ
   spelled : ((time ++ 9 ∷ []) ++ text) ++ end ≡ front ++ 10 ∷ []
-  no_lf : has_no_lf front ≡ true
+  no_lf : HaveNoLf front
 
-line_text : (time text end : List ℕ) → has_no_lf time ≡ true → has_no_lf text ≡ true → IsLineEnd end → LineText time text end
+line_text : (time text end : List ℕ) → HaveNoLf time → HaveNoLf text → IsLineEnd end → LineText time text end
 line_text time text end one other (inl lf) = record {
   front = (time ++ 9 ∷ []) ++ text;
   spelled = ap (λ e. ((time ++ 9 ∷ []) ++ text) ++ e) lf;

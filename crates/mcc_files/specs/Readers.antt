@@ -1,8 +1,8 @@
 -- Between crates: the program's answer stands on none of these definitions.
 -- What a reader of MCC files makes of a byte.
-use Rattle.std.specs.Prelude.{◌≡◌, ℕ, ◌-◌, ◌≤◌, ◌==◌, not, Bool, true, false, List, [], ◌∷◌, ◌++◌, length, take, Some, Result, Ok, Err, unwrap_or}
-use Rattle.std.specs.List.{list_all}
+use Rattle.std.specs.Prelude.{◌≡◌, ℕ, ◌-◌, ◌≤◌, Bool, true, false, List, [], ◌∷◌, ◌++◌, length, take, Some, Result, Ok, Err, unwrap_or}
 use Rattle.cc_base.specs.declared.why.Why.{Why}
+use Rattle.mcc_files.specs.Lines.{HaveNoLf}
 use Rattle.mcc_files.specs.MccFiles.{IsMccFile, TimedPackets}
 use Rattle.mcc_files.specs.Offences.{IsFirstOffence}
 use Rattle.mcc_files.specs.Reading.{State, at_first, ends, ends_at_lf, payload_in, run, take_byte}
@@ -78,7 +78,7 @@ pub record IsBehindLine (old : MccReader) (bytes : List ℕ) (count : ℕ) (new 
   pub front : List ℕ
   pub within : count ≤ length bytes
   pub spelled : take count bytes ≡ front ++ 10 ∷ []
-  pub no_lf : list_all (λ byte. not (byte == 10)) front ≡ true
+  pub no_lf : HaveNoLf front
   pub goes : (placed : TimedPackets) → run (state_of old placed) (take count bytes) ≡ Ok (state_of new (placed ++ packet_in new ∷ []))
   pub whole : HasWholeBytes new
   pub start : new.phase ≡ phase.Start

@@ -4,6 +4,7 @@ use Rattle.std.proofs.lemmas.Bool.{cases_Bool, cases_lt}
 use Rattle.std.proofs.lemmas.List.{length-take-le, take-append-drop, take_all}
 use Rattle.std.proofs.lemmas.List.Folds.{list_all-append}
 use Rattle.cc_base.specs.declared.refusal.Refusal.{Refusal}
+use Rattle.mcc_files.specs.Lines.{HaveNoLf}
 use Rattle.mcc_files.specs.MccFiles.{TimedPackets}
 use Rattle.mcc_files.specs.Readers.{HasRead, IsBehindLine, TakesOn, is_at_start, item_in, packet_in, state_of}
 use Rattle.mcc_files.specs.Offences.{IsFirstOffence}
@@ -22,7 +23,6 @@ use Rattle.text_output.specs.Gathered.{IsGathered}
 use Rattle.words_files.specs.Offences.{FirstOffendingWord}
 use Rattle.words_reading.specs.declared.judge.Stop.{Stop}
 use Rattle.words_reading.specs.declared.judge.Stop.TheVariants as stopped
-use Rattle.mcc_import.specs.Imported.{HaveNoLf}
 use Rattle.mcc_import.specs.Importing.{HasHalted, HasHeard, HasImported, HasLines, IsFirstLine, IsMade, LineOffends, ReadsLine, step_back, step_item}
 use Rattle.mcc_import.specs.Offences.{ItemWordOffends, NoWordOffends}
 use Rattle.mcc_import.specs.Words.{is_open, open_part, open_words, state_words, words_with}

@@ -1,10 +1,10 @@
 -- Believed: the program's answer stands on these definitions.
 -- What is put for the packets of an MCC file, and its limits: no more than 5,184,000 frames, and no more bytes than a words file may have.
-use Rattle.std.specs.Prelude.{◌≡◌, ℕ, ◌+◌, ◌-◌, ◌<◌, ◌≤◌, ◌⊎◌, ◌==◌, not, true, if◌then◌else◌, List, [], ◌∷◌, ◌++◌, length, Option, Some, None}
-use Rattle.std.specs.List.{list_all}
+use Rattle.std.specs.Prelude.{◌≡◌, ℕ, ◌+◌, ◌-◌, ◌<◌, ◌≤◌, ◌⊎◌, if◌then◌else◌, List, [], ◌∷◌, ◌++◌, length, Option, Some, None}
 use Rattle.cc_base.specs.declared.limit_of.LimitOf.{LimitOf}
 use Rattle.cc_base.specs.declared.limit_of.LimitOf.TheVariants as limit
 use Rattle.cdp_packets.specs.Packets.{Frame}
+use Rattle.mcc_files.specs.Lines.{HaveNoLf}
 use Rattle.mcc_files.specs.MccFiles.{IsMccFile, TimedPackets}
 use Rattle.mcc_payloads.specs.Payloads.{Payload}
 use Rattle.mcc_words.specs.Close.{words_as_they_came}
@@ -39,10 +39,6 @@ pub record AreWithinImport (placed : TimedPackets) (text : List ℕ) : Type 0 wh
   pub are : AreMccWords placed text
   pub frames : frames_put placed ≤ most_imported_frames
   pub bytes : length text ≤ words_limit
-
--- bytes within a line, before its LF
-abbrev pub HaveNoLf : List ℕ → Type 0
-HaveNoLf bytes = list_all (λ byte. not (byte == 10)) bytes ≡ true
 
 -- the lines that ended, of which these are the packets
 abbrev pub AreEndedLines : TimedPackets → List ℕ → Type 0

@@ -14,6 +14,7 @@ use Rattle.cc_base.specs.declared.streams.Put.TheVariants as put
 use Rattle.command_base.specs.Ends.{Ends, IsSteady}
 use Rattle.cc_receiver.specs.Receivers.{HasReceived, frame_count}
 use Rattle.cdp_packets.specs.Packets.{Frame}
+use Rattle.mcc_files.specs.Lines.{HaveNoLf}
 use Rattle.mcc_files.specs.MccFiles.{TimedPackets}
 use Rattle.mcc_files.specs.Readers.{HasRead, HasWholeBytes, back_in, item_in, packet_in, state_of}
 use Rattle.mcc_files.specs.Reading.{State, at_first, run}
@@ -37,7 +38,7 @@ use Rattle.words_reading.specs.Reading.{Stops}
 use Rattle.words_reading.specs.declared.judge.Stop.{Stop}
 use Rattle.words_reading.specs.declared.judge.Stop.TheVariants as stopped
 use Rattle.mcc_import.specs.ImportMcc.{EndsInput, HaltsImport, HasEndedLine, IsUnoffendingSoFar, PassesInput, SaysImport}
-use Rattle.mcc_import.specs.Imported.{AreEndedLines, AreWithinImport, HaveNoLf, IsMccImport, PassesAtPacket, PassesWith, SaysLines, frames_put, most_imported_frames}
+use Rattle.mcc_import.specs.Imported.{AreEndedLines, AreWithinImport, IsMccImport, PassesAtPacket, PassesWith, SaysLines, frames_put, most_imported_frames}
 use Rattle.mcc_import.specs.Offences.{IsMccCutShort, ItemWordOffends, NoWordOffends}
 use Rattle.mcc_import.specs.Words.{state_words, words_with}
 use Rattle.mcc_import.specs.declared.hearing.Hearer.{Hearer}

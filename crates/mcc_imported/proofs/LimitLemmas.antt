@@ -6,6 +6,7 @@ use Rattle.cc_base.specs.declared.limit_of.LimitOf.{LimitOf}
 use Rattle.cc_base.specs.declared.limit_of.LimitOf.TheVariants as limit
 use Rattle.cc_base.specs.declared.refusal.Refusal.{Refusal}
 use Rattle.mcc_files.proofs.FileReads.{file_is_read}
+use Rattle.mcc_files.specs.Lines.{HaveNoLf}
 use Rattle.mcc_files.specs.MccFiles.{IsMccFile, TimedPackets}
 use Rattle.mcc_files.specs.Reading.{read_file}
 use Rattle.mcc_payloads.specs.Payloads.{Payload}
@@ -13,7 +14,7 @@ use Rattle.mcc_words.specs.MccWords.{AreMccWords}
 use Rattle.scc_files.specs.Offences.{EndsLine}
 use Rattle.words_files.proofs.WordLemmas.{front_of}
 use Rattle.words_reading.specs.Causes.{words_limit}
-use Rattle.mcc_import.specs.Imported.{AreEndedLines, AreWithinImport, HaveNoLf, PassesAtPacket, PassesWith, SaysLines, frames_put, most_imported_frames}
+use Rattle.mcc_import.specs.Imported.{AreEndedLines, AreWithinImport, PassesAtPacket, PassesWith, SaysLines, frames_put, most_imported_frames}
 use Rattle.mcc_imported.proofs.FrontLemmas.{packets_go_on}
 use Rattle.mcc_imported.proofs.WordsLemmas.{frames_fewer, one_words, same_fronts, words_go_on}
 use Rattle.mcc_imported.specs.Imports.{ImportsAreOne}
