@@ -56,7 +56,7 @@ class Module:
             if taken:
                 self.take(*taken.groups())
             elif line.strip() and not line.startswith("--"):
-                if not line[0].isspace():
+                if not line[0].isspace() and line[0] != "}":
                     current = HEAD.match(line)[1]
                 if current and current not in ("mod", "unfolding"):
                     self.definitions[current] += line

@@ -1,4 +1,4 @@
--- Believed in part: the program's answer stands on some of these definitions.
+-- Believed: the program's answer stands on these definitions.
 -- The captions of a service: when each is sent, shown and hidden, and in which window (CTA-708-E, caption windows and Delay).
 use Rattle.std.specs.Prelude.{ℕ, ◌-◌, ◌==◌, if◌then◌else◌, List, Option, Some, None, unwrap_or}
 use Rattle.std.specs.List.{filter_map}

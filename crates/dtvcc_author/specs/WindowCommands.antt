@@ -1,4 +1,4 @@
--- Believed in part: the program's answer stands on some of these definitions.
+-- Believed: the program's answer stands on these definitions.
 -- The commands that load a caption into its window (CTA-708-E, DefineWindow, SetWindowAttributes, and those of pens and text).
 use Rattle.std.specs.Prelude.{ℕ, Bool, true, false, if◌then◌else◌, List, [], ◌∷◌, ◌++◌, Option, Some, None, is_some, map, unwrap_or}
 use Rattle.std.specs.List.{flat_map, list_any}

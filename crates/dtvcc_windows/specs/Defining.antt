@@ -1,4 +1,4 @@
--- Believed in part: the program's answer stands on some of these definitions.
+-- Believed: the program's answer stands on these definitions.
 -- DefineWindow (CTA-708-E, DF0 to DF7).
 use Rattle.std.specs.Prelude.{ℕ, ◌-◌, ◌==◌, min, if◌then◌else◌, Option, Some, None}
 use Rattle.dtvcc_codes.specs.declared.windows.Definition.{Definition}

@@ -1,4 +1,4 @@
--- Believed in part: the program's answer stands on some of these definitions.
+-- Believed: the program's answer stands on these definitions.
 -- The predefined window styles and pen styles 1 to 7 (CTA-708-E, predefined window styles and predefined
 -- pen styles). Where the standard calls a value not applicable it is 0, which is this project's own choice.
 use Rattle.std.specs.Prelude.{ℕ, ◌-◌, Bool, true, false, List, [], ◌∷◌, slice_index_or}

@@ -1,4 +1,4 @@
--- Believed in part: the program's answer stands on some of these definitions.
+-- Believed: the program's answer stands on these definitions.
 -- Two lists of which all units are placed, and what their frames carry.
 use Rattle.std.specs.Prelude.{ℕ, Option, option_map}
 use Rattle.line21_codes.specs.declared.channels.Chan.{Chan}

@@ -1,4 +1,4 @@
--- Believed in part: the program's answer stands on some of these definitions.
+-- Believed: the program's answer stands on these definitions.
 -- A cue list that is placed: the units of each lane in their earliest placement, and the frames that this gives.
 use Rattle.std.specs.Prelude.{ℕ, ◌<◌, List, [], ◌∷◌, Option, unwrap_or}
 use Rattle.std.specs.List.{flat_map, zip}

@@ -1,4 +1,4 @@
--- Believed in part: the program's answer stands on some of these definitions.
+-- Believed: the program's answer stands on these definitions.
 -- The state of a data channel (CTA-608-E and 47 CFR 79.101: displayed and non-displayed memory,
 -- caption modes, text mode, base row, cursor).
 use Rattle.std.specs.Prelude.{ℕ, ◌&&◌, not, Bool, true, false}

@@ -1,4 +1,4 @@
--- Believed in part: the program's answer stands on some of these definitions.
+-- Believed: the program's answer stands on these definitions.
 -- What characters and editing codes do to the memory that a mode writes: pop-on captions are
 -- written into the hidden memory, paint-on and roll-up captions into the displayed one
 -- (CTA-608-E and 47 CFR 79.101). The pen at column 32 is this project's own choice throughout.

@@ -1,4 +1,4 @@
--- Believed in part: the program's answer stands on some of these definitions.
+-- Believed: the program's answer stands on these definitions.
 -- The slots of a field that two lists share: for the lane of the first list, which is placed first, and for that of the second.
 use Rattle.std.specs.Prelude.{ℕ, zero, suc, ◌&&◌, ◌||◌, not, is_some, Bool}
 use Rattle.field_lanes.specs.Timeline.{Timeline}

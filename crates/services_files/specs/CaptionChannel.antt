@@ -1,4 +1,4 @@
--- Believed in part: the program's answer stands on some of these definitions.
+-- Believed: the program's answer stands on these definitions.
 -- The layers above distribution packets (CTA-708-E, sections 5 and 6): they take frames that carry a caption channel. Of other frames they
 -- refuse a header of a service block that passes its packet, and nothing before it.
 use Rattle.std.specs.Prelude.{◌≡◌}

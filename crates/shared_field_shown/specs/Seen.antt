@@ -1,4 +1,4 @@
--- Believed in part: the program's answer stands on some of these definitions.
+-- Believed: the program's answer stands on these definitions.
 -- What a viewer sees of a field that two cue lists share: the second list's codes are those of data channel 2.
 use Rattle.std.specs.Prelude.{ℕ, true, List, Option, map, option_map}
 use Rattle.line21_codes.specs.declared.channels.Chan.{Chan}
