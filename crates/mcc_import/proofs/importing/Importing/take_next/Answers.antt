@@ -1,4 +1,4 @@
-use Rattle.std.proofs.Common.{◌≡◌, ◌∙◌, Err, List, ℕ, Ok, arith, rules, subst, sym}
+use Rattle.std.proofs.Common.{◌≡◌, Err, List, ℕ, Ok, arith, rules, subst, sym}
 use Rattle.std.proofs.lemmas.List.{length-take-le}
 use Rattle.text_output.specs.Gathered.{held_of}
 use Rattle.mcc_import.specs.Importing.{TakesBytes}
