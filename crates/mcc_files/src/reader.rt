@@ -135,7 +135,7 @@ impl MccReader {
         if !before.is_at_start() {
             return None;
         }
-        let (time, rest) = bytes.split_at_checked(11)?;
+        let (time, rest) = bytes.split_first_chunk::<11>()?;
         let [b'\t', rest @ ..] = rest else {
             return None;
         };
@@ -148,10 +148,7 @@ impl MccReader {
         self.two = before.two;
         self.count = before.count;
         self.last = Some(frame);
-        self.text.clear();
-        if self.text.try_extend_from_slice(time).is_err() {
-            unreachable!();
-        }
+        self.text = ArrayVec::from(*time);
         Some(bytes.len() - after.len())
     }
 
