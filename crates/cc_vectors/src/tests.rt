@@ -22,11 +22,8 @@ mod xds;
 
 #[test]
 fn words_that_are_no_command_are_usage(rt: HostRuntime) -> Result<(), Fail> {
-    let usage =
-        b"usage: ccsuite pairs|build|decode|show FRAME|verify CUES|insert CUES|import|export TIME|cues|load N|dual CUES|xds PACKETS|xds-show|conceal|convert|import-mcc|export-mcc RATE TIME\n";
-    let none: [&str; 0] = [];
-    let lists: [&[&str]; 39] = [
-        &none,
+    const OTHER_WORDS: &[&[&str]] = &[
+        &[],
         &["pairs", "x"],
         &["Pairs"],
         &[""],
@@ -66,7 +63,9 @@ fn words_that_are_no_command_are_usage(rt: HostRuntime) -> Result<(), Fail> {
         &["dual"],
         &["dual", "a", "b"],
     ];
-    for words in lists {
+    let usage =
+        b"usage: ccsuite pairs|build|decode|show FRAME|verify CUES|insert CUES|import|export TIME|cues|load N|dual CUES|xds PACKETS|xds-show|conceal|convert|import-mcc|export-mcc RATE TIME\n";
+    for &words in OTHER_WORDS {
         let ended = run_to_end(
             rt.alloc(),
             Given {
@@ -83,8 +82,7 @@ fn words_that_are_no_command_are_usage(rt: HostRuntime) -> Result<(), Fail> {
 
 #[test]
 fn verify_insert_dual_and_xds_name_a_side_file(rt: HostRuntime) -> Result<(), Fail> {
-    let alloc = rt.alloc();
-    for (line, path) in [
+    const LINES: &[(&str, Option<&str>)] = &[
         ("verify|list.csv", Some("list.csv")),
         ("insert|list.csv", Some("list.csv")),
         ("insert|", Some("")),
@@ -97,7 +95,9 @@ fn verify_insert_dual_and_xds_name_a_side_file(rt: HostRuntime) -> Result<(), Fa
         ("verify|a|b", None),
         ("show|3", None),
         ("decode", None),
-    ] {
+    ];
+    let alloc = rt.alloc();
+    for &(line, path) in LINES {
         let mut words = Vec::new(alloc);
         for word in line.split('|') {
             words.push(String::from_str(alloc, word)?)?;
@@ -132,7 +132,7 @@ fn a_line_that_is_not_put_whole_changes_no_status(rt: HostRuntime) -> Result<(),
 
 #[test]
 fn a_failing_take_ends_the_run_before_anything_is_put(rt: HostRuntime) -> Result<(), Fail> {
-    let takes: [(&[&str], usize, u64); 7] = [
+    const TAKES: &[(&[&str], usize, u64)] = &[
         (&["pairs"], usize::MAX, 0),
         (&["pairs"], usize::MAX, 1),
         (&["pairs"], 1, 0),
@@ -141,7 +141,7 @@ fn a_failing_take_ends_the_run_before_anything_is_put(rt: HostRuntime) -> Result
         (&["build"], usize::MAX, 0),
         (&["build"], 1, 20),
     ];
-    for (words, piece, take) in takes {
+    for &(words, piece, take) in TAKES {
         let failing = [take];
         let ended = run_to_end(
             rt.alloc(),

@@ -80,76 +80,76 @@ fn windows_of(alloc: Global, share: &str, windows: &[&str]) -> Result<Vec<u8>, F
 #[test]
 fn windows_of_a_service_keep_its_rules(rt: HostRuntime) -> Result<(), Fail> {
     type Row<'a> = (&'a str, &'a [&'a str], Option<(Why, u32, Option<u32>)>);
-    let share = "share,1,31\n";
-    let rows: [Row; 21] = [
-        (share, &["0,0,60,120,0"], None),
+    const SHARE: &str = "share,1,31\n";
+    const LISTS: &[Row] = &[
+        (SHARE, &["0,0,60,120,0"], None),
         ("", &["0,0,60,120,0"], Some((Why::Share, 1, None))),
         (
             "share,2,31\n",
             &["0,0,60,120,0"],
             Some((Why::Share, 1, None)),
         ),
-        (share, &["0,60,60,120,0"], Some((Why::Order, 1, None))),
-        (share, &["0,29,60,120,10"], None),
-        (share, &["0,30,60,120,10"], Some((Why::Order, 1, None))),
+        (SHARE, &["0,60,60,120,0"], Some((Why::Order, 1, None))),
+        (SHARE, &["0,29,60,120,10"], None),
+        (SHARE, &["0,30,60,120,10"], Some((Why::Order, 1, None))),
         (
-            share,
+            SHARE,
             &["0,10,60,120,0", "1,9,70,130,0"],
             Some((Why::Order, 2, Some(1))),
         ),
-        (share, &["0,10,60,120,0", "1,10,70,130,0"], None),
+        (SHARE, &["0,10,60,120,0", "1,10,70,130,0"], None),
         (
-            share,
+            SHARE,
             &["0,0,60,120,0", "0,119,160,200,0"],
             Some((Why::WindowBusy, 2, Some(1))),
         ),
-        (share, &["0,0,60,120,0", "0,120,160,200,0"], None),
+        (SHARE, &["0,0,60,120,0", "0,120,160,200,0"], None),
         (
-            share,
+            SHARE,
             &["0,0,60,120,0", "1,0,70,80,0", "0,100,160,200,0"],
             Some((Why::WindowBusy, 3, Some(1))),
         ),
         (
-            share,
+            SHARE,
             &["0,0,60,120,10", "1,0,45,200,0"],
             Some((Why::DelayCovers, 2, Some(1))),
         ),
         (
-            share,
+            SHARE,
             &["0,0,45,200,0", "1,0,60,120,10"],
             Some((Why::DelayCovers, 2, Some(1))),
         ),
         (
-            share,
+            SHARE,
             &["0,0,60,120,10", "1,0,60,200,10"],
             Some((Why::DelayCovers, 2, Some(1))),
         ),
-        (share, &["0,0,60,120,10", "1,0,30,60,0"], None),
+        (SHARE, &["0,0,60,120,10", "1,0,30,60,0"], None),
         (
-            share,
+            SHARE,
             &["0,0,60,200,10", "1,0,10,45,0"],
             Some((Why::DelayCovers, 2, Some(1))),
         ),
         // The delay runs from 40 to 70: the nearest cue that has an event in it is named.
         (
-            share,
+            SHARE,
             &["0,0,50,100,0", "1,0,55,110,0", "2,0,70,120,10"],
             Some((Why::DelayCovers, 3, Some(2))),
         ),
         (
-            share,
+            SHARE,
             &["0,0,50,100,0", "1,0,70,110,0", "2,0,70,120,10"],
             Some((Why::DelayCovers, 3, Some(1))),
         ),
         (
-            share,
+            SHARE,
             &["0,0,10,30,0", "0,30,50,100,0", "0,99,110,120,0"],
             Some((Why::WindowBusy, 3, Some(2))),
         ),
-        (share, &["0,0,60,299,0"], None),
-        (share, &["0,0,60,300,0"], Some((Why::PastEnd, 1, None))),
+        (SHARE, &["0,0,60,299,0"], None),
+        (SHARE, &["0,0,60,300,0"], Some((Why::PastEnd, 1, None))),
     ];
-    for (share, windows, fault) in rows {
+    for &(share, windows, fault) in LISTS {
         let list = windows_of(rt.alloc(), share, windows)?;
         let given = Given {
             words: &["cues"],

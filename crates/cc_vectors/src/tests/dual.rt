@@ -46,8 +46,7 @@ const WITH_A_WINDOW: &[u8] =
 
 #[test]
 fn each_list_is_seen_on_its_channels(rt: HostRuntime) -> Result<(), Fail> {
-    let alloc = rt.alloc();
-    let rows: [(&[u8], &[u8], &str); 3] = [
+    const LISTS: &[(&[u8], &[u8], &str)] = &[
         (
             HI,
             b"ccsuite,1,29.97,30\npop,CC1,0,18,24\nrun,15,0,white,OK\n",
@@ -64,7 +63,8 @@ fn each_list_is_seen_on_its_channels(rt: HostRuntime) -> Result<(), Fail> {
             "frame 7\nCC1 1\n15 0 white HI\nframe 10\nS1 1\nW0 at 0 60 50 0 size 1 10 lock 1 1 pri 0 attr 0 0 3 0 0 0 0 fill 0000 border 0000 runs 1\n0 0 1 0 0 1 0 0 0 0222 0000 000 HELLO\nframe 18\nCC2 1\n15 0 white OK\nframe 20\nCC1 0\nframe 22\nS1 0\nframe 24\nCC2 0\nframes 30\n",
         ),
     ];
-    for (first, second, due) in rows {
+    let alloc = rt.alloc();
+    for &(first, second, due) in LISTS {
         let ended = run_to_end(alloc, dual_of(first, second))?;
         assert_eq!(rt; ended.status, Status::Ok);
         let seen = run_to_end(alloc, decode_of(ended.out.bytes()))?;
