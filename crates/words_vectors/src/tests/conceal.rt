@@ -380,17 +380,18 @@ fn stopped(
 
 #[test]
 fn a_run_that_stops_leaves_the_frames_before_it(rt: HostRuntime) -> Result<(), Fail> {
-    let alloc = rt.alloc();
-    let words = without(alloc, &built_words(alloc, HI)?, 12, 13)?;
     // A frame has 160 bytes, and the thirteenth one that comes is frame 13.
-    for (take, due) in [
+    const TAKES: &[(u64, &str)] = &[
         (0, ""),
         (1_279, ""),
         (1_280, SHOWN),
         (2_079, SHOWN),
         (2_080, BOTH),
         (4_640, BOTH),
-    ] {
+    ];
+    let alloc = rt.alloc();
+    let words = without(alloc, &built_words(alloc, HI)?, 12, 13)?;
+    for &(take, due) in TAKES {
         let (status, out) = stopped(alloc, &words, &[take], &[])?;
         assert_eq!(rt; status, Status::ReadFault, "take {take}");
         assert_eq!(rt; out.as_str(), due, "take {take}");

@@ -76,9 +76,7 @@ fn a_failing_take_leaves_the_changes_of_the_frames_before_it(rt: HostRuntime) ->
 
 #[test]
 fn a_failing_put_leaves_the_text_before_it(rt: HostRuntime) -> Result<(), Fail> {
-    let alloc = rt.alloc();
-    let words = built_words(alloc, HI)?;
-    let puts: [(usize, u64, &[u8]); 6] = [
+    const PUTS: &[(usize, u64, &[u8])] = &[
         (usize::MAX, 0, b""),
         (usize::MAX, 1, BOTH),
         (1, 0, b""),
@@ -90,7 +88,9 @@ fn a_failing_put_leaves_the_text_before_it(rt: HostRuntime) -> Result<(), Fail> 
             b"frame 7\nCC1 1\n15 0 white HI\nframe 20\nCC1 0\nframes 30",
         ),
     ];
-    for (piece, put, due) in puts {
+    let alloc = rt.alloc();
+    let words = built_words(alloc, HI)?;
+    for &(piece, put, due) in PUTS {
         let failing = [put];
         let ended = run_to_end(
             alloc,

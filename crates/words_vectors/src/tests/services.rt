@@ -262,14 +262,15 @@ fn a_failing_take_leaves_the_windows_of_the_frames_before_it(rt: HostRuntime) ->
 
 #[test]
 fn a_window_is_shown_between_its_delay_and_its_deletion(rt: HostRuntime) -> Result<(), Fail> {
-    let alloc = rt.alloc();
-    let words = hello(alloc)?;
-    for (frame, seen) in [
+    const FRAMES: &[(&str, &str)] = &[
         ("59", ""),
         ("60", HELLO_SHOWN),
         ("199", HELLO_SHOWN),
         ("200", ""),
-    ] {
+    ];
+    let alloc = rt.alloc();
+    let words = hello(alloc)?;
+    for &(frame, seen) in FRAMES {
         let command = ["show", frame];
         let ended = run_to_end(
             alloc,

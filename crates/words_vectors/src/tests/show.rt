@@ -25,16 +25,16 @@ fn shown(alloc: Global, frame: &str, text: &[u8]) -> Result<Ended, AllocError> {
 
 #[test]
 fn a_frame_is_shown_with_the_screens_that_have_something(rt: HostRuntime) -> Result<(), Fail> {
-    let alloc = rt.alloc();
-    let words = built_words(alloc, HI)?;
-    let frames: [(&str, &[u8]); 5] = [
+    const FRAMES: &[(&str, &[u8])] = &[
         ("0", b"frame 0\n"),
         ("6", b"frame 6\n"),
         ("7", SHOWN),
         ("19", b"frame 19\nCC1 1\n15 0 white HI\n"),
         ("29", b"frame 29\n"),
     ];
-    for (frame, due) in frames {
+    let alloc = rt.alloc();
+    let words = built_words(alloc, HI)?;
+    for &(frame, due) in FRAMES {
         let ended = shown(alloc, frame, &words)?;
         assert_eq!(rt; ended.status, Status::Ok, "frame {frame}");
         assert_eq!(rt; ended.out.bytes(), due, "frame {frame}");

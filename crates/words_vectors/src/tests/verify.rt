@@ -137,9 +137,7 @@ fn what_is_built_shows_its_list(rt: HostRuntime) -> Result<(), Fail> {
 /// HI is shown from frame 7 up to frame 20.
 #[test]
 fn the_first_frame_that_shows_something_else_is_told(rt: HostRuntime) -> Result<(), Fail> {
-    let alloc = rt.alloc();
-    let words = built_words(alloc, HI)?;
-    let rows: [(&[u8], u32, &[u8]); 5] = [
+    const LISTS: &[(&[u8], u32, &[u8])] = &[
         (
             b"ccsuite,1,29.97,30\npop,CC1,0,8,20\nrun,15,0,white,HI\n",
             7,
@@ -166,7 +164,9 @@ fn the_first_frame_that_shows_something_else_is_told(rt: HostRuntime) -> Result<
             b"differs at frame 7: GridDiffers CC1\n",
         ),
     ];
-    for (list, frame, line) in rows {
+    let alloc = rt.alloc();
+    let words = built_words(alloc, HI)?;
+    for &(list, frame, line) in LISTS {
         let ended = run_to_end(alloc, verify_of(list, &words))?;
         let due = found(frame, Kind45::GridDiffers(Which::Chan(Chan::Cc1)));
         assert!(rt; ends_in(&ended, due, line), "frame {frame}");
@@ -238,9 +238,7 @@ fn of_several_findings_the_first_is_told(rt: HostRuntime) -> Result<(), Fail> {
 
 #[test]
 fn too_few_frames_are_short_and_more_are_not(rt: HostRuntime) -> Result<(), Fail> {
-    let alloc = rt.alloc();
-    let words = file_of(alloc, &THREE_FRAMES)?;
-    let lists: [(&[u8], Status, &[u8]); 4] = [
+    const LISTS: &[(&[u8], Status, &[u8])] = &[
         (
             b"ccsuite,1,29.97,4\n",
             Status::Short(3),
@@ -250,7 +248,9 @@ fn too_few_frames_are_short_and_more_are_not(rt: HostRuntime) -> Result<(), Fail
         (b"ccsuite,1,29.97,2\n", Status::Ok, b""),
         (b"ccsuite,1,29.97,1\n", Status::Ok, b""),
     ];
-    for (list, status, line) in lists {
+    let alloc = rt.alloc();
+    let words = file_of(alloc, &THREE_FRAMES)?;
+    for &(list, status, line) in LISTS {
         let ended = run_to_end(alloc, verify_of(list, &words))?;
         assert!(rt; ends_in(&ended, status, line), "{status:?}");
     }

@@ -79,8 +79,7 @@ const EDM: Triplets = &[[0xFD, 0x15, 0x2C]];
 /// What `xds-show` puts of frames, in pieces of any size.
 #[test]
 fn packets_are_shown_in_the_frames_in_which_they_end(rt: HostRuntime) -> Result<(), Fail> {
-    let alloc = rt.alloc();
-    let rows: [(&[Triplets], &[u8]); 4] = [
+    const FRAMES: &[(&[Triplets], &[u8])] = &[
         (&[], b"frames 0\n"),
         (
             &[
@@ -106,7 +105,8 @@ fn packets_are_shown_in_the_frames_in_which_they_end(rt: HostRuntime) -> Result<
             b"frames 19\n",
         ),
     ];
-    for (frames, due) in rows {
+    let alloc = rt.alloc();
+    for &(frames, due) in FRAMES {
         let words = words_of_frames(alloc, frames)?;
         for piece in [1, 79, usize::MAX] {
             let ended = run_to_end(
@@ -231,17 +231,18 @@ const A_AND_B_LINES: &[u8] = b"frame 2 class 1 type 1 A\nframe 5 class 1 type 1 
 
 #[test]
 fn a_run_that_stops_leaves_the_packets_before_it(rt: HostRuntime) -> Result<(), Fail> {
-    let alloc = rt.alloc();
-    let words = words_of_frames(alloc, &A_AND_B)?;
-    // A frame has 23 words: three of the flag, three before its 16 bytes, these, and the checksum.
-    assert_eq!(rt; words.len(), 276);
-    for (take, due) in [
-        (0, b"".as_slice()),
+    const TAKES: &[(u64, &[u8])] = &[
+        (0, b""),
         (137, b""),
         (138, A_LINE),
         (275, A_LINE),
         (276, A_AND_B_LINES),
-    ] {
+    ];
+    let alloc = rt.alloc();
+    let words = words_of_frames(alloc, &A_AND_B)?;
+    // A frame has 23 words: three of the flag, three before its 16 bytes, these, and the checksum.
+    assert_eq!(rt; words.len(), 276);
+    for &(take, due) in TAKES {
         let failing_takes = [take];
         let ended = run_to_end(
             alloc,
