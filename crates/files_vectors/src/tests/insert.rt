@@ -93,8 +93,7 @@ fn captions_stand_in_the_place_of_none_and_of_others(rt: HostRuntime) -> Result<
 /// Its 62 bytes are more, and those of the old ones fewer.
 #[test]
 fn all_other_sections_stay(rt: HostRuntime) -> Result<(), Fail> {
-    let alloc = rt.alloc();
-    let rows: [(u8, &[&[u8]], u8, &[&[u8]]); 7] = [
+    const SECTIONS: &[(u8, &[&[u8]], u8, &[&[u8]])] = &[
         (11, &[], 73, &[NEW]),
         (16, &[TIME], 78, &[TIME, NEW]),
         (20, &[SERVICES], 82, &[NEW, SERVICES]),
@@ -108,7 +107,8 @@ fn all_other_sections_stay(rt: HostRuntime) -> Result<(), Fail> {
         (35, &[SERVICES, OLD, NONE, TIME], 87, &[SERVICES, NEW, TIME]),
         (29, &[FUTURE, NONE, OLD, TIME], 81, &[FUTURE, NEW, TIME]),
     ];
-    for (size, old, grown, new) in rows {
+    let alloc = rt.alloc();
+    for &(size, old, grown, new) in SECTIONS {
         let words = frame_with(alloc, size, 0x01, old)?;
         let due = frame_with(alloc, grown, 0x43, new)?;
         let ended = run_to_end(alloc, insert_of(b"ccsuite,1,29.97,1\n", &words))?;
@@ -137,9 +137,7 @@ fn a_packet_of_more_than_255_bytes_is_the_limit(rt: HostRuntime) -> Result<(), F
 
 #[test]
 fn too_few_frames_are_short_and_more_are_not(rt: HostRuntime) -> Result<(), Fail> {
-    let alloc = rt.alloc();
-    let words = file_of(alloc, &THREE_FRAMES)?;
-    let lists: [(&[u8], Status, &[u8]); 3] = [
+    const LISTS: &[(&[u8], Status, &[u8])] = &[
         (
             b"ccsuite,1,29.97,4\n",
             Status::Short(3),
@@ -148,7 +146,9 @@ fn too_few_frames_are_short_and_more_are_not(rt: HostRuntime) -> Result<(), Fail
         (b"ccsuite,1,29.97,3\n", Status::Ok, b""),
         (b"ccsuite,1,29.97,1\n", Status::Ok, b""),
     ];
-    for (list, status, line) in lists {
+    let alloc = rt.alloc();
+    let words = file_of(alloc, &THREE_FRAMES)?;
+    for &(list, status, line) in LISTS {
         let ended = run_to_end(alloc, insert_of(list, &words))?;
         assert_eq!(rt; ended.status, status);
         assert_eq!(rt; ended.out.bytes(), words.as_slice());
@@ -226,17 +226,17 @@ fn words_that_stop_a_run_leave_what_was_before_them(rt: HostRuntime) -> Result<(
 /// A take of one byte ends one packet at most, so each packet is one put, and the packet of another kind is the second.
 #[test]
 fn faults_leave_the_packets_before_them(rt: HostRuntime) -> Result<(), Fail> {
-    let alloc = rt.alloc();
-    let words = file_of(alloc, &THREE_FRAMES)?;
-    let given = insert_of(b"ccsuite,1,29.97,3\n", &words);
-    let rows: [(&[u64], &[u64], &[u64], Status, usize, &[u8]); 5] = [
+    const FAULTS: &[(&[u64], &[u64], &[u64], Status, usize, &[u8])] = &[
         (&[0], &[], &[], Status::ReadFault, 0, b"read fault\n"),
         (&[], &[0], &[], Status::ReadFault, 0, b"read fault\n"),
         (&[], &[176], &[], Status::ReadFault, 176, b"read fault\n"),
         (&[], &[], &[0], Status::WriteFault, 0, b"write fault\n"),
         (&[], &[], &[1], Status::WriteFault, 160, b"write fault\n"),
     ];
-    for (failing_side, failing_takes, failing_puts, status, put, line) in rows {
+    let alloc = rt.alloc();
+    let words = file_of(alloc, &THREE_FRAMES)?;
+    let given = insert_of(b"ccsuite,1,29.97,3\n", &words);
+    for &(failing_side, failing_takes, failing_puts, status, put, line) in FAULTS {
         let ended = run_to_end(
             alloc,
             Given {
@@ -299,17 +299,17 @@ fn repeated(alloc: Global, frame: &[u8], count: u32) -> Result<Vec<u8>, Fail> {
 /// many again: 65,440 bytes, behind which the next packet doesn't fit in the 65,536 that are gathered.
 #[test]
 fn more_than_is_gathered_is_put_packet_behind_packet(rt: HostRuntime) -> Result<(), Fail> {
-    let alloc = rt.alloc();
-    let words = repeated(alloc, &frame_with(alloc, 11, 0x01, &[])?, 910)?;
-    let due = repeated(alloc, &frame_with(alloc, 73, 0x43, &[NEW])?, 910)?;
-    let rows: [(&[u64], Status, usize); 5] = [
+    const PUTS: &[(&[u64], Status, usize)] = &[
         (&[], Status::Ok, 145_600),
         (&[0], Status::WriteFault, 0),
         (&[1], Status::WriteFault, 65_440),
         (&[2], Status::WriteFault, 130_880),
         (&[3], Status::Ok, 145_600),
     ];
-    for (failing_puts, status, put) in rows {
+    let alloc = rt.alloc();
+    let words = repeated(alloc, &frame_with(alloc, 11, 0x01, &[])?, 910)?;
+    let due = repeated(alloc, &frame_with(alloc, 73, 0x43, &[NEW])?, 910)?;
+    for &(failing_puts, status, put) in PUTS {
         let ended = run_to_end(
             alloc,
             Given {

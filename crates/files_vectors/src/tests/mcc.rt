@@ -161,8 +161,7 @@ fn other_packets_stand_at_the_frame_of_the_captions_before_them(
 /// time code, which with drop frame isn't the next number.
 #[test]
 fn each_count_counts_its_rates(rt: HostRuntime) -> Result<(), Fail> {
-    let alloc = rt.alloc();
-    let rows: [(&str, &[u8], u8, &str, [&str; 2]); 7] = [
+    const RATES: &[(&str, &[u8], u8, &str, [&str; 2])] = &[
         (
             "24",
             &[1, 2],
@@ -201,7 +200,8 @@ fn each_count_counts_its_rates(rt: HostRuntime) -> Result<(), Fail> {
             ["00:00:59:59", "00:01:00:04"],
         ),
     ];
-    for (rate, codes, expected, time, [first, second]) in rows {
+    let alloc = rt.alloc();
+    for &(rate, codes, expected, time, [first, second]) in RATES {
         for code in 1..9u8 {
             let payload = empty_payload(code);
             let ended = exported(alloc, rate, time, &empty_frames(alloc, &[code, code])?, 30)?;
@@ -238,8 +238,7 @@ fn wrong_rate(expected: u8, seen: u8) -> Kind45 {
 /// The second or third frame has a rate that isn't the first one's, or that the count doesn't count: then the count's is expected.
 #[test]
 fn another_rate_than_that_of_the_first_frame_is_found(rt: HostRuntime) -> Result<(), Fail> {
-    let alloc = rt.alloc();
-    let rows: [(&str, &[u8], u32, u8, u8, &[u8]); 7] = [
+    const FRAMES: &[(&str, &[u8], u32, u8, u8, &[u8])] = &[
         (
             "24",
             &[2, 1],
@@ -297,7 +296,8 @@ fn another_rate_than_that_of_the_first_frame_is_found(rt: HostRuntime) -> Result
             b"differs at frame 1: WrongRate expected 7 seen 8\n",
         ),
     ];
-    for (rate, codes, frame, expected, seen, line) in rows {
+    let alloc = rt.alloc();
+    for &(rate, codes, frame, expected, seen, line) in FRAMES {
         let time = match rate {
             "60DF" => "10:00:00;00",
             _ => "10:00:00:00",
@@ -365,8 +365,7 @@ fn words_that_a_file_cannot_carry_are_found(rt: HostRuntime) -> Result<(), Fail>
 /// The last frame of the day has a line, and so have other packets behind it, but no packet of captions. A wrong rate is found before that.
 #[test]
 fn captions_past_the_day_end_an_export(rt: HostRuntime) -> Result<(), Fail> {
-    let alloc = rt.alloc();
-    let rows: [(&str, &str, u8, &str); 7] = [
+    const LAST_TIMES: &[(&str, &str, u8, &str)] = &[
         ("24", "23:59:59:23", 2, "23:59:59:23"),
         ("25", "23:59:59:24", 3, "23:59:59:24"),
         ("30", "23:59:59:29", 5, "23:59:59:29"),
@@ -375,8 +374,9 @@ fn captions_past_the_day_end_an_export(rt: HostRuntime) -> Result<(), Fail> {
         ("60", "23:59:59:59", 8, "23:59:59:59"),
         ("60DF", "23:59:59;59", 7, "23:59:59:59"),
     ];
+    let alloc = rt.alloc();
     let other = bytes_of(alloc, &FOREIGN)?;
-    for (rate, time, code, last) in rows {
+    for &(rate, time, code, last) in LAST_TIMES {
         let payload = empty_payload(code);
         let mut words = empty_frames(alloc, &[code])?;
         words.extend_from_slice(&other)?;
@@ -483,7 +483,7 @@ fn faults_of_an_export_leave_the_lines_before_them(rt: HostRuntime) -> Result<()
 /// Rates and time codes that no count has, or with a mark that isn't the count's.
 #[test]
 fn other_words_are_usage(rt: HostRuntime) -> Result<(), Fail> {
-    let lists: [&[&str]; 14] = [
+    const OTHER_WORDS: &[&[&str]] = &[
         &["export-mcc"],
         &["export-mcc", "30"],
         &["export-mcc", "30", "01:00:00:00", "x"],
@@ -499,7 +499,7 @@ fn other_words_are_usage(rt: HostRuntime) -> Result<(), Fail> {
         &["export-mcc", "60", "24:00:00:00"],
         &["export-mcc", "", "00:00:00:00"],
     ];
-    for words in lists {
+    for &words in OTHER_WORDS {
         let ended = run_to_end(
             rt.alloc(),
             Given {

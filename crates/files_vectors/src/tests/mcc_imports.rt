@@ -193,7 +193,7 @@ fn missing_frames_of_drop_frame_are_put(rt: HostRuntime) -> Result<(), Fail> {
 /// Files without a packet, whatever their lines.
 #[test]
 fn files_without_packets_are_imported(rt: HostRuntime) -> Result<(), Fail> {
-    let texts: [&[u8]; 9] = [
+    const TEXTS: &[&[u8]] = &[
         b"File Format=MacCaption_MCC V1.0",
         b"File Format=MacCaption_MCC V2.0",
         b"File Format=MacCaption_MCC V1.0  \r\n",
@@ -204,7 +204,7 @@ fn files_without_packets_are_imported(rt: HostRuntime) -> Result<(), Fail> {
         b"File Format=MacCaption_MCC V1.0\r\nTime Code Rate=24",
         b"File Format=MacCaption_MCC V2.0\nTime Code Rate=60DF  \n//\xFF\x00 =\n",
     ];
-    for text in texts {
+    for &text in TEXTS {
         puts(&rt, rt.alloc(), text, b"")?;
     }
     Ok(())
@@ -213,8 +213,7 @@ fn files_without_packets_are_imported(rt: HostRuntime) -> Result<(), Fail> {
 /// Files that all have one packet alone, in whatever form.
 #[test]
 fn lines_have_many_forms(rt: HostRuntime) -> Result<(), Fail> {
-    let alloc = rt.alloc();
-    let texts: [&[u8]; 23] = [
+    const TEXTS: &[&[u8]] = &[
         b"File Format=MacCaption_MCC V1.0\nTime Code Rate=30\n00:00:00:00\tT0BS0B4F43ZZ74ZZF06D\n",
         b"File Format=MacCaption_MCC V1.0\nTime Code Rate=30\n00:00:00:00\tT0BS0B4F43ZZ74ZZF06D",
         b"File Format=MacCaption_MCC V1.0\r\nTime Code Rate=30\r\n00:00:00:00\tT0BS0B4F43ZZ74ZZF06D\r\n",
@@ -239,8 +238,9 @@ fn lines_have_many_forms(rt: HostRuntime) -> Result<(), Fail> {
         b"File Format=MacCaption_MCC V2.0\nTime Code Rate=24\n23:59:59:23.1,999\tT0BS0B4F43ZZ74ZZF06D\n",
         b"File Format=MacCaption_MCC V2.0\nTime Code Rate=25\n23:59:59:24\tT0BS0B4F43ZZ74ZZF06D\n",
     ];
+    let alloc = rt.alloc();
     let words = words_of(alloc, &[Own(0)])?;
-    for text in texts {
+    for &text in TEXTS {
         puts(&rt, alloc, text, &words)?;
     }
     Ok(())
@@ -250,8 +250,7 @@ fn lines_have_many_forms(rt: HostRuntime) -> Result<(), Fail> {
 /// odd number of ones is 100 more, of another 200 more; the last word has the low nine bits of the sum of those of the others, from DID on.
 #[test]
 fn letters_stand_for_their_bytes_at_every_place(rt: HostRuntime) -> Result<(), Fail> {
-    let alloc = rt.alloc();
-    let rows: [(&str, &[u16]); 16] = [
+    const PAYLOADS: &[(&str, &[u16])] = &[
         // 41 05 00 46, in digits, and with Z as the count
         ("41050046", &[0x241, 0x205, 0x200, 0x246]),
         ("4105Z46", &[0x241, 0x205, 0x200, 0x246]),
@@ -301,7 +300,8 @@ fn letters_stand_for_their_bytes_at_every_place(rt: HostRuntime) -> Result<(), F
             ],
         ),
     ];
-    for (payload, words) in rows {
+    let alloc = rt.alloc();
+    for &(payload, words) in PAYLOADS {
         let text = joined(alloc, &[HEAD, b"00:00:00:00\t", payload.as_bytes(), b"\n"])?;
         let mut due = bytes_of(alloc, &[0x000, 0x3FF, 0x3FF])?;
         due.extend_from_slice(&bytes_of(alloc, words)?)?;
@@ -314,8 +314,7 @@ fn letters_stand_for_their_bytes_at_every_place(rt: HostRuntime) -> Result<(), F
 /// hex: of DID, SDID, the count, and so often 0FA.
 #[test]
 fn letters_count_up(rt: HostRuntime) -> Result<(), Fail> {
-    let alloc = rt.alloc();
-    let rows: [(&str, u8, u16); 7] = [
+    const PAYLOADS: &[(&str, u8, u16)] = &[
         // 180 + 101 + 003 + 0FA = 37E, modulo 200 (512) 17E
         ("800103G7E", 1, 0x17E),
         // 180 + 101 + 009 + 2EE = 578
@@ -331,7 +330,8 @@ fn letters_count_up(rt: HostRuntime) -> Result<(), Fail> {
         // 180 + 101 + 018 + 7D0 = A69
         ("800118N69", 8, 0x269),
     ];
-    for (payload, many, sum) in rows {
+    let alloc = rt.alloc();
+    for &(payload, many, sum) in PAYLOADS {
         let text = joined(alloc, &[HEAD, b"00:00:00:00\t", payload.as_bytes(), b"\n"])?;
         let count = u16::from(3 * many.min(9));
         let first = if count.count_ones() % 2 == 1 {
@@ -352,8 +352,7 @@ fn letters_count_up(rt: HostRuntime) -> Result<(), Fail> {
 /// What is put of packets at their frames: frames without captions where some are missing, and counters raised by them.
 #[test]
 fn frames_are_put_where_some_are_missing(rt: HostRuntime) -> Result<(), Fail> {
-    let alloc = rt.alloc();
-    let rows: [(&str, &[(&str, &str)], &[Piece]); 22] = [
+    const FILES: &[(&str, &[(&str, &str)], &[Piece])] = &[
         // none is missing: frame by frame, both at one frame, with any counters, over minutes with drop frame and without
         (
             "30",
@@ -510,7 +509,8 @@ fn frames_are_put_where_some_are_missing(rt: HostRuntime) -> Result<(), Fail> {
             &[Own(0), Foreign, Own(1), Foreign, Foreign],
         ),
     ];
-    for (rate, lines, pieces) in rows {
+    let alloc = rt.alloc();
+    for &(rate, lines, pieces) in FILES {
         let words = words_of(alloc, pieces)?;
         puts(&rt, alloc, &bare_file_of(alloc, rate, lines)?, &words)?;
     }
@@ -522,8 +522,7 @@ fn frames_are_put_where_some_are_missing(rt: HostRuntime) -> Result<(), Fail> {
 /// the sum is 30 less sixteen times the code.
 #[test]
 fn missing_frames_have_the_rate_before_them(rt: HostRuntime) -> Result<(), Fail> {
-    let alloc = rt.alloc();
-    let rows: [(&str, u8, &str); 8] = [
+    const PAYLOADS: &[(&str, u8, &str)] = &[
         ("24", 1, "T0BS0B1F43ZZ74ZZ206D"),
         ("24", 2, "T0BS0B2F43ZZ74ZZ106D"),
         ("25", 3, "T0BS0B3F43ZZ74ZZZ6D"),
@@ -533,7 +532,8 @@ fn missing_frames_have_the_rate_before_them(rt: HostRuntime) -> Result<(), Fail>
         ("60", 7, "T0BS0B7F43ZZ74ZZC06D"),
         ("60", 8, "T0BS0B8F43ZZ74ZZB06D"),
     ];
-    for (rate, code, payload) in rows {
+    let alloc = rt.alloc();
+    for &(rate, code, payload) in PAYLOADS {
         let lines = [("00:00:00:00", payload), ("00:00:00:03", payload)];
         let mut words = own_words(alloc, code, 0)?;
         words.extend_from_slice(&missing_words(alloc, code, 1)?)?;

@@ -30,8 +30,7 @@ fn refuses(
 /// Where a payload offends, and for what: the lines behind the head, the place and the reason. The payload begins at place 62.
 #[test]
 fn payloads_offend_at_their_items(rt: HostRuntime) -> Result<(), Fail> {
-    let alloc = rt.alloc();
-    let rows: [(&[u8], u64, Why); 46] = [
+    const LINES: &[(&[u8], u64, Why)] = &[
         // a digit too few, before a line end, the file's end, a letter and a space
         (b"00:00:00:00\tT49S4\n", 67, Why::MccSyntax),
         (b"00:00:00:00\tT49S4\r\n", 67, Why::MccSyntax),
@@ -88,7 +87,8 @@ fn payloads_offend_at_their_items(rt: HostRuntime) -> Result<(), Fail> {
         (b"00:00:00:00\tT0BS0B4F43ZZ74ZZF06D /", 83, Why::MccSyntax),
         (b"00:00:00:00\tT0BS0B4F43ZZ74ZZF06D6", 82, Why::MccSyntax),
     ];
-    for (lines, place, why) in rows {
+    let alloc = rt.alloc();
+    for &(lines, place, why) in LINES {
         refuses(&rt, alloc, &joined(alloc, &[HEAD, lines])?, place, why, b"")?;
     }
     Ok(())
@@ -98,8 +98,7 @@ fn payloads_offend_at_their_items(rt: HostRuntime) -> Result<(), Fail> {
 /// where any of its bytes does.
 #[test]
 fn words_offend_at_their_items(rt: HostRuntime) -> Result<(), Fail> {
-    let alloc = rt.alloc();
-    let rows: [(&[u8], u64, Why); 22] = [
+    const LINES: &[(&[u8], u64, Why)] = &[
         // counts that no distribution packet has
         (b"00:00:00:00\tT0C", 63, Why::Length),
         (b"00:00:00:00\tT0A\n", 63, Why::Length),
@@ -129,7 +128,8 @@ fn words_offend_at_their_items(rt: HostRuntime) -> Result<(), Fail> {
         // and one byte less is read on
         (b"00:00:00:00\tT49S494F43ZZ72F4QRFF0222", 86, Why::MccSyntax),
     ];
-    for (lines, place, why) in rows {
+    let alloc = rt.alloc();
+    for &(lines, place, why) in LINES {
         refuses(&rt, alloc, &joined(alloc, &[HEAD, lines])?, place, why, b"")?;
     }
     Ok(())
@@ -139,8 +139,7 @@ fn words_offend_at_their_items(rt: HostRuntime) -> Result<(), Fail> {
 /// neither. The line of a second packet begins at place 83, and its payload at 95.
 #[test]
 fn words_offend_before_what_follows(rt: HostRuntime) -> Result<(), Fail> {
-    let alloc = rt.alloc();
-    let rows: [(&[u8], u64, Why, bool); 12] = [
+    const LINES: &[(&[u8], u64, Why, bool)] = &[
         // the text offends behind: no item, and a checksum byte that the other bytes don't have
         (b"00:00:00:00\tT0B97x\n", 65, Why::Identifier, false),
         (b"00:00:00:00\tT0BS0CV\n", 66, Why::Length, false),
@@ -194,8 +193,9 @@ fn words_offend_before_what_follows(rt: HostRuntime) -> Result<(), Fail> {
             true,
         ),
     ];
+    let alloc = rt.alloc();
     let one = words_of(alloc, &[Own(0)])?;
-    for (lines, place, why, behind) in rows {
+    for &(lines, place, why, behind) in LINES {
         let words: &[u8] = if behind { &one } else { b"" };
         let text = joined(alloc, &[HEAD, lines])?;
         refuses(&rt, alloc, &text, place, why, words)?;
@@ -206,8 +206,7 @@ fn words_offend_before_what_follows(rt: HostRuntime) -> Result<(), Fail> {
 /// Where the first line and the lines before the packets offend.
 #[test]
 fn lines_offend_where_none_goes_on(rt: HostRuntime) -> Result<(), Fail> {
-    let alloc = rt.alloc();
-    let rows: [(&[u8], u64, Why); 41] = [
+    const TEXTS: &[(&[u8], u64, Why)] = &[
         (b"", 0, Why::Header),
         (b"F", 1, Why::Header),
         (b"File Format=MacCaption_MCC V", 28, Why::Header),
@@ -333,7 +332,8 @@ fn lines_offend_where_none_goes_on(rt: HostRuntime) -> Result<(), Fail> {
             Why::MccSyntax,
         ),
     ];
-    for (text, place, why) in rows {
+    let alloc = rt.alloc();
+    for &(text, place, why) in TEXTS {
         refuses(&rt, alloc, text, place, why, b"")?;
     }
     Ok(())
@@ -342,8 +342,7 @@ fn lines_offend_where_none_goes_on(rt: HostRuntime) -> Result<(), Fail> {
 /// Where the lines of packets offend, behind the head, and how many packets stand before.
 #[test]
 fn packet_lines_offend_where_none_goes_on(rt: HostRuntime) -> Result<(), Fail> {
-    let alloc = rt.alloc();
-    let rows: [(&[u8], u64, bool); 23] = [
+    const LINES: &[(&[u8], u64, bool)] = &[
         // the file ends within the time code, or another byte stands there
         (b"0", 51, false),
         (b"00:00:00:0", 60, false),
@@ -384,8 +383,9 @@ fn packet_lines_offend_where_none_goes_on(rt: HostRuntime) -> Result<(), Fail> {
             true,
         ),
     ];
+    let alloc = rt.alloc();
     let one = words_of(alloc, &[Own(0)])?;
-    for (lines, place, behind) in rows {
+    for &(lines, place, behind) in LINES {
         let words: &[u8] = if behind { &one } else { b"" };
         let text = joined(alloc, &[HEAD, lines])?;
         refuses(&rt, alloc, &text, place, Why::MccSyntax, words)?;
@@ -396,9 +396,7 @@ fn packet_lines_offend_where_none_goes_on(rt: HostRuntime) -> Result<(), Fail> {
 /// With version 2, what may stand behind a time code, and where that offends.
 #[test]
 fn fields_of_version_2_offend(rt: HostRuntime) -> Result<(), Fail> {
-    let alloc = rt.alloc();
-    let head: &[u8] = b"File Format=MacCaption_MCC V2.0\nTime Code Rate=30\n";
-    let rows: [(&[u8], u64); 10] = [
+    const LINES: &[(&[u8], u64)] = &[
         (b"00:00:00:00.", 62),
         (b"00:00:00:00.\t", 62),
         (b"00:00:00:00.2\t", 62),
@@ -410,7 +408,9 @@ fn fields_of_version_2_offend(rt: HostRuntime) -> Result<(), Fail> {
         (b"00:00:00:00.1,12a\t", 66),
         (b"00:00:00:00,1\t", 61),
     ];
-    for (lines, place) in rows {
+    let alloc = rt.alloc();
+    let head: &[u8] = b"File Format=MacCaption_MCC V2.0\nTime Code Rate=30\n";
+    for &(lines, place) in LINES {
         let text = joined(alloc, &[head, lines])?;
         refuses(&rt, alloc, &text, place, Why::MccSyntax, b"")?;
     }
@@ -420,9 +420,7 @@ fn fields_of_version_2_offend(rt: HostRuntime) -> Result<(), Fail> {
 /// Time codes that the rate has, and those that it hasn't, whatever mark stands before their frames.
 #[test]
 fn time_codes_are_those_of_the_rate(rt: HostRuntime) -> Result<(), Fail> {
-    let alloc = rt.alloc();
-    let one = words_of(alloc, &[Own(0)])?;
-    let good: [(&str, &str); 14] = [
+    const GOOD: &[(&str, &str)] = &[
         ("24", "23:59:59:23"),
         ("25", "00:00:00;24"),
         ("30", "00:01:00:00"),
@@ -438,10 +436,7 @@ fn time_codes_are_those_of_the_rate(rt: HostRuntime) -> Result<(), Fail> {
         ("60DF", "00:20:00;03"),
         ("60DF", "23:59:59;59"),
     ];
-    for (rate, time) in good {
-        puts(&rt, alloc, &bare_file_of(alloc, rate, &[(time, P0)])?, &one)?;
-    }
-    let bad: [(&str, u64, &str); 20] = [
+    const BAD: &[(&str, u64, &str)] = &[
         ("24", 50, "00:00:00:24"),
         ("25", 50, "00:00:00:25"),
         ("30", 50, "00:00:00:30"),
@@ -463,8 +458,13 @@ fn time_codes_are_those_of_the_rate(rt: HostRuntime) -> Result<(), Fail> {
         ("60DF", 52, "00:09:00;02"),
         ("60DF", 52, "23:59:00;01"),
     ];
+    let alloc = rt.alloc();
+    let one = words_of(alloc, &[Own(0)])?;
+    for &(rate, time) in GOOD {
+        puts(&rt, alloc, &bare_file_of(alloc, rate, &[(time, P0)])?, &one)?;
+    }
     // the line begins behind the head's 48 bytes and the rate
-    for (rate, place, time) in bad {
+    for &(rate, place, time) in BAD {
         // with a payload behind it, with another byte, and at the file's end
         for behind in [b"\tT0BS0B4F43ZZ74ZZF06D\n".as_slice(), b"x", b""] {
             let mut text = bare_file_of(alloc, rate, &[])?;
@@ -480,8 +480,7 @@ fn time_codes_are_those_of_the_rate(rt: HostRuntime) -> Result<(), Fail> {
 /// first line's 12, its payload and LF.
 #[test]
 fn time_codes_go_forward(rt: HostRuntime) -> Result<(), Fail> {
-    let alloc = rt.alloc();
-    let rows: [(&str, &[(&str, &str)], u64, Why, Piece); 9] = [
+    const FILES: &[(&str, &[(&str, &str)], u64, Why, Piece)] = &[
         (
             "30",
             &[("00:00:01:00", P0), ("00:00:00:29", P1)],
@@ -547,7 +546,8 @@ fn time_codes_go_forward(rt: HostRuntime) -> Result<(), Fail> {
             Own(0),
         ),
     ];
-    for (rate, lines, place, why, before) in rows {
+    let alloc = rt.alloc();
+    for &(rate, lines, place, why, before) in FILES {
         let words = words_of(alloc, &[before])?;
         let text = bare_file_of(alloc, rate, lines)?;
         refuses(&rt, alloc, &text, place, why, &words)?;

@@ -90,7 +90,7 @@ fn frames_between_lines_have_the_null_pair(rt: HostRuntime) -> Result<(), Fail> 
 
 #[test]
 fn a_file_that_is_none_is_refused_and_nothing_is_put(rt: HostRuntime) -> Result<(), Fail> {
-    let texts: [(&[u8], Status, &[u8]); 5] = [
+    const TEXTS: &[(&[u8], Status, &[u8])] = &[
         (
             b"Scenarist_SCC V1.0\rX",
             Status::Malformed(Place::Byte(19), Why::Header),
@@ -117,7 +117,7 @@ fn a_file_that_is_none_is_refused_and_nothing_is_put(rt: HostRuntime) -> Result<
             b"limit Frames\n",
         ),
     ];
-    for (text, status, line) in texts {
+    for &(text, status, line) in TEXTS {
         let ended = run_to_end(rt.alloc(), import_of(text))?;
         assert_eq!(rt; ended.status, status);
         assert_eq!(rt; ended.out.bytes(), b"".as_slice());
@@ -154,16 +154,16 @@ fn faults_of_an_import_are_told(rt: HostRuntime) -> Result<(), Fail> {
 /// that are gathered.
 #[test]
 fn more_than_is_gathered_is_imported_packet_behind_packet(rt: HostRuntime) -> Result<(), Fail> {
-    let alloc = rt.alloc();
-    let text = b"Scenarist_SCC V1.0\n\n00:00:00:00\t8080\n00:00:16:20\t8080\n";
-    let first = file_of(alloc, &[&SILENT, &SILENT_1, &SILENT_2])?;
-    let rows: [(&[u64], Status, usize); 4] = [
+    const PUTS: &[(&[u64], Status, usize)] = &[
         (&[], Status::Ok, 80_160),
         (&[0], Status::WriteFault, 0),
         (&[1], Status::WriteFault, 65_440),
         (&[2], Status::Ok, 80_160),
     ];
-    for (failing_puts, status, put) in rows {
+    let alloc = rt.alloc();
+    let text = b"Scenarist_SCC V1.0\n\n00:00:00:00\t8080\n00:00:16:20\t8080\n";
+    let first = file_of(alloc, &[&SILENT, &SILENT_1, &SILENT_2])?;
+    for &(failing_puts, status, put) in PUTS {
         let ended = run_to_end(
             alloc,
             Given {
