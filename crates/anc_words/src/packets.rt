@@ -23,6 +23,7 @@ const ROOM: usize = 524;
 /// count of the user words, the user words and the checksum word (SMPTE ST 291-1), each as two bytes, the high one
 /// first. Every user byte is an 8-bit word there, whatever the identifiers are; those of closed captions are 0x61 and
 /// 0x01 (SMPTE ST 334-1). There are at most 255 user bytes, and `out` is empty before.
+#[inline(always)]
 pub fn write_packet(did: u8, sdid: u8, user: &[u8], out: &mut ArrayVec<u8, 524>)
     requires few { length user.now ≤ 255 }
     requires empty { out.old.items ≡ [] }
