@@ -1,6 +1,6 @@
 #!/usr/bin/env bash
 # `export-mcc` of 100,000 frames with captions all along, pop-on captions of two rows on CC1 and a window of service 1, beside `export` of the same
-# words and beside `cat` of them, and `import-mcc` of what it writes beside `decode` of these words, by turns in one run: the least of five runs each.
+# words and beside `cat` of them, and `import-mcc` of what it writes beside `decode` of these words, by turns in one run: the least of forty runs each.
 # Needs build/ccsuite (make) and gcc.
 . "$(dirname "$0")/lists.sh"
 . "$(dirname "$0")/timing.sh"
@@ -22,7 +22,7 @@ awk 'BEGIN {
 "$program" import-mcc < "$work/file.mcc" | cmp - "$work/words"
 printf '%-34s %s\n' 'frames' 100000 'bytes of words' "$(wc -c < "$work/words")" 'bytes of MCC' "$(wc -c < "$work/file.mcc")"
 
-for _ in 1 2 3 4 5; do
+for _ in $(seq 40); do
     time_writer cat "$work/words" cat
     time_writer export "$work/words" "$program" export 00:00:00:00
     time_writer export-mcc "$work/words" "$program" export-mcc 30 00:00:00:00
