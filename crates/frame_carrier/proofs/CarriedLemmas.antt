@@ -1,6 +1,5 @@
 -- The frames of a programme are carried: each packet is one by the definitions of its layers, and a receiver gets its pairs.
 use Rattle.std.proofs.Common.{◌≡◌, ℕ, zero, suc, ◌+◌, ◌-◌, ◌%◌, ◌<◌, ◌≤◌, Bool, true, false, Option, Some, None, List, [], ◌∷◌, ◌++◌, All, length, replicate, take, refl, sym, ap, ◌∙◌, subst, arith, append-nil, append_assoc}
-use Rattle.std.specs.List.{concat}
 use Rattle.std.specs.Prelude.{IfSome, option_to_list, ◌&&◌, ◌||◌, ◌==◌}
 use Rattle.std.proofs.lemmas.List.{length-append}
 use Rattle.std.proofs.lemmas.Bool.Decides.{nat_tests}
@@ -14,22 +13,19 @@ use Rattle.line21_codes.specs.declared.pairs.Pair.{Pair}
 use Rattle.cc_data.specs.declared.triplet.Triplet.{Triplet}
 use Rattle.cc_data.specs.Triplets.{filler}
 use Rattle.cdp_packets.specs.PacketTriplets.{packet_triplets}
-use Rattle.cdp_packets.specs.Written.{cc_data_section, written_packet}
 use Rattle.cdp_packets.proofs.SectionLemmas.{cc_data_section-triplets}
-use Rattle.anc_words.specs.Writing.{packet_bytes}
 use Rattle.anc_words.proofs.ByteLemmas.{IsByte}
 use Rattle.anc_words.proofs.WordsFileLemmas.{IsWordsFile-nil}
 use Rattle.words_files.specs.Frames.{IsFileOf, none}
 use Rattle.words_files.specs.Received.{field_kind, field_pair, field_pairs, received_pairs}
-use Rattle.words_files.specs.CarriedWords.{caption_flags, carried_words}
-use Rattle.words_files.proofs.CarriedWordsLemmas.{IsByteTriplet, section_words, triplets_file}
+use Rattle.words_files.proofs.CarriedWordsLemmas.{IsByteTriplet, triplets_file}
 use Rattle.words_files.proofs.FrameLemmas.{joined}
 use Rattle.frame_scheduler.specs.Columns.{Columns, first_pairs, pair_in}
 use Rattle.frame_scheduler.specs.declared.frames.FrameBytes.{FrameBytes}
 use Rattle.channel_packets.specs.ChannelPackets.{channel_triplets, continues_packet, starts}
 use Rattle.channel_packets.specs.Written.{bytes_written, continuing, header_for, starting}
 use Rattle.frame_carrier.specs.Carried.{AreByteBlocks, AreBytePairs, AreRoomy, FramesAreCarried, IsBytePair, IsCarriedInRoom}
-use Rattle.frame_carrier.specs.Carrying.{channel_packet_of, channel_packet, packets_before, column_bytes, column_packets, counter_of, frame_bytes, frame_packet}
+use Rattle.frame_carrier.specs.Carrying.{channel_packet_of, channel_packet, packets_before, column_bytes, column_packets, frame_bytes, frame_packet}
 use Rattle.frame_carrier.specs.FrameTriplets.{field_triplets, frame_triplets, front_triplets, pair_triplet}
 use Rattle.frame_carrier.proofs.CarryingLemmas.{IsKind, frame_kinds, frame_number, packet_kinds, packet_many, triplets_many}
 
@@ -68,16 +64,7 @@ packet_bytes_are count (byte ∷ blocks) few all =
     (record { kind = omega arith; a = omega (arith, few); b = All-head IsByte byte blocks all })
     (further_bytes blocks (All-tail IsByte byte blocks all))
 
--- the bytes of a frame's ancillary packet are those that carry its packet
-frame_words : (rate : Rate) (frame : ℕ) (carried : FrameBytes) (packet : List Triplet)
-    → frame_bytes rate frame carried packet ≡ carried_words (frame_packet rate frame carried packet)
-frame_words rate frame carried packet =
-    let triplets = frame_triplets rate carried packet in
-    let once : counter_of (counter_of frame) ≡ counter_of frame = omega arith in
-    section_words rate (counter_of frame) triplets (omega arith)
-    ∙ ap (λ n. packet_bytes 0x61 0x01 (written_packet rate caption_flags n (concat (cc_data_section triplets ∷ [])))) once
-
--- so they are a file of it alone
+-- the bytes of a frame's ancillary packet are a file of its packet alone
 frame_file : (rate : Rate) (frame : ℕ) (carried : FrameBytes) (packet : List Triplet) → IfSome carried.one IsBytePair → IfSome carried.two IsBytePair
     → All IsByteTriplet packet → length (front_triplets carried packet) ≤ triplets_in_frame rate
     → IsFileOf (frame_packet rate frame carried packet ∷ []) (frame_bytes rate frame carried packet)
@@ -85,8 +72,7 @@ frame_file rate frame carried packet one two channel roomy =
     let triplets = frame_triplets rate carried packet in
     let number = frame_number rate carried packet roomy in
     let many = (triplets_many rate).1 in
-    subst (IsFileOf (frame_packet rate frame carried packet ∷ [])) (sym (frame_words rate frame carried packet))
-    (triplets_file rate frame triplets (omega (arith, number, many)) (frame_triplets_bytes rate carried packet one two channel))
+    triplets_file rate frame triplets (omega (arith, number, many)) (frame_triplets_bytes rate carried packet one two channel)
 
 -- the triplets of a frame's packet are those of the frame
 packet_triplets_are : (rate : Rate) (frame : ℕ) (carried : FrameBytes) (packet : List Triplet) → All IsKind packet

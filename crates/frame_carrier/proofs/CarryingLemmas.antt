@@ -9,12 +9,12 @@ use Rattle.cc_base.specs.declared.rate.Rate.TheVariants as rates
 use Rattle.cc_data.specs.declared.triplet.Triplet.{Triplet}
 use Rattle.cc_data.specs.Triplets.{filler}
 use Rattle.channel_packets.specs.Written.{bytes_written, continuing, header_for, packet_written, starting}
-use Rattle.frame_carrier.specs.Carrying.{IsAt, channel_packet_of, channel_packet, packets_before, counter_of, frame_bytes, packet_count}
+use Rattle.frame_carrier.specs.Carrying.{IsAt, channel_packet_of, channel_packet, packets_before, frame_bytes, packet_count}
 use Rattle.frame_scheduler.specs.Columns.{Columns}
 use Rattle.frame_carrier.specs.Carried.{AreByteBlocks, AreRoomy}
-use Rattle.frame_carrier.specs.CarriedBytes.{carried_bytes}
 use Rattle.frame_carrier.specs.declared.carrier.Carrier.{Carrier}
-use Rattle.cdp_packets.specs.Sections.{IsSectionList}
+use Rattle.words_files.specs.CarriedWords.{carried_words, triplets_packet}
+use Rattle.words_files.proofs.CarriedWordsLemmas.{same_counter}
 use Rattle.line21_codes.specs.declared.pairs.Pair.{Pair}
 use Rattle.frame_scheduler.specs.declared.frames.FrameBytes.{FrameBytes}
 use Rattle.frame_carrier.specs.FrameTriplets.{field_triplets, frame_triplets, front_triplets, pair_triplet}
@@ -93,10 +93,6 @@ fill_more old number all low filled =
           ∙ sym (ap (λ n. old ++ replicate n filler) one_more) ∙ filled,
     )
 
--- no bytes are no sections
-pub no_sections : (bytes : List ℕ) → bytes ≡ [] → IsSectionList bytes
-no_sections bytes none = subst IsSectionList (sym none) (record { cut = []; are = tt; joined = refl })
-
 -- the triplets of a channel packet
 bytes_kinds : (bytes : List ℕ) → All IsKind (bytes_written bytes)
 bytes_kinds [] = All-nil IsKind
@@ -129,13 +125,13 @@ one_packet (byte ∷ blocks) some = refl
 -- what is carried of a frame, by the carrier's rate and counter
 pub words_are : (rate : Rate) (number count : ℕ) (carrier : Carrier) (frame : FrameBytes) (own : Rate) (counter : ℕ) (packet : List Triplet) (words : List ℕ)
     → IsAt rate number count carrier → own ≡ carrier.rate → counter ≡ carrier.counter → packet ≡ channel_packet count frame.blocks.items
-    → words ≡ carried_bytes own counter (frame_triplets own frame packet)
+    → words ≡ carried_words (triplets_packet own counter (frame_triplets own frame packet))
     → words ≡ frame_bytes rate number frame (channel_packet count frame.blocks.items)
 words_are rate number count carrier frame own counter packet words at rate_is counter_is packet_is is =
     is
-    ∙ ap (λ r. carried_bytes r counter (frame_triplets r frame packet)) (rate_is ∙ at.rate_is)
-    ∙ ap (λ n. carried_bytes rate n (frame_triplets rate frame packet)) (counter_is ∙ at.counter_is)
-    ∙ ap (λ p. carried_bytes rate (counter_of number) (frame_triplets rate frame p)) packet_is
+    ∙ ap (λ r. carried_words (triplets_packet r counter (frame_triplets r frame packet))) (rate_is ∙ at.rate_is)
+    ∙ ap (λ p. carried_words (triplets_packet rate counter (frame_triplets rate frame p))) packet_is
+    ∙ same_counter rate number counter (frame_triplets rate frame (channel_packet count frame.blocks.items)) (counter_is ∙ at.counter_is)
 
 -- a vector of which it is said that it is empty
 pub none_of : (ts : List Triplet) → true ≡ (length ts == 0) → ts ≡ []

@@ -8,10 +8,9 @@ use Rattle.cc_data.specs.declared.triplet.Triplet.{Triplet}
 use Rattle.cdp_packets.specs.Packets.{Frame}
 use Rattle.channel_packets.specs.Writers.{HasWritten}
 use Rattle.channel_packets.specs.Written.{packet_written}
-use Rattle.words_files.specs.CarriedWords.{triplets_packet}
+use Rattle.words_files.specs.CarriedWords.{carried_words, triplets_packet}
 use Rattle.frame_scheduler.specs.Columns.{Columns}
 use Rattle.frame_scheduler.specs.declared.frames.FrameBytes.{FrameBytes}
-use Rattle.frame_carrier.specs.CarriedBytes.{carried_bytes}
 use Rattle.frame_carrier.specs.FrameTriplets.{frame_triplets}
 use Rattle.frame_carrier.specs.declared.carrier.Carrier.{Carrier}
 
@@ -25,7 +24,7 @@ frame_packet rate frame bytes packet = triplets_packet rate frame (frame_triplet
 
 -- the bytes of the ancillary packet of a frame
 abbrev pub frame_bytes : Rate → ℕ → FrameBytes → List Triplet → List ℕ
-frame_bytes rate frame bytes packet = carried_bytes rate (counter_of frame) (frame_triplets rate bytes packet)
+frame_bytes rate frame bytes packet = carried_words (frame_packet rate frame bytes packet)
 
 -- the triplets of a frame's caption channel packet, behind so many packets; none where the frame has no service blocks
 abbrev pub channel_packet : ℕ → List ℕ → List Triplet

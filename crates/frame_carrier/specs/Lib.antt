@@ -1,4 +1,3 @@
-pub mod CarriedBytes
 pub mod FrameTriplets
 pub mod Carrying
 pub mod Carried

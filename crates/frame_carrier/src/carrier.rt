@@ -1,16 +1,15 @@
 ghost use Rattle.std.specs.Prelude.{◌≡◌, ◌+◌, ◌<◌, ◌≤◌, ℕ, [], All, length};
 ghost use Rattle.channel_packets.specs.Writers.{HasWritten};
-ghost use Rattle.frame_carrier.specs.CarriedBytes.{carried_bytes};
 ghost use Rattle.frame_carrier.specs.FrameTriplets.{frame_triplets};
+ghost use Rattle.words_files.specs.CarriedWords.{carried_words, triplets_packet};
 
 use crate::triplets::{frame_triplets, ten_triplets, twenty_triplets};
-use anc_words::{CAPTION_DID, CAPTION_SDID, write_packet};
 use arrayvec::ArrayVec;
 use cc_base::Rate;
 use cc_data::{FIELD_1, FIELD_2, Triplet};
-use cdp_packets::{CAPTION_FLAGS, cc_section, write_cdp};
 use channel_packets::PacketWriter;
 use frame_scheduler::FrameBytes;
+use words_files::write_triplets;
 
 /// Carries the frames of a programme, one call a frame, in order from frame 0 on.
 #[derive(Clone, Copy, Debug)]
@@ -118,13 +117,14 @@ impl Carrier {
 /// an array of triplets, so the compiler knows how long its section, its packet and its words are.
 fn put_pairs(rate: Rate, counter: u16, frame: &FrameBytes, out: &mut ArrayVec<u8, 524>)
     requires { out.old.items ≡ [] }
-    ensures { out.new.items ≡ carried_bytes rate counter (frame_triplets rate frame.now []) }
+    ensures { out.new.items
+        ≡ carried_words (triplets_packet rate counter (frame_triplets rate frame.now [])) }
 {
     match (rate.triplets(), frame.one, frame.two) {
-        (20, Some(one), Some(two)) => put_triplets(rate, counter, &twenty_triplets(one, two), out),
-        (10, Some(one), None) => put_triplets(rate, counter, &ten_triplets(FIELD_1, one), out),
-        (10, None, Some(two)) => put_triplets(rate, counter, &ten_triplets(FIELD_2, two), out),
-        _ => put_triplets(rate, counter, &frame_triplets(rate, frame, &[]), out),
+        (20, Some(one), Some(two)) => write_triplets(rate, counter, &twenty_triplets(one, two), out),
+        (10, Some(one), None) => write_triplets(rate, counter, &ten_triplets(FIELD_1, one), out),
+        (10, None, Some(two)) => write_triplets(rate, counter, &ten_triplets(FIELD_2, two), out),
+        _ => write_triplets(rate, counter, &frame_triplets(rate, frame, &[]), out),
     }
 }
 
@@ -134,29 +134,13 @@ fn put_counted(rate: Rate, counter: u16, triplets: &[Triplet], out: &mut ArrayVe
     requires few { length triplets.now ≤ 31 }
     requires kinds { All (λ t. t.kind < 4) triplets.now }
     requires empty { out.old.items ≡ [] }
-    ensures { out.new.items ≡ carried_bytes rate counter triplets.now }
+    ensures { out.new.items ≡ carried_words (triplets_packet rate counter triplets.now) }
 {
     if let Ok(twenty) = <&[Triplet; 20]>::try_from(triplets) {
-        put_triplets(rate, counter, twenty, out);
+        write_triplets(rate, counter, twenty, out);
     } else if let Ok(ten) = <&[Triplet; 10]>::try_from(triplets) {
-        put_triplets(rate, counter, ten, out);
+        write_triplets(rate, counter, ten, out);
     } else {
-        put_triplets(rate, counter, triplets, out);
+        write_triplets(rate, counter, triplets, out);
     }
-}
-
-/// Writes the ancillary packet of a distribution packet with these triplets into an empty `out`.
-#[inline(always)]
-#[tactic(auto, using(crate::proofs::CarryingLemmas::no_sections))]
-fn put_triplets(rate: Rate, counter: u16, triplets: &[Triplet], out: &mut ArrayVec<u8, 524>)
-    requires few { length triplets.now ≤ 31 }
-    requires kinds { All (λ t. t.kind < 4) triplets.now }
-    requires empty { out.old.items ≡ [] }
-    ensures { out.new.items ≡ carried_bytes rate counter triplets.now }
-{
-    let mut section = ArrayVec::new();
-    cc_section(triplets, &mut section);
-    let mut packet = ArrayVec::new();
-    write_cdp(rate, CAPTION_FLAGS, counter, &section, &mut packet);
-    write_packet(CAPTION_DID, CAPTION_SDID, &packet, out);
 }

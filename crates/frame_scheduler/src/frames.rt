@@ -1,5 +1,6 @@
 ghost use Rattle.std.specs.Prelude.{◌≡◌, ◌+◌, ◌^◌, ◌<◌, ◌≤◌, ℕ, All, IfNone, IfSome, MatchOption, Some, [], ◌∷◌, slice_get, slice_set};
 ghost use Rattle.frame_scheduler.specs.Blocks.{blocks_room};
+ghost use Rattle.frame_scheduler.specs.End.{silent_frame, silent_pair};
 ghost use Rattle.frame_scheduler.specs.ServicesLeft.{HasLeft, IsNumbered};
 ghost use Rattle.field_lanes.specs.FieldPlan.{PlannedField, behind_frame, given_in};
 
@@ -7,7 +8,7 @@ use crate::blocks::next_blocks;
 use arrayvec::ArrayVec;
 use cc_base::Rate;
 use field_lanes::PlacedField;
-use line21_codes::{Chan, Pair};
+use line21_codes::{Chan, NULL_PAIR, Pair};
 use line21_slots::Cadence;
 use service_lanes::PlacedService;
 
@@ -23,6 +24,30 @@ pub struct FrameBytes {
     pub two: Option<Pair>,
     /// The service blocks of the frame's caption channel packet, in ascending order of service (CTA-708-E).
     pub blocks: ArrayVec<u8, 35>,
+}
+
+impl FrameBytes {
+    /// A frame without captions: the null pair in each field that has a slot there (CTA-608-E), and no service block.
+    pub fn silent(rate: Rate, frame: u32) -> FrameBytes
+        ensures { result ≡ silent_frame rate frame }
+    {
+        FrameBytes {
+            one: silent_pair(rate, Chan::Cc1, frame),
+            two: silent_pair(rate, Chan::Cc3, frame),
+            blocks: ArrayVec::new(),
+        }
+    }
+}
+
+/// The null pair of a channel's field, where a frame has a slot of it.
+fn silent_pair(rate: Rate, channel: Chan, frame: u32) -> Option<Pair>
+    ensures { result ≡ silent_pair rate channel frame }
+{
+    if Cadence::of(rate, channel).has_slot_in(frame) {
+        Some(NULL_PAIR)
+    } else {
+        None
+    }
 }
 
 /// Frames, given one after another. None is stored, and giving them takes no memory.

@@ -1,6 +1,5 @@
 ghost use Rattle.std.specs.Prelude.{◌≡◌, ◌<◌, ◌≤◌, ◌+◌, ℕ, All, MatchBool, length};
 ghost use Rattle.programmes.specs.Framing.{Framing, HasFraming};
-ghost use Rattle.frame_scheduler.specs.End.{silent_frame, silent_pair};
 ghost use Rattle.inserted_words.specs.Captions.{captions_of, padded};
 ghost use Rattle.insert_commands.specs.ListCaptions.{GivesFramed, GivesPlanned};
 
@@ -9,8 +8,6 @@ use cc_base::Rate;
 use cc_data::Triplet;
 use frame_carrier::Carrier;
 use frame_scheduler::{FrameBytes, Frames};
-use line21_codes::{Chan, NULL_PAIR, Pair};
-use line21_slots::Cadence;
 use programmes::Programme;
 
 /// The captions of a programme, frame by frame.
@@ -69,7 +66,7 @@ impl<F: Frames + Drop> Captions<F> {
                 self.ahead = self.frames.next();
                 bytes
             }
-            None => silent(self.rate, frame),
+            None => FrameBytes::silent(self.rate, frame),
         }
     }
 
@@ -79,27 +76,5 @@ impl<F: Frames + Drop> Captions<F> {
             → MatchBool result (list.count ≤ frame) (frame < list.count) }
     {
         self.ahead.is_none()
-    }
-}
-
-/// A frame without captions.
-fn silent(rate: Rate, frame: u32) -> FrameBytes
-    ensures { result ≡ silent_frame rate frame }
-{
-    FrameBytes {
-        one: silent_pair(rate, Chan::Cc1, frame),
-        two: silent_pair(rate, Chan::Cc3, frame),
-        blocks: ArrayVec::new(),
-    }
-}
-
-/// The null pair of a channel's field, where a frame has a slot of it.
-fn silent_pair(rate: Rate, channel: Chan, frame: u32) -> Option<Pair>
-    ensures { result ≡ silent_pair rate channel frame }
-{
-    if Cadence::of(rate, channel).has_slot_in(frame) {
-        Some(NULL_PAIR)
-    } else {
-        None
     }
 }

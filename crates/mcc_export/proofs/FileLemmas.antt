@@ -1,7 +1,8 @@
 -- What is put of exported packets is an MCC file.
-use Rattle.std.proofs.Common.{◌≡◌, ℕ, ◌+◌, ◌-◌, ◌<◌, ◌≤◌, ◌++◌, inl, inr, List, [], ◌∷◌, length, Option, Some, None, Result, Ok, ap, sym, subst, ◌∙◌, arith}
+use Rattle.std.proofs.Common.{◌≡◌, ℕ, ◌+◌, ◌-◌, ◌<◌, ◌≤◌, ◌++◌, inl, inr, Bool, true, false, List, [], ◌∷◌, length, Option, Some, None, Result, Ok, ap, sym, subst, ◌∙◌, arith}
 use Rattle.std.specs.List.{All}
 use Rattle.std.proofs.lemmas.List.Elements.{All-head, All-tail}
+use Rattle.std.specs.Prelude.{if◌then◌else◌}
 use Rattle.anc_words.specs.Packets.{AncillaryPacket}
 use Rattle.anc_words.specs.WordsFiles.{IsWordsFile}
 use Rattle.anc_words.proofs.WordsFileLemmas.{IsWordsFile-first}
@@ -14,9 +15,10 @@ use Rattle.mcc_files.specs.Reading.{read_file}
 use Rattle.mcc_files.specs.Writing.{AreWritable}
 use Rattle.mcc_payloads.proofs.WordLemmas.{low_bytes, packet_is_payload}
 use Rattle.mcc_payloads.specs.PayloadWords.{payload_of, payload_words}
+use Rattle.mcc_words.proofs.CaptionTests.{captions_false, captions_true}
 use Rattle.mcc_words.proofs.CloseLemmas.{close_as_they_came}
 use Rattle.mcc_words.specs.Close.{AreClose, HaveBytes, IsClose, words_as_they_came}
-use Rattle.mcc_words.specs.MccWords.{AreMccWords}
+use Rattle.mcc_words.specs.MccWords.{AreMccWords, carries_captions}
 use Rattle.services_files.specs.CaptionChannel.{caption_channel}
 use Rattle.time_codes.specs.Countings.{day_frames_in}
 use Rattle.time_codes.specs.declared.counting.Counting.{Counting}
@@ -24,10 +26,9 @@ use Rattle.words_files.proofs.FramesOfLemmas.{empty_file}
 use Rattle.words_files.specs.Frames.{CarryFrames}
 use Rattle.words_files.specs.Frames.CarryFrames.{none, caption, foreign}
 use Rattle.words_files.specs.Offences.{IsFileUnder}
-use Rattle.mcc_export.proofs.PlacingLemmas.{is_caption-false, is_caption-true}
 use Rattle.mcc_export.specs.ExportMcc.{IsMccOf}
 use Rattle.mcc_export.specs.Exported.{AreExportedAsMcc, IsOfBytes}
-use Rattle.mcc_export.specs.Placing.{captions_with, packets_placed_from, placed}
+use Rattle.mcc_export.specs.Placing.{packets_placed_from, placed}
 use Rattle.mcc_export.specs.declared.start.Start.{Start}
 
 -- packets of bytes, each at its frame, of which none is before the one before it
@@ -40,13 +41,13 @@ writable_from count first captions last _ _ bytes (caption packet packets frame 
     let small = (packet_is_payload packet front (All-head IsOfBytes packet packets eight) is_packet).0 in
     let next = writable_from count first (captions + 1) (first + captions) packets frames rest carried others (All-tail IsOfBytes packet packets eight)
     (omega (arith, within)) below (omega arith) in
-    rw (is_caption-true packet is_caption) (omega (arith, above), omega (arith, within), small, next)
+    rw (captions_true (payload_of packet) is_caption) (omega (arith, above), omega (arith, within), small, next)
 writable_from count first captions last _ _ bytes (foreign packet packets frames isnt carried) is eight within below above =
     let (front, rest, spelled, is_packet, others) = IsWordsFile-first packet packets bytes is in
     let small = (packet_is_payload packet front (All-head IsOfBytes packet packets eight) is_packet).0 in
     let next = writable_from count first captions (first + (captions - 1)) packets frames rest carried others (All-tail IsOfBytes packet packets eight)
     within below (omega arith) in
-    rw (is_caption-false packet isnt) (above, omega (arith, within, below), small, next)
+    rw (captions_false (payload_of packet) isnt) (above, omega (arith, within, below), small, next)
 
 pub exported_file : (start : Start) (frames : List Frame) (file text : List ℕ) (is_file : IsFileUnder caption_channel frames file) → start.first < day_frames_in start.count
     → IsMccOf start frames file is_file text → IsMccFile (placed start.first is_file.file.packets) text
@@ -60,11 +61,19 @@ exported_file start frames file text is_file below mcc =
 words_from : (first captions : ℕ) (packets : List AncillaryPacket) (bytes : List ℕ) → IsWordsFile packets bytes → All IsOfBytes packets
     → words_as_they_came (packets_placed_from first captions packets) ≡ bytes
 words_from first captions [] bytes is eight = sym (empty_file bytes is)
-words_from first captions (packet ∷ packets) bytes is eight =
-    let (front, rest, spelled, is_packet, others) = IsWordsFile-first packet packets bytes is in
-    let written : front ≡ payload_words (payload_of packet) = (packet_is_payload packet front (All-head IsOfBytes packet packets eight) is_packet).1 in
-    let more = words_from first (captions_with captions packet) packets rest others (All-tail IsOfBytes packet packets eight) in
-    ap (λ w. w ++ words_as_they_came (packets_placed_from first (captions_with captions packet) packets)) (sym written) ∙ (ap (λ r. front ++ r) more ∙ sym spelled)
+words_from first captions (packet ∷ packets) bytes is eight = by_test (carries_captions (payload_of packet))
+  where
+    more : (captions : ℕ) → payload_words (payload_of packet) ++ words_as_they_came (packets_placed_from first captions packets) ≡ bytes
+    more captions =
+        let (front, rest, spelled, is_packet, others) = IsWordsFile-first packet packets bytes is in
+        let written : front ≡ payload_words (payload_of packet) = (packet_is_payload packet front (All-head IsOfBytes packet packets eight) is_packet).1 in
+        let next = words_from first captions packets rest others (All-tail IsOfBytes packet packets eight) in
+        ap (λ w. w ++ words_as_they_came (packets_placed_from first captions packets)) (sym written) ∙ (ap (λ r. front ++ r) next ∙ sym spelled)
+
+    by_test : (test : Bool) → words_as_they_came (if test then (first + captions, payload_of packet) ∷ packets_placed_from first (captions + 1) packets
+        else (first + (captions - 1), payload_of packet) ∷ packets_placed_from first captions packets) ≡ bytes
+    by_test true = more (captions + 1)
+    by_test false = more captions
 
 pub exported_words : (start : Start) (frames : List Frame) (file : List ℕ) (is_file : IsFileUnder caption_channel frames file)
     → AreExportedAsMcc start is_file.file.packets frames → words_as_they_came (placed start.first is_file.file.packets) ≡ file
@@ -76,15 +85,20 @@ close_from : (first captions : ℕ) (last : Option ℕ) (packets : List Ancillar
 close_from first captions last _ _ none close = tt
 close_from first captions last _ _ (caption packet packets frame frames is carries carried) close =
     let next = close_from first (captions + 1) (Some (first + captions)) packets frames carried (omega arith) in
-    rw (is_caption-true packet is) (inl (is, close, next))
+    rw (captions_true (payload_of packet) is) (inl (captions_true (payload_of packet) is, close, next))
 close_from first captions last _ _ (foreign packet packets frames isnt carried) close =
     let next = close_from first captions last packets frames carried close in
-    rw (is_caption-false packet isnt) (inr (isnt, next))
+    rw (captions_false (payload_of packet) isnt) (inr (captions_false (payload_of packet) isnt, next))
 
 -- their user bytes are bytes
 bytes_from : (first captions : ℕ) (packets : List AncillaryPacket) → HaveBytes (packets_placed_from first captions packets)
 bytes_from first captions [] = tt
-bytes_from first captions (packet ∷ packets) = (low_bytes packet.user, bytes_from first (captions_with captions packet) packets)
+bytes_from first captions (packet ∷ packets) = by_test (carries_captions (payload_of packet))
+  where
+    by_test : (test : Bool) → HaveBytes (if test then (first + captions, payload_of packet) ∷ packets_placed_from first (captions + 1) packets
+        else (first + (captions - 1), payload_of packet) ∷ packets_placed_from first captions packets)
+    by_test true = (low_bytes packet.user, bytes_from first (captions + 1) packets)
+    by_test false = (low_bytes packet.user, bytes_from first captions packets)
 
 -- bytes are a file of one list of packets
 one_placed : (one other : TimedPackets) (result : Result TimedPackets Refusal) → result ≡ Ok one → result ≡ Ok other → one ≡ other

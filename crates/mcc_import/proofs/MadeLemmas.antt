@@ -1,32 +1,26 @@
 -- The words that are made of packets: how many frames and bytes they have.
-use Rattle.std.proofs.Common.{◌≡◌, ℕ, zero, suc, ◌+◌, ◌-◌, ◌*◌, ◌%◌, ◌/◌, ◌≤◌, inl, inr, cond, List, [], ◌∷◌, ◌++◌, length, length-append, Option, Some, None, replicate, refl, ap, sym, ◌∙◌, subst, arith, zero-add}
-use Rattle.std.proofs.lemmas.List.{length-replicate}
+use Rattle.std.proofs.Common.{◌≡◌, ℕ, zero, suc, ◌+◌, ◌-◌, ◌*◌, ◌%◌, ◌/◌, ◌≤◌, inl, inr, true, false, cond, List, [], ◌∷◌, ◌++◌, length, length-append, Option, Some, None, replicate, refl, ap, sym, ◌∙◌, subst, arith, zero-add}
 use Rattle.anc_words.specs.Writing.{packet_bytes}
 use Rattle.cc_base.specs.Rate.{triplets_in_frame}
 use Rattle.cc_base.specs.declared.rate.Rate.{Rate}
-use Rattle.cc_data.specs.Triplets.{all_written, filler}
-use Rattle.cc_data.proofs.TripletLemmas.{length-all_written}
-use Rattle.cdp_packets.specs.Written.{cc_data_section, checksum_of, unsummed_packet, written_packet}
-use Rattle.words_files.specs.CarriedWords.{caption_flags}
+use Rattle.words_files.proofs.CarriedWordsLemmas.{length-carried_triplets}
 use Rattle.frame_carrier.specs.Carrying.{frame_bytes}
-use Rattle.frame_carrier.specs.FrameTriplets.{field_triplets, frame_triplets, front_triplets}
-use Rattle.frame_carrier.proofs.CarryingLemmas.{triplets_many}
-use Rattle.line21_codes.specs.declared.channels.Chan.TheVariants.{Cc1, Cc3}
-use Rattle.line21_codes.specs.declared.pairs.Pair.{Pair}
+use Rattle.frame_carrier.specs.FrameTriplets.{frame_triplets}
+use Rattle.frame_carrier.proofs.CarryingLemmas.{front_few, frame_number, triplets_many}
+use Rattle.frame_scheduler.specs.End.{silent_frame}
 use Rattle.frame_scheduler.specs.declared.frames.FrameBytes.{FrameBytes}
 use Rattle.mcc_files.specs.MccFiles.{TimedPackets}
 use Rattle.mcc_payloads.specs.Payloads.{Payload}
 use Rattle.mcc_payloads.specs.PayloadWords.{payload_words}
 use Rattle.mcc_words.specs.Close.{words_as_they_came}
 use Rattle.mcc_words.specs.Makers.{AreMissingFrames}
-use Rattle.mcc_words.specs.MccWords.{AreWordsBehind, IsCaptions}
-use Rattle.mcc_words.specs.Missing.{AreFramesWithout, HasNothing, IsFrameWithout, null_in}
+use Rattle.mcc_words.specs.MccWords.{AreWordsBehind, carries_captions, missing, missing_words}
+use Rattle.mcc_words.specs.Missing.{words_without}
 use Rattle.mcc_words.specs.Raised.{IsRaised}
 use Rattle.mcc_words.specs.declared.maker.Before.{Before}
 use Rattle.mcc_words.specs.declared.missing.MissingFrames.{MissingFrames}
-use Rattle.mcc_words.proofs.CaptionTests.{captions_false, captions_true}
 use Rattle.mcc_import.specs.Importing.{frame_size}
-use Rattle.mcc_import.specs.Imported.{frames_behind, frames_put, missing_between}
+use Rattle.mcc_import.specs.Imported.{frames_behind, frames_put}
 use Rattle.mcc_import.proofs.WordsLemmas.{words_long}
 
 -- the frame of the packet of captions before
@@ -34,15 +28,13 @@ abbrev pub frame_of : Option Before → Option ℕ
 frame_of None = None
 frame_of (Some before) = Some before.frame
 
-pub frames_captions : (last : Option ℕ) (frame : ℕ) (payload : Payload) (more : TimedPackets) → IsCaptions payload
-    → frames_behind last ((frame, payload) ∷ more) ≡ missing_between last frame + 1 + frames_behind (Some frame) more
-frames_captions last frame payload more is =
-    ap (λ t. cond t (missing_between last frame + 1 + frames_behind (Some frame) more) (frames_behind last more)) (captions_true payload is)
+pub frames_captions : (last : Option ℕ) (frame : ℕ) (payload : Payload) (more : TimedPackets) → carries_captions payload ≡ true
+    → frames_behind last ((frame, payload) ∷ more) ≡ missing last frame + 1 + frames_behind (Some frame) more
+frames_captions last frame payload more is = ap (λ t. cond t (missing last frame + 1 + frames_behind (Some frame) more) (frames_behind last more)) is
 
-pub frames_other : (last : Option ℕ) (frame : ℕ) (payload : Payload) (more : TimedPackets) → (IsCaptions payload → ⊥)
+pub frames_other : (last : Option ℕ) (frame : ℕ) (payload : Payload) (more : TimedPackets) → carries_captions payload ≡ false
     → frames_behind last ((frame, payload) ∷ more) ≡ frames_behind last more
-frames_other last frame payload more isnt =
-    ap (λ t. cond t (missing_between last frame + 1 + frames_behind (Some frame) more) (frames_behind last more)) (captions_false payload isnt)
+frames_other last frame payload more isnt = ap (λ t. cond t (missing last frame + 1 + frames_behind (Some frame) more) (frames_behind last more)) isnt
 
 -- a packet more
 pub frames_more : (placed : TimedPackets) (bytes : List ℕ) (before after : Option Before) (one : ℕ × Payload) → AreWordsBehind before placed bytes after
@@ -64,12 +56,12 @@ frames_more (first ∷ placed) bytes before after one (front, rest, middle, inr 
     let all = frames_other (frame_of before) first.0 first.1 (placed ++ one ∷ []) isnt in
     omega (arith, here, all, moved)
 
-missing_are : (before : Option Before) (frame : ℕ) (frames : MissingFrames) → AreMissingFrames before frame frames → frames.left ≡ missing_between (frame_of before) frame
+missing_are : (before : Option Before) (frame : ℕ) (frames : MissingFrames) → AreMissingFrames before frame frames → frames.left ≡ missing (frame_of before) frame
 missing_are None frame frames are = are
 missing_are (Some before) frame frames are = are.0
 
 pub captions_counted : (placed : TimedPackets) (bytes : List ℕ) (after : Option Before) (frame : ℕ) (payload : Payload) (frames : MissingFrames) → AreWordsBehind None placed bytes after
-    → AreMissingFrames after frame frames → IsCaptions payload → frames_put (placed ++ (frame, payload) ∷ []) ≡ frames_put placed + (frames.left + 1)
+    → AreMissingFrames after frame frames → carries_captions payload ≡ true → frames_put (placed ++ (frame, payload) ∷ []) ≡ frames_put placed + (frames.left + 1)
 captions_counted placed bytes after frame payload frames are gone is =
     let all = frames_more placed bytes None after (frame, payload) are in
     let one = frames_captions (frame_of after) frame payload [] is in
@@ -77,7 +69,7 @@ captions_counted placed bytes after frame payload frames are gone is =
     omega (arith, all, one, left)
 
 pub other_counted : (placed : TimedPackets) (bytes : List ℕ) (after : Option Before) (frame : ℕ) (payload : Payload) → AreWordsBehind None placed bytes after
-    → (IsCaptions payload → ⊥) → frames_put (placed ++ (frame, payload) ∷ []) ≡ frames_put placed + 0
+    → carries_captions payload ≡ false → frames_put (placed ++ (frame, payload) ∷ []) ≡ frames_put placed + 0
 other_counted placed bytes after frame payload are isnt =
     let all = frames_more placed bytes None after (frame, payload) are in
     let one = frames_other (frame_of after) frame payload [] isnt in
@@ -88,63 +80,27 @@ pub packet_long : (user : List ℕ) → length (packet_bytes 0x61 0x01 user) ≡
 packet_long user = words_long (record { did = 0x61; sdid = 0x01; user = user })
 
 -- a frame without captions
-field_few : (kind : ℕ) (pair : Option Pair) → length (field_triplets kind pair) ≤ 1
-field_few kind None = omega arith
-field_few kind (Some pair) = omega arith
-
 frame_full : (rate : Rate) (frame : FrameBytes) → length (frame_triplets rate frame []) ≡ triplets_in_frame rate
 frame_full rate frame =
-    let one = field_few 0 frame.one in
-    let two = field_few 1 frame.two in
-    let both = length-append (field_triplets 0 frame.one) (field_triplets 1 frame.two ++ []) in
-    let second = length-append (field_triplets 1 frame.two) [] in
-    let front = front_triplets frame [] in
-    let rest = triplets_in_frame rate - length front in
-    let all = length-append front (replicate rest filler) in
-    let fillers = length-replicate rest filler in
+    let few = front_few frame [] in
     let many = (triplets_many rate).0 in
-    omega (arith, one, two, both, second, all, fillers, many)
+    frame_number rate frame [] (omega (arith, few, many))
 
-pub without_long : (rate : Rate) (number : ℕ) (bytes : List ℕ) → IsFrameWithout rate number bytes → length bytes ≡ frame_size rate
-without_long rate number bytes is =
-    let counter = number % 65536 in
-    let triplets = frame_triplets rate is.frame [] in
-    let section = cc_data_section triplets in
-    let footer = 0x74 ∷ (counter / 256) ∷ (counter % 256) ∷ [] in
-    let unsummed = unsummed_packet rate caption_flags counter section in
-    let user = written_packet rate caption_flags counter section in
-    let full = frame_full rate is.frame in
-    let long : length (all_written triplets) ≡ 3 * length triplets = length-all_written triplets in
-    let body : length (section ++ footer) ≡ length section + 3 = length-append section footer in
-    let all : length user ≡ length unsummed + 1 = length-append unsummed (checksum_of unsummed ∷ []) in
-    let packet = packet_long user in
-    let same = ap length is.spelled in
-    omega (arith, full, long, body, all, packet, same)
+frame_long : (rate : Rate) (number : ℕ) (frame : FrameBytes) → length (frame_bytes rate number frame []) ≡ frame_size rate
+frame_long rate number frame =
+    let all = length-carried_triplets rate number (frame_triplets rate frame []) in
+    let full = frame_full rate frame in
+    omega (arith, all, full)
 
-pub frames_long : (many : ℕ) (rate : Rate) (number : ℕ) (bytes : List ℕ) → AreFramesWithout rate number many bytes → length bytes ≡ many * frame_size rate
-frames_long zero rate number bytes none = let size = ap length none in omega (arith, size)
-frames_long (suc many) rate number bytes (front, rest, is, are, spelled) =
-    let first = without_long rate number front is in
-    let behind = frames_long many rate ((number + 1) % 65536) rest are in
-    let parts = ap length spelled ∙ length-append front rest in
+pub frames_long : (many : ℕ) (rate : Rate) (number : ℕ) → length (words_without rate number many) ≡ many * frame_size rate
+frames_long zero rate number = omega arith
+frames_long (suc many) rate number =
+    let next = (number + 1) % 65536 in
+    let first = frame_long rate number (silent_frame rate number) in
+    let behind = frames_long many rate next in
+    let parts = length-append (frame_bytes rate number (silent_frame rate number) []) (words_without rate next many) in
     let product : suc many * frame_size rate ≡ frame_size rate + many * frame_size rate = omega arith in
     omega (arith, first, behind, parts, product)
-
--- there are such frames
-nothing_in : Rate → ℕ → FrameBytes
-nothing_in rate number = record { one = null_in rate Cc1 number; two = null_in rate Cc3 number; blocks = record { items = [] } }
-
-nothing_is : (rate : Rate) (number : ℕ) → HasNothing rate number (nothing_in rate number)
-unfolding nothing_in
-nothing_is rate number = record { one = refl; two = refl; none = refl }
-
-pub some_without : (many : ℕ) (rate : Rate) (number : ℕ) → (bytes : List ℕ) × AreFramesWithout rate number many bytes
-some_without zero rate number = ([], refl)
-some_without (suc many) rate number =
-    let frame = nothing_in rate number in
-    let front = frame_bytes rate number frame [] in
-    let (rest, are) = some_without many rate ((number + 1) % 65536) in
-    (front ++ rest, (front, rest, record { frame = frame; is = nothing_is rate number; spelled = refl }, are, refl))
 
 -- the words that are made are no fewer than those that came
 raised_long : (by : ℕ) (user raised : List ℕ) → IsRaised by user raised → length raised ≡ length user
@@ -162,7 +118,7 @@ came_fewer (first ∷ placed) bytes before after (front, rest, middle, inl (is, 
     let all = length-append (payload_words first.1) (words_as_they_came placed) in
     let parts = ap length spelled ∙ length-append front rest in
     let own = words_long first.1 in
-    let made = ap length words.spelled ∙ length-append words.without (packet_bytes 0x61 0x01 words.raised) in
+    let made = ap length words.spelled ∙ length-append (missing_words before first.0) (packet_bytes 0x61 0x01 words.raised) in
     let packet = packet_long words.raised in
     let raised = raised_long _ first.1.user words.raised words.is_raised in
     omega (arith, more, all, parts, own, made, packet, raised)

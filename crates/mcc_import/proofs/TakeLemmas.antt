@@ -23,7 +23,6 @@ use Rattle.mcc_payloads.specs.Payloads.{Payload, payload_bytes}
 use Rattle.mcc_payloads.specs.PayloadWords.{payload_words}
 use Rattle.mcc_payloads.proofs.WordLemmas.{payload_is_packet, user_of_bytes}
 use Rattle.mcc_words.specs.Close.{words_as_they_came}
-use Rattle.mcc_words.specs.MccWords.{IsCaptions}
 use Rattle.packet_reading.proofs.EndLemmas.{brings, file_under}
 use Rattle.services_files.specs.CaptionChannel.{caption_channel}
 use Rattle.words_files.specs.Offences.{IsFileUnder}
@@ -80,7 +79,7 @@ no_lines = record { lines = []; rest = []; spelled = refl; ended = inl (refl, re
 -- a packet more
 pub record FileMore (placed : TimedPackets) (one : ℕ × Payload) : Type 0 where
   pub file : AreFile (placed ++ one ∷ [])
-  pub captions : IsCaptions one.1 → (frame : Frame) × IsCdp frame one.1.user
+  pub captions : (one.1.did ≡ 0x61) × (one.1.sdid ≡ 0x01) → (frame : Frame) × IsCdp frame one.1.user
 
 pub file_more : (placed : TimedPackets) (one : ℕ × Payload) (hearer : Hearer) → AreFile placed → All (λ byte. byte < 256) (payload_bytes one.1)
     → HasHeard (words_as_they_came (placed ++ one ∷ [])) hearer → FileMore placed one

@@ -1,6 +1,6 @@
 -- Believed: the program's answer stands on these definitions.
 -- What is put for the packets of an MCC file, and its limits: no more than 5,184,000 frames, and no more bytes than a words file may have.
-use Rattle.std.specs.Prelude.{◌≡◌, ℕ, ◌+◌, ◌-◌, ◌<◌, ◌≤◌, ◌⊎◌, if◌then◌else◌, List, [], ◌∷◌, ◌++◌, length, Option, Some, None}
+use Rattle.std.specs.Prelude.{◌≡◌, ℕ, ◌+◌, ◌<◌, ◌≤◌, ◌⊎◌, if◌then◌else◌, List, [], ◌∷◌, ◌++◌, length, Option, Some, None}
 use Rattle.cc_base.specs.declared.limit_of.LimitOf.{LimitOf}
 use Rattle.cc_base.specs.declared.limit_of.LimitOf.TheVariants as limit
 use Rattle.cdp_packets.specs.Packets.{Frame}
@@ -8,24 +8,19 @@ use Rattle.mcc_files.specs.Lines.{HaveNoLf}
 use Rattle.mcc_files.specs.MccFiles.{IsMccFile, TimedPackets}
 use Rattle.mcc_payloads.specs.Payloads.{Payload}
 use Rattle.mcc_words.specs.Close.{words_as_they_came}
-use Rattle.mcc_words.specs.MccWords.{AreMccWords, carries_captions}
+use Rattle.mcc_words.specs.MccWords.{AreMccWords, carries_captions, missing}
 use Rattle.scc_files.specs.Offences.{EndsLine}
 use Rattle.services_files.specs.CaptionChannel.{caption_channel}
 use Rattle.words_files.specs.Offences.{IsFileUnder}
 use Rattle.words_reading.specs.Causes.{words_limit}
 use Rattle.mcc_import.specs.Offences.{NoWordOffends}
 
--- how many frames are missing between the packet of captions before, if there is one, and one at a frame
-abbrev pub missing_between : Option ℕ → ℕ → ℕ
-missing_between None frame = 0
-missing_between (Some last) frame = frame - (last + 1)
-
 -- how many frames are put for packets, behind a packet of captions at such a frame: one for each packet of captions, and those that are
 -- missing before it
 abbrev pub frames_behind : Option ℕ → TimedPackets → ℕ
 frames_behind last [] = 0
 frames_behind last (placed ∷ more) =
-    if carries_captions placed.1 then missing_between last placed.0 + 1 + frames_behind (Some placed.0) more else frames_behind last more
+    if carries_captions placed.1 then missing last placed.0 + 1 + frames_behind (Some placed.0) more else frames_behind last more
 
 abbrev pub frames_put : TimedPackets → ℕ
 frames_put placed = frames_behind None placed

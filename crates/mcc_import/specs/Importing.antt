@@ -24,13 +24,12 @@ use Rattle.mcc_payloads.specs.Payloads.{Payload}
 use Rattle.mcc_words.specs.Close.{words_as_they_came}
 use Rattle.mcc_words.specs.Makers.{BeginsCaptions, HasMade}
 use Rattle.mcc_words.specs.MccWords.{AreMccWords}
-use Rattle.mcc_words.specs.Missing.{AreFramesWithout}
 use Rattle.mcc_words.specs.Raised.{IsRaised}
 use Rattle.mcc_words.specs.declared.maker.MccWords.{MccWords}
 use Rattle.mcc_words.specs.declared.missing.MissingFrames.{MissingFrames}
 use Rattle.scc_files.specs.Offences.{EndsLine}
 use Rattle.services_files.specs.CaptionChannel.{caption_channel}
-use Rattle.text_output.specs.Gathered.{GathersText, IsGathered}
+use Rattle.text_output.specs.Gathered.{IsGathered}
 use Rattle.words_files.specs.Offences.{FirstOffendingWord, IsFileUnder, IsUnoffending}
 use Rattle.words_reading.specs.Causes.{Cause, IsAnyhow, IsWholeInput, words_limit}
 use Rattle.words_reading.specs.Judging.{SaysFront}
@@ -91,11 +90,6 @@ pub record HasBegun (placed : TimedPackets) (words : List ℕ) (frame : ℕ) (us
 -- these are the words of the packet of captions with these user bytes that was begun: those of the packet with its counter raised
 abbrev pub AreBegunWords : MccWords → List ℕ → List ℕ → Type 0
 AreBegunWords maker user bytes = IfSome maker.before (λ now. (raised : List ℕ) × IsRaised now.raised user raised × (bytes ≡ packet_bytes 0x61 0x01 raised))
-
--- the words of missing frames were added, or a put of them failed
-abbrev pub AddsMissing : Rate → ℕ → ℕ → List ℕ → Option (List ℕ) → Option (List ℕ) → List ℕ → Put → Type 0
-AddsMissing rate number left words start then after answer =
-    (without : List ℕ) × AreFramesWithout rate number left without × GathersText start then after (words ++ without) answer
 
 -- a hearer heard these words, of which none offends
 pub record HasHeard (words : List ℕ) (hearer : Hearer) : Type 0 where

@@ -1,4 +1,4 @@
-ghost use Rattle.std.specs.Prelude.{◌≡◌, ◌≤◌, ◌<◌, ◌^◌, ◌∷◌, ◌++◌, ℕ, List, [], Option, length};
+ghost use Rattle.std.specs.Prelude.{◌≡◌, ◌≤◌, ◌<◌, ◌^◌, ◌∷◌, ◌++◌, ℕ, List, [], Option, false, length};
 ghost use Rattle.std.specs.List.{All};
 ghost use Rattle.anc_words.specs.Writing.{packet_bytes};
 ghost use Rattle.cc_base.specs.Streams.{PutCause};
@@ -7,10 +7,11 @@ ghost use Rattle.mcc_files.specs.MccFiles.{TimedPackets};
 ghost use Rattle.mcc_files.specs.Readers.{HasWholeBytes, packet_in};
 ghost use Rattle.mcc_payloads.specs.Payloads.{Payload};
 ghost use Rattle.mcc_payloads.specs.PayloadWords.{payload_words};
-ghost use Rattle.mcc_words.specs.MccWords.{IsCaptions};
+ghost use Rattle.mcc_words.specs.Makers.{words_left};
+ghost use Rattle.mcc_words.specs.MccWords.{carries_captions};
 ghost use Rattle.text_output.specs.Gathered.{GathersText, IsGathered, held_of};
 ghost use Rattle.words_reading.specs.Judging.{StopCause};
-ghost use Rattle.mcc_import.specs.Importing.{AddsMissing, AddsPacket, AreBegunWords, AreFile, Counts, HasBegun, HasEnded, IsMade, SomeEnded, frame_size};
+ghost use Rattle.mcc_import.specs.Importing.{AddsPacket, AreBegunWords, AreFile, Counts, HasBegun, HasEnded, IsMade, SomeEnded, frame_size};
 ghost use Rattle.mcc_import.specs.declared.hearing.Hearer.{Hearer};
 
 use crate::item_words::said;
@@ -192,7 +193,7 @@ impl Made {
         ensures adds { (placed : TimedPackets) (words : List ℕ) (start : Option (List ℕ))
             (frame : ℕ) (payload : Payload) → IsMade placed words self.old
             → IsGathered start (O.written out.old) (held_of text.old) words
-            → (IsCaptions payload → ⊥) → packet.now ≡ payload_words payload
+            → carries_captions payload ≡ false → packet.now ≡ payload_words payload
             → AddsPacket placed words (frame, payload) start (O.written out.new)
             (held_of text.new) self.new result }
         ensures cause { StopCause (O.faults out.old) (O.faults out.new) result }
@@ -211,8 +212,8 @@ impl Made {
 fn add_missing<O: Sink>(missing: MissingFrames, text: &mut Gathered, out: &mut O) -> Put
     ensures adds { (words : List ℕ) (start : Option (List ℕ))
         → IsGathered start (O.written out.old) (held_of text.old) words
-        → AddsMissing missing.rate missing.number missing.left words start (O.written out.new)
-        (held_of text.new) result }
+        → GathersText start (O.written out.new) (held_of text.new) (words ++ words_left missing)
+        result }
     ensures cause { PutCause (O.faults out.old) (O.faults out.new) result }
 {
     if missing.left == 0 {
@@ -226,8 +227,8 @@ fn add_missing<O: Sink>(missing: MissingFrames, text: &mut Gathered, out: &mut O
 fn add_frames<O: Sink>(missing: MissingFrames, text: &mut Gathered, out: &mut O) -> Put
     ensures adds { (words : List ℕ) (start : Option (List ℕ))
         → IsGathered start (O.written out.old) (held_of text.old) words
-        → AddsMissing missing.rate missing.number missing.left words start (O.written out.new)
-        (held_of text.new) result }
+        → GathersText start (O.written out.new) (held_of text.new) (words ++ words_left missing)
+        result }
     ensures cause { PutCause (O.faults out.old) (O.faults out.new) result }
 {
     let mut left = missing;

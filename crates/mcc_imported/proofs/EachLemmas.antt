@@ -26,7 +26,8 @@ use Rattle.mcc_payloads.specs.PayloadWords.{payload_words}
 use Rattle.mcc_payloads.specs.Reading.{item_bytes}
 use Rattle.mcc_payloads.specs.declared.reader.Offence.{Offence}
 use Rattle.mcc_words.specs.Close.{words_as_they_came}
-use Rattle.mcc_words.specs.MccWords.{IsCaptions}
+use Rattle.mcc_words.specs.MccWords.{carries_captions}
+use Rattle.mcc_words.proofs.CaptionTests.{are_captions}
 use Rattle.missing_frames_shown.proofs.FileLemmas.{GoForward, file_forward}
 use Rattle.packet_reading.proofs.EndLemmas.{brings, file_under}
 use Rattle.scc_files.specs.Offences.{EndsLine}
@@ -65,7 +66,7 @@ file_now front all file fine =
     let under = file_under (packets_of all) (words_as_they_came all) whole fine (words_bytes (words_as_they_came all) whole.words whole.spelled) in
     record { frames = under.0; under = under.1 }
 
-frame_of : (front : List ℕ) (placed : TimedPackets) (one : ℕ × Payload) → IsMccFile (placed ++ one ∷ []) front → AreFile placed → AreFile (placed ++ one ∷ []) → IsCaptions one.1
+frame_of : (front : List ℕ) (placed : TimedPackets) (one : ℕ × Payload) → IsMccFile (placed ++ one ∷ []) front → AreFile placed → AreFile (placed ++ one ∷ []) → carries_captions one.1 ≡ true
     → (frame : Frame) × IsCdp frame one.1.user
 frame_of front placed one file was now captions =
     let p = one.1 in
@@ -73,7 +74,7 @@ frame_of front placed one file was now captions =
     let packet = packet_of p.did p.sdid p.user in
     let brought = brings packet was.frames now.frames (words_as_they_came placed) (payload_words p) was.under
     (subst (λ (w : List ℕ). IsFileUnder caption_channel now.frames w) (came_more placed one) now.under) (payload_is_packet p are) in
-    let (frame, cdp, only) = brought.caption_brings captions in
+    let (frame, cdp, only) = brought.caption_brings (are_captions p captions) in
     (frame, subst (λ (u : List ℕ). IsCdp frame u) (user_bytes-packet_of p.did p.sdid p.user (user_of_bytes p are)) cdp)
 
 line_done : (front : List ℕ) (placed : TimedPackets) (one : ℕ × Payload) (words : List ℕ) → IsMccFile (placed ++ one ∷ []) front → NoWordOffends front

@@ -1,17 +1,15 @@
 -- There are words of packets, each of which is a distribution packet if it is one of captions.
-use Rattle.std.proofs.Common.{◌≡◌, ℕ, ◌+◌, ◌-◌, ◌*◌, ◌/◌, ◌%◌, ◌<◌, ◌⊎◌, inl, inr, List, [], ◌∷◌, ◌++◌, length, sum, Option, Some, None, refl, ap, ◌∙◌, arith}
+use Rattle.std.proofs.Common.{◌≡◌, ℕ, ◌+◌, ◌-◌, ◌*◌, ◌/◌, ◌%◌, ◌<◌, inl, inr, Bool, true, false, List, [], ◌∷◌, ◌++◌, length, sum, Option, Some, None, refl, ap, ◌∙◌, arith}
 use Rattle.std.specs.List.{concat}
-use Rattle.std.proofs.lemmas.Bool.{cases_eq}
 use Rattle.anc_words.specs.Writing.{packet_bytes}
 use Rattle.cc_base.specs.Rate.{rate_code}
 use Rattle.cdp_packets.specs.Packets.{Frame, IsCdp}
 use Rattle.mcc_files.specs.MccFiles.{TimedPackets}
-use Rattle.mcc_import.proofs.MadeLemmas.{some_without}
 use Rattle.mcc_payloads.specs.Payloads.{Payload}
 use Rattle.mcc_payloads.specs.PayloadWords.{payload_words}
 use Rattle.mcc_words.proofs.CloseLemmas.{sum_foot}
 use Rattle.mcc_words.proofs.MakerLemmas.{words_more}
-use Rattle.mcc_words.specs.MccWords.{AreMccWords, AreMissing, ArePacketWords, IsCaptions, first_number, missing, raised_by}
+use Rattle.mcc_words.specs.MccWords.{AreMccWords, ArePacketWords, carries_captions, missing_words, raised_by}
 use Rattle.mcc_words.specs.Raised.{IsRaised}
 use Rattle.mcc_words.specs.declared.maker.Before.{Before}
 use Rattle.mcc_imported.proofs.WordsLemmas.{packet_with}
@@ -63,54 +61,28 @@ raises packet by user is =
       };
     }
 
--- a payload's packet is one of captions, or it isn't
-captions_or_not : (p : Payload) → IsCaptions p ⊎ (IsCaptions p → ⊥)
-captions_or_not p = elim (cases_eq p.did 0x61) [
-  | inl did ↦ elim (cases_eq p.sdid 0x01) [
-    | inl sdid ↦ inl (did, sdid)
-    | inr other ↦ inr (λ is. other is.1)
-  ]
-  | inr other ↦ inr (λ is. other is.0)
-]
-
--- its words, with the frames that are missing before it
-missing_are : (before : Option Before) (frame : ℕ) → (bytes : List ℕ) × AreMissing before frame bytes
-missing_are None frame = ([], refl)
-missing_are (Some before) frame = some_without (missing (Some before) frame) before.rate (first_number before)
-
+-- the words of a packet, with the frames that are missing before it
 pub record Makes (before : Option Before) (one : ℕ × Payload) : Type 0 where
   pub bytes : List ℕ
   pub after : Option Before
   pub are : ArePacketWords before one bytes after
 
-makes : (before : Option Before) (one : ℕ × Payload) → (IsCaptions one.1 → (frame : Frame) × IsCdp frame one.1.user) → Makes before one
-makes before one carries = elim (captions_or_not one.1) [
-  | inl is ↦
-      let (packet, cdp) = carries is in
-      let by = raised_by before one.0 packet.counter in
-      let without = missing_are before one.0 in
-      let r = raises packet by one.1.user cdp in
-      record {
-        bytes = without.0 ++ packet_bytes 0x61 0x01 r.raised;
-        after = Some (record { frame = one.0; rate = packet.rate; counter = packet.counter; raised = by });
-        are = inl (
-          is,
-          record {
-            packet = packet;
-            without = without.0;
-            raised = r.raised;
-            is = cdp;
-            are_missing = without.1;
-            is_raised = r.is;
-            spelled = refl;
-            after_is = refl;
-          },
-        );
-      }
-  | inr isnt ↦ record { bytes = payload_words one.1; after = before; are = inr (isnt, refl, refl) }
-]
+makes : (before : Option Before) (one : ℕ × Payload) → (carries_captions one.1 ≡ true → (frame : Frame) × IsCdp frame one.1.user) → Makes before one
+makes before one carries = by_test (carries_captions one.1) refl
+  where
+    by_test : (test : Bool) → carries_captions one.1 ≡ test → Makes before one
+    by_test true is =
+        let (packet, cdp) = carries is in
+        let by = raised_by before one.0 packet.counter in
+        let r = raises packet by one.1.user cdp in
+        record {
+          bytes = missing_words before one.0 ++ packet_bytes 0x61 0x01 r.raised;
+          after = Some (record { frame = one.0; rate = packet.rate; counter = packet.counter; raised = by });
+          are = inl (is, record { packet = packet; raised = r.raised; is = cdp; is_raised = r.is; spelled = refl; after_is = refl });
+        }
+    by_test false isnt = record { bytes = payload_words one.1; after = before; are = inr (isnt, refl, refl) }
 
-pub words_with_one : (placed : TimedPackets) (words : List ℕ) (one : ℕ × Payload) → AreMccWords placed words → (IsCaptions one.1 → (frame : Frame) × IsCdp frame one.1.user)
+pub words_with_one : (placed : TimedPackets) (words : List ℕ) (one : ℕ × Payload) → AreMccWords placed words → (carries_captions one.1 ≡ true → (frame : Frame) × IsCdp frame one.1.user)
     → (longer : List ℕ) × AreMccWords (placed ++ one ∷ []) longer
 words_with_one placed words one are carries =
     let m = makes are.after one carries in

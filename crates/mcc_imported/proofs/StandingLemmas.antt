@@ -19,7 +19,7 @@ use Rattle.mcc_payloads.proofs.WordLemmas.{payload_is_packet, user_of_bytes}
 use Rattle.mcc_payloads.specs.Payloads.{Payload}
 use Rattle.mcc_payloads.specs.PayloadWords.{payload_words}
 use Rattle.mcc_words.specs.Close.{words_as_they_came}
-use Rattle.mcc_words.specs.MccWords.{IsCaptions}
+use Rattle.mcc_words.proofs.CaptionTests.{captions_false, captions_true}
 use Rattle.missing_frames_shown.proofs.FileLemmas.{GoForward, file_forward}
 use Rattle.missing_frames_shown.proofs.PartLemmas.{other_first, own_first, packets_stand_apart, words_have_frames}
 use Rattle.missing_frames_shown.proofs.PlaceLemmas.{packets_stand_at_their_frames}
@@ -105,10 +105,10 @@ parts_heard : (last : ℕ) (placed : TimedPackets) (parts : List CaptionPart) (f
 parts_heard last [] [] _ forward none are same = refl
 parts_heard last [] (part ∷ parts) _ forward none are same = absurd (cc)
 parts_heard last (placed ∷ more) [] _ forward (caption _ _ frame frames is carries carried) are same =
-    let own = own_first placed more is in
+    let own = own_first placed more (captions_true placed.1 is) in
     absurd (let clash : placed ∷ caption_packets more ≡ [] = sym own ∙ sym same in cc)
 parts_heard last (placed ∷ more) (part ∷ parts) _ forward (caption _ _ frame frames is carries carried) are same =
-    let all : placed_packet part ∷ map placed_packet parts ≡ placed ∷ caption_packets more = same ∙ own_first placed more is in
+    let all : placed_packet part ∷ map placed_packet parts ≡ placed ∷ caption_packets more = same ∙ own_first placed more (captions_true placed.1 is) in
     let first : placed_packet part ≡ placed = cc in
     let rest : map placed_packet parts ≡ caption_packets more = cc in
     let payload : part.payload ≡ placed.1 = ap (λ (p : ℕ × Payload). p.1) first in
@@ -118,7 +118,7 @@ parts_heard last (placed ∷ more) (part ∷ parts) _ forward (caption _ _ frame
     let next = parts_heard placed.0 more parts frames forward.2 carried (All-tail IsPart part parts are) rest in
     heard_first frame frames ∙ (ap (λ (t : List Triplet). channel_triplets (packet_triplets frame) ++ t) next ∙ sym here)
 parts_heard last (placed ∷ more) parts _ forward (foreign _ _ frames isnt carried) are same =
-    parts_heard placed.0 more parts frames forward.2 carried are (same ∙ other_first placed more isnt)
+    parts_heard placed.0 more parts frames forward.2 carried are (same ∙ other_first placed more (captions_false placed.1 isnt))
 
 -- so the words of an import are a words file
 pub imports_are_files : ImportsAreWordsFiles

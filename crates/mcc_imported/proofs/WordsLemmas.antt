@@ -1,20 +1,16 @@
 -- The words of packets are one list of bytes, and those of more packets go on behind them.
 use Rattle.std.proofs.Common.{◌≡◌, ℕ, zero, suc, ◌+◌, ◌*◌, ◌%◌, ◌<◌, ◌≤◌, inl, inr, Bool, true, false, cond, List, [], ◌∷◌, ◌++◌, append_assoc, length, length-append, sum, Option, Some, None, refl, ap, sym, ◌∙◌, subst, arith}
+use Rattle.std.proofs.lemmas.Bool.{true≢false}
 use Rattle.std.proofs.lemmas.List.{drop_at, take_at}
 use Rattle.std.specs.Prelude.{drop, take}
 use Rattle.anc_words.specs.Writing.{packet_bytes}
-use Rattle.cc_base.specs.declared.rate.Rate.{Rate}
 use Rattle.cdp_packets.proofs.PacketLemmas.{packet_once}
 use Rattle.cdp_packets.specs.Packets.{Frame}
-use Rattle.frame_carrier.specs.Carrying.{frame_bytes}
-use Rattle.frame_scheduler.specs.declared.frames.FrameBytes.{FrameBytes}
-use Rattle.line21_codes.specs.declared.pairs.Pair.{Pair}
 use Rattle.mcc_files.specs.MccFiles.{TimedPackets}
 use Rattle.mcc_payloads.specs.Payloads.{Payload}
-use Rattle.mcc_import.specs.Imported.{frames_behind, frames_put, missing_between}
+use Rattle.mcc_import.specs.Imported.{frames_behind, frames_put}
 use Rattle.mcc_words.proofs.CloseLemmas.{same_last, sum_foot}
-use Rattle.mcc_words.specs.MccWords.{AreCaptionWords, AreMissing, ArePacketWords, AreWordsBehind, carries_captions, first_number, missing, raised_by}
-use Rattle.mcc_words.specs.Missing.{AreFramesWithout, HasNothing, IsFrameWithout}
+use Rattle.mcc_words.specs.MccWords.{AreCaptionWords, ArePacketWords, AreWordsBehind, carries_captions, missing, missing_words, raised_by}
 use Rattle.mcc_words.specs.Raised.{IsRaised}
 use Rattle.mcc_words.specs.declared.maker.Before.{Before}
 use Rattle.mcc_imported.specs.Imports.{WordsAreOne, WordsGoOn}
@@ -26,31 +22,7 @@ same_fronts front back other rest long same = (
   sym (drop_at front back (length front) refl) ∙ ap (drop (length front)) same ∙ drop_at other rest (length front) (sym long),
 )
 
--- a frame without captions has one list of words
-abbrev frame_of : Option Pair → Option Pair → List ℕ → FrameBytes
-frame_of first second bytes = record { one = first; two = second; blocks = record { items = bytes } }
-
-frame_once : (rate : Rate) (number : ℕ) (one other : FrameBytes) → HasNothing rate number one → HasNothing rate number other → one ≡ other
-frame_once rate number one other is also =
-    ap (λ (p : Option Pair). frame_of p one.two one.blocks.items) (is.one ∙ sym also.one)
-    ∙ (ap (λ (p : Option Pair). frame_of other.one p one.blocks.items) (is.two ∙ sym also.two)
-    ∙ ap (λ (b : List ℕ). frame_of other.one other.two b) (is.none ∙ sym also.none))
-
-without_once : (rate : Rate) (number : ℕ) (one other : List ℕ) → IsFrameWithout rate number one → IsFrameWithout rate number other → one ≡ other
-without_once rate number one other is also =
-    is.spelled ∙ (ap (λ (f : FrameBytes). frame_bytes rate number f []) (frame_once rate number is.frame also.frame is.is also.is) ∙ sym also.spelled)
-
-frames_once : (many : ℕ) (rate : Rate) (number : ℕ) (one other : List ℕ) → AreFramesWithout rate number many one → AreFramesWithout rate number many other → one ≡ other
-frames_once zero rate number one other is also = is ∙ sym also
-frames_once (suc many) rate number one other (front, rest, is, more, spelled) (first, behind, also, others, split) =
-    spelled ∙ (ap (λ (f : List ℕ). f ++ rest) (without_once rate number front first is also)
-    ∙ (ap (λ (r : List ℕ). first ++ r) (frames_once many rate ((number + 1) % 65536) rest behind more others) ∙ sym split))
-
-missing_once : (before : Option Before) (frame : ℕ) (one other : List ℕ) → AreMissing before frame one → AreMissing before frame other → one ≡ other
-missing_once None frame one other is also = is ∙ sym also
-missing_once (Some before) frame one other is also = frames_once (missing (Some before) frame) before.rate (first_number before) one other is also
-
--- so has a packet with its counter raised
+-- a packet has one list of words with its counter raised
 two_once : (a b c d : ℕ) → a < 256 → b < 256 → c < 256 → d < 256 → 256 * a + b ≡ 256 * c + d → (a ≡ c) × (b ≡ d)
 two_once a b c d a_fits b_fits c_fits d_fits is = (omega (arith, is), omega (arith, is))
 
@@ -117,11 +89,9 @@ captions_once : (before : Option Before) (frame : ℕ) (user one other : List �
     → AreCaptionWords before frame user other later → (one ≡ other) × (after ≡ later)
 captions_once before frame user one other after later w v =
     let packet : w.packet ≡ v.packet = (packet_once w.packet v.packet user user [] [] w.is v.is refl).packet in
-    let without = missing_once before frame w.without v.without w.are_missing v.are_missing in
     let raised = raised_once (raised_by before frame v.packet.counter) user w.raised v.raised
     (subst (λ (p : Frame). IsRaised (raised_by before frame p.counter) user w.raised) packet w.is_raised) v.is_raised in (
-      w.spelled ∙ (ap (λ (l : List ℕ). l ++ packet_bytes 0x61 0x01 w.raised) without
-          ∙ (ap (λ (r : List ℕ). v.without ++ packet_bytes 0x61 0x01 r) raised ∙ sym v.spelled)),
+      w.spelled ∙ (ap (λ (r : List ℕ). missing_words before frame ++ packet_bytes 0x61 0x01 r) raised ∙ sym v.spelled),
       w.after_is ∙ (ap (λ (p : Frame). after_with before frame p) packet ∙ sym v.after_is),
     )
 
@@ -129,8 +99,8 @@ packet_once_more : (before : Option Before) (placed : ℕ × Payload) (one other
     → ArePacketWords before placed other later → (one ≡ other) × (after ≡ later)
 packet_once_more before placed one other after later (inl (is, words)) (inl (also, others)) =
     captions_once before placed.0 placed.1.user one other after later words others
-packet_once_more before placed one other after later (inl (is, words)) (inr (isnt, others, same)) = absurd (isnt is)
-packet_once_more before placed one other after later (inr (isnt, words, same)) (inl (is, others)) = absurd (isnt is)
+packet_once_more before placed one other after later (inl (is, words)) (inr (isnt, others, same)) = absurd (true≢false (sym is ∙ isnt))
+packet_once_more before placed one other after later (inr (isnt, words, same)) (inl (is, others)) = absurd (true≢false (sym is ∙ isnt))
 packet_once_more before placed one other after later (inr (isnt, words, same)) (inr (also, others, again)) = (words ∙ sym others, same ∙ sym again)
 
 -- all packets have one list of words
@@ -181,7 +151,7 @@ fewer_by false own first all second rest less fewer = fewer
 frames_fewer_behind : (front more : TimedPackets) (last : Option ℕ) → frames_behind last front ≤ frames_behind last (front ++ more)
 frames_fewer_behind [] more last = omega arith
 frames_fewer_behind (placed ∷ front) more last =
-    fewer_by (carries_captions placed.1) (missing_between last placed.0 + 1) (frames_behind (Some placed.0) front) (frames_behind (Some placed.0) (front ++ more))
+    fewer_by (carries_captions placed.1) (missing last placed.0 + 1) (frames_behind (Some placed.0) front) (frames_behind (Some placed.0) (front ++ more))
     (frames_behind last front) (frames_behind last (front ++ more)) (frames_fewer_behind front more (Some placed.0)) (frames_fewer_behind front more last)
 
 pub frames_fewer : (front more : TimedPackets) → frames_put front ≤ frames_put (front ++ more)

@@ -2,6 +2,7 @@
 use Rattle.std.proofs.Common.{◌≡◌, ℕ, zero, ◌+◌, ◌-◌, ◌*◌, ◌%◌, ◌≤◌, ◌<◌, inl, inr, Bool, true, false, cond, nat_lt, List, [], ◌∷◌, ◌++◌, length, sum, Option, Some, None, refl, ap, sym, ◌∙◌, subst, arith}
 use Rattle.std.specs.Prelude.{IfSome}
 use Rattle.std.specs.List.{concat}
+use Rattle.std.proofs.lemmas.Bool.{true≢false}
 use Rattle.std.proofs.lemmas.Bool.Decides.{nat_tests}
 use Rattle.anc_words.specs.Writing.{packet_bytes}
 use Rattle.cc_base.specs.Rate.{rate_code}
@@ -12,11 +13,12 @@ use Rattle.mcc_payloads.specs.PayloadWords.{payload_words}
 use Rattle.mcc_payloads.proofs.WrittenLemmas.{AreBytes, back_bytes, tail_bytes}
 use Rattle.mcc_words.specs.Close.{AreClose, HaveBytes, IsClose, words_as_they_came}
 use Rattle.mcc_words.specs.Makers.{raises, was_raised}
-use Rattle.mcc_words.specs.MccWords.{AreCaptionWords, AreMissing, AreMccWords, AreWordsBehind, IsCaptions, counts_missing, first_number, missing, raised_by}
-use Rattle.mcc_words.specs.Missing.{AreFramesWithout}
+use Rattle.mcc_words.specs.MccWords.{AreCaptionWords, AreMccWords, AreWordsBehind, carries_captions, counts_missing, first_number, missing, missing_words, raised_by}
+use Rattle.mcc_words.specs.Missing.{words_without}
 use Rattle.mcc_words.specs.Raised.{IsRaised}
 use Rattle.mcc_words.specs.declared.maker.Before.{Before}
 use Rattle.mcc_words.specs.declared.maker.MccWords.{MccWords}
+use Rattle.mcc_words.proofs.CaptionTests.{are_captions}
 use Rattle.mcc_words.proofs.RaiseLemmas.{sum_both, sum_first}
 
 -- a counter that isn't raised
@@ -118,10 +120,9 @@ Unraised last (Some before) = (last ≡ Some before.frame) × (before.raised ≡
 pub close_is : (last : Option ℕ) (at frame : ℕ) → last ≡ Some at → IsClose last frame → frame - (at + 1) ≡ 0
 close_is last at frame is close = let near : frame ≤ at + 1 = subst (λ (o : Option ℕ). IsClose o frame) is close in omega (arith, near)
 
-pub none_missing : (last : Option ℕ) (before : Option Before) (frame : ℕ) (without : List ℕ) → Unraised last before → IsClose last frame → AreMissing before frame without → without ≡ []
-none_missing last None frame without is close are = are
-none_missing last (Some before) frame without (is, none) close are =
-    subst (λ (n : ℕ). AreFramesWithout before.rate (first_number before) n without) (close_is last before.frame frame is close) are
+pub none_missing : (last : Option ℕ) (before : Option Before) (frame : ℕ) → Unraised last before → IsClose last frame → missing_words before frame ≡ []
+none_missing last None frame is close = refl
+none_missing last (Some before) frame (is, none) close = ap (λ many. words_without before.rate (first_number before) many) (close_is last before.frame frame is close)
 
 pub none_by : (before : Before) (test : Bool) (many : ℕ) → before.raised ≡ 0 → many ≡ 0 → cond test before.raised ((before.raised + many) % 65536) ≡ 0
 none_by before true many none no_more = none
@@ -129,17 +130,18 @@ none_by before false many none no_more = omega (arith, none, no_more)
 
 pub none_raised : (last : Option ℕ) (before : Option Before) (frame counter : ℕ) → Unraised last before → IsClose last frame → raised_by before frame counter ≡ 0
 none_raised last None frame counter is close = refl
-none_raised last (Some before) frame counter (is, none) close = none_by before (counts_missing before frame counter) (missing (Some before) frame) none (close_is last before.frame frame is close)
+none_raised last (Some before) frame counter (is, none) close = none_by before (counts_missing before frame counter) (missing (Some before.frame) frame) none (close_is last before.frame frame is close)
 
-pub packet_close : (last : Option ℕ) (before after : Option Before) (frame : ℕ) (payload : Payload) (front : List ℕ) → Unraised last before → IsClose last frame → IsCaptions payload → AreBytes payload.user
+pub packet_close : (last : Option ℕ) (before after : Option Before) (frame : ℕ) (payload : Payload) (front : List ℕ) → Unraised last before → IsClose last frame → carries_captions payload ≡ true → AreBytes payload.user
     → AreCaptionWords before frame payload.user front after → (front ≡ payload_words payload) × Unraised (Some frame) after
 packet_close last before after frame payload front is close captions bytes words =
     let none = none_raised last before frame words.packet.counter is close in
-    let nothing = none_missing last before frame words.without is close words.are_missing in
+    let nothing = none_missing last before frame is close in
+    let (did, sdid) = are_captions payload captions in
     let same = not_raised words.packet payload.user words.raised words.is bytes (subst (λ (b : ℕ). IsRaised b payload.user words.raised) none words.is_raised) in
     let spelled : front ≡ packet_bytes payload.did payload.sdid payload.user =
     words.spelled ∙ (ap (λ w. w ++ packet_bytes 0x61 0x01 words.raised) nothing ∙ (ap (λ r. packet_bytes 0x61 0x01 r) same
-    ∙ (ap (λ d. packet_bytes d 0x01 payload.user) (sym captions.0) ∙ ap (λ d. packet_bytes payload.did d payload.user) (sym captions.1)))) in
+    ∙ (ap (λ d. packet_bytes d 0x01 payload.user) (sym did) ∙ ap (λ d. packet_bytes payload.did d payload.user) (sym sdid)))) in
     (spelled, subst (λ (o : Option Before). Unraised (Some frame) o) (sym words.after_is) (refl, none))
 
 pub close_by : (placed : TimedPackets) (last : Option ℕ) (before after : Option Before) (bytes : List ℕ) → Unraised last before → AreClose last placed → HaveBytes placed
@@ -149,8 +151,8 @@ close_by (placed ∷ more) last before after bytes is (inl (captions, near, clos
     let (front_is, next) = packet_close last before middle placed.0 placed.1 front is near captions first words in
     let rest_is = close_by more (Some placed.0) middle after rest next close have behind in
     spelled ∙ (ap (λ f. f ++ rest) front_is ∙ ap (λ r. payload_words placed.1 ++ r) rest_is)
-close_by (placed ∷ more) last before after bytes is (inl (captions, near, close)) (first, have) (front, rest, middle, inr (other, words, same), behind, spelled) = absurd (other captions)
-close_by (placed ∷ more) last before after bytes is (inr (other, close)) (first, have) (front, rest, middle, inl (captions, words), behind, spelled) = absurd (other captions)
+close_by (placed ∷ more) last before after bytes is (inl (captions, near, close)) (first, have) (front, rest, middle, inr (other, words, same), behind, spelled) = absurd (true≢false (sym captions ∙ other))
+close_by (placed ∷ more) last before after bytes is (inr (other, close)) (first, have) (front, rest, middle, inl (captions, words), behind, spelled) = absurd (true≢false (sym captions ∙ other))
 close_by (placed ∷ more) last before after bytes is (inr (other, close)) (first, have) (front, rest, middle, inr (no_captions, words, same), behind, spelled) =
     let rest_is = close_by more last middle after rest (subst (λ (o : Option Before). Unraised last o) (sym same) is) close have behind in
     spelled ∙ (ap (λ f. f ++ rest) words ∙ ap (λ r. payload_words placed.1 ++ r) rest_is)

@@ -1,14 +1,14 @@
 -- The words of packets, one packet after another.
-use Rattle.std.proofs.Common.{◌≡◌, ℕ, suc, ◌+◌, ◌%◌, inl, inr, true, List, [], ◌∷◌, ◌++◌, append_assoc, append-nil, Option, Some, None, refl, ap, sym, ◌∙◌, subst, add-one}
+use Rattle.std.proofs.Common.{◌≡◌, ℕ, suc, ◌+◌, ◌%◌, inl, inr, true, false, List, [], ◌∷◌, ◌++◌, append_assoc, append-nil, Option, Some, None, refl, ap, sym, ◌∙◌, subst, add-one}
 use Rattle.anc_words.specs.Writing.{packet_bytes}
 use Rattle.cc_base.specs.declared.rate.Rate.{Rate}
 use Rattle.mcc_files.specs.MccFiles.{TimedPackets}
 use Rattle.mcc_payloads.specs.Payloads.{Payload}
 use Rattle.mcc_payloads.specs.PayloadWords.{payload_words}
 use Rattle.mcc_words.specs.Calls.{CallsMake}
-use Rattle.mcc_words.specs.Makers.{AreMissingFrames, BeginsCaptions, HasMade, PutsNext}
-use Rattle.mcc_words.specs.MccWords.{AreMissing, ArePacketWords, AreWordsBehind, IsCaptions, missing, raised_by}
-use Rattle.mcc_words.specs.Missing.{AreFramesWithout}
+use Rattle.mcc_words.specs.Makers.{AreMissingFrames, BeginsCaptions, HasMade, PutsNext, words_left}
+use Rattle.mcc_words.specs.MccWords.{ArePacketWords, AreWordsBehind, carries_captions, missing, missing_words, raised_by}
+use Rattle.mcc_words.specs.Missing.{words_without}
 use Rattle.mcc_words.specs.Raised.{IsRaised}
 use Rattle.mcc_words.specs.declared.maker.Before.{Before}
 use Rattle.mcc_words.specs.declared.maker.MccWords.{MccWords}
@@ -22,55 +22,53 @@ words_more [] bytes before middle one front after (none, same) words =
 words_more (placed ∷ more) bytes before middle one front after (first, rest, next, are, behind, spelled) words =
     (first, rest ++ front, next, are, words_more more rest next middle one front after behind words, ap (λ b. b ++ front) spelled ∙ append_assoc first rest front)
 
--- the missing frames
-pub missing_are : (before : Option Before) (frame : ℕ) (frames : MissingFrames) (without : List ℕ) → AreMissingFrames before frame frames
-    → AreFramesWithout frames.rate frames.number frames.left without → AreMissing before frame without
-missing_are None frame frames without none are = subst (λ (n : ℕ). AreFramesWithout frames.rate frames.number n without) none are
-missing_are (Some before) frame frames without (left, rate, number) are =
-    let so_many = subst (λ (n : ℕ). AreFramesWithout frames.rate frames.number n without) left are in
-    let so_fast = subst (λ (r : Rate). AreFramesWithout r frames.number (missing (Some before) frame) without) rate so_many in
-    subst (λ (n : ℕ). AreFramesWithout before.rate n (missing (Some before) frame) without) number so_fast
+-- the words of missing frames are those that are left
+pub missing_are : (before : Option Before) (frame : ℕ) (frames : MissingFrames) → AreMissingFrames before frame frames → missing_words before frame ≡ words_left frames
+missing_are None frame frames none = sym (ap (λ many. words_without frames.rate frames.number many) none)
+missing_are (Some before) frame frames (left, rate, number) =
+    let many = missing (Some before.frame) frame in
+    sym (ap (λ n. words_without frames.rate frames.number n) left
+    ∙ (ap (λ r. words_without r frames.number many) rate ∙ ap (λ n. words_without before.rate n many) number))
 
-pub next_made : (old new : MissingFrames) (front rest : List ℕ) → PutsNext old new true front → AreFramesWithout new.rate new.number new.left rest
-    → AreFramesWithout old.rate old.number old.left (front ++ rest)
-next_made old new front rest (left, rate, number, is) are =
+pub next_made : (old new : MissingFrames) (front : List ℕ) → PutsNext old new true front → words_left old ≡ front ++ words_left new
+next_made old new front (left, rate, number, is) =
     let one_more : old.left ≡ suc new.left = left ∙ add-one new.left in
-    let behind : AreFramesWithout old.rate ((old.number + 1) % 65536) new.left rest =
-    subst (λ (n : ℕ). AreFramesWithout old.rate n new.left rest) number (subst (λ (r : Rate). AreFramesWithout r new.number new.left rest) rate are) in
-    subst (λ (n : ℕ). AreFramesWithout old.rate old.number n (front ++ rest)) (sym one_more) (front, rest, is, behind, refl)
+    let next = (old.number + 1) % 65536 in
+    ap (λ many. words_without old.rate old.number many) one_more
+    ∙ (ap (λ bytes. bytes ++ words_without old.rate next new.left) (sym is)
+    ∙ (ap (λ r. front ++ words_without r next new.left) (sym rate) ∙ ap (λ n. front ++ words_without new.rate n new.left) (sym number)))
 
 pub some_one : (x y : Before) (o : Option Before) → o ≡ Some x → o ≡ Some y → x ≡ y
 some_one x y o first second = cc
 
-pub captions_made : (placed : TimedPackets) (made : List ℕ) (old new : MccWords) (frame : ℕ) (payload : Payload) (frames : MissingFrames) (without raised : List ℕ) (now : Before)
-    → HasMade placed made old → IsCaptions payload → BeginsCaptions old frame payload.user new frames → AreFramesWithout frames.rate frames.number frames.left without
-    → new.before ≡ Some now → IsRaised now.raised payload.user raised → HasMade (placed ++ (frame, payload) ∷ []) (made ++ (without ++ packet_bytes 0x61 0x01 raised)) new
-captions_made placed made old new frame payload frames without raised now is captions begins are now_is raises =
+pub captions_made : (placed : TimedPackets) (made : List ℕ) (old new : MccWords) (frame : ℕ) (payload : Payload) (frames : MissingFrames) (raised : List ℕ) (now : Before)
+    → HasMade placed made old → carries_captions payload ≡ true → BeginsCaptions old frame payload.user new frames
+    → new.before ≡ Some now → IsRaised now.raised payload.user raised
+    → HasMade (placed ++ (frame, payload) ∷ []) (made ++ (words_left frames ++ packet_bytes 0x61 0x01 raised)) new
+captions_made placed made old new frame payload frames raised now is captions begins now_is raises =
     let due : Before = record { frame = frame; rate = begins.packet.rate; counter = begins.packet.counter; raised = raised_by old.before frame begins.packet.counter } in
     let same : now ≡ due = some_one now due new.before now_is begins.after in
-    words_more placed made None old.before (frame, payload) (without ++ packet_bytes 0x61 0x01 raised) new.before is
+    let packet = packet_bytes 0x61 0x01 raised in
+    words_more placed made None old.before (frame, payload) (words_left frames ++ packet) new.before is
     (inl (
       captions,
       record {
         packet = begins.packet;
-        without = without;
         raised = raised;
         is = begins.is;
-        are_missing = missing_are old.before frame frames without begins.are are;
         is_raised = subst (λ (b : Before). IsRaised b.raised payload.user raised) same raises;
-        spelled = refl;
+        spelled = ap (λ words. words ++ packet) (sym (missing_are old.before frame frames begins.are));
         after_is = begins.after;
       },
     ))
 
-pub other_made : (placed : TimedPackets) (made : List ℕ) (maker : MccWords) (frame : ℕ) (payload : Payload) → HasMade placed made maker → (IsCaptions payload → ⊥)
+pub other_made : (placed : TimedPackets) (made : List ℕ) (maker : MccWords) (frame : ℕ) (payload : Payload) → HasMade placed made maker → carries_captions payload ≡ false
     → HasMade (placed ++ (frame, payload) ∷ []) (made ++ payload_words payload) maker
 other_made placed made maker frame payload is other =
     words_more placed made None maker.before (frame, payload) (payload_words payload) maker.before is (inr (other, refl, refl))
 
 pub calls_make : CallsMake
 calls_make = record {
-  none = λ rate number. refl;
   next = next_made;
   captions = captions_made;
   other = other_made;

@@ -1,10 +1,10 @@
 -- Believed in part: the program's answer stands on some of these definitions.
 -- Packets of captions that stand at one frame or in consecutive ones, so that no frame is missing between them.
-use Rattle.std.specs.Prelude.{ℕ, ◌+◌, ◌≤◌, ◌<◌, ◌⊎◌, List, [], ◌∷◌, ◌++◌, Option, Some, None, ⊤}
+use Rattle.std.specs.Prelude.{◌≡◌, ℕ, ◌+◌, ◌≤◌, ◌<◌, ◌⊎◌, true, false, List, [], ◌∷◌, ◌++◌, Option, Some, None, ⊤}
 use Rattle.std.specs.List.{All}
 use Rattle.mcc_files.specs.MccFiles.{TimedPackets}
 use Rattle.mcc_payloads.specs.PayloadWords.{payload_words}
-use Rattle.mcc_words.specs.MccWords.{IsCaptions}
+use Rattle.mcc_words.specs.MccWords.{carries_captions}
 
 -- the frame is that behind the packet of captions before, at the latest
 abbrev pub IsClose : Option ℕ → ℕ → Type 0
@@ -15,7 +15,7 @@ IsClose (Some last) frame = frame ≤ last + 1
 abbrev pub AreClose : Option ℕ → TimedPackets → Type 0
 AreClose last [] = ⊤
 AreClose last (placed ∷ more) =
-    (IsCaptions placed.1 × IsClose last placed.0 × AreClose (Some placed.0) more) ⊎ ((IsCaptions placed.1 → ⊥) × AreClose last more)
+    ((carries_captions placed.1 ≡ true) × IsClose last placed.0 × AreClose (Some placed.0) more) ⊎ ((carries_captions placed.1 ≡ false) × AreClose last more)
 
 -- the user bytes of packets are bytes
 abbrev pub HaveBytes : TimedPackets → Type 0

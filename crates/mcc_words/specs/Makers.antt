@@ -2,9 +2,11 @@
 -- What a maker of words does at each call.
 use Rattle.std.specs.Prelude.{◌≡◌, ℕ, ◌+◌, ◌%◌, Bool, true, false, nat_lt, List, [], Option, Some, None}
 use Rattle.cdp_packets.specs.Packets.{Frame, IsCdp}
+use Rattle.frame_scheduler.specs.End.{silent_frame}
+use Rattle.frame_carrier.specs.Carrying.{frame_bytes}
 use Rattle.mcc_files.specs.MccFiles.{TimedPackets}
 use Rattle.mcc_words.specs.MccWords.{AreWordsBehind, first_number, missing, raised_by}
-use Rattle.mcc_words.specs.Missing.{IsFrameWithout}
+use Rattle.mcc_words.specs.Missing.{words_without}
 use Rattle.mcc_words.specs.declared.maker.Before.{Before}
 use Rattle.mcc_words.specs.declared.maker.MccWords.{MccWords}
 use Rattle.mcc_words.specs.declared.missing.MissingFrames.{MissingFrames}
@@ -17,7 +19,7 @@ HasMade placed bytes maker = AreWordsBehind None placed bytes maker.before
 abbrev pub AreMissingFrames : Option Before → ℕ → MissingFrames → Type 0
 AreMissingFrames None frame frames = frames.left ≡ 0
 AreMissingFrames (Some before) frame frames =
-    (frames.left ≡ missing (Some before) frame) × (frames.rate ≡ before.rate) × (frames.number ≡ first_number before)
+    (frames.left ≡ missing (Some before.frame) frame) × (frames.rate ≡ before.rate) × (frames.number ≡ first_number before)
 
 -- a packet of captions was begun, before which these frames are missing
 pub record BeginsCaptions (old : MccWords) (frame : ℕ) (user : List ℕ) (new : MccWords) (frames : MissingFrames) : Type 0 where
@@ -35,8 +37,13 @@ was_raised (Some before) = nat_lt 0 before.raised
 abbrev pub raises : MccWords → Bool
 raises maker = was_raised maker.before
 
+-- the words of the missing frames that are left
+abbrev pub words_left : MissingFrames → List ℕ
+words_left frames = words_without frames.rate frames.number frames.left
+
 -- the next of missing frames was put, or there was none
 abbrev pub PutsNext : MissingFrames → MissingFrames → Bool → List ℕ → Type 0
 PutsNext old new true bytes =
-    (old.left ≡ new.left + 1) × (new.rate ≡ old.rate) × (new.number ≡ (old.number + 1) % 65536) × IsFrameWithout old.rate old.number bytes
+    (old.left ≡ new.left + 1) × (new.rate ≡ old.rate) × (new.number ≡ (old.number + 1) % 65536)
+    × (bytes ≡ frame_bytes old.rate old.number (silent_frame old.rate old.number) [])
 PutsNext old new false bytes = (old.left ≡ 0) × (new ≡ old) × (bytes ≡ [])

@@ -2,37 +2,33 @@
 -- The words of an MCC file's packets at their frames: the packets in order, and where a packet of captions stands more than one frame behind
 -- the packet of captions before it, frames without captions directly before it, one for each frame that is missing, numbered on from the
 -- packet put before them. Counters are raised by the frames that were put so far, unless a packet's counter counts them already.
-use Rattle.std.specs.Prelude.{◌≡◌, ℕ, ◌+◌, ◌-◌, ◌%◌, ◌==◌, ◌&&◌, ◌⊎◌, Bool, if◌then◌else◌, List, [], ◌∷◌, ◌++◌, Option, Some, None}
+use Rattle.std.specs.Prelude.{◌≡◌, ℕ, ◌+◌, ◌-◌, ◌%◌, ◌==◌, ◌&&◌, ◌⊎◌, Bool, true, false, if◌then◌else◌, List, [], ◌∷◌, ◌++◌, Option, Some, None}
 use Rattle.anc_words.specs.Writing.{packet_bytes}
 use Rattle.cdp_packets.specs.Packets.{Frame, IsCdp}
 use Rattle.mcc_files.specs.MccFiles.{TimedPackets}
 use Rattle.mcc_payloads.specs.Payloads.{Payload}
 use Rattle.mcc_payloads.specs.PayloadWords.{payload_words}
-use Rattle.mcc_words.specs.Missing.{AreFramesWithout}
+use Rattle.mcc_words.specs.Missing.{words_without}
 use Rattle.mcc_words.specs.Raised.{IsRaised}
 use Rattle.mcc_words.specs.declared.maker.Before.{Before}
 
--- the payload's packet is one of captions (SMPTE ST 334-1)
-abbrev pub IsCaptions : Payload → Type 0
-IsCaptions payload = (payload.did ≡ 0x61) × (payload.sdid ≡ 0x01)
-
--- the same, as a test
+-- whether the payload's packet is one of captions (SMPTE ST 334-1)
 abbrev pub carries_captions : Payload → Bool
 carries_captions payload = (payload.did == 0x61) && (payload.sdid == 0x01)
 
--- how many frames are missing between the packet of captions before and one at a frame
-abbrev pub missing : Option Before → ℕ → ℕ
+-- how many frames are missing between the frame of the packet of captions before, if there is one, and that of the next
+abbrev pub missing : Option ℕ → ℕ → ℕ
 missing None frame = 0
-missing (Some before) frame = frame - (before.frame + 1)
+missing (Some last) frame = frame - (last + 1)
 
 -- the number of the first of them: that of the packet put before, plus 1, modulo 65536
 abbrev pub first_number : Before → ℕ
 first_number before = (before.counter + before.raised + 1) % 65536
 
--- the bytes are the words of these frames
-abbrev pub AreMissing : Option Before → ℕ → List ℕ → Type 0
-AreMissing None frame bytes = bytes ≡ []
-AreMissing (Some before) frame bytes = AreFramesWithout before.rate (first_number before) (missing (Some before) frame) bytes
+-- the words of these frames
+abbrev pub missing_words : Option Before → ℕ → List ℕ
+missing_words None frame = []
+missing_words (Some before) frame = words_without before.rate (first_number before) (missing (Some before.frame) frame)
 
 -- a packet's counter counts the missing frames: it is that of the packet of captions before it plus the frames from that one to it
 abbrev pub counts_missing : Before → ℕ → ℕ → Bool
@@ -42,24 +38,22 @@ counts_missing before frame counter = (before.counter + (frame - before.frame)) 
 abbrev pub raised_by : Option Before → ℕ → ℕ → ℕ
 raised_by None frame counter = 0
 raised_by (Some before) frame counter =
-    if counts_missing before frame counter then before.raised else (before.raised + missing (Some before) frame) % 65536
+    if counts_missing before frame counter then before.raised else (before.raised + missing (Some before.frame) frame) % 65536
 
 -- the words of a packet of captions, with the frames that stand before it, and what is before the next packet then
 pub record AreCaptionWords (before : Option Before) (frame : ℕ) (user bytes : List ℕ) (after : Option Before) : Type 0 where
   pub packet : Frame
-  pub without : List ℕ
   pub raised : List ℕ
   pub is : IsCdp packet user
-  pub are_missing : AreMissing before frame without
   pub is_raised : IsRaised (raised_by before frame packet.counter) user raised
-  pub spelled : bytes ≡ without ++ packet_bytes 0x61 0x01 raised
+  pub spelled : bytes ≡ missing_words before frame ++ packet_bytes 0x61 0x01 raised
   pub after_is : after ≡ Some (record { frame = frame; rate = packet.rate; counter = packet.counter; raised = raised_by before frame packet.counter })
 
 -- the words of a packet
 abbrev pub ArePacketWords : Option Before → ℕ × Payload → List ℕ → Option Before → Type 0
 ArePacketWords before placed bytes after =
-    (IsCaptions placed.1 × AreCaptionWords before placed.0 placed.1.user bytes after)
-    ⊎ ((IsCaptions placed.1 → ⊥) × (bytes ≡ payload_words placed.1) × (after ≡ before))
+    ((carries_captions placed.1 ≡ true) × AreCaptionWords before placed.0 placed.1.user bytes after)
+    ⊎ ((carries_captions placed.1 ≡ false) × (bytes ≡ payload_words placed.1) × (after ≡ before))
 
 -- the words of packets, behind others
 abbrev pub AreWordsBehind : Option Before → TimedPackets → List ℕ → Option Before → Type 0

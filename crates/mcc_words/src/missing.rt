@@ -1,14 +1,12 @@
 ghost use Rattle.std.specs.Prelude.{◌≡◌, []};
-ghost use Rattle.mcc_words.specs.Missing.{HasNothing, IsFrameWithout, null_in};
+ghost use Rattle.frame_scheduler.specs.End.{silent_frame};
+ghost use Rattle.frame_carrier.specs.Carrying.{frame_bytes};
 
-use anc_words::write_packet;
 use arrayvec::ArrayVec;
 use cc_base::Rate;
-use cdp_packets::{CAPTION_FLAGS, cc_section, write_cdp};
 use frame_carrier::Carrier;
 use frame_scheduler::FrameBytes;
-use line21_codes::{Chan, NULL_PAIR, Pair};
-use line21_slots::Cadence;
+use words_files::write_triplets;
 
 /// Frames without captions that are missing before a packet of captions.
 #[derive(Clone, Copy, Debug)]
@@ -21,40 +19,14 @@ pub struct MissingFrames {
     pub left: u32,
 }
 
-/// The null pair of a channel's field, where the frame of this number has a slot of it.
-fn null_in(rate: Rate, channel: Chan, number: u16) -> Option<Pair>
-    ensures { result ≡ null_in rate channel number }
-{
-    if Cadence::of(rate, channel).has_slot_in(u32::from(number)) {
-        Some(NULL_PAIR)
-    } else {
-        None
-    }
-}
-
-/// A frame that has nothing.
-fn frame_with_nothing(rate: Rate, number: u16) -> FrameBytes
-    ensures { HasNothing rate number result }
-{
-    FrameBytes {
-        one: null_in(rate, Chan::Cc1, number),
-        two: null_in(rate, Chan::Cc3, number),
-        blocks: ArrayVec::new(),
-    }
-}
-
 /// The words of a frame without captions into an empty `out`.
 fn put_frame(rate: Rate, number: u16, out: &mut ArrayVec<u8, 524>)
     requires { out.old.items ≡ [] }
-    ensures { IsFrameWithout rate number out.new.items }
+    ensures { out.new.items ≡ frame_bytes rate number (silent_frame rate number) [] }
 {
-    let frame = frame_with_nothing(rate, number);
+    let frame = FrameBytes::silent(rate, u32::from(number));
     let triplets = Carrier::new(rate).triplets(&frame);
-    let mut section = ArrayVec::new();
-    cc_section(&triplets, &mut section);
-    let mut packet = ArrayVec::new();
-    write_cdp(rate, CAPTION_FLAGS, number, &section, &mut packet);
-    write_packet(0x61, 0x01, &packet, out);
+    write_triplets(rate, number, &triplets, out);
 }
 
 impl MissingFrames {

@@ -13,29 +13,29 @@ use Rattle.mcc_payloads.specs.Payloads.{Payload, payload_bytes}
 use Rattle.mcc_payloads.specs.PayloadWords.{payload_words}
 use Rattle.mcc_payloads.proofs.WordLemmas.{payload_is_packet, user_of_bytes}
 use Rattle.mcc_payloads.proofs.WrittenLemmas.{AreBytes}
-use Rattle.mcc_words.specs.MccWords.{AreCaptionWords, AreMissing, AreMccWords, AreWordsBehind, IsCaptions, first_number, missing}
+use Rattle.mcc_words.specs.MccWords.{AreCaptionWords, AreMccWords, AreWordsBehind, carries_captions, first_number, missing, missing_words}
 use Rattle.mcc_words.specs.declared.maker.Before.{Before}
 use Rattle.words_files.specs.Frames.{IsFileOf, caption, foreign, none}
 use Rattle.words_files.proofs.FrameLemmas.{joined, one_list}
-use Rattle.mcc_words.proofs.CaptionTests.{captions_false, captions_true}
+use Rattle.mcc_words.proofs.CaptionTests.{no_captions}
 use Rattle.missing_frames_shown.specs.Standing.{AreSpaced, IsPart, IsWithoutCaptions, PacketsStandApart, CaptionPart, WordsHaveFrames, caption_packets, part_frames, placed_packet}
 use Rattle.missing_frames_shown.proofs.FileLemmas.{GoForward, file_forward}
 use Rattle.missing_frames_shown.proofs.RaisedLemmas.{raised_bytes, raised_counter, raised_length, raised_packet}
 use Rattle.missing_frames_shown.proofs.WithoutLemmas.{has_without, no_frames}
 
 -- the packets of captions come first
-pub own_first : (placed : ℕ × Payload) (more : TimedPackets) → IsCaptions placed.1 → caption_packets (placed ∷ more) ≡ placed ∷ caption_packets more
-own_first placed more is = ap (λ (test : Bool). cond test (placed ∷ caption_packets more) (caption_packets more)) (captions_true placed.1 is)
+pub own_first : (placed : ℕ × Payload) (more : TimedPackets) → carries_captions placed.1 ≡ true → caption_packets (placed ∷ more) ≡ placed ∷ caption_packets more
+own_first placed more is = ap (λ (test : Bool). cond test (placed ∷ caption_packets more) (caption_packets more)) is
 
-pub other_first : (placed : ℕ × Payload) (more : TimedPackets) → (IsCaptions placed.1 → ⊥) → caption_packets (placed ∷ more) ≡ caption_packets more
-other_first placed more other = ap (λ (test : Bool). cond test (placed ∷ caption_packets more) (caption_packets more)) (captions_false placed.1 other)
+pub other_first : (placed : ℕ × Payload) (more : TimedPackets) → carries_captions placed.1 ≡ false → caption_packets (placed ∷ more) ≡ caption_packets more
+other_first placed more other = ap (λ (test : Bool). cond test (placed ∷ caption_packets more) (caption_packets more)) other
 
 -- the words of another packet bring no frame
-foreign_file : (payload : Payload) → AreBytes (payload_bytes payload) → (IsCaptions payload → ⊥) → IsFileOf [] (payload_words payload)
+foreign_file : (payload : Payload) → AreBytes (payload_bytes payload) → carries_captions payload ≡ false → IsFileOf [] (payload_words payload)
 foreign_file payload bytes other = record {
   packets = packet_of payload.did payload.sdid payload.user ∷ [];
   file = IsWordsFile-one (packet_of payload.did payload.sdid payload.user) (payload_words payload) (payload_is_packet payload bytes);
-  carried = foreign (packet_of payload.did payload.sdid payload.user) [] [] other none;
+  carried = foreign (packet_of payload.did payload.sdid payload.user) [] [] (no_captions payload other) none;
 }
 
 -- those of a distribution packet bring its frame
@@ -52,18 +52,17 @@ frame_before None = None
 frame_before (Some before) = Some before.frame
 
 -- the frames that are missing before a packet of captions
-record HasMissing (before : Option Before) (frame : ℕ) (bytes : List ℕ) : Type 0 where
+record HasMissing (before : Option Before) (frame : ℕ) : Type 0 where
   frames : List Frame
-  file : IsFileOf frames bytes
+  file : IsFileOf frames (missing_words before frame)
   without : All IsWithoutCaptions frames
   apart : (payload : Payload) (own : Frame) (more : List CaptionPart) → AreSpaced (Some frame) more
       → AreSpaced (frame_before before) (record { at = frame; payload = payload; missing = frames; own = own } ∷ more)
 
-has_missing : (before : Option Before) (frame : ℕ) (bytes : List ℕ) → AreMissing before frame bytes → HasMissing before frame bytes
-has_missing None frame bytes is =
-    record { frames = []; file = subst (IsFileOf []) (sym is) no_frames; without = All-nil IsWithoutCaptions; apart = λ payload own more rest. (refl, rest) }
-has_missing (Some before) frame bytes is =
-    let has = has_without before.rate (first_number before) (missing (Some before) frame) bytes is in
+has_missing : (before : Option Before) (frame : ℕ) → HasMissing before frame
+has_missing None frame = record { frames = []; file = no_frames; without = All-nil IsWithoutCaptions; apart = λ payload own more rest. (refl, rest) }
+has_missing (Some before) frame =
+    let has = has_without before.rate (first_number before) (missing (Some before.frame) frame) in
     record { frames = has.frames; file = has.file; without = has.are; apart = λ payload own more rest. (has.number, rest) }
 
 -- the frames of packets behind others
@@ -74,11 +73,11 @@ record HasParts (before : Option ℕ) (placed : TimedPackets) (words : List ℕ)
   apart : AreSpaced before parts
   file : IsFileOf (flat_map part_frames parts) words
 
-own_parts : (before after : Option Before) (placed : ℕ × Payload) (more : TimedPackets) (front rest words : List ℕ) → AreBytes (payload_bytes placed.1) → IsCaptions placed.1
+own_parts : (before after : Option Before) (placed : ℕ × Payload) (more : TimedPackets) (front rest words : List ℕ) → AreBytes (payload_bytes placed.1) → carries_captions placed.1 ≡ true
     → AreCaptionWords before placed.0 placed.1.user front after → HasParts (Some placed.0) more rest → words ≡ front ++ rest
     → HasParts (frame_before before) (placed ∷ more) words
 own_parts before after placed more front rest words bytes is own behind spelled =
-    let missing = has_missing before placed.0 own.without own.are_missing in
+    let missing = has_missing before placed.0 in
     let count : length placed.1.user < 256 = bytes 2 placed.0 (omega arith) in
     let user = user_of_bytes placed.1 bytes in
     let raised = own.is_raised in
@@ -86,7 +85,7 @@ own_parts before after placed more front rest words bytes is own behind spelled 
     let long = raised_length _ placed.1.user own.raised raised in
     let file = own_file frame own.raised (raised_bytes _ placed.1.user own.raised raised user) (omega (arith, count, long)) (raised_packet own.packet _ placed.1.user own.raised own.is raised) in
     let both : IsFileOf (missing.frames ++ frame ∷ []) front =
-    subst (IsFileOf (missing.frames ++ frame ∷ [])) (sym own.spelled) (joined missing.frames (frame ∷ []) own.without (packet_bytes 0x61 0x01 own.raised) missing.file file) in
+    subst (IsFileOf (missing.frames ++ frame ∷ [])) (sym own.spelled) (joined missing.frames (frame ∷ []) (missing_words before placed.0) (packet_bytes 0x61 0x01 own.raised) missing.file file) in
     let part : CaptionPart = record { at = placed.0; payload = placed.1; missing = missing.frames; own = frame } in
     record {
       parts = part ∷ behind.parts;

@@ -5,11 +5,10 @@ use Rattle.std.specs.List.{flat_map}
 use Rattle.cc_base.specs.declared.rate.Rate.{Rate}
 use Rattle.cdp_packets.specs.Packets.{Frame, IsCdp}
 use Rattle.frame_carrier.specs.Carrying.{frame_packet}
-use Rattle.frame_scheduler.specs.declared.frames.FrameBytes.{FrameBytes}
+use Rattle.frame_scheduler.specs.End.{silent_frame}
 use Rattle.mcc_files.specs.MccFiles.{IsMccFile, TimedPackets}
 use Rattle.mcc_payloads.specs.Payloads.{Payload}
 use Rattle.mcc_words.specs.MccWords.{AreMccWords, carries_captions}
-use Rattle.mcc_words.specs.Missing.{HasNothing}
 use Rattle.words_files.specs.Frames.{IsFileOf}
 
 -- the packets of captions among packets, each at its frame of the day
@@ -20,9 +19,7 @@ caption_packets placed = filter (λ (one : ℕ × Payload). carries_captions one
 pub record IsWithoutCaptions (frame : Frame) : Type 0 where
   pub rate : Rate
   pub number : ℕ
-  pub nothing : FrameBytes
-  pub has : HasNothing rate number nothing
-  pub is : frame ≡ frame_packet rate number nothing []
+  pub is : frame ≡ frame_packet rate number (silent_frame rate number) []
 
 -- the frame of a payload: what its distribution packet says, but for the counter
 pub record IsOfPayload (payload : Payload) (frame : Frame) : Type 0 where

@@ -1,22 +1,18 @@
 -- The halves of a frame's sorted triplets, and their bytes.
 use Rattle.std.proofs.Common.{◌≡◌, ℕ, zero, suc, ◌+◌, ◌-◌, ◌*◌, ◌%◌, ◌<◌, ◌&&◌, ◌||◌, ◌==◌, Bool, true, false, List, [], ◌∷◌, ◌++◌, All, drop, length, replicate, take, refl, sym, ap, ◌∙◌, subst, arith}
 use Rattle.std.specs.Prelude.{if◌then◌else◌, filter}
-use Rattle.std.specs.List.{concat}
 use Rattle.std.proofs.lemmas.Bool.{true≢false}
 use Rattle.std.proofs.lemmas.Bool.Decides.{Decides-eqb}
 use Rattle.std.proofs.lemmas.List.Elements.{All-append, All-cons, All-drop, All-head, All-nil, All-replicate, All-take}
-use Rattle.anc_words.specs.Writing.{packet_bytes}
 use Rattle.cc_base.specs.declared.rate.Rate.TheVariants.{F5994}
 use Rattle.cc_data.specs.Triplets.{filler}
 use Rattle.cc_data.specs.declared.triplet.Triplet.{Triplet}
-use Rattle.cdp_packets.specs.Sections.{IsSectionList}
-use Rattle.cdp_packets.specs.Written.{cc_data_section, written_packet}
 use Rattle.channel_packets.specs.ChannelPackets.{channel_triplets, continues_packet, starts}
 use Rattle.halved_frames.specs.Conversion.{first_half, first_or_filler, is_of, of_field, second_half, ten_triplets}
 use Rattle.line21_codes.specs.declared.channels.FieldNumber.{FieldNumber}
 use Rattle.line21_codes.specs.declared.channels.FieldNumber.TheVariants.{One, Two}
-use Rattle.words_files.specs.CarriedWords.{caption_flags, carried_words, triplets_packet}
-use Rattle.words_files.proofs.CarriedWordsLemmas.{length-carried_triplets}
+use Rattle.words_files.specs.CarriedWords.{carried_words, triplets_packet}
+use Rattle.words_files.proofs.CarriedWordsLemmas.{length-carried_triplets, same_counter}
 
 -- the words that carry ten triplets have a hundred bytes
 pub half_size : (number : ℕ) (triplets : List Triplet) → length triplets ≡ 10 → length (carried_words (triplets_packet F5994 number triplets)) ≡ 100
@@ -81,17 +77,6 @@ ten_are field channel copied behind first one same rest =
     ∙ ap (λ (l : List Triplet). first_or_filler field ∷ (l ++ behind)) same
     ∙ ap (λ (l : List Triplet). first_or_filler field ∷ (channel ++ l)) (rest ∙ drop_fillers (length channel) 9)
 
--- no bytes are no sections
-pub no_sections : (bytes : List ℕ) → bytes ≡ [] → IsSectionList bytes
-no_sections bytes none = subst IsSectionList (sym none) (record { cut = []; are = tt; joined = refl })
-
--- a counter has the low 16 bits of a number
-same_counter : (number counter : ℕ) (triplets : List Triplet) → counter ≡ number % 65536
-    → carried_words (triplets_packet F5994 counter triplets) ≡ carried_words (triplets_packet F5994 number triplets)
-same_counter number counter triplets is =
-    let same : counter % 65536 ≡ number % 65536 = omega arith in
-    ap (λ n. packet_bytes 0x61 0x01 (written_packet F5994 caption_flags n (concat (cc_data_section triplets ∷ [])))) same
-
 -- the words of one packet behind those of another
 pub words_are : (counter next frame : ℕ) (first second : List Triplet) (none one two : List ℕ) → counter ≡ (2 * frame) % 65536 → next ≡ (2 * frame + 1) % 65536
     → none ≡ [] → one ≡ none ++ carried_words (triplets_packet F5994 counter first) → two ≡ one ++ carried_words (triplets_packet F5994 next second)
@@ -99,5 +84,5 @@ pub words_are : (counter next frame : ℕ) (first second : List Triplet) (none o
 words_are counter next frame first second none one two low high empty first_is second_is =
     let behind = carried_words (triplets_packet F5994 next second) in
     second_is ∙ ap (λ (l : List ℕ). l ++ behind) (first_is ∙ ap (λ (l : List ℕ). l ++ carried_words (triplets_packet F5994 counter first)) empty)
-    ∙ ap (λ (l : List ℕ). l ++ behind) (same_counter (2 * frame) counter first low)
-    ∙ ap (λ (l : List ℕ). carried_words (triplets_packet F5994 (2 * frame) first) ++ l) (same_counter (2 * frame + 1) next second high)
+    ∙ ap (λ (l : List ℕ). l ++ behind) (same_counter F5994 (2 * frame) counter first low)
+    ∙ ap (λ (l : List ℕ). carried_words (triplets_packet F5994 (2 * frame) first) ++ l) (same_counter F5994 (2 * frame + 1) next second high)

@@ -12,12 +12,11 @@ ghost use Rattle.rate_convert.specs.SortedTriplets.{AreSorted, IsSorted};
 ghost use Rattle.words_files.specs.CarriedWords.{carried_words, triplets_packet};
 
 use crate::sorted::Sorted;
-use anc_words::{CAPTION_DID, CAPTION_SDID, write_packet};
 use arrayvec::ArrayVec;
 use cc_base::Rate;
 use cc_data::{FILLER, Triplet};
 use cc_receiver::Served;
-use cdp_packets::{CAPTION_FLAGS, cc_section, write_cdp};
+use words_files::write_triplets;
 
 /// The most triplets of channel packets of a half.
 const MOST: usize = 9;
@@ -131,22 +130,8 @@ fn put_half(counter: u16, triplets: &[Triplet; 10], out: &mut ArrayVec<u8, 200>)
     ensures len { array_vec_len out.new ≡ array_vec_len out.old + 100 }
 {
     let mut words = ArrayVec::new();
-    write_half(counter, triplets, &mut words);
+    write_triplets(Rate::F5994, counter, triplets, &mut words);
     append(&words, out);
-}
-
-// Writes the bytes of the ancillary packet of a half into an empty `out`.
-#[tactic(auto, using(crate::proofs::HalvesLemmas::no_sections))]
-fn write_half(counter: u16, triplets: &[Triplet; 10], out: &mut ArrayVec<u8, 524>)
-    requires kinds { All (λ t. t.kind < 4) triplets.now }
-    requires empty { out.old.items ≡ [] }
-    ensures { out.new.items ≡ carried_words (triplets_packet rate.F5994 counter triplets.now) }
-{
-    let mut section = ArrayVec::new();
-    cc_section(triplets, &mut section);
-    let mut packet = ArrayVec::new();
-    write_cdp(Rate::F5994, CAPTION_FLAGS, counter, &section, &mut packet);
-    write_packet(CAPTION_DID, CAPTION_SDID, &packet, out);
 }
 
 // Puts the hundred bytes of a packet behind others.

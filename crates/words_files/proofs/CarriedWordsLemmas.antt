@@ -16,7 +16,7 @@ use Rattle.cc_data.specs.Triplets.{all_written, bytes_of_triplet}
 use Rattle.cc_data.specs.declared.triplet.Triplet.{Triplet}
 use Rattle.cc_data.proofs.TripletLemmas.{length-all_written}
 use Rattle.cdp_packets.specs.Packets.{Frame, IsCdp}
-use Rattle.cdp_packets.specs.Sections.{AreSections}
+use Rattle.cdp_packets.specs.Sections.{AreSections, IsSectionList}
 use Rattle.cdp_packets.specs.Written.{cc_data_section, checksum_of, unsummed_packet, written_packet}
 use Rattle.cdp_packets.proofs.PacketLemmas.{written-is_packet}
 use Rattle.cdp_packets.proofs.SectionLemmas.{cc_data_section-is}
@@ -158,6 +158,17 @@ section_words rate number triplets small =
     let one = sym (append-nil (cc_data_section triplets)) in
     let counted = ap (λ n. packet_bytes 0x61 0x01 (written_packet rate caption_flags n (cc_data_section triplets))) whole in
     counted ∙ ap (λ section. packet_bytes 0x61 0x01 (written_packet rate caption_flags (number % 65536) section)) one
+
+-- no bytes are no sections
+pub no_sections : (bytes : List ℕ) → bytes ≡ [] → IsSectionList bytes
+no_sections bytes none = subst IsSectionList (sym none) (record { cut = []; are = tt; joined = refl })
+
+-- a counter has the low 16 bits of a number
+pub same_counter : (rate : Rate) (number counter : ℕ) (triplets : List Triplet) → counter ≡ number % 65536
+    → carried_words (triplets_packet rate counter triplets) ≡ carried_words (triplets_packet rate number triplets)
+same_counter rate number counter triplets is =
+    let same : counter % 65536 ≡ number % 65536 = omega arith in
+    ap (λ n. packet_bytes 0x61 0x01 (written_packet rate caption_flags n (concat (cc_data_section triplets ∷ [])))) same
 
 -- how many bytes carry a packet: a word has two, and there are eighteen words around its sections
 words_twice : (words : List ℕ) → length (flat_map word_bytes words) ≡ length words + length words

@@ -1,9 +1,9 @@
 use Rattle.std.proofs.Common.{◌≡◌, ◌∙◌, ◌+◌, [], ap, sym, subst}
-use Rattle.frame_carrier.specs.CarriedBytes.{carried_bytes}
 use Rattle.frame_carrier.specs.Carrying.{IsAt, channel_packet, packet_count}
 use Rattle.frame_carrier.specs.FrameTriplets.{frame_triplets}
 use Rattle.frame_carrier.proofs.CarryingLemmas.{none_of, words_are}
 use Rattle.frame_carrier.proofs.carrier.Carrier.put_words.Goals as goal
+use Rattle.words_files.specs.CarriedWords.{carried_words, triplets_packet}
 
 pub returns-then-is_empty-clause-bytes : goal.returns-then-is_empty-clause-bytes
 returns-then-is_empty-clause-bytes c rate number count at =
@@ -25,7 +25,7 @@ returns-else-is_empty-clause-bytes c rate number count at =
     words_are rate number count c.args.self.now c.args.frame.now c.pass.new.self.rate c.channel_packet-packet.new.self.counter c.channel_packet-packet.result.items
     c.put_counted.new.out.items at
     (c.pass.ensures.rate ∙ c.channel_packet-packet.ensures.kept.0) c.channel_packet-packet.ensures.kept.1 packet
-    (c.put_counted.ensures ∙ ap (carried_bytes c.pass.new.self.rate c.channel_packet-packet.new.self.counter)
+    (c.put_counted.ensures ∙ ap (λ triplets. carried_words (triplets_packet c.pass.new.self.rate c.channel_packet-packet.new.self.counter triplets))
     (c.deref-else-is_empty-2.ensures.0 ∙ c.frame_triplets-triplets.ensures.triplets ∙ ap (frame_triplets c.pass.new.self.rate c.args.frame.now) c.deref-else-is_empty.ensures.0))
 
 pub returns-else-is_empty-clause-next : goal.returns-else-is_empty-clause-next

@@ -1,10 +1,12 @@
-use Rattle.std.proofs.Common.{◌≡◌, ◌∙◌, ◌<◌, inl, inr, All, List, ℕ, ap, subst, sym}
+use Rattle.std.proofs.Common.{◌≡◌, ◌∙◌, ◌<◌, false, inl, inr, All, List, ℕ, ap, subst, sym}
 use Rattle.std.proofs.lemmas.List.Elements.{All-from_get_or}
 use Rattle.anc_words.specs.Writing.{packet_bytes}
 use Rattle.cdp_packets.specs.Packets.{IsCdp}
 use Rattle.mcc_files.specs.Readers.{packet_in}
 use Rattle.mcc_payloads.specs.Payloads.{Payload, payload_bytes}
 use Rattle.mcc_payloads.proofs.WordLemmas.{user_of_bytes}
+use Rattle.mcc_words.specs.MccWords.{carries_captions}
+use Rattle.mcc_words.proofs.CaptionTests.{captions_false}
 use Rattle.text_output.specs.Gathered.{held_of}
 use Rattle.mcc_import.specs.Importing.{AddsPacket}
 use Rattle.mcc_import.proofs.AddLemmas.{captions}
@@ -67,11 +69,12 @@ pub returns-else-did-eq-CAPTION_DID-clause-adds : goal.returns-else-did-eq-CAPTI
 returns-else-did-eq-CAPTION_DID-clause-adds g c placed words start made way =
     let one = packet_in c.args.reader.now in
     let s = c.said-did.ensures.says one.1 (c.bytes.ensures ∙ c.requires.whole) in
-    c.add_other.ensures.adds placed words start one.0 one.1 made way
-    (λ captions. elim c.else-did-eq-CAPTION_DID.either [
+    let other : carries_captions one.1 ≡ false =
+    captions_false one.1 (λ captions. elim c.else-did-eq-CAPTION_DID.either [
       | inl did ↦ did.1 (s.1 ∙ captions.1)
       | inr did ↦ did (s.0 ∙ captions.0)
-    ]) c.requires.words
+    ]) in
+    c.add_other.ensures.adds placed words start one.0 one.1 made way other c.requires.words
 
 pub returns-else-did-eq-CAPTION_DID-clause-file : goal.returns-else-did-eq-CAPTION_DID-clause-file
 returns-else-did-eq-CAPTION_DID-clause-file g c placed hearer ended =
