@@ -28,7 +28,7 @@ KINDS = {
     " services_shown.Buffers",
     "grammars": "cc_data channel_packets service_blocks cdp_packets anc_words words_files services_files record_files cue_form scc_files"
     " mcc_payloads mcc_files time_codes xds_packets xds_lists cue_print window_texts grid_print cell_runs cue_types.Cues cue_types.Windows"
-    " cue_types.Shares frame_carrier.FrameTriplets frame_carrier.CarriedBytes frame_carrier.Carrying"
+    " cue_types.Shares frame_carrier.FrameTriplets frame_carrier.Carrying"
     " field_lanes.DoubledPairs cue_list_commands.Lines words_commands.Screens words_commands.PacketLines"
     " words_commands.ConcealedScreens",
     "glue": "command_base side_files programmes programme_runs cue_list_commands words_reading words_commands verify_commands insert_commands"

@@ -1,10 +1,10 @@
 -- The cues on a lane, a channel or a service: the former cue of each among them, and their order from the newest on.
 use Rattle.std.proofs.Common.{◌≡◌, Bool, true, false, if◌then◌else◌, cond, List, [], ◌∷◌, ◌++◌, reverse, refl, sym, ap, ◌∙◌}
 use Rattle.std.specs.Prelude.{Option, Some, None}
-use Rattle.std.specs.List.{filter}
+use Rattle.std.specs.List.{filter, find}
 use Rattle.std.proofs.lemmas.List.{append-nil, reverse-append, reverse-reverse}
 use Rattle.std.proofs.lemmas.List.Elements.{filter-append}
-use Rattle.cue_rules.specs.Rules.Former.{former_cue, nearest}
+use Rattle.cue_rules.specs.Rules.Former.{former_cue}
 use Rattle.cue_types.specs.Lane.{kind_lane, on_lane, same_lane}
 use Rattle.cue_types.specs.declared.cue.Cue.{Cue}
 use Rattle.cue_types.specs.declared.lane.Lane.{Lane}
@@ -23,18 +23,18 @@ abbrev pub lane_cues : Lane → List Cue → List Cue
 lane_cues lane cues = filter (λ cue. same_lane lane (kind_lane cue.kind)) cues
 
 -- the nearest cue on a lane is the newest one on it
-nearest_on : (lane : Lane) (earlier : List Cue) → nearest (on_lane lane) earlier ≡ newest (lane_cues lane earlier)
+nearest_on : (lane : Lane) (earlier : List Cue) → find (on_lane lane) earlier ≡ newest (lane_cues lane earlier)
 nearest_on lane [] = refl
 nearest_on lane (cue ∷ earlier) = by_test (same_lane lane (kind_lane cue.kind)) (nearest_on lane earlier)
   where
-    by_test : (b : Bool) → nearest (on_lane lane) earlier ≡ newest (lane_cues lane earlier)
-        → (if b then Some cue else nearest (on_lane lane) earlier) ≡ newest (cond b (cue ∷ lane_cues lane earlier) (lane_cues lane earlier))
+    by_test : (b : Bool) → find (on_lane lane) earlier ≡ newest (lane_cues lane earlier)
+        → (if b then Some cue else find (on_lane lane) earlier) ≡ newest (cond b (cue ∷ lane_cues lane earlier) (lane_cues lane earlier))
     by_test true rest = refl
     by_test false rest = rest
 
 -- the former cue of a cue on a lane is the newest one on it
 pub former_on_lane : (lane : Lane) (cue : Cue) (earlier : List Cue) → kind_lane cue.kind ≡ lane → former_cue cue earlier ≡ newest (lane_cues lane earlier)
-former_on_lane lane cue earlier on = ap (λ (l : Lane). nearest (on_lane l) earlier) on ∙ nearest_on lane earlier
+former_on_lane lane cue earlier on = ap (λ (l : Lane). find (on_lane l) earlier) on ∙ nearest_on lane earlier
 
 -- the cues on a lane in the reverse order
 pub lane_reverse : (lane : Lane) (cues : List Cue) → lane_cues lane (reverse cues) ≡ reverse (lane_cues lane cues)

@@ -3,7 +3,7 @@
 use Rattle.std.proofs.Common.{◌≡◌, ◌≢◌, ℕ, ◌+◌, ◌-◌, ◌<◌, ◌≤◌, ◌==◌, ◌&&◌, ◌||◌, Bool, true, false, if◌then◌else◌, List, [], ◌∷◌, length, reverse, Option, Some, None, zero, suc, refl, sym, ap, ◌∙◌, subst, arith, inl, inr}
 use Rattle.std.specs.Prelude.{nat_le, nat_lt, unwrap_or, All, IfSome, IsSome}
 use Rattle.std.specs.Option.{option_to_list}
-use Rattle.std.specs.List.{AllByRecursion}
+use Rattle.std.specs.List.{AllByRecursion, find}
 use Rattle.std.proofs.lemmas.Bool.{eqb-true}
 use Rattle.std.proofs.lemmas.Bool.Decides.{eqb_tells}
 use Rattle.std.proofs.lemmas.List.{reverse-reverse}
@@ -23,7 +23,7 @@ use Rattle.cue_rules.specs.Rules.{AreFaultless}
 use Rattle.cue_rules.specs.Rules.Alternatives.{first_broken, hide_is}
 use Rattle.cue_rules.specs.Rules.Delay.{delay_of, delay_start, event_frames}
 use Rattle.cue_rules.specs.Rules.DelayCovers.{delays_cross, same_service}
-use Rattle.cue_rules.specs.Rules.Former.{former_cue, nearest, nearest_number}
+use Rattle.cue_rules.specs.Rules.Former.{former_cue, nearest_number}
 use Rattle.cue_rules.specs.Rules.Formers.{Remembers, last_below, last_in, later, number_if, numbered_cue}
 use Rattle.cue_rules.specs.declared.rules.formers.Formers.{Formers}
 use Rattle.cue_rules.specs.Rules.Order.{loads_before_it_loads, order}
@@ -60,7 +60,7 @@ neither_passes w k cues fail =
 
 -- so the nearest that passes the first stands for all
 last_stands : (w k : Cue → Bool) (cues : List Cue) → Faded w k cues
-    → number_if k (nearest_number w cues) (nearest w cues) ≡ nearest_number (λ c. w c && k c) cues
+    → number_if k (nearest_number w cues) (find w cues) ≡ nearest_number (λ c. w c && k c) cues
 last_stands w k [] faded = refl
 last_stands w k (cue ∷ cues) faded = by_test (w cue) refl (last_stands w k cues faded.1)
   where
@@ -70,8 +70,8 @@ last_stands w k (cue ∷ cues) faded = by_test (w cue) refl (last_stands w k cue
     by_pass false is at = sym (neither_passes w k cues (faded.0 is at))
 
     by_test : (b : Bool) → w cue ≡ b
-        → number_if k (nearest_number w cues) (nearest w cues) ≡ nearest_number (λ c. w c && k c) cues
-        → number_if k (if b then Some (length cues + 1) else nearest_number w cues) (if b then Some cue else nearest w cues)
+        → number_if k (nearest_number w cues) (find w cues) ≡ nearest_number (λ c. w c && k c) cues
+        → number_if k (if b then Some (length cues + 1) else nearest_number w cues) (if b then Some cue else find w cues)
         ≡ (if b && k cue then Some (length cues + 1) else nearest_number (λ c. w c && k c) cues)
     by_test true is rest = by_pass (k cue) is refl
     by_test false is rest = rest

@@ -2,6 +2,7 @@
 use Rattle.std.proofs.Common.{◌≡◌, ℕ, ◌+◌, ◌-◌, ◌<◌, ◌≤◌, Bool, true, false, if◌then◌else◌, List, [], ◌∷◌, ◌++◌, length, reverse, Option, Some, None, Result, zero, suc, refl, sym, subst, ◌∙◌, arith}
 use Rattle.std.specs.Prelude.{slice_get}
 use Rattle.std.specs.Option.{option_and_then}
+use Rattle.std.specs.List.{find}
 use Rattle.std.proofs.lemmas.List.{reverse-append, length-reverse, reverse-reverse}
 use Rattle.cc_base.specs.declared.why.Why.TheVariants as why
 use Rattle.cue_types.specs.Listing.{Listing}
@@ -10,7 +11,7 @@ use Rattle.cue_rules.specs.Rules.{verdicts, first_fault, fault_of, other_of, Ans
 use Rattle.cue_rules.specs.Rules.Alternatives.{first_broken}
 use Rattle.cue_rules.specs.Rules.Clash.{clash}
 use Rattle.cue_rules.specs.Rules.DelayCovers.{delay_covers}
-use Rattle.cue_rules.specs.Rules.Former.{nearest, nearest_number, former_cue, former_number}
+use Rattle.cue_rules.specs.Rules.Former.{nearest_number, former_cue, former_number}
 use Rattle.cue_types.specs.Lane.{kind_lane, on_lane}
 use Rattle.cue_rules.specs.Rules.Order.{order}
 use Rattle.cue_rules.specs.Rules.Overlap.{overlap}
@@ -75,7 +76,7 @@ nearest_is_number test (cue ∷ earlier) n e = by_test (test cue) (nearest_is_nu
 
 -- the nearest cue is the one with the nearest number
 pub nearest_at : (test : Cue → Bool) (earlier : List Cue)
-    → nearest test earlier ≡ option_and_then (λ n. slice_get (reverse earlier) (n - 1)) (nearest_number test earlier)
+    → find test earlier ≡ option_and_then (λ n. slice_get (reverse earlier) (n - 1)) (nearest_number test earlier)
 nearest_at test [] = refl
 nearest_at test (cue ∷ earlier) = by_test (test cue) (nearest_at test earlier) (nearest_is_number test earlier)
   where
@@ -94,9 +95,9 @@ nearest_at test (cue ∷ earlier) = by_test (test cue) (nearest_at test earlier)
         sym (rw (reverse-cons cue earlier, place) (slice_get_last (reverse earlier) cue))
 
     by_test : (b : Bool)
-        → nearest test earlier ≡ option_and_then (λ n. slice_get (reverse earlier) (n - 1)) (nearest_number test earlier)
+        → find test earlier ≡ option_and_then (λ n. slice_get (reverse earlier) (n - 1)) (nearest_number test earlier)
         → ((n : ℕ) → nearest_number test earlier ≡ Some n → IsNumber earlier n)
-        → (if b then Some cue else nearest test earlier)
+        → (if b then Some cue else find test earlier)
         ≡ option_and_then (λ n. slice_get (reverse (cue ∷ earlier)) (n - 1))
         (if b then Some (length earlier + 1) else nearest_number test earlier)
     by_test true older numbers = newest

@@ -86,27 +86,27 @@ module _ (one two : Listing) (channel : Chan) (places : Places) (together : GoTo
       at_slot (Some n) = slot_bytes (slots_in_list one channel) timeline all_sent n
 
 module _ (one two : Listing) (placed : DualPlacement) (together : GoTogether one two) (is : IsDualPlaced one two placed) where
-  dual_one : IsDual one two Cc1 placed.one
-  dual_one = placed_dual one two together One placed.one (is.fields One)
+  dual_one : IsDual one two Cc1 (placed.fields One)
+  dual_one = placed_dual one two together One (placed.fields One) (is.fields One)
 
-  dual_two : IsDual one two Cc3 placed.two
-  dual_two = placed_dual one two together Two placed.two (is.fields Two)
+  dual_two : IsDual one two Cc3 (placed.fields Two)
+  dual_two = placed_dual one two together Two (placed.fields Two) (is.fields Two)
 
   dual_doubled : AreDoubledIn one.frames (dual_columns one two placed)
   dual_doubled One =
       subst IsDoubled (sym (pairs_column (cadence_of one.rate Cc1)
-      (field_timeline Cc1 (slot_cues one Cc1) (slot_cues two Cc1) placed.one.first placed.one.second placed.one.first_again placed.one.second_again)
+      (field_timeline Cc1 (slot_cues one Cc1) (slot_cues two Cc1) (placed.fields One).first (placed.fields One).second (placed.fields One).first_again (placed.fields One).second_again)
       One (dual_columns one two placed) (λ n. refl) one.frames))
-      (field_doubled one two Cc1 placed.one together dual_one)
+      (field_doubled one two Cc1 (placed.fields One) together dual_one)
   dual_doubled Two =
       subst IsDoubled (sym (pairs_column (cadence_of one.rate Cc3)
-      (field_timeline Cc3 (slot_cues one Cc3) (slot_cues two Cc3) placed.two.first placed.two.second placed.two.first_again placed.two.second_again)
+      (field_timeline Cc3 (slot_cues one Cc3) (slot_cues two Cc3) (placed.fields Two).first (placed.fields Two).second (placed.fields Two).first_again (placed.fields Two).second_again)
       Two (dual_columns one two placed) (λ n. refl) one.frames))
-      (field_doubled one two Cc3 placed.two together dual_two)
+      (field_doubled one two Cc3 (placed.fields Two) together dual_two)
 
   dual_bytes : AreBytePairs (dual_columns one two placed)
-  dual_bytes One frame = field_bytes one two Cc1 placed.one together dual_one frame
-  dual_bytes Two frame = field_bytes one two Cc3 placed.two together dual_two frame
+  dual_bytes One frame = field_bytes one two Cc1 (placed.fields One) together dual_one frame
+  dual_bytes Two frame = field_bytes one two Cc3 (placed.fields Two) together dual_two frame
 
 pub dual_pairs : DualPairsAreFit
 dual_pairs one two placed together is = record { doubled = dual_doubled one two placed together is; pairs = dual_bytes one two placed together is }

@@ -1,7 +1,7 @@
 -- What the lists of a field send: pairs of bytes, all within the list.
 use Rattle.std.proofs.Common.{◌≡◌, ℕ, suc, ◌+◌, ◌≤◌, ◌==◌, eqb, Bool, true, false, List, [], ◌∷◌, Option, Some, None, All, refl, sym, ap, ◌∙◌, subst, arith}
 use Rattle.std.specs.Prelude.{⊤}
-use Rattle.std.specs.Option.{option_map}
+use Rattle.std.specs.Option.{option_map, option_or}
 use Rattle.std.proofs.lemmas.Bool.Decides.{nat_tests}
 use Rattle.std.proofs.lemmas.List.Elements.{All-cons, All-head, All-nil, All-tail}
 use Rattle.line21_codes.specs.declared.channels.Chan.{Chan}
@@ -25,7 +25,6 @@ use Rattle.field_lanes.specs.LaneDoubling.{AreEnded}
 use Rattle.field_lanes.specs.LaneEvents.{AreOver, event_at}
 use Rattle.field_lanes.specs.LaneTimeline.{lane_timeline, stands}
 use Rattle.frame_scheduler.specs.SlotLists.{slot_cues, slots_in_list}
-use Rattle.field_lanes.specs.Timeline.{first_of}
 use Rattle.field_lanes.proofs.DoublingLemmas.{at_event, at_unit}
 use Rattle.frame_scheduler.proofs.ListDoublingLemmas.{channel_ended}
 use Rattle.frame_scheduler.proofs.SlotLemmas.{slot_cues_formed, slot_sequence}
@@ -127,7 +126,7 @@ module _ (list : Listing) (channel : Chan) (formed : IsFormed list) (ruled : IsR
   -- an event
   pub event_sent : (n : ℕ) (unit : Unit) → event_at (channel_events channel (slot_cues list channel)) n ≡ Some unit → IsSent (slots_in_list list channel) n unit
   event_sent n unit is = record {
-    bytes = begun_bytes [] n unit (ap (λ o. first_of o (stands (channel_chunks channel (slot_cues list channel)) [] n)) is);
+    bytes = begun_bytes [] n unit (ap (λ o. option_or o (stands (channel_chunks channel (slot_cues list channel)) [] n)) is);
     ended = λ doubled. event_ended (slots_in_list list channel) (channel_events channel (slot_cues list channel)) n unit ended.events_are is;
   }
 
@@ -142,7 +141,7 @@ module _ (list : Listing) (channel : Chan) (formed : IsFormed list) (ruled : IsR
   chunks_bytes =
       each_unit (slots_in_list list channel) (channel_chunks channel (slot_cues list channel))
       (λ fs unit is. begun_bytes fs (slots_in_list list channel) unit
-      (ap (λ o. first_of o (stands (channel_chunks channel (slot_cues list channel)) fs (slots_in_list list channel)))
+      (ap (λ o. option_or o (stands (channel_chunks channel (slot_cues list channel)) fs (slots_in_list list channel)))
       (no_event (event_at (channel_events channel (slot_cues list channel)) (slots_in_list list channel)) refl) ∙ is))
 
   same_chunks : channel_chunks channel (slot_cues list channel) ≡ part_chunks (channel_parts channel (slot_cues list channel))

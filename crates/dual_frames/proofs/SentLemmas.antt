@@ -1,5 +1,6 @@
 -- What begins in a lane whose units stand in their places: its pair is of bytes, and its repeat comes within the list.
 use Rattle.std.proofs.Common.{◌≡◌, ℕ, zero, suc, ◌+◌, ◌≤◌, ◌==◌, Bool, true, false, List, [], ◌∷◌, Option, Some, None, All, refl, sym, ap, ◌∙◌, subst, arith, ◌⊎◌, inl, inr, ⊎_elim}
+use Rattle.std.specs.Option.{option_or}
 use Rattle.std.proofs.lemmas.Bool.Decides.{nat_tests}
 use Rattle.std.proofs.lemmas.List.Elements.{All-head, All-tail}
 use Rattle.line21_codes.specs.declared.pairs.Pair.{Pair}
@@ -7,7 +8,7 @@ use Rattle.line21_codes.specs.NullPairs.{null_pair}
 use Rattle.line21_author.specs.declared.unit.Unit.{Unit}
 use Rattle.frame_carrier.specs.Carried.{IsBytePair}
 use Rattle.field_lanes.specs.LaneTimeline.{stands}
-use Rattle.field_lanes.specs.Timeline.{Timeline, first_of, repeat_at, repeat_of, slot}
+use Rattle.field_lanes.specs.Timeline.{Timeline, repeat_at, repeat_of, slot}
 use Rattle.resumed_lanes.specs.Parts.{part_slots}
 use Rattle.resumed_lanes.specs.ResumedLane.{Stand}
 use Rattle.resumed_lanes.specs.Slots.{Slots}
@@ -27,7 +28,7 @@ pub record IsSendable (count : ℕ) (part : Part) : Type 0 where
   pub until : part.chunk.until ≤ count
 
 -- what begins is one of two
-pub either_is : (u v : Option Unit) (unit : Unit) → first_of u v ≡ Some unit → (u ≡ Some unit) ⊎ (v ≡ Some unit)
+pub either_is : (u v : Option Unit) (unit : Unit) → option_or u v ≡ Some unit → (u ≡ Some unit) ⊎ (v ≡ Some unit)
 either_is None v unit is = inr is
 either_is (Some w) v unit is = inl is
 

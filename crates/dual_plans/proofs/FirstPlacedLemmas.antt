@@ -12,13 +12,13 @@ use Rattle.cue_lists.specs.Listing.{IsFormed, Listing}
 use Rattle.cue_lists.specs.Rules.{IsRuled}
 use Rattle.cue_lists.specs.declared.lane.Lane.{Lane}
 use Rattle.cue_lists.specs.declared.lane.Lane.TheVariants.{Channel, Service}
-use Rattle.placements.specs.LaneRoom.{AreInCueOrder, HasNoRoom, HasRoom}
+use Rattle.placements.specs.LaneRoom.{AreInCueOrder, HasRoom}
 use Rattle.placements.specs.declared.planning.PlanFault.{PlanFault}
 use Rattle.placements.specs.declared.planning.PlanFault.TheVariants.{Memory, NoRoom}
 use Rattle.placements.proofs.LaneRoomLemmas.{room_all}
 use Rattle.service_lanes.specs.ServicePlan.{PlannedService}
 use Rattle.frame_scheduler.specs.LaneSets.{IsFaultIn, IsFirstIn, IsServiceBelow, earlier_fault, fault_beside}
-use Rattle.frame_scheduler.specs.Planned.{LaneHasRoom, LaneLacksRoom}
+use Rattle.frame_scheduler.specs.Planned.{LaneHasRoom}
 use Rattle.frame_scheduler.specs.ServicePlans.{AreServices}
 use Rattle.frame_scheduler.proofs.PlanLemmas.{far_roomy}
 use Rattle.frame_scheduler.proofs.ServicesLemmas.{below_roomy}
@@ -28,7 +28,7 @@ use Rattle.resumed_lanes.specs.ResumedLane.{resumed_lane}
 use Rattle.resumed_lanes.specs.Slots.{Slots}
 use Rattle.resumed_lanes.specs.declared.part.Part.{Part}
 use Rattle.resumed_lanes.specs.declared.place.Place.{Place}
-use Rattle.dual_plans.specs.DualAnswer.{FieldHasRoom, FieldLacksRoom, IsFirstWithout}
+use Rattle.dual_plans.specs.DualAnswer.{FieldHasRoom, IsFirstWithout}
 use Rattle.dual_plans.specs.DualParts.{AreStarted, IsFieldsFault, IsFirstFault}
 use Rattle.dual_plans.specs.FieldFaults.{IsFaultOf, IsFirstOfFields}
 use Rattle.dual_plans.specs.FieldPlaces.{first_units, slots_for_first}
@@ -39,7 +39,7 @@ use Rattle.dual_plans.proofs.RoomLemmas.{IsFirstOfField, fault_both, fault_one, 
 
 -- the fault of a lane is that of its field
 pub lane_fault : (slots : Slots) (parts : List Part) (fault : PlanFault) → IsFault slots parts fault
-    → IsFaultOf (IsFirstOfField (λ cue. HasNoRoom (resumed_lane slots) part_cue parts cue) (λ cue. HasRoom (resumed_lane slots) part_cue parts cue)) fault
+    → IsFaultOf (IsFirstOfField (λ cue. HasRoom (resumed_lane slots) part_cue parts cue)) fault
 lane_fault slots parts (Memory error) is = tt
 lane_fault slots parts (NoRoom cue) is = record { none = is.none; first = is.first }
 
@@ -63,18 +63,18 @@ module _ (one two : Listing) where
       → IsFieldsFault one two (fault_beside fault beside)
   one_refused fault (Ok field) beside is started refused same =
       subst (λ o. IsFieldsFault one two (fault_beside fault o)) (sym same)
-      (fault_one (FieldLacksRoom one two) (FieldHasRoom one two) fault (lane_fault (slots_for_first one two Cc1) (first_units one Cc1) fault is)
+      (fault_one (FieldHasRoom one two) fault (lane_fault (slots_for_first one two Cc1) (first_units one Cc1) fault is)
       (started_room Cc3 field started))
   one_refused fault (Err error) beside is started refused same =
       subst (λ o. IsFieldsFault one two (fault_beside fault o)) (sym same)
-      (fault_both (FieldLacksRoom one two) (FieldHasRoom one two) fault error (lane_fault (slots_for_first one two Cc1) (first_units one Cc1) fault is)
+      (fault_both (FieldHasRoom one two) fault error (lane_fault (slots_for_first one two Cc1) (first_units one Cc1) fault is)
       (lane_fault (slots_for_first one two Cc3) (first_units one Cc3) error refused))
 
   -- and where it has
   pub two_refused : (fault : PlanFault) (field : StartedField) → IsStarted one two Cc1 field
       → IsFault (slots_for_first one two Cc3) (first_units one Cc3) fault → IsFieldsFault one two fault
   two_refused fault field started is =
-      fault_two (FieldLacksRoom one two) (FieldHasRoom one two) fault (lane_fault (slots_for_first one two Cc3) (first_units one Cc3) fault is)
+      fault_two (FieldHasRoom one two) fault (lane_fault (slots_for_first one two Cc3) (first_units one Cc3) fault is)
       (started_room Cc1 field started)
 
   module _ (formed : IsFormed one) (ruled : IsRuled one) where
@@ -86,7 +86,7 @@ module _ (one two : Listing) where
           | inr far ↦ far_roomy one formed ruled service far cue
         ]
 
-    with_services : (cue : ℕ) → IsFirstOfFields (FieldLacksRoom one two) (FieldHasRoom one two) cue
+    with_services : (cue : ℕ) → IsFirstOfFields (FieldHasRoom one two) cue
         → ((earlier : ℕ) → earlier < cue → (on : Lane) → IsServiceBelow 7 on → LaneHasRoom one on earlier) → IsFirstWithout one two cue
     with_services cue is other = record {
       none = inl is.none;
@@ -95,11 +95,11 @@ module _ (one two : Listing) where
     }
 
     lacking : (cue : ℕ) → IsFirstIn (IsServiceBelow 7) one cue
-        → ((in_field : FieldNumber) × FieldLacksRoom one two in_field cue) ⊎ ((service : ℕ) × LaneLacksRoom one (Service service) cue)
+        → ((in_field : FieldNumber) × (FieldHasRoom one two in_field cue → ⊥)) ⊎ ((service : ℕ) × (LaneHasRoom one (Service service) cue → ⊥))
     lacking cue is = of_lane is.none.0 is.none.1 is.none.2
       where
-        of_lane : (on : Lane) → IsServiceBelow 7 on → LaneLacksRoom one on cue
-            → ((in_field : FieldNumber) × FieldLacksRoom one two in_field cue) ⊎ ((service : ℕ) × LaneLacksRoom one (Service service) cue)
+        of_lane : (on : Lane) → IsServiceBelow 7 on → (LaneHasRoom one on cue → ⊥)
+            → ((in_field : FieldNumber) × (FieldHasRoom one two in_field cue → ⊥)) ⊎ ((service : ℕ) × (LaneHasRoom one (Service service) cue → ⊥))
         of_lane (Channel channel) below lacks = absurd below
         of_lane (Service service) below lacks = inr (service, lacks)
 
@@ -111,7 +111,7 @@ module _ (one two : Listing) where
       services = λ earlier below. services_room earlier (is.first earlier below);
     }
 
-    both_lack : (a b : ℕ) → IsFirstOfFields (FieldLacksRoom one two) (FieldHasRoom one two) a → IsFirstIn (IsServiceBelow 7) one b
+    both_lack : (a b : ℕ) → IsFirstOfFields (FieldHasRoom one two) a → IsFirstIn (IsServiceBelow 7) one b
         → IsFirstWithout one two (min a b)
     both_lack a b fields services =
         elim (cases_lt a b) [

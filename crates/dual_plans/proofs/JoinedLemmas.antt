@@ -37,7 +37,7 @@ use Rattle.shared_field_shown.specs.Seen.{first_events, second_events}
 use Rattle.shared_field_shown.specs.Together.{AreTogether}
 use Rattle.dual_plans.specs.DualAnswer.{IsPlanned}
 use Rattle.dual_plans.specs.DualParts.{IsFirstPlaced, IsSecondPlaced}
-use Rattle.dual_plans.specs.DualPlacement.{DualPlacement, both_pair, dual_columns, places_in}
+use Rattle.dual_plans.specs.DualPlacement.{DualPlacement, both_pair, dual_columns}
 use Rattle.dual_plans.specs.FieldPlaces.{AreFieldsPlaces, GoTogether, first_units, second_units, slots_for_second}
 use Rattle.dual_plans.specs.StartedFields.{IsStarted}
 use Rattle.dual_plans.specs.declared.field.StartedField.{StartedField}
@@ -139,14 +139,14 @@ module _ (one two : Listing) (go_together : GoTogether one two) (placed : FirstP
   services_placed : (service : ℕ) → IsLanePlaced one (Service service) (placement [] [] frames (Service service))
   services_placed service = (frames_of one go_together.formed go_together.ruled placed.services.items are.services service).1
 
-  abbrev dual_placed : DualPlacement
-  dual_placed = record {
-    one = places_of placed.one seconds.one.items;
-    two = places_of placed.two seconds.two.items;
-    services = placement [] [] frames;
-  }
+  abbrev places_placed : FieldNumber → Places
+  places_placed One = places_of placed.one seconds.one.items
+  places_placed Two = places_of placed.two seconds.two.items
 
-  fields_placed : (in_field : FieldNumber) → AreFieldsPlaces one two (authored_channel in_field) (places_in dual_placed in_field)
+  abbrev dual_placed : DualPlacement
+  dual_placed = record { fields = places_placed; services = placement [] [] frames }
+
+  fields_placed : (in_field : FieldNumber) → AreFieldsPlaces one two (authored_channel in_field) (places_placed in_field)
   fields_placed One = are_places one two go_together One placed.one are.fields.one_is seconds.one.items beside_are.one_is
   fields_placed Two = are_places one two go_together Two placed.two are.fields.two_is seconds.two.items beside_are.two_is
 

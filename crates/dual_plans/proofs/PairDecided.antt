@@ -10,13 +10,13 @@ use Rattle.line21_codes.specs.declared.channels.FieldNumber.TheVariants.{One, Tw
 use Rattle.cue_lists.specs.Listing.{Listing}
 use Rattle.cue_lists.specs.declared.lane.Lane.{Lane}
 use Rattle.cue_lists.specs.declared.lane.Lane.TheVariants.{Channel, Service}
-use Rattle.placements.specs.LaneRoom.{AreInCueOrder, HasNoRoom, HasRoom, IsFirstCrowded}
+use Rattle.placements.specs.LaneRoom.{AreInCueOrder, HasRoom, IsFirstCrowded}
 use Rattle.placements.specs.Placing.{IsEarliest}
 use Rattle.placements.specs.declared.planning.PlanFault.TheVariants.{NoRoom}
 use Rattle.placements.proofs.LaneRoomLemmas.{room_all}
 use Rattle.placements.proofs.PlacingLemmas.{earliest_same}
 use Rattle.frame_scheduler.specs.Blocks.{service_block}
-use Rattle.frame_scheduler.specs.Planned.{IsFirstWithoutRoom, IsLanePlaced, IsListPlaced, LaneHasRoom, LaneLacksRoom, Placement, authored_channel, chunks_in, frame_blocks, service_bytes, service_lane_of, services}
+use Rattle.frame_scheduler.specs.Planned.{IsFirstWithoutRoom, IsLanePlaced, IsListPlaced, LaneHasRoom, Placement, authored_channel, chunks_in, frame_blocks, service_bytes, service_lane_of, services}
 use Rattle.frame_scheduler.specs.SlotLists.{slot_cues}
 use Rattle.frame_scheduler.proofs.LanesLemmas.{off_room, service_room}
 use Rattle.frame_scheduler.proofs.RoomDecided.{list_decided}
@@ -32,8 +32,8 @@ use Rattle.shared_field.specs.Placeable.{ArePlaceable}
 use Rattle.shared_field.proofs.PlaceableLemmas.{channels_ready}
 use Rattle.shared_field_shown.specs.Dual.{Places}
 use Rattle.shared_field_shown.specs.Seen.{first_events, second_events}
-use Rattle.dual_plans.specs.DualAnswer.{FieldHasRoom, FieldLacksRoom, HasRoomBeside, IsFirstWithout, IsFirstWithoutBeside, LacksRoomBeside}
-use Rattle.dual_plans.specs.DualPlacement.{DualPlacement, IsDualPlaced, both_pair, dual_columns, places_in}
+use Rattle.dual_plans.specs.DualAnswer.{FieldHasRoom, HasRoomBeside, IsFirstWithout, IsFirstWithoutBeside}
+use Rattle.dual_plans.specs.DualPlacement.{DualPlacement, IsDualPlaced, both_pair, dual_columns}
 use Rattle.dual_plans.specs.FieldFaults.{IsFirstOfFields}
 use Rattle.dual_plans.specs.FieldPlaces.{AreFieldsPlaces, GoTogether, first_units, second_units, slots_for_first, slots_for_second}
 use Rattle.dual_plans.specs.Verdict.{EachPairIsJudged, IsVerdict, Lacking, LackingBeside, NoPairIsJudgedTwice, Placed, Verdict}
@@ -45,9 +45,6 @@ use Rattle.dual_plans.proofs.RoomLemmas.{fault_both, fault_one, fault_two}
 
 -- a lane of each field
 module _ (slots : FieldNumber → Slots) (units : FieldNumber → List Part) (order : (in_field : FieldNumber) → AreInCueOrder part_cue (units in_field)) where
-  abbrev Lacks : FieldNumber → ℕ → Type 0
-  Lacks in_field cue = HasNoRoom (resumed_lane (slots in_field)) part_cue (units in_field) cue
-
   abbrev Has : FieldNumber → ℕ → Type 0
   Has in_field cue = HasRoom (resumed_lane (slots in_field)) part_cue (units in_field) cue
 
@@ -62,7 +59,7 @@ module _ (slots : FieldNumber → Slots) (units : FieldNumber → List Part) (or
 
   -- both are filled, or a cue is the first without room in one of them
   lanes_decided : AreSound (slots One) → AreSound (slots Two) → All IsBegun (units One) → All IsBegun (units Two)
-      → ((in_field : FieldNumber) → Filled in_field) ⊎ ((cue : ℕ) × IsFirstOfFields Lacks Has cue)
+      → ((in_field : FieldNumber) → Filled in_field) ⊎ ((cue : ℕ) × IsFirstOfFields Has cue)
   lanes_decided sound_one sound_two begun_one begun_two =
       at (lane_decided (slots One) sound_one (units One) begun_one (order One)) (lane_decided (slots Two) sound_two (units Two) begun_two (order Two))
     where
@@ -70,14 +67,14 @@ module _ (slots : FieldNumber → Slots) (units : FieldNumber → List Part) (or
       both one two One = one
       both one two Two = two
 
-      at : Filled One ⊎ Crowded One → Filled Two ⊎ Crowded Two → ((in_field : FieldNumber) → Filled in_field) ⊎ ((cue : ℕ) × IsFirstOfFields Lacks Has cue)
+      at : Filled One ⊎ Crowded One → Filled Two ⊎ Crowded Two → ((in_field : FieldNumber) → Filled in_field) ⊎ ((cue : ℕ) × IsFirstOfFields Has cue)
       at (inl one) (inl two) = inl (both one two)
-      at (inr one) (inl two) = inr (one.0, fault_one Lacks Has (NoRoom one.0) (lane_fault (slots One) (units One) (NoRoom one.0) one.1) (roomy Two two))
-      at (inl one) (inr two) = inr (two.0, fault_two Lacks Has (NoRoom two.0) (lane_fault (slots Two) (units Two) (NoRoom two.0) two.1) (roomy One one))
+      at (inr one) (inl two) = inr (one.0, fault_one Has (NoRoom one.0) (lane_fault (slots One) (units One) (NoRoom one.0) one.1) (roomy Two two))
+      at (inl one) (inr two) = inr (two.0, fault_two Has (NoRoom two.0) (lane_fault (slots Two) (units Two) (NoRoom two.0) two.1) (roomy One one))
       at (inr one) (inr two) =
           inr (
             min one.0 two.0,
-            fault_both Lacks Has (NoRoom one.0) (NoRoom two.0) (lane_fault (slots One) (units One) (NoRoom one.0) one.1)
+            fault_both Has (NoRoom one.0) (NoRoom two.0) (lane_fault (slots One) (units One) (NoRoom one.0) one.1)
                 (lane_fault (slots Two) (units Two) (NoRoom two.0) two.1),
           )
 
@@ -122,19 +119,19 @@ module _ (one two : Listing) (together : GoTogether one two) where
   FirstFilled = (in_field : FieldNumber) → Filled first_lanes units_first first_order in_field
 
   abbrev FirstCrowded : Type 0
-  FirstCrowded = (cue : ℕ) × IsFirstOfFields (FieldLacksRoom one two) (FieldHasRoom one two) cue
+  FirstCrowded = (cue : ℕ) × IsFirstOfFields (FieldHasRoom one two) cue
 
   fields_decided : FirstFilled ⊎ FirstCrowded
   fields_decided =
       lanes_decided first_lanes units_first first_order (sound_first one two Cc1) (sound_first one two Cc3) (first_placeable Cc1).begun (first_placeable Cc3).begun
 
   -- a lane without room is a service's where the fields have room
-  lacks_in_service : (cue : ℕ) → ((in_field : FieldNumber) → FieldHasRoom one two in_field cue) → (on : Lane) → LaneLacksRoom one on cue
-      → (service : ℕ) × LaneLacksRoom one (Service service) cue
-  lacks_in_service cue room (Channel Cc1) lacks = let has = room_alone one two Cc1 cue (room One) in absurd (lacks has.0 has.1)
-  lacks_in_service cue room (Channel Cc2) lacks = let has = off_room one together.formed Cc2 (λ a. a) cue in absurd (lacks has.0 has.1)
-  lacks_in_service cue room (Channel Cc3) lacks = let has = room_alone one two Cc3 cue (room Two) in absurd (lacks has.0 has.1)
-  lacks_in_service cue room (Channel Cc4) lacks = let has = off_room one together.formed Cc4 (λ a. a) cue in absurd (lacks has.0 has.1)
+  lacks_in_service : (cue : ℕ) → ((in_field : FieldNumber) → FieldHasRoom one two in_field cue) → (on : Lane) → (LaneHasRoom one on cue → ⊥)
+      → (service : ℕ) × (LaneHasRoom one (Service service) cue → ⊥)
+  lacks_in_service cue room (Channel Cc1) lacks = absurd (lacks (room_alone one two Cc1 cue (room One)))
+  lacks_in_service cue room (Channel Cc2) lacks = absurd (lacks (off_room one together.formed Cc2 (λ a. a) cue))
+  lacks_in_service cue room (Channel Cc3) lacks = absurd (lacks (room_alone one two Cc3 cue (room Two)))
+  lacks_in_service cue room (Channel Cc4) lacks = absurd (lacks (off_room one together.formed Cc4 (λ a. a) cue))
   lacks_in_service cue room (Service service) lacks = (service, lacks)
 
   abbrev ServicesPlaced : Type 0
@@ -212,20 +209,14 @@ module _ (one two : Listing) (together : GoTogether one two) where
     in_services (Service service) = (placed_services service).0
 
     abbrev both_placed : SecondFilled → DualPlacement
-    both_placed seconds = record { one = both_places seconds One; two = both_places seconds Two; services = in_services }
+    both_placed seconds = record { fields = both_places seconds; services = in_services }
 
-    fields_are : (seconds : SecondFilled) (in_field : FieldNumber) → AreFieldsPlaces one two (authored_channel in_field) (places_in (both_placed seconds) in_field)
-    fields_are seconds One = record {
-      first = (filled One).1.earliest;
-      first_stand = (filled One).1.stand;
-      second = (seconds One).1.earliest;
-      second_stand = (seconds One).1.stand;
-    }
-    fields_are seconds Two = record {
-      first = (filled Two).1.earliest;
-      first_stand = (filled Two).1.stand;
-      second = (seconds Two).1.earliest;
-      second_stand = (seconds Two).1.stand;
+    fields_are : (seconds : SecondFilled) (in_field : FieldNumber) → AreFieldsPlaces one two (authored_channel in_field) (both_places seconds in_field)
+    fields_are seconds in_field = record {
+      first = (filled in_field).1.earliest;
+      first_stand = (filled in_field).1.stand;
+      second = (seconds in_field).1.earliest;
+      second_stand = (seconds in_field).1.stand;
     }
 
     second_decided : (verdict : Verdict) × IsVerdict one two verdict
@@ -233,7 +224,7 @@ module _ (one two : Listing) (together : GoTogether one two) where
         at (lanes_decided second_lanes units_second second_order (sound_second one two Cc1 (slots_at (filled One).0)) (sound_second one two Cc3 (slots_at (filled Two).0))
         (second_placeable Cc1).begun (second_placeable Cc3).begun)
       where
-        at : SecondFilled ⊎ ((cue : ℕ) × IsFirstOfFields (Lacks second_lanes units_second second_order) (Has second_lanes units_second second_order) cue)
+        at : SecondFilled ⊎ ((cue : ℕ) × IsFirstOfFields (Has second_lanes units_second second_order) cue)
             → (verdict : Verdict) × IsVerdict one two verdict
         at (inl seconds) = (
           Placed (both_placed seconds),
@@ -298,9 +289,9 @@ module _ (one two : Listing) (go : GoTogether one two) where
       → IsFirstWithout one two cue → ⊥
   lacks_no_room cue fields in_services is = at is.none
     where
-      at : ((in_field : FieldNumber) × FieldLacksRoom one two in_field cue) ⊎ ((service : ℕ) × LaneLacksRoom one (Service service) cue) → ⊥
-      at (inl lacks) = let has = fields lacks.0 in lacks.1 has.0 has.1
-      at (inr lacks) = let has = in_services lacks.0 in lacks.1 has.0 has.1
+      at : ((in_field : FieldNumber) × (FieldHasRoom one two in_field cue → ⊥)) ⊎ ((service : ℕ) × (LaneHasRoom one (Service service) cue → ⊥)) → ⊥
+      at (inl lacks) = lacks.1 (fields lacks.0)
+      at (inr lacks) = lacks.1 (in_services lacks.0)
 
   room_services : (service : ℕ) (frames : List ℕ) → IsLanePlaced one (Service service) frames → (cue : ℕ) → LaneHasRoom one (Service service) cue
   room_services service frames is cue = service_room service one frames is.placed cue
@@ -327,8 +318,7 @@ module _ (one two : Listing) (go : GoTogether one two) where
   beside_first a b first second less =
       let in_field = first.none.0 in
       let same = first_same in_field (first.placed in_field) (second.placed in_field) (first.fields in_field) (second.fields in_field) in
-      let has = second.first a less in_field in
-      (subst (λ fs. LacksRoomBeside one two in_field fs a) same first.none.1) has.0 has.1
+      subst (λ fs. HasRoomBeside one two in_field fs a → ⊥) same first.none.1 (second.first a less in_field)
 
   beside_same : (a b : ℕ) → IsFirstWithoutBeside one two a → IsFirstWithoutBeside one two b → a ≡ b
   beside_same a b first second =
@@ -342,16 +332,16 @@ module _ (one two : Listing) (go : GoTogether one two) where
 
   placed_lacks_none : (placed : DualPlacement) → IsDualPlaced one two placed → (cue : ℕ) → IsFirstWithout one two cue → ⊥
   placed_lacks_none placed is cue without =
-      never_lacking (λ in_field. (places_in placed in_field).first) (λ in_field. (is.fields in_field).first)
+      never_lacking (λ in_field. (placed.fields in_field).first) (λ in_field. (is.fields in_field).first)
       (λ service. (placed.services (Service service), is.services service)) cue without
 
   placed_lacks_none_beside : (placed : DualPlacement) → IsDualPlaced one two placed → (cue : ℕ) → IsFirstWithoutBeside one two cue → ⊥
   placed_lacks_none_beside placed is cue without =
       let in_field = without.none.0 in
-      let places = places_in placed in_field in
+      let places = placed.fields in_field in
       let same = first_same in_field (without.placed in_field) places.first (without.fields in_field) (is.fields in_field).first in
-      let has = room_second in_field places.first places.second (is.fields in_field).second cue in
-      (subst (λ fs. LacksRoomBeside one two in_field fs cue) same without.none.1) has.0 has.1
+      subst (λ fs. HasRoomBeside one two in_field fs cue → ⊥) same without.none.1
+      (room_second in_field places.first places.second (is.fields in_field).second cue)
 
   lacking_not_beside : (a b : ℕ) → IsFirstWithout one two a → IsFirstWithoutBeside one two b → ⊥
   lacking_not_beside a b lacks is = never_lacking is.placed is.fields is.services a lacks
@@ -382,10 +372,11 @@ module _ (one two : Listing) (go : GoTogether one two) where
 
   columns_same : (a b : DualPlacement) → IsDualPlaced one two a → IsDualPlaced one two b → dual_columns one two a ≡ dual_columns one two b
   columns_same a b is other =
-      fun_ext (λ frame. frame_same (both_pair one two Cc1 a.one frame) (both_pair one two Cc1 b.one frame) (both_pair one two Cc3 a.two frame) (both_pair one two Cc3 b.two frame)
+      fun_ext (λ frame. frame_same (both_pair one two Cc1 (a.fields One) frame) (both_pair one two Cc1 (b.fields One) frame)
+      (both_pair one two Cc3 (a.fields Two) frame) (both_pair one two Cc3 (b.fields Two) frame)
       (frame_blocks one a.services frame) (frame_blocks one b.services frame)
-      (ap (λ (p : Places). both_pair one two Cc1 p frame) (places_same One a.one b.one (is.fields One) (other.fields One)))
-      (ap (λ (p : Places). both_pair one two Cc3 p frame) (places_same Two a.two b.two (is.fields Two) (other.fields Two)))
+      (ap (λ (p : Places). both_pair one two Cc1 p frame) (places_same One (a.fields One) (b.fields One) (is.fields One) (other.fields One)))
+      (ap (λ (p : Places). both_pair one two Cc3 p frame) (places_same Two (a.fields Two) (b.fields Two) (is.fields Two) (other.fields Two)))
       (ap (λ (frames : ℕ → List ℕ). flat_map (λ service. service_block service (service_bytes one service (frames service) frame)) services)
       (services_same a b is other)))
 

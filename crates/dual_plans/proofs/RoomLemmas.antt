@@ -9,16 +9,16 @@ use Rattle.frame_scheduler.specs.LaneSets.{earlier_fault}
 use Rattle.dual_plans.specs.FieldFaults.{IsFaultOf, IsFirstOfFields}
 
 -- up to the cue a field has no room, and up to each earlier cue it has
-pub record IsFirstOfField (Lacks Has : ℕ → Type 0) (cue : ℕ) : Type 0 where
-  pub none : Lacks cue
+pub record IsFirstOfField (Has : ℕ → Type 0) (cue : ℕ) : Type 0 where
+  pub none : Has cue → ⊥
   pub first : (earlier : ℕ) → earlier < cue → Has earlier
 
-module _ (Lacks Has : FieldNumber → ℕ → Type 0) where
+module _ (Has : FieldNumber → ℕ → Type 0) where
   abbrev pub First : FieldNumber → ℕ → Type 0
-  First in_field = IsFirstOfField (Lacks in_field) (Has in_field)
+  First in_field = IsFirstOfField (Has in_field)
 
   abbrev pub FirstOfBoth : ℕ → Type 0
-  FirstOfBoth = IsFirstOfFields Lacks Has
+  FirstOfBoth = IsFirstOfFields Has
 
   first_one : (cue : ℕ) → First One cue → ((earlier : ℕ) → earlier < cue → Has Two earlier) → FirstOfBoth cue
   first_one cue is other = record { none = (One, is.none); first = has }

@@ -19,7 +19,7 @@ use Rattle.resumed_lanes.specs.Parts.{part_cue}
 use Rattle.resumed_lanes.specs.ResumedLane.{resumed_lane}
 use Rattle.resumed_lanes.specs.declared.place.Place.{Place}
 use Rattle.frame_scheduler.specs.Planned.{authored_channel}
-use Rattle.dual_plans.specs.DualAnswer.{HasRoomBeside, IsDualFault, LacksRoomBeside}
+use Rattle.dual_plans.specs.DualAnswer.{HasRoomBeside, IsDualFault}
 use Rattle.dual_plans.specs.DualParts.{IsFirstPlaced, IsSecondFault, slots_placed}
 use Rattle.dual_plans.specs.FieldPlaces.{GoTogether, first_units, second_units, slots_for_first, slots_for_second}
 use Rattle.dual_plans.specs.StartedFields.{IsStarted}
@@ -47,14 +47,12 @@ module _ (one two : Listing) where
         → IsSecondFault one two placed (fault_beside fault beside)
     one_refused_beside fault (Ok places) beside is filled refused same =
         subst (λ o. IsSecondFault one two placed (fault_beside fault o)) (sym same)
-        (fault_one (λ in_field. LacksRoomBeside one two in_field (slots_placed placed in_field))
-        (λ in_field. HasRoomBeside one two in_field (slots_placed placed in_field)) fault
+        (fault_one (λ in_field. HasRoomBeside one two in_field (slots_placed placed in_field)) fault
         (lane_fault (slots_for_second one two Cc1 (slots_at placed.one.places.items)) (second_units two Cc1) fault is)
         (second_room Cc3 placed.two are.fields.two_is places filled))
     one_refused_beside fault (Err error) beside is filled refused same =
         subst (λ o. IsSecondFault one two placed (fault_beside fault o)) (sym same)
-        (fault_both (λ in_field. LacksRoomBeside one two in_field (slots_placed placed in_field))
-        (λ in_field. HasRoomBeside one two in_field (slots_placed placed in_field)) fault error
+        (fault_both (λ in_field. HasRoomBeside one two in_field (slots_placed placed in_field)) fault error
         (lane_fault (slots_for_second one two Cc1 (slots_at placed.one.places.items)) (second_units two Cc1) fault is)
         (lane_fault (slots_for_second one two Cc3 (slots_at placed.two.places.items)) (second_units two Cc3) error refused))
 
@@ -63,8 +61,7 @@ module _ (one two : Listing) where
         → IsFilled (slots_for_second one two Cc1 (slots_at placed.one.places.items)) (second_units two Cc1) places.items
         → IsFault (slots_for_second one two Cc3 (slots_at placed.two.places.items)) (second_units two Cc3) fault → IsSecondFault one two placed fault
     two_refused_beside fault places filled is =
-        fault_two (λ in_field. LacksRoomBeside one two in_field (slots_placed placed in_field))
-        (λ in_field. HasRoomBeside one two in_field (slots_placed placed in_field)) fault
+        fault_two (λ in_field. HasRoomBeside one two in_field (slots_placed placed in_field)) fault
         (lane_fault (slots_for_second one two Cc3 (slots_at placed.two.places.items)) (second_units two Cc3) fault is)
         (second_room Cc1 placed.one are.fields.one_is places filled)
 

@@ -7,8 +7,8 @@ use Rattle.cue_lists.specs.declared.lane.Lane.TheVariants.{Service}
 use Rattle.field_clashes.specs.Clashes.{IsFieldClash, IsLeastClash}
 use Rattle.frame_scheduler.specs.Frames.{GivesFrom, frames_left}
 use Rattle.frame_scheduler.specs.declared.frames.Plan.{Plan}
-use Rattle.frame_scheduler.specs.Planned.{IsLanePlaced, LaneHasRoom, LaneLacksRoom, authored_channel}
-use Rattle.placements.specs.LaneRoom.{HasNoRoom, HasRoom}
+use Rattle.frame_scheduler.specs.Planned.{IsLanePlaced, LaneHasRoom, authored_channel}
+use Rattle.placements.specs.LaneRoom.{HasRoom}
 use Rattle.placements.specs.Placing.{IsEarliest}
 use Rattle.programmes.specs.Overlays.{GivesOverlaid}
 use Rattle.resumed_lanes.specs.Parts.{part_cue}
@@ -21,26 +21,18 @@ use Rattle.dual_plans.specs.OtherList.{AreAlike, IsJudged}
 use Rattle.dual_plans.specs.declared.fault.DualFault.{DualFault}
 use Rattle.dual_plans.specs.declared.fault.DualFault.TheVariants.{Memory, OtherList, FieldClash, NoRoom, NoRoomBeside}
 
--- the units of the first list in a field up to the cue of this number have no placement, or have one
-abbrev pub FieldLacksRoom : Listing → Listing → FieldNumber → ℕ → Type 0
-FieldLacksRoom one two in_field cue =
-    HasNoRoom (resumed_lane (slots_for_first one two (authored_channel in_field))) part_cue (first_units one (authored_channel in_field)) cue
-
+-- the units of the first list in a field up to the cue of this number have a placement
 abbrev pub FieldHasRoom : Listing → Listing → FieldNumber → ℕ → Type 0
 FieldHasRoom one two in_field cue =
     HasRoom (resumed_lane (slots_for_first one two (authored_channel in_field))) part_cue (first_units one (authored_channel in_field)) cue
 
 -- the cue is the first of the first list without a placement, in a field or of a service
 pub record IsFirstWithout (one two : Listing) (cue : ℕ) : Type 0 where
-  pub none : ((in_field : FieldNumber) × FieldLacksRoom one two in_field cue) ⊎ ((service : ℕ) × LaneLacksRoom one (Service service) cue)
+  pub none : ((in_field : FieldNumber) × (FieldHasRoom one two in_field cue → ⊥)) ⊎ ((service : ℕ) × (LaneHasRoom one (Service service) cue → ⊥))
   pub fields : (earlier : ℕ) → earlier < cue → (in_field : FieldNumber) → FieldHasRoom one two in_field earlier
   pub services : (earlier : ℕ) → earlier < cue → (service : ℕ) → LaneHasRoom one (Service service) earlier
 
--- the units of the second list in a field up to a cue have no placement beside those of the first in these slots, or have one
-abbrev pub LacksRoomBeside : Listing → Listing → FieldNumber → List ℕ → ℕ → Type 0
-LacksRoomBeside one two in_field fs cue =
-    HasNoRoom (resumed_lane (slots_for_second one two (authored_channel in_field) fs)) part_cue (second_units two (authored_channel in_field)) cue
-
+-- the units of the second list in a field up to a cue have a placement beside those of the first in these slots
 abbrev pub HasRoomBeside : Listing → Listing → FieldNumber → List ℕ → ℕ → Type 0
 HasRoomBeside one two in_field fs cue =
     HasRoom (resumed_lane (slots_for_second one two (authored_channel in_field) fs)) part_cue (second_units two (authored_channel in_field)) cue
@@ -50,7 +42,7 @@ pub record IsFirstWithoutBeside (one two : Listing) (cue : ℕ) : Type 0 where
   pub placed : FieldNumber → List ℕ
   pub fields : (in_field : FieldNumber) → IsEarliest (resumed_lane (slots_for_first one two (authored_channel in_field))) (first_units one (authored_channel in_field)) (placed in_field)
   pub services : (service : ℕ) → (frames : List ℕ) × IsLanePlaced one (Service service) frames
-  pub none : (in_field : FieldNumber) × LacksRoomBeside one two in_field (placed in_field) cue
+  pub none : (in_field : FieldNumber) × (HasRoomBeside one two in_field (placed in_field) cue → ⊥)
   pub first : (earlier : ℕ) → earlier < cue → (in_field : FieldNumber) → HasRoomBeside one two in_field (placed in_field) earlier
 
 -- a plan with second lanes has the frames of both lists

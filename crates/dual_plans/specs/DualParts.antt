@@ -9,7 +9,7 @@ use Rattle.cue_lists.specs.Listing.{Listing}
 use Rattle.frame_scheduler.specs.ServicePlans.{AreServicesPlanned, shared_below}
 use Rattle.placements.specs.declared.planning.PlanFault.{PlanFault}
 use Rattle.resumed_lanes.specs.Filled.{IsFilled, slots_at}
-use Rattle.dual_plans.specs.DualAnswer.{FieldHasRoom, FieldLacksRoom, HasRoomBeside, IsFirstWithout, LacksRoomBeside}
+use Rattle.dual_plans.specs.DualAnswer.{FieldHasRoom, HasRoomBeside, IsFirstWithout}
 use Rattle.dual_plans.specs.FieldFaults.{IsFaultOf, IsFirstOfFields}
 use Rattle.dual_plans.specs.FieldPlaces.{second_units, slots_for_second}
 use Rattle.dual_plans.specs.StartedFields.{IsStarted}
@@ -29,7 +29,7 @@ pub record IsFirstPlaced (one two : Listing) (placed : FirstPlaced) : Type 0 whe
 
 -- why the units of the first list have no placement in both fields, or none in these and of its services
 abbrev pub IsFieldsFault : Listing → Listing → PlanFault → Type 0
-IsFieldsFault one two = IsFaultOf (IsFirstOfFields (FieldLacksRoom one two) (FieldHasRoom one two))
+IsFieldsFault one two = IsFaultOf (IsFirstOfFields (FieldHasRoom one two))
 
 abbrev pub IsFirstFault : Listing → Listing → PlanFault → Type 0
 IsFirstFault one two = IsFaultOf (IsFirstWithout one two)
@@ -47,5 +47,4 @@ pub record IsSecondPlaced (one two : Listing) (placed : FirstPlaced) (seconds : 
 -- or why they don't
 abbrev pub IsSecondFault : Listing → Listing → FirstPlaced → PlanFault → Type 0
 IsSecondFault one two placed =
-    IsFaultOf (IsFirstOfFields (λ in_field. LacksRoomBeside one two in_field (slots_placed placed in_field))
-    (λ in_field. HasRoomBeside one two in_field (slots_placed placed in_field)))
+    IsFaultOf (IsFirstOfFields (λ in_field. HasRoomBeside one two in_field (slots_placed placed in_field)))

@@ -17,19 +17,14 @@ use Rattle.shared_field_shown.specs.Dual.{Places}
 use Rattle.shared_field_shown.specs.Seen.{field_timeline}
 use Rattle.dual_plans.specs.FieldPlaces.{AreFieldsPlaces}
 
--- where the units of both lists stand in field 1 and in field 2, and those of the first list's services
+-- where the units of both lists stand in each field, and those of the first list's services
 pub record DualPlacement : Type 0 where
-  pub one : Places
-  pub two : Places
+  pub fields : FieldNumber → Places
   pub services : Placement
-
-abbrev pub places_in : DualPlacement → FieldNumber → Places
-places_in placed One = placed.one
-places_in placed Two = placed.two
 
 -- all stand in their earliest placements
 pub record IsDualPlaced (one two : Listing) (placed : DualPlacement) : Type 0 where
-  pub fields : (in_field : FieldNumber) → AreFieldsPlaces one two (authored_channel in_field) (places_in placed in_field)
+  pub fields : (in_field : FieldNumber) → AreFieldsPlaces one two (authored_channel in_field) (placed.fields in_field)
   pub services : (service : ℕ) → IsLanePlaced one (Service service) (placed.services (Service service))
 
 -- the pair of a frame in the field of a channel, where the frame has a slot of it
@@ -41,7 +36,7 @@ both_pair one two channel places frame =
 -- what each frame carries: the events and units of both lists in both fields, and the first list's service blocks
 abbrev pub dual_columns : Listing → Listing → DualPlacement → Columns
 dual_columns one two placed frame = record {
-  one = both_pair one two Cc1 placed.one frame;
-  two = both_pair one two Cc3 placed.two frame;
+  one = both_pair one two Cc1 (placed.fields One) frame;
+  two = both_pair one two Cc3 (placed.fields Two) frame;
   blocks = record { items = frame_blocks one placed.services frame };
 }

@@ -6,8 +6,8 @@ use Rattle.placements.specs.declared.planning.PlanFault.{PlanFault}
 use Rattle.placements.specs.declared.planning.PlanFault.TheVariants.{Memory, NoRoom}
 
 -- up to the cue one of both fields has no room, and up to each earlier cue both have
-pub record IsFirstOfFields (Lacks Has : FieldNumber → ℕ → Type 0) (cue : ℕ) : Type 0 where
-  pub none : (in_field : FieldNumber) × Lacks in_field cue
+pub record IsFirstOfFields (Has : FieldNumber → ℕ → Type 0) (cue : ℕ) : Type 0 where
+  pub none : (in_field : FieldNumber) × (Has in_field cue → ⊥)
   pub first : (earlier : ℕ) → earlier < cue → (in_field : FieldNumber) → Has in_field earlier
 
 -- memory ran out, or this cue is as said

@@ -1,14 +1,8 @@
 -- Believed: the program's answer stands on these definitions.
 -- A second list beside a first one: it has the first one's rate and number of frames, and no share.
-use Rattle.std.specs.Prelude.{◌≡◌, ◌≢◌, ◌⊎◌, ℕ, Option, Some, None}
+use Rattle.std.specs.Prelude.{◌≡◌, ◌≢◌, ◌⊎◌, ℕ, IsSome, Option, Some, None}
 use Rattle.cue_lists.specs.Listing.{Listing, share_of}
 use Rattle.dual_plans.specs.declared.other_list.OtherField.{OtherField}
-
--- the list has a share of some service
-pub record HasShare (list : Listing) : Type 0 where
-  pub service : ℕ
-  pub bytes : ℕ
-  pub share : share_of list service ≡ Some bytes
 
 pub record AreAlike (one two : Listing) : Type 0 where
   pub rate : two.rate ≡ one.rate
@@ -21,5 +15,5 @@ abbrev pub IsJudged : Listing → Listing → Option OtherField → Type 0
 IsJudged one two (Some at) =
     ((at.rec ≡ 1) × (at.field ≡ 3) × (two.rate ≢ one.rate))
     ⊎ (((at.rec ≡ 1) × (at.field ≡ 4) × (two.rate ≡ one.rate) × (two.frames ≢ one.frames))
-    ⊎ ((at.rec ≡ 2) × (at.field ≡ 1) × (two.rate ≡ one.rate) × (two.frames ≡ one.frames) × HasShare two))
+    ⊎ ((at.rec ≡ 2) × (at.field ≡ 1) × (two.rate ≡ one.rate) × (two.frames ≡ one.frames) × ((service : ℕ) × IsSome (share_of two service))))
 IsJudged one two None = AreAlike one two

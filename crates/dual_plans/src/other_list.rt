@@ -1,7 +1,7 @@
-ghost use Rattle.std.specs.Prelude.{◌≡◌, ℕ, true, false, None};
+ghost use Rattle.std.specs.Prelude.{◌≡◌, ℕ, IsSome, true, false, None};
 ghost use Rattle.cue_lists.specs.Listing.{share_of};
 ghost use Rattle.cue_lists.specs.Rules.{IsRuled};
-ghost use Rattle.dual_plans.specs.OtherList.{HasShare, IsJudged};
+ghost use Rattle.dual_plans.specs.OtherList.{IsJudged};
 
 use cue_lists::{CueList, LAST_SERVICE};
 
@@ -32,7 +32,7 @@ pub fn other_field(first: &CueList, second: &CueList) -> Option<OtherField>
 // Whether a list has a share of any service.
 fn has_share(list: &CueList) -> bool
     requires { IsRuled list.now }
-    ensures some { result ≡ true → HasShare list.now }
+    ensures some { result ≡ true → (service : ℕ) × IsSome (share_of list.now service) }
     ensures none { result ≡ false → (service : ℕ) → share_of list.now service ≡ None }
 {
     let _cues = list.cues();

@@ -1,5 +1,6 @@
 -- The column of a timeline: its length, its slots, its fronts, and that control pairs stand doubled in it.
 use Rattle.std.proofs.Common.{◌≡◌, ℕ, ◌+◌, ◌%◌, ◌<◌, ◌≤◌, List, [], ◌∷◌, ◌++◌, Option, Some, None, Bool, true, false, refl, sym, ap, ◌∙◌, subst, arith, zero, suc, length, get_or, take, replicate, append_assoc, append-nil, option_map, unwrap_or, ⊎_elim}
+use Rattle.std.specs.Option.{option_or}
 use Rattle.std.proofs.lemmas.Bool.{cases_lt, true≢false}
 use Rattle.std.proofs.lemmas.List.{length_push, get_or_append_left, get_or_push, take-append-le, take_all, take_at, get_or_at, same_from_push, replicate_more, length-append, ext_get_or}
 use Rattle.std.specs.Int.Count.{ones}
@@ -7,7 +8,7 @@ use Rattle.line21_codes.specs.declared.pairs.Pair.{Pair}
 use Rattle.line21_codes.specs.ControlPairs.{is_control}
 use Rattle.line21_codes.specs.NullPairs.{null_pair}
 use Rattle.line21_author.specs.declared.unit.Unit.{Unit}
-use Rattle.field_lanes.specs.Timeline.{IsSpaced, Timeline, first_of, repeat_of, repeat_at, slot, column}
+use Rattle.field_lanes.specs.Timeline.{IsSpaced, Timeline, repeat_of, repeat_at, slot, column}
 use Rattle.field_lanes.specs.DoubledPairs.{EndsWith, BeginsWith, IsDoubled}
 
 -- a column has a slot for each frame
@@ -75,12 +76,12 @@ none_due t spaced (suc j) q e = go (repeat_of (t j)) refl
 -- the slot in which a doubled unit begins has its pair
 first_slot : (t : Timeline) → IsSpaced t → (k : ℕ) (q : Pair) → repeat_of (t k) ≡ Some q → slot t k ≡ q
 first_slot t spaced k q e =
-    ap (λ r. unwrap_or (first_of r (option_map (λ (v : Unit). v.pair) (t k))) null_pair) (none_due t spaced k q e) ∙ repeat_pair (t k) q e
+    ap (λ r. unwrap_or (option_or r (option_map (λ (v : Unit). v.pair) (t k))) null_pair) (none_due t spaced k q e) ∙ repeat_pair (t k) q e
 
 -- a slot in which nothing is due and nothing doubled begins has no control pair
 plain_slot : (t : Timeline) → IsMarked t → (n : ℕ) → repeat_at t n ≡ None → repeat_of (t n) ≡ None → is_control (slot t n) ≡ false
 plain_slot t marked n due single =
-    ap (λ r. is_control (unwrap_or (first_of r (option_map (λ (v : Unit). v.pair) (t n))) null_pair)) due ∙ go (t n) refl
+    ap (λ r. is_control (unwrap_or (option_or r (option_map (λ (v : Unit). v.pair) (t n))) null_pair)) due ∙ go (t n) refl
   where
     single_is : (v : Unit) → repeat_of (Some v) ≡ None → (b : Bool) → v.doubled ≡ b → b ≡ false
     single_is v e true d = let h : Some v.pair ≡ None = rw d at e in cc
@@ -132,7 +133,7 @@ even_end t marked spaced (suc (suc k)) due before p n control e begins =
         → n % 2 ≡ 0
     go None is rest = plain_end (column t (suc k)) before (slot t (suc k)) p n (plain_slot t marked (suc k) is due) control e
     go (Some q) is rest =
-        let second : slot t (suc k) ≡ q = ap (λ r. unwrap_or (first_of r (option_map (λ (v : Unit). v.pair) (t (suc k)))) null_pair) is in
+        let second : slot t (suc k) ≡ q = ap (λ r. unwrap_or (option_or r (option_map (λ (v : Unit). v.pair) (t (suc k)))) null_pair) is in
         pairs q is (rest q is) n
         (sym (ap (λ x. (column t k ++ x ∷ []) ++ q ∷ []) (first_slot t spaced k q is)) ∙ sym (ap (λ x. column t (suc k) ++ x ∷ []) second) ∙ e)
 
@@ -157,7 +158,7 @@ column_doubled t marked spaced n due before after p k control s = go after s.spl
         at (suc i) front next (Some q) is = inside k front
           where
             second : slot t (suc i) ≡ q
-            second = ap (λ r. unwrap_or (first_of r (option_map (λ (v : Unit). v.pair) (t (suc i)))) null_pair) is
+            second = ap (λ r. unwrap_or (option_or r (option_map (λ (v : Unit). v.pair) (t (suc i)))) null_pair) is
 
             inside : (n : ℕ) → column t (suc i) ≡ before ++ replicate n p → n % 2 ≡ 0
             inside zero f = refl

@@ -1,5 +1,6 @@
 -- One step of a lane's cursor: a repeat, an event, a unit, or nothing at its slot.
 use Rattle.std.proofs.Common.{◌≡◌, ◌≢◌, ℕ, ◌+◌, ◌<◌, ◌≤◌, List, [], ◌∷◌, Option, Some, None, Bool, true, false, eqb, refl, sym, ap, ◌∙◌, subst, arith, drop, option_map, unwrap_or, suc, zero}
+use Rattle.std.specs.Option.{option_or}
 use Rattle.std.proofs.lemmas.Bool.Decides.{nat_tests}
 use Rattle.line21_codes.specs.declared.pairs.Pair.{Pair}
 use Rattle.line21_codes.specs.NullPairs.{null_pair}
@@ -8,7 +9,7 @@ use Rattle.line21_author.specs.declared.event.Event.{Event}
 use Rattle.line21_author.specs.EventOrder.{AreFrom, AreApart}
 use Rattle.field_lanes.specs.declared.cursor.Cursor.{Cursor}
 use Rattle.field_lanes.specs.declared.placed_unit.PlacedUnit.{PlacedUnit}
-use Rattle.field_lanes.specs.Timeline.{IsSpaced, Timeline, first_of, repeat_of, repeat_at, slot}
+use Rattle.field_lanes.specs.Timeline.{IsSpaced, Timeline, repeat_of, repeat_at, slot}
 use Rattle.field_lanes.specs.LaneEvents.{event_at}
 use Rattle.field_lanes.specs.LaneTimeline.{unit_at}
 use Rattle.field_lanes.specs.LaneCursor.{AreUnitsFrom, AreUnitsRising, IsAhead, IsReadyForPairs, GivesSlot, IsNext}
@@ -74,15 +75,15 @@ units_behind us n from rising none = units_first (n + 1) us rising (behind us fr
         subst (λ (x : PlacedUnit). n + 1 ≤ x.slot) same (omega (arith, other, from.0))
 
 -- nothing begins where neither does
-parts_none : (first second : Option Unit) → first_of first second ≡ None → (first ≡ None) × (second ≡ None)
+parts_none : (first second : Option Unit) → option_or first second ≡ None → (first ≡ None) × (second ≡ None)
 parts_none None second none = (refl, none)
 parts_none (Some u) second none = cc
 
 -- the pair of a slot
 slot_is : (t : Timeline) (n : ℕ) (r : Option Pair) (u : Option Unit) → repeat_at t n ≡ r → t n ≡ u
-    → slot t n ≡ unwrap_or (first_of r (option_map (λ (v : Unit). v.pair) u)) null_pair
-slot_is t n r u due is = ap (λ x. unwrap_or (first_of x (option_map (λ (v : Unit). v.pair) (t n))) null_pair) due
-    ∙ ap (λ x. unwrap_or (first_of r (option_map (λ (v : Unit). v.pair) x)) null_pair) is
+    → slot t n ≡ unwrap_or (option_or r (option_map (λ (v : Unit). v.pair) u)) null_pair
+slot_is t n r u due is = ap (λ x. unwrap_or (option_or x (option_map (λ (v : Unit). v.pair) (t n))) null_pair) due
+    ∙ ap (λ x. unwrap_or (option_or r (option_map (λ (v : Unit). v.pair) x)) null_pair) is
 
 -- what is due behind a slot
 due_next : (t : Timeline) (n : ℕ) (u : Option Unit) → t n ≡ u → repeat_at t (n + 1) ≡ repeat_of u
@@ -116,10 +117,10 @@ module _ (t : Timeline) (es : List Event) (us : List PlacedUnit) (n : ℕ) where
   event_step : (e : Event) → e.slot ≡ n → IsAhead t (e ∷ es) us n None → (slot t n ≡ e.pair) × IsAhead t es us (n + 1) (Some e.pair)
   event_step e here g =
       let begins : event_at (e ∷ es) n ≡ Some (record { pair = e.pair; doubled = true }) = at_first e es n here in
-      let is : t n ≡ Some (record { pair = e.pair; doubled = true }) = g.same n (omega arith) ∙ ap (λ x. first_of x (unit_at us n)) begins in (
+      let is : t n ≡ Some (record { pair = e.pair; doubled = true }) = g.same n (omega arith) ∙ ap (λ x. option_or x (unit_at us n)) begins in (
         slot_is t n None _ g.due is,
         record {
-          same = λ m h. g.same m (omega arith) ∙ ap (λ x. first_of x (unit_at us m)) (passed_event e es m (omega arith));
+          same = λ m h. g.same m (omega arith) ∙ ap (λ x. option_or x (unit_at us m)) (passed_event e es m (omega arith));
           due = due_next t n _ is;
           spaced = g.spaced;
           events_from = from_earlier (n + 1) (e.slot + 2) es (omega arith) g.events_apart.0;
@@ -142,10 +143,10 @@ module _ (t : Timeline) (es : List Event) (us : List PlacedUnit) (n : ℕ) where
       → (slot t n ≡ u.unit.pair) × IsAhead t es us (n + 1) (repeat_of (Some u.unit))
   unit_step u here behind g =
       let none : event_at es n ≡ None = event_none (n + 1) n es behind (omega arith) in
-      let is : t n ≡ Some u.unit = g.same n (omega arith) ∙ ap (λ x. first_of x (unit_at (u ∷ us) n)) none ∙ at_first_unit u us n here in (
+      let is : t n ≡ Some u.unit = g.same n (omega arith) ∙ ap (λ x. option_or x (unit_at (u ∷ us) n)) none ∙ at_first_unit u us n here in (
         slot_is t n None _ g.due is,
         record {
-          same = λ m h. g.same m (omega arith) ∙ ap (λ x. first_of (event_at es m) x) (passed_unit u us m (omega arith));
+          same = λ m h. g.same m (omega arith) ∙ ap (λ x. option_or (event_at es m) x) (passed_unit u us m (omega arith));
           due = due_next t n _ is;
           spaced = g.spaced;
           events_from = behind;
@@ -172,7 +173,7 @@ module _ (t : Timeline) (es : List Event) (us : List PlacedUnit) (n : ℕ) where
   null_step behind later g =
       let event : event_at es n ≡ None = event_none (n + 1) n es behind (omega arith) in
       let unit : unit_at us n ≡ None = unit_none (n + 1) n us later (omega arith) in
-      let none : t n ≡ None = g.same n (omega arith) ∙ ap (λ x. first_of x (unit_at us n)) event ∙ unit in (
+      let none : t n ≡ None = g.same n (omega arith) ∙ ap (λ x. option_or x (unit_at us n)) event ∙ unit in (
         slot_is t n None None g.due none,
         record {
           same = λ m h. g.same m (omega arith);

@@ -1,6 +1,7 @@
 -- A placed lane's timeline: nothing begins in a repeat, and its control pairs are doubled.
 use Rattle.std.proofs.Common.{◌≡◌, ℕ, ◌+◌, ◌<◌, ◌≤◌, List, [], ◌∷◌, ◌++◌, Option, Some, None, Bool, true, false, cond, eqb, refl, sym, ap, ◌∙◌, subst, arith, zero, suc, ◌⊎◌, inl, inr, ⊎_elim, IsTrue}
 use Rattle.std.specs.List.{All, Contains}
+use Rattle.std.specs.Option.{option_or}
 use Rattle.std.proofs.lemmas.Bool.{cases_lt}
 use Rattle.std.proofs.lemmas.Bool.Decides.{nat_tests}
 use Rattle.std.proofs.lemmas.List.Elements.{All-head, All-tail, All-contains, Contains-append_right}
@@ -9,7 +10,7 @@ use Rattle.line21_codes.specs.ControlPairs.{is_control}
 use Rattle.line21_author.specs.declared.unit.Unit.{Unit}
 use Rattle.line21_author.specs.declared.event.Event.{Event}
 use Rattle.field_lanes.specs.declared.chunk.FieldChunk.{FieldChunk}
-use Rattle.field_lanes.specs.Timeline.{IsSpaced, first_of, repeat_of, repeat_at, column}
+use Rattle.field_lanes.specs.Timeline.{IsSpaced, repeat_of, repeat_at, column}
 use Rattle.field_lanes.specs.LaneEvents.{IsFree, AreOver, event_at}
 use Rattle.line21_author.specs.EventOrder.{AreFrom, AreApart}
 use Rattle.field_lanes.specs.FieldLane.{slots_of, end_of, IsAllowedInField, field_lane}
@@ -161,13 +162,13 @@ pub over_cases : (events : List Event) (chunks : List FieldChunk) (fs : List ℕ
 over_cases events chunks fs n u is = go (event_at events n) refl
   where
     go : (e : Option Unit) → event_at events n ≡ e → (event_at events n ≡ Some u) ⊎ ((event_at events n ≡ None) × (stands chunks fs n ≡ Some u))
-    go None none = inr (none, sym (ap (λ o. first_of o (stands chunks fs n)) none) ∙ is)
-    go (Some v) some = inl (some ∙ sym (ap (λ o. first_of o (stands chunks fs n)) some) ∙ is)
+    go None none = inr (none, sym (ap (λ o. option_or o (stands chunks fs n)) none) ∙ is)
+    go (Some v) some = inl (some ∙ sym (ap (λ o. option_or o (stands chunks fs n)) some) ∙ is)
 
 -- where neither begins, nothing does
 over_none : (events : List Event) (chunks : List FieldChunk) (fs : List ℕ) (n : ℕ) → event_at events n ≡ None → stands chunks fs n ≡ None
     → lane_timeline events chunks fs n ≡ None
-over_none events chunks fs n a b = ap (λ o. first_of o (stands chunks fs n)) a ∙ b
+over_none events chunks fs n a b = ap (λ o. option_or o (stands chunks fs n)) a ∙ b
 
 -- no event begins in a slot that is free
 pub free_none : (events : List Event) (n : ℕ) → IsFree events n → event_at events n ≡ None

@@ -12,7 +12,7 @@ use Rattle.line21_author.specs.EventOrder.{AreFrom}
 use Rattle.field_lanes.specs.FieldPlan.{field_chunk_cue}
 use Rattle.placements.specs.LaneRoom.{up_to, IsFirstCrowded}
 use Rattle.field_lanes.specs.OneCue.{AreOfOneCue, total_slots}
-use Rattle.placements.specs.Placing.{IsPlaced, HasPlacement, HasNone}
+use Rattle.placements.specs.Placing.{IsPlaced, HasPlacement}
 use Rattle.field_lanes.proofs.FieldLaneLemmas.{end_push}
 use Rattle.field_lanes.proofs.EventLemmas.{free_from}
 use Rattle.placements.proofs.LaneRoomLemmas.{up_to_none}
@@ -83,12 +83,12 @@ one_cue events chunks load show one = (
   λ without. ⊎_elim
       (λ (h : show < load + total_slots chunks). h)
       (λ (h : load + total_slots chunks ≤ show).
-      let none : HasNone (field_lane events) chunks = subst (λ l. HasNone (field_lane events) l) (up_to_all 1 chunks one.cue) without.none in
-      absurd (none (packed load chunks) (packed_placed events [] chunks load load show (omega arith) (omega arith) one.load_is one.until_is one.later h)))
+      let none : HasPlacement (field_lane events) chunks → ⊥ = subst (λ l. HasPlacement (field_lane events) l → ⊥) (up_to_all 1 chunks one.cue) without.none in
+      absurd (none (packed load chunks, packed_placed events [] chunks load load show (omega arith) (omega arith) one.load_is one.until_is one.later h)))
       (cases_lt show (load + total_slots chunks)),
   λ few. record {
-    none = subst (λ l. HasNone (field_lane events) l) (sym (up_to_all 1 chunks one.cue))
-        (λ fs placed. let needs : load + total_slots chunks ≤ show = one_cue_needs events chunks fs load show one placed in omega arith);
+    none = subst (λ l. HasPlacement (field_lane events) l → ⊥) (sym (up_to_all 1 chunks one.cue))
+        (λ has. let needs : load + total_slots chunks ≤ show = one_cue_needs events chunks has.0 load show one has.1 in omega arith);
     first = λ earlier below.
         let is : up_to field_chunk_cue earlier chunks ≡ [] = up_to_none field_chunk_cue earlier chunks (λ k d h. let cue : (get_or chunks k d).cue ≡ 1 = one.cue k d h in omega arith) in
         subst (λ l. HasPlacement (field_lane events) l) (sym is) ([], tt);

@@ -1,7 +1,7 @@
 -- Believed in part: the program's answer stands on some of these definitions.
 -- Timelines: what begins at each slot of a field, and the pair that the slot has by that (CTA-608-E, 47 CFR 79.101).
 use Rattle.std.specs.Prelude.{◌≡◌, ℕ, List, [], ◌∷◌, ◌++◌, Option, Some, None, if◌then◌else◌, unwrap_or, suc, zero}
-use Rattle.std.specs.Option.{option_map}
+use Rattle.std.specs.Option.{option_map, option_or}
 use Rattle.line21_codes.specs.declared.pairs.Pair.{Pair}
 use Rattle.line21_codes.specs.NullPairs.{null_pair}
 use Rattle.line21_author.specs.declared.unit.Unit.{Unit}
@@ -10,14 +10,9 @@ use Rattle.line21_author.specs.declared.unit.Unit.{Unit}
 abbrev pub Timeline : Type 0
 Timeline = ℕ → Option Unit
 
--- the first of two that is there
-abbrev pub first_of : {T : Type 0} → Option T → Option T → Option T
-first_of None second = second
-first_of (Some x) second = Some x
-
 -- what begins at a slot in either timeline; where something does in both, that of the first
 abbrev pub over : Timeline → Timeline → Timeline
-over first second n = first_of (first n) (second n)
+over first second n = option_or (first n) (second n)
 
 -- the pair that is due once more behind the slot in which a unit began
 abbrev pub repeat_of : Option Unit → Option Pair
@@ -31,7 +26,7 @@ repeat_at timeline (suc n) = repeat_of (timeline n)
 
 -- the pair in a slot: the repeat that is due, else what begins there, else the null pair
 abbrev pub slot : Timeline → ℕ → Pair
-slot timeline n = unwrap_or (first_of (repeat_at timeline n) (option_map (λ unit. unit.pair) (timeline n))) null_pair
+slot timeline n = unwrap_or (option_or (repeat_at timeline n) (option_map (λ unit. unit.pair) (timeline n))) null_pair
 
 -- nothing begins in a repeat
 abbrev pub IsSpaced : Timeline → Type 0

@@ -1,7 +1,7 @@
 -- From the end of a list on its frames carry nothing: what a channel sends has ended, and no event and no unit of a service stands there.
 use Rattle.std.proofs.Common.{◌≡◌, ◌∙◌, ◌<◌, ◌≤◌, ◌++◌, ◌&&◌, ◌||◌, ◌==◌, ℕ, suc, List, [], ◌∷◌, ap, map, not, refl, sym, arith, true, false, Bool, Option, Some, None, All, find, ⊎_elim}
 use Rattle.std.specs.Prelude.{if◌then◌else◌, unwrap_or}
-use Rattle.std.specs.Option.{option_map}
+use Rattle.std.specs.Option.{option_map, option_or}
 use Rattle.std.specs.List.{cons_option, flat_map, list_any, zip}
 use Rattle.std.proofs.lemmas.Bool.Decides.{nat_tests}
 use Rattle.std.proofs.lemmas.List.Elements.{All-append, All-cons, All-contains, All-head, All-nil, All-tail, All-weaker}
@@ -39,7 +39,7 @@ use Rattle.field_lanes.specs.LaneEvents.{event_at}
 use Rattle.field_lanes.specs.LaneTimeline.{lane_timeline, stands}
 use Rattle.frame_scheduler.specs.Planned.{Placement, captions_in, channel_pair, chunks_in, frame_blocks, service_bytes, service_lane_of, services, share_in}
 use Rattle.frame_scheduler.specs.SlotLists.{slot_cues, slots_in_list}
-use Rattle.field_lanes.specs.Timeline.{first_of, repeat_at, slot}
+use Rattle.field_lanes.specs.Timeline.{repeat_at, slot}
 use Rattle.frame_scheduler.specs.declared.frames.FrameBytes.{FrameBytes}
 use Rattle.field_lanes.specs.declared.chunk.FieldChunk.{FieldChunk}
 use Rattle.field_lanes.proofs.DoublingLemmas.{free_none, lane_ended, over_cases, unit_begins}
@@ -76,9 +76,9 @@ nothing_begins events chunks fs n ended placed = go (lane_timeline events chunks
 slot_silent : (events : List Event) (chunks : List FieldChunk) (fs : List ℕ) (n : ℕ) → AreEnded events chunks n → IsPlaced (field_lane events) [] chunks fs
     → slot (lane_timeline events chunks fs) n ≡ null_pair
 slot_silent events chunks fs n ended placed =
-    ap (λ due. unwrap_or (first_of due (option_map (λ (unit : Unit). unit.pair) (lane_timeline events chunks fs n))) null_pair)
+    ap (λ due. unwrap_or (option_or due (option_map (λ (unit : Unit). unit.pair) (lane_timeline events chunks fs n))) null_pair)
     (lane_ended events chunks fs n ended placed)
-    ∙ ap (λ begun. unwrap_or (first_of None (option_map (λ (unit : Unit). unit.pair) begun)) null_pair) (nothing_begins events chunks fs n ended placed)
+    ∙ ap (λ begun. unwrap_or (option_or None (option_map (λ (unit : Unit). unit.pair) begun)) null_pair) (nothing_begins events chunks fs n ended placed)
 
 -- and so has each slot of a channel in the frames from the list's end on
 channel_silent : (list : Listing) (channel : Chan) (slots : List ℕ) (frame : ℕ) → IsFormed list → IsRuled list

@@ -31,7 +31,7 @@ use Rattle.field_lanes.specs.LaneTimeline.{placed_timeline}
 use Rattle.placements.specs.Placing.{IsEarliest, IsPlaced}
 use Rattle.frame_scheduler.specs.SlotLists.{slot_cues}
 use Rattle.frame_scheduler.specs.LaneSets.{IsFaultIn, IsField, IsFirstIn, fault_beside}
-use Rattle.frame_scheduler.specs.Planned.{captions_in, channel_pair, chunks_in, LaneHasRoom, IsFirstWithoutRoom, IsLanePlaced, IsListPlaced, LaneLacksRoom, Placement, service_lane_of, share_in}
+use Rattle.frame_scheduler.specs.Planned.{captions_in, channel_pair, chunks_in, LaneHasRoom, IsFirstWithoutRoom, IsLanePlaced, IsListPlaced, Placement, service_lane_of, share_in}
 use Rattle.service_lanes.specs.ServiceChunks.{service_chunk_cue}
 use Rattle.service_lanes.specs.ServicePlan.{IsServiceFault}
 use Rattle.service_lanes.proofs.ChunkOrderLemmas.{chunks_in_order}
@@ -90,22 +90,17 @@ placed_room : (l : Listing) (placed : Placement) → IsListPlaced l placed → (
 placed_room l placed is (Channel channel) cue = earliest_room channel l (placed (Channel channel)) (is (Channel channel)).placed cue
 placed_room l placed is (Service service) cue = service_room service l (placed (Service service)) (is (Service service)).placed cue
 
--- a lane doesn't lack the room that it has
-lacks_none : (l : Listing) (on : Lane) (cue : ℕ) → LaneLacksRoom l on cue → LaneHasRoom l on cue → ⊥
-lacks_none l (Channel channel) cue none room = none room.0 room.1
-lacks_none l (Service service) cue none room = none room.0 room.1
-
 -- where all units of a list have a placement, no cue is without one
 pub placed_has_room : (l : Listing) (placed : Placement) (cue : ℕ) → IsListPlaced l placed → IsFirstWithoutRoom l cue → ⊥
-placed_has_room l placed cue all without = lacks_none l without.none.0 cue without.none.1 (placed_room l placed all without.none.0 cue)
+placed_has_room l placed cue all without = without.none.1 (placed_room l placed all without.none.0 cue)
 
 -- one cue is the first without a placement
 pub first_without_room : (l : Listing) (a b : ℕ) → IsFirstWithoutRoom l a → IsFirstWithoutRoom l b → a ≡ b
 first_without_room l a b first second =
     elim (cases_lt a b) [
-      | inl less ↦ absurd (lacks_none l first.none.0 a first.none.1 (second.first a less first.none.0))
+      | inl less ↦ absurd (first.none.1 (second.first a less first.none.0))
       | inr most ↦ elim (cases_lt b a) [
-        | inl less ↦ absurd (lacks_none l second.none.0 b second.none.1 (first.first b less second.none.0))
+        | inl less ↦ absurd (second.none.1 (first.first b less second.none.0))
         | inr least ↦ omega arith
       ]
     ]

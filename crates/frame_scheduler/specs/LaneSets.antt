@@ -6,7 +6,7 @@ use Rattle.cue_lists.specs.declared.lane.Lane.{Lane}
 use Rattle.cue_lists.specs.declared.lane.Lane.TheVariants.{Channel, Service}
 use Rattle.placements.specs.declared.planning.PlanFault.{PlanFault}
 use Rattle.placements.specs.declared.planning.PlanFault.TheVariants.{Memory, NoRoom}
-use Rattle.frame_scheduler.specs.Planned.{LaneHasRoom, LaneLacksRoom}
+use Rattle.frame_scheduler.specs.Planned.{LaneHasRoom}
 
 -- the lane of a channel
 abbrev pub IsField : Lane → Type 0
@@ -21,7 +21,7 @@ IsServiceBelow number (Service service) = service < number
 -- the cue is the first without a placement in one of these lanes: its units and those before them have none, and up to each
 -- earlier cue those of all these lanes have one
 pub record IsFirstIn (IsOne : Lane → Type 0) (list : Listing) (cue : ℕ) : Type 0 where
-  pub none : (on : Lane) × IsOne on × LaneLacksRoom list on cue
+  pub none : (on : Lane) × IsOne on × (LaneHasRoom list on cue → ⊥)
   pub first : (earlier : ℕ) → earlier < cue → (on : Lane) → IsOne on → LaneHasRoom list on earlier
 
 -- why these lanes aren't planned: memory ran out, or this is the first cue without room

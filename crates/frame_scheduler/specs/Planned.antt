@@ -56,12 +56,6 @@ IsLanePlaced list (Service service) frames = IsEarliest (service_lane_of list se
 abbrev pub IsListPlaced : Listing → Placement → Type 0
 IsListPlaced list placed = (on : Lane) → IsLanePlaced list on (placed on)
 
--- the units of a lane up to the cue of this number have no placement
-abbrev pub LaneLacksRoom : Listing → Lane → ℕ → Type 0
-LaneLacksRoom list (Channel channel) cue =
-    room.HasNoRoom (field_lane (channel_events channel (slot_cues list channel))) field_chunk_cue (channel_chunks channel (slot_cues list channel)) cue
-LaneLacksRoom list (Service service) cue = room.HasNoRoom (service_lane_of list service) service_chunk_cue (chunks_in list service) cue
-
 -- the units of a lane up to the cue of this number have a placement
 abbrev pub LaneHasRoom : Listing → Lane → ℕ → Type 0
 LaneHasRoom list (Channel channel) cue =
@@ -71,7 +65,7 @@ LaneHasRoom list (Service service) cue = room.HasRoom (service_lane_of list serv
 -- the cue of this number is the first without a placement: its lane's units up to it have none, and up to each earlier cue
 -- those of every lane have one
 pub record IsFirstWithoutRoom (list : Listing) (cue : ℕ) : Type 0 where
-  pub none : (on : Lane) × LaneLacksRoom list on cue
+  pub none : (on : Lane) × (LaneHasRoom list on cue → ⊥)
   pub first : (earlier : ℕ) → earlier < cue → (on : Lane) → LaneHasRoom list on earlier
 
 -- the channel of a field that is authored: CC1 in field 1, CC3 in field 2

@@ -2,6 +2,7 @@
 use Rattle.std.proofs.Common.{◌≡◌, ℕ, zero, suc, ◌<◌, ◌≤◌, nat_lt, Bool, true, false, List, [], ◌∷◌, ◌++◌, map, Option, Some, None, refl, sym, ap, ◌∙◌, subst, arith, ⊎_elim}
 use Rattle.std.specs.Prelude.{◌==◌, if◌then◌else◌}
 use Rattle.std.specs.List.{flat_map}
+use Rattle.std.specs.Option.{option_or}
 use Rattle.std.proofs.lemmas.Bool.{cases_lt}
 use Rattle.std.proofs.lemmas.Bool.Decides.{nat_tests}
 use Rattle.line21_codes.specs.declared.channels.FieldNumber.{FieldNumber}
@@ -27,7 +28,7 @@ use Rattle.field_lanes.specs.declared.chunk.FieldChunk.{FieldChunk}
 use Rattle.field_lanes.specs.ChannelLane.{field_cue_chunks}
 use Rattle.field_lanes.specs.LaneEvents.{IsFree, event_at}
 use Rattle.field_lanes.specs.LaneTimeline.{stands}
-use Rattle.field_lanes.specs.Timeline.{Timeline, first_of}
+use Rattle.field_lanes.specs.Timeline.{Timeline}
 use Rattle.field_lanes.proofs.DoublingLemmas.{free_none}
 use Rattle.line21_shown.specs.Reading.{acts, does_unit}
 use Rattle.line21_shown.proofs.HeadLemmas.{Continues, cue_codes_are, events_on}
@@ -148,7 +149,7 @@ module _ (in_field : FieldNumber) (t : Timeline) (a : ℕ) (hide : Option ℕ) (
   begins_there =
       let test : (is.slot == is.slot) ≡ true = grind (arith, nat_tests) in
       let there : stands (is.chunk ∷ is.rest) (is.slot ∷ is.slots) is.slot ≡ Some is.chunk.unit = rw test refl in
-      on.same is.slot slot_from_a ∙ ap (λ u. first_of u (stands on.chunks on.frames is.slot)) (free_none events is.slot slot_free)
+      on.same is.slot slot_from_a ∙ ap (λ u. option_or u (stands on.chunks on.frames is.slot)) (free_none events is.slot slot_free)
       ∙ same_stands is.slot ∙ there
 
   -- and before it nothing but events
@@ -156,9 +157,9 @@ module _ (in_field : FieldNumber) (t : Timeline) (a : ℕ) (hide : Option ℕ) (
   before_it n from below =
       let none : stands (is.chunk ∷ is.rest) (is.slot ∷ is.slots) n ≡ None =
       stands_low events is.slot n (is.chunk ∷ is.rest) (is.slot ∷ is.slots) (omega arith, is.placed.1, is.placed.2, is.placed.3, is.placed.4) below in
-      on.same n from ∙ ap (first_of (event_at events n)) (same_stands n ∙ none) ∙ alone (event_at events n)
+      on.same n from ∙ ap (option_or (event_at events n)) (same_stands n ∙ none) ∙ alone (event_at events n)
     where
-      alone : (u : Option Unit) → first_of u None ≡ u
+      alone : (u : Option Unit) → option_or u None ≡ u
       alone None = refl
       alone (Some unit) = refl
 
@@ -169,7 +170,7 @@ module _ (in_field : FieldNumber) (t : Timeline) (a : ℕ) (hide : Option ℕ) (
     frames = is.slot ∷ is.slots;
     are = subst (AreChunks (cue ∷ later)) is.chunks_are on.are;
     placed = (omega arith, is.placed.1, is.placed.2, is.placed.3, is.placed.4);
-    same = λ n above. joined_high is.slot h t n above ∙ on.same n (let low = slot_from_a in omega arith) ∙ ap (first_of (event_at events n)) (same_stands n);
+    same = λ n above. joined_high is.slot h t n above ∙ on.same n (let low = slot_from_a in omega arith) ∙ ap (option_or (event_at events n)) (same_stands n);
   }
 
   -- where the former cue is hidden before, that is no more to come
@@ -187,7 +188,7 @@ module _ (in_field : FieldNumber) (t : Timeline) (a : ℕ) (hide : Option ℕ) (
         placed = placed_behind (hide_events in_field hide (cue ∷ later)) (cue_events in_field (cue ∷ later)) is.slot all.chunks all.frames all.placed;
         same = λ n above.
             all.same n above
-            ∙ ap (λ u. first_of u (stands all.chunks all.frames n))
+            ∙ ap (λ u. option_or u (stands all.chunks all.frames n))
             (ap (λ (o : Option ℕ). event_at (hide_events in_field o (cue ∷ later) ++ cue_events in_field (cue ∷ later)) n) some
             ∙ no_event hidden n (is_replaced_at hidden (cue ∷ later)) (cue_events in_field (cue ∷ later)) (omega arith));
       }

@@ -1,6 +1,7 @@
 -- A cue in the midst of the cues of a channel, and where its part of the timeline begins.
 use Rattle.std.proofs.Common.{◌≡◌, ℕ, suc, ◌+◌, ◌<◌, ◌≤◌, Bool, true, false, List, [], ◌∷◌, ◌++◌, Option, Some, None, All, refl, sym, ap, ◌∙◌, subst, arith, ⊎_elim}
 use Rattle.std.specs.Prelude.{◌==◌, IfSome}
+use Rattle.std.specs.Option.{option_or}
 use Rattle.std.proofs.lemmas.List.Elements.{All-head, All-tail}
 use Rattle.std.specs.List.{AllByRecursion}
 use Rattle.std.proofs.lemmas.Bool.{cases_lt}
@@ -25,7 +26,7 @@ use Rattle.line21_screen.specs.Grid.{Grid}
 use Rattle.field_lanes.specs.declared.chunk.FieldChunk.{FieldChunk}
 use Rattle.field_lanes.specs.LaneEvents.{event_at}
 use Rattle.field_lanes.specs.LaneTimeline.{stands}
-use Rattle.field_lanes.specs.Timeline.{Timeline, first_of, repeat_of}
+use Rattle.field_lanes.specs.Timeline.{Timeline, repeat_of}
 use Rattle.field_lanes.proofs.EventLemmas.{event_none}
 use Rattle.line21_shown.specs.Reading.{acts, IsCaptioned}
 use Rattle.line21_shown.proofs.HeadLemmas.{Continues, Head, events_on, first_sound, head, or_nothing, rest_in_sequence, sequence_in_slots}
@@ -78,11 +79,11 @@ not_showing in_field u is opens =
 pub one_unit : (u v : Unit) (o : Option Unit) → o ≡ Some u → o ≡ Some v → u ≡ v
 one_unit u v o is too = let same : Some u ≡ Some v = sym is ∙ too in cc
 
-first_none : (x y : Option Unit) → first_of x y ≡ None → y ≡ None
+first_none : (x y : Option Unit) → option_or x y ≡ None → y ≡ None
 first_none None y is = is
 first_none (Some u) y is = cc
 
-middle_none : (x y z : Option Unit) → first_of x (first_of y z) ≡ None → y ≡ None
+middle_none : (x y z : Option Unit) → option_or x (option_or y z) ≡ None → y ≡ None
 middle_none None None z is = refl
 middle_none None (Some u) z is = cc
 middle_none (Some u) y z is = cc
@@ -97,7 +98,7 @@ module _ (in_field : FieldNumber) (t : Timeline) (captioned : IsCaptioned t) (fr
       shows : t cue.show ≡ Some (showing_unit in_field)
       shows =
           on.same cue.show before
-          ∙ ap (λ v. first_of v (stands on.chunks on.frames cue.show))
+          ∙ ap (λ v. option_or v (stands on.chunks on.frames cue.show))
           (at_show in_field hide cue later pop (events_of_apart in_field frames (cue ∷ later) (sequence_in_slots frames (cue ∷ later) sequence)))
 
       at : (b : Bool) → (m == cue.show) ≡ b → ⊥
@@ -163,13 +164,13 @@ module _ (in_field : FieldNumber) (t : Timeline) (captioned : IsCaptioned t) (fr
           only : event_at events m ≡ erases in_field hide m
           only =
               plain_at in_field hide cue later (cue_events in_field (cue ∷ later)) m plain
-              ∙ ap (first_of (erases in_field hide m)) (event_none cue.show m (cue_events in_field (cue ∷ later)) (events_from in_field frames cue later sequence) below)
+              ∙ ap (option_or (erases in_field hide m)) (event_none cue.show m (cue_events in_field (cue ∷ later)) (events_from in_field frames cue later sequence) below)
               ∙ or_nothing (erases in_field hide m)
 
-          is : t m ≡ first_of (erases in_field hide m) (stands first.own first.front m)
+          is : t m ≡ option_or (erases in_field hide m) (stands first.own first.front m)
           is =
-              first.same m from ∙ ap (λ v. first_of v (first_of (stands first.own first.front m) (stands first.behind first.back m))) only
-              ∙ ap (first_of (erases in_field hide m)) (ap (first_of (stands first.own first.front m)) rest ∙ or_nothing (stands first.own first.front m))
+              first.same m from ∙ ap (λ v. option_or v (option_or (stands first.own first.front m) (stands first.behind first.back m))) only
+              ∙ ap (option_or (erases in_field hide m)) (ap (option_or (stands first.own first.front m)) rest ∙ or_nothing (stands first.own first.front m))
 
           erasing_only : (o : Option ℕ) (v : Unit) → erases in_field o m ≡ Some v → v ≡ erasing in_field
           erasing_only None v some = cc
@@ -181,11 +182,11 @@ module _ (in_field : FieldNumber) (t : Timeline) (captioned : IsCaptioned t) (fr
 
           at : (o : Option Unit) → erases in_field hide m ≡ o → ⊥
           at (Some v) some =
-              let it : u ≡ v = one_unit u v (t m) there (is ∙ ap (λ x. first_of x (stands first.own first.front m)) some) in
+              let it : u ≡ v = one_unit u v (t m) there (is ∙ ap (λ x. option_or x (stands first.own first.front m)) some) in
               not_erasing in_field u (it ∙ erasing_only hide v some) opens
           at None none =
               last_closes events a first.own first.front m u (subst Closes (sym first.codes) long.closes) first.first
-              (sym (is ∙ ap (λ x. first_of x (stands first.own first.front m)) none) ∙ there) (behind_none from) opens
+              (sym (is ∙ ap (λ x. option_or x (stands first.own first.front m)) none) ∙ there) (behind_none from) opens
 
 -- each of the cues is found
 pub find : (in_field : FieldNumber) (t : Timeline) (captioned : IsCaptioned t) (frames a from : ℕ) (hide : Option ℕ) (g : Grid) (front : List Cue) (cue : Cue) (later earlier : List Cue)

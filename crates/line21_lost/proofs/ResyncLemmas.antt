@@ -3,6 +3,7 @@
 use Rattle.std.proofs.Common.{◌≡◌, ◌≢◌, ℕ, zero, suc, ◌+◌, ◌-◌, ◌<◌, ◌≤◌, inl, nat_lt, Bool, true, false, List, [], ◌∷◌, ◌++◌, Option, Some, None, refl, sym, ap, ◌∙◌, subst, arith, ⊎_elim}
 use Rattle.std.specs.Prelude.{⊤, ◌==◌, IfSome, IsSome}
 use Rattle.std.specs.List.{AllByRecursion}
+use Rattle.std.specs.Option.{option_or}
 use Rattle.std.proofs.lemmas.Bool.{cases_lt}
 use Rattle.std.proofs.lemmas.Bool.Decides.{nat_tests}
 use Rattle.line21_codes.specs.declared.channels.FieldNumber.{FieldNumber}
@@ -26,7 +27,7 @@ use Rattle.line21_screen.specs.Channels.{ChannelState}
 use Rattle.line21_screen.specs.Grid.{Grid}
 use Rattle.line21_screen.specs.Meaning.{after}
 use Rattle.field_lanes.specs.LaneEvents.{IsFree, event_at}
-use Rattle.field_lanes.specs.Timeline.{Timeline, first_of, repeat_at, repeat_of, slot}
+use Rattle.field_lanes.specs.Timeline.{Timeline, repeat_at, repeat_of, slot}
 use Rattle.field_lanes.proofs.ColumnLemmas.{null_plain}
 use Rattle.field_lanes.proofs.EventLemmas.{event_none}
 use Rattle.line21_shown.specs.Doing.{does}
@@ -100,7 +101,7 @@ module _ (in_field : FieldNumber) (t : Timeline) (captioned : IsCaptioned t) (fi
           before_show in_field hide cue later pop (events_of_apart in_field frames (cue ∷ later) (sequence_in_slots frames (cue ∷ later) found.sequence)) n below
       by_kind false plain =
           plain_at in_field hide cue later (cue_events in_field (cue ∷ later)) n plain
-          ∙ ap (first_of (erases in_field hide n)) (event_none cue.show n (cue_events in_field (cue ∷ later)) (events_from in_field frames cue later found.sequence) below)
+          ∙ ap (option_or (erases in_field hide n)) (event_none cue.show n (cue_events in_field (cue ∷ later)) (events_from in_field frames cue later found.sequence) below)
           ∙ or_nothing (erases in_field hide n)
 
   hides_there : (n : ℕ) → found.a ≤ n → n < e → t n ≡ erases in_field hide n

@@ -1,6 +1,7 @@
 -- The first of the cues that a channel's timeline goes on with: its units, and what begins before and behind its SHOW.
 use Rattle.std.proofs.Common.{◌≡◌, ℕ, ◌+◌, ◌*◌, ◌<◌, ◌≤◌, List, [], ◌∷◌, ◌++◌, map, Option, Some, None, All, refl, sym, ap, ◌∙◌, subst, arith, append_assoc}
 use Rattle.std.specs.Prelude.{IfSome, MatchOption}
+use Rattle.std.specs.Option.{option_or}
 use Rattle.std.proofs.lemmas.List.Elements.{All-head, All-tail}
 use Rattle.line21_codes.specs.declared.channels.FieldNumber.{FieldNumber}
 use Rattle.line21_codes.specs.declared.codes.Code.{Code}
@@ -23,7 +24,7 @@ use Rattle.cue_lists.specs.Rules.Sentences.{AreInSequence}
 use Rattle.field_lanes.specs.LaneEvents.{IsFree, event_at}
 use Rattle.field_lanes.specs.LaneTimeline.{stands}
 use Rattle.cue_lists.specs.Rules.Sentences.{IsSound}
-use Rattle.field_lanes.specs.Timeline.{Timeline, first_of, over}
+use Rattle.field_lanes.specs.Timeline.{Timeline, over}
 use Rattle.line21_shown.proofs.LoadingLemmas.{erases, chunk_code, chunk_codes}
 use Rattle.line21_shown.proofs.SuffixLemmas.{AreChunks, ArePlacedFrom, LoadFrom, cue_loads, cue_until, events_behind, loads_from, parts, placed_behind, raised, stands_high, stands_low, stands_parts}
 
@@ -115,7 +116,7 @@ pub record Head (in_field : FieldNumber) (t : Timeline) (a z : ℕ) (hide : Opti
   pub first : ArePlacedFrom (events_on in_field hide (cue ∷ later)) a own front
   pub rest : ArePlacedFrom (events_on in_field hide (cue ∷ later)) z behind back
   pub same : (n : ℕ) → a ≤ n
-      → t n ≡ first_of (event_at (events_on in_field hide (cue ∷ later)) n) (first_of (stands own front n) (stands behind back n))
+      → t n ≡ option_or (event_at (events_on in_field hide (cue ∷ later)) n) (option_or (stands own front n) (stands behind back n))
 
 -- it is found, where a frame from SHOW on that is free is z or later
 pub head : (in_field : FieldNumber) (t : Timeline) (frames a z : ℕ) (hide : Option ℕ) (cue : Cue) (later : List Cue) → IsCueFormed cue
@@ -143,13 +144,13 @@ head in_field t frames a z hide cue later formed sequence on from =
           split.rest;
       same = λ n above.
           on.same n above
-          ∙ ap (first_of (event_at events n))
+          ∙ ap (option_or (event_at events n))
           (ap (λ ps. stands ps on.frames n) on.are.2 ∙ ap (λ fs. stands (own ++ behind) fs n) split.is
           ∙ stands_parts events a n own behind split.front split.back split.first);
     }
 
 -- a unit, or else nothing
-pub or_nothing : (u : Option Unit) → first_of u None ≡ u
+pub or_nothing : (u : Option Unit) → option_or u None ≡ u
 or_nothing None = refl
 or_nothing (Some unit) = refl
 
@@ -159,8 +160,8 @@ pub loading : (in_field : FieldNumber) (t : Timeline) (a z : ℕ) (hide : Option
     → (n : ℕ) → a ≤ n → n < cue.show → t n ≡ over (erases in_field hide) (stands h.own h.front) n
 loading in_field t a z hide cue later h up only n from below =
     let none : stands h.behind h.back n ≡ None = stands_low (events_on in_field hide (cue ∷ later)) z n h.behind h.back h.rest (omega arith) in
-    h.same n from ∙ ap (λ u. first_of u (first_of (stands h.own h.front n) (stands h.behind h.back n))) (only n below)
-    ∙ ap (first_of (erases in_field hide n)) (ap (first_of (stands h.own h.front n)) none ∙ or_nothing (stands h.own h.front n))
+    h.same n from ∙ ap (λ u. option_or u (option_or (stands h.own h.front n) (stands h.behind h.back n))) (only n below)
+    ∙ ap (option_or (erases in_field hide n)) (ap (option_or (stands h.own h.front n)) none ∙ or_nothing (stands h.own h.front n))
 
 -- behind SHOW the timeline goes on with what hides the cue
 pub continues_behind : (in_field : FieldNumber) (t : Timeline) (a z : ℕ) (hide : Option ℕ) (cue : Cue) (later : List Cue) → Head in_field t a z hide cue later
@@ -178,8 +179,8 @@ continues_behind in_field t a z hide cue later h up shown events_are =
       same = λ n from.
           let none : stands h.own h.front n ≡ None = stands_high events a cue.show n h.own h.front h.first h.ends (omega arith) in
           h.same n (omega arith)
-          ∙ ap (λ u. first_of u (first_of (stands h.own h.front n) (stands h.behind h.back n))) (events_are n from)
-          ∙ ap (first_of (event_at (events_behind in_field cue later) n)) (ap (λ u. first_of u (stands h.behind h.back n)) none);
+          ∙ ap (λ u. option_or u (option_or (stands h.own h.front n) (stands h.behind h.back n))) (events_are n from)
+          ∙ ap (option_or (event_at (events_behind in_field cue later) n)) (ap (λ u. option_or u (stands h.behind h.back n)) none);
     }
   where
     split : events_on in_field hide (cue ∷ later)

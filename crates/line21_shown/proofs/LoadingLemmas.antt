@@ -1,6 +1,7 @@
 -- Units that don't look at the displayed memory, beside the code that hides what is displayed.
 use Rattle.std.proofs.Common.{◌≡◌, ℕ, zero, suc, ◌+◌, ◌-◌, ◌<◌, ◌≤◌, Bool, true, false, nat_lt, List, [], ◌∷◌, map, Option, Some, None, refl, sym, ap, ◌∙◌, subst, arith}
 use Rattle.std.specs.Prelude.{⊤, ◌==◌, if◌then◌else◌}
+use Rattle.std.specs.Option.{option_or}
 use Rattle.std.proofs.lemmas.Bool.Decides.{nat_tests}
 use Rattle.line21_codes.specs.declared.channels.FieldNumber.{FieldNumber}
 use Rattle.line21_codes.specs.declared.codes.Code.{Code}
@@ -14,7 +15,7 @@ use Rattle.line21_screen.specs.Channels.{ChannelState}
 use Rattle.line21_screen.specs.Grid.{Grid, empty_grid}
 use Rattle.field_lanes.specs.declared.chunk.FieldChunk.{FieldChunk}
 use Rattle.field_lanes.specs.LaneTimeline.{stands}
-use Rattle.field_lanes.specs.Timeline.{Timeline, first_of, over}
+use Rattle.field_lanes.specs.Timeline.{Timeline, over}
 use Rattle.line21_shown.specs.Doing.{does, does_all}
 use Rattle.line21_shown.specs.Reading.{does_unit, acts}
 use Rattle.line21_shown.proofs.BlindLemmas.{AreBlind, showing}
@@ -148,13 +149,13 @@ loads_on in_field t hide z zero a m is chunks fs g s same beside blind state =
 loads_on in_field t hide z (suc k) a m is [] (f ∷ fs) g s same beside blind state = absurd beside
 loads_on in_field t hide z (suc k) a m is (chunk ∷ chunks) [] g s same beside blind state = absurd beside
 loads_on in_field t hide z (suc k) a m is [] [] g s same beside blind state =
-    let now : t a ≡ first_of (erases in_field hide a) None = same a (omega arith) (omega arith) in
-    let alone : first_of (erases in_field hide a) None ≡ erases in_field hide a = alone_is (erases in_field hide a) in
+    let now : t a ≡ option_or (erases in_field hide a) None = same a (omega arith) (omega arith) in
+    let alone : option_or (erases in_field hide a) None ≡ erases in_field hide a = alone_is (erases in_field hide a) in
     let next : acts t (suc a) ≡ showing (until hide (suc a) g) s =
     ap (λ u. does_unit u (acts t a)) (now ∙ alone) ∙ ap (does_unit (erases in_field hide a)) state ∙ erases_step in_field hide a g s in
     loads_on in_field t hide z k (suc a) m (omega arith) [] [] g s (λ n from below. same n (omega arith) below) tt tt next
   where
-    alone_is : (u : Option Unit) → first_of u None ≡ u
+    alone_is : (u : Option Unit) → option_or u None ≡ u
     alone_is None = refl
     alone_is (Some unit) = refl
 loads_on in_field t hide z (suc k) a m is (chunk ∷ chunks) (f ∷ fs) g s same beside blind state = go (a == f) refl
@@ -175,25 +176,25 @@ loads_on in_field t hide z (suc k) a m is (chunk ∷ chunks) (f ∷ fs) g s same
         let here : a ≡ f = grind (arith, nat_tests) in
         let free : e a ≡ None = ap e here ∙ beside.2 in
         let at : stands (chunk ∷ chunks) (f ∷ fs) a ≡ Some chunk.unit = stands_at chunk chunks f fs a true test in
-        let now : t a ≡ Some chunk.unit = same a (omega arith) (omega arith) ∙ ap (λ u. first_of u (stands (chunk ∷ chunks) (f ∷ fs) a)) free ∙ at in
+        let now : t a ≡ Some chunk.unit = same a (omega arith) (omega arith) ∙ ap (λ u. option_or u (stands (chunk ∷ chunks) (f ∷ fs) a)) free ∙ at in
         let next : acts t (suc a) ≡ showing (until hide (suc a) g) (does (chunk_code chunk) s) =
         ap (λ u. does_unit u (acts t a)) now ∙ ap (does (chunk_code chunk)) state ∙ blind.0 (until hide a g)
         ∙ ap (λ (shown : Grid). showing shown (does (chunk_code chunk) s)) (sym (until_same in_field hide a g free)) in
         let below : f < m = omega arith in
         let test_m : nat_lt f m ≡ true = grind (arith, nat_tests) in
         let rest : StandBeside e (suc a) z chunks fs = subst (λ n. StandBeside e (suc n) z chunks fs) (sym here) beside.3 in
-        rw test_m (acting (λ n from under. same n (omega arith) under ∙ ap (first_of (e n)) (stands_at chunk chunks f fs n false (let other : (n == f) ≡ false = grind (arith, nat_tests) in other))) rest next)
+        rw test_m (acting (λ n from under. same n (omega arith) under ∙ ap (option_or (e n)) (stands_at chunk chunks f fs n false (let other : (n == f) ≡ false = grind (arith, nat_tests) in other))) rest next)
     go false test idle acting =
         let from : a ≤ f = beside.0 in
         let later : suc a ≤ f = grind (arith, nat_tests) in
         let behind : StandBeside e (suc a) z (chunk ∷ chunks) (f ∷ fs) = (later, beside.1, beside.2, beside.3) in
         let none : stands (chunk ∷ chunks) (f ∷ fs) a ≡ None = stands_before e (suc a) z a (chunk ∷ chunks) (f ∷ fs) behind (omega arith) in
-        let now : t a ≡ e a = same a (omega arith) (omega arith) ∙ ap (first_of (e a)) none ∙ alone_is (e a) in
+        let now : t a ≡ e a = same a (omega arith) (omega arith) ∙ ap (option_or (e a)) none ∙ alone_is (e a) in
         let next : acts t (suc a) ≡ showing (until hide (suc a) g) s =
         ap (λ u. does_unit u (acts t a)) now ∙ ap (does_unit (e a)) state ∙ erases_step in_field hide a g s in
         idle behind next
       where
-        alone_is : (u : Option Unit) → first_of u None ≡ u
+        alone_is : (u : Option Unit) → option_or u None ≡ u
         alone_is None = refl
         alone_is (Some unit) = refl
 

@@ -2,6 +2,7 @@
 -- that it continues, and at its SHOW the screen has it.
 use Rattle.std.proofs.Common.{◌≡◌, ℕ, suc, ◌<◌, ◌≤◌, ◌==◌, ◌&&◌, max, nat_lt, Bool, true, false, if◌then◌else◌, List, [], ◌∷◌, Option, Some, None, All, length, refl, sym, ap, ◌∙◌, subst, arith, ⊎_elim, inl, inr}
 use Rattle.std.specs.Prelude.{◌⊎◌, IfSome}
+use Rattle.std.specs.Option.{option_or}
 use Rattle.std.proofs.lemmas.Bool.{cases_lt}
 use Rattle.std.proofs.lemmas.Bool.Decides.{nat_tests}
 use Rattle.std.proofs.lemmas.List.Elements.{All-head}
@@ -26,7 +27,7 @@ use Rattle.cue_lists.specs.Rules.Sentences.{AreInSequence, IsContinued}
 use Rattle.field_lanes.specs.LaneEvents.{event_at}
 use Rattle.field_lanes.specs.LaneTimeline.{stands}
 use Rattle.cue_lists.specs.Rules.Sentences.{IsSound}
-use Rattle.field_lanes.specs.Timeline.{Timeline, first_of}
+use Rattle.field_lanes.specs.Timeline.{Timeline}
 use Rattle.field_lanes.proofs.EventLemmas.{event_none}
 use Rattle.line21_shown.specs.Doing.{does_all}
 use Rattle.line21_shown.specs.Reading.{acts}
@@ -198,7 +199,7 @@ module _ (in_field : FieldNumber) (t : Timeline) (frames a start : ℕ) (hide : 
   pub plain_hides : (n : ℕ) → n < cue.show → event_at (events_on in_field hide (cue ∷ later)) n ≡ erases in_field hide n
   plain_hides n below =
       plain_at in_field hide cue later (cue_events in_field (cue ∷ later)) n plain
-      ∙ ap (first_of (erases in_field hide n)) (event_none cue.show n (cue_events in_field (cue ∷ later)) (events_from in_field frames cue later sequence) below)
+      ∙ ap (option_or (erases in_field hide n)) (event_none cue.show n (cue_events in_field (cue ∷ later)) (events_from in_field frames cue later sequence) below)
       ∙ or_nothing (erases in_field hide n)
 
   its_beside : StandBeside (erases in_field hide) start cue.show its_first.own its_first.front
@@ -210,7 +211,7 @@ module _ (in_field : FieldNumber) (t : Timeline) (frames a start : ℕ) (hide : 
       acts_alone (erases in_field hide) t start cue.show up_to_show its_first.own its_first.front
       (λ n from high.
       loading in_field t a cue.show hide cue later its_first (omega arith) plain_hides n (omega arith) high
-      ∙ ap (λ u. first_of u (stands its_first.own its_first.front n)) (hides_no_more in_field hide cue.load n (omega arith)))
+      ∙ ap (λ u. option_or u (stands its_first.own its_first.front n)) (hides_no_more in_field hide cue.load n (omega arith)))
       its_beside
       ∙ ap (λ codes. does_all codes (acts t start)) its_first.codes
 
@@ -226,7 +227,7 @@ module _ (in_field : FieldNumber) (t : Timeline) (frames a start : ℕ) (hide : 
       continues_behind in_field t a cue.show hide cue later its_first (omega arith) (omega arith)
       (λ n above.
       plain_at in_field hide cue later (cue_events in_field (cue ∷ later)) n plain
-      ∙ ap (λ u. first_of u (event_at (cue_events in_field (cue ∷ later)) n)) (hides_no_more in_field hide cue.load n (omega arith))
+      ∙ ap (λ u. option_or u (event_at (cue_events in_field (cue ∷ later)) n)) (hides_no_more in_field hide cue.load n (omega arith))
       ∙ ap (λ events. event_at events n) (plain_events in_field cue later plain))
 
   -- and the screen has the cue until its HIDE
@@ -260,7 +261,7 @@ module _ (in_field : FieldNumber) (t : Timeline) (frames a from : ℕ) (hide : O
   only_hides : (n : ℕ) → n < cue.show → event_at (events_on in_field hide (cue ∷ later)) n ≡ erases in_field hide n
   only_hides n below =
       plain_at in_field hide cue later (cue_events in_field (cue ∷ later)) n plain
-      ∙ ap (first_of (erases in_field hide n)) (event_none cue.show n (cue_events in_field (cue ∷ later)) (events_from in_field frames cue later sequence) below)
+      ∙ ap (option_or (erases in_field hide n)) (event_none cue.show n (cue_events in_field (cue ∷ later)) (events_from in_field frames cue later sequence) below)
       ∙ or_nothing (erases in_field hide n)
 
   -- its units stand from the first frame on in which it is written
@@ -276,7 +277,7 @@ module _ (in_field : FieldNumber) (t : Timeline) (frames a from : ℕ) (hide : O
       loads in_field t hide a m m above [] [] g (acts t a)
       (λ n up high.
       loading in_field t a cue.show hide cue later first (omega arith) only_hides n up (omega (arith, up_to_show))
-      ∙ ap (first_of (erases in_field hide n)) (stands_low (events_on in_field hide (cue ∷ later)) start n first.own first.front placed (omega arith)))
+      ∙ ap (option_or (erases in_field hide n)) (stands_low (events_on in_field hide (cue ∷ later)) start n first.own first.front placed (omega arith)))
       tt tt (showing_own (acts t a) (until hide a g) is.displayed)
 
   pub screen_before : (f : ℕ) → from ≤ f → f < cue.show → IsSettledFor f cue

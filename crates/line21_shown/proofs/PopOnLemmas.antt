@@ -2,6 +2,7 @@
 -- stays until its HIDE.
 use Rattle.std.specs.Prelude.{IfSome}
 use Rattle.std.proofs.Common.{◌≡◌, ℕ, suc, ◌<◌, ◌≤◌, true, List, ◌∷◌, Option, Some, None, All, refl, sym, ap, ◌∙◌, subst, arith, ⊎_elim}
+use Rattle.std.specs.Option.{option_or}
 use Rattle.std.proofs.lemmas.Bool.{cases_lt}
 use Rattle.line21_codes.specs.declared.channels.FieldNumber.{FieldNumber}
 use Rattle.line21_codes.specs.declared.channels.Chan.{Chan}
@@ -26,7 +27,7 @@ use Rattle.cue_lists.specs.Rules.Sentences.{AreInSequence}
 use Rattle.field_lanes.specs.LaneEvents.{IsFree, event_at}
 use Rattle.field_lanes.specs.LaneTimeline.{stands}
 use Rattle.cue_lists.specs.Rules.Sentences.{IsSound}
-use Rattle.field_lanes.specs.Timeline.{Timeline, first_of}
+use Rattle.field_lanes.specs.Timeline.{Timeline}
 use Rattle.field_lanes.proofs.DoublingLemmas.{free_none}
 use Rattle.line21_shown.specs.Doing.{does_all}
 use Rattle.line21_shown.specs.Reading.{does_unit, acts}
@@ -126,7 +127,7 @@ module _ (in_field : FieldNumber) (t : Timeline) (frames a : ℕ) (hide : Option
   displayed_at_show : (acts t (suc cue.show)).displayed ≡ shown_from cue.kind cue earlier
   displayed_at_show =
       let now : t cue.show ≡ Some (showing_unit in_field) =
-      first.same cue.show before ∙ ap (λ u. first_of u (first_of (stands first.own first.front cue.show) (stands first.behind first.back cue.show))) shows in
+      first.same cue.show before ∙ ap (λ u. option_or u (option_or (stands first.own first.front cue.show) (stands first.behind first.back cue.show))) shows in
       ap (λ u. (does_unit u (acts t cue.show)).displayed) now ∙ shows_hidden in_field (acts t cue.show) ∙ hidden_at_show
       ∙ sym (ap (λ k. shown_from k cue earlier) kind_is.1)
 

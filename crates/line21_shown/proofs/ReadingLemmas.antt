@@ -1,6 +1,7 @@
 -- A field whose control pairs are doubled is read as its units, one after another; captions of data channel 1 are read as theirs.
 use Rattle.std.proofs.Common.{◌≡◌, ℕ, zero, suc, Bool, true, false, List, ◌∷◌, Option, Some, None, option_map, unwrap_or, refl, sym, ap, ◌∙◌, subst}
 use Rattle.std.specs.Int.Count.{ones}
+use Rattle.std.specs.Option.{option_or}
 use Rattle.line21_codes.specs.declared.channels.FieldNumber.{FieldNumber}
 use Rattle.line21_codes.specs.declared.codes.Code.{Code}
 use Rattle.line21_codes.specs.declared.codes.Code.TheVariants.{Null, Text, Xds, Control}
@@ -15,7 +16,7 @@ use Rattle.line21_screen.specs.Channels.{ChannelState}
 use Rattle.line21_screen.specs.Fields.{after_code}
 use Rattle.line21_screen.specs.Meaning.{after}
 use Rattle.line21_screen.proofs.MeaningLemmas.{after-none, after-acts, after-ignored}
-use Rattle.field_lanes.specs.Timeline.{Timeline, first_of, repeat_at, repeat_of, slot}
+use Rattle.field_lanes.specs.Timeline.{Timeline, repeat_at, repeat_of, slot}
 use Rattle.field_lanes.proofs.ColumnLemmas.{null_plain}
 use Rattle.line21_shown.specs.Doing.{does}
 use Rattle.line21_shown.specs.Reading.{ColumnsAreRead, FieldsAreRead, IsCaptioned, IsForFirst, IsMarked, acts, after_unit, does_unit, field_acts, first_alone, pairs_before}
@@ -48,7 +49,7 @@ record IsRead (f : FieldNumber) (t : Timeline) (n : ℕ) : Type 0 where
 
 -- the pair of a slot
 pub slot_is : (t : Timeline) (n : ℕ) (r : Option Pair) (u : Option Unit) → repeat_at t n ≡ r → t n ≡ u
-    → slot t n ≡ unwrap_or (first_of r (option_map (λ (unit : Unit). unit.pair) u)) null_pair
+    → slot t n ≡ unwrap_or (option_or r (option_map (λ (unit : Unit). unit.pair) u)) null_pair
 slot_is t n r u due at = rw (due, at) refl
 
 -- nothing begins where a repeat is due

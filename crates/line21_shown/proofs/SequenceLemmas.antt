@@ -2,6 +2,7 @@
 use Rattle.std.proofs.Common.{◌≡◌, ℕ, zero, suc, ◌<◌, ◌≤◌, Bool, true, false, List, [], ◌∷◌, ◌++◌, Option, Some, None, All, refl, sym, ap, ◌∙◌, arith, ⊎_elim, append-nil, reverse}
 use Rattle.std.specs.Prelude.{⊤, IfSome, IsSome}
 use Rattle.std.specs.List.{AllByRecursion}
+use Rattle.std.specs.Option.{option_or}
 use Rattle.std.proofs.lemmas.Bool.{cases_lt}
 use Rattle.std.proofs.lemmas.List.{reverse-append}
 use Rattle.std.proofs.lemmas.List.Elements.{recursion_from_All}
@@ -34,7 +35,7 @@ use Rattle.placements.specs.Placing.{IsPlaced}
 use Rattle.field_lanes.specs.LaneTimeline.{lane_timeline, stands}
 use Rattle.frame_scheduler.specs.Planned.{columns_of}
 use Rattle.frame_scheduler.specs.SlotLists.{slot_cues, slots_in_list}
-use Rattle.field_lanes.specs.Timeline.{Timeline, column, first_of, slot}
+use Rattle.field_lanes.specs.Timeline.{Timeline, column, slot}
 use Rattle.frame_scheduler.proofs.ListDoublingLemmas.{channel_timeline, field_one_is, field_two_is}
 use Rattle.frame_scheduler.proofs.SlotLemmas.{slot_cues_formed, slot_sequence}
 use Rattle.cue_lists.proofs.ChannelCues.{cues_on_are_on, cues_on_formed, hides_unless_roll, line21_on, pop_is_not_roll}
@@ -68,7 +69,7 @@ last_shown : (in_field : FieldNumber) (t : Timeline) (a from : ℕ) (hide : Opti
 last_shown in_field t a from hide g earlier on is low f above =
     ap (λ (s : ChannelState). s.displayed)
     (loads in_field t hide a (suc f) (suc f) (omega arith) [] [] g (acts t a)
-    (λ n up high. on.same n up ∙ ap (λ u. first_of u (stands on.chunks on.frames n)) (only_hides hide n) ∙ ap (first_of (erases in_field hide n)) (nothing on.chunks on.frames n on.are))
+    (λ n up high. on.same n up ∙ ap (λ u. option_or u (stands on.chunks on.frames n)) (only_hides hide n) ∙ ap (option_or (erases in_field hide n)) (nothing on.chunks on.frames n on.are))
     tt tt (showing_own (acts t a) (until hide a g) is.displayed))
     ∙ sym (is.on f above)
   where

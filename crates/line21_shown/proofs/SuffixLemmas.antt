@@ -1,6 +1,7 @@
 -- The lane of the cues of a channel from one of them on: its units, its events, and what begins at each frame.
 use Rattle.std.proofs.Common.{◌≡◌, ◌≢◌, ℕ, suc, ◌+◌, ◌<◌, ◌≤◌, max, Bool, true, false, cond, List, [], ◌∷◌, ◌++◌, Option, Some, None, All, refl, sym, ap, ◌∙◌, subst, arith}
 use Rattle.std.specs.Prelude.{⊤, ◌==◌, if◌then◌else◌, IfSome}
+use Rattle.std.specs.Option.{option_or}
 use Rattle.std.proofs.lemmas.Bool.Decides.{nat_tests}
 use Rattle.std.proofs.lemmas.List.Elements.{All-append, All-head, All-map, All-nil, All-tail}
 use Rattle.line21_codes.specs.declared.channels.FieldNumber.{FieldNumber}
@@ -23,7 +24,6 @@ use Rattle.field_lanes.specs.FieldLane.{end_of, field_lane}
 use Rattle.field_lanes.specs.LaneEvents.{IsFree, event_at}
 use Rattle.field_lanes.specs.LaneTimeline.{stands}
 use Rattle.placements.specs.Placing.{IsPlaced}
-use Rattle.field_lanes.specs.Timeline.{first_of}
 use Rattle.field_lanes.proofs.DoublingLemmas.{free_none}
 use Rattle.field_lanes.proofs.FieldLaneLemmas.{end_push}
 use Rattle.field_lanes.proofs.EventLemmas.{event_none, from_earlier, some_slot}
@@ -147,14 +147,14 @@ stands_high events a z n (chunk ∷ chunks) (f ∷ fs) placed all above =
 
 -- what stands of chunks and those behind them
 pub stands_parts : (events : List Event) (a n : ℕ) (chunks more : List FieldChunk) (front back : List ℕ) → ArePlacedFrom events a chunks front
-    → stands (chunks ++ more) (front ++ back) n ≡ first_of (stands chunks front n) (stands more back n)
+    → stands (chunks ++ more) (front ++ back) n ≡ option_or (stands chunks front n) (stands more back n)
 stands_parts events a n [] more [] back placed = refl
 stands_parts events a n [] more (f ∷ front) back placed = absurd placed
 stands_parts events a n (chunk ∷ chunks) more [] back placed = absurd placed
 stands_parts events a n (chunk ∷ chunks) more (f ∷ front) back placed = go (n == f) refl (stands_parts events (suc f) n chunks more front back placed.4)
   where
-    go : (b : Bool) → (n == f) ≡ b → stands (chunks ++ more) (front ++ back) n ≡ first_of (stands chunks front n) (stands more back n)
-        → stands (chunk ∷ (chunks ++ more)) (f ∷ (front ++ back)) n ≡ first_of (stands (chunk ∷ chunks) (f ∷ front) n) (stands more back n)
+    go : (b : Bool) → (n == f) ≡ b → stands (chunks ++ more) (front ++ back) n ≡ option_or (stands chunks front n) (stands more back n)
+        → stands (chunk ∷ (chunks ++ more)) (f ∷ (front ++ back)) n ≡ option_or (stands (chunk ∷ chunks) (f ∷ front) n) (stands more back n)
     go true test rest = rw test refl
     go false test rest = rw test rest
 
@@ -218,7 +218,7 @@ event_first in_field frame events n b test = rw test refl
 -- what hides, and the events behind it: where the next cue replaces what is shown, nothing hides it
 hide_first : (in_field : FieldNumber) (hide : Option ℕ) (cue : Cue) (later : List Cue) (events : List Event) (n : ℕ) → is_pop cue.kind ≡ true
     → event_at events cue.show ≡ Some (showing_unit in_field)
-    → event_at (hide_events in_field hide (cue ∷ later) ++ events) n ≡ (if n == cue.show then Some (showing_unit in_field) else first_of (erases in_field hide n) (event_at events n))
+    → event_at (hide_events in_field hide (cue ∷ later) ++ events) n ≡ (if n == cue.show then Some (showing_unit in_field) else option_or (erases in_field hide n) (event_at events n))
 hide_first in_field None cue later events n pop shows = go (n == cue.show) refl
   where
     go : (b : Bool) → (n == cue.show) ≡ b → event_at events n ≡ (if n == cue.show then Some (showing_unit in_field) else event_at events n)
@@ -228,10 +228,10 @@ hide_first in_field (Some hide) cue later events n pop shows = rw pop (by_test (
   where
     by_test : (r : Bool) → (cue.show == hide) ≡ r
         → event_at ((if r then [] else control_event in_field hide Edm ∷ []) ++ events) n
-        ≡ (if n == cue.show then Some (showing_unit in_field) else first_of (erases in_field (Some hide) n) (event_at events n))
+        ≡ (if n == cue.show then Some (showing_unit in_field) else option_or (erases in_field (Some hide) n) (event_at events n))
     by_test true same = go (n == cue.show) refl
       where
-        go : (b : Bool) → (n == cue.show) ≡ b → event_at events n ≡ (if n == cue.show then Some (showing_unit in_field) else first_of (erases in_field (Some hide) n) (event_at events n))
+        go : (b : Bool) → (n == cue.show) ≡ b → event_at events n ≡ (if n == cue.show then Some (showing_unit in_field) else option_or (erases in_field (Some hide) n) (event_at events n))
         go true test = let here : n ≡ cue.show = grind (arith, nat_tests) in rw test (ap (event_at events) here ∙ shows)
         go false test =
             let other : (n == hide) ≡ false = grind (arith, nat_tests) in
@@ -240,7 +240,7 @@ hide_first in_field (Some hide) cue later events n pop shows = rw pop (by_test (
       where
         go : (b : Bool) → (n == cue.show) ≡ b → (c : Bool) → (n == hide) ≡ c
             → event_at (control_event in_field hide Edm ∷ events) n
-            ≡ (if n == cue.show then Some (showing_unit in_field) else first_of (erases in_field (Some hide) n) (event_at events n))
+            ≡ (if n == cue.show then Some (showing_unit in_field) else option_or (erases in_field (Some hide) n) (event_at events n))
         go true test true at = let wrong : (cue.show == hide) ≡ true = grind (arith, nat_tests) in cc
         go true test false at = let here : n ≡ cue.show = grind (arith, nat_tests) in rw (test, at) (ap (event_at events) here ∙ shows)
         go false test true at = rw (test, at) refl
@@ -272,7 +272,7 @@ module _ (in_field : FieldNumber) (hide : Option ℕ) (cue : Cue) (later : List 
   shows_here : event_at (cue_events in_field (cue ∷ later)) cue.show ≡ Some (showing_unit in_field)
   shows_here = shows_at cue.show true (grind (arith, nat_tests))
 
-  all_at : (n : ℕ) → event_at all_events n ≡ (if n == cue.show then Some (showing_unit in_field) else first_of (erases in_field hide n) (event_at (cue_events in_field (cue ∷ later)) n))
+  all_at : (n : ℕ) → event_at all_events n ≡ (if n == cue.show then Some (showing_unit in_field) else option_or (erases in_field hide n) (event_at (cue_events in_field (cue ∷ later)) n))
   all_at n = hide_first in_field hide cue later (cue_events in_field (cue ∷ later)) n pop shows_here
 
   -- before SHOW nothing begins but what hides the former cue
@@ -283,7 +283,7 @@ module _ (in_field : FieldNumber) (hide : Option ℕ) (cue : Cue) (later : List 
       shows_at n false test ∙ event_none (cue.show + 2) n rest apart_rest (omega arith) in
       all_at n ∙ rw (test, none) (last (erases in_field hide n))
     where
-      last : (u : Option Unit) → first_of u None ≡ u
+      last : (u : Option Unit) → option_or u None ≡ u
       last None = refl
       last (Some unit) = refl
 
@@ -345,12 +345,12 @@ plain_events in_field cue later plain = rw plain refl
 
 -- what hides the former cue, and these events
 pub plain_at : (in_field : FieldNumber) (hide : Option ℕ) (cue : Cue) (later : List Cue) (events : List Event) (n : ℕ) → is_pop cue.kind ≡ false
-    → event_at (hide_events in_field hide (cue ∷ later) ++ events) n ≡ first_of (erases in_field hide n) (event_at events n)
+    → event_at (hide_events in_field hide (cue ∷ later) ++ events) n ≡ option_or (erases in_field hide n) (event_at events n)
 plain_at in_field None cue later events n plain = refl
 plain_at in_field (Some hide) cue later events n plain = rw plain (by_test (n == hide) refl)
   where
     by_test : (b : Bool) → (n == hide) ≡ b
-        → event_at (control_event in_field hide Edm ∷ events) n ≡ first_of (erases in_field (Some hide) n) (event_at events n)
+        → event_at (control_event in_field hide Edm ∷ events) n ≡ option_or (erases in_field (Some hide) n) (event_at events n)
     by_test true test = rw test refl
     by_test false test = rw test refl
 

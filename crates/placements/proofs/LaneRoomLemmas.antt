@@ -5,7 +5,7 @@ use Rattle.std.proofs.lemmas.Bool.Decides.{nat_tests}
 use Rattle.std.specs.List.{zip}
 use Rattle.placements.specs.LaneRoom.{AreOfCuesFrom, AreInCueOrder, up_to, HasRoom, IsFirstCrowded}
 use Rattle.placements.specs.OneMore.{FitsEarlier}
-use Rattle.placements.specs.Placing.{IsPlaced, IsEarliest, HasNone}
+use Rattle.placements.specs.Placing.{IsPlaced, IsEarliest, HasPlacement}
 use Rattle.placements.proofs.PlacingLemmas.{one_more, placed_prefix, none_append}
 
 module _ {U : Type 0} (cue_of : U → ℕ) where
@@ -73,12 +73,12 @@ module _ {U : Type 0} (cue_of : U → ℕ) where
         → IsEarliest allowed (take k us) slots → take (k + 1) us ≡ take k us ++ get_or us k d ∷ []
         → ((f : ℕ) → allowed (zip (take k us) slots) (get_or us k d) f → ⊥) → IsFirstCrowded allowed cue_of us (cue_of (get_or us k d))
     no_room_at fits us k d slots o h earliest more nowhere =
-        let none : HasNone allowed (take (k + 1) us) =
-        subst (λ l. HasNone allowed l) (sym more) ((one_more allowed fits (take k us) slots (get_or us k d) earliest).none nowhere) in
+        let none : HasPlacement allowed (take (k + 1) us) → ⊥ =
+        subst (λ l. HasPlacement allowed l → ⊥) (sym more) ((one_more allowed fits (take k us) slots (get_or us k d) earliest).none nowhere) in
         let through = up_to_through us k d o h in
         record {
-          none = subst (λ l. HasNone allowed l) (sym through.1)
-              (none_append allowed (take (suc k) us) through.0 (let e : k + 1 ≡ suc k = omega arith in subst (λ n. HasNone allowed (take n us)) e none));
+          none = subst (λ l. HasPlacement allowed l → ⊥) (sym through.1)
+              (none_append allowed (take (suc k) us) through.0 (let e : k + 1 ≡ suc k = omega arith in subst (λ n. HasPlacement allowed (take n us) → ⊥) e none));
           first = λ earlier below.
               let before = up_to_before us k earlier d o h below in
               placed_prefix allowed (up_to cue_of earlier us) before.0 slots (subst (λ l. IsPlaced allowed [] l slots) before.1 earliest.placed);

@@ -2,7 +2,7 @@
 use Rattle.std.proofs.Common.{◌≡◌, ℕ, ◌≤◌, List, [], ◌∷◌, ◌++◌, refl, sym, ap, ◌∙◌, subst, arith, append_assoc}
 use Rattle.std.proofs.lemmas.List.{append-nil}
 use Rattle.std.specs.List.{zip}
-use Rattle.placements.specs.Placing.{IsPlaced, IsEarliest, NoLater, HasNone}
+use Rattle.placements.specs.Placing.{IsPlaced, IsEarliest, NoLater, HasPlacement}
 use Rattle.placements.specs.OneMore.{FitsEarlier, OneMore}
 
 -- no list of frames is later than itself
@@ -108,8 +108,9 @@ pub placed_prefix : {U : Type 0} (allowed : List (U × ℕ) → U → ℕ → Ty
 placed_prefix allowed us vs hs p = let w = placed_parts allowed [] us vs hs p in (w.front, w.placed)
 
 -- where the units in front have no placement, all have none
-pub none_append : {U : Type 0} (allowed : List (U × ℕ) → U → ℕ → Type 0) (us vs : List U) → HasNone allowed us → HasNone allowed (us ++ vs)
-none_append allowed us vs none hs p = let w = placed_prefix allowed us vs hs p in none w.0 w.1
+pub none_append : {U : Type 0} (allowed : List (U × ℕ) → U → ℕ → Type 0) (us vs : List U) → (HasPlacement allowed us → ⊥)
+    → HasPlacement allowed (us ++ vs) → ⊥
+none_append allowed us vs none has = none (placed_prefix allowed us vs has.0 has.1)
 
 -- there is one earliest placement
 pub earliest_same : {U : Type 0} (allowed : List (U × ℕ) → U → ℕ → Type 0) (us : List U) (fs gs : List ℕ)
@@ -128,8 +129,8 @@ earliest_none {U} allowed = record { placed = tt; first = none_first }
 pub one_more : {U : Type 0} (allowed : List (U × ℕ) → U → ℕ → Type 0) → FitsEarlier allowed
     → (us : List U) (fs : List ℕ) (u : U) → IsEarliest allowed us fs → OneMore allowed us fs u
 one_more {U} allowed fits us fs u e = record {
-  none = λ nowhere hs p.
-      let w = placed_last allowed us u hs p in
+  none = λ nowhere has.
+      let w = placed_last allowed us u has.0 has.1 in
       nowhere w.frame (earlier w);
   some = λ f a. placed_push allowed [] us fs u f e.placed a;
   first = λ f a least. record {

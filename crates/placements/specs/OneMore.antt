@@ -4,7 +4,7 @@
 -- then puts the unit in the first such frame, and leaves the others where they are.
 use Rattle.std.specs.Prelude.{◌≡◌, ℕ, ◌≤◌, List, [], ◌∷◌, ◌++◌}
 use Rattle.std.specs.List.{zip}
-use Rattle.placements.specs.Placing.{IsPlaced, IsEarliest, NoLater, HasNone}
+use Rattle.placements.specs.Placing.{IsPlaced, IsEarliest, NoLater, HasPlacement}
 
 -- what a lane owes for the law: what is allowed behind units that stand later is allowed behind them also where they stand earlier
 abbrev pub FitsEarlier : {U : Type 0} → (List (U × ℕ) → U → ℕ → Type 0) → Type 0
@@ -13,7 +13,7 @@ FitsEarlier {U} allowed = (us : List U) (fs gs : List ℕ) (u : U) (g : ℕ) →
 
 -- the law for the units us, whose earliest placement is fs, and one more unit u
 pub record OneMore {U : Type 0} (allowed : List (U × ℕ) → U → ℕ → Type 0) (us : List U) (fs : List ℕ) (u : U) : Type 0 where
-  pub none : ((f : ℕ) → allowed (zip us fs) u f → ⊥) → HasNone allowed (us ++ u ∷ [])
+  pub none : ((f : ℕ) → allowed (zip us fs) u f → ⊥) → HasPlacement allowed (us ++ u ∷ []) → ⊥
   pub some : (f : ℕ) → allowed (zip us fs) u f → IsPlaced allowed [] (us ++ u ∷ []) (fs ++ f ∷ [])
   pub first : (f : ℕ) → allowed (zip us fs) u f → ((g : ℕ) → allowed (zip us fs) u g → f ≤ g)
       → IsEarliest allowed (us ++ u ∷ []) (fs ++ f ∷ [])

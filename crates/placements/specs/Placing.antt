@@ -29,7 +29,3 @@ HasPlacement allowed us = (fs : List ℕ) × IsPlaced allowed [] us fs
 -- the units have an earliest placement
 abbrev pub HasEarliest : {U : Type 0} → (List (U × ℕ) → U → ℕ → Type 0) → List U → Type 0
 HasEarliest allowed us = (fs : List ℕ) × IsEarliest allowed us fs
-
--- the units have no placement
-abbrev pub HasNone : {U : Type 0} → (List (U × ℕ) → U → ℕ → Type 0) → List U → Type 0
-HasNone allowed us = (fs : List ℕ) → IsPlaced allowed [] us fs → ⊥

@@ -99,7 +99,7 @@ module _ (count : ℕ) (slots others : Slots) (agree : Agree count slots others)
 crowded_too : (count : ℕ) (slots others : Slots) → Agree count slots others → (us : List Part) → All (EndsBy count) us
     → (cue : ℕ) → IsFirstCrowded (resumed_lane slots) part_cue us cue → IsFirstCrowded (resumed_lane others) part_cue us cue
 crowded_too count slots others agree us ends cue is = record {
-  none = λ fs placed. is.none fs (back count slots others agree (up_to part_cue cue us) (some_ends count slots others agree us ends cue) fs placed);
+  none = λ has. is.none (has.0, back count slots others agree (up_to part_cue cue us) (some_ends count slots others agree us ends cue) has.0 has.1);
   first = λ earlier below.
       let room = is.first earlier below in
       (room.0, there count slots others agree (up_to part_cue earlier us) (some_ends count slots others agree us ends earlier) room.0 room.1);

@@ -105,7 +105,7 @@ module _ (slots : Slots) (sound : AreSound slots) where
       (earliest_alone slots sound (take k us) (All-take IsBegun k us begun) (slots_at places) r.earliest) (take_more us k d h)
       (λ f a. nowhere f (subst (λ e. IsAllowedBeside slots e (get_or us k d) f) (sym r.end_is) (from_lane_alone slots (zip (take k us) (slots_at places)) (get_or us k d) f a))) in
       record {
-        none = λ fs placed. alone.none fs ((lanes_one slots sound (up_to part_cue (get_or us k d).chunk.cue us) (All-filter (λ u. nat_le (part_cue u) (get_or us k d).chunk.cue) IsBegun us begun) fs).0 placed);
+        none = λ has. alone.none (has.0, (lanes_one slots sound (up_to part_cue (get_or us k d).chunk.cue us) (All-filter (λ u. nat_le (part_cue u) (get_or us k d).chunk.cue) IsBegun us begun) has.0).0 has.1);
         first = λ earlier below.
             let w = alone.first earlier below in
             (w.0, (lanes_one slots sound (up_to part_cue earlier us) (All-filter (λ u. nat_le (part_cue u) earlier) IsBegun us begun) w.0).1 w.1);

@@ -1,6 +1,7 @@
 -- A lane with the units that come again is a lane of a longer list of units.
 use Rattle.std.proofs.Common.{◌≡◌, ℕ, ◌+◌, ◌<◌, ◌≤◌, ◌==◌, Bool, true, false, cond, List, [], ◌∷◌, ◌++◌, Option, Some, None, refl, ap, ◌∙◌, subst, arith, ⊎_elim}
 use Rattle.std.specs.Prelude.{⊤, if◌then◌else◌}
+use Rattle.std.specs.Option.{option_or}
 use Rattle.std.proofs.lemmas.Bool.{cases_lt}
 use Rattle.std.proofs.lemmas.Bool.Decides.{nat_tests}
 use Rattle.line21_author.specs.declared.event.Event.{Event}
@@ -9,7 +10,6 @@ use Rattle.field_lanes.specs.declared.chunk.FieldChunk.{FieldChunk}
 use Rattle.field_lanes.specs.FieldLane.{end_of, field_lane, slots_of}
 use Rattle.field_lanes.specs.LaneEvents.{IsFree, event_at}
 use Rattle.field_lanes.specs.LaneTimeline.{stands}
-use Rattle.field_lanes.specs.Timeline.{first_of}
 use Rattle.field_lanes.proofs.FieldLaneLemmas.{end_push}
 use Rattle.placements.specs.Placing.{IsPlaced}
 use Rattle.resumed_lanes.specs.Parts.{part_slots}
@@ -83,30 +83,30 @@ module _ (events : List Event) (slots : Slots) (free : (n : ℕ) → slots.free 
         ),
       )
 
-or_nothing : (u : Option Unit) → first_of u None ≡ u
+or_nothing : (u : Option Unit) → option_or u None ≡ u
 or_nothing None = refl
 or_nothing (Some unit) = refl
 
 -- what stands in the longer list stands in one or the other
 stands_expanded : (slots : Slots) (end : ℕ) (parts : List Part) (fs : List ℕ) (rs : List (Option ℕ)) (n : ℕ) → Stand slots end parts fs rs
-    → stands (expanded parts rs) (spread fs rs) n ≡ first_of (stands (part_chunks parts) fs n) (again parts rs n)
+    → stands (expanded parts rs) (spread fs rs) n ≡ option_or (stands (part_chunks parts) fs n) (again parts rs n)
 stands_expanded slots end [] [] rs n stand = refl
 stands_expanded slots end [] (f ∷ fs) rs n stand = absurd stand
 stands_expanded slots end (part ∷ parts) [] rs n stand = absurd stand
 stands_expanded slots end (part ∷ parts) (f ∷ fs) [] n stand = absurd stand
 stands_expanded slots end (part ∷ parts) (f ∷ fs) (None ∷ rs) n stand = by_slot (n == f) (stands_expanded slots (f + part_slots part) parts fs rs n stand.2)
   where
-    by_slot : (b : Bool) → stands (expanded parts rs) (spread fs rs) n ≡ first_of (stands (part_chunks parts) fs n) (again parts rs n)
+    by_slot : (b : Bool) → stands (expanded parts rs) (spread fs rs) n ≡ option_or (stands (part_chunks parts) fs n) (again parts rs n)
         → (if b then Some part.chunk.unit else stands (expanded parts rs) (spread fs rs) n)
-        ≡ first_of (if b then Some part.chunk.unit else stands (part_chunks parts) fs n) (again parts rs n)
+        ≡ option_or (if b then Some part.chunk.unit else stands (part_chunks parts) fs n) (again parts rs n)
     by_slot true rest = refl
     by_slot false rest = rest
 stands_expanded slots end (part ∷ parts) (f ∷ fs) (Some q ∷ rs) n stand =
     by_resume (n == q) refl (stands_expanded slots (f + part_slots part) parts fs rs n stand.2)
   where
-    by_resume : (b : Bool) → (n == q) ≡ b → stands (expanded parts rs) (spread fs rs) n ≡ first_of (stands (part_chunks parts) fs n) (again parts rs n)
+    by_resume : (b : Bool) → (n == q) ≡ b → stands (expanded parts rs) (spread fs rs) n ≡ option_or (stands (part_chunks parts) fs n) (again parts rs n)
         → (if b then Some part.first else (if n == f then Some part.chunk.unit else stands (expanded parts rs) (spread fs rs) n))
-        ≡ first_of (if n == f then Some part.chunk.unit else stands (part_chunks parts) fs n) (if b then Some part.first else again parts rs n)
+        ≡ option_or (if n == f then Some part.chunk.unit else stands (part_chunks parts) fs n) (if b then Some part.first else again parts rs n)
     by_resume true test rest =
         let low : n < f = let b = stand.1.1.at_is.before in grind (arith, nat_tests) in
         let not_f : (n == f) ≡ false = grind (arith, nat_tests) in
@@ -114,11 +114,11 @@ stands_expanded slots end (part ∷ parts) (f ∷ fs) (Some q ∷ rs) n stand =
     by_resume false test rest = by_slot (n == f)
       where
         by_slot : (b : Bool) → (if b then Some part.chunk.unit else stands (expanded parts rs) (spread fs rs) n)
-            ≡ first_of (if b then Some part.chunk.unit else stands (part_chunks parts) fs n) (again parts rs n)
+            ≡ option_or (if b then Some part.chunk.unit else stands (part_chunks parts) fs n) (again parts rs n)
         by_slot true = refl
         by_slot false = rest
 
-first_assoc : (u v w : Option Unit) → first_of u (first_of v w) ≡ first_of (first_of u v) w
+first_assoc : (u v w : Option Unit) → option_or u (option_or v w) ≡ option_or (option_or u v) w
 first_assoc None v w = refl
 first_assoc (Some unit) v w = refl
 
@@ -126,6 +126,6 @@ pub one_lane : ResumedIsOneLane
 one_lane events slots parts fs rs free cues stand = record {
   placed = placed_expanded events slots free [] 0 None parts fs rs refl cues tt stand;
   timeline = λ n.
-      ap (first_of (event_at events n)) (stands_expanded slots 0 parts fs rs n stand)
+      ap (option_or (event_at events n)) (stands_expanded slots 0 parts fs rs n stand)
       ∙ first_assoc (event_at events n) (stands (part_chunks parts) fs n) (again parts rs n);
 }

@@ -1,13 +1,14 @@
 -- A lane in a field: where its units stand, and that those that come again change nothing.
 use Rattle.std.proofs.Common.{◌≡◌, ℕ, ◌+◌, ◌<◌, ◌≤◌, ◌==◌, Bool, true, false, cond, List, [], ◌∷◌, Option, Some, None, refl, sym, ap, ◌∙◌, subst, arith, ⊎_elim}
 use Rattle.std.specs.Prelude.{⊤, if◌then◌else◌}
+use Rattle.std.specs.Option.{option_or}
 use Rattle.std.proofs.lemmas.Bool.{cases_lt}
 use Rattle.std.proofs.lemmas.Bool.Decides.{nat_tests}
 use Rattle.line21_codes.specs.Reading.{code_of}
 use Rattle.line21_author.specs.declared.unit.Unit.{Unit}
 use Rattle.line21_screen.specs.declared.modes.Mode.{Mode}
 use Rattle.field_lanes.specs.LaneTimeline.{stands}
-use Rattle.field_lanes.specs.Timeline.{Timeline, first_of}
+use Rattle.field_lanes.specs.Timeline.{Timeline}
 use Rattle.resumed_lanes.specs.Parts.{part_slots}
 use Rattle.resumed_lanes.specs.ResumedLane.{IsResume, Stand}
 use Rattle.resumed_lanes.specs.Slots.{Slots}
@@ -94,16 +95,16 @@ module _ (slots : Slots) (events t : Timeline)
   -- one unit, behind the units before it
   module _ (end : ℕ) (part : Part) (parts : List Part) (f : ℕ) (fs : List ℕ) (r : Option ℕ) (rs : List (Option ℕ))
       (stand : Stand slots end (part ∷ parts) (f ∷ fs) (r ∷ rs))
-      (same : (n : ℕ) → end ≤ n → t n ≡ first_of (events n) (stands (part_chunks (part ∷ parts)) (f ∷ fs) n)) where
+      (same : (n : ℕ) → end ≤ n → t n ≡ option_or (events n) (stands (part_chunks (part ∷ parts)) (f ∷ fs) n)) where
     -- in front of it the events are alone
     pub in_front : (n : ℕ) → end ≤ n → n < f → t n ≡ events n
     in_front n high low =
         let test : (n == f) ≡ false = grind (arith, nat_tests) in
         let none : stands (part_chunks (part ∷ parts)) (f ∷ fs) n ≡ None =
         stands_at part parts f fs n false test ∙ stands_none slots (f + part_slots part) parts fs rs n stand.2 (omega arith) in
-        same n high ∙ ap (first_of (events n)) none ∙ or_nothing (events n)
+        same n high ∙ ap (option_or (events n)) none ∙ or_nothing (events n)
       where
-        or_nothing : (u : Option Unit) → first_of u None ≡ u
+        or_nothing : (u : Option Unit) → option_or u None ≡ u
         or_nothing None = refl
         or_nothing (Some unit) = refl
 
@@ -112,21 +113,21 @@ module _ (slots : Slots) (events t : Timeline)
     at_slot =
         let none : events f ≡ None = free_none slots events held f (stand.0.free f (omega arith) (omega (arith, some_size part))) in
         let test : (f == f) ≡ true = grind (arith, nat_tests) in
-        same f stand.0.behind ∙ ap (λ u. first_of u (stands (part_chunks (part ∷ parts)) (f ∷ fs) f)) none ∙ stands_at part parts f fs f true test
+        same f stand.0.behind ∙ ap (λ u. option_or u (stands (part_chunks (part ∷ parts)) (f ∷ fs) f)) none ∙ stands_at part parts f fs f true test
 
     -- and in its second slot nothing does
     pub in_second : (n : ℕ) → f < n → n < f + part_slots part → t n ≡ None
     in_second n high low =
         let none : events n ≡ None = free_none slots events held n (stand.0.free n (omega arith) low) in
         let test : (n == f) ≡ false = grind (arith, nat_tests) in
-        same n (omega (arith, stand.0.behind)) ∙ ap (λ u. first_of u (stands (part_chunks (part ∷ parts)) (f ∷ fs) n)) none
+        same n (omega (arith, stand.0.behind)) ∙ ap (λ u. option_or u (stands (part_chunks (part ∷ parts)) (f ∷ fs) n)) none
         ∙ stands_at part parts f fs n false test ∙ stands_none slots (f + part_slots part) parts fs rs n stand.2 low
 
     -- behind it the rest goes on
-    pub same_behind : (n : ℕ) → f + part_slots part ≤ n → t n ≡ first_of (events n) (stands (part_chunks parts) fs n)
+    pub same_behind : (n : ℕ) → f + part_slots part ≤ n → t n ≡ option_or (events n) (stands (part_chunks parts) fs n)
     same_behind n high =
         let test : (n == f) ≡ false = let s = some_size part in grind (arith, nat_tests) in
-        same n (omega (arith, stand.0.behind)) ∙ ap (first_of (events n)) (stands_at part parts f fs n false test)
+        same n (omega (arith, stand.0.behind)) ∙ ap (option_or (events n)) (stands_at part parts f fs n false test)
 
     -- a cue's first unit puts it under way
     pub begun : Begins part → IsUnderWay t (f + part_slots part) part
@@ -189,7 +190,7 @@ module _ (slots : Slots) (events t : Timeline)
   -- a unit behind the units before it puts its cue under way, or leaves it so
   under_next : (end : ℕ) (part : Part) (parts : List Part) (f : ℕ) (fs : List ℕ) (r : Option ℕ) (rs : List (Option ℕ))
       (stand : Stand slots end (part ∷ parts) (f ∷ fs) (r ∷ rs))
-      (same : (n : ℕ) → end ≤ n → t n ≡ first_of (events n) (stands (part_chunks (part ∷ parts)) (f ∷ fs) n))
+      (same : (n : ℕ) → end ≤ n → t n ≡ option_or (events n) (stands (part_chunks (part ∷ parts)) (f ∷ fs) n))
       (former : Option Part) (later : Bool) → IsBehind later former part → UnderWay t end former
       → ((n : ℕ) (unit : Unit) → part.chunk.load < n → n < part.chunk.until → events n ≡ Some unit → keeps_mode (code_of unit.pair) ≡ true)
       → IsUnderWay t (f + part_slots part) part
@@ -199,7 +200,7 @@ module _ (slots : Slots) (events t : Timeline)
 
   resumed_at : (end : ℕ) (part : Part) (parts : List Part) (f : ℕ) (fs : List ℕ) (r : Option ℕ) (rs : List (Option ℕ))
       (stand : Stand slots end (part ∷ parts) (f ∷ fs) (r ∷ rs))
-      (same : (n : ℕ) → end ≤ n → t n ≡ first_of (events n) (stands (part_chunks (part ∷ parts)) (f ∷ fs) n))
+      (same : (n : ℕ) → end ≤ n → t n ≡ option_or (events n) (stands (part_chunks (part ∷ parts)) (f ∷ fs) n))
       (former : Option Part) (later : Bool) → later ≡ true → IsBehind later former part → UnderWay t end former
       → ((n : ℕ) (unit : Unit) → part.chunk.load < n → n < part.chunk.until → events n ≡ Some unit → keeps_mode (code_of unit.pair) ≡ true)
       → (at : ℕ) → IsResume slots end f at → IsResumed t at part.first
@@ -210,7 +211,7 @@ module _ (slots : Slots) (events t : Timeline)
 
   -- all that come again do so while their cue is under way
   resumed_all : (end : ℕ) (former : Option Part) (parts : List Part) (fs : List ℕ) (rs : List (Option ℕ)) → Stand slots end parts fs rs
-      → ((n : ℕ) → end ≤ n → t n ≡ first_of (events n) (stands (part_chunks parts) fs n)) → AreCues former parts → AreQuiet events parts → UnderWay t end former
+      → ((n : ℕ) → end ≤ n → t n ≡ option_or (events n) (stands (part_chunks parts) fs n)) → AreCues former parts → AreQuiet events parts → UnderWay t end former
       → (at : ℕ) (unit : Unit) → again parts rs at ≡ Some unit → IsResumed t at unit
   resumed_all end former [] fs rs stand same cues quiet under at unit is = cc
   resumed_all end former (part ∷ parts) fs [] stand same cues quiet under at unit is = cc

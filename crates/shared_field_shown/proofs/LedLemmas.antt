@@ -1,6 +1,7 @@
 -- A lane in a field: each of its text pairs is led to by a control code of its own, and its slots are its own.
 use Rattle.std.proofs.Common.{◌≡◌, ℕ, ◌+◌, ◌<◌, ◌≤◌, ◌==◌, ◌&&◌, ◌||◌, nat_le, nat_lt, Bool, true, false, List, [], ◌∷◌, Option, Some, None, refl, sym, ap, ◌∙◌, subst, arith, ⊎_elim}
 use Rattle.std.specs.Prelude.{⊤, if◌then◌else◌}
+use Rattle.std.specs.Option.{option_or}
 use Rattle.std.proofs.lemmas.Bool.{cases_lt}
 use Rattle.std.proofs.lemmas.Bool.Decides.{nat_tests}
 use Rattle.line21_codes.specs.declared.codes.Code.{Code}
@@ -9,7 +10,7 @@ use Rattle.line21_codes.specs.Reading.{code_of}
 use Rattle.line21_author.specs.declared.unit.Unit.{Unit}
 use Rattle.line21_screen.specs.declared.modes.Mode.{Mode}
 use Rattle.field_lanes.specs.LaneTimeline.{stands}
-use Rattle.field_lanes.specs.Timeline.{Timeline, first_of}
+use Rattle.field_lanes.specs.Timeline.{Timeline}
 use Rattle.resumed_lanes.specs.Parts.{part_slots}
 use Rattle.resumed_lanes.specs.ResumedLane.{ResumesAt, Stand}
 use Rattle.resumed_lanes.specs.Slots.{Slots}
@@ -80,8 +81,8 @@ module _ (slots : Slots) (events t own other : Timeline)
 
   module _ (end : ℕ) (part : Part) (parts : List Part) (f : ℕ) (fs : List ℕ) (r : Option ℕ) (rs : List (Option ℕ))
       (stand : Stand slots end (part ∷ parts) (f ∷ fs) (r ∷ rs))
-      (same : (n : ℕ) → end ≤ n → t n ≡ first_of (events n) (stands (part_chunks (part ∷ parts)) (f ∷ fs) n))
-      (mine : (n : ℕ) → end ≤ n → own n ≡ first_of (t n) (again (part ∷ parts) (r ∷ rs) n))
+      (same : (n : ℕ) → end ≤ n → t n ≡ option_or (events n) (stands (part_chunks (part ∷ parts)) (f ∷ fs) n))
+      (mine : (n : ℕ) → end ≤ n → own n ≡ option_or (t n) (again (part ∷ parts) (r ∷ rs) n))
       (clear : (m : ℕ) → covers end (part ∷ parts) (f ∷ fs) m ≡ true → slots.foreign m ≡ false → other m ≡ None) where
     -- in its own slots the other lane has nothing
     none_in : (m : ℕ) → f ≤ m → m < f + part_slots part → other m ≡ None
@@ -89,18 +90,18 @@ module _ (slots : Slots) (events t own other : Timeline)
         clear m (covered_own end part parts f fs m stand.0.behind high low) (not_foreign m (stand.0.free m high low))
 
     own_at : own f ≡ Some part.chunk.unit
-    own_at = mine f stand.0.behind ∙ ap (λ u. first_of u (again (part ∷ parts) (r ∷ rs) f)) (at_slot slots events t held end part parts f fs r rs stand same)
+    own_at = mine f stand.0.behind ∙ ap (λ u. option_or u (again (part ∷ parts) (r ∷ rs) f)) (at_slot slots events t held end part parts f fs r rs stand same)
 
-    mine_behind : (n : ℕ) → f + part_slots part ≤ n → own n ≡ first_of (t n) (again parts rs n)
+    mine_behind : (n : ℕ) → f + part_slots part ≤ n → own n ≡ option_or (t n) (again parts rs n)
     mine_behind n high = by_resume r refl
       where
-        by_resume : (q : Option ℕ) → r ≡ q → own n ≡ first_of (t n) (again parts rs n)
-        by_resume None is = mine n (omega (arith, stand.0.behind)) ∙ ap (λ (q : Option ℕ). first_of (t n) (again (part ∷ parts) (q ∷ rs) n)) is
+        by_resume : (q : Option ℕ) → r ≡ q → own n ≡ option_or (t n) (again parts rs n)
+        by_resume None is = mine n (omega (arith, stand.0.behind)) ∙ ap (λ (q : Option ℕ). option_or (t n) (again (part ∷ parts) (q ∷ rs) n)) is
         by_resume (Some at) is =
             let resumes : ResumesAt slots end part f (Some at) = subst (ResumesAt slots end part f) is stand.1 in
             let test : (n == at) ≡ false = let b = resumes.1.at_is.before in grind (arith, nat_tests) in
-            mine n (omega (arith, stand.0.behind)) ∙ ap (λ (q : Option ℕ). first_of (t n) (again (part ∷ parts) (q ∷ rs) n)) is
-            ∙ ap (first_of (t n)) (again_at part parts at rs n false test)
+            mine n (omega (arith, stand.0.behind)) ∙ ap (λ (q : Option ℕ). option_or (t n) (again (part ∷ parts) (q ∷ rs) n)) is
+            ∙ ap (option_or (t n)) (again_at part parts at rs n false test)
 
     clear_behind : (m : ℕ) → covers (f + part_slots part) parts fs m ≡ true → slots.foreign m ≡ false → other m ≡ None
     clear_behind m is = clear m (covered_rest end part parts f fs m is)
@@ -144,7 +145,7 @@ module _ (slots : Slots) (events t own other : Timeline)
               let nothing : t at ≡ None = in_front slots events t held end part parts f fs r rs stand same at high low ∙ free_none slots events held at resume.at_is.first in
               let test : (at == at) ≡ true = grind (arith, nat_tests) in
               let here : own at ≡ Some part.first =
-              mine at high ∙ ap (λ u. first_of u (again (part ∷ parts) (r ∷ rs) at)) nothing
+              mine at high ∙ ap (λ u. option_or u (again (part ∷ parts) (r ∷ rs) at)) nothing
               ∙ ap (λ (q : Option ℕ). again (part ∷ parts) (q ∷ rs) at) is ∙ again_at part parts at rs at true test in
               record {
                 at = at;
@@ -182,8 +183,8 @@ module _ (slots : Slots) (events t own other : Timeline)
 
   module _ (end : ℕ) (part : Part) (parts : List Part) (f : ℕ) (fs : List ℕ) (r : Option ℕ) (rs : List (Option ℕ))
       (stand : Stand slots end (part ∷ parts) (f ∷ fs) (r ∷ rs))
-      (same : (n : ℕ) → end ≤ n → t n ≡ first_of (events n) (stands (part_chunks (part ∷ parts)) (f ∷ fs) n))
-      (mine : (n : ℕ) → end ≤ n → own n ≡ first_of (t n) (again (part ∷ parts) (r ∷ rs) n))
+      (same : (n : ℕ) → end ≤ n → t n ≡ option_or (events n) (stands (part_chunks (part ∷ parts)) (f ∷ fs) n))
+      (mine : (n : ℕ) → end ≤ n → own n ≡ option_or (t n) (again (part ∷ parts) (r ∷ rs) n))
       (clear : (m : ℕ) → covers end (part ∷ parts) (f ∷ fs) m ≡ true → slots.foreign m ≡ false → other m ≡ None) where
     behind_next : (former : Option Part) (later : Bool) → part.later ≡ later → IsBehind later former part → BehindUnit end former → IsBehindUnit (f + part_slots part) part
     behind_next former false is begins behind = record {
@@ -213,7 +214,7 @@ module _ (slots : Slots) (events t own other : Timeline)
 
   -- each text unit is led to
   pub led_all : (end : ℕ) (former : Option Part) (parts : List Part) (fs : List ℕ) (rs : List (Option ℕ)) → Stand slots end parts fs rs
-      → ((n : ℕ) → end ≤ n → t n ≡ first_of (events n) (stands (part_chunks parts) fs n)) → ((n : ℕ) → end ≤ n → own n ≡ first_of (t n) (again parts rs n))
+      → ((n : ℕ) → end ≤ n → t n ≡ option_or (events n) (stands (part_chunks parts) fs n)) → ((n : ℕ) → end ≤ n → own n ≡ option_or (t n) (again parts rs n))
       → ((m : ℕ) → covers end parts fs m ≡ true → slots.foreign m ≡ false → other m ≡ None) → AreCues former parts → BehindUnit end former
       → (n : ℕ) (unit : Unit) → stands (part_chunks parts) fs n ≡ Some unit → is_text (code_of unit.pair) ≡ true → IsLedTo own other n
   led_all end former [] fs rs stand same mine clear cues behind n unit is text = cc

@@ -2,6 +2,7 @@
 use Rattle.std.proofs.Common.{◌≡◌, ℕ, suc, ◌+◌, ◌<◌, ◌≤◌, ◌==◌, Bool, true, false, List, [], ◌∷◌, ◌++◌, map, Option, Some, None, All, refl, sym, ap, ◌∙◌, subst, arith, ◌⊎◌, inl, inr, ⊎_elim}
 use Rattle.std.specs.Prelude.{⊤, ◌≢◌, if◌then◌else◌}
 use Rattle.std.specs.List.{AllByRecursion, flat_map}
+use Rattle.std.specs.Option.{option_or}
 use Rattle.std.proofs.lemmas.Bool.{cases_lt}
 use Rattle.std.proofs.lemmas.Bool.Decides.{nat_tests}
 use Rattle.std.proofs.lemmas.List.{map-append}
@@ -41,7 +42,6 @@ use Rattle.line21_author.proofs.SlotSequenceLemmas.{AreInSlots}
 use Rattle.field_lanes.specs.declared.chunk.FieldChunk.{FieldChunk}
 use Rattle.field_lanes.specs.ChannelLane.{field_cue_chunks, channel_chunks_from}
 use Rattle.field_lanes.specs.LaneEvents.{event_at}
-use Rattle.field_lanes.specs.Timeline.{first_of}
 use Rattle.field_lanes.proofs.EventLemmas.{event_none}
 use Rattle.line21_shown.proofs.BlindLemmas.{AreWriting, IsWriting, extended_is, mid_row, preamble, runs_writing, special_is, tab, text}
 use Rattle.resumed_lanes.specs.declared.part.Part.{Part}
@@ -251,17 +251,17 @@ showing_unit f = record { pair = pair_of_code f (first_channel Eoc); doubled = t
 abbrev hiding_unit : FieldNumber → Unit
 hiding_unit f = record { pair = pair_of_code f (first_channel Edm); doubled = true }
 
-event_append : (es fs : List Event) (n : ℕ) → event_at (es ++ fs) n ≡ first_of (event_at es n) (event_at fs n)
+event_append : (es fs : List Event) (n : ℕ) → event_at (es ++ fs) n ≡ option_or (event_at es n) (event_at fs n)
 event_append [] fs n = refl
 event_append (e ∷ es) fs n = by_test (n == e.slot) (event_append es fs n)
   where
-    by_test : (b : Bool) → event_at (es ++ fs) n ≡ first_of (event_at es n) (event_at fs n)
+    by_test : (b : Bool) → event_at (es ++ fs) n ≡ option_or (event_at es n) (event_at fs n)
         → (if b then Some (record { pair = e.pair; doubled = true }) else event_at (es ++ fs) n)
-        ≡ first_of (if b then Some (record { pair = e.pair; doubled = true }) else event_at es n) (event_at fs n)
+        ≡ option_or (if b then Some (record { pair = e.pair; doubled = true }) else event_at es n) (event_at fs n)
     by_test true rest = refl
     by_test false rest = rest
 
-or_else : (u v : Option Unit) (unit : Unit) → first_of u v ≡ Some unit → (u ≡ Some unit) ⊎ (v ≡ Some unit)
+or_else : (u v : Option Unit) (unit : Unit) → option_or u v ≡ Some unit → (u ≡ Some unit) ⊎ (v ≡ Some unit)
 or_else None v unit is = inr is
 or_else (Some w) v unit is = inl is
 

@@ -1,9 +1,10 @@
 -- The pair of a slot that two lanes share.
 use Rattle.std.proofs.Common.{◌≡◌, ◌==◌, ◌&&◌, List, arith, ℕ, zero, suc, Bool, true, false, Option, Some, None, option_map, unwrap_or, refl, sym, ap, ◌∙◌, subst}
+use Rattle.std.specs.Option.{option_or}
 use Rattle.line21_codes.specs.declared.pairs.Pair.{Pair}
 use Rattle.line21_codes.specs.NullPairs.{is_null, null_pair}
 use Rattle.line21_author.specs.declared.unit.Unit.{Unit}
-use Rattle.field_lanes.specs.Timeline.{Timeline, first_of, over, repeat_of, slot}
+use Rattle.field_lanes.specs.Timeline.{Timeline, over, repeat_of, slot}
 use Rattle.std.proofs.lemmas.Bool.Decides.{nat_tests}
 use Rattle.line21_codes.specs.declared.channels.DataChannel.TheVariants as data_channels
 use Rattle.line21_codes.specs.Reading.{code_of}
@@ -17,7 +18,7 @@ use Rattle.shared_field_shown.specs.Overlay.{AreDisjoint, SlotsAreOverlaid, over
 
 -- a slot's pair, by what is due and what begins
 abbrev pair_by : Option Pair → Option Unit → Pair
-pair_by due begins = unwrap_or (first_of due (option_map (λ (unit : Unit). unit.pair) begins)) null_pair
+pair_by due begins = unwrap_or (option_or due (option_map (λ (unit : Unit). unit.pair) begins)) null_pair
 
 -- the repeat that is due comes from a unit
 due_unit : (o : Option Unit) (pair : Pair) → repeat_of o ≡ Some pair → (unit : Unit) × ((o ≡ Some unit) × (unit.pair ≡ pair))
@@ -30,18 +31,18 @@ due_unit (Some unit) pair is = by_doubled unit.doubled refl
 
 module _ (one two : Timeline) (are : AreDisjoint one two) where
   -- what is due in one of them
-  due_over : (m : ℕ) (u : Option Unit) → one m ≡ u → repeat_of (over one two m) ≡ first_of (repeat_of (one m)) (repeat_of (two m))
+  due_over : (m : ℕ) (u : Option Unit) → one m ≡ u → repeat_of (over one two m) ≡ option_or (repeat_of (one m)) (repeat_of (two m))
   due_over m None is = rw is refl
   due_over m (Some unit) is =
       rw (is, are.apart m unit is) (by_none (repeat_of (Some unit)))
     where
-      by_none : (r : Option Pair) → r ≡ first_of r None
+      by_none : (r : Option Pair) → r ≡ option_or r None
       by_none None = refl
       by_none (Some pair) = refl
 
   overlaid : (r q : Option Pair) (u v : Option Unit) → ((pair : Pair) → r ≡ Some pair → is_null pair ≡ false) → ((unit : Unit) → u ≡ Some unit → is_null unit.pair ≡ false)
       → ((pair : Pair) → r ≡ Some pair → (q ≡ None) × (v ≡ None)) → ((pair : Pair) → q ≡ Some pair → u ≡ None) → ((unit : Unit) → u ≡ Some unit → v ≡ None)
-      → pair_by (first_of r q) (first_of u v) ≡ overlay (pair_by r u) (pair_by q v)
+      → pair_by (option_or r q) (option_or u v) ≡ overlay (pair_by r u) (pair_by q v)
   overlaid (Some pair) q u v due_some begins_some due_alone other_due alone = rw (due_some pair refl) refl
   overlaid None (Some pair) None v due_some begins_some due_alone other_due alone = refl
   overlaid None (Some pair) (Some unit) v due_some begins_some due_alone other_due alone = let wrong : Some unit ≡ None = other_due pair refl in absurd (cc)
@@ -63,7 +64,7 @@ module _ (one two : Timeline) (are : AreDisjoint one two) where
 
   at_next : (m : ℕ) → slot (over one two) (suc m) ≡ overlay (slot one (suc m)) (slot two (suc m))
   at_next m =
-      ap (λ r. pair_by r (first_of (one (suc m)) (two (suc m)))) (due_over m (one m) refl)
+      ap (λ r. pair_by r (option_or (one (suc m)) (two (suc m)))) (due_over m (one m) refl)
       ∙ overlaid (repeat_of (one m)) (repeat_of (two m)) (one (suc m)) (two (suc m)) (λ pair is. due_not_null m pair is) (λ unit is. are.some (suc m) unit is)
       (λ pair is. due_alone m pair is) (λ pair is. are.behind_second m pair is) (λ unit is. are.apart (suc m) unit is)
 

@@ -1,6 +1,7 @@
 -- A cue's first unit that comes again while the cue is under way changes nothing.
 use Rattle.std.proofs.Common.{◌≡◌, ℕ, zero, suc, ◌+◌, ◌-◌, ◌<◌, ◌≤◌, ◌||◌, max, Bool, true, false, Option, Some, None, refl, sym, ap, ◌∙◌, subst, arith}
 use Rattle.std.specs.Prelude.{if◌then◌else◌, ◌==◌}
+use Rattle.std.specs.Option.{option_or}
 use Rattle.std.proofs.Math.Path.{fun_ext}
 use Rattle.line21_codes.specs.declared.codes.Code.{Code}
 use Rattle.line21_codes.specs.declared.codes.Code.TheVariants.{Null, Text, Xds, Control}
@@ -23,7 +24,7 @@ use Rattle.line21_screen.specs.Grid.{Grid}
 use Rattle.line21_screen.specs.Pens.{PenState}
 use Rattle.line21_screen.specs.Windows.{IsWithin, in_window, moved}
 use Rattle.line21_screen.proofs.CodeLemmas.{code_of-possible}
-use Rattle.field_lanes.specs.Timeline.{Timeline, first_of, over}
+use Rattle.field_lanes.specs.Timeline.{Timeline, over}
 use Rattle.line21_author.specs.declared.unit.Unit.{Unit}
 use Rattle.line21_shown.specs.Doing.{does}
 use Rattle.line21_shown.specs.Reading.{acts, does_unit}
@@ -241,7 +242,7 @@ module _ (t : Timeline) (r : ℕ) (unit : Unit) (is : IsResumed t r unit) where
   pub idle : does (code_of unit.pair) (acts t r) ≡ acts t r
   idle = opens_again (code_of unit.pair) is.mode (acts t r) is.opens_it (under_at (r - suc is.at) r (omega (arith, is.before)) (omega arith)) (acts_kept t r)
 
-or_nothing : (u : Option Unit) → first_of u None ≡ u
+or_nothing : (u : Option Unit) → option_or u None ≡ u
 or_nothing None = refl
 or_nothing (Some unit) = refl
 
@@ -249,9 +250,9 @@ pub resumes_idle : ResumesChangeNothing
 resumes_idle t resumes are zero = refl
 resumes_idle t resumes are (suc n) = by_resume (resumes_idle t resumes are n) (resumes n) refl
   where
-    by_resume : acts (over t resumes) n ≡ acts t n → (u : Option Unit) → resumes n ≡ u → does_unit (first_of (t n) (resumes n)) (acts (over t resumes) n) ≡ does_unit (t n) (acts t n)
-    by_resume before None at = ap (λ u. does_unit (first_of (t n) u) (acts (over t resumes) n)) at ∙ ap (λ u. does_unit u (acts (over t resumes) n)) (or_nothing (t n)) ∙ ap (does_unit (t n)) before
+    by_resume : acts (over t resumes) n ≡ acts t n → (u : Option Unit) → resumes n ≡ u → does_unit (option_or (t n) (resumes n)) (acts (over t resumes) n) ≡ does_unit (t n) (acts t n)
+    by_resume before None at = ap (λ u. does_unit (option_or (t n) u) (acts (over t resumes) n)) at ∙ ap (λ u. does_unit u (acts (over t resumes) n)) (or_nothing (t n)) ∙ ap (does_unit (t n)) before
     by_resume before (Some unit) at =
         let resumed = are n unit at in
-        ap (λ u. does_unit (first_of u (resumes n)) (acts (over t resumes) n)) resumed.nothing ∙ ap (λ u. does_unit u (acts (over t resumes) n)) at
+        ap (λ u. does_unit (option_or u (resumes n)) (acts (over t resumes) n)) resumed.nothing ∙ ap (λ u. does_unit u (acts (over t resumes) n)) at
         ∙ ap (does (code_of unit.pair)) before ∙ idle t n unit resumed ∙ sym (ap (λ u. does_unit u (acts t n)) resumed.nothing)

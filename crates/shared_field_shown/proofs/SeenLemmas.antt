@@ -2,6 +2,7 @@
 use Rattle.std.proofs.Common.{◌≡◌, ℕ, zero, suc, ◌+◌, ◌==◌, ◌&&◌, ◌||◌, not, is_some, Bool, true, false, List, [], ◌∷◌, ◌++◌, Option, Some, None, All, option_map, refl, sym, ap, ◌∙◌, subst, arith}
 use Rattle.std.specs.Prelude.{if◌then◌else◌}
 use Rattle.std.specs.List.{AllByRecursion}
+use Rattle.std.specs.Option.{option_or}
 use Rattle.std.proofs.lemmas.Bool.Decides.{nat_tests}
 use Rattle.line21_codes.specs.declared.channels.Chan.{Chan}
 use Rattle.line21_codes.specs.declared.channels.DataChannel.TheVariants.{One, Two}
@@ -28,7 +29,7 @@ use Rattle.field_lanes.specs.ChannelLane.{channel_chunks}
 use Rattle.field_lanes.specs.FieldLane.{end_of, field_lane}
 use Rattle.field_lanes.specs.LaneEvents.{IsFree, event_at}
 use Rattle.field_lanes.specs.LaneTimeline.{lane_timeline, stands}
-use Rattle.field_lanes.specs.Timeline.{Timeline, first_of, slot}
+use Rattle.field_lanes.specs.Timeline.{Timeline, slot}
 use Rattle.field_lanes.proofs.FieldLaneLemmas.{end_push}
 use Rattle.line21_shown.specs.Doing.{does}
 use Rattle.line21_shown.specs.Reading.{acts, does_unit, pairs_before}
@@ -156,13 +157,13 @@ module _ (f : FieldNumber) where
       by_test true rest = refl
       by_test false rest = rest
 
-  first_second : (u v : Option Unit) → first_of (option_map (second_unit f) u) (option_map (second_unit f) v) ≡ option_map (second_unit f) (first_of u v)
+  first_second : (u v : Option Unit) → option_or (option_map (second_unit f) u) (option_map (second_unit f) v) ≡ option_map (second_unit f) (option_or u v)
   first_second None v = refl
   first_second (Some u) v = refl
 
   plain_second : (events : Timeline) (parts : List Part) (fs : List ℕ) (n : ℕ) → plain_timeline (second_timeline f events) (second_parts f parts) fs n ≡ second_timeline f (plain_timeline events parts fs) n
   plain_second events parts fs n =
-      ap (first_of (second_timeline f events n)) (stands_second parts fs n) ∙ first_second (events n) (stands (part_chunks parts) fs n)
+      ap (option_or (second_timeline f events n)) (stands_second parts fs n) ∙ first_second (events n) (stands (part_chunks parts) fs n)
 
   -- the second list's lane
   behind_second : (later : Bool) (former : Option Part) (part : Part) → IsOfChannel One part.chunk.unit → IsOfChannel One part.first → IsBehind later former part
@@ -233,9 +234,9 @@ module _ (f : FieldNumber) where
     plain_own fs n unit is = by_event (events n) refl
       where
         by_event : (u : Option Unit) → events n ≡ u → IsOfChannel One unit
-        by_event None at = stands_own parts fs n unit listed.parts_own (sym (ap (λ u. first_of u (stands (part_chunks parts) fs n)) at) ∙ is)
+        by_event None at = stands_own parts fs n unit listed.parts_own (sym (ap (λ u. option_or u (stands (part_chunks parts) fs n)) at) ∙ is)
         by_event (Some w) at =
-            let it : Some w ≡ Some unit = sym (ap (λ u. first_of u (stands (part_chunks parts) fs n)) at) ∙ is in
+            let it : Some w ≡ Some unit = sym (ap (λ u. option_or u (stands (part_chunks parts) fs n)) at) ∙ is in
             let same : w ≡ unit = cc in subst (IsOfChannel One) same (listed.events_own n w at)
 
   -- where units stand in the second lane, those of the first channel stand in a lane of their own
@@ -357,7 +358,7 @@ module _ (of_list : Chan) (slots : ℕ) (cues others : List Cue) (fs gs : List �
       (back (field_of_channel of_list) (second_slots (first_events of_list cues) (second_events of_list others) (in_spans (channel_parts of_list cues) fs)) 0 (channel_parts of_list others) gs qs are.beside))
 
   plain_is : (all : List Cue) (hs : List ℕ) (n : ℕ) → plain_timeline (first_events of_list all) (channel_parts of_list all) hs n ≡ lane_timeline (channel_events of_list all) (channel_chunks of_list all) hs n
-  plain_is all hs n = ap (λ (l : List FieldChunk). first_of (event_at (channel_events of_list all) n) (stands l hs n)) (channel_chunks_from_back of_list 1 all)
+  plain_is all hs n = ap (λ (l : List FieldChunk). option_or (event_at (channel_events of_list all) n) (stands l hs n)) (channel_chunks_from_back of_list 1 all)
 
   acts_same : (t u : Timeline) → ((n : ℕ) → t n ≡ u n) → (n : ℕ) → acts t n ≡ acts u n
   acts_same t u same zero = refl

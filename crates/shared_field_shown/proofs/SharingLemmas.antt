@@ -1,6 +1,7 @@
 -- Two timelines in one field: each channel gets its own.
 use Rattle.std.proofs.Common.{◌≡◌, ℕ, zero, suc, ◌+◌, ◌-◌, ◌<◌, Bool, true, false, Option, Some, None, refl, sym, ap, ◌∙◌, subst, arith}
 use Rattle.std.specs.Prelude.{if◌then◌else◌}
+use Rattle.std.specs.Option.{option_or}
 use Rattle.line21_codes.specs.declared.channels.FieldNumber.{FieldNumber}
 use Rattle.line21_codes.specs.declared.channels.DataChannel.{DataChannel}
 use Rattle.line21_codes.specs.declared.channels.DataChannel.TheVariants.{One, Two}
@@ -10,7 +11,7 @@ use Rattle.line21_codes.specs.Reading.{code_of}
 use Rattle.line21_screen.specs.Channels.{ChannelState}
 use Rattle.line21_screen.specs.Fields.{FieldState, after_code, after_text, on_channel}
 use Rattle.shared_field_shown.specs.Own.{is_same, own_unit, reaches}
-use Rattle.field_lanes.specs.Timeline.{Timeline, first_of, over}
+use Rattle.field_lanes.specs.Timeline.{Timeline, over}
 use Rattle.line21_author.specs.declared.unit.Unit.{Unit}
 use Rattle.line21_shown.specs.Reading.{after_unit, field_acts}
 use Rattle.shared_field_shown.specs.Sharing.{AreFor, AreShared, EachGetsOwn, IsFor, SharedAreOwn, is_text}
@@ -87,7 +88,7 @@ module _ (f : FieldNumber) (t : Timeline) (c : DataChannel) (own : Timeline) (ar
       (subst (IsOn c) (sym (ap (λ u. after_unit f u (field_acts f t at)) here)) (on_control f c (code_of unit.pair) (field_acts f t at) (are at unit own_at) control))
       same
 
-or_nothing : {T : Type 0} (u : Option T) → first_of u None ≡ u
+or_nothing : {T : Type 0} (u : Option T) → option_or u None ≡ u
 or_nothing None = refl
 or_nothing (Some x) = refl
 
@@ -97,10 +98,10 @@ module _ (f : FieldNumber) (one two : Timeline) (are : AreShared one two) where
 
   -- where one of them has nothing, the other stands alone
   one_alone : (m : ℕ) → two m ≡ None → t m ≡ one m
-  one_alone m none = ap (first_of (one m)) none ∙ or_nothing (one m)
+  one_alone m none = ap (option_or (one m)) none ∙ or_nothing (one m)
 
   two_alone : (m : ℕ) → one m ≡ None → t m ≡ two m
-  two_alone m none = ap (λ u. first_of u (two m)) none
+  two_alone m none = ap (λ u. option_or u (two m)) none
 
   apart_too : (n : ℕ) (unit : Unit) → two n ≡ Some unit → one n ≡ None
   apart_too n unit is = by_one (one n) refl

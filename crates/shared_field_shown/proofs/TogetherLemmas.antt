@@ -1,5 +1,6 @@
 -- Two lanes in one field: each channel gets its own.
 use Rattle.std.proofs.Common.{◌≡◌, ℕ, zero, suc, ◌+◌, ◌<◌, ◌≤◌, ◌==◌, ◌&&◌, ◌||◌, not, is_some, Bool, true, false, List, [], ◌∷◌, Option, Some, None, refl, sym, ap, ◌∙◌, subst, arith, ◌⊎◌, inl, inr, ⊎_elim}
+use Rattle.std.specs.Option.{option_or}
 use Rattle.std.proofs.lemmas.Bool.{cases_lt}
 use Rattle.std.proofs.lemmas.Bool.Decides.{nat_tests}
 use Rattle.line21_codes.specs.declared.channels.FieldNumber.{FieldNumber}
@@ -12,7 +13,7 @@ use Rattle.line21_author.specs.declared.unit.Unit.{Unit}
 use Rattle.line21_screen.specs.Fields.{channel}
 use Rattle.field_lanes.specs.LaneTimeline.{stands}
 use Rattle.field_lanes.specs.DoubledPairs.{IsDoubled}
-use Rattle.field_lanes.specs.Timeline.{Timeline, column, first_of, over, repeat_at, repeat_of}
+use Rattle.field_lanes.specs.Timeline.{Timeline, column, over, repeat_at, repeat_of}
 use Rattle.field_lanes.proofs.ColumnLemmas.{column_doubled}
 use Rattle.line21_shown.specs.Reading.{acts, does_unit, IsMarked}
 use Rattle.resumed_lanes.specs.Parts.{BeginWithFirst, part_slots}
@@ -174,12 +175,12 @@ abbrev Source : Slots → (ℕ → Bool) → Timeline → ℕ → Unit → Type 
 Source slots spans events n unit =
     (events n ≡ Some unit) ⊎ (IsInside slots spans n × (unit.doubled ≡ true → IsInside slots spans (suc n)))
 
-or_else : (u v : Option Unit) (unit : Unit) → first_of u v ≡ Some unit → (u ≡ Some unit) ⊎ ((u ≡ None) × (v ≡ Some unit))
+or_else : (u v : Option Unit) (unit : Unit) → option_or u v ≡ Some unit → (u ≡ Some unit) ⊎ ((u ≡ None) × (v ≡ Some unit))
 or_else None v unit is = inr (refl, is)
 or_else (Some w) v unit is = inl is
 
-none_both : (u v : Option Unit) → u ≡ None → v ≡ None → first_of u v ≡ None
-none_both u v a b = ap (λ x. first_of x v) a ∙ b
+none_both : (u v : Option Unit) → u ≡ None → v ≡ None → option_or u v ≡ None
+none_both u v a b = ap (λ x. option_or x v) a ∙ b
 
 nothing_is : (u : Option Unit) → ((unit : Unit) → u ≡ Some unit → ⊥) → u ≡ None
 nothing_is None never = refl
@@ -549,7 +550,7 @@ pub record AreApartLanes (t1 t2 : Timeline) : Type 0 where
   pub behind_second : (n : ℕ) (pair : Pair) → repeat_of (t2 n) ≡ Some pair → t1 (suc n) ≡ None
   pub own : AreFor One t1
 
-none_second : (u v : Option Unit) → first_of u v ≡ None → (u ≡ None) × (v ≡ None)
+none_second : (u v : Option Unit) → option_or u v ≡ None → (u ≡ None) × (v ≡ None)
 none_second None v is = (refl, is)
 none_second (Some w) v is = cc
 

@@ -1,5 +1,6 @@
 -- The codes of captions that leave slots free.
 use Rattle.std.proofs.Common.{◌≡◌, ℕ, zero, suc, Bool, true, false, Option, Some, None, option_map, unwrap_or, refl, sym, ap, ◌∙◌, subst}
+use Rattle.std.specs.Option.{option_or}
 use Rattle.line21_codes.proofs.CodeLemmas.{is_control-code_of}
 use Rattle.line21_codes.specs.NullPairs.{null_pair}
 use Rattle.line21_codes.specs.Reading.{code_of}
@@ -11,7 +12,7 @@ use Rattle.line21_codes.specs.declared.pairs.Pair.{Pair}
 use Rattle.line21_author.specs.declared.unit.Unit.{Unit}
 use Rattle.line21_shown.proofs.ReadingLemmas.{null_code}
 use Rattle.line21_shown.specs.Reading.{IsMarked}
-use Rattle.field_lanes.specs.Timeline.{Timeline, first_of, repeat_at, repeat_of, slot}
+use Rattle.field_lanes.specs.Timeline.{Timeline, repeat_at, repeat_of, slot}
 use Rattle.shared_field_shown.specs.Sharing.{IsFor, is_text}
 use Rattle.xds_beside_captions.specs.Beside.{CaptionsAreBeside, caption_codes}
 use Rattle.xds_beside_captions.specs.PacketTimeline.{LeaveFree}
@@ -19,7 +20,7 @@ use Rattle.xds_packets.specs.Carried.{IsCaption, IsControlCode, IsLed, IsTextCod
 
 -- a slot's pair, by what is due and what begins
 abbrev pair_by : Option Pair → Option Unit → Pair
-pair_by due begins = unwrap_or (first_of due (option_map (λ (unit : Unit). unit.pair) begins)) null_pair
+pair_by due begins = unwrap_or (option_or due (option_map (λ (unit : Unit). unit.pair) begins)) null_pair
 
 -- a repeat comes from a doubled unit
 pub due_unit : (o : Option Unit) (pair : Pair) → repeat_of o ≡ Some pair → (unit : Unit) × ((o ≡ Some unit) × ((unit.pair ≡ pair) × (unit.doubled ≡ true)))

@@ -1,6 +1,7 @@
 -- The captions of CC3 leave the free slots of field 2.
 use Rattle.std.proofs.Common.{◌≡◌, ℕ, suc, ◌+◌, ◌<◌, ◌≤◌, ◌==◌, ◌&&◌, ◌||◌, not, nat_le, nat_lt, Bool, true, false, List, [], ◌∷◌, ◌++◌, Option, Some, None, refl, sym, ap, ◌∙◌, subst, arith, ⊎_elim, eqb, le-leb, lt-ltb, map}
 use Rattle.std.specs.Prelude.{if◌then◌else◌, ⊤}
+use Rattle.std.specs.Option.{option_or}
 use Rattle.std.proofs.lemmas.Bool.{cases_lt}
 use Rattle.std.proofs.lemmas.Bool.Decides.{nat_tests}
 use Rattle.cue_lists.specs.declared.cue.Cue.{Cue}
@@ -24,7 +25,7 @@ use Rattle.field_lanes.specs.FieldLane.{IsAllowedInField, end_of, field_lane}
 use Rattle.field_lanes.specs.LaneEvents.{event_at}
 use Rattle.field_lanes.specs.LaneTimeline.{lane_timeline, stands}
 use Rattle.frame_scheduler.specs.SlotLists.{slot_cues, slots_in_list}
-use Rattle.field_lanes.specs.Timeline.{Timeline, first_of, repeat_of, slot}
+use Rattle.field_lanes.specs.Timeline.{Timeline, repeat_of, slot}
 use Rattle.field_lanes.proofs.DoublingLemmas.{at_unit, free_none, over_cases, unit_begins}
 use Rattle.field_lanes.proofs.EventLemmas.{some_slot}
 use Rattle.field_lanes.proofs.FieldLaneLemmas.{end_push}
@@ -217,7 +218,7 @@ module _ (events : List Event) (parts : List Part) (fs : List ℕ) (free : ℕ �
   stood n u is =
       let b = (unit_begins events [] (part_chunks parts) fs n u placed is).0 in
       let size = some_slot n b.chunk in
-      ap (λ e. first_of e (stands (part_chunks parts) fs n)) (free_none events n (b.allowed.free n (omega arith) size)) ∙ is
+      ap (λ e. option_or e (stands (part_chunks parts) fs n)) (free_none events n (b.allowed.free n (omega arith) size)) ∙ is
 
   leaves_free : LeaveFree t free
   leaves_free = record {

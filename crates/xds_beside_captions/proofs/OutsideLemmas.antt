@@ -1,5 +1,6 @@
 -- Extended data beside captions.
 use Rattle.std.proofs.Common.{◌≡◌, ℕ, zero, suc, ◌+◌, ◌-◌, ◌<◌, true, false, Option, Some, None, refl, sym, ap, ◌∙◌, subst, arith}
+use Rattle.std.specs.Option.{option_or}
 use Rattle.line21_codes.specs.declared.channels.DataChannel.TheVariants.{One, Two}
 use Rattle.line21_codes.specs.declared.channels.FieldNumber.TheVariants as fields
 use Rattle.line21_codes.specs.declared.codes.Code.{Code}
@@ -11,7 +12,7 @@ use Rattle.line21_author.specs.declared.unit.Unit.{Unit}
 use Rattle.line21_codes.specs.declared.channels.DataChannel.{DataChannel}
 use Rattle.line21_screen.specs.Channels.{new_channel}
 use Rattle.line21_screen.specs.Fields.{FieldState, after_code, channel}
-use Rattle.field_lanes.specs.Timeline.{Timeline, first_of, over, repeat_of}
+use Rattle.field_lanes.specs.Timeline.{Timeline, over, repeat_of}
 use Rattle.line21_shown.specs.Reading.{acts, does_unit}
 use Rattle.xds_beside_captions.specs.Outside.{AreOutside, DataChangeNothing, IsData, begins}
 use Rattle.shared_field_shown.specs.Own.{own_of, reaches}
@@ -42,7 +43,7 @@ text_data (Text first second) s is on = rw on refl
 text_data (Xds first second) s is on = cc
 text_data (Control second control) s is on = cc
 
-or_nothing : (u : Option Unit) → first_of u None ≡ u
+or_nothing : (u : Option Unit) → option_or u None ≡ u
 or_nothing None = refl
 or_nothing (Some x) = refl
 
@@ -51,10 +52,10 @@ module _ (captions data_of : Timeline) (are : AreOutside captions data_of) where
   t = over captions data_of
 
   captions_alone : (m : ℕ) → data_of m ≡ None → t m ≡ captions m
-  captions_alone m none = ap (first_of (captions m)) none ∙ or_nothing (captions m)
+  captions_alone m none = ap (option_or (captions m)) none ∙ or_nothing (captions m)
 
   data_alone : (m : ℕ) → captions m ≡ None → t m ≡ data_of m
-  data_alone m none = ap (λ u. first_of u (data_of m)) none
+  data_alone m none = ap (λ u. option_or u (data_of m)) none
 
   no_captions : (n : ℕ) (unit : Unit) → data_of n ≡ Some unit → captions n ≡ None
   no_captions n unit is = by_caption (captions n) refl
@@ -114,14 +115,14 @@ module _ (captions data_of : Timeline) (are : AreOutside captions data_of) where
       let there : data_of n ≡ Some unit = sym (data_alone n at) ∙ is in
       are.plain_pair n unit there ∙ sym (are.single n unit there)
   marked_at n unit is (Some other) at =
-      let it : Some other ≡ Some unit = sym (ap (λ u. first_of u (data_of n)) at) ∙ is in
+      let it : Some other ≡ Some unit = sym (ap (λ u. option_or u (data_of n)) at) ∙ is in
       let same : other ≡ unit = cc in
       are.marked.marked n unit (at ∙ ap Some same)
 
   spaced_at : (n : ℕ) (pair : Pair) → repeat_of (t n) ≡ Some pair → (u : Option Unit) → captions n ≡ u → (v : Option Unit) → data_of n ≡ v → t (suc n) ≡ None
   spaced_at n pair due (Some unit) at v second =
-      let due_now : repeat_of (captions n) ≡ Some pair = ap repeat_of (at ∙ sym (ap (λ u. first_of u (data_of n)) at)) ∙ due in
-      ap (λ u. first_of u (data_of (suc n))) (are.marked.spaced n pair due_now) ∙ are.behind n pair due_now
+      let due_now : repeat_of (captions n) ≡ Some pair = ap repeat_of (at ∙ sym (ap (λ u. option_or u (data_of n)) at)) ∙ due in
+      ap (λ u. option_or u (data_of (suc n))) (are.marked.spaced n pair due_now) ∙ are.behind n pair due_now
   spaced_at n pair due None at (Some unit) second =
       absurd (repeat_single n unit pair (are.single n unit second) (ap repeat_of (sym (data_alone n at ∙ second)) ∙ due))
   spaced_at n pair due None at None second =

@@ -1,6 +1,7 @@
 -- The frames of a cue list with packets in the slots that its captions leave free.
 use Rattle.std.proofs.Common.{◌≡◌, ℕ, zero, suc, Bool, List, [], ◌∷◌, ◌++◌, length, map, reverse, Option, Some, None, option_map, option_to_list, unwrap_or, refl, sym, ap, ◌∙◌, subst}
 use Rattle.std.specs.Prelude.{All, IfSome, is_some}
+use Rattle.std.specs.Option.{option_or}
 use Rattle.std.proofs.lemmas.List.{map-append}
 use Rattle.cue_lists.specs.Listing.{Listing}
 use Rattle.cue_lists.specs.declared.lane.Lane.TheVariants.{Channel, Service}
@@ -32,7 +33,7 @@ use Rattle.frame_scheduler.specs.Columns.{first_pairs, pair_in}
 use Rattle.field_lanes.specs.DoubledPairs.{IsDoubled}
 use Rattle.frame_scheduler.specs.Planned.{Placement, columns_of}
 use Rattle.frame_scheduler.specs.SlotLists.{slot_cues, slots_in_list}
-use Rattle.field_lanes.specs.Timeline.{Timeline, column, first_of, over, repeat_at, repeat_of, slot}
+use Rattle.field_lanes.specs.Timeline.{Timeline, column, over, repeat_at, repeat_of, slot}
 use Rattle.field_lanes.proofs.ColumnLemmas.{column_doubled}
 use Rattle.field_lanes.proofs.DoublingLemmas.{lane_ended}
 use Rattle.frame_scheduler.proofs.ListDoublingLemmas.{channel_ended, columns_doubled, field_two_is, pairs_column}
@@ -59,9 +60,9 @@ use Rattle.xds_packets.specs.Sending.{Listed, code_or, codes_to, packets_left, u
 
 -- a slot's pair, by what is due and what begins
 abbrev pair_by : Option Pair → Option Unit → Pair
-pair_by due begins = unwrap_or (first_of due (option_map (λ (unit : Unit). unit.pair) begins)) null_pair
+pair_by due begins = unwrap_or (option_or due (option_map (λ (unit : Unit). unit.pair) begins)) null_pair
 
-or_nothing : (u : Option Unit) → first_of u None ≡ u
+or_nothing : (u : Option Unit) → option_or u None ≡ u
 or_nothing None = refl
 or_nothing (Some x) = refl
 
@@ -91,12 +92,12 @@ module _ (captions : Timeline) (free : ℕ → Bool) (frame_of : ℕ → ℕ) (l
   pair_given : (n : ℕ) (given : Option Code) → given_at free frame_of listed n ≡ given → slot (over captions packets) n ≡ laid given (slot captions n)
   pair_given n None is =
       ap (λ r. pair_by r (over captions packets n)) (due_same n)
-      ∙ ap (λ o. pair_by (repeat_at captions n) (first_of (captions n) (option_map packet_unit o))) is
+      ∙ ap (λ o. pair_by (repeat_at captions n) (option_or (captions n) (option_map packet_unit o))) is
       ∙ ap (λ u. pair_by (repeat_at captions n) u) (or_nothing (captions n))
   pair_given n (Some code) is =
       let here = given_free captions free frame_of listed leave are n code is in
       ap (λ r. pair_by r (over captions packets n)) (due_same n ∙ none_due_in captions free leave n here)
-      ∙ ap (λ u. pair_by None (first_of u (packets n))) (leave.nothing n here)
+      ∙ ap (λ u. pair_by None (option_or u (packets n))) (leave.nothing n here)
       ∙ ap (λ o. pair_by None (option_map packet_unit o)) is
 
   -- and its code
