@@ -13,6 +13,7 @@ use Rattle.cdp_packets.specs.PacketTriplets.{packet_triplets}
 use Rattle.cue_types.specs.Lane.{channel_number}
 use Rattle.cue_types.specs.Listing.{Listing}
 use Rattle.dtvcc_services.specs.Numbers.{IsLowest, IsService}
+use Rattle.findings.specs.First.{IsFirstTried}
 use Rattle.findings.specs.declared.finding.Kind45.{Kind45}
 use Rattle.findings.specs.declared.finding.Kind45.TheVariants as kind
 use Rattle.findings.specs.declared.finding.Which.TheVariants as which
@@ -22,7 +23,7 @@ use Rattle.screen_checks.specs.Channels.{IsFirstOther}
 use Rattle.screen_checks.specs.Differing.{ShowsOtherWindow}
 use Rattle.screen_checks.specs.Services.{IsFirstOtherService}
 use Rattle.words_files.specs.Received.{received_grids}
-use Rattle.cc_verifier.specs.Findings.{AreClean, FirstFinding, IsClean, IsFirstFound, IsFound, Jumps, Miscounts, Tried, place_of}
+use Rattle.cc_verifier.specs.Findings.{AreClean, FirstFinding, IsClean, IsFound, Jumps, Miscounts, Tried, place_of}
 use Rattle.cc_verifier.specs.Verifiers.{IsLastCounter}
 
 -- a list with an item isn't empty
@@ -69,7 +70,7 @@ clean_more list earlier last clean now = λ e l later split. elim (split_last ea
 
 -- what is found at the last of frames is their first finding, where nothing is found before
 pub first_of_last : (list : Listing) (earlier : List Frame) (last : Frame) (frame : ℕ) (found : Kind45) → AreClean list earlier
-    → IsFirstFound list earlier last found → frame ≡ length earlier → FirstFinding list (earlier ++ last ∷ []) (record { frame = frame; kind = found })
+    → IsFirstTried (IsFound list earlier last) place_of found → frame ≡ length earlier → FirstFinding list (earlier ++ last ∷ []) (record { frame = frame; kind = found })
 first_of_last list earlier last frame found clean first is =
     record { earlier = earlier; last = last; later = []; split = refl; frame_is = is; clean = clean; first = first }
 
@@ -109,7 +110,7 @@ number_to chan.Cc4 = omega arith
 -- what is found first of what a packet says
 pub jump_first : (list : Listing) (earlier : List Frame) (last : Frame) (expected seen : ℕ) → Jumps earlier last expected seen
     → Tried 1 list earlier last (Some (kind.CounterJump expected seen))
-jump_first list earlier last expected seen jump = record { is = jump; first = λ other found. omega arith }
+jump_first list earlier last expected seen jump = record { holds = jump; first = λ other found. omega arith }
 
 -- the counter goes on
 pub tried_one : (list : Listing) (earlier : List Frame) (last : Frame) → ((e s : ℕ) → Jumps earlier last e s → ⊥) → Tried 1 list earlier last None
@@ -124,8 +125,8 @@ tried_one list earlier last no_jump kind.EightBits found = absurd found
 
 -- a first finding of what was tried before a place stays one
 pub count_first : (list : Listing) (earlier : List Frame) (last : Frame) (expected seen : ℕ) → Tried 1 list earlier last None
-    → Miscounts last expected seen → IsFirstFound list earlier last (kind.WrongCount expected seen)
-count_first list earlier last expected seen tried counts = record { is = counts; first = tried }
+    → Miscounts last expected seen → IsFirstTried (IsFound list earlier last) place_of (kind.WrongCount expected seen)
+count_first list earlier last expected seen tried counts = record { holds = counts; first = tried }
 
 pub tried_two : (list : Listing) (earlier : List Frame) (last : Frame) → Tried 1 list earlier last None → length (packet_triplets last) ≡ triplets_in_frame last.rate
     → Tried 2 list earlier last None
@@ -139,8 +140,8 @@ tried_two list earlier last tried same (kind.TwoPairs n) found = absurd found
 tried_two list earlier last tried same kind.EightBits found = absurd found
 
 pub rate_first : (list : Listing) (earlier : List Frame) (last : Frame) (expected seen : Rate) → Tried 2 list earlier last None → expected ≡ list.rate
-    → seen ≡ last.rate → seen ≢ expected → IsFirstFound list earlier last (kind.WrongRate expected seen)
-rate_first list earlier last expected seen tried own is other = record { is = (own, is, other); first = tried }
+    → seen ≡ last.rate → seen ≢ expected → IsFirstTried (IsFound list earlier last) place_of (kind.WrongRate expected seen)
+rate_first list earlier last expected seen tried own is other = record { holds = (own, is, other); first = tried }
 
 -- the code's test of rates
 pub Decides-rate : (a b : Rate) → Decides (sameb the_type a b) (a ≡ b)
@@ -158,8 +159,8 @@ tried_three list earlier last tried rate kind.EightBits found = absurd found
 
 -- the lowest service whose buffer was filled
 pub filled_first : (list : Listing) (earlier : List Frame) (last : Frame) (service : ℕ) → Tried 3 list earlier last None
-    → IsLowest (fills_in earlier last) (Some service) → IsFirstFound list earlier last (kind.BufferFull service)
-filled_first list earlier last service tried lowest = record { is = (lowest.is, lowest.holds); first = first }
+    → IsLowest (fills_in earlier last) (Some service) → IsFirstTried (IsFound list earlier last) place_of (kind.BufferFull service)
+filled_first list earlier last service tried lowest = record { holds = (lowest.is, lowest.holds); first = first }
   where
     none_lower : (other : ℕ) → IsService other → fills_in earlier last other ≡ true → service ≤ other
     none_lower other is fills = elim (cases_lt other service) [
@@ -191,8 +192,8 @@ tried_buffers list earlier last tried none kind.EightBits found = absurd found
 -- the first channel that shows another grid
 pub screen_first : (list : Listing) (earlier : List Frame) (last : Frame) (channel : Chan) → Tried 66 list earlier last None
     → IsFirstOther list.cues (length earlier) (received_grids (earlier ++ last ∷ [])) (Some channel)
-    → IsFirstFound list earlier last (kind.GridDiffers (which.Chan channel))
-screen_first list earlier last channel tried is = record { is = is.shows; first = first }
+    → IsFirstTried (IsFound list earlier last) place_of (kind.GridDiffers (which.Chan channel))
+screen_first list earlier last channel tried is = record { holds = is.shows; first = first }
   where
     first : (other : Kind45) → IsFound list earlier last other → 65 + channel_number channel ≤ place_of other
     first (kind.CounterJump e s) found = let h : 66 ≤ 0 = tried (kind.CounterJump e s) found in absurd (omega arith)
@@ -218,8 +219,8 @@ tried_screens list earlier last tried none kind.EightBits found = absurd found
 -- the first service of which a window is seen otherwise
 pub service_first : (list : Listing) (earlier : List Frame) (last : Frame) (service : ℕ) → Tried 70 list earlier last None
     → IsFirstOtherService list.cues (length earlier) (received_windows (earlier ++ last ∷ [])) (Some service)
-    → IsFirstFound list earlier last (kind.GridDiffers (which.Service service))
-service_first list earlier last service tried is = record { is = (is.is, is.shows); first = first }
+    → IsFirstTried (IsFound list earlier last) place_of (kind.GridDiffers (which.Service service))
+service_first list earlier last service tried is = record { holds = (is.is, is.shows); first = first }
   where
     none_lower : (other : ℕ) → IsService other → ShowsOtherWindow list.cues (length earlier) (received_windows (earlier ++ last ∷ [])) other → service ≤ other
     none_lower other number shows = elim (cases_lt other service) [

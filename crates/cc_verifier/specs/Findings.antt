@@ -9,6 +9,7 @@ use Rattle.cdp_packets.specs.PacketTriplets.{packet_triplets}
 use Rattle.cue_types.specs.Lane.{channel_number}
 use Rattle.cue_types.specs.Listing.{Listing}
 use Rattle.dtvcc_services.specs.Numbers.{IsService}
+use Rattle.findings.specs.First.{IsFirstTried}
 use Rattle.findings.specs.declared.finding.Finding.{Finding}
 use Rattle.findings.specs.declared.finding.Kind45.{Kind45}
 use Rattle.findings.specs.declared.finding.Kind45.TheVariants as kind
@@ -55,11 +56,6 @@ place_of (kind.GridDiffers (which.Service service)) = 69 + service
 place_of (kind.TwoPairs seen) = 133
 place_of kind.EightBits = 134
 
--- it is found at the frame, and nothing that is tried sooner is
-pub record IsFirstFound (list : Listing) (earlier : List Frame) (last : Frame) (found : Kind45) : Type 0 where
-  pub is : IsFound list earlier last found
-  pub first : (other : Kind45) → IsFound list earlier last other → place_of found ≤ place_of other
-
 -- nothing is found at a frame, and nothing at any of some frames
 abbrev pub IsClean : Listing → List Frame → Frame → Type 0
 IsClean list earlier last = (found : Kind45) → IsFound list earlier last found → ⊥
@@ -75,9 +71,9 @@ pub record FirstFinding (list : Listing) (frames : List Frame) (finding : Findin
   pub split : frames ≡ earlier ++ last ∷ later
   pub frame_is : finding.frame ≡ length earlier
   pub clean : AreClean list earlier
-  pub first : IsFirstFound list earlier last finding.kind
+  pub first : IsFirstTried (IsFound list earlier last) place_of finding.kind
 
 -- what is found first of what is tried before a place in the order, or that none of it is found
 abbrev pub Tried : ℕ → Listing → List Frame → Frame → Option Kind45 → Type 0
 Tried place list earlier last None = (other : Kind45) → IsFound list earlier last other → place ≤ place_of other
-Tried place list earlier last (Some found) = IsFirstFound list earlier last found
+Tried place list earlier last (Some found) = IsFirstTried (IsFound list earlier last) place_of found

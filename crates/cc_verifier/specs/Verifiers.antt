@@ -8,6 +8,7 @@ use Rattle.cc_receiver.specs.Receivers.{HasReceived, frame_count}
 use Rattle.cc_receiver.specs.declared.receiver.Fed.{Fed}
 use Rattle.cdp_packets.specs.Packets.{Frame}
 use Rattle.cue_types.specs.Listing.{Listing}
+use Rattle.findings.specs.First.{IsFirstTried}
 use Rattle.findings.specs.declared.finding.Finding.{Finding}
 use Rattle.findings.specs.declared.finding.Kind45.{Kind45}
 use Rattle.line21_codes.specs.declared.channels.Chan.{Chan}
@@ -20,7 +21,7 @@ use Rattle.words_files.specs.FramesOf.{AreFramesOf}
 use Rattle.words_files.specs.Offences.{IsFileUnder, IsMalformed}
 use Rattle.words_files.specs.Received.{received_grids}
 use Rattle.services_files.specs.CaptionChannel.{caption_channel}
-use Rattle.cc_verifier.specs.Findings.{AreClean, FirstFinding, IsClean, IsFirstFound}
+use Rattle.cc_verifier.specs.Findings.{AreClean, FirstFinding, IsClean, IsFound, place_of}
 use Rattle.cc_verifier.specs.declared.verifier.Verdict.{Verdict}
 use Rattle.cc_verifier.specs.declared.verifier.Verdict.TheVariants as verdict
 use Rattle.cc_verifier.specs.declared.verifier.Verifier.{Verifier}
@@ -94,7 +95,7 @@ abbrev pub Finds : Listing → List Frame → Frame → Verifier → Option Kind
 Finds list earlier last verifier None =
     IsClean list earlier last
     × KnowsAt (length earlier) (received_grids (earlier ++ last ∷ [])) (received_windows (earlier ++ last ∷ [])) verifier
-Finds list earlier last verifier (Some found) = IsFirstFound list earlier last found
+Finds list earlier last verifier (Some found) = IsFirstTried (IsFound list earlier last) place_of found
 
 -- a frame more was judged
 pub record HasJudgedFrame (list : Listing) (earlier : List Frame) (last : Frame) (verifier : Verifier) : Type 0 where

@@ -1,40 +1,13 @@
 -- Commands that read their input to its end and judge it before they put anything.
-use Rattle.std.proofs.Common.{◌≡◌, ◌∙◌, ◌⊎◌, ◌<◌, ◌+◌, ℕ, List, length, length-append, Option, Some, None, Result, Ok, Err, ap, arith, inl, inr, refl, subst, sym}
+use Rattle.std.proofs.Common.{◌≡◌, ◌∙◌, ◌<◌, ◌+◌, ℕ, List, length, length-append, Option, Some, None, Result, Ok, Err, ap, arith, subst, sym}
 use Rattle.std.proofs.lemmas.List.{nil_from_length}
 use Rattle.std.specs.Prelude.{IfSome}
-use Rattle.std.specs.Io.KnownBytes.{Consumes, Keeps}
+use Rattle.std.specs.Io.KnownBytes.{Consumes}
 use Rattle.cc_base.specs.declared.limit_of.LimitOf.TheVariants as limit
-use Rattle.command_base.proofs.CountLemmas.{read_told, steady_told, write_told}
-use Rattle.command_base.specs.Counts.{IsReadOf, TellsFaults}
-use Rattle.command_base.specs.Ends.{Ends, ends}
 use Rattle.cc_base.specs.Streams.{whole_limit}
-use Rattle.command_base.specs.WholeInput.{IsReadToEnd, IsRefusal, IsTooLong, JudgesInput, Putting, ReadsInput, WholeAnswer}
+use Rattle.command_base.specs.WholeInput.{IsReadToEnd, IsRefusal, IsTooLong, JudgesInput, ReadsInput}
 use Rattle.command_base.specs.declared.status.Status.{Status}
 use Rattle.command_base.specs.declared.status.Status.TheVariants as status
-
--- nothing was put where nothing changed
-keeps_same : (w : Option (List ℕ)) → Keeps w w
-keeps_same None = tt
-keeps_same (Some xs) = refl
-
--- what isn't read is answered so, and nothing was put
-pub read_refused : {A : Type 0} (Whole Front : Putting) (Is : List ℕ → A → Type 0) (Refused : List ℕ → Status → Type 0)
-    (left now_left written : Option (List ℕ)) (before now faults : ℕ) (s : Status)
-    → ReadsInput Is Refused left now_left before now (Err s) → WholeAnswer Whole Front Refused (ends left before written faults) (ends now_left now written faults) s
-read_refused Whole Front Is Refused left now_left written before now faults status.Ok h = absurd h
-read_refused Whole Front Is Refused left now_left written before now faults status.Usage h = absurd h
-read_refused Whole Front Is Refused left now_left written before now faults status.ReadFault h = (h.0, h.1, (refl, keeps_same written))
-read_refused Whole Front Is Refused left now_left written before now faults status.WriteFault h = absurd h
-read_refused Whole Front Is Refused left now_left written before now faults status.Memory h = (h, (refl, keeps_same written))
-read_refused Whole Front Is Refused left now_left written before now faults (status.Limit which) h = (h.0, (refl, keeps_same written), h.1)
-read_refused Whole Front Is Refused left now_left written before now faults (status.Malformed place why) h = (h.0, (refl, keeps_same written), h.1)
-read_refused Whole Front Is Refused left now_left written before now faults (status.Rule fault) h = (h.0, (refl, keeps_same written), h.1)
-read_refused Whole Front Is Refused left now_left written before now faults (status.NoRoom cue) h = (h.0, (refl, keeps_same written), h.1)
-read_refused Whole Front Is Refused left now_left written before now faults (status.NoRoomBeside cue) h = (h.0, (refl, keeps_same written), h.1)
-read_refused Whole Front Is Refused left now_left written before now faults (status.NoXdsRoom packet) h = (h.0, (refl, keeps_same written), h.1)
-read_refused Whole Front Is Refused left now_left written before now faults (status.Misfit misfit) h = (h.0, (refl, keeps_same written), h.1)
-read_refused Whole Front Is Refused left now_left written before now faults (status.Differs finding) h = (h.0, (refl, keeps_same written), h.1)
-read_refused Whole Front Is Refused left now_left written before now faults (status.Short frames) h = (h.0, (refl, keeps_same written), h.1)
 
 -- where all bytes that were left were taken, none is left
 pub read_to_end : (left now_left : Option (List ℕ)) (bytes : List ℕ) → IfSome left (λ all. bytes ≡ all) → Consumes left now_left bytes → IsReadToEnd left now_left
@@ -111,72 +84,3 @@ unread Is Refused long left now_left before now (status.NoXdsRoom packet) h = (h
 unread Is Refused long left now_left before now (status.Misfit misfit) h = (h.0, too_long Refused long left (status.Misfit misfit) h.1)
 unread Is Refused long left now_left before now (status.Differs finding) h = (h.0, too_long Refused long left (status.Differs finding) h.1)
 unread Is Refused long left now_left before now (status.Short frames) h = (h.0, too_long Refused long left (status.Short frames) h.1)
-
--- all was put, or memory was wanted, or the bytes are refused so
-abbrev pub IsAnswered : Putting → (List ℕ → Status → Type 0) → List ℕ → Ends → Ends → Status → Type 0
-IsAnswered Whole Refused bytes old new answer =
-    ((answer ≡ status.Ok) × Whole bytes old.written new.written) ⊎ (answer ≡ status.Memory) ⊎ Refused bytes answer
-
--- a fact of what was left is one of the bytes
-of_bytes : (P : List ℕ → Type 0) (bytes : List ℕ) (old new : Ends) → IsReadOf bytes old new → IfSome old.left P → P bytes
-of_bytes P bytes old new read fact = subst (λ l. IfSome l P) read.left fact
-
-pub answered : (Whole Front : Putting) (Refused : List ℕ → Status → Type 0) (bytes : List ℕ) (old new : Ends) (answer : Status)
-    → IsReadOf bytes old new → WholeAnswer Whole Front Refused old new answer → IsAnswered Whole Refused bytes old new answer
-answered Whole Front Refused bytes old new status.Ok read answer =
-    inl (refl, of_bytes (λ all. Whole all old.written new.written) bytes old new read answer.3)
-answered Whole Front Refused bytes old new status.Memory read answer = inr (inl refl)
-answered Whole Front Refused bytes old new status.Usage read answer = absurd answer
-answered Whole Front Refused bytes old new status.ReadFault read answer = absurd (read.reads answer.0)
-answered Whole Front Refused bytes old new status.WriteFault read answer = absurd (read.writes answer.1)
-answered Whole Front Refused bytes old new (status.Limit which) read answer =
-    inr (inr (of_bytes (λ all. Refused all (status.Limit which)) bytes old new read answer.2))
-answered Whole Front Refused bytes old new (status.Malformed place why) read answer =
-    inr (inr (of_bytes (λ all. Refused all (status.Malformed place why)) bytes old new read answer.2))
-answered Whole Front Refused bytes old new (status.Rule fault) read answer =
-    inr (inr (of_bytes (λ all. Refused all (status.Rule fault)) bytes old new read answer.2))
-answered Whole Front Refused bytes old new (status.NoRoom cue) read answer =
-    inr (inr (of_bytes (λ all. Refused all (status.NoRoom cue)) bytes old new read answer.2))
-answered Whole Front Refused bytes old new (status.NoRoomBeside cue) read answer =
-    inr (inr (of_bytes (λ all. Refused all (status.NoRoomBeside cue)) bytes old new read answer.2))
-answered Whole Front Refused bytes old new (status.NoXdsRoom packet) read answer =
-    inr (inr (of_bytes (λ all. Refused all (status.NoXdsRoom packet)) bytes old new read answer.2))
-answered Whole Front Refused bytes old new (status.Misfit misfit) read answer =
-    inr (inr (of_bytes (λ all. Refused all (status.Misfit misfit)) bytes old new read answer.2))
-answered Whole Front Refused bytes old new (status.Differs finding) read answer =
-    inr (inr (of_bytes (λ all. Refused all (status.Differs finding)) bytes old new read answer.2))
-answered Whole Front Refused bytes old new (status.Short frames) read answer =
-    inr (inr (of_bytes (λ all. Refused all (status.Short frames)) bytes old new read answer.2))
-
--- bytes that are refused with no status are answered Ok, or want of memory
-pub unrefused : (Whole : Putting) (Refused : List ℕ → Status → Type 0) (bytes : List ℕ) (old new : Ends) (answer : Status)
-    → ((refusal : Status) → Refused bytes refusal → ⊥) → IsAnswered Whole Refused bytes old new answer → (answer ≡ status.Ok) ⊎ (answer ≡ status.Memory)
-unrefused Whole Refused bytes old new answer never (inl done) = inl done.0
-unrefused Whole Refused bytes old new answer never (inr (inl memory)) = inr memory
-unrefused Whole Refused bytes old new answer never (inr (inr refused)) = absurd (never answer refused)
-
--- those that are refused with one status are answered with it, or want of memory
-pub refused : (Whole : Putting) (Refused : List ℕ → Status → Type 0) (bytes : List ℕ) (refusal : Status) (old new : Ends) (answer : Status)
-    → (Whole bytes old.written new.written → ⊥) → ((other : Status) → Refused bytes other → other ≡ refusal)
-    → IsAnswered Whole Refused bytes old new answer → (answer ≡ refusal) ⊎ (answer ≡ status.Memory)
-refused Whole Refused bytes refusal old new answer never one (inl done) = absurd (never done.1)
-refused Whole Refused bytes refusal old new answer never one (inr (inl memory)) = inr memory
-refused Whole Refused bytes refusal old new answer never one (inr (inr other)) = inl (one answer other)
-
--- a count of faults that is greater than before
-pub told : (Whole Front : Putting) (Refused : List ℕ → Status → Type 0) (old new : Ends) (answer : Status)
-    → WholeAnswer Whole Front Refused old new answer → TellsFaults old new answer
-told Whole Front Refused old new status.Ok answer = steady_told old new status.Ok answer.0 answer.1
-told Whole Front Refused old new status.Usage answer = absurd answer
-told Whole Front Refused old new status.ReadFault answer = read_told old new answer.2.0
-told Whole Front Refused old new status.WriteFault answer = write_told old new answer.0
-told Whole Front Refused old new status.Memory answer = steady_told old new status.Memory answer.0 answer.1.0
-told Whole Front Refused old new (status.Limit which) answer = steady_told old new _ answer.0 answer.1.0
-told Whole Front Refused old new (status.Malformed place why) answer = steady_told old new _ answer.0 answer.1.0
-told Whole Front Refused old new (status.Rule fault) answer = steady_told old new _ answer.0 answer.1.0
-told Whole Front Refused old new (status.NoRoom cue) answer = steady_told old new _ answer.0 answer.1.0
-told Whole Front Refused old new (status.NoRoomBeside cue) answer = steady_told old new _ answer.0 answer.1.0
-told Whole Front Refused old new (status.NoXdsRoom packet) answer = steady_told old new _ answer.0 answer.1.0
-told Whole Front Refused old new (status.Misfit misfit) answer = steady_told old new _ answer.0 answer.1.0
-told Whole Front Refused old new (status.Differs finding) answer = steady_told old new _ answer.0 answer.1.0
-told Whole Front Refused old new (status.Short count) answer = steady_told old new _ answer.0 answer.1.0

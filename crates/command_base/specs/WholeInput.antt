@@ -1,10 +1,8 @@
 -- Believed in part: the program's answer stands on some of these definitions.
--- Commands that read their input to its end and judge it before they put anything: how bytes are judged, how an input is read, and
--- what such a command answers, each status with its cause and with what was put.
+-- Commands that read their input to its end and judge it before they put anything: how bytes are judged, and how an input is read.
 use Rattle.std.specs.Prelude.{◌≡◌, ◌<◌, ℕ, List, [], length, IfSome, Option, Some, Result, Ok, Err, ⊤}
 use Rattle.cc_base.specs.Streams.{Rose, TakesWithin, whole_limit}
 use Rattle.cc_base.specs.declared.limit_of.LimitOf.TheVariants as limit
-use Rattle.command_base.specs.Ends.{Ends, PutsNothing}
 use Rattle.command_base.specs.declared.status.Status.{Status}
 use Rattle.command_base.specs.declared.status.Status.TheVariants as status
 
@@ -31,26 +29,6 @@ ReadsInput Is Refused old new before now (Err refusal) = (now ≡ before) × IfS
 -- the bytes are too many, and that is the answer
 abbrev pub IsTooLong : List ℕ → Status → Type 0
 IsTooLong bytes answer = (answer ≡ status.Limit limit.Bytes) × (whole_limit < length bytes)
-
--- what is said of the bytes of an input and of what was put for them
-abbrev pub Putting : Type 1
-Putting = List ℕ → Option (List ℕ) → Option (List ℕ) → Type 0
-
--- what such a command answers: on Ok the input was read to its end and the whole of the output was put, where a put failed a front of
--- it, and what is refused is refused so
-abbrev pub WholeAnswer : Putting → Putting → (List ℕ → Status → Type 0) → Ends → Ends → Status → Type 0
-WholeAnswer Whole Front Refused old new status.Ok =
-    (new.read_faults ≡ old.read_faults) × (new.write_faults ≡ old.write_faults) × IsReadToEnd old.left new.left
-    × IfSome old.left (λ bytes. Whole bytes old.written new.written)
-WholeAnswer Whole Front Refused old new status.Usage = ⊥
-WholeAnswer Whole Front Refused old new status.ReadFault =
-    Rose old.read_faults new.read_faults × TakesWithin whole_limit old.left new.left × PutsNothing old new
-WholeAnswer Whole Front Refused old new status.WriteFault =
-    (new.read_faults ≡ old.read_faults) × Rose old.write_faults new.write_faults
-    × IfSome old.left (λ bytes. Front bytes old.written new.written)
-WholeAnswer Whole Front Refused old new status.Memory = (new.read_faults ≡ old.read_faults) × PutsNothing old new
-WholeAnswer Whole Front Refused old new refusal =
-    (new.read_faults ≡ old.read_faults) × PutsNothing old new × IfSome old.left (λ bytes. Refused bytes refusal)
 
 -- a status with which bytes can be refused
 abbrev pub IsRefusal : Status → Type 0

@@ -21,7 +21,7 @@ use Rattle.words_files.specs.FramesOf.{AreFramesOf}
 use Rattle.words_files.specs.Offences.{IsFileUnder}
 use Rattle.std.specs.Io.KnownBytes.{Appends}
 use Rattle.words_reading.proofs.EarlyLemmas.{file_answers, file_told, long_answers, malformed_answers, unless}
-use Rattle.words_reading.proofs.FrontLemmas.{TwoFronts, behind_it, before_it, same, two_fronts}
+use Rattle.words_files.proofs.FrontLemmas.{TwoFronts, behind_it, before_it, same, two_fronts}
 use Rattle.words_reading.proofs.KnownLemmas.{file_of, known_frames, known_judged, known_whole, long_front, refused_behind, within_passes}
 use Rattle.words_reading.specs.Answers.{StopsEarlyAs, StopsOwn}
 use Rattle.words_reading.specs.Causes.{IsRefusedWith, IsWholeFile, words_limit}
@@ -48,7 +48,7 @@ ok_converted bytes old new known answered =
 
 -- frames with a misfit among them aren't all fit
 not_fit : (frames behind : List Frame) (last : Frame) (found : Misfit) → IsMisfitAt frames last found → AreFit ((frames ++ last ∷ []) ++ behind) → ⊥
-not_fit frames behind last found is fit = fit_none frames last found.kind (fit_among [] frames last behind fit) is.1.holds
+not_fit frames behind last found is fit = fit_none frames last found.kind (fit_among frames last behind fit) is.1.holds
 
 -- no conversion of bytes whose frames are all fit stops at a frame
 own_halts : (bytes : List ℕ) (all : List Frame) (old new : Ends) (answer : Status) → AreFramesOf caption_channel all bytes → AreFit all

@@ -37,7 +37,7 @@ use Rattle.convert_commands.specs.declared.converting.Unfit.{Unfit}
 never_unfit : (frames : List Frame) (found : Misfit) → AreFit frames → HasMisfit frames found → ⊥
 never_unfit frames found fit has =
     let split : frames ≡ (has.earlier ++ has.last ∷ []) ++ [] = has.split ∙ sym (append-nil (has.earlier ++ has.last ∷ [])) in
-    fit_none has.earlier has.last found.kind (fit_among [] has.earlier has.last [] (subst AreFit split fit)) has.is.1.holds
+    fit_none has.earlier has.last found.kind (fit_among has.earlier has.last [] (subst AreFit split fit)) has.is.1.holds
 
 stands_none : (m : Option Misfit) (frames : List Frame) (halver : Halver) → AreFit frames → StandsBehind m frames halver → m ≡ None
 stands_none None frames halver fit stands = refl

@@ -24,7 +24,7 @@ use Rattle.halved_frames.proofs.ConvertedLemmas.{converted_halves}
 use Rattle.line21_codes.specs.declared.channels.FieldNumber.{FieldNumber}
 use Rattle.line21_codes.specs.declared.pairs.Pair.{Pair}
 use Rattle.rate_convert.specs.Grids.{KeepsGrids}
-use Rattle.rate_convert.specs.Misfits.{AreFitBehind}
+use Rattle.rate_convert.specs.Misfits.{IsFit}
 use Rattle.rate_convert.proofs.FitLemmas.{channels_kept}
 use Rattle.services_shown.specs.PlacedServices.{AreServicesPlaced}
 use Rattle.services_shown.specs.ServicesCarried.{AreWithin}
@@ -96,22 +96,18 @@ kept_behind list placed formed ruled is short front more whole all =
           ∙ ap (λ (fs : List Frame). received_windows fs service id) same;
     }
 
-fit_behind : (list : Listing) (placed : Placement) → IsFormed list → IsRuled list → AreServicesPlaced list placed → HasShortDelays list → (earlier frames : List Frame)
-    → column_packets list.rate (columns_of list placed) 0 list.frames ≡ earlier ++ frames → All IsConvertible (earlier ++ frames) → AreFitBehind earlier frames
-fit_behind list placed formed ruled is short earlier [] split all = tt
-fit_behind list placed formed ruled is short earlier (frame ∷ frames) split all =
+one_fit : (list : Listing) (placed : Placement) → IsFormed list → IsRuled list → AreServicesPlaced list placed → HasShortDelays list
+    → (earlier : List Frame) (frame : Frame) (later : List Frame) → column_packets list.rate (columns_of list placed) 0 list.frames ≡ earlier ++ frame ∷ later
+    → All IsConvertible (earlier ++ frame ∷ later) → IsFit earlier frame
+one_fit list placed formed ruled is short earlier frame later split all =
     let front : List Frame = earlier ++ frame ∷ [] in
-    let joined = append_assoc earlier (frame ∷ []) frames in
-    let whole = split ∙ sym joined in
-    let rest = subst (All IsConvertible) (sym joined) all in (
-      record {
-        convertible = one_of earlier frame frames all;
-        keeps = kept_behind list placed formed ruled is short front frames whole (front_all front frames rest);
-      },
-      fit_behind list placed formed ruled is short front frames whole rest,
-    )
+    let joined = append_assoc earlier (frame ∷ []) later in
+    record {
+      convertible = one_of earlier frame later all;
+      keeps = kept_behind list placed formed ruled is short front later (split ∙ sym joined) (front_all front later (subst (All IsConvertible) (sym joined) all));
+    }
 
 pub lists_fit : ListsAreFit
-lists_fit list placed formed ruled is short sound =
-    fit_behind list placed formed ruled is short [] (column_packets list.rate (columns_of list placed) 0 list.frames) refl
-    (frames_convertible list.rate (columns_of list placed) list.frames short.rate sound.carried sound.within 0 list.frames)
+lists_fit list placed formed ruled is short sound = λ earlier frame later split.
+    one_fit list placed formed ruled is short earlier frame later split
+    (subst (All IsConvertible) split (frames_convertible list.rate (columns_of list placed) list.frames short.rate sound.carried sound.within 0 list.frames))

@@ -24,7 +24,7 @@ use Rattle.placements.specs.Placing.{IsPlaced}
 use Rattle.service_lanes.specs.Chunks.{ServiceChunk}
 use Rattle.service_lanes.specs.ServiceBytes.{bytes_in, loads_at}
 use Rattle.service_lanes.specs.ServiceChunks.{service_chunks}
-use Rattle.service_lanes.specs.ServiceLane.{service_lane}
+use Rattle.service_lanes.specs.ServiceLane.{IsAllowedInService}
 use Rattle.service_lanes.specs.ServiceRoom.{caption_lane, frame_room}
 use Rattle.service_lanes.proofs.DelayLemmas.{all_uncovered, delay_some, delay_test}
 use Rattle.dtvcc_shown.specs.CaptionLanes.{lane_of, plain_events}
@@ -205,7 +205,7 @@ captions_placed rate share service frames cues placed formed kept is =
     record {
       sound = captions_sound rate frames cs [] kept;
       plain = units_plain rate service cues formed;
-      placed = subst (λ (ends : ℕ → Option ℕ). IsPlaced (service_lane (frame_room share cs) ends) [] (service_chunks rate service cues) placed) (ends_are rate cs) is;
+      placed = subst (λ (ends : ℕ → Option ℕ). IsPlaced (IsAllowedInService (frame_room share cs) ends) [] (service_chunks rate service cues) placed) (ends_are rate cs) is;
     }
 
 pub lane_sound : (rate : Rate) (share service frames : ℕ) (cues : List Cue) (placed : List ℕ) → All IsCueFormed cues

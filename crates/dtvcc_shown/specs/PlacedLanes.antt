@@ -4,7 +4,7 @@ use Rattle.std.specs.Prelude.{ℕ, List, [], All, Option, option_map}
 use Rattle.service_lanes.specs.Chunks.{ServiceChunk}
 use Rattle.placements.specs.Placing.{IsPlaced}
 use Rattle.service_lanes.specs.ServiceBytes.{loads_at}
-use Rattle.service_lanes.specs.ServiceLane.{service_lane}
+use Rattle.service_lanes.specs.ServiceLane.{IsAllowedInService}
 use Rattle.dtvcc_author.specs.declared.frame_events.Delay.{Delay}
 use Rattle.dtvcc_shown.specs.ServiceLanes.{Lane}
 use Rattle.dtvcc_shown.specs.Soundness.{ArePlain, IsSoundLane}
@@ -24,4 +24,4 @@ delay_ends lane start = option_map (λ (delay : Delay). delay.ends) (lane.delay 
 pub record IsPlacedLane (lane : Lane) (room : ℕ → ℕ) (chunks : List ServiceChunk) (frames : List ℕ) : Type 0 where
   pub sound : IsSoundLane (unloaded lane)
   pub plain : All (λ chunk. ArePlain chunk.unit) chunks
-  pub placed : IsPlaced (service_lane room (delay_ends lane)) [] chunks frames
+  pub placed : IsPlaced (IsAllowedInService room (delay_ends lane)) [] chunks frames

@@ -10,7 +10,7 @@ use Rattle.field_lanes.specs.LaneEvents.{event_at}
 use Rattle.frame_scheduler.specs.Planned.{authored_channel}
 use Rattle.frame_scheduler.specs.SlotLists.{slot_cues}
 use Rattle.resumed_lanes.specs.FieldSlots.{holds}
-use Rattle.field_clashes.specs.CueEvents.{numbered_events}
+use Rattle.field_clashes.specs.CueEvents.{events_from}
 use Rattle.field_clashes.specs.declared.clash.Clash.{Clash}
 use Rattle.field_clashes.specs.declared.cue_event.CueEvent.{CueEvent}
 
@@ -27,7 +27,7 @@ pub record IsClash (firsts seconds : List CueEvent) (second first : ℕ) : Type 
 
 -- the events of a list on a channel
 abbrev pub list_events : Listing → Chan → List CueEvent
-list_events list channel = numbered_events channel (slot_cues list channel)
+list_events list channel = events_from channel 1 (slot_cues list channel)
 
 -- so it is in either field
 abbrev pub IsFieldClash : Listing → Listing → ℕ → ℕ → Type 0

@@ -25,10 +25,6 @@ events_from channel number [] = []
 events_from channel number (cue ∷ later) =
     (if is_on channel cue.kind then numbered number (own_events channel cue later) else []) ++ events_from channel (suc number) later
 
--- in the order of the cues, which are numbered from 1
-abbrev pub numbered_events : Chan → List Cue → List CueEvent
-numbered_events channel cues = events_from channel 1 cues
-
 -- the slots in which events begin
 abbrev pub slots_of : List CueEvent → List ℕ
 slots_of events = map (λ event. event.slot) events
@@ -38,7 +34,7 @@ event_slots events = map (λ event. event.slot) events
 
 -- they are the channel's events
 abbrev pub EventsAreThoseOfTheChannel : Type 0
-EventsAreThoseOfTheChannel = (channel : Chan) (cues : List Cue) → slots_of (numbered_events channel cues) ≡ event_slots (channel_events channel cues)
+EventsAreThoseOfTheChannel = (channel : Chan) (cues : List Cue) → slots_of (events_from channel 1 cues) ≡ event_slots (channel_events channel cues)
 
 -- each slot is this one or a later one
 abbrev pub BeginFrom : ℕ → List ℕ → Type 0

@@ -3,7 +3,7 @@ ghost use Rattle.cue_lists.specs.Listing.{most_cues};
 ghost use Rattle.line21_author.specs.Channels.{cues_on};
 ghost use Rattle.line21_author.specs.CueEvents.{is_replaced_at};
 ghost use Rattle.line21_author.specs.CueSlots.{cues_in_slots, timed_in_slots};
-ghost use Rattle.field_clashes.specs.CueEvents.{numbered, numbered_events, own_events};
+ghost use Rattle.field_clashes.specs.CueEvents.{numbered, events_from, own_events};
 
 use cue_lists::Cue;
 use cue_lists::lane::is_pop;
@@ -38,7 +38,7 @@ pub fn cue_events(
 ) -> Result<Vec<CueEvent>, AllocError>
     requires { length cues.now ≤ most_cues }
     ensures { IfOk result (λ events. events.items
-        ≡ numbered_events channel (cues_in_slots cadence cues.now)) }
+        ≡ events_from channel 1 (cues_in_slots cadence cues.now)) }
 {
     let mut events = Vec::new(alloc);
     for (index, cue) in cues.iter().enumerate() {

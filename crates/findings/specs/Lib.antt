@@ -1,2 +1,3 @@
 pub mod Findings
 pub mod Misfits
+pub mod First

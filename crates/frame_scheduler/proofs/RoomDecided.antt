@@ -25,7 +25,7 @@ use Rattle.cue_lists.specs.declared.lane.Lane.{Lane}
 use Rattle.dtvcc_author.specs.FrameEvents.{delay_end}
 use Rattle.placements.specs.declared.planning.PlanFault.TheVariants.{NoRoom}
 use Rattle.service_lanes.specs.ServiceChunks.{service_chunk_cue}
-use Rattle.service_lanes.specs.ServiceLane.{AreUpTo, chunk_size, most_in_delay, service_lane, used}
+use Rattle.service_lanes.specs.ServiceLane.{AreUpTo, chunk_size, most_in_delay, IsAllowedInService, used}
 use Rattle.service_lanes.specs.ServiceRoom.{frame_room}
 use Rattle.service_lanes.specs.Chunks.{ServiceChunk}
 use Rattle.service_lanes.proofs.ChunkOrderLemmas.{chunks_in_order}
@@ -215,7 +215,7 @@ delays_decided ends before chunk frame (suc n) = at (ends n) refl (delays_decide
 
 -- whether a unit may stand in a frame of a service's lane
 chunk_decided : (room : ℕ → ℕ) (ends : ℕ → Option ℕ) (before : List (ServiceChunk × ℕ)) (chunk : ServiceChunk) (frame : ℕ)
-    → Decided (service_lane room ends before chunk frame)
+    → Decided (IsAllowedInService room ends before chunk frame)
 chunk_decided room ends before chunk frame =
     elim (up_to_decided frame before) [
       | inr denied ↦ inr (λ allowed. denied allowed.order)
@@ -240,9 +240,9 @@ chunk_decided room ends before chunk frame =
       ]
     ]
 
-chunk_first : (room : ℕ → ℕ) (ends : ℕ → Option ℕ) (before : List (ServiceChunk × ℕ)) (chunk : ServiceChunk) → HasFirst (service_lane room ends before chunk)
+chunk_first : (room : ℕ → ℕ) (ends : ℕ → Option ℕ) (before : List (ServiceChunk × ℕ)) (chunk : ServiceChunk) → HasFirst (IsAllowedInService room ends before chunk)
 chunk_first room ends before chunk =
-    first_from (service_lane room ends before chunk) (chunk_decided room ends before chunk) (suc chunk.until) 0 (λ other allowed. omega arith)
+    first_from (IsAllowedInService room ends before chunk) (chunk_decided room ends before chunk) (suc chunk.until) 0 (λ other allowed. omega arith)
     (λ other allowed. let ended = allowed.ended in omega arith)
 
 -- a service's units have an earliest placement, or a first cue without room

@@ -1,6 +1,6 @@
 -- Frames that can be converted are cut in halves, of ten triplets each.
 use Rattle.std.proofs.Common.{◌≡◌, ℕ, suc, ◌+◌, ◌-◌, ◌*◌, ◌<◌, ◌≤◌, ◌==◌, Bool, true, false, List, [], ◌∷◌, ◌++◌, All, append-nil, drop, length, length-append, length-drop, replicate, take, refl, sym, ap, ◌∙◌, arith}
-use Rattle.std.specs.Prelude.{if◌then◌else◌}
+use Rattle.std.specs.Prelude.{if◌then◌else◌, get_or}
 use Rattle.std.specs.List.{flat_map}
 use Rattle.std.proofs.lemmas.List.{length-replicate, length-take}
 use Rattle.std.proofs.lemmas.List.Elements.{All-append, All-cons, All-drop, All-filter, All-head, All-nil, All-replicate, All-tail, All-take}
@@ -14,7 +14,7 @@ use Rattle.channel_packets.specs.ChannelPackets.{channel_triplets, continues_pac
 use Rattle.line21_codes.specs.declared.channels.FieldNumber.TheVariants.{One, Two}
 use Rattle.words_files.specs.CarriedWords.{triplets_packet}
 use Rattle.words_files.specs.Received.{field_pairs}
-use Rattle.halved_frames.specs.Conversion.{IsConvertible, conversion_from, first_half, first_half_of, first_or_filler, is_of, of_field, second_half, second_half_of, ten_triplets}
+use Rattle.halved_frames.specs.Conversion.{IsConvertible, conversion_from, first_half, first_half_of, is_of, of_field, second_half, second_half_of, ten_triplets}
 use Rattle.halved_frames.specs.ConvertedFrames.{ConvertedAreHalves, HalvesHaveTen}
 use Rattle.halved_frames.specs.HalvedFrames.{AllHalves, AreHalves}
 use Rattle.halved_frames.proofs.CutLemmas.{triplets_cut}
@@ -45,13 +45,13 @@ sections_kinds (section ∷ sections) =
     All-append IsKind (section_triplets section) (flat_map section_triplets sections) (section_kinds section) (sections_kinds sections)
 
 -- what holds of the triplets of a frame, and of a filler, holds of those of its halves
-first_all : (P : Triplet → Type 0) → P filler → (ts : List Triplet) → All P ts → P (first_or_filler ts)
+first_all : (P : Triplet → Type 0) → P filler → (ts : List Triplet) → All P ts → P (get_or ts 0 filler)
 first_all P fill [] all = fill
 first_all P fill (t ∷ ts) all = All-head P t ts all
 
 ten_all : (P : Triplet → Type 0) → P filler → (field channel : List Triplet) → All P field → All P channel → All P (ten_triplets field channel)
 ten_all P fill field channel one more =
-    All-cons P (first_or_filler field) (channel ++ replicate (9 - length channel) filler) (first_all P fill field one)
+    All-cons P (get_or field 0 filler) (channel ++ replicate (9 - length channel) filler) (first_all P fill field one)
     (All-append P channel (replicate (9 - length channel) filler) more (All-replicate P (9 - length channel) filler fill))
 
 channel_all : (P : Triplet → Type 0) (ts : List Triplet) → All P ts → All P (channel_triplets ts)

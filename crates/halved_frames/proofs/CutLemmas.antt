@@ -1,6 +1,6 @@
 -- The triplets of a frame's halves.
 use Rattle.std.proofs.Common.{◌≡◌, ℕ, zero, suc, ◌-◌, ◌≤◌, ◌==◌, ◌&&◌, ◌||◌, Bool, true, false, List, [], ◌∷◌, ◌++◌, append-nil, drop, length, replicate, take, take-append-drop, refl, sym, ap, ◌∙◌, arith}
-use Rattle.std.specs.Prelude.{⊤, if◌then◌else◌}
+use Rattle.std.specs.Prelude.{⊤, if◌then◌else◌, get_or}
 use Rattle.std.proofs.lemmas.Bool.Decides.{nat_tests}
 use Rattle.std.proofs.lemmas.List.Elements.{filter-append}
 use Rattle.cc_data.specs.Triplets.{filler}
@@ -10,7 +10,7 @@ use Rattle.line21_codes.specs.declared.channels.FieldNumber.{FieldNumber}
 use Rattle.line21_codes.specs.declared.channels.FieldNumber.TheVariants.{One, Two}
 use Rattle.line21_codes.specs.declared.pairs.Pair.{Pair}
 use Rattle.words_files.specs.Received.{field_kind, field_pair, field_pairs}
-use Rattle.halved_frames.specs.Conversion.{first_or_filler, is_of, of_field}
+use Rattle.halved_frames.specs.Conversion.{is_of, of_field}
 use Rattle.halved_frames.specs.ConvertedFrames.{TripletsAreCut}
 
 abbrev is_service : Triplet → Bool
@@ -67,12 +67,12 @@ few_kinds : (f : FieldNumber) → field_kind f ≤ 1
 few_kinds One = omega arith
 few_kinds Two = omega arith
 
-first_is : (f : FieldNumber) (ts : List Triplet) → is_service (first_or_filler (of_field f ts)) ≡ false
+first_is : (f : FieldNumber) (ts : List Triplet) → is_service (get_or (of_field f ts) 0 filler) ≡ false
 first_is f [] = refl
 first_is f (t ∷ ts) = by_test (is_of f t) refl (first_is f ts)
   where
-    by_test : (b : Bool) → is_of f t ≡ b → is_service (first_or_filler (of_field f ts)) ≡ false
-        → is_service (first_or_filler (if b then t ∷ of_field f ts else of_field f ts)) ≡ false
+    by_test : (b : Bool) → is_of f t ≡ b → is_service (get_or (of_field f ts) 0 filler) ≡ false
+        → is_service (get_or (if b then t ∷ of_field f ts else of_field f ts) 0 filler) ≡ false
     by_test true is rest = not_service t.valid t.kind (field_kind f) (few_kinds f) is
     by_test false is rest = rest
 
@@ -121,7 +121,7 @@ own_pairs f (t ∷ ts) = by_test (is_of f t) refl (own_pairs f ts)
     by_test false is rest = rest
 
 -- at most one of them is the first, or there is none
-only_pairs : (f : FieldNumber) (ts : List Triplet) → length ts ≤ 1 → field_pairs f ts ≡ field_pair f (first_or_filler ts)
+only_pairs : (f : FieldNumber) (ts : List Triplet) → length ts ≤ 1 → field_pairs f ts ≡ field_pair f (get_or ts 0 filler)
 only_pairs f [] few = refl
 only_pairs f (t ∷ []) few = append-nil (field_pair f t)
 only_pairs f (t ∷ (u ∷ ts)) few = absurd (omega arith)
@@ -131,21 +131,21 @@ other_kind : (v : Bool) (k n m : ℕ) → n ≤ 1 → m ≤ 1 → (n == m) ≡ f
 other_kind true k n m few low other is = grind (arith, nat_tests)
 other_kind false k n m few low other is = refl
 
-other_pairs : (f g : FieldNumber) (ts : List Triplet) → (field_kind g == field_kind f) ≡ false → field_pair f (first_or_filler (of_field g ts)) ≡ []
+other_pairs : (f g : FieldNumber) (ts : List Triplet) → (field_kind g == field_kind f) ≡ false → field_pair f (get_or (of_field g ts) 0 filler) ≡ []
 other_pairs f g [] other = refl
 other_pairs f g (t ∷ ts) other = by_test (is_of g t) refl (other_pairs f g ts other)
   where
-    by_test : (b : Bool) → is_of g t ≡ b → field_pair f (first_or_filler (of_field g ts)) ≡ []
-        → field_pair f (first_or_filler (if b then t ∷ of_field g ts else of_field g ts)) ≡ []
+    by_test : (b : Bool) → is_of g t ≡ b → field_pair f (get_or (of_field g ts) 0 filler) ≡ []
+        → field_pair f (get_or (if b then t ∷ of_field g ts else of_field g ts) 0 filler) ≡ []
     by_test true is rest = rw (other_kind t.valid t.kind (field_kind g) (field_kind f) (few_kinds g) (few_kinds f) other is) refl
     by_test false is rest = rest
 
 -- the halves with any number of fillers
 abbrev first_with : List Triplet → ℕ → List Triplet
-first_with triplets fillers = first_or_filler (of_field One triplets) ∷ (take 9 (channel_triplets triplets) ++ replicate fillers filler)
+first_with triplets fillers = get_or (of_field One triplets) 0 filler ∷ (take 9 (channel_triplets triplets) ++ replicate fillers filler)
 
 abbrev second_with : List Triplet → ℕ → List Triplet
-second_with triplets fillers = first_or_filler (of_field Two triplets) ∷ (drop 9 (channel_triplets triplets) ++ replicate fillers filler)
+second_with triplets fillers = get_or (of_field Two triplets) 0 filler ∷ (drop 9 (channel_triplets triplets) ++ replicate fillers filler)
 
 record AreCutWith (triplets : List Triplet) (j k : ℕ) : Type 0 where
   channel : channel_triplets triplets ≡ channel_triplets (first_with triplets j) ++ channel_triplets (second_with triplets k)
@@ -155,8 +155,8 @@ record AreCutWith (triplets : List Triplet) (j k : ℕ) : Type 0 where
 cut_with : (triplets : List Triplet) (j k : ℕ) → AreCutWith triplets j k
 cut_with ts j k = record {
   channel =
-      sym (ap (λ (l : List Triplet). l ++ channel_triplets (second_with ts k)) (half_service (first_or_filler (of_field One ts)) (take 9 (channel_triplets ts)) j (first_is One ts) one)
-      ∙ ap (λ (l : List Triplet). take 9 (channel_triplets ts) ++ l) (half_service (first_or_filler (of_field Two ts)) (drop 9 (channel_triplets ts)) k (first_is Two ts) two)
+      sym (ap (λ (l : List Triplet). l ++ channel_triplets (second_with ts k)) (half_service (get_or (of_field One ts) 0 filler) (take 9 (channel_triplets ts)) j (first_is One ts) one)
+      ∙ ap (λ (l : List Triplet). take 9 (channel_triplets ts) ++ l) (half_service (get_or (of_field Two ts) 0 filler) (drop 9 (channel_triplets ts)) k (first_is Two ts) two)
       ∙ take-append-drop 9 (channel_triplets ts));
   pairs = pairs;
 }
@@ -168,18 +168,18 @@ cut_with ts j k = record {
     two = drop_service 9 (channel_triplets ts) (filtered_service ts)
 
     both : (f : FieldNumber) → field_pairs f (first_with ts j) ++ field_pairs f (second_with ts k)
-        ≡ field_pair f (first_or_filler (of_field One ts)) ++ field_pair f (first_or_filler (of_field Two ts))
+        ≡ field_pair f (get_or (of_field One ts) 0 filler) ++ field_pair f (get_or (of_field Two ts) 0 filler)
     both f =
-        ap (λ (l : List Pair). l ++ field_pairs f (second_with ts k)) (half_pairs f (first_or_filler (of_field One ts)) (take 9 (channel_triplets ts)) j one)
-        ∙ ap (λ (l : List Pair). field_pair f (first_or_filler (of_field One ts)) ++ l) (half_pairs f (first_or_filler (of_field Two ts)) (drop 9 (channel_triplets ts)) k two)
+        ap (λ (l : List Pair). l ++ field_pairs f (second_with ts k)) (half_pairs f (get_or (of_field One ts) 0 filler) (take 9 (channel_triplets ts)) j one)
+        ∙ ap (λ (l : List Pair). field_pair f (get_or (of_field One ts) 0 filler) ++ l) (half_pairs f (get_or (of_field Two ts) 0 filler) (drop 9 (channel_triplets ts)) k two)
 
     pairs : (f : FieldNumber) → length (of_field f ts) ≤ 1 → field_pairs f ts ≡ field_pairs f (first_with ts j) ++ field_pairs f (second_with ts k)
     pairs One few =
-        own_pairs One ts ∙ only_pairs One (of_field One ts) few ∙ sym (append-nil (field_pair One (first_or_filler (of_field One ts))))
-        ∙ ap (λ (l : List Pair). field_pair One (first_or_filler (of_field One ts)) ++ l) (sym (other_pairs One Two ts refl)) ∙ sym (both One)
+        own_pairs One ts ∙ only_pairs One (of_field One ts) few ∙ sym (append-nil (field_pair One (get_or (of_field One ts) 0 filler)))
+        ∙ ap (λ (l : List Pair). field_pair One (get_or (of_field One ts) 0 filler) ++ l) (sym (other_pairs One Two ts refl)) ∙ sym (both One)
     pairs Two few =
         own_pairs Two ts ∙ only_pairs Two (of_field Two ts) few
-        ∙ ap (λ (l : List Pair). l ++ field_pair Two (first_or_filler (of_field Two ts))) (sym (other_pairs Two One ts refl)) ∙ sym (both Two)
+        ∙ ap (λ (l : List Pair). l ++ field_pair Two (get_or (of_field Two ts) 0 filler)) (sym (other_pairs Two One ts refl)) ∙ sym (both Two)
 
 pub triplets_cut : TripletsAreCut
 triplets_cut ts =

@@ -1,7 +1,7 @@
 -- Believed: the program's answer stands on these definitions.
 -- What frames at 29.97 frames a second become at 59.94 (SMPTE ST 334-2; CTA-708-E, cc_data()): each becomes two, its halves, which carry
 -- what it carried. Other sections than cc_data, and other ancillary packets than those of captions, are left out.
-use Rattle.std.specs.Prelude.{◌≡◌, ℕ, suc, ◌+◌, ◌-◌, ◌*◌, ◌≤◌, ◌==◌, ◌&&◌, Bool, List, [], ◌∷◌, ◌++◌, drop, filter, length, replicate, take}
+use Rattle.std.specs.Prelude.{◌≡◌, ℕ, suc, ◌+◌, ◌-◌, ◌*◌, ◌≤◌, ◌==◌, ◌&&◌, Bool, List, [], ◌∷◌, ◌++◌, drop, filter, length, replicate, take, get_or}
 use Rattle.std.specs.List.{flat_map}
 use Rattle.cc_base.specs.declared.rate.Rate.TheVariants.{F2997, F5994}
 use Rattle.cc_data.specs.Triplets.{filler}
@@ -29,14 +29,9 @@ pub record IsConvertible (frame : Frame) : Type 0 where
   pub few : (in_field : FieldNumber) → length (of_field in_field (packet_triplets frame)) ≤ 1
   pub most : length (channel_triplets (packet_triplets frame)) ≤ 18
 
--- the first of triplets, or FA 00 00 where there is none
-abbrev pub first_or_filler : List Triplet → Triplet
-first_or_filler [] = filler
-first_or_filler (triplet ∷ triplets) = triplet
-
--- ten triplets: one of a field, some of channel packets, and FA 00 00 up to ten
+-- ten triplets: the first of a field, or FA 00 00 where there is none, some of channel packets, and FA 00 00 up to ten
 abbrev pub ten_triplets : List Triplet → List Triplet → List Triplet
-ten_triplets field channel = first_or_filler field ∷ (channel ++ replicate (9 - length channel) filler)
+ten_triplets field channel = get_or field 0 filler ∷ (channel ++ replicate (9 - length channel) filler)
 
 -- the first half has the triplet of field 1, and of those of channel packets the first nine; the second half has that of field 2, and the
 -- others

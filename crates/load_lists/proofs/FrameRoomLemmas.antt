@@ -5,7 +5,7 @@ use Rattle.std.specs.List.{AllByRecursion}
 use Rattle.std.proofs.lemmas.Bool.Decides.{nat_tests}
 use Rattle.std.proofs.lemmas.List.Sums.{sum_by-cons}
 use Rattle.placements.specs.Placing.{IsPlaced}
-use Rattle.service_lanes.specs.ServiceLane.{AreUpTo, bytes_between, chunk_size, is_between, service_lane, used}
+use Rattle.service_lanes.specs.ServiceLane.{AreUpTo, bytes_between, chunk_size, is_between, IsAllowedInService, used}
 use Rattle.service_lanes.specs.Chunks.{ServiceChunk}
 
 -- all stand before a frame
@@ -48,7 +48,7 @@ IsUndelayed ends frame = (start end : ℕ) → ends start ≡ Some end → start
 
 -- units behind others have a placement
 abbrev pub HasFramesBehind : (ℕ → ℕ) → (ℕ → Option ℕ) → List (ServiceChunk × ℕ) → List ServiceChunk → Type 0
-HasFramesBehind room ends before chunks = (frames : List ℕ) × IsPlaced (service_lane room ends) before chunks frames
+HasFramesBehind room ends before chunks = (frames : List ℕ) × IsPlaced (IsAllowedInService room ends) before chunks frames
 
 -- units that have a frame each from a frame on, and those behind them
 pub one_each : (room : ℕ → ℕ) (ends : ℕ → Option ℕ) (low high from : ℕ) (chunks later : List ServiceChunk) (before : List (ServiceChunk × ℕ)) → AreBefore from before

@@ -7,6 +7,7 @@ use Rattle.cc_data.specs.declared.triplet.Triplet.{Triplet}
 use Rattle.cdp_packets.specs.PacketTriplets.{packet_triplets}
 use Rattle.cdp_packets.specs.Packets.{Frame}
 use Rattle.dtvcc_services.specs.Objects.{all_ticks}
+use Rattle.findings.specs.First.{IsFirstTried}
 use Rattle.findings.specs.declared.finding.Which.TheVariants as which
 use Rattle.findings.specs.declared.misfit.MisfitKind.TheVariants as misfit
 use Rattle.halved_frames.specs.Conversion.{IsConvertible, conversion, first_half, first_half_of, second_half, second_half_of}
@@ -21,7 +22,7 @@ use Rattle.words_files.specs.FramesOf.{AreFramesOf}
 use Rattle.rate_convert.specs.Differing.{IsFirstDiffering, IsFirstService}
 use Rattle.rate_convert.specs.Grids.{KeepsGrids}
 use Rattle.rate_convert.specs.Halvers.{HasHalved, halves_words}
-use Rattle.rate_convert.specs.Misfits.{AreFit, IsMisfit}
+use Rattle.rate_convert.specs.Misfits.{AreFit, Holds, rank}
 use Rattle.rate_convert.specs.ServedFrames.{AreNext, AreServed}
 use Rattle.rate_convert.specs.declared.halver.Halver.{Halver}
 use Rattle.rate_convert.proofs.ConversionLemmas.{conversion_more}
@@ -82,7 +83,7 @@ took_frame earlier last old new first second had is first_is second_is words ser
     let long = length-append earlier (last ∷ []) in
     let was = had.ticks in
     record {
-      fit = fit_more [] earlier last had.fit (record { convertible = is; keeps = keeps });
+      fit = fit_more earlier last had.fit (record { convertible = is; keeps = keeps });
       keeps = keeps;
       served = subst (λ (fs : List Frame). AreServed fs new.served) (sym (conversion_more earlier last)) served;
       ticks = omega (arith, ticks, was, long);
@@ -98,7 +99,7 @@ took_frame earlier last old new first second had is first_is second_is words ser
 -- where one shows something else, that is the misfit
 pub service_misfit : (earlier : List Frame) (last : Frame) (service : ℕ) → AreFit earlier → IsConvertible last
     → IsFirstService (received_windows (earlier ++ last ∷ [])) (received_windows (conversion (earlier ++ last ∷ []))) service
-    → IsMisfit earlier last (misfit.Changed (which.Service service))
+    → IsFirstTried (Holds earlier last) rank (misfit.Changed (which.Service service))
 service_misfit earlier last service fit is first =
     changed_misfit earlier last (misfit.Changed (which.Service service)) refl is
     (first_service (earlier ++ last ∷ []) service (all_convertible earlier last fit is) first)

@@ -1,6 +1,6 @@
 -- The halves of a frame's sorted triplets, and their bytes.
-use Rattle.std.proofs.Common.{◌≡◌, ℕ, zero, suc, ◌+◌, ◌-◌, ◌*◌, ◌%◌, ◌<◌, ◌&&◌, ◌||◌, ◌==◌, Bool, true, false, List, [], ◌∷◌, ◌++◌, All, drop, length, replicate, take, refl, sym, ap, ◌∙◌, subst, arith}
-use Rattle.std.specs.Prelude.{if◌then◌else◌, filter}
+use Rattle.std.proofs.Common.{◌≡◌, ℕ, zero, suc, ◌+◌, ◌-◌, ◌*◌, ◌%◌, ◌<◌, ◌&&◌, ◌||◌, ◌==◌, Bool, true, false, List, [], ◌∷◌, ◌++◌, All, drop, length, replicate, take, refl, sym, ap, ◌∙◌, arith}
+use Rattle.std.specs.Prelude.{if◌then◌else◌, filter, get_or}
 use Rattle.std.proofs.lemmas.Bool.{true≢false}
 use Rattle.std.proofs.lemmas.Bool.Decides.{Decides-eqb}
 use Rattle.std.proofs.lemmas.List.Elements.{All-append, All-cons, All-drop, All-head, All-nil, All-replicate, All-take}
@@ -8,7 +8,7 @@ use Rattle.cc_base.specs.declared.rate.Rate.TheVariants.{F5994}
 use Rattle.cc_data.specs.Triplets.{filler}
 use Rattle.cc_data.specs.declared.triplet.Triplet.{Triplet}
 use Rattle.channel_packets.specs.ChannelPackets.{channel_triplets, continues_packet, starts}
-use Rattle.halved_frames.specs.Conversion.{first_half, first_or_filler, is_of, of_field, second_half, ten_triplets}
+use Rattle.halved_frames.specs.Conversion.{first_half, is_of, of_field, second_half, ten_triplets}
 use Rattle.line21_codes.specs.declared.channels.FieldNumber.{FieldNumber}
 use Rattle.line21_codes.specs.declared.channels.FieldNumber.TheVariants.{One, Two}
 use Rattle.words_files.specs.CarriedWords.{carried_words, triplets_packet}
@@ -54,13 +54,13 @@ channel_kinds ts =
     (λ t is. either (starts t) (continues_packet t) (IsKind t) (λ one. kind_is t.valid t.kind 3 (omega arith) one) (λ two. kind_is t.valid t.kind 2 (omega arith) two) is) ts
 
 -- and so have those of both halves
-one_kind : (ts : List Triplet) → All IsKind ts → IsKind (first_or_filler ts)
+one_kind : (ts : List Triplet) → All IsKind ts → IsKind (get_or ts 0 filler)
 one_kind [] all = omega arith
 one_kind (t ∷ ts) all = All-head IsKind t ts all
 
 ten_kinds : (field channel : List Triplet) → All IsKind field → All IsKind channel → All IsKind (ten_triplets field channel)
 ten_kinds field channel one more =
-    All-cons IsKind (first_or_filler field) (channel ++ replicate (9 - length channel) filler) (one_kind field one)
+    All-cons IsKind (get_or field 0 filler) (channel ++ replicate (9 - length channel) filler) (one_kind field one)
     (All-append IsKind channel (replicate (9 - length channel) filler) more (All-replicate IsKind (9 - length channel) filler (omega arith)))
 
 pub first_kinds : (ts : List Triplet) → All IsKind (first_half ts)
@@ -70,12 +70,12 @@ pub second_kinds : (ts : List Triplet) → All IsKind (second_half ts)
 second_kinds ts = ten_kinds (of_field Two ts) (drop 9 (channel_triplets ts)) (field_kinds Two ts) (All-drop IsKind 9 (channel_triplets ts) (channel_kinds ts))
 
 -- some triplets between the first and fillers
-pub ten_are : (field channel copied behind : List Triplet) (first : Triplet) → first ≡ first_or_filler field → copied ≡ channel
+pub ten_are : (field channel copied behind : List Triplet) (first : Triplet) → first ≡ get_or field 0 filler → copied ≡ channel
     → behind ≡ drop (length channel) (replicate 9 filler) → first ∷ (copied ++ behind) ≡ ten_triplets field channel
 ten_are field channel copied behind first one same rest =
     ap (λ (t : Triplet). t ∷ (copied ++ behind)) one
-    ∙ ap (λ (l : List Triplet). first_or_filler field ∷ (l ++ behind)) same
-    ∙ ap (λ (l : List Triplet). first_or_filler field ∷ (channel ++ l)) (rest ∙ drop_fillers (length channel) 9)
+    ∙ ap (λ (l : List Triplet). get_or field 0 filler ∷ (l ++ behind)) same
+    ∙ ap (λ (l : List Triplet). get_or field 0 filler ∷ (channel ++ l)) (rest ∙ drop_fillers (length channel) 9)
 
 -- the words of one packet behind those of another
 pub words_are : (counter next frame : ℕ) (first second : List Triplet) (none one two : List ℕ) → counter ≡ (2 * frame) % 65536 → next ≡ (2 * frame + 1) % 65536

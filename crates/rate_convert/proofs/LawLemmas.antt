@@ -1,6 +1,7 @@
 -- What is seen where no frame has a misfit, and where no service gets a delay.
-use Rattle.std.proofs.Common.{◌≡◌, ℕ, suc, ◌+◌, ◌*◌, List, [], ◌∷◌, ◌++◌, All, append-nil, append_assoc, take, sym, ap, ◌∙◌, subst, arith}
-use Rattle.std.proofs.lemmas.List.Elements.{All-append, All-head, All-nil, All-tail, All-cons}
+use Rattle.std.proofs.Common.{◌≡◌, ℕ, suc, ◌+◌, ◌*◌, List, [], ◌∷◌, ◌++◌, All, append-nil, append_assoc, length, take, refl, sym, ap, ◌∙◌, subst, arith}
+use Rattle.std.proofs.lemmas.List.{drop_at, take_at}
+use Rattle.std.proofs.lemmas.List.Elements.{All-drop, All-head, All-take}
 use Rattle.cc_receiver.specs.ReceivedServices.{received_windows}
 use Rattle.cdp_packets.specs.Packets.{Frame}
 use Rattle.dtvcc_screen.specs.Meaning.{Byte, Event, Reset, Served, Tick, on_event, start}
@@ -14,7 +15,7 @@ use Rattle.services_files.proofs.EventLemmas.{events_more}
 use Rattle.words_files.specs.Received.{received_grids}
 use Rattle.rate_convert.specs.Grids.{KeepsGrids}
 use Rattle.rate_convert.specs.Laws.{FitKeepsGrids, UndelayedAreFit}
-use Rattle.rate_convert.specs.Misfits.{AreFitBehind}
+use Rattle.rate_convert.specs.Misfits.{IsFit}
 use Rattle.rate_convert.proofs.ConversionLemmas.{take_conversion}
 use Rattle.rate_convert.proofs.FitLemmas.{channels_kept, fit_at}
 
@@ -54,16 +55,18 @@ kept_without frames all none = record {
   services = λ service is id small. (show_the_same frames (conversion frames) (converted_halves frames all)).windows service id (none service is);
 }
 
-fit_without : (earlier frames : List Frame) → All IsConvertible earlier → All IsConvertible frames → AreWithout (earlier ++ frames) → AreFitBehind earlier frames
-fit_without earlier [] before all none = tt
-fit_without earlier (frame ∷ frames) before all none =
-    let one = All-head IsConvertible frame frames all in
-    let front = All-append IsConvertible earlier (frame ∷ []) before (All-cons IsConvertible frame [] one (All-nil IsConvertible)) in
-    let rest = subst AreWithout (sym (append_assoc earlier (frame ∷ []) frames)) none in (
-      record { convertible = one; keeps = kept_without (earlier ++ frame ∷ []) front (without_front (earlier ++ frame ∷ []) frames rest) },
-      fit_without (earlier ++ frame ∷ []) frames front (All-tail IsConvertible frame frames all) rest,
-    )
+one_without : (earlier : List Frame) (frame : Frame) (later : List Frame) → All IsConvertible (earlier ++ frame ∷ later) → AreWithout (earlier ++ frame ∷ later) → IsFit earlier frame
+one_without earlier frame later all none =
+    let joined = append_assoc earlier (frame ∷ []) later in
+    let fs = earlier ++ frame ∷ [] in
+    let whole = subst (All IsConvertible) (sym joined) all in
+    let front = subst (All IsConvertible) (take_at fs later (length fs) refl) (All-take IsConvertible (length fs) (fs ++ later) whole) in
+    let behind = subst (All IsConvertible) (drop_at earlier (frame ∷ later) (length earlier) refl) (All-drop IsConvertible (length earlier) (earlier ++ frame ∷ later) all) in
+    record {
+      convertible = All-head IsConvertible frame later behind;
+      keeps = kept_without fs front (without_front fs later (subst AreWithout (sym joined) none));
+    }
 
 pub undelayed_fit : UndelayedAreFit
 unfolding AreWithout
-undelayed_fit frames all none = fit_without [] frames (All-nil IsConvertible) all none
+undelayed_fit frames all none = λ earlier frame later split. one_without earlier frame later (subst (All IsConvertible) split all) (subst AreWithout split none)

@@ -1,19 +1,20 @@
 -- A frame has one misfit at most.
-use Rattle.std.proofs.Common.{◌≡◌, ℕ, ◌<◌, List, [], ◌∷◌, ◌++◌, append-nil, append_assoc, refl, subst, sym, ap, ◌∙◌, arith}
+use Rattle.std.proofs.Common.{◌≡◌, ℕ, ◌≤◌, List, [], ◌∷◌, ◌++◌, append_assoc, refl, sym, ap, ◌∙◌, arith}
 use Rattle.cdp_packets.specs.Packets.{Frame}
 use Rattle.findings.specs.declared.finding.Which.{Which}
 use Rattle.findings.specs.declared.finding.Which.TheVariants as which
+use Rattle.findings.specs.First.{IsFirstTried}
 use Rattle.findings.specs.declared.misfit.Misfit.{Misfit}
 use Rattle.findings.specs.declared.misfit.MisfitKind.{MisfitKind}
 use Rattle.findings.specs.declared.misfit.MisfitKind.TheVariants as misfit
 use Rattle.line21_codes.specs.declared.channels.Chan.TheVariants.{Cc1, Cc2, Cc3, Cc4}
-use Rattle.rate_convert.specs.Grids.{IsChanged, IsFirstChanged, grid_place}
+use Rattle.rate_convert.specs.Grids.{IsChanged, grid_place}
 use Rattle.rate_convert.specs.Laws.{MisfitIsOne}
-use Rattle.rate_convert.specs.Misfits.{AreFitBehind, IsFit, IsMisfit, rank}
+use Rattle.rate_convert.specs.Misfits.{AreFit, Holds, IsFit, rank}
 
--- a number stands before another, or behind it, or they are the same
-ordered : (m n : ℕ) → (m < n → ⊥) → (n < m → ⊥) → m ≡ n
-ordered m n less more = omega arith
+-- neither of two numbers is above the other
+ordered : (m n : ℕ) → m ≤ n → n ≤ m → m ≡ n
+ordered m n below above = omega arith
 
 -- the places of channels and services are their own
 which_once : (frames : List Frame) (a b : Which) → IsChanged frames a → IsChanged frames b → grid_place a ≡ grid_place b → a ≡ b
@@ -43,12 +44,12 @@ which_once frames (which.Service s) (which.Chan Cc3) (is, _) _ same = let one = 
 which_once frames (which.Service s) (which.Chan Cc4) (is, _) _ same = let one = is.from in absurd (omega (arith, one, same))
 which_once frames (which.Service s) (which.Service t) _ _ same = let e : s ≡ t = omega arith in ap which.Service e
 
-first_once : (frames : List Frame) (a b : Which) → IsFirstChanged frames a → IsFirstChanged frames b → a ≡ b
+first_once : (frames : List Frame) (a b : Which) → IsFirstTried (IsChanged frames) grid_place a → IsFirstTried (IsChanged frames) grid_place b → a ≡ b
 first_once frames a b one other =
-    which_once frames a b one.changed other.changed
-    (ordered (grid_place a) (grid_place b) (λ less. other.before a less one.changed) (λ more. one.before b more other.changed))
+    which_once frames a b one.holds other.holds (ordered (grid_place a) (grid_place b) (one.first b other.holds) (other.first a one.holds))
 
-kind_once : (earlier : List Frame) (frame : Frame) (a b : MisfitKind) → IsMisfit earlier frame a → IsMisfit earlier frame b → rank a ≡ rank b → a ≡ b
+kind_once : (earlier : List Frame) (frame : Frame) (a b : MisfitKind) → IsFirstTried (Holds earlier frame) rank a → IsFirstTried (Holds earlier frame) rank b
+    → rank a ≡ rank b → a ≡ b
 kind_once earlier frame (misfit.Rate m) (misfit.Rate n) is also same = ap misfit.Rate (is.holds.1 ∙ sym also.holds.1)
 kind_once earlier frame (misfit.Rate m) (misfit.Count n) is also same = absurd (omega arith)
 kind_once earlier frame (misfit.Rate m) (misfit.One n) is also same = absurd (omega arith)
@@ -94,10 +95,8 @@ pub misfit_once : MisfitIsOne
 misfit_once earlier frame a b one other =
     misfit_same a b (one.0 ∙ sym other.0)
     (kind_once earlier frame a.kind b.kind one.1 other.1
-    (ordered (rank a.kind) (rank b.kind) (λ less. other.1.first a.kind less one.1.holds) (λ more. one.1.first b.kind more other.1.holds)))
+    (ordered (rank a.kind) (rank b.kind) (one.1.first b.kind other.1.holds) (other.1.first a.kind one.1.holds)))
 
 -- one frame among others that are fit is fit
-pub fit_among : (earlier frames : List Frame) (last : Frame) (behind : List Frame) → AreFitBehind earlier ((frames ++ last ∷ []) ++ behind) → IsFit (earlier ++ frames) last
-fit_among earlier [] last behind are = subst (λ (fs : List Frame). IsFit fs last) (sym (append-nil earlier)) are.0
-fit_among earlier (frame ∷ frames) last behind are =
-    subst (λ (fs : List Frame). IsFit fs last) (append_assoc earlier (frame ∷ []) frames) (fit_among (earlier ++ frame ∷ []) frames last behind are.1)
+pub fit_among : (frames : List Frame) (last : Frame) (behind : List Frame) → AreFit ((frames ++ last ∷ []) ++ behind) → IsFit frames last
+fit_among frames last behind are = are frames last behind (append_assoc frames (last ∷ []) behind)

@@ -7,14 +7,16 @@ use Rattle.cc_data.specs.declared.triplet.Triplet.{Triplet}
 use Rattle.cdp_packets.specs.PacketTriplets.{packet_triplets}
 use Rattle.cdp_packets.specs.Packets.{Frame}
 use Rattle.channel_packets.specs.ChannelPackets.{channel_triplets, continues_packet, starts}
+use Rattle.findings.specs.First.{IsFirstTried}
 use Rattle.findings.specs.declared.misfit.MisfitKind.{MisfitKind}
 use Rattle.findings.specs.declared.misfit.MisfitKind.TheVariants as misfit
 use Rattle.halved_frames.specs.Conversion.{IsConvertible, is_of, of_field}
 use Rattle.line21_codes.specs.declared.channels.FieldNumber.{FieldNumber}
 use Rattle.line21_codes.specs.declared.channels.FieldNumber.TheVariants.{One, Two}
-use Rattle.rate_convert.specs.Misfits.{Holds, IsMisfit, rank}
+use Rattle.rate_convert.specs.Misfits.{Holds, rank}
 use Rattle.rate_convert.specs.SortedTriplets.{AreSorted, IsFull, IsSortedFrame}
 use Rattle.rate_convert.specs.declared.sorted.Sorted.{Sorted}
+use Rattle.rate_convert.proofs.FitLemmas.{at_least}
 
 -- one more triplet
 pub kept_more : (p : Triplet → Bool) (keep : Bool) (ts kept new : List Triplet) (t : Triplet) → keep ≡ p t → kept ≡ filter p ts
@@ -53,46 +55,47 @@ none_sooner earlier frame (misfit.Changed first) bound lower upto rate count one
 
 -- the misfits of a frame's triplets
 pub one_misfit : (earlier : List Frame) (frame : Frame) (seen : ℕ) → IsFull frame → 1 < seen → seen ≡ length (of_field One (packet_triplets frame))
-    → IsMisfit earlier frame (misfit.One seen)
+    → IsFirstTried (Holds earlier frame) rank (misfit.One seen)
 one_misfit earlier frame seen full more is = record {
   holds = (more, is);
-  first = λ other lower holds.
-      none_sooner earlier frame other 2 lower (omega arith) (λ b. full.rate) (λ b. full.count) (λ b. absurd (omega arith)) (λ b. absurd (omega arith)) (λ b. absurd (omega arith)) holds;
+  first = λ other holds. at_least (rank other) 2 (λ lower.
+      none_sooner earlier frame other 2 lower (omega arith) (λ b. full.rate) (λ b. full.count) (λ b. absurd (omega arith)) (λ b. absurd (omega arith)) (λ b. absurd (omega arith)) holds);
 }
 
 pub two_misfit : (earlier : List Frame) (frame : Frame) (seen : ℕ) → IsFull frame → length (of_field One (packet_triplets frame)) ≤ 1
-    → 1 < seen → seen ≡ length (of_field Two (packet_triplets frame)) → IsMisfit earlier frame (misfit.Two seen)
+    → 1 < seen → seen ≡ length (of_field Two (packet_triplets frame)) → IsFirstTried (Holds earlier frame) rank (misfit.Two seen)
 two_misfit earlier frame seen full one more is = record {
   holds = (more, is);
-  first = λ other lower holds.
-      none_sooner earlier frame other 3 lower (omega arith) (λ b. full.rate) (λ b. full.count) (λ b. one) (λ b. absurd (omega arith)) (λ b. absurd (omega arith)) holds;
+  first = λ other holds. at_least (rank other) 3 (λ lower.
+      none_sooner earlier frame other 3 lower (omega arith) (λ b. full.rate) (λ b. full.count) (λ b. one) (λ b. absurd (omega arith)) (λ b. absurd (omega arith)) holds);
 }
 
 pub many_misfit : (earlier : List Frame) (frame : Frame) (seen : ℕ) → IsFull frame → length (of_field One (packet_triplets frame)) ≤ 1
-    → length (of_field Two (packet_triplets frame)) ≤ 1 → 18 < seen → seen ≡ length (channel_triplets (packet_triplets frame)) → IsMisfit earlier frame (misfit.Many seen)
+    → length (of_field Two (packet_triplets frame)) ≤ 1 → 18 < seen → seen ≡ length (channel_triplets (packet_triplets frame)) → IsFirstTried (Holds earlier frame) rank (misfit.Many seen)
 many_misfit earlier frame seen full one two more is = record {
   holds = (more, is);
-  first = λ other lower holds.
-      none_sooner earlier frame other 4 lower (omega arith) (λ b. full.rate) (λ b. full.count) (λ b. one) (λ b. two) (λ b. absurd (omega arith)) holds;
+  first = λ other holds. at_least (rank other) 4 (λ lower.
+      none_sooner earlier frame other 4 lower (omega arith) (λ b. full.rate) (λ b. full.count) (λ b. one) (λ b. two) (λ b. absurd (omega arith)) holds);
 }
 
 -- and of its head
-pub rate_misfit : (earlier : List Frame) (frame : Frame) (code : ℕ) → Holds earlier frame (misfit.Rate code) → IsMisfit earlier frame (misfit.Rate code)
-rate_misfit earlier frame code holds = record { holds = holds; first = λ other lower. absurd (omega arith) }
+pub rate_misfit : (earlier : List Frame) (frame : Frame) (code : ℕ) → Holds earlier frame (misfit.Rate code) → IsFirstTried (Holds earlier frame) rank (misfit.Rate code)
+rate_misfit earlier frame code holds = record { holds = holds; first = λ other held. omega arith }
 
-pub count_misfit : (earlier : List Frame) (frame : Frame) (seen : ℕ) → frame.rate ≡ F2997 → Holds earlier frame (misfit.Count seen) → IsMisfit earlier frame (misfit.Count seen)
+pub count_misfit : (earlier : List Frame) (frame : Frame) (seen : ℕ) → frame.rate ≡ F2997 → Holds earlier frame (misfit.Count seen) → IsFirstTried (Holds earlier frame) rank (misfit.Count seen)
 count_misfit earlier frame seen rate holds = record {
   holds = holds;
-  first = λ other lower held.
-      none_sooner earlier frame other 1 lower (omega arith) (λ b. rate) (λ b. absurd (omega arith)) (λ b. absurd (omega arith)) (λ b. absurd (omega arith)) (λ b. absurd (omega arith)) held;
+  first = λ other held. at_least (rank other) 1 (λ lower.
+      none_sooner earlier frame other 1 lower (omega arith) (λ b. rate) (λ b. absurd (omega arith)) (λ b. absurd (omega arith)) (λ b. absurd (omega arith)) (λ b. absurd (omega arith)) held);
 }
 
 -- a frame that can be converted has none but a grid that changes
-pub changed_misfit : (earlier : List Frame) (frame : Frame) (kind : MisfitKind) → rank kind ≡ 5 → IsConvertible frame → Holds earlier frame kind → IsMisfit earlier frame kind
+pub changed_misfit : (earlier : List Frame) (frame : Frame) (kind : MisfitKind) → rank kind ≡ 5 → IsConvertible frame → Holds earlier frame kind → IsFirstTried (Holds earlier frame) rank kind
 changed_misfit earlier frame kind last is holds = record {
   holds = holds;
-  first = λ other lower held.
-      none_sooner earlier frame other 5 (omega arith) (omega arith) (λ b. is.rate) (λ b. is.count) (λ b. is.few One) (λ b. is.few Two) (λ b. is.most) held;
+  first = λ other held.
+      let least : 5 ≤ rank other = at_least (rank other) 5 (λ lower. none_sooner earlier frame other 5 lower (omega arith) (λ b. is.rate) (λ b. is.count) (λ b. is.few One) (λ b. is.few Two) (λ b. is.most) held) in
+      omega (arith, least, last);
 }
 
 -- the first of some are no more than they are counted

@@ -29,8 +29,3 @@ grid_place (which.Chan Cc2) = 1
 grid_place (which.Chan Cc3) = 2
 grid_place (which.Chan Cc4) = 3
 grid_place (which.Service service) = 3 + service
-
--- it is the first of these that shows something else
-pub record IsFirstChanged (frames : List Frame) (first : Which) : Type 0 where
-  pub changed : IsChanged frames first
-  pub before : (other : Which) → grid_place other < grid_place first → IsChanged frames other → ⊥

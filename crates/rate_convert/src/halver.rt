@@ -2,7 +2,8 @@ ghost use Rattle.std.specs.Prelude.{◌≡◌, ◌<◌, ◌≤◌, ◌+◌, ◌+
 ghost use Rattle.cc_base.specs.declared.rate.Rate.TheVariants as rate;
 ghost use Rattle.cc_receiver.specs.Receivers.{HasReceived, frame_count};
 ghost use Rattle.cdp_packets.specs.Packets.{Frame};
-ghost use Rattle.rate_convert.specs.Misfits.{IsMisfit};
+ghost use Rattle.findings.specs.First.{IsFirstTried};
+ghost use Rattle.rate_convert.specs.Misfits.{Holds, rank};
 ghost use Rattle.rate_convert.specs.SortedTriplets.{IsSorted, IsSortedFrame};
 ghost use Rattle.services_files.specs.CaptionChannel.{caption_channel};
 ghost use Rattle.words_files.specs.FramesOf.{AreFramesOf};
@@ -66,7 +67,7 @@ impl Halver {
             → HasReceived bytes input.now → AreFramesOf caption_channel (earlier ++ last ∷ []) bytes
             → HasHalved earlier self.old
             → MatchResult result (λ done. HasHalved (earlier ++ last ∷ [])
-            (record self.new { misfit = None })) (IsMisfit earlier last) }
+            (record self.new { misfit = None })) (IsFirstTried (Holds earlier last) rank) }
     {
         let sorted = sort_frame(input)?;
         let halves = Halves::of(&sorted);
@@ -104,7 +105,7 @@ fn sort_frame(input: &Receiver) -> Result<Sorted, MisfitKind>
     ensures sorted { (bytes : List ℕ) (earlier : List Frame) (last : Frame)
         → HasReceived bytes input.now
         → AreFramesOf caption_channel (earlier ++ last ∷ []) bytes
-        → MatchResult result (IsSortedFrame last) (IsMisfit earlier last) }
+        → MatchResult result (IsSortedFrame last) (IsFirstTried (Holds earlier last) rank) }
     ensures are { IfOk result IsSorted }
     ensures few { IfOk result (λ sorted. length sorted.channel.items ≤ 18) }
 {
@@ -120,7 +121,7 @@ fn sort_triplets(input: &Receiver) -> Result<Sorted, MisfitKind>
     ensures sorted { (bytes : List ℕ) (earlier : List Frame) (last : Frame)
         → HasReceived bytes input.now
         → AreFramesOf caption_channel (earlier ++ last ∷ []) bytes → last.rate ≡ rate.F2997
-        → MatchResult result (IsSortedFrame last) (IsMisfit earlier last) }
+        → MatchResult result (IsSortedFrame last) (IsFirstTried (Holds earlier last) rank) }
     ensures are { IfOk result IsSorted }
     ensures few { IfOk result (λ sorted. length sorted.channel.items ≤ 18) }
 {

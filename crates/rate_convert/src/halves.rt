@@ -1,12 +1,13 @@
-ghost use Rattle.std.specs.Prelude.{◌≡◌, ◌≤◌, ◌<◌, ◌+◌, ◌*◌, ◌++◌, ◌∷◌, [], ℕ, List, All, false, length};
+ghost use Rattle.std.specs.Prelude.{◌≡◌, ◌≤◌, ◌<◌, ◌+◌, ◌*◌, ◌++◌, ◌∷◌, [], ℕ, List, All, false, get_or, length};
 ghost use Rattle.arrayvec.specs.ArrayVec.{array_vec_len};
 ghost use Rattle.cc_base.specs.declared.rate.Rate.TheVariants as rate;
+ghost use Rattle.cc_data.specs.Triplets.{filler};
 ghost use Rattle.cc_data.specs.declared.triplet.Triplet.{Triplet as TripletOf};
 ghost use Rattle.cc_receiver.specs.ReceivedServices.{received_windows};
 ghost use Rattle.cdp_packets.specs.Packets.{Frame};
 ghost use Rattle.dtvcc_services.specs.Numbers.{IsService};
 ghost use Rattle.dtvcc_services.specs.Objects.{all_ticks};
-ghost use Rattle.halved_frames.specs.Conversion.{first_half, first_or_filler, second_half, ten_triplets};
+ghost use Rattle.halved_frames.specs.Conversion.{first_half, second_half, ten_triplets};
 ghost use Rattle.rate_convert.specs.ServedFrames.{AreNext, AreServed};
 ghost use Rattle.rate_convert.specs.SortedTriplets.{AreSorted, IsSorted};
 ghost use Rattle.words_files.specs.CarriedWords.{carried_words, triplets_packet};
@@ -113,7 +114,7 @@ fn ten_triplets(field: &[Triplet], channel: &[Triplet]) -> [Triplet; 10]
 
 // The first of triplets, or one that doesn't count where there is none.
 fn first_or_filler(triplets: &[Triplet]) -> Triplet
-    ensures { result ≡ first_or_filler triplets.now }
+    ensures { result ≡ get_or triplets.now 0 filler }
 {
     match triplets {
         [first, ..] => *first,

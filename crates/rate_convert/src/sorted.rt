@@ -22,7 +22,8 @@ pub(crate) struct Sorted {
 }
 
 impl Sorted {
-    ghost use Rattle.rate_convert.specs.Misfits.{IsMisfit};
+    ghost use Rattle.findings.specs.First.{IsFirstTried};
+    ghost use Rattle.rate_convert.specs.Misfits.{Holds, rank};
     ghost use Rattle.rate_convert.specs.SortedTriplets.{AreSorted, IsFull};
 
     // No triplets.
@@ -68,7 +69,7 @@ impl Sorted {
         ensures twos { IfNone result (length self.now.twos.items ≤ 1) }
         ensures channel { IfNone result (length self.now.channel.items ≤ 18) }
         ensures some { (earlier : List Frame) (frame : Frame) → IsFull frame
-            → AreSorted (packet_triplets frame) self.now → IfSome result (IsMisfit earlier frame) }
+            → AreSorted (packet_triplets frame) self.now → IfSome result (IsFirstTried (Holds earlier frame) rank) }
     {
         if self.ones.len() > 1 {
             Some(MisfitKind::One(self.ones.len() as u16))

@@ -16,7 +16,7 @@ use Rattle.time_codes.specs.declared.time_code.TimeCode.{TimeCode}
 use Rattle.words_files.proofs.FramesOfLemmas.{frames_grow}
 use Rattle.words_files.specs.FramesOf.{AreFramesOf}
 use Rattle.services_files.specs.CaptionChannel.{caption_channel}
-use Rattle.words_reading.proofs.FrontLemmas.{TwoFronts, behind_it, before_it, same, two_fronts}
+use Rattle.words_files.proofs.FrontLemmas.{TwoFronts, behind_it, before_it, same, two_fronts}
 use Rattle.words_reading.proofs.KnownLemmas.{known_frames, known_judged, refused_behind, within_passes}
 use Rattle.words_reading.specs.Answers.{StopsEarlyAs}
 use Rattle.words_reading.specs.Causes.{IsRefusedWith, IsWholeFile, words_limit}

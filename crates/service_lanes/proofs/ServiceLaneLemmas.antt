@@ -8,7 +8,7 @@ use Rattle.service_lanes.specs.Chunks.{ServiceChunk}
 use Rattle.placements.specs.FirstFit.{EarliestIsFirstFit}
 use Rattle.placements.specs.OneMore.{FitsEarlier, OneMore}
 use Rattle.placements.specs.Placing.{IsPlaced, IsEarliest, NoLater}
-use Rattle.service_lanes.specs.ServiceLane.{AreUpTo, IsAllowedInService, IsWithinRoom, KeepsRoom, bytes_between, chunk_size, is_between, most_in_delay, service_lane, used}
+use Rattle.service_lanes.specs.ServiceLane.{AreUpTo, IsAllowedInService, IsWithinRoom, KeepsRoom, bytes_between, chunk_size, is_between, most_in_delay, used}
 use Rattle.placements.proofs.FirstFitLemmas.{earliest_is_first_fit}
 use Rattle.placements.proofs.PlacingLemmas.{one_more}
 
@@ -49,7 +49,7 @@ used_earlier from to g (u ∷ us) (f ∷ fs) (h ∷ gs) low all below =
     rw (left, right) (omega (arith, first, rest))
 
 -- what fits behind later units fits behind earlier ones
-pub chunks_fit_earlier : (room : ℕ → ℕ) (ends : ℕ → Option ℕ) → FitsEarlier (service_lane room ends)
+pub chunks_fit_earlier : (room : ℕ → ℕ) (ends : ℕ → Option ℕ) → FitsEarlier (IsAllowedInService room ends)
 chunks_fit_earlier room ends us fs gs u g p q low a = record {
   order = up_to_earlier g us fs gs low a.order;
   loaded = a.loaded;
@@ -64,12 +64,12 @@ chunks_fit_earlier room ends us fs gs u g p q low a = record {
 
 -- the law of one more unit in a service's lane
 pub chunks_one_more : (room : ℕ → ℕ) (ends : ℕ → Option ℕ) (us : List ServiceChunk) (fs : List ℕ) (u : ServiceChunk)
-    → IsEarliest (service_lane room ends) us fs → OneMore (service_lane room ends) us fs u
-chunks_one_more room ends us fs u e = one_more (service_lane room ends) (chunks_fit_earlier room ends) us fs u e
+    → IsEarliest (IsAllowedInService room ends) us fs → OneMore (IsAllowedInService room ends) us fs u
+chunks_one_more room ends us fs u e = one_more (IsAllowedInService room ends) (chunks_fit_earlier room ends) us fs u e
 
 -- its earliest placement is its first fit
-pub chunks_first_fit : (room : ℕ → ℕ) (ends : ℕ → Option ℕ) → EarliestIsFirstFit (service_lane room ends)
-chunks_first_fit room ends = earliest_is_first_fit (service_lane room ends) (chunks_fit_earlier room ends)
+pub chunks_first_fit : (room : ℕ → ℕ) (ends : ℕ → Option ℕ) → EarliestIsFirstFit (IsAllowedInService room ends)
+chunks_first_fit room ends = earliest_is_first_fit (IsAllowedInService room ends) (chunks_fit_earlier room ends)
 
 -- one more placed unit has what it has
 used_push : (from to : ℕ) (before : List (ServiceChunk × ℕ)) (u : ServiceChunk) (f : ℕ)
@@ -104,7 +104,7 @@ within_push room ends before u f within a = record {
 
 -- so does each placement behind units that do
 within_behind : (room : ℕ → ℕ) (ends : ℕ → Option ℕ) (before : List (ServiceChunk × ℕ)) (us : List ServiceChunk) (fs : List ℕ) → IsWithinRoom room ends before
-    → IsPlaced (service_lane room ends) before us fs → IsWithinRoom room ends (before ++ zip us fs)
+    → IsPlaced (IsAllowedInService room ends) before us fs → IsWithinRoom room ends (before ++ zip us fs)
 within_behind room ends before [] [] within p = subst (λ l. IsWithinRoom room ends l) (sym (append-nil before)) within
 within_behind room ends before [] (f ∷ fs) within p = absurd p
 within_behind room ends before (u ∷ us) [] within p = absurd p

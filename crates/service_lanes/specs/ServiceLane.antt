@@ -40,10 +40,6 @@ pub record IsAllowedInService (room : ℕ → ℕ) (ends : ℕ → Option ℕ) (
   pub fits : used frame (frame + 1) before + chunk_size chunk ≤ room frame
   pub delayed : (start end : ℕ) → ends start ≡ Some end → start ≤ frame → frame < end → used start end before + chunk_size chunk ≤ most_in_delay
 
--- what the lane allows, for the placements of its units
-abbrev pub service_lane : (ℕ → ℕ) → (ℕ → Option ℕ) → List (ServiceChunk × ℕ) → ServiceChunk → ℕ → Type 0
-service_lane room ends before chunk frame = IsAllowedInService room ends before chunk frame
-
 -- the placed units have at most the room of each frame, and at most 125 bytes in each delay
 pub record IsWithinRoom (room : ℕ → ℕ) (ends : ℕ → Option ℕ) (placed : List (ServiceChunk × ℕ)) : Type 0 where
   pub frames : (frame : ℕ) → used frame (frame + 1) placed ≤ room frame
@@ -51,5 +47,5 @@ pub record IsWithinRoom (room : ℕ → ℕ) (ends : ℕ → Option ℕ) (placed
 
 -- so do those of every placement
 abbrev pub KeepsRoom : (ℕ → ℕ) → (ℕ → Option ℕ) → Type 0
-KeepsRoom room ends = (chunks : List ServiceChunk) (frames : List ℕ) → IsPlaced (service_lane room ends) [] chunks frames
+KeepsRoom room ends = (chunks : List ServiceChunk) (frames : List ℕ) → IsPlaced (IsAllowedInService room ends) [] chunks frames
     → IsWithinRoom room ends (zip chunks frames)

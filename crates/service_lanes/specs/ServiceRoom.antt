@@ -5,7 +5,7 @@ use Rattle.buffer_bound.specs.declared.budget.Budget.{Budget}
 use Rattle.dtvcc_author.specs.FrameEvents.{delay_end, event_bytes}
 use Rattle.dtvcc_author.specs.Latest.{IsLatestAt}
 use Rattle.dtvcc_author.specs.declared.caption.Caption.{Caption}
-use Rattle.service_lanes.specs.ServiceLane.{AreUpTo, most_in_delay, service_lane, used}
+use Rattle.service_lanes.specs.ServiceLane.{AreUpTo, most_in_delay, IsAllowedInService, used}
 use Rattle.service_lanes.specs.Chunks.{ServiceChunk}
 use Rattle.service_lanes.specs.declared.front.Front.{Front}
 
@@ -15,7 +15,7 @@ frame_room share cs frame = share - length (event_bytes frame cs)
 
 -- what the lane of a service allows, with this share of each frame and these captions
 abbrev pub caption_lane : ℕ → List Caption → List (ServiceChunk × ℕ) → ServiceChunk → ℕ → Type 0
-caption_lane share cs = service_lane (frame_room share cs) (delay_end cs)
+caption_lane share cs = IsAllowedInService (frame_room share cs) (delay_end cs)
 
 -- the budget is that of the delay that is on in the frame, less the units in it
 pub record IsSpent (cs : List Caption) (before : List (ServiceChunk × ℕ)) (frame : ℕ) (budget : Budget) : Type 0 where

@@ -8,21 +8,21 @@ ghost use Rattle.cue_lists.specs.Listing.{IsFormed, Listing};
 ghost use Rattle.cue_lists.specs.Rules.{IsRuled};
 ghost use Rattle.dtvcc_author.specs.Captions.{service_captions};
 ghost use Rattle.dtvcc_author.specs.Kept.{AreKept};
-ghost use Rattle.service_lanes.specs.ServiceLane.{KeepsRoom, service_lane};
+ghost use Rattle.service_lanes.specs.ServiceLane.{KeepsRoom, IsAllowedInService};
 
 /// A service's units with one more, whatever room its frames have and whatever delays there are: there is a placement exactly
 /// where some frame is allowed for that unit behind the earliest placement of the others, which stays as it is.
 pub fn law_of_one_more()
     ensures { (room : ℕ → ℕ) (ends : ℕ → Option ℕ) (chunks : List ServiceChunk) (frames : List ℕ)
         (chunk : ServiceChunk)
-        → IsEarliest (service_lane room ends) chunks frames
-        → OneMore (service_lane room ends) chunks frames chunk }
+        → IsEarliest (IsAllowedInService room ends) chunks frames
+        → OneMore (IsAllowedInService room ends) chunks frames chunk }
 {}
 
 /// A service's earliest placement, if there is one, puts each unit in turn in the first frame that is allowed, and where each
 /// unit in turn stands so, the placement is the earliest.
 pub fn law_of_first_fit()
-    ensures { (room : ℕ → ℕ) (ends : ℕ → Option ℕ) → EarliestIsFirstFit (service_lane room ends) }
+    ensures { (room : ℕ → ℕ) (ends : ℕ → Option ℕ) → EarliestIsFirstFit (IsAllowedInService room ends) }
 {}
 
 /// In any placement of a service, the units of one frame have at most its room, and those of the frames of a delay, up to the

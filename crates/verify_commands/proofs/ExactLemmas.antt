@@ -23,7 +23,7 @@ use Rattle.words_files.proofs.FramesOfLemmas.{file_frames, frames_grow, frames_o
 use Rattle.words_files.specs.FramesOf.{AreFramesOf}
 use Rattle.words_files.specs.Offences.{IsFileUnder, IsMalformed}
 use Rattle.services_files.specs.CaptionChannel.{caption_channel}
-use Rattle.words_reading.proofs.FrontLemmas.{TwoFronts, before_it, behind_it, same, two_fronts}
+use Rattle.words_files.proofs.FrontLemmas.{TwoFronts, before_it, behind_it, same, two_fronts}
 use Rattle.words_reading.proofs.KnownLemmas.{known_frames, known_judged, known_no_file, known_whole, long_front, long_offends, long_passes, malformed_no_file, never_whole, one_malformed, refused_behind, refused_so, within_passes}
 use Rattle.words_reading.specs.Answers.{IsPastLimit}
 use Rattle.words_reading.specs.Causes.{HasEnough, IsAnyhow, IsRefusedWith, IsShort, PassesLimit, words_limit}

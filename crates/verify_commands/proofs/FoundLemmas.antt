@@ -1,15 +1,16 @@
 -- What is found first at a frame is one.
 use Rattle.std.proofs.Common.{◌≡◌, ◌∙◌, ◌+◌, ◌%◌, ◌≤◌, ◌++◌, ap, append-nil, arith, length, length-append, refl, sym, ℕ, List, [], ◌∷◌}
-use Rattle.cc_verifier.specs.Findings.{IsFirstFound, IsFound, Jumps, place_of}
+use Rattle.cc_verifier.specs.Findings.{IsFound, Jumps, place_of}
 use Rattle.cdp_packets.specs.Packets.{Frame}
 use Rattle.cue_types.specs.Lane.{channel_number}
 use Rattle.cue_types.specs.Listing.{Listing}
+use Rattle.findings.specs.First.{IsFirstTried}
 use Rattle.findings.specs.declared.finding.Kind45.{Kind45}
 use Rattle.findings.specs.declared.finding.Kind45.TheVariants as kind
 use Rattle.findings.specs.declared.finding.Which.TheVariants as which
 use Rattle.line21_codes.specs.declared.channels.Chan.{Chan}
 use Rattle.line21_codes.specs.declared.channels.Chan.TheVariants.{Cc1, Cc2, Cc3, Cc4}
-use Rattle.words_reading.proofs.FrontLemmas.{TwoFronts, before_it, behind_it, same, two_fronts}
+use Rattle.words_files.proofs.FrontLemmas.{TwoFronts, before_it, behind_it, same, two_fronts}
 
 -- the last of a list is one
 last_by : (one other : List Frame) (a b : Frame) → one ++ a ∷ [] ≡ other ++ b ∷ [] → TwoFronts one (a ∷ []) other b → a ≡ b
@@ -79,8 +80,8 @@ found_at_place list earlier last _ (kind.GridDiffers (which.Chan b)) one other i
 found_at_place list earlier last _ (kind.GridDiffers (which.Service b)) one other is = absurd (omega arith)
 found_at_place list earlier last _ _ one other is = absurd (omega arith)
 
-pub found_once : (list : Listing) (earlier : List Frame) (last : Frame) (a b : Kind45) → IsFirstFound list earlier last a → IsFirstFound list earlier last b → a ≡ b
+pub found_once : (list : Listing) (earlier : List Frame) (last : Frame) (a b : Kind45) → IsFirstTried (IsFound list earlier last) place_of a → IsFirstTried (IsFound list earlier last) place_of b → a ≡ b
 found_once list earlier last a b one other =
-    let below = one.first b other.is in
-    let above = other.first a one.is in
-    found_at_place list earlier last a b one.is other.is (omega arith)
+    let below = one.first b other.holds in
+    let above = other.first a one.holds in
+    found_at_place list earlier last a b one.holds other.holds (omega arith)

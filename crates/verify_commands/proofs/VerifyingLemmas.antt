@@ -18,7 +18,7 @@ use Rattle.cue_types.specs.Listing.{Listing}
 use Rattle.findings.specs.declared.finding.Finding.{Finding}
 use Rattle.services_files.specs.CaptionChannel.{caption_channel}
 use Rattle.words_files.proofs.FramesOfLemmas.{frames_of_once}
-use Rattle.words_reading.proofs.FrontLemmas.{TwoFronts, before_it, behind_it, same, two_fronts}
+use Rattle.words_files.proofs.FrontLemmas.{TwoFronts, before_it, behind_it, same, two_fronts}
 use Rattle.words_reading.proofs.PieceLemmas.{cut_short, front_size, front_spelled}
 use Rattle.words_reading.specs.Judging.{EndsAt, HasGathered, HasStopped}
 use Rattle.words_reading.specs.declared.judge.Stop.TheVariants as stop
@@ -111,7 +111,7 @@ found_by list frames next finding clean first (same is more left) =
     subst (IsFoundAtFrame list finding frames) last (subst (λ f. IsFoundAtFrame list finding f first.last) is (first.frame_is, first.first))
 found_by list frames next finding clean first (before_it item more left is rest) =
     let last : item ≡ first.last = cc in
-    absurd (clean first.earlier first.last more (is ∙ append_assoc first.earlier (item ∷ []) more ∙ ap (λ f. first.earlier ++ f ∷ more) last) finding.kind first.first.is)
+    absurd (clean first.earlier first.last more (is ∙ append_assoc first.earlier (item ∷ []) more ∙ ap (λ f. first.earlier ++ f ∷ more) last) finding.kind first.first.holds)
 
 found_last : (list : Listing) (frames : List Frame) (next : Frame) (finding : Finding) → AreClean list frames → FirstFinding list (frames ++ next ∷ []) finding
     → IsFoundAtFrame list finding frames next
@@ -147,7 +147,7 @@ never_found list before bytes old new fed finding had feeds verified own found c
     let still = frames_still before (take fed.used bytes) old.receiver new.receiver frames had.verified.frames_are had.verified.received verified.received counted in
     let same = frames_of_once caption_channel verified.frames frames (before ++ take fed.used bytes) verified.frames_are still in
     let first = subst (λ (l : Listing). FirstFinding l verified.frames finding) (own ∙ had.list_is) (found_is (before ++ take fed.used bytes) new verified finding found) in
-    clean_so list before old had first.earlier first.last first.later (sym same ∙ first.split) finding.kind first.first.is
+    clean_so list before old had first.earlier first.last first.later (sym same ∙ first.split) finding.kind first.first.holds
 
 by_end : (list : Listing) (before bytes text : List ℕ) (old new : Verifier) (fed : Fed) (finding : Finding) (end : Ended) → fed.ended ≡ end → HasJudged list before old → text ≡ []
     → FeedsOn before bytes old new (Ok fed) → HasVerified (before ++ take fed.used bytes) new → list_of new ≡ list_of old → finding_of new ≡ Some finding
@@ -181,7 +181,7 @@ ends_so list bytes text verifying (verdict.Short count) had judges = let (frames
 ends_so list bytes text verifying (verdict.Differs finding) had (frames, are, first) =
     let judged = had.judged in
     let same = frames_of_once caption_channel frames judged.verified.frames bytes are judged.verified.frames_are in
-    absurd (found_none bytes verifying.verifier judged.verified judged.nothing first.earlier first.last first.later (sym same ∙ first.split) finding.kind first.first.is)
+    absurd (found_none bytes verifying.verifier judged.verified judged.nothing first.earlier first.last first.later (sym same ∙ first.split) finding.kind first.first.holds)
 
 pub ends_cut : (list : Listing) (bytes text : List ℕ) (verifying : Verifying) (refusal : Refusal) → HasJudgedSo list bytes text verifying
     → JudgesFile (list_of verifying.verifier) bytes (Err refusal) → EndsAt bytes (Err refusal)

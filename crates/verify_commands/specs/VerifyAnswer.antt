@@ -6,7 +6,7 @@ use Rattle.std.specs.Io.KnownBytes.{Appends}
 use Rattle.cc_base.specs.Streams.{Puts, Rose, TakesWithin, whole_limit}
 use Rattle.cc_base.specs.declared.limit_of.LimitOf.TheVariants as limit
 use Rattle.cc_base.specs.declared.streams.Put.TheVariants as put
-use Rattle.cc_verifier.specs.Findings.{AreClean, IsFirstFound}
+use Rattle.cc_verifier.specs.Findings.{AreClean, IsFound, place_of}
 use Rattle.cdp_packets.specs.Packets.{Frame}
 use Rattle.command_base.specs.Ends.{Ends, IsSteady, PutsNothing}
 use Rattle.command_base.specs.WholeInput.{IsReadToEnd}
@@ -15,6 +15,7 @@ use Rattle.command_base.specs.declared.status.Status.{Status}
 use Rattle.command_base.specs.declared.status.Status.TheVariants as status
 use Rattle.cue_list_commands.specs.Accepted.{IsGoodList, IsRefusedList}
 use Rattle.cue_types.specs.Listing.{Listing}
+use Rattle.findings.specs.First.{IsFirstTried}
 use Rattle.findings.specs.declared.finding.Finding.{Finding}
 use Rattle.cue_list_commands.specs.SideEnds.{SideEnds}
 use Rattle.cue_list_commands.specs.SideLists.{RefusesSide}
@@ -30,7 +31,7 @@ FindsNothing list line = FramesSay (λ frames. line) (AreClean list)
 
 -- this is found first of all at a frame, of which those before are these
 abbrev pub IsFoundAtFrame : Listing → Finding → List Frame → Frame → Type 0
-IsFoundAtFrame list finding frames last = (finding.frame ≡ length frames) × IsFirstFound list frames last finding.kind
+IsFoundAtFrame list finding frames last = (finding.frame ≡ length frames) × IsFirstTried (IsFound list frames last) place_of finding.kind
 
 -- bytes, none of whose words offends, end with the frame at which this is found, the first at which anything is, and nothing is put
 abbrev pub FindsFirst : Listing → Finding → List ℕ → List ℕ → Type 0

@@ -7,6 +7,7 @@ pub mod FinishLemmas
 pub mod FrameLemmas
 pub mod CarriedWordsLemmas
 pub mod FramesOfLemmas
+pub mod FrontLemmas
 pub mod GotLemmas
 pub mod LastPacketLemmas
 pub mod OffenceLemmas

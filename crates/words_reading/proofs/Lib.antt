@@ -2,7 +2,6 @@ pub mod AnswersLemmas
 pub mod EarlyLemmas
 pub mod EndLemmas
 pub mod FrameLemmas
-pub mod FrontLemmas
 pub mod GatheringLemmas
 pub mod KnownLemmas
 pub mod PieceLemmas

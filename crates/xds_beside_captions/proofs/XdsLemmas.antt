@@ -1,7 +1,9 @@
 -- The frames of a cue list with packets in the slots that its captions leave free.
 use Rattle.std.proofs.Common.{◌≡◌, ℕ, zero, suc, Bool, List, [], ◌∷◌, ◌++◌, length, map, reverse, Option, Some, None, option_map, option_to_list, unwrap_or, refl, sym, ap, ◌∙◌, subst}
 use Rattle.std.specs.Prelude.{All, IfSome, is_some}
-use Rattle.std.specs.Option.{option_or}
+use Rattle.std.specs.Option.{option_or, option_map_or}
+use Rattle.line21_codes.specs.declared.channels.FieldNumber.TheVariants.{Two}
+use Rattle.line21_codes.specs.Writing.{pair_of_code}
 use Rattle.std.proofs.lemmas.List.{map-append}
 use Rattle.cue_lists.specs.Listing.{Listing}
 use Rattle.cue_lists.specs.declared.lane.Lane.TheVariants.{Channel, Service}
@@ -49,7 +51,7 @@ use Rattle.xds_beside_captions.specs.Beside.{caption_codes}
 use Rattle.xds_beside_captions.specs.FreeSlots.{captions_of, frame_of_slot, free_in}
 use Rattle.xds_beside_captions.specs.Outside.{AreOutside}
 use Rattle.xds_beside_captions.specs.PacketTimeline.{LeaveFree, packet_timeline, packet_unit}
-use Rattle.xds_beside_captions.specs.XdsFrames.{AreFitBeside, AreSendable, HasXdsRoom, IsSoundBeside, PacketsAreRead, PacketsChangeNothing, PacketsLeaveFramesSound, ShowTheSame, laid, xds_columns, xds_pair}
+use Rattle.xds_beside_captions.specs.XdsFrames.{AreFitBeside, AreSendable, HasXdsRoom, IsSoundBeside, PacketsAreRead, PacketsChangeNothing, PacketsLeaveFramesSound, ShowTheSame, xds_columns, xds_pair}
 use Rattle.xds_packets.proofs.PlacesLemmas.{over_where_all_stand}
 use Rattle.xds_packets.proofs.UnfinishedLemmas.{unfinished_is_first}
 use Rattle.xds_packets.specs.PacketCodes.{IsXdsPacket}
@@ -89,7 +91,7 @@ module _ (captions : Timeline) (free : ℕ → Bool) (frame_of : ℕ → ℕ) (l
   due_same (suc n) = due_over n (captions n) refl
 
   -- the pair of each slot
-  pair_given : (n : ℕ) (given : Option Code) → given_at free frame_of listed n ≡ given → slot (over captions packets) n ≡ laid given (slot captions n)
+  pair_given : (n : ℕ) (given : Option Code) → given_at free frame_of listed n ≡ given → slot (over captions packets) n ≡ option_map_or (pair_of_code Two) given (slot captions n)
   pair_given n None is =
       ap (λ r. pair_by r (over captions packets n)) (due_same n)
       ∙ ap (λ o. pair_by (repeat_at captions n) (option_or (captions n) (option_map packet_unit o))) is
@@ -204,7 +206,7 @@ module _ (list : Listing) (placed : Placement) (listed : List Listed) (are : Are
       record { a = own.0; b = own.1 }
 
   laid_bytes : (n : ℕ) (given : Option Code) → given_at (free_in list (placed (Channel Cc3))) (frame_of_slot list) listed n ≡ given
-      → IsBytePair (channel_slot Cc3 (slot_cues list Cc3) (placed (Channel Cc3)) n) → IsBytePair (laid given (channel_slot Cc3 (slot_cues list Cc3) (placed (Channel Cc3)) n))
+      → IsBytePair (channel_slot Cc3 (slot_cues list Cc3) (placed (Channel Cc3)) n) → IsBytePair (option_map_or (pair_of_code Two) given (channel_slot Cc3 (slot_cues list Cc3) (placed (Channel Cc3)) n))
   laid_bytes n None is own = own
   laid_bytes n (Some code) is own =
       let can = codes_written (captions_of list (placed (Channel Cc3))) (free_in list (placed (Channel Cc3))) (frame_of_slot list) listed leave are.packets n code is in

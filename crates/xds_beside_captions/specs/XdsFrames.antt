@@ -1,6 +1,7 @@
 -- Believed in part: the program's answer stands on some of these definitions.
 -- The frames of a cue list with packets of extended data in the slots of field 2 that its captions leave free.
 use Rattle.std.specs.Prelude.{◌≡◌, ℕ, ◌-◌, All, List, Option, Some, None, option_map, take}
+use Rattle.std.specs.Option.{option_map_or}
 use Rattle.cue_lists.specs.Listing.{IsFormed, Listing}
 use Rattle.cue_lists.specs.Rules.{IsRuled}
 use Rattle.cue_lists.specs.declared.lane.Lane.TheVariants.{Channel}
@@ -8,7 +9,6 @@ use Rattle.line21_codes.specs.Writing.{pair_of_code}
 use Rattle.line21_codes.specs.declared.channels.Chan.{Chan}
 use Rattle.line21_codes.specs.declared.channels.Chan.TheVariants.{Cc3}
 use Rattle.line21_codes.specs.declared.channels.FieldNumber.TheVariants.{Two}
-use Rattle.line21_codes.specs.declared.codes.Code.{Code}
 use Rattle.line21_codes.specs.declared.pairs.Pair.{Pair}
 use Rattle.line21_slots.specs.Cadences.{cadence_of, slot_in}
 use Rattle.field_lanes.specs.ChannelLane.{channel_slot}
@@ -24,14 +24,10 @@ use Rattle.xds_packets.specs.Places.{AllStand, given_at}
 use Rattle.xds_packets.specs.Reading.{packets_within}
 use Rattle.xds_packets.specs.Sending.{Listed, packets_left}
 
--- the pair of a code that is sent, or else another one
-abbrev pub laid : Option Code → Pair → Pair
-laid None pair = pair
-laid (Some code) pair = pair_of_code Two code
-
 -- the pair of a slot of field 2: that of the packets, or else of the captions
 abbrev pub xds_pair : Listing → List ℕ → List Listed → ℕ → Pair
-xds_pair list slots listed n = laid (given_at (free_in list slots) (frame_of_slot list) listed n) (channel_slot Cc3 (slot_cues list Cc3) slots n)
+xds_pair list slots listed n =
+    option_map_or (pair_of_code Two) (given_at (free_in list slots) (frame_of_slot list) listed n) (channel_slot Cc3 (slot_cues list Cc3) slots n)
 
 -- what each frame carries
 abbrev pub xds_columns : Listing → Placement → List Listed → Columns

@@ -1,5 +1,8 @@
 -- The frames of a cue list with no packets.
 use Rattle.std.proofs.Common.{◌≡◌, ℕ, zero, suc, Bool, true, false, [], Option, None, option_map, refl, sym, ap, subst}
+use Rattle.std.specs.Option.{option_map_or}
+use Rattle.line21_codes.specs.declared.channels.FieldNumber.TheVariants.{Two}
+use Rattle.line21_codes.specs.Writing.{pair_of_code}
 use Rattle.std.proofs.Math.Path.{fun_ext}
 use Rattle.cue_lists.specs.Listing.{Listing}
 use Rattle.cue_lists.specs.declared.lane.Lane.TheVariants.{Channel}
@@ -13,7 +16,7 @@ use Rattle.line21_codes.specs.declared.codes.Code.{Code}
 use Rattle.line21_codes.specs.declared.pairs.Pair.{Pair}
 use Rattle.line21_slots.specs.Cadences.{cadence_of, slot_in}
 use Rattle.xds_beside_captions.specs.FreeSlots.{frame_of_slot, free_in}
-use Rattle.xds_beside_captions.specs.XdsFrames.{laid, xds_columns, xds_pair}
+use Rattle.xds_beside_captions.specs.XdsFrames.{xds_columns, xds_pair}
 use Rattle.xds_commands.specs.XdsWords.{NoPacketsAreBuilt}
 use Rattle.xds_packets.specs.Places.{given_at}
 use Rattle.xds_packets.specs.Sending.{Unsent, begun_at, given_in, sent_on, writing_at}
@@ -42,7 +45,7 @@ module _ (list : Listing) (placed : Placement) where
   -- each pair is that of the captions
   same_pair : (n : ℕ) → xds_pair list (placed (Channel Cc3)) [] n ≡ channel_slot Cc3 (slot_cues list Cc3) (placed (Channel Cc3)) n
   same_pair n =
-      ap (λ (given : Option Code). laid given (channel_slot Cc3 (slot_cues list Cc3) (placed (Channel Cc3)) n))
+      ap (λ (given : Option Code). option_map_or (pair_of_code Two) given (channel_slot Cc3 (slot_cues list Cc3) (placed (Channel Cc3)) n))
       (none_given (free_in list (placed (Channel Cc3))) (frame_of_slot list) n)
 
   same_columns : xds_columns list placed [] ≡ columns_of list placed

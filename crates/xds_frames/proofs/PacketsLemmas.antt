@@ -1,6 +1,7 @@
 -- Packets that are laid over frames.
 use Rattle.std.proofs.Common.{◌≡◌, ◌∙◌, ℕ, suc, ◌+◌, Bool, true, false, Option, Some, None, option_map, unwrap_or, refl, sym, ap, subst, arith}
 use Rattle.std.specs.Prelude.{if◌then◌else◌}
+use Rattle.std.specs.Option.{option_map_or}
 use Rattle.line21_codes.specs.Writing.{pair_of_code}
 use Rattle.line21_codes.specs.declared.channels.FieldNumber.TheVariants.{Two}
 use Rattle.line21_codes.specs.declared.codes.Code.{Code}
@@ -11,7 +12,6 @@ use Rattle.line21_slots.specs.declared.cadence.Cadence.{Cadence}
 use Rattle.line21_slots.specs.declared.cadence.Cadence.TheVariants.{EveryFrame, EvenFrames, OddFrames}
 use Rattle.frame_scheduler.specs.Columns.{Columns}
 use Rattle.frame_scheduler.specs.declared.frames.FrameBytes.{FrameBytes}
-use Rattle.xds_beside_captions.specs.XdsFrames.{laid}
 use Rattle.xds_frames.specs.Loads.{StandsAt}
 use Rattle.xds_frames.specs.Packets.{IsLaying, Laying, LaysPackets, free_at, is_free, laid_frame, laid_pair}
 use Rattle.xds_frames.specs.declared.packets.Packets.{Packets}
@@ -20,7 +20,7 @@ use Rattle.xds_lists.specs.declared.writer.XdsWriter.{XdsWriter}
 use Rattle.xds_packets.specs.Places.{given_at}
 
 -- the pair of a slot, where the packets give a code
-pub laid_is : (given : Option Code) (pair : Pair) (sent : Option Pair) → sent ≡ option_map (pair_of_code Two) given → unwrap_or sent pair ≡ laid given pair
+pub laid_is : (given : Option Code) (pair : Pair) (sent : Option Pair) → sent ≡ option_map (pair_of_code Two) given → unwrap_or sent pair ≡ option_map_or (pair_of_code Two) given pair
 laid_is None pair sent is = ap (λ o. unwrap_or o pair) is
 laid_is (Some code) pair sent is = ap (λ o. unwrap_or o pair) is
 
@@ -44,7 +44,7 @@ pub record LaysOn (laying : Laying) (frame : ℕ) (pair : Pair) (result : Pair) 
 
 pub lays_slot : (laying : Laying) (frame : ℕ) (old : Packets) (pair result : Pair) (writer : XdsWriter) → IsLaying laying frame old → Some pair ≡ option_map laying.pairs (slot_in laying.cadence frame)
     → ((n : ℕ) → IsBehind (free_at laying) (slot_frame laying.cadence) laying.listed n old.writer → free_at laying n ≡ is_free laying.cues frame pair → slot_frame laying.cadence n ≡ frame
-    → (result ≡ laid (given_at (free_at laying) (slot_frame laying.cadence) laying.listed n) pair) × IsBehind (free_at laying) (slot_frame laying.cadence) laying.listed (suc n) writer)
+    → (result ≡ option_map_or (pair_of_code Two) (given_at (free_at laying) (slot_frame laying.cadence) laying.listed n) pair) × IsBehind (free_at laying) (slot_frame laying.cadence) laying.listed (suc n) writer)
     → LaysOn laying frame pair result writer
 lays_slot laying frame old pair result writer is pairs sends = by_slot laying.cadence frame (LaysOn laying frame pair result writer)
     (λ n slot from own next.
@@ -54,7 +54,7 @@ lays_slot laying frame old pair result writer is pairs sends = by_slot laying.ca
     ap (λ f. is_free laying.cues f (laying.pairs n)) own ∙ ap (is_free laying.cues frame) (sym same) in
     let sent = sends n (subst (λ m. IsBehind (free_at laying) (slot_frame laying.cadence) laying.listed m old.writer) from is.writer_at) free own in
     record {
-      two = ap (λ p. Some p) (sent.0 ∙ ap (laid (given_at (free_at laying) (slot_frame laying.cadence) laying.listed n)) same) ∙ sym (ap (option_map (laid_pair laying)) slot);
+      two = ap (λ p. Some p) (sent.0 ∙ ap (option_map_or (pair_of_code Two) (given_at (free_at laying) (slot_frame laying.cadence) laying.listed n)) same) ∙ sym (ap (option_map (laid_pair laying)) slot);
       writer_at = subst (λ m. IsBehind (free_at laying) (slot_frame laying.cadence) laying.listed m writer) (sym next) sent.1;
     })
     (λ slot next. let wrong : Some pair ≡ None = pairs ∙ ap (option_map laying.pairs) slot in absurd (cc))

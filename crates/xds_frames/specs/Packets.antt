@@ -1,6 +1,9 @@
 -- Between crates: the program's answer stands on none of these definitions.
 -- What packets make of frames.
 use Rattle.std.specs.Prelude.{◌≡◌, ℕ, ◌-◌, ◌^◌, ◌&&◌, Bool, not, List, option_map}
+use Rattle.std.specs.Option.{option_map_or}
+use Rattle.line21_codes.specs.declared.channels.FieldNumber.TheVariants.{Two}
+use Rattle.line21_codes.specs.Writing.{pair_of_code}
 use Rattle.cue_lists.specs.declared.cue.Cue.{Cue}
 use Rattle.line21_codes.specs.NullPairs.{is_null}
 use Rattle.line21_codes.specs.declared.channels.Chan.TheVariants.{Cc3}
@@ -10,7 +13,6 @@ use Rattle.line21_slots.specs.declared.cadence.Cadence.{Cadence}
 use Rattle.frame_scheduler.specs.Columns.{Columns}
 use Rattle.frame_scheduler.specs.declared.frames.FrameBytes.{FrameBytes}
 use Rattle.xds_beside_captions.specs.FreeSlots.{is_loading}
-use Rattle.xds_beside_captions.specs.XdsFrames.{laid}
 use Rattle.xds_frames.specs.Loads.{StandsAt}
 use Rattle.xds_frames.specs.declared.loads.Loads.{Loads}
 use Rattle.xds_frames.specs.declared.packets.Packets.{Packets}
@@ -49,7 +51,7 @@ abbrev pub free_at : Laying → ℕ → Bool
 free_at laying n = is_free laying.cues (slot_frame laying.cadence n) (laying.pairs n)
 
 abbrev pub laid_pair : Laying → ℕ → Pair
-laid_pair laying n = laid (given_at (free_at laying) (slot_frame laying.cadence) laying.listed n) (laying.pairs n)
+laid_pair laying n = option_map_or (pair_of_code Two) (given_at (free_at laying) (slot_frame laying.cadence) laying.listed n) (laying.pairs n)
 
 -- a frame with the pair of its slot, where it has one
 abbrev pub laid_frame : Laying → ℕ → FrameBytes → FrameBytes

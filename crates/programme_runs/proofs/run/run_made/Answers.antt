@@ -1,7 +1,6 @@
 use Rattle.cc_base.specs.declared.streams.Put.TheVariants as put
-use Rattle.command_base.proofs.WholeInputLemmas.{read_refused}
+use Rattle.command_base.proofs.MakesLemmas.{read_refused}
 use Rattle.programme_runs.specs.Made.{IsMadeOf}
-use Rattle.command_base.specs.MakesAnswer.{PutsMade}
 use Rattle.programme_runs.proofs.MadeLemmas.{made_put}
 use Rattle.programme_runs.proofs.run.run_made.Goals as goal
 
@@ -21,7 +20,6 @@ returns-in-Failed g c = (
 )
 
 pub returns-in-Err : goal.returns-in-Err
-returns-in-Err g c = read_refused (PutsMade (g.C.Makes.IsAccepted c.args.command) (λ made. g.C.Puts.Output.bytes_of (g.C.Makes.framing_of made)) g.C.Makes.IsSound put.Done)
-    (PutsMade (g.C.Makes.IsAccepted c.args.command) (λ made. g.C.Puts.Output.bytes_of (g.C.Makes.framing_of made)) g.C.Makes.IsSound put.Failed)
-    (IsMadeOf (g.C.Makes.IsAccepted c.args.command) g.C.Makes.framing_of g.C.Makes.IsSound g.C.Made.Frames.left g.C.Made.Frames.Gives)
-    (g.C.Makes.Refused c.args.command) _ _ _ _ _ _ c.in-Err.status c.in-Err.ensures
+returns-in-Err g c =
+    read_refused (g.C.Makes.IsAccepted c.args.command) (λ made. g.C.Puts.Output.bytes_of (g.C.Makes.framing_of made)) g.C.Makes.IsSound (g.C.Makes.Refused c.args.command)
+    (IsMadeOf (g.C.Makes.IsAccepted c.args.command) g.C.Makes.framing_of g.C.Makes.IsSound g.C.Made.Frames.left g.C.Made.Frames.Gives) _ _ _ _ _ _ c.in-Err.status c.in-Err.ensures

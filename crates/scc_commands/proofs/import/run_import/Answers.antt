@@ -1,6 +1,5 @@
 use Rattle.cc_base.specs.declared.streams.Put.TheVariants as put
-use Rattle.command_base.proofs.WholeInputLemmas.{read_refused}
-use Rattle.command_base.specs.MakesAnswer.{PutsMade}
+use Rattle.command_base.proofs.MakesLemmas.{read_refused}
 use Rattle.scc_commands.specs.Import.{IsCarriedImport, IsImport, IsRefusedImport, import_words}
 use Rattle.scc_commands.proofs.ImportLemmas.{import_put}
 use Rattle.scc_commands.proofs.import.run_import.Goals as goal
@@ -14,6 +13,4 @@ returns-in-Failed g c =
     (c.in-Ok.ensures.reads.0, c.in-Failed.ensures.cause.1, import_put put.Failed _ _ _ c.in-Ok.pairs c.in-Ok.ensures.reads.2 c.in-Failed.ensures.bytes)
 
 pub returns-in-Err : goal.returns-in-Err
-returns-in-Err g c =
-    read_refused (PutsMade IsImport import_words IsCarriedImport put.Done) (PutsMade IsImport import_words IsCarriedImport put.Failed) IsImport IsRefusedImport
-    _ _ _ _ _ _ c.in-Err.status c.in-Err.ensures.reads
+returns-in-Err g c = read_refused IsImport import_words IsCarriedImport IsRefusedImport IsImport _ _ _ _ _ _ c.in-Err.status c.in-Err.ensures.reads
